@@ -340,16 +340,6 @@ called word line =
     else (if bytes_eq word (codes "demo") then demo_of line
     else None)))))))))
 
--- the same of a name that is none of the first five
-abbrev pub called_later : List ℕ → Line → Option Command
-called_later word line =
-    if bytes_eq word (codes "clear") then clear_of line
-    else (if bytes_eq word (codes "premises") then premises_of line
-    else (if bytes_eq word (codes "attain") then attain_of line
-    else (if bytes_eq word (codes "simulate") then simulate_of line
-    else (if bytes_eq word (codes "demo") then demo_of line
-    else None))))
-
 -- no option waits for its value
 abbrev pub whole : List ℕ → Option Line → Option Command
 whole word None = None

@@ -2,7 +2,7 @@
 
 ghost use Rattle.std.specs.Prelude.{◌≡◌, map, None, Some};
 ghost use Rattle.std.specs.Option.{option_map};
-ghost use Rattle.commands.specs.Commands.{Firmware, Second, Assumptions, device_for, name_of, empty_line, then_words, steps_in, size_in, device_called, device_in, is_stepping, is_plain, is_bare, check_of, analyse_of, run_of, report_of, explain_of, clear_of, premises_of, attain_of, simulate_of, choices_of, choices_in, trials_in, demo_of, called, called_later, whole, command_of};
+ghost use Rattle.commands.specs.Commands.{Firmware, Second, Assumptions, device_for, name_of, empty_line, then_words, steps_in, size_in, device_in, is_stepping, is_plain, check_of, analyse_of, run_of, report_of, explain_of, clear_of, premises_of, attain_of, simulate_of, choices_in, trials_in, demo_of, called, command_of};
 ghost use Rattle.commands.specs.Views.{text_of, line_of, command_seen};
 
 use crate::line::Line;
@@ -157,28 +157,21 @@ impl<'a> Command<'a> {
     }
 }
 
-/// Whether no option is there but `--assume`, `--device` and `--steps`.
+// Whether no option is there but `--assume`, `--device` and `--steps`.
 fn is_stepping(line: &Line<'_>) -> bool
     ensures { result ≡ is_stepping (line_of line.now) }
 {
     line.trials.is_none() && !line.json && !line.why
 }
 
-/// Whether no option is there but `--assume` and `--device`.
+// Whether no option is there but `--assume` and `--device`.
 fn is_plain(line: &Line<'_>) -> bool
     ensures { result ≡ is_plain (line_of line.now) }
 {
     line.steps.is_none() && is_stepping(line)
 }
 
-/// Whether no option is there.
-fn is_bare(line: &Line<'_>) -> bool
-    ensures { result ≡ is_bare (line_of line.now) }
-{
-    line.assume.is_none() && line.device.is_none() && is_plain(line)
-}
-
-/// The number of rounds, if there is one.
+// The number of rounds, if there is one.
 fn steps_in(word: Option<&str>) -> Option<Option<u64>>
     ensures { result ≡ steps_in (text_of word.entry) }
 {
@@ -191,30 +184,23 @@ fn steps_in(word: Option<&str>) -> Option<Option<u64>>
     }
 }
 
-/// The number of choices of a simulated run: 200,000 where none is said, and at most 16,777,216.
-fn choices_of(steps: Option<u64>) -> Choices
-    ensures { result ≡ choices_of steps }
-{
-    match steps {
-        Some(steps) => {
-            if steps <= 16_777_216 {
-                Choices::new(steps as u32)
-            } else {
-                Choices::new(16_777_216)
-            }
-        }
-        None => Choices::new(200_000),
-    }
-}
-
-/// The same of the word in which the number stands, if there is one.
+// The number of choices of a simulated run: 200,000 where none is said, and at most 16,777,216.
 fn choices_in(word: Option<&str>) -> Option<Choices>
     ensures { result ≡ choices_in (text_of word.entry) }
 {
-    Some(choices_of(steps_in(word)?))
+    match steps_in(word)? {
+        Some(steps) => {
+            if steps <= 16_777_216 {
+                Some(Choices::new(steps as u32))
+            } else {
+                Some(Choices::new(16_777_216))
+            }
+        }
+        None => Some(Choices::new(200_000)),
+    }
 }
 
-/// The number of trials: 64 where none is said, and at most 65,536.
+// The number of trials: 64 where none is said, and at most 65,536.
 fn trials_in(word: Option<&str>) -> Option<u32>
     ensures { result ≡ trials_in (text_of word.entry) }
 {
@@ -227,7 +213,7 @@ fn trials_in(word: Option<&str>) -> Option<u32>
     }
 }
 
-/// The size of an image.
+// The size of an image.
 fn size_in(word: &str) -> Option<Size>
     ensures { result ≡ size_in word.now }
 {
@@ -243,10 +229,13 @@ fn size_in(word: &str) -> Option<Size>
     }
 }
 
-/// The device of this name.
-fn device_called(word: &str) -> Option<Device>
-    ensures { result ≡ device_called word.now }
+// The device of a name that there may be; without one it is the ATmega328P.
+fn device_in(word: Option<&str>) -> Option<Device>
+    ensures { result ≡ device_in (text_of word.entry) }
 {
+    let Some(word) = word else {
+        return Some(Device::M328);
+    };
     if word == "atmega48pa" {
         Some(Device::M48)
     } else if word == "atmega88pa" {
@@ -257,16 +246,6 @@ fn device_called(word: &str) -> Option<Device>
         Some(Device::M328)
     } else {
         None
-    }
-}
-
-/// The device of a name that there may be; without one it is the ATmega328P.
-fn device_in(word: Option<&str>) -> Option<Device>
-    ensures { result ≡ device_in (text_of word.entry) }
-{
-    match word {
-        Some(word) => device_called(word),
-        None => Some(Device::M328),
     }
 }
 
@@ -467,7 +446,7 @@ fn simulate_of<'a>(line: Line<'a>) -> Option<Command<'a>>
 fn demo_of<'a>(line: Line<'a>) -> Option<Command<'a>>
     ensures { option_map command_seen result ≡ demo_of (line_of line.entry) }
 {
-    if !is_bare(&line) || line.second.is_some() {
+    if line.assume.is_some() || line.device.is_some() || !is_plain(&line) || line.second.is_some() {
         return None;
     }
     Some(Command::Demo {
@@ -475,11 +454,21 @@ fn demo_of<'a>(line: Line<'a>) -> Option<Command<'a>>
     })
 }
 
-/// The command of this name, which is none of the first five.
-fn called_later<'a>(word: &str, line: Line<'a>) -> Option<Command<'a>>
-    ensures { option_map command_seen result ≡ called_later word.now (line_of line.entry) }
+// The command of this name.
+fn called<'a>(word: &str, line: Line<'a>) -> Option<Command<'a>>
+    ensures { option_map command_seen result ≡ called word.now (line_of line.entry) }
 {
-    if word == "clear" {
+    if word == "check" {
+        check_of(line)
+    } else if word == "analyse" {
+        analyse_of(line)
+    } else if word == "run" {
+        run_of(line)
+    } else if word == "report" {
+        report_of(line)
+    } else if word == "explain" {
+        explain_of(line)
+    } else if word == "clear" {
         clear_of(line)
     } else if word == "premises" {
         premises_of(line)
@@ -494,42 +483,13 @@ fn called_later<'a>(word: &str, line: Line<'a>) -> Option<Command<'a>>
     }
 }
 
-/// The command of this name.
-fn called<'a>(word: &str, line: Line<'a>) -> Option<Command<'a>>
-    ensures { option_map command_seen result ≡ called word.now (line_of line.entry) }
-{
-    if word == "check" {
-        check_of(line)
-    } else if word == "analyse" {
-        analyse_of(line)
-    } else if word == "run" {
-        run_of(line)
-    } else if word == "report" {
-        report_of(line)
-    } else if word == "explain" {
-        explain_of(line)
-    } else {
-        called_later(word, line)
-    }
-}
-
-/// The line with all these words more, if each can stand where it does. At most twelve can.
+// The line with all these words more, if each can stand where it does. At most twelve can.
 fn line_with<'a>(line: Line<'a>, words: &'a [&'a str]) -> Option<Line<'a>>
     ensures { option_map line_of result ≡ then_words (Some (line_of line.entry)) (map (λ w. w.now) words.now) }
 {
     match words {
         [] => Some(line),
         [word, rest @ ..] => line_with(line.with_word(word)?, rest),
-    }
-}
-
-/// The command of this name, where no option waits for its value.
-fn whole<'a>(word: &str, line: Line<'a>) -> Option<Command<'a>>
-    ensures { option_map command_seen result ≡ whole word.now (Some (line_of line.entry)) }
-{
-    match line.waits {
-        None => called(word, line),
-        Some(_) => None,
     }
 }
 
@@ -541,6 +501,12 @@ pub fn command_of<'a>(words: &'a [&'a str]) -> Option<Command<'a>>
 {
     match words {
         [] => None,
-        [word, rest @ ..] => whole(word, line_with(Line::empty(), rest)?),
+        [word, rest @ ..] => {
+            let line = line_with(Line::empty(), rest)?;
+            match line.waits {
+                None => called(word, line),
+                Some(_) => None,
+            }
+        }
     }
 }

@@ -2,7 +2,7 @@
 
 ghost use Rattle.std.specs.Prelude.{◌≡◌, Some};
 ghost use Rattle.std.specs.Option.{option_map};
-ghost use Rattle.commands.specs.Commands.{is_name, empty_line, once, with_value, named, waiting, with_json, with_why, with_free, placed, with_word};
+ghost use Rattle.commands.specs.Commands.{is_name, empty_line, once, with_value, named, waiting, with_free, placed, with_word};
 ghost use Rattle.commands.specs.Views.{text_of, line_of};
 
 /// An option that takes the next word.
@@ -28,6 +28,7 @@ pub struct Line<'a> {
     pub waits: Option<Valued>,
 }
 
+// Whether a word can be a name or the value of an option.
 fn is_name(word: &str) -> bool
     ensures { result ≡ is_name word.now }
 {
@@ -55,6 +56,7 @@ impl<'a> Line<'a> {
         }
     }
 
+    // The line with the value of an option, which stands at most once.
     fn with_value(self, option: Valued, word: &'a str) -> Option<Line<'a>>
         ensures { option_map line_of result ≡ with_value option (line_of self.entry) word.entry.now }
     {
@@ -94,6 +96,7 @@ impl<'a> Line<'a> {
         }
     }
 
+    // The line with a name behind those before, of which there are at most two.
     fn with_name(self, word: &'a str) -> Option<Line<'a>>
         ensures { option_map line_of result ≡ named (text_of self.entry.first) (text_of self.entry.second) (line_of self.entry) word.entry.now }
     {
@@ -112,26 +115,7 @@ impl<'a> Line<'a> {
         }
     }
 
-    fn with_json(self) -> Option<Line<'a>>
-        ensures { option_map line_of result ≡ with_json (line_of self.entry) }
-    {
-        if self.json {
-            None
-        } else {
-            Some(Line { json: true, ..self })
-        }
-    }
-
-    fn with_why(self) -> Option<Line<'a>>
-        ensures { option_map line_of result ≡ with_why (line_of self.entry) }
-    {
-        if self.why {
-            None
-        } else {
-            Some(Line { why: true, ..self })
-        }
-    }
-
+    // The line whose next word is the value of an option.
     fn waiting(self, option: Valued) -> Option<Line<'a>>
         ensures { option_map line_of result ≡ Some (waiting (line_of self.entry) option) }
     {
@@ -141,6 +125,7 @@ impl<'a> Line<'a> {
         })
     }
 
+    // The line with a word that is no option's value.
     fn with_free(self, word: &'a str) -> Option<Line<'a>>
         ensures { option_map line_of result ≡ with_free (line_of self.entry) word.entry.now }
     {
@@ -153,9 +138,17 @@ impl<'a> Line<'a> {
         } else if word == "--trials" {
             self.waiting(Valued::Trials)
         } else if word == "--json" {
-            self.with_json()
+            if self.json {
+                None
+            } else {
+                Some(Line { json: true, ..self })
+            }
         } else if word == "--why" {
-            self.with_why()
+            if self.why {
+                None
+            } else {
+                Some(Line { why: true, ..self })
+            }
         } else if is_name(word) {
             self.with_name(word)
         } else {
