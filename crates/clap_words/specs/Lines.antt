@@ -114,12 +114,10 @@ line_app =
 
 -- ---- what is refused before
 
--- it takes the next word
-abbrev pub is_valued : Text → Bool
-is_valued word = bytes_eq word (codes "--assume") || (bytes_eq word (codes "--steps") || (bytes_eq word (codes "--device") || bytes_eq word (codes "--trials")))
-
 abbrev pub is_option : Text → Bool
-is_option word = is_valued word || (bytes_eq word (codes "--json") || bytes_eq word (codes "--why"))
+is_option word =
+    bytes_eq word (codes "--assume")
+    || (bytes_eq word (codes "--steps") || (bytes_eq word (codes "--device") || (bytes_eq word (codes "--trials") || (bytes_eq word (codes "--json") || bytes_eq word (codes "--why")))))
 
 -- an empty word, or one that begins with `-` and is none of the options
 abbrev pub is_refused : Text → Bool

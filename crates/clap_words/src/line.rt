@@ -3,18 +3,18 @@
 ghost use Rattle.std.specs.Prelude.{◌≡◌, IfOk, false};
 ghost use Rattle.clap.specs.Words.{App, app_of, rule_of};
 ghost use Rattle.clap.specs.declared.builder.command.Command.TheViews.{out-Command as fields_of};
-ghost use Rattle.clap_words.specs.Lines.{rule_by, with_rules, with_commands, bare_app, line_app};
+ghost use Rattle.clap_words.specs.Lines.{rule_by, with_rules, with_commands, line_app};
 
 use clap::{Arg, ArgAction, Command};
 use std::alloc::{AllocError, Global};
 
-/// What an argument is.
+// What an argument is.
 pub(crate) enum Kind {
-    /// A name that has to stand there.
+    // A name that has to stand there.
     Name,
-    /// An option that takes the next word.
+    // An option that takes the next word.
     Value,
-    /// An option that takes none.
+    // An option that takes none.
     Flag,
 }
 
@@ -30,7 +30,7 @@ const STEPS: (&str, Kind) = ("steps", Kind::Value);
 
 const TRIALS: (&str, Kind) = ("trials", Kind::Value);
 
-/// The commands, each with its arguments in their order.
+// The commands, each with its arguments in their order.
 static COMMANDS: [(&str, &[(&str, Kind)]); 10] = [
     ("check", &[FIRMWARE, SECOND, ASSUME, DEVICE]),
     ("analyse", &[FIRMWARE, ASSUME, DEVICE, STEPS]),
@@ -50,7 +50,7 @@ static COMMANDS: [(&str, &[(&str, Kind)]); 10] = [
     ("demo", &[("size", Kind::Name)]),
 ];
 
-/// The argument of this name.
+// The argument of this name.
 fn arg_of<'a>(alloc: Global, id: &'a str, kind: &Kind) -> Arg<'a>
     ensures rule { rule_of result ≡ rule_by kind.now id.entry.now }
     ensures local { result.global ≡ false }
@@ -63,7 +63,7 @@ fn arg_of<'a>(alloc: Global, id: &'a str, kind: &Kind) -> Arg<'a>
     }
 }
 
-/// The command with these arguments.
+// The command with these arguments.
 fn with_args<'a>(
     alloc: Global,
     command: Command<'a>,
@@ -79,19 +79,7 @@ fn with_args<'a>(
     }
 }
 
-/// The program without commands, help and version.
-fn bare<'a>(alloc: Global) -> Command<'a>
-    ensures app { app_of result ≡ bare_app }
-{
-    Command::new(alloc, "stackbound")
-        .no_binary_name(true)
-        .disable_help_flag(true)
-        .disable_help_subcommand(true)
-        .disable_version_flag(true)
-        .subcommand_required(true)
-}
-
-/// The program with these commands.
+// The program with these commands.
 fn with_commands<'a>(
     alloc: Global,
     program: Command<'a>,
@@ -111,9 +99,15 @@ fn with_commands<'a>(
     }
 }
 
-/// The program with its commands.
+// The program with its commands, without help and version.
 pub(crate) fn line_command<'a>(alloc: Global) -> Result<Command<'a>, AllocError>
     ensures { IfOk result (λ c. app_of c ≡ line_app) }
 {
-    with_commands(alloc, bare(alloc), &COMMANDS)
+    let program = Command::new(alloc, "stackbound")
+        .no_binary_name(true)
+        .disable_help_flag(true)
+        .disable_help_subcommand(true)
+        .disable_version_flag(true)
+        .subcommand_required(true);
+    with_commands(alloc, program, &COMMANDS)
 }

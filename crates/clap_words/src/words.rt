@@ -1,33 +1,30 @@
 //! The command that words are.
 
-ghost use Rattle.std.specs.Prelude.{◌≡◌, ◌≢◌, IfOk, false, true, map};
+ghost use Rattle.std.specs.Prelude.{◌≡◌, IfOk, map};
 ghost use Rattle.std.specs.Option.{option_map};
 ghost use Rattle.std.specs.List.{list_any};
-ghost use Rattle.clap.specs.Words.{takes};
 ghost use Rattle.commands.specs.Commands.{command_of};
 ghost use Rattle.commands.specs.Views.{command_seen};
-ghost use Rattle.clap_words.specs.Lines.{is_valued, is_option, is_refused, line_app};
+ghost use Rattle.clap_words.specs.Lines.{is_option, is_refused};
 
 use crate::line::line_command;
 use clap::error::ErrorKind;
 use commands::Command;
 use std::alloc::{AllocError, Global};
 
-/// Whether the word is an option that takes the next word.
-fn is_valued(word: &str) -> bool
-    ensures { result ≡ is_valued word.now }
-{
-    word == "--assume" || word == "--steps" || word == "--device" || word == "--trials"
-}
-
-/// Whether the word is an option.
+// Whether the word is an option.
 fn is_option(word: &str) -> bool
     ensures { result ≡ is_option word.now }
 {
-    is_valued(word) || word == "--json" || word == "--why"
+    word == "--assume"
+        || word == "--steps"
+        || word == "--device"
+        || word == "--trials"
+        || word == "--json"
+        || word == "--why"
 }
 
-/// Whether the word is empty, or begins with `-` and is none of the options.
+// Whether the word is empty, or begins with `-` and is none of the options.
 fn is_refused(word: &str) -> bool
     ensures { result ≡ is_refused word.now }
 {
@@ -37,29 +34,13 @@ fn is_refused(word: &str) -> bool
     }
 }
 
-/// Whether some word is refused.
+// Whether some word is refused.
 fn has_refused(words: &[&str]) -> bool
     ensures { result ≡ list_any is_refused (map (λ w. w.now) words.now) }
 {
     match words {
         [] => false,
         [word, rest @ ..] => is_refused(word) || has_refused(rest),
-    }
-}
-
-/// Whether `clap` takes the words.
-fn is_taken<'a>(alloc: Global, words: &'a [&'a str]) -> Result<bool, AllocError>
-    ensures { IfOk result (λ b. b ≡ false → takes line_app (map (λ w. w.now) words.entry.now) ≢ true) }
-{
-    match line_command(alloc)?.try_get_matches_from(words) {
-        Ok(_) => Ok(true),
-        Err(error) => {
-            if error.kind() == ErrorKind::OutOfMemory {
-                Err(AllocError)
-            } else {
-                Ok(false)
-            }
-        }
     }
 }
 
@@ -74,9 +55,14 @@ pub fn command_of<'a>(
     if has_refused(words) {
         return Ok(None);
     }
-    if is_taken(alloc, words)? {
-        Ok(commands::command_of(words))
-    } else {
-        Ok(None)
+    match line_command(alloc)?.try_get_matches_from(words) {
+        Ok(_) => Ok(commands::command_of(words)),
+        Err(error) => {
+            if error.kind() == ErrorKind::OutOfMemory {
+                Err(AllocError)
+            } else {
+                Ok(None)
+            }
+        }
     }
 }
