@@ -6,9 +6,7 @@ pub mod laws;
 mod nearest;
 pub mod reach;
 mod reversed;
-pub mod shape;
 pub mod walk;
 
 pub use reach::reached;
-pub use shape::{are_nodes, is_graph};
 pub use walk::shortest_walk;
