@@ -6,15 +6,15 @@ use avr_decode::{decode, length, text};
 use std::alloc::{AllocError, Global};
 use std::io;
 
-/// The word behind each first word.
+// The word behind each first word.
 const SECOND: u16 = 0x9ABC;
 
-/// FNV-1a of 32 bits: the digest of no bytes, and the factor.
+// FNV-1a of 32 bits: the digest of no bytes, and the factor.
 const EMPTY: u32 = 0x811C_9DC5;
 
 const FACTOR: u32 = 0x0100_0193;
 
-/// The digest with these bytes behind those before.
+// The digest with these bytes behind those before.
 fn digest(before: u32, bytes: &[u8]) -> u32 {
     let mut value = before;
     for byte in bytes {
@@ -23,20 +23,15 @@ fn digest(before: u32, bytes: &[u8]) -> u32 {
     value
 }
 
-/// The text of a first word that stands at a word address; `undefined` where no row of the table matches.
-fn shown(alloc: Global, word: u16, at: u16) -> Result<Vec<u8>, AllocError> {
-    let found = decode(word, SECOND);
-    match &found {
-        Some(instr) => text(alloc, instr, at),
-        None => Vec::from_slice(alloc, b"undefined"),
-    }
-}
-
-/// The digest with the line of a first word behind it. Each first word stands at twice its number.
+// The digest with the line of a first word behind it, which stands at twice its number: how many words it takes, and its text, or
+// `undefined` where no row of the table matches.
 fn with_line(alloc: Global, before: u32, word: u16) -> Result<u32, AllocError> {
-    let line = shown(alloc, word, word % 8192 * 2)?;
     let size: &[u8] = if length(word) == 2 { b"2 " } else { b"1 " };
     let sized = digest(before, size);
+    let line = match &decode(word, SECOND) {
+        Some(instr) => text(alloc, instr, word % 8192 * 2)?,
+        None => Vec::from_slice(alloc, b"undefined")?,
+    };
     Ok(digest(digest(sized, line.as_slice()), b"\n"))
 }
 
