@@ -2,7 +2,7 @@
 
 ghost use Rattle.std.specs.Prelude.{◌≡◌};
 ghost use Rattle.bit_domain.specs.TriByte.{tri_at};
-ghost use Rattle.abs_alu.specs.Flags.{tri_flags, tri_zero, result_flags, carry_and_zero};
+ghost use Rattle.abs_alu.specs.Flags.{tri_flags, tri_zero, result_flags};
 
 use bit_domain::bits::Tri;
 use bit_domain::bytes::TriByte;
@@ -39,11 +39,4 @@ pub(crate) fn after_result(r: TriByte, carry: Tri, overflow: Tri, s: TriByte) ->
     ensures { result ≡ result_flags carry overflow r s }
 {
     with_flags(s, carry, is_zero(r), r.bit(7), overflow, s.bit(5))
-}
-
-// The register with these C and Z. All else is kept.
-pub(crate) fn with_carry_and_zero(s: TriByte, carry: Tri, zero: Tri) -> TriByte
-    ensures { result ≡ carry_and_zero carry zero s }
-{
-    s.with(0, carry).with(1, zero)
 }

@@ -3,7 +3,6 @@
 ghost use Rattle.std.specs.Prelude.{◌≡◌};
 ghost use Rattle.abs_alu.specs.Product.{abs_mul};
 
-use crate::flags::with_carry_and_zero;
 use avr_alu::sreg::Sreg;
 use avr_model::operation::Mul;
 use bit_domain::bits::Tri;
@@ -21,12 +20,12 @@ pub fn mul(op: Mul, a: TriByte, b: TriByte, s: TriByte) -> ((TriByte, TriByte), 
             let [low, high] = product.to_le_bytes();
             (
                 (TriByte::of(low), TriByte::of(high)),
-                with_carry_and_zero(s, flags.bit(0), flags.bit(1)),
+                s.with(0, flags.bit(0)).with(1, flags.bit(1)),
             )
         }
         _ => (
             (TriByte::any(), TriByte::any()),
-            with_carry_and_zero(s, Tri::Any, Tri::Any),
+            s.with(0, Tri::Any).with(1, Tri::Any),
         ),
     }
 }

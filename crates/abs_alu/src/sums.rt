@@ -1,7 +1,7 @@
 //! Sums and differences of bytes.
 
 ghost use Rattle.std.specs.Prelude.{◌≡◌};
-ghost use Rattle.abs_alu.specs.Sums.{abs_add, abs_sub, zero_after};
+ghost use Rattle.abs_alu.specs.Sums.{abs_add, abs_sub};
 
 use crate::flags::{is_zero, with_flags};
 use bit_domain::bits::Tri;
@@ -31,24 +31,18 @@ pub fn sub(a: TriByte, b: TriByte, borrow: Tri, keep_zero: bool, s: TriByte) -> 
 {
     let difference = bit_domain::sums::sub(a, b, borrow);
     let overflow = difference.into_top.xor(difference.out);
+    let zero = if keep_zero {
+        is_zero(difference.bits).and(s.bit(1))
+    } else {
+        is_zero(difference.bits)
+    };
     let flags = with_flags(
         s,
         difference.out,
-        zero_of(keep_zero, difference.bits, s),
+        zero,
         difference.bits.bit(7),
         overflow,
         difference.half,
     );
     (difference.bits, flags)
-}
-
-// Z after a difference.
-fn zero_of(keep_zero: bool, r: TriByte, s: TriByte) -> Tri
-    ensures { result ≡ zero_after keep_zero r s }
-{
-    if keep_zero {
-        is_zero(r).and(s.bit(1))
-    } else {
-        is_zero(r)
-    }
 }

@@ -1,22 +1,12 @@
 //! Sums and differences of a word and a small number.
 
 ghost use Rattle.std.specs.Prelude.{◌≡◌};
-ghost use Rattle.abs_alu.specs.Words.{word_answer, abs_wide};
+ghost use Rattle.abs_alu.specs.Words.{abs_wide};
 
 use crate::flags::{is_zero, with_flags};
 use bit_domain::bits::Tri;
 use bit_domain::bytes::TriByte;
-use bit_domain::sums::{Sum, add, sub};
-
-// The word of two byte sums, with the register after it.
-fn answer(low: Sum, high: Sum, s: TriByte) -> ((TriByte, TriByte), TriByte)
-    ensures { result ≡ word_answer low high s }
-{
-    let zero = is_zero(low.bits).and(is_zero(high.bits));
-    let overflow = high.into_top.xor(high.out);
-    let flags = with_flags(s, high.out, zero, high.bits.bit(7), overflow, s.bit(5));
-    ((low.bits, high.bits), flags)
-}
+use bit_domain::sums::{add, sub};
 
 /// ADIW where `up`, else SBIW: the word of low and high byte `a` plus or less `k`, with the register after it, where it was
 /// `s`. Z says that the whole word is 0, and H is kept.
@@ -24,11 +14,15 @@ pub fn wide(up: bool, a: (TriByte, TriByte), k: u8, s: TriByte) -> ((TriByte, Tr
     ensures { result ≡ abs_wide up a k s }
 {
     let (number, nothing) = (TriByte::of(k), TriByte::of(0));
-    if up {
+    let (low, high) = if up {
         let low = add(a.0, number, Tri::Zero);
-        answer(low, add(a.1, nothing, low.out), s)
+        (low, add(a.1, nothing, low.out))
     } else {
         let low = sub(a.0, number, Tri::Zero);
-        answer(low, sub(a.1, nothing, low.out), s)
-    }
+        (low, sub(a.1, nothing, low.out))
+    };
+    let zero = is_zero(low.bits).and(is_zero(high.bits));
+    let overflow = high.into_top.xor(high.out);
+    let flags = with_flags(s, high.out, zero, high.bits.bit(7), overflow, s.bit(5));
+    ((low.bits, high.bits), flags)
 }

@@ -4,7 +4,7 @@ use Rattle.std.specs.Prelude.{nat_le, ◌==◌, slice_index}
 use Rattle.avr_model.specs.Product.{word_of, result_of}
 use Rattle.bit_domain.specs.declared.bytes.TriByte.{TriByte}
 use Rattle.bit_domain.specs.Tri.{tri_bit}
-use Rattle.bit_domain.specs.TriByte.{byte_known, tri_at}
+use Rattle.bit_domain.specs.TriByte.{byte_known, byte_with, tri_at}
 use Rattle.bit_domain.proofs.AllLaws.{bytes_are_their_bits}
 use Rattle.abs_alu.specs.Flags.{carry_and_zero}
 use Rattle.abs_alu.specs.Product.{product_of_constants}
@@ -29,5 +29,6 @@ returns-in-Some-Some c =
     ∙ ap (λ n. tri_bit (bit_at n 0)) c.mul-product.ensures.flags ∙ ap tri_bit (carry_bit_is overflow none 0) in
     let zero = c.bit-in-Some-Some.ensures ∙ ap (λ (t : TriByte). tri_at t 1) c.of-flags.ensures.bits ∙ bytes_are_their_bits.has_bits (λ i. tri_bit (bit_at word i)) 1 (omega arith)
     ∙ ap (λ n. tri_bit (bit_at n 1)) c.mul-product.ensures.flags ∙ ap tri_bit (zero_bit_is overflow none 0) in
-    let register = c.with_carry_and_zero.ensures ∙ (λ p. carry_and_zero (carry p) (zero p) c.args.s) in
+    let register =
+    c.with-in-Some-Some.ensures ∙ (λ p. byte_with (c.with.ensures p) 1 c.bit-in-Some-Some.result) ∙ (λ p. carry_and_zero (carry p) (zero p) c.args.s) in
     (λ p. ((low p, high p), register p)) ∙ (λ p. product_of_constants op (c.in-Some-Some.ensures p) (c.in-Some-Some.ensures' p) c.args.s)
