@@ -13,10 +13,10 @@ use crate::program::{WORDS, instruction, word};
 use crate::register_set::writes;
 use avr_model::instruction::{BinaryOp, ImmediateOp, Instr};
 
-/// How many words before a store its pointer may be loaded at most.
+// How many words before a store its pointer may be loaded at most.
 const FARTHEST: usize = 32;
 
-/// A jump, a call, a return, a branch or a skip.
+// A jump, a call, a return, a branch or a skip.
 pub(crate) fn leaves(instr: &Instr) -> bool
     ensures { result ≡ leaves instr.now }
 {
@@ -38,7 +38,7 @@ pub fn sets(instr: &Instr, register: u16) -> bool
     register < 32 && (set >> register) & 1 == 1
 }
 
-/// The lower register of the pointer through which `st` or `std` stores.
+// The lower register of the pointer through which `st` or `std` stores.
 fn store_pointer(instr: &Instr) -> Option<u16>
     ensures value { result ≡ store_pointer instr.now }
     ensures pair { IfSome result (λ r. r < 31) }
@@ -50,15 +50,15 @@ fn store_pointer(instr: &Instr) -> Option<u16>
     }
 }
 
-/// What a way to a store tells of the pair of registers that is its pointer: of each, whether the last instruction that sets
-/// it is `ldi`; none where none sets it.
+// What a way to a store tells of the pair of registers that is its pointer: of each, whether the last instruction that sets
+// it is `ldi`; none where none sets it.
 #[derive(Clone, Copy)]
 struct Told {
     low: Option<bool>,
     high: Option<bool>,
 }
 
-/// Whether the last instruction that sets the register is `ldi`, where `behind` says it of those behind this one.
+// Whether the last instruction that sets the register is `ldi`, where `behind` says it of those behind this one.
 fn set_before(register: u16, instr: &Instr, behind: Option<bool>) -> Option<bool>
     ensures { result ≡ set_before register instr.now behind }
 {
@@ -69,8 +69,8 @@ fn set_before(register: u16, instr: &Instr, behind: Option<bool>) -> Option<bool
     }
 }
 
-/// What the way from word `at` tells, where `one` and `two` are what those from one and from two words behind it tell; none
-/// where it meets an undefined word, leaves the way or doesn't come exactly to the store.
+// What the way from word `at` tells, where `one` and `two` are what those from one and from two words behind it tell; none
+// where it meets an undefined word, leaves the way or doesn't come exactly to the store.
 fn told_from(
     words: &[u16],
     at: usize,
@@ -99,7 +99,7 @@ fn told_from(
     })
 }
 
-/// Whether the way loads both registers.
+// Whether the way loads both registers.
 fn loads_both(told: Option<Told>) -> bool
     ensures { result ≡ loads_both told }
 {
@@ -109,7 +109,7 @@ fn loads_both(told: Option<Told>) -> bool
     }
 }
 
-/// Whether some way that goes on with this one may load both registers.
+// Whether some way that goes on with this one may load both registers.
 fn may_load(told: Option<Told>) -> bool
     ensures { result ≡ may_load told }
 {

@@ -12,7 +12,7 @@ use crate::targets::far;
 use avr_model::device::{Device, WORDS};
 use avr_model::instruction::{ImmediateOp, Instr};
 
-/// How many instructions lead from behind the sum to the `ijmp` at most, itself counted.
+// How many instructions lead from behind the sum to the `ijmp` at most, itself counted.
 const MOST: u8 = 16;
 
 /// `subi` of r30, which adds to the low byte of Z.
@@ -25,17 +25,7 @@ pub fn adds_low(instr: &Instr) -> bool
     }
 }
 
-// `sbci` of r31, which adds to its high byte.
-fn adds_high(instr: &Instr) -> bool
-    ensures { result ≡ adds_high instr.now }
-{
-    match instr {
-        Instr::Immediate(ImmediateOp::Sbci, register, _) => register.get() == 31,
-        _ => false,
-    }
-}
-
-// Whether an index is added to a table's address by word `at` and the next one.
+// Whether an index is added to a table's address by word `at` and the next one, which is `sbci` of r31: it adds to the high byte of Z.
 fn adds(words: &[u16], at: usize) -> bool
     requires flash { IsFlash words.now }
     requires room { at < 65536 }
@@ -43,17 +33,11 @@ fn adds(words: &[u16], at: usize) -> bool
 {
     match &instruction(words, at) {
         Some(instr) if adds_low(instr) => match &instruction(words, at + 1) {
-            Some(next) => adds_high(next),
-            None => false,
+            Some(Instr::Immediate(ImmediateOp::Sbci, register, _)) => register.get() == 31,
+            _ => false,
         },
         _ => false,
     }
-}
-
-fn is_ijmp(instr: &Instr) -> bool
-    ensures { result ≡ is_ijmp instr.now }
-{
-    matches!(instr, Instr::Ijmp)
 }
 
 // The word at which a way goes on behind the instruction of this size at word `at`; none where it leaves the way.
@@ -82,7 +66,7 @@ fn ijmp_from(words: &[u16], most: u8, at: u16) -> Option<u16>
     let Some(instr) = instruction(words, usize::from(at)) else {
         return None;
     };
-    if is_ijmp(&instr) {
+    if matches!(instr, Instr::Ijmp) {
         return Some(at);
     }
     let Some(next) = onward(at, length(word(words, usize::from(at))), &instr) else {

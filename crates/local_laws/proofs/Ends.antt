@@ -17,7 +17,7 @@ use Rattle.avr_model.specs.Written.{written}
 use Rattle.avr_model.specs.State.{State}
 use Rattle.avr_model.specs.Effects.{effect_of, binary_effect, immediate_effect, unary_effect}
 use Rattle.avr_model.specs.Step.{with_registers}
-use Rattle.effect_laws.proofs.AllLaws.{registers_are_written}
+use Rattle.avr_decode.proofs.AllLaws.{registers_are_written}
 use Rattle.sp_domain.specs.Tags.{Origin}
 use Rattle.abs_state.specs.declared.state.AbsState.{AbsState}
 use Rattle.abs_state.specs.Laws.{HoldsAt}
