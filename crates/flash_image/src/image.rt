@@ -53,7 +53,7 @@ pub enum RawFault {
 #[derive(Clone, Copy, Drop)]
 pub struct Outside(pub u16);
 
-/// How many words the ATmega328P's flash has, as a length.
+// How many words the ATmega328P's flash has, as a length.
 const COUNT: usize = WORDS as usize;
 
 impl Flash {
@@ -136,7 +136,7 @@ impl Flash {
         Ok(self)
     }
 
-    /// The first word behind a device's last that isn't FFFF.
+    // The first word behind a device's last that isn't FFFF.
     fn first_outside(&self, device: Device) -> Option<u16>
         requires { length self.now ≡ WORDS }
         ensures { MatchOption result (AreErased self.now (words_of device) WORDS) (IsOutside device self.now) }
@@ -174,24 +174,13 @@ impl Flash {
     {
         self.readings.clear();
         self.mark_table.clear();
-        put_bytes(&mut self.words, usize::from(at), bytes);
+        for (i, byte) in bytes.iter().enumerate() {
+            set_byte(&mut self.words, usize::from(at) + i, *byte);
+        }
     }
 }
 
-/// Puts bytes at the byte addresses from `at` on; every other byte stays as it was.
-fn put_bytes(words: &mut Vec<u16>, at: usize, bytes: &[u8])
-    requires size { length words.old.items ≡ WORDS }
-    requires fits { at + length bytes.now ≤ FLASH_BYTES }
-    ensures count { length words.new.items ≡ WORDS }
-    ensures bytes { (z : ℕ) → z < FLASH_BYTES → byte_at words.new.items z ≡ placed at bytes.now words.old.items z }
-{
-    let _ = &*words;
-    for (i, byte) in bytes.iter().enumerate() {
-        set_byte(words, at + i, *byte);
-    }
-}
-
-/// Changes the byte at `z` alone.
+// Changes the byte at `z` alone.
 fn set_byte(words: &mut Vec<u16>, z: usize, byte: u8)
     requires size { length words.old.items ≡ WORDS }
     requires fits { z < FLASH_BYTES }

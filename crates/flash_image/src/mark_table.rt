@@ -9,10 +9,10 @@ use avr_decode::is_pair;
 use avr_model::instruction::{ImmediateInstr, ImmediateOp};
 use pair_domain::Interval;
 
-/// How many numbers have 16 bits.
+// How many numbers have 16 bits.
 pub(crate) const NUMBERS: usize = 65536;
 
-/// How many pairs of a register and a byte there are: byte `b` of register `r` is number `256 * r + b`.
+// How many pairs of a register and a byte there are: byte `b` of register `r` is number `256 * r + b`.
 pub(crate) const LOADS: usize = 8192;
 
 // The number of two bytes.
@@ -31,7 +31,7 @@ fn mark_pair(table: &mut [bool; NUMBERS], low: ImmediateInstr, high: ImmediateIn
     }
 }
 
-/// Marks what two instructions load into a pair.
+// Marks what two instructions load into a pair.
 #[tactic(auto, using(crate::proofs::Marked::marked_append))]
 pub(crate) fn mark_loaded(
     table: &mut [bool; NUMBERS],
@@ -46,7 +46,7 @@ pub(crate) fn mark_loaded(
     }
 }
 
-/// Marks what two instructions add to a pair.
+// Marks what two instructions add to a pair.
 pub(crate) fn mark_added(table: &mut [bool; NUMBERS], first: ImmediateInstr, second: ImmediateInstr)
     ensures { table.new ≡ marked table.old (added_number first second) }
 {
@@ -58,7 +58,7 @@ pub(crate) fn mark_added(table: &mut [bool; NUMBERS], first: ImmediateInstr, sec
     }
 }
 
-/// Notes the byte that an instruction loads into its register.
+// Notes the byte that an instruction loads into its register.
 pub(crate) fn note_load(loads: &mut [bool; LOADS], load: ImmediateInstr)
     requires { load.register < 32 }
     ensures { loads.new ≡ noted loads.old (Some load) }
@@ -68,7 +68,7 @@ pub(crate) fn note_load(loads: &mut [bool; LOADS], load: ImmediateInstr)
     }
 }
 
-/// Marks a low byte with each high byte that the program loads into a register, and with 0.
+// Marks a low byte with each high byte that the program loads into a register, and with 0.
 pub(crate) fn mark_side(table: &mut [bool; NUMBERS], loads: &[bool; LOADS], side: u16, low: u8)
     requires { side < 32 }
     ensures { (words : List ℕ) → AreLoads words loads.now → table.new ≡ marked table.old (side_marks words low (Some side)) }
@@ -81,7 +81,7 @@ pub(crate) fn mark_side(table: &mut [bool; NUMBERS], loads: &[bool; LOADS], side
     }
 }
 
-/// Marks what is a mark of every program.
+// Marks what is a mark of every program.
 pub(crate) fn mark_usual(table: &mut [bool; NUMBERS])
     ensures { table.new ≡ marked table.old usual_marks }
 {
@@ -125,7 +125,7 @@ fn above(table: &[bool], x: u16) -> u16
     at
 }
 
-/// The interval, widened outwards to the nearest marks.
+// The interval, widened outwards to the nearest marks.
 pub(crate) fn widened(table: &[bool], interval: Interval) -> Interval
     requires { length table.now ≡ NUMBERS }
     ensures { (ms : List ℕ) → IsTable ms table.now → result ≡ outward ms interval }
