@@ -99,22 +99,13 @@ fn told_from(
     })
 }
 
-// Whether the way loads both registers.
-fn loads_both(told: Option<Told>) -> bool
-    ensures { result ≡ loads_both told }
+// Whether the way loads both registers, where one that nothing on it sets counts as `unset` says: it may still be loaded on a longer
+// way.
+fn loads(told: Option<Told>, unset: bool) -> bool
+    ensures { result ≡ (if unset then may_load told else loads_both told) }
 {
     match told {
-        Some(told) => told.low.unwrap_or(false) && told.high.unwrap_or(false),
-        None => false,
-    }
-}
-
-// Whether some way that goes on with this one may load both registers.
-fn may_load(told: Option<Told>) -> bool
-    ensures { result ≡ may_load told }
-{
-    match told {
-        Some(told) => told.low.unwrap_or(true) && told.high.unwrap_or(true),
+        Some(told) => told.low.unwrap_or(unset) && told.high.unwrap_or(unset),
         None => false,
     }
 }
@@ -141,12 +132,12 @@ pub fn is_fixed(words: &[u16], a: u16) -> bool
     let mut two = None;
     for distance in 1..FARTHEST + 1 {
         let told = told_from(words, usize::from(a) + WORDS - distance, register, one, two);
-        if loads_both(told) {
+        if loads(told, false) {
             return true;
         }
         two = one;
         one = told;
-        if !may_load(one) && !may_load(two) {
+        if !loads(one, true) && !loads(two, true) {
             return false;
         }
     }
