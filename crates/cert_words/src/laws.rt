@@ -3,7 +3,7 @@
 ghost use Rattle.cert_words.specs.Laws.{ValueWords};
 ghost use Rattle.cert_words.specs.KeyLaws.{KeyWords};
 
-use bit_domain::laws::{bytes_are_sets, bytes_are_their_bits, ranges_fit};
+use bit_domain::laws::{bytes_are_sets, lattice_is_of_sets};
 use line_reading::laws::word_laws;
 use pair_words::laws::facts_words;
 
@@ -15,8 +15,7 @@ pub fn key_words()
     ensures keys { KeyWords }
 {
     word_laws();
-    bytes_are_their_bits();
     bytes_are_sets();
-    ranges_fit();
+    lattice_is_of_sets();
     facts_words();
 }

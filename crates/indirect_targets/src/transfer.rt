@@ -6,7 +6,7 @@ ghost use Rattle.bit_domain.specs.Numbers.{numbers_of, targets_of};
 ghost use Rattle.indirect_targets.specs.Targets.{most_targets, Keeps};
 
 use crate::target_list::{Targets, TooMany};
-use bit_domain::laws::numbers_are_permitted;
+use bit_domain::laws::bytes_are_sets;
 use bit_domain::{Tri, TriByte};
 
 // Bit `i`, from 0 to 13, of the pointer with these bytes.
@@ -22,7 +22,7 @@ fn words_of(lo: &TriByte, hi: &TriByte, width: u8) -> Result<Targets, TooMany>
     requires { width ≤ 14 }
     ensures { Keeps result (numbers_of (numbers.pointer_bit lo.now hi.now) width) }
 {
-    numbers_are_permitted();
+    bytes_are_sets();
     let mut words = Targets::zero();
     for i in 0..width {
         words = words.with_bit(pointer_bit(lo, hi, i), 1 << i)?;

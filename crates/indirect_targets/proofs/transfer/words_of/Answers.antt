@@ -11,7 +11,7 @@ loop-i-init c = record {
 }
 
 pub with_bit-requires : goal.with_bit-requires
-with_bit-requires c = weight_fits c.numbers_are_permitted.ensures (pointer_bit c.args.lo.now c.args.hi.now) c.loop-i.i c.loop-i.words (omega arith) c.loop-i.invariant.same
+with_bit-requires c = weight_fits c.bytes_are_sets.ensures.numbers (pointer_bit c.args.lo.now c.args.hi.now) c.loop-i.i c.loop-i.words (omega arith) c.loop-i.invariant.same
 
 pub loop-i-preserved : goal.loop-i-preserved
 loop-i-preserved c =
