@@ -1,7 +1,7 @@
 //! Tags that tie flags to registers and pairs.
 
 ghost use Rattle.std.specs.Prelude.{◌≡◌, ◌↔◌, ◌+◌, nat_lt, IsTrue};
-ghost use Rattle.pair_domain.specs.Tags.{AreNear, up_from, down_from, sum_join, IsSumWithin, compare_join, IsCompareWithin, zero_join, IsZeroWithin};
+ghost use Rattle.pair_domain.specs.Tags.{up_from, down_from, sum_join, IsSumWithin, compare_join, IsCompareWithin, zero_join, IsZeroWithin};
 
 /// What is known of a pair of registers and the carry flag C between the two instructions of a sum or difference of 16 bits. Only ends that
 /// are less than 65,535 apart are kept. Source: own.
@@ -54,13 +54,6 @@ fn are_near(low: u32, high: u32) -> bool
     u64::from(high) < u64::from(low) + 65_535
 }
 
-// What is said of ends holds where these are kept.
-fn are_ends_within(within: bool, low: u32, high: u32) -> bool
-    ensures { IsTrue result ↔ (AreNear low high → IsTrue within) }
-{
-    within || !are_near(low, high)
-}
-
 /// The sum of a pair with these ends; none where they aren't kept.
 pub fn up_from(pair: u8, low: u32, high: u32) -> SumTag
     ensures { result ≡ up_from pair low high }
@@ -106,12 +99,12 @@ impl SumTag {
         match (self, other) {
             (_, SumTag::None) => true,
             (SumTag::Up(r, a, b), SumTag::Up(s, c, d)) => {
-                are_ends_within(r == s && c <= a && b <= d, c, d)
+                !are_near(c, d) || (r == s && c <= a && b <= d)
             }
             (SumTag::Down(r, a, b), SumTag::Down(s, c, d)) => {
-                are_ends_within(r == s && c <= a && b <= d, c, d)
+                !are_near(c, d) || (r == s && c <= a && b <= d)
             }
-            (_, SumTag::Up(_, c, d)) | (_, SumTag::Down(_, c, d)) => are_ends_within(false, c, d),
+            (_, SumTag::Up(_, c, d)) | (_, SumTag::Down(_, c, d)) => !are_near(c, d),
         }
     }
 }
