@@ -47,7 +47,3 @@ cut_by cut s n (Some f) is p e left l =
     by None = refl
     by (Some m) =
         ap (λ (y : Option PairFacts). Some (record s { registers = pair_set s.registers n m; facts = with_interval n (record { low = valued q.low.tag m.low; high = valued q.high.tag m.high; interval = m.interval }) y })) is
-
-none_cut : (cut : PairSet → Option PairSet) (s : AbsState) (n : ℕ) (x : Option PairFacts) → pair_in s n x ≡ None → Some s ≡ cut_known cut s n x
-none_cut cut s n None e = refl
-none_cut cut s n (Some f) e = absurd (cc)

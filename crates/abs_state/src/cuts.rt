@@ -79,7 +79,7 @@ impl AbsByte {
 
 impl AbsState {
     ghost use Rattle.abs_state.specs.Cuts.{cut_state};
-    ghost use Rattle.abs_state.specs.PairBytes.{pair_at, with_bytes, put, left_in};
+    ghost use Rattle.abs_state.specs.PairBytes.{pair_at, put, left_in};
 
     /// What is known of pair `2 * n`, where pairs are followed.
     pub fn pair(&self, n: usize) -> Option<PairBytes>
@@ -94,11 +94,14 @@ impl AbsState {
         })
     }
 
-    // Puts this in the place of pair `2 * n`.
-    fn set_pair(&mut self, n: usize, pair: PairBytes)
+    // Puts what is left in the place of pair `2 * n`. Gives whether something is.
+    fn put(&mut self, n: usize, left: Option<PairBytes>) -> bool
         requires { n < 16 }
-        ensures { self.new ≡ with_bytes self.old n pair }
+        ensures { left_in result self.new ≡ put self.old n left }
     {
+        let Some(pair) = left else {
+            return false;
+        };
         self.registers[2 * n] = pair.low;
         self.registers[2 * n + 1] = pair.high;
         self.facts.kept();
@@ -107,20 +110,7 @@ impl AbsState {
             intervals[n] = pair.interval;
             self.facts.set(PairFacts { intervals, ..facts });
         }
-    }
-
-    // Puts what is left in the place of pair `2 * n`. Gives whether something is.
-    fn put(&mut self, n: usize, left: Option<PairBytes>) -> bool
-        requires { n < 16 }
-        ensures { left_in result self.new ≡ put self.old n left }
-    {
-        match left {
-            Some(pair) => {
-                self.set_pair(n, pair);
-                true
-            }
-            None => false,
-        }
+        true
     }
 
     /// Cuts the interval of pair `2 * n` to the hull of its bytes. Gives whether something is left.
@@ -130,28 +120,6 @@ impl AbsState {
     {
         match self.pair(n) {
             Some(pair) => self.put(n, pair.cut()),
-            None => true,
-        }
-    }
-
-    /// Cuts register `2 * n` to the bytes from `low` to `high`. Gives whether something is left.
-    pub fn narrow_low(&mut self, n: usize, low: u8, high: u8) -> bool
-        requires { n < 16 }
-        ensures { left_in result self.new ≡ cut_state (λ p. narrow_low p low high) self.old n }
-    {
-        match self.pair(n) {
-            Some(pair) => self.put(n, pair.narrow_low(low, high)),
-            None => true,
-        }
-    }
-
-    /// Cuts register `2 * n + 1` to the bytes from `low` to `high`. Gives whether something is left.
-    pub fn narrow_high(&mut self, n: usize, low: u8, high: u8) -> bool
-        requires { n < 16 }
-        ensures { left_in result self.new ≡ cut_state (λ p. narrow_high p low high) self.old n }
-    {
-        match self.pair(n) {
-            Some(pair) => self.put(n, pair.narrow_high(low, high)),
             None => true,
         }
     }

@@ -1,9 +1,8 @@
 //! What writes end of what is known of pairs.
 
-ghost use Rattle.std.specs.Prelude.{◌≡◌, ◌<◌, ◌*◌, if◌then◌else◌};
-ghost use Rattle.pair_domain.specs.Intervals.{whole};
+ghost use Rattle.std.specs.Prelude.{◌≡◌, ◌<◌, ◌*◌};
 ghost use Rattle.pair_domain.specs.Tags.{IsNear};
-ghost use Rattle.abs_state.specs.Ended.{is_bit_of, in_pair, in_side, sum_ended, compare_ended, zero_ended, intervals_ended, facts_ended, ended, hull_at, written_hull};
+ghost use Rattle.abs_state.specs.Ended.{is_bit_of, in_pair, in_side, sum_ended, compare_ended, zero_ended, intervals_ended, facts_ended, ended, written_hull};
 
 use crate::pairs::hull_of;
 use crate::values::AbsByte;
@@ -54,21 +53,13 @@ fn intervals_ended(intervals: &[Interval; 16], written: u32) -> [Interval; 16]
     let mut left = *intervals;
     for n in 0..16u8 {
         let at = usize::from(n);
-        left[at] = interval_ended(intervals[at], written, n);
+        left[at] = if in_pair(written, 2 * n) {
+            Interval::whole()
+        } else {
+            intervals[at]
+        };
     }
     left
-}
-
-// The interval of pair `2 * n`.
-fn interval_ended(interval: Interval, written: u32, n: u8) -> Interval
-    requires { n < 16 }
-    ensures { result ≡ (if in_pair (is_bit_of written) (2 * n) then whole else interval) }
-{
-    if in_pair(written, 2 * n) {
-        Interval::whole()
-    } else {
-        interval
-    }
 }
 
 fn sum_ended(tag: SumTag, written: u32, carry: bool) -> SumTag

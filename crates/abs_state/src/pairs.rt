@@ -1,4 +1,4 @@
-//! What is known of pairs at an entry and after a return.
+//! What is known of pairs after a return.
 
 ghost use Rattle.std.specs.Prelude.{ℕ, ◌≡◌, ◌+◌, ◌%◌, ◌<◌, ◌==◌, ◌&&◌, IfOk, IfSome};
 ghost use Rattle.sp_domain.specs.declared.tags.Tag.TheVariants as tag;
@@ -6,36 +6,14 @@ ghost use Rattle.sp_domain.specs.Tags.{is_same_tag};
 ghost use Rattle.pair_domain.specs.Intervals.{hull};
 ghost use Rattle.abs_state.specs.Values.{value_at, set_of};
 ghost use Rattle.abs_state.specs.Formed.{NamesRegister};
-ghost use Rattle.abs_state.specs.Frames.{known_entered};
-ghost use Rattle.pair_domain.specs.Facts.{interval_at};
 ghost use Rattle.pair_domain.specs.Tags.{IsNear};
-ghost use Rattle.abs_state.specs.PairsBack.{kept_pair, interval_kept, interval_back, collected, keeps, keeps_side, sum_after, compare_after, zero_after, facts_with, known_back};
+ghost use Rattle.abs_state.specs.PairsBack.{kept_pair, interval_back, collected, keeps, keeps_side, sum_after, compare_after, zero_after, facts_with, known_back};
 
 use crate::values::AbsByte;
+use pair_domain::facts::interval_at;
 use pair_domain::{CompareTag, Facts, Interval, PairFacts, Side, SumTag, ZeroTag};
 use sp_domain::Tag;
 use std::alloc::{AllocError, Global};
-
-/// Intervals are kept at an entry, and the tags of flags end.
-pub fn facts_entered(facts: &Facts, alloc: Global) -> Result<Facts, AllocError>
-    ensures { IfOk result (λ f. f ≡ known_entered facts.now) }
-{
-    match facts.get() {
-        Some(known) => {
-            let intervals = known.intervals;
-            Facts::new(
-                alloc,
-                PairFacts {
-                    intervals,
-                    sum: SumTag::None,
-                    compare: CompareTag::None,
-                    zero: ZeroTag::None,
-                },
-            )
-        }
-        None => Ok(Facts::none()),
-    }
-}
 
 /// What is known of pairs after a return to a caller that knew this, from an exit that found that, with the registers after it. There is
 /// none where nothing is left of a pair.
@@ -125,31 +103,11 @@ fn interval_returned(
     requires inside { n < 16 }
     ensures { result ≡ interval_back caller.now exit.now found.now registers.now n }
 {
-    let kept = kept_pair(exit[2 * n].tag, exit[2 * n + 1].tag);
-    let interval = interval_kept(caller, kept, found[n])?;
+    let interval = match kept_pair(exit[2 * n].tag, exit[2 * n + 1].tag) {
+        Some(a) => interval_at(caller, a).meet(found[n])?,
+        None => found[n],
+    };
     interval.meet(hull_of(registers[2 * n], registers[2 * n + 1]))
-}
-
-// What was found, and what the caller knew of a pair that was kept.
-fn interval_kept(caller: &[Interval; 16], kept: Option<u8>, found: Interval) -> Option<Interval>
-    ensures { result ≡ interval_kept caller.now kept found }
-{
-    match kept {
-        Some(a) => known_interval(caller, a).meet(found),
-        None => Some(found),
-    }
-}
-
-// The interval of pair `2 * n`, and all numbers where there is no such pair.
-fn known_interval(intervals: &[Interval; 16], n: u8) -> Interval
-    ensures { result ≡ interval_at intervals.now n }
-{
-    let at = usize::from(n);
-    if at < 16 {
-        intervals[at]
-    } else {
-        Interval::whole()
-    }
 }
 
 // The pair of the entry that two registers of a pair hold.
@@ -157,15 +115,11 @@ fn kept_pair(low: Tag, high: Tag) -> Option<u8>
     ensures { result ≡ kept_pair low high }
 {
     match (low, high) {
-        (Tag::Entry(a), Tag::Entry(b)) if is_pair(a, b) => Some(a / 2),
+        (Tag::Entry(a), Tag::Entry(b)) if a % 2 == 0 && u16::from(b) == u16::from(a) + 1 => {
+            Some(a / 2)
+        }
         _ => None,
     }
-}
-
-fn is_pair(a: u8, b: u8) -> bool
-    ensures { result ≡ ((a % 2 == 0) && (b == a + 1)) }
-{
-    a % 2 == 0 && u16::from(b) == u16::from(a) + 1
 }
 
 /// From the number of the least bytes to that of the greatest.
@@ -195,8 +149,9 @@ fn compare_returned(caller: CompareTag, exit: &[AbsByte; 32]) -> CompareTag
     ensures { result ≡ compare_after exit.now caller }
 {
     match caller {
-        CompareTag::Byte(x, y) if is_compared_kept(exit, x, y) => CompareTag::Byte(x, y),
-        CompareTag::Pair(r, y, p) if are_compared_kept(exit, r, y, p) => CompareTag::Pair(r, y, p),
+        CompareTag::Byte(x, y) if is_kept(exit, x) && is_side_kept(exit, y) => caller,
+        CompareTag::Pair(r, y, p)
+            if is_pair_kept(exit, r) && is_side_kept(exit, y) && is_kept(exit, p) => { caller }
         _ => CompareTag::None,
     }
 }
@@ -209,18 +164,6 @@ fn zero_returned(caller: ZeroTag, exit: &[AbsByte; 32]) -> ZeroTag
         ZeroTag::Pair(r) if is_pair_kept(exit, r) => ZeroTag::Pair(r),
         _ => ZeroTag::None,
     }
-}
-
-fn is_compared_kept(exit: &[AbsByte; 32], x: u8, y: Side) -> bool
-    ensures { result ≡ (keeps exit.now x && keeps_side exit.now y) }
-{
-    is_kept(exit, x) && is_side_kept(exit, y)
-}
-
-fn are_compared_kept(exit: &[AbsByte; 32], r: u8, y: Side, p: u8) -> bool
-    ensures { result ≡ (keeps exit.now r && keeps exit.now (r + 1) && keeps_side exit.now y && keeps exit.now p) }
-{
-    is_pair_kept(exit, r) && is_side_kept(exit, y) && is_kept(exit, p)
 }
 
 fn is_side_kept(exit: &[AbsByte; 32], y: Side) -> bool
