@@ -20,7 +20,7 @@ use indexmap::IndexMap;
 use local_rules::Node;
 use mask_states::NodeKey;
 use state_pool::Pool;
-use state_pool::laws::{counts_follow, releases_undo};
+use state_pool::laws::uses_are_counted;
 use std::alloc::{AllocError, Global};
 use std::marker::Model;
 
@@ -102,8 +102,7 @@ impl Table {
         ensures grew { IfOk result (λ grew. IsTrue grew ↔ (self.new ≢ self.old)) }
         ensures err { OnErr result (self.new ≡ self.old) }
     {
-        counts_follow();
-        releases_undo();
+        uses_are_counted();
         if self.map.len() > MOST || self.pool.len() > MOST {
             return Err(AllocError);
         }
@@ -164,7 +163,7 @@ fn joined(
     ensures slots { IfOk result (λ r. length (state_at pool.new r.0).slots ≡ length other.now.slots) }
     ensures err { OnErr result (pool.new ≡ pool.old) }
 {
-    counts_follow();
+    uses_are_counted();
     let mut state = pool.get(number).copy(alloc)?;
     if !state.join_into(other) {
         return Ok((number, false));
@@ -182,7 +181,7 @@ fn taken(pool: &mut Pool, alloc: Global, number: u32) -> Result<AbsState, AllocE
     ensures state { IfOk result (λ state. state ≡ state_at pool.old number) }
     ensures less { IsUsedLess pool.old number pool.new }
 {
-    counts_follow();
+    uses_are_counted();
     match pool.release(number) {
         Some(state) => Ok(state),
         None => pool.get(number).copy(alloc),

@@ -1,3 +1,3 @@
--- The laws, each under the name of the public function that carries it, and what else crates above cite. They cite it from here.
+-- The laws, each under the name of its definition, and what else crates above cite. They cite it from here.
 pub use Rattle.state_pool.proofs.Undone.{releases_undo}
 pub use Rattle.state_pool.proofs.Counted.{counts_follow, share_own}

@@ -1,6 +1,6 @@
 //! Numbers by their places, and places by their numbers.
 
-ghost use Rattle.std.specs.Prelude.{ℕ, ◌≡◌, ◌<◌, ◌≤◌, ◌++◌, ◌∷◌, [], length, OnOk, OnErr};
+ghost use Rattle.std.specs.Prelude.{ℕ, ◌≡◌, ◌<◌, ◌≤◌, [], length, OnOk, OnErr};
 ghost use Rattle.std.specs.List.{swap};
 ghost use Rattle.state_pool.specs.Numbers.{number_at, AreNumbers, IsReached};
 
@@ -71,16 +71,6 @@ impl Numbers {
         if place < self.len() {
             return Ok(());
         }
-        self.add()
-    }
-
-    // Another number at the last place.
-    fn add(&mut self) -> Result<(), AllocError>
-        requires { length self.old < 4294967295 }
-        ensures ok { OnOk result (self.new ≡ self.old ++ length self.old ∷ []) }
-        ensures err { OnErr result (self.new ≡ self.old) }
-        ensures once { AreNumbers self.new }
-    {
         let number = self.numbers.len() as u32;
         self.numbers.push(number)?;
         if self.places.push(number).is_err() {

@@ -1,9 +1,8 @@
 //! States as keys of a table.
 
-ghost use Rattle.std.specs.Prelude.{◌≡◌, ◌↔◌, ◌<◌, ◌≤◌, ◌+◌, ◌*◌, ◌^◌, IsTrue, length, fold};
-ghost use Rattle.sp_domain.specs.declared.slots.Slot.TheVariants.{Free};
+ghost use Rattle.std.specs.Prelude.{◌≡◌, ◌↔◌, ◌<◌, ◌≤◌, ◌+◌, ◌*◌, IsTrue, length, fold};
 ghost use Rattle.state_pool.specs.SameState.{same_state};
-ghost use Rattle.state_pool.specs.Digest.{mix, tag_number, carry_number, value_number, flags_number, mix_value, mix_interval, mix_facts, mix_slot, mix_slots, AreFree, digest_of, state_hash};
+ghost use Rattle.state_pool.specs.Digest.{mix, tag_number, carry_number, value_number, flags_number, mix_value, mix_interval, mix_slots, AreFree, digest_of, state_hash};
 ghost use Rattle.state_pool.specs.Equal.{state_equivalence, fed_alike};
 
 use abs_state::{AbsByte, AbsFlags, AbsState};
@@ -52,11 +51,12 @@ impl Hash for Shared {
 }
 
 // Whether both are the same.
-#[tactic(auto, using(crate::proofs::SameStates::state_is))]
+#[tactic(auto, using(crate::proofs::SameStates::state_is, crate::proofs::SameStates::same_flags))]
 fn is_same(state: &AbsState, other: &AbsState) -> bool
     ensures { IsTrue result ↔ (state.now ≡ other.now) }
 {
-    have_same_registers(state, other)
+    state.flags == other.flags
+        && are_same_values(&state.registers, &other.registers)
         && are_same_facts(&state.facts, &other.facts)
         && are_same_slots(state.slots.as_slice(), other.slots.as_slice())
 }
@@ -68,20 +68,6 @@ fn are_same_facts(facts: &Facts, other: &Facts) -> bool
     facts.kept();
     other.kept();
     facts.le(other) && other.le(facts)
-}
-
-fn have_same_registers(state: &AbsState, other: &AbsState) -> bool
-    ensures { IsTrue result ↔ ((state.now.flags ≡ other.now.flags) × (state.now.registers ≡ other.now.registers)) }
-{
-    are_same_flags(&state.flags, &other.flags)
-        && are_same_values(&state.registers, &other.registers)
-}
-
-#[tactic(auto, using(crate::proofs::SameStates::same_flags))]
-fn are_same_flags(flags: &AbsFlags, other: &AbsFlags) -> bool
-    ensures { IsTrue result ↔ (flags.now ≡ other.now) }
-{
-    flags == other
 }
 
 fn are_same_values(values: &[AbsByte], others: &[AbsByte]) -> bool
@@ -120,36 +106,26 @@ fn digest(state: &AbsState) -> u64
     ensures { result ≡ digest_of state.now }
 {
     let slots = state.slots.as_slice();
-    let facts = digest_facts(flags_number(&state.flags), &state.facts);
+    let flags = flags_number(&state.flags);
+    let facts = match state.facts.get() {
+        Some(known) => digest_intervals(flags, &known.intervals),
+        None => flags,
+    };
     let registers = digest_values(facts, &state.registers);
     digest_slots(mixed(registers, slots.len() as u64), slots)
 }
 
-fn digest_facts(start: u64, facts: &Facts) -> u64
-    ensures { result ≡ mix_facts start facts.now }
-{
-    match facts.get() {
-        Some(known) => digest_intervals(start, &known.intervals),
-        None => start,
-    }
-}
-
+// Both ends of each interval.
 #[tactic(auto, using(crate::proofs::Lists::fold_take))]
 fn digest_intervals(start: u64, intervals: &[Interval]) -> u64
     ensures { result ≡ fold mix_interval start intervals.now }
 {
     let mut digest = start;
     for interval in intervals {
-        digest = mixed(digest, interval_number(interval));
+        let ends = u64::from(interval.low) + 65_536 * u64::from(interval.high);
+        digest = mixed(digest, ends);
     }
     digest
-}
-
-// Both ends of an interval.
-fn interval_number(interval: &Interval) -> u64
-    ensures { result ≡ interval.now.low + 2 ^ 16 * interval.now.high }
-{
-    u64::from(interval.low) + (u64::from(interval.high) << 16)
 }
 
 #[tactic(auto, using(crate::proofs::Lists::fold_take))]
@@ -176,7 +152,9 @@ fn digest_slots(start: u64, slots: &[Slot<AbsByte>]) -> u64
         if are_free(slots, at) {
             at += PASSED;
         } else {
-            digest = with_slot(digest, at, &slots[at]);
+            if let Slot::Guarded(value) = &slots[at] {
+                digest = mixed(digest.wrapping_add(at as u64), value_number(value));
+            }
             at += 1;
         }
     }
@@ -192,29 +170,11 @@ fn are_free(slots: &[Slot<AbsByte>], at: usize) -> bool
         return false;
     }
     for d in 0..PASSED {
-        if !is_free(&slots[at + d]) {
+        if let Slot::Guarded(_) = &slots[at + d] {
             return false;
         }
     }
     true
-}
-
-fn is_free(slot: &Slot<AbsByte>) -> bool
-    ensures { IsTrue result → slot.now ≡ Free }
-{
-    match slot {
-        Slot::Free => true,
-        Slot::Guarded(_) => false,
-    }
-}
-
-fn with_slot(digest: u64, at: usize, slot: &Slot<AbsByte>) -> u64
-    ensures { result ≡ mix_slot digest at slot.now }
-{
-    match slot {
-        Slot::Free => digest,
-        Slot::Guarded(value) => mixed(digest.wrapping_add(at as u64), value_number(value)),
-    }
 }
 
 fn mixed(digest: u64, number: u64) -> u64

@@ -7,7 +7,7 @@ ghost use Rattle.state_pool.specs.Uses.{AreBelow, IsInterned};
 use super::states::is_same;
 use abs_state::AbsState;
 use state_pool::Pool;
-use state_pool::laws::{counts_follow, releases_undo};
+use state_pool::laws::uses_are_counted;
 use std::alloc::{AllocError, Global};
 
 // The number of one more use of a state.
@@ -31,8 +31,7 @@ fn is_kept_once(
 ) -> Result<bool, AllocError>
     requires { pool.old ≡ empty }
 {
-    counts_follow();
-    releases_undo();
+    uses_are_counted();
     let one = interned(pool, alloc, state)?;
     let same = interned(pool, alloc, state)?;
     let next = interned(pool, alloc, other)?;

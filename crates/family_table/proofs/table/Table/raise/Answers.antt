@@ -99,21 +99,21 @@ pub invariant_of-self-in-Ok-insert : goal.invariant_of-self-in-Ok-insert
 invariant_of-self-in-Ok-insert c =
     (shared_new c.self.inside.pool c.intern.new.self c.self.inside.map.entries c.insert.new.self.entries c.args.self.now c.args.node c.in-Ok.number
     c.self.view_is c.self.invariant c.in-None.ensures.value
-    (c.counts_follow.ensures.interned c.self.inside.pool c.intern.new.self c.args.node.state c.in-Ok.number c.in-Ok.ensures.ok)
+    (c.uses_are_counted.ensures.counts.interned c.self.inside.pool c.intern.new.self c.args.node.state c.in-Ok.number c.in-Ok.ensures.ok)
     c.requires (rw c.get_mut.follows.holds-at-none at c.in-Ok-insert.ensures.entries) (let up = rw c.get_mut.follows.holds-at-none at c.in-Ok-insert.ensures.updates in up.0) c.insert.ensures.unique).shared
 
 pub returns-in-Ok-insert-clause-ok : goal.returns-in-Ok-insert-clause-ok
 returns-in-Ok-insert-clause-ok c =
     (shared_new c.self.inside.pool c.intern.new.self c.self.inside.map.entries c.insert.new.self.entries c.args.self.now c.args.node c.in-Ok.number
     c.self.view_is c.self.invariant c.in-None.ensures.value
-    (c.counts_follow.ensures.interned c.self.inside.pool c.intern.new.self c.args.node.state c.in-Ok.number c.in-Ok.ensures.ok)
+    (c.uses_are_counted.ensures.counts.interned c.self.inside.pool c.intern.new.self c.args.node.state c.in-Ok.number c.in-Ok.ensures.ok)
     c.requires (rw c.get_mut.follows.holds-at-none at c.in-Ok-insert.ensures.entries) (let up = rw c.get_mut.follows.holds-at-none at c.in-Ok-insert.ensures.updates in up.0) c.insert.ensures.unique).raised
 
 pub returns-in-Ok-insert-clause-grew : goal.returns-in-Ok-insert-clause-grew
 returns-in-Ok-insert-clause-grew c =
     let all = shared_new c.self.inside.pool c.intern.new.self c.self.inside.map.entries c.insert.new.self.entries c.args.self.now c.args.node c.in-Ok.number
     c.self.view_is c.self.invariant c.in-None.ensures.value
-    (c.counts_follow.ensures.interned c.self.inside.pool c.intern.new.self c.args.node.state c.in-Ok.number c.in-Ok.ensures.ok)
+    (c.uses_are_counted.ensures.counts.interned c.self.inside.pool c.intern.new.self c.args.node.state c.in-Ok.number c.in-Ok.ensures.ok)
     c.requires (rw c.get_mut.follows.holds-at-none at c.in-Ok-insert.ensures.entries) (let up = rw c.get_mut.follows.holds-at-none at c.in-Ok-insert.ensures.updates in up.0) c.insert.ensures.unique in
     ((λ t e. new_grew c.args.self.now c.args.node.key c.args.node.state all.here (sym all.put ∙ e)), (λ ne. refl))
 
@@ -122,6 +122,6 @@ invariant_of-self-in-Err c =
     let pool = c.self.inside.pool in
     let back : c.release.new.self ≡ pool =
     c.release.ensures.pool
-    ∙ c.releases_undo.ensures.back pool c.intern.new.self c.args.node.state c.in-Ok.number c.len-else-len-gt-MOST.ensures.used c.in-Ok.ensures.ok in
+    ∙ c.uses_are_counted.ensures.undone.back pool c.intern.new.self c.args.node.state c.in-Ok.number c.len-else-len-gt-MOST.ensures.used c.in-Ok.ensures.ok in
     subst (λ (p : Uses). IsShared p c.insert.new.self.entries) (sym back)
     (subst (λ (es : List (NodeKey × ℕ)). IsShared pool es) (sym (rw c.get_mut.follows.holds-at-none at c.in-Err.ensures.err)) c.self.invariant)

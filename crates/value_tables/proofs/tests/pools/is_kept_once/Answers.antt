@@ -11,45 +11,45 @@ interned-requires-clause-counts c = starts_below c.args.pool.now 4294967295 c.re
 pub interned-requires-2-clause-few : goal.interned-requires-2-clause-few
 interned-requires-2-clause-few c =
     let none = starts_empty c.args.pool.now c.requires in
-    let one = c.releases_undo.ensures.many c.args.pool.now c.interned.new.pool c.args.state.now c.in_ok-one.one c.in_ok-one.ensures in
+    let one = c.uses_are_counted.ensures.undone.many c.args.pool.now c.interned.new.pool c.args.state.now c.in_ok-one.one c.in_ok-one.ensures in
     omega (arith, none, one)
 
 pub interned-requires-2-clause-counts : goal.interned-requires-2-clause-counts
 interned-requires-2-clause-counts c =
-    c.releases_undo.ensures.below c.args.pool.now c.interned.new.pool c.args.state.now c.in_ok-one.one 4294967294 (omega arith)
+    c.uses_are_counted.ensures.undone.below c.args.pool.now c.interned.new.pool c.args.state.now c.in_ok-one.one 4294967294 (omega arith)
     (starts_below c.args.pool.now 4294967294 c.requires) c.in_ok-one.ensures
 
 pub interned-requires-3-clause-few : goal.interned-requires-3-clause-few
 interned-requires-3-clause-few c =
     let none = starts_empty c.args.pool.now c.requires in
-    let one = c.releases_undo.ensures.many c.args.pool.now c.interned.new.pool c.args.state.now c.in_ok-one.one c.in_ok-one.ensures in
-    let two = c.releases_undo.ensures.many c.interned.new.pool c.interned-2.new.pool c.args.state.now c.in_ok-same.same c.in_ok-same.ensures in
+    let one = c.uses_are_counted.ensures.undone.many c.args.pool.now c.interned.new.pool c.args.state.now c.in_ok-one.one c.in_ok-one.ensures in
+    let two = c.uses_are_counted.ensures.undone.many c.interned.new.pool c.interned-2.new.pool c.args.state.now c.in_ok-same.same c.in_ok-same.ensures in
     omega (arith, none, one, two)
 
 pub interned-requires-3-clause-counts : goal.interned-requires-3-clause-counts
 interned-requires-3-clause-counts c =
-    c.releases_undo.ensures.below c.interned.new.pool c.interned-2.new.pool c.args.state.now c.in_ok-same.same 4294967294 (omega arith)
-    (c.releases_undo.ensures.below c.args.pool.now c.interned.new.pool c.args.state.now c.in_ok-one.one 4294967293 (omega arith)
+    c.uses_are_counted.ensures.undone.below c.interned.new.pool c.interned-2.new.pool c.args.state.now c.in_ok-same.same 4294967294 (omega arith)
+    (c.uses_are_counted.ensures.undone.below c.args.pool.now c.interned.new.pool c.args.state.now c.in_ok-one.one 4294967293 (omega arith)
     (starts_below c.args.pool.now 4294967293 c.requires) c.in_ok-one.ensures)
     c.in_ok-same.ensures
 
 pub get-requires : goal.get-requires
 get-requires c =
-    let law = c.counts_follow.ensures in
+    let law = c.uses_are_counted.ensures.counts in
     let all = three_interned law c.args.pool.now c.interned.new.pool c.interned-2.new.pool c.interned-3.new.pool c.args.state.now c.args.other.now c.in_ok-one.one c.in_ok-same.same
     c.in_ok-next.next c.requires c.in_ok-one.ensures c.in_ok-same.ensures c.in_ok-next.ensures in
     law.there c.interned-3.new.pool c.in_ok-one.one (last_used c.interned-3.new.pool c.in_ok-one.one (c.in_ok-next.next ∷ c.in_ok-same.same ∷ []) all)
 
 pub get-requires-2 : goal.get-requires-2
 get-requires-2 c =
-    let law = c.counts_follow.ensures in
+    let law = c.uses_are_counted.ensures.counts in
     let all = three_interned law c.args.pool.now c.interned.new.pool c.interned-2.new.pool c.interned-3.new.pool c.args.state.now c.args.other.now c.in_ok-one.one c.in_ok-same.same
     c.in_ok-next.next c.requires c.in_ok-one.ensures c.in_ok-same.ensures c.in_ok-next.ensures in
     law.there c.interned-3.new.pool c.in_ok-next.next (first_used c.interned-3.new.pool c.in_ok-next.next (c.in_ok-same.same ∷ c.in_ok-one.one ∷ []) all)
 
 pub get-requires-3 : goal.get-requires-3
 get-requires-3 c =
-    let law = c.counts_follow.ensures in
+    let law = c.uses_are_counted.ensures.counts in
     let all = three_interned law c.args.pool.now c.interned.new.pool c.interned-2.new.pool c.interned-3.new.pool c.args.state.now c.args.other.now c.in_ok-one.one c.in_ok-same.same
     c.in_ok-next.next c.requires c.in_ok-one.ensures c.in_ok-same.ensures c.in_ok-next.ensures in
     let two = one_released law c.interned-3.new.pool c.release.new.self c.in_ok-one.one (c.in_ok-next.next ∷ c.in_ok-same.same ∷ []) all c.release.ensures.pool in
@@ -57,7 +57,7 @@ get-requires-3 c =
 
 pub get-requires-4 : goal.get-requires-4
 get-requires-4 c =
-    let law = c.counts_follow.ensures in
+    let law = c.uses_are_counted.ensures.counts in
     let all = three_interned law c.args.pool.now c.interned.new.pool c.interned-2.new.pool c.interned-3.new.pool c.args.state.now c.args.other.now c.in_ok-one.one c.in_ok-same.same
     c.in_ok-next.next c.requires c.in_ok-one.ensures c.in_ok-same.ensures c.in_ok-next.ensures in
     let two = one_released law c.interned-3.new.pool c.release.new.self c.in_ok-one.one (c.in_ok-next.next ∷ c.in_ok-same.same ∷ []) all c.release.ensures.pool in
