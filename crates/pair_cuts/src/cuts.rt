@@ -7,7 +7,7 @@ ghost use Rattle.abs_state.specs.Values.{set_of};
 ghost use Rattle.abs_state.specs.Frames.{with_tag};
 ghost use Rattle.abs_state.specs.PairBytes.{left_in};
 ghost use Rattle.pair_cuts.specs.Bytes.{ranged, byte_left};
-ghost use Rattle.pair_cuts.specs.Cuts.{equal_part, same_cut, below_part, less_cut, zero_cut, side_place, side_range, pair_place, pair_range, both_cut, compare_cut, bit_known, flag_cut, with_bit, bit_cut, equal_cut, pick_cut};
+ghost use Rattle.pair_cuts.specs.Cuts.{same_cut, below_part, less_cut, zero_cut, side_place, side_range, pair_place, pair_range, both_cut, compare_cut, bit_known, flag_cut, with_bit, bit_cut, equal_cut, pick_cut};
 
 use crate::outcomes::{Outcome, off};
 use crate::places::{Place, bytes_at, facts_of, narrow_at, narrow_to, put, range_at, value_at};
@@ -18,23 +18,20 @@ use sp_domain::CarryTag;
 
 // ---- a number that is k, or isn't
 
-// What is left of `x` where it is `k`, and where it isn't.
-fn equal_part(equal: bool, k: u8, x: Interval) -> Option<Interval>
-    ensures { result ≡ equal_part equal k x }
+// The number at a place is `k` where `equal`, else it isn't.
+fn same_cut(state: &mut AbsState, place: Place, equal: bool, k: u8) -> bool
+    ensures { left_in result state.new ≡ same_cut place equal k state.old }
 {
     let just = Interval {
         low: u16::from(k),
         high: u16::from(k),
     };
-    if equal { Some(just) } else { off(x, just) }
-}
-
-// The number at a place is `k` where `equal`, else it isn't.
-fn same_cut(state: &mut AbsState, place: Place, equal: bool, k: u8) -> bool
-    ensures { left_in result state.new ≡ same_cut place equal k state.old }
-{
-    let range = range_at(state, place);
-    narrow_to(state, place, equal_part(equal, k, range))
+    let left = if equal {
+        Some(just)
+    } else {
+        off(range_at(state, place), just)
+    };
+    narrow_to(state, place, left)
 }
 
 // ---- flags

@@ -1,8 +1,8 @@
 //! What the outcome of a comparison tells of the intervals of its two sides.
 
-ghost use Rattle.std.specs.Prelude.{◌≡◌, ◌≤◌, ◌<◌};
+ghost use Rattle.std.specs.Prelude.{◌≡◌, ◌<◌};
 ghost use Rattle.pair_domain.specs.Intervals.{interval_from};
-ghost use Rattle.pair_domain.specs.Compare.{off, part_of, either, signed_greatest, signed_least, left_less, left_not_less};
+ghost use Rattle.pair_domain.specs.Compare.{off, part_of, either, left_less, left_not_less};
 ghost use Rattle.pair_cuts.specs.Outcomes.{left_part, right_part, outcome_of};
 
 use pair_domain::Interval;
@@ -38,7 +38,7 @@ fn interval_from(low: u32, high: u16) -> Option<Interval>
     }
 }
 
-/// The numbers of `x` where they aren't those of `y`, which tells something where it has one member alone.
+// The numbers of `x` where they aren't those of `y`, which tells something where it has one member alone.
 pub(crate) fn off(x: Interval, y: Interval) -> Option<Interval>
     ensures { result ≡ off x y }
 {
@@ -80,35 +80,16 @@ fn either(a: Option<Interval>, b: Option<Interval>) -> Option<Interval>
     }
 }
 
-// The signed greatest number of an interval, where there are twice `half`.
-fn signed_greatest(half: u16, y: Interval) -> u16
-    requires { 0 < half }
-    ensures { result ≡ signed_greatest half y }
-{
-    if y.low < half {
-        y.high.min(half - 1)
-    } else {
-        y.high
-    }
-}
-
-// The signed least number.
-fn signed_least(half: u16, y: Interval) -> u16
-    ensures { result ≡ signed_least half y }
-{
-    if y.high < half {
-        y.low
-    } else {
-        y.low.max(half)
-    }
-}
-
-// The numbers of `x` that may be signed below one of `y`.
+// The numbers of `x` that may be signed below one of `y`: below its signed greatest number.
 fn left_less(half: u16, x: Interval, y: Interval) -> Option<Interval>
     requires { 0 < half }
     ensures { result ≡ left_less half x y }
 {
-    let greatest = signed_greatest(half, y);
+    let greatest = if y.low < half {
+        y.high.min(half - 1)
+    } else {
+        y.high
+    };
     if greatest < half {
         let negative = part_of(x, u32::from(half), 2 * u32::from(half));
         either(negative, part_of(x, 0, u32::from(greatest)))
@@ -117,11 +98,15 @@ fn left_less(half: u16, x: Interval, y: Interval) -> Option<Interval>
     }
 }
 
-// Those that may not be.
+// Those that may not be: from the signed least number of `y` on.
 fn left_not_less(half: u16, x: Interval, y: Interval) -> Option<Interval>
     ensures { result ≡ left_not_less half x y }
 {
-    let least = signed_least(half, y);
+    let least = if y.high < half {
+        y.low
+    } else {
+        y.low.max(half)
+    };
     if least < half {
         part_of(x, u32::from(least), u32::from(half))
     } else {
@@ -131,7 +116,7 @@ fn left_not_less(half: u16, x: Interval, y: Interval) -> Option<Interval>
 }
 
 impl Outcome {
-    /// The outcome that flag `n` tells where it is `on`; none of flags but C, Z and S.
+    // The outcome that flag `n` tells where it is `on`; none of flags but C, Z and S.
     pub(crate) fn of(n: u8, on: bool) -> Option<Outcome>
         ensures { result ≡ outcome_of n on }
     {
@@ -146,7 +131,7 @@ impl Outcome {
         }
     }
 
-    /// What is left of the left interval, by both; of the signed numbers there are twice `half`, which isn't 0.
+    // What is left of the left interval, by both; of the signed numbers there are twice `half`, which isn't 0.
     pub(crate) fn left(self, half: u16, x: Interval, y: Interval) -> Option<Interval>
         requires { 0 < half }
         ensures { result ≡ left_part self half x y }
@@ -166,7 +151,7 @@ impl Outcome {
         }
     }
 
-    /// What is left of the right interval, by both.
+    // What is left of the right interval, by both.
     pub(crate) fn right(self, x: Interval, y: Interval) -> Option<Interval>
         ensures { result ≡ right_part self x y }
     {

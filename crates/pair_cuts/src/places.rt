@@ -1,7 +1,6 @@
 //! Cuts of one register or one pair of a state.
 
 ghost use Rattle.std.specs.Prelude.{◌≡◌, ◌<◌, slice_set};
-ghost use Rattle.pair_domain.specs.Facts as fact;
 ghost use Rattle.pair_domain.specs.Narrow.{narrow};
 ghost use Rattle.abs_state.specs.Values as abs_values;
 ghost use Rattle.pair_cuts.specs.Places.{known_or_nothing, range_at, narrow_at, narrow_to};
@@ -9,6 +8,7 @@ ghost use Rattle.abs_state.specs.PairBytes.{left_in};
 ghost use Rattle.pair_cuts.specs.Bytes.{bytes_at, set_pair, put, byte_left};
 
 use abs_state::{AbsByte, AbsState, PairBytes};
+use pair_domain::facts::interval_at;
 use pair_domain::{Interval, PairFacts};
 
 /// What something is told of by the outcome of a test. Source: own.
@@ -22,7 +22,7 @@ pub enum Place {
     Pair(u8),
 }
 
-/// What is known of pairs; nothing, where they aren't followed.
+// What is known of pairs; nothing, where they aren't followed.
 pub(crate) fn facts_of(state: &AbsState) -> PairFacts
     ensures { result ≡ known_or_nothing state.now.facts }
 {
@@ -32,7 +32,7 @@ pub(crate) fn facts_of(state: &AbsState) -> PairFacts
     }
 }
 
-/// The value of register `r`; any byte, where there is no such register.
+// The value of register `r`; any byte, where there is no such register.
 pub(crate) fn value_at(registers: &[AbsByte; 32], r: u8) -> AbsByte
     ensures { result ≡ abs_values.value_at registers.now r }
 {
@@ -44,19 +44,7 @@ pub(crate) fn value_at(registers: &[AbsByte; 32], r: u8) -> AbsByte
     }
 }
 
-// The interval of pair `2 * n`; all numbers, where there is no such pair.
-fn interval_at(intervals: &[Interval; 16], n: u8) -> Interval
-    ensures { result ≡ fact.interval_at intervals.now n }
-{
-    let at = usize::from(n);
-    if at < 16 {
-        intervals[at]
-    } else {
-        Interval::whole()
-    }
-}
-
-/// The numbers that may stand at a place.
+// The numbers that may stand at a place.
 pub(crate) fn range_at(state: &AbsState, place: Place) -> Interval
     ensures { result ≡ range_at state.now place }
 {
@@ -76,7 +64,7 @@ pub(crate) fn range_at(state: &AbsState, place: Place) -> Interval
     }
 }
 
-/// Pair `2 * n`, for an `n` below 128, with the tags of its registers.
+// Pair `2 * n`, for an `n` below 128, with the tags of its registers.
 pub(crate) fn bytes_at(state: &AbsState, n: u8) -> PairBytes
     requires { n < 128 }
     ensures { result ≡ bytes_at state.now n }
@@ -102,7 +90,7 @@ fn set_pair(registers: &mut [AbsByte; 32], intervals: &mut [Interval; 16], n: u8
     }
 }
 
-/// Writes back what is left of pair `2 * n`, where pairs are followed. Gives whether anything is left.
+// Writes back what is left of pair `2 * n`, where pairs are followed. Gives whether anything is left.
 pub(crate) fn put(state: &mut AbsState, n: u8, left: Option<PairBytes>) -> bool
     ensures { left_in result state.new ≡ put state.old n left }
 {
@@ -134,7 +122,7 @@ fn narrow_byte(pair: PairBytes, r: u8, interval: Interval) -> Option<PairBytes>
     }
 }
 
-/// Cuts a place to an interval. Gives whether anything is left.
+// Cuts a place to an interval. Gives whether anything is left.
 pub(crate) fn narrow_at(state: &mut AbsState, place: Place, interval: Interval) -> bool
     ensures { left_in result state.new ≡ narrow_at place interval state.old }
 {
@@ -151,7 +139,7 @@ pub(crate) fn narrow_at(state: &mut AbsState, place: Place, interval: Interval) 
     }
 }
 
-/// Cuts a place to what is left of it. Gives whether anything is left.
+// Cuts a place to what is left of it. Gives whether anything is left.
 pub(crate) fn narrow_to(state: &mut AbsState, place: Place, left: Option<Interval>) -> bool
     ensures { left_in result state.new ≡ narrow_to place left state.old }
 {
