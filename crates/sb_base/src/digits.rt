@@ -1,6 +1,6 @@
 //! Numbers in upper-case hexadecimal and in decimal digits.
 
-ghost use Rattle.std.specs.Prelude.{◌≡◌, ◌≤◌, ◌<◌, ◌+◌, ◌*◌, ◌-◌, ◌==◌, ◌^◌, IfSome, IfNone, IfOk, not, nat_le, length, true};
+ghost use Rattle.std.specs.Prelude.{◌≡◌, ◌≤◌, ◌<◌, ◌+◌, ◌*◌, ◌-◌, ◌==◌, ◌^◌, IfNone, IfOk, not, length, true};
 ghost use Rattle.std.specs.List.{position, AllByRecursion};
 ghost use Rattle.sb_base.specs.Digits.{is_dec, is_hex, digit_of, hex_digit, number_from, hex_answer, dec_answer, capped};
 
@@ -88,19 +88,6 @@ pub fn read_hex(text: &[u8], digits: usize) -> Result<u32, DigitFault>
     }
 }
 
-// A number with one more decimal digit, if it is at most `most`.
-fn with_digit(number: u64, digit: u64, most: u64) -> Option<u64>
-    ensures some { IfSome result (λ n. (n ≡ 10 * number + digit) × (n ≤ most)) }
-    ensures none { IfNone result (most < 10 * number + digit) }
-{
-    let tens = number.checked_mul(10)?;
-    if tens <= most && digit <= most - tens {
-        Some(tens + digit)
-    } else {
-        None
-    }
-}
-
 // The number that decimal digits stand for, if it is at most `most`.
 fn dec_number(digits: &[u8], most: u64) -> Result<u64, DigitFault>
     requires { AllByRecursion (λ b. is_dec b ≡ true) digits.now }
@@ -108,11 +95,11 @@ fn dec_number(digits: &[u8], most: u64) -> Result<u64, DigitFault>
 {
     let mut number = 0u64;
     for digit in digits {
-        let value = value_of(*digit);
-        match with_digit(number, u64::from(value), most) {
-            Some(next) => number = next,
-            None => return Err(DigitFault::TooGreat),
+        let value = u64::from(value_of(*digit));
+        if number > most / 10 || value > most - 10 * number {
+            return Err(DigitFault::TooGreat);
         }
+        number = 10 * number + value;
     }
     Ok(number)
 }

@@ -6,7 +6,7 @@ ghost use Rattle.std.specs.List.{find};
 ghost use Rattle.std.specs.Str.{bytes_eq};
 ghost use Rattle.sb_base.specs.declared.outside.FileFault.TheVariants.{Failed as ReadFailed, TooLong, Memory as NoMemory};
 ghost use Rattle.sb_base.specs.declared.outside.SinkFault.TheVariants.{Failed as PutFailed, Memory as NoRoom};
-ghost use Rattle.sb_base.specs.Outside.{Held, Bytes, Missing, Blamed, IsMissing, Rose, Gives, MayExceed, Exceeds, Blames, greatest_count, grown};
+ghost use Rattle.sb_base.specs.Outside.{Bytes, Missing, IsMissing, Rose, Gives, MayExceed, Exceeds, Blames, greatest_count, grown};
 ghost use Rattle.sb_base.specs.Answers.{Answers};
 ghost use Rattle.sb_base.specs.Memory.{Store, Taken, held_in, blamed_of, is_listed, within, read_answer, after_read, limit_of, limited, put_answer, after_put};
 

@@ -1,6 +1,6 @@
 //! Lines of words, written one after the other.
 
-ghost use Rattle.std.specs.Prelude.{◌≡◌, ◌≤◌, ◌<◌, ◌^◌, [], ◌∷◌, ◌++◌, take, OnOk, OnErr, false, decimal};
+ghost use Rattle.std.specs.Prelude.{◌≡◌, ◌≤◌, ◌<◌, ◌^◌, [], take, OnOk, OnErr, false, decimal};
 ghost use Rattle.sb_base.specs.Digits.{hex_digits};
 ghost use Rattle.sb_base.specs.Writing.{with_word, with_end};
 
@@ -23,22 +23,6 @@ impl Model for LineWriter {
     ghost Value = { Written };
 
     ghost view = { λ w. record { bytes = w.bytes.items; begun = w.begun } };
-}
-
-// Appends a space and a text, or nothing.
-fn append_divided(bytes: &mut Vec<u8>, text: &[u8]) -> Result<(), AllocError>
-    ensures appended { OnOk result (bytes.new.items ≡ bytes.old.items ++ 32 ∷ text.now) }
-    ensures refused { OnErr result (bytes.new.items ≡ bytes.old.items) }
-{
-    let before = bytes.len();
-    bytes.push(b' ')?;
-    match bytes.extend_from_slice(text) {
-        Ok(()) => Ok(()),
-        Err(fault) => {
-            bytes.truncate(before);
-            Err(fault)
-        }
-    }
 }
 
 // So many hexadecimal digits of a number, at the front of what is given.
@@ -72,13 +56,20 @@ impl LineWriter {
         ensures written { OnOk result (self.new ≡ with_word self.old text.now) }
         ensures refused { OnErr result (self.new ≡ self.old) }
     {
+        let before = self.bytes.len();
         if self.begun {
-            append_divided(&mut self.bytes, text)?;
-        } else {
-            self.bytes.extend_from_slice(text)?;
+            self.bytes.push(b' ')?;
         }
-        self.begun = true;
-        Ok(())
+        match self.bytes.extend_from_slice(text) {
+            Ok(()) => {
+                self.begun = true;
+                Ok(())
+            }
+            Err(fault) => {
+                self.bytes.truncate(before);
+                Err(fault)
+            }
+        }
     }
 
     /// Writes a number as a word of exactly `digits` upper-case hexadecimal digits.
