@@ -26,9 +26,8 @@ wrote_front w u [] (y ∷ ys) e = inl e
 wrote_front w u (x ∷ xs) ys e = inr (wrote_front (with_word w x) u xs ys e)
 
 -- all of them were written, and no end of the line
-pub wrote_all : {X E : Type 0} (r : Result X E) (w v u : Written) (ws : List (List ℕ)) → v ≡ with_words w ws → OnErr r (u ≡ v) → OnErr r (WroteWords w ws u)
-wrote_all (Ok x) w v u ws e h = tt
-wrote_all (Err f) w v u ws e h = let P : List (List ℕ) → Type 0 = λ xs. WroteWords w xs u in subst P (append-nil ws) (wrote_front w u ws [] (h ∙ e))
+pub all_words : (w v u : Written) (ws : List (List ℕ)) → v ≡ with_words w ws → u ≡ v → WroteWords w ws u
+all_words w v u ws e h = let P : List (List ℕ) → Type 0 = λ xs. WroteWords w xs u in subst P (append-nil ws) (wrote_front w u ws [] (h ∙ e))
 
 pub numbers_next : (w v u : Written) (ns : List ℕ) (i d : ℕ) → i < length ns → v ≡ with_words w (number_words (take i ns)) → u ≡ with_word v (hex_digits (get_or ns i d) 4)
     → u ≡ with_words w (number_words (take (i + 1) ns))

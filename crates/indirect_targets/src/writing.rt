@@ -1,7 +1,7 @@
 //! The writer of assumption lists.
 
 ghost use Rattle.std.specs.Prelude.{◌≡◌, ◌∷◌, OnOk, OnErr, false};
-ghost use Rattle.sb_base.specs.Writing.{with_words, with_end};
+ghost use Rattle.sb_base.specs.Writing.{with_words};
 ghost use Rattle.line_reading.specs.Appending.{with_text, AppendedPart, WroteWords};
 ghost use Rattle.indirect_targets.specs.Spelling.{number_words, entry_words, text_of};
 
@@ -38,7 +38,7 @@ fn write_words(
 }
 
 // Writes the words of an entry.
-fn write_entry_words(out: &mut LineWriter, entry: &Entry) -> Result<(), AllocError>
+fn write_entry(out: &mut LineWriter, entry: &Entry) -> Result<(), AllocError>
     ensures written { OnOk result (out.new ≡ with_words out.old (entry_words entry.now)) }
     ensures refused { OnErr result (WroteWords out.old (entry_words entry.now) out.new) }
 {
@@ -53,15 +53,6 @@ fn write_entry_words(out: &mut LineWriter, entry: &Entry) -> Result<(), AllocErr
     }
 }
 
-// Writes the line of an entry.
-fn write_entry(out: &mut LineWriter, entry: &Entry) -> Result<(), AllocError>
-    ensures written { OnOk result (out.new ≡ with_end (with_words out.old (entry_words entry.now))) }
-    ensures refused { OnErr result (WroteWords out.old (entry_words entry.now) out.new) }
-{
-    write_entry_words(out, entry)?;
-    out.end_line()
-}
-
 /// Writes the lines of the list behind what was written, where no line is begun. After want of memory the writer holds a
 /// first part of them.
 pub fn write(list: &Assumptions, out: &mut LineWriter) -> Result<(), AllocError>
@@ -73,6 +64,7 @@ pub fn write(list: &Assumptions, out: &mut LineWriter) -> Result<(), AllocError>
     let entries = list.entries();
     for entry in entries {
         write_entry(out, entry)?;
+        out.end_line()?;
     }
     Ok(())
 }

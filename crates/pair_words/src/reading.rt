@@ -3,7 +3,7 @@
 ghost use Rattle.std.specs.Prelude.{◌≡◌, ◌<◌, ◌+◌, IfSome};
 ghost use Rattle.std.specs.Option.{option_map};
 ghost use Rattle.pair_domain.specs.Tags.{IsNear};
-ghost use Rattle.pair_words.specs.Reading.{register_at, pair_at, ends_in, sum_in, side_at, compare_behind, compare_in, alone, zero_in, inside_at, interval_at, intervals_at, intervals_in, facts_at};
+ghost use Rattle.pair_words.specs.Reading.{register_at, pair_at, ends_in, sum_in, side_at, compare_in, alone, zero_in, inside_at, interval_at, intervals_at, intervals_in, facts_at};
 
 use line_reading::Letters;
 use pair_domain::{CompareTag, Interval, PairFacts, Side, SumTag, ZeroTag};
@@ -84,24 +84,8 @@ fn side_of(letters: &mut Letters<'_>) -> Option<Side>
     }
 }
 
-// The compare tag of this register and side, behind which nothing stands, or the register beside the side.
-#[tactic(auto, unfolding(crate::specs::Reading::compare_behind))]
-fn compare_behind(register: u8, side: Side, letters: &mut Letters<'_>) -> Option<CompareTag>
-    ensures { result ≡ compare_behind register side letters.old }
-{
-    if letters.is_end() {
-        return Some(CompareTag::Byte(register, side));
-    }
-    let beside = register_of(letters)?;
-    if register % 2 == 0 && letters.is_end() {
-        Some(CompareTag::Pair(register, side, beside))
-    } else {
-        None
-    }
-}
-
 // The compare tag of a word.
-#[tactic(auto, unfolding(crate::specs::Reading::compare_in, crate::specs::Reading::compare_by))]
+#[tactic(auto, unfolding(crate::specs::Reading::compare_in, crate::specs::Reading::compare_by, crate::specs::Reading::compare_behind))]
 fn compare_of(word: &[u8]) -> Option<CompareTag>
     ensures { result ≡ compare_in word.now }
 {
@@ -111,7 +95,15 @@ fn compare_of(word: &[u8]) -> Option<CompareTag>
     let mut letters = Letters::new(word);
     let register = register_of(&mut letters)?;
     let side = side_of(&mut letters)?;
-    compare_behind(register, side, &mut letters)
+    if letters.is_end() {
+        return Some(CompareTag::Byte(register, side));
+    }
+    let beside = register_of(&mut letters)?;
+    if register % 2 == 0 && letters.is_end() {
+        Some(CompareTag::Pair(register, side, beside))
+    } else {
+        None
+    }
 }
 
 // The number, where nothing stands behind it.
