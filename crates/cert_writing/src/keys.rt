@@ -3,7 +3,7 @@
 ghost use Rattle.std.specs.Prelude.{◌≡◌, ◌++◌, OnOk, decimal};
 ghost use Rattle.sb_base.specs.Writing.{with_word, with_words};
 ghost use Rattle.witness_replay.specs.Spelling.{bit};
-ghost use Rattle.cert_words.specs.Spelling.{high_text, form_word};
+ghost use Rattle.cert_words.specs.Spelling.{form_word};
 ghost use Rattle.cert_words.specs.KeySpelling.{kind_word, inst_key_words, pick_words, place_words, node_key_words};
 
 use certificate::Version;
@@ -43,22 +43,6 @@ fn write_kind(out: &mut LineWriter, alloc: Global, kind: Kind) -> Result<(), All
     }
 }
 
-// Appends the high byte of a half-written stack pointer.
-fn append_high(word: &mut Vec<u8>, high: High) -> Result<(), AllocError>
-    ensures { OnOk result (word.new.items ≡ word.old.items ++ high_text high) }
-{
-    match high {
-        High::Known(byte) => {
-            let b = two_digits(byte);
-            word.extend_from_slice(&[b',', b'k', b.0, b.1])
-        }
-        High::Tag(below) => {
-            let n = four_digits(below);
-            word.extend_from_slice(&[b',', b't', n.0, n.1, n.2, n.3])
-        }
-    }
-}
-
 // Writes a form of the stack pointer.
 fn write_form(out: &mut LineWriter, alloc: Global, form: &SpForm) -> Result<(), AllocError>
     ensures { OnOk result (out.new ≡ with_word out.old (form_word form.now)) }
@@ -72,7 +56,16 @@ fn write_form(out: &mut LineWriter, alloc: Global, form: &SpForm) -> Result<(), 
         SpForm::Open(offset, high) => {
             word.push(b'o')?;
             append_decimal(&mut word, alloc, u64::from(offset))?;
-            append_high(&mut word, high)?;
+            match high {
+                High::Known(byte) => {
+                    let b = two_digits(byte);
+                    word.extend_from_slice(&[b',', b'k', b.0, b.1])?;
+                }
+                High::Tag(below) => {
+                    let n = four_digits(below);
+                    word.extend_from_slice(&[b',', b't', n.0, n.1, n.2, n.3])?;
+                }
+            }
         }
     }
     out.word(&word)

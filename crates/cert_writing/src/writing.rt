@@ -5,7 +5,7 @@ ghost use Rattle.std.specs.List.{flat_map};
 ghost use Rattle.sb_base.specs.Lines.{line};
 ghost use Rattle.line_reading.specs.Appending.{with_text};
 ghost use Rattle.certificate.specs.Claims.{IsCertificate};
-ghost use Rattle.cert_words.specs.Text.{numbered, version_line, heading, witness_lines, end_line, text_of};
+ghost use Rattle.cert_words.specs.Text.{numbered, heading, witness_lines, end_line, text_of};
 
 use crate::lines::{write_insts, write_nodes};
 use certificate::{Certificate, Version};
@@ -35,24 +35,18 @@ fn write_pair(out: &mut LineWriter, first: &[u8], second: &[u8]) -> Result<(), A
     out.end_line()
 }
 
-// Writes the version.
-fn write_version(out: &mut LineWriter, version: Version) -> Result<(), AllocError>
-    requires { out.old.begun ≡ false }
-    ensures { OnOk result (out.new ≡ with_text out.old (line (version_line version))) }
-{
-    match version {
-        Version::One => write_pair(out, b"stackcert", b"1"),
-        Version::Two => write_pair(out, b"stackcert", b"2"),
-        Version::Three => write_pair(out, b"stackcert", b"3"),
-    }
-}
-
 // Writes the version and the bound.
+#[tactic(auto, using(crate::proofs::Written::heading_written))]
 fn write_heading(out: &mut LineWriter, version: Version, bound: u16) -> Result<(), AllocError>
     requires { out.old.begun ≡ false }
     ensures { OnOk result (out.new ≡ with_text out.old (flat_map line (heading version bound))) }
 {
-    write_version(out, version)?;
+    let number = match version {
+        Version::One => b"1",
+        Version::Two => b"2",
+        Version::Three => b"3",
+    };
+    write_pair(out, b"stackcert", number)?;
     write_numbered(out, b"bound", u64::from(bound))?;
     Ok(())
 }
