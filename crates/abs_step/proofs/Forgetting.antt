@@ -8,7 +8,6 @@ use Rattle.avr_model.specs.Written.{written, bits_of}
 use Rattle.avr_decode.proofs.RegisterSets.{bit_of_set, none_beyond}
 use Rattle.sp_domain.specs.declared.tags.CarryTag.{CarryTag}
 use Rattle.pair_domain.specs.declared.facts.PairFacts.{PairFacts}
-use Rattle.pair_domain.specs.Facts.{is_followed}
 use Rattle.abs_state.specs.declared.state.AbsState.{AbsState}
 use Rattle.abs_state.specs.declared.values.AbsByte.{AbsByte}
 use Rattle.abs_state.specs.declared.values.AbsFlags.{AbsFlags}
@@ -17,12 +16,6 @@ use Rattle.abs_state.specs.Values.{with_bits}
 use Rattle.abs_state.specs.FlagsSet.{sets_flags, sets_carry}
 use Rattle.local_rules.specs.Registers.{forgotten, before}
 use Rattle.local_rules.specs.Writes.{register_written, put_flags, flags_written}
-
--- ---- where nothing ends the state is as it was
-
-ended_none : (w : ℕ → Bool) (flags carry : Bool) (x : Option PairFacts) → is_followed x ≡ false → ended w flags carry x ≡ x
-ended_none w flags carry None e = refl
-ended_none w flags carry (Some f) e = absurd (cc)
 
 -- ---- a set by its bits
 

@@ -3,25 +3,16 @@
 ghost use Rattle.std.specs.Prelude.{◌≡◌, ◌<◌, if◌then◌else◌, Some, None};
 ghost use Rattle.abs_state.specs.Values.{set_of};
 ghost use Rattle.abs_state.specs.PairBytes.{sets};
-ghost use Rattle.bit_domain.specs.TriByte as tri;
 ghost use Rattle.pair_rules.specs.Flash as bytes;
 
 use abs_state::{AbsByte, PairBytes};
-use bit_domain::TriByte;
 use flash_image::Flash;
-
-// Whether the bits are those of some value that this byte is.
-fn has(bits: TriByte, byte: u8) -> bool
-    ensures { result ≡ tri.has bits byte }
-{
-    bits.has(byte)
-}
 
 // Whether the bits permit the byte, and it lies in the range.
 fn permits_byte(value: AbsByte, byte: u8) -> bool
     ensures { result ≡ bytes.set_permits (set_of value) byte }
 {
-    value.low <= byte && byte <= value.high && has(value.bits, byte)
+    value.low <= byte && byte <= value.high && value.bits.has(byte)
 }
 
 // Whether the number lies in the interval of the pair, and both bytes permit it.

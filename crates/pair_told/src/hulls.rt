@@ -1,7 +1,7 @@
 //! The hulls of pairs that an instruction writes.
 
 ghost use Rattle.std.specs.Prelude.{◌≡◌, ◌≤◌, ◌+◌, ◌*◌, ◌∷◌, []};
-ghost use Rattle.avr_model.specs.Written.{moved_pair, set_by_binary, set_by_immediate, written};
+ghost use Rattle.avr_model.specs.Written.{moved_pair, set_by_binary, written};
 ghost use Rattle.abs_state.specs.Ended.{written_hull};
 ghost use Rattle.pair_rules.specs.Hulls.{all_hulled};
 
@@ -46,15 +46,6 @@ fn hull_binary(facts: &mut Facts, registers: &[AbsByte; 32], op: BinaryOp, d: Re
     }
 }
 
-fn hull_immediate(facts: &mut Facts, registers: &[AbsByte; 32], op: ImmediateOp, d: Register)
-    ensures { facts.new ≡ all_hulled registers.now (set_by_immediate op d) facts.old }
-{
-    match op {
-        ImmediateOp::Cpi => {}
-        _ => hull(facts, registers, d),
-    }
-}
-
 /// The interval of each pair that the instruction writes other than through a data address is the hull of its bytes.
 pub fn hull_by(facts: &mut Facts, registers: &[AbsByte; 32], instr: &Instr)
     ensures { facts.new ≡ all_hulled registers.now (written instr.now) facts.old }
@@ -67,7 +58,9 @@ pub fn hull_by(facts: &mut Facts, registers: &[AbsByte; 32], instr: &Instr)
         | Instr::Fmuls(_, _)
         | Instr::Fmulsu(_, _) => hull_pair(facts, registers, Pair::new(0)),
         Instr::Binary(op, d, _) => hull_binary(facts, registers, *op, *d),
-        Instr::Immediate(op, d, _) => hull_immediate(facts, registers, *op, d.widened()),
+        Instr::Immediate(op, d, _) if *op != ImmediateOp::Cpi => {
+            hull(facts, registers, d.widened())
+        }
         Instr::Ldd(d, _, _)
         | Instr::Lds(d, _)
         | Instr::LpmZ(d)
