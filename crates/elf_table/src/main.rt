@@ -8,26 +8,22 @@ use std::{fs, io, str};
 
 const FILES: [&str; 3] = ["blink.elf", "ticks.elf", "sorted.elf"];
 
-/// FNV-1a of 32 bits: the digest of no bytes, and the factor.
+// FNV-1a of 32 bits: the digest of no bytes, and the factor.
 const EMPTY: u32 = 0x811C_9DC5;
 
 const FACTOR: u32 = 0x0100_0193;
 
-/// The digest with a byte behind those before.
-fn digest(before: u32, byte: u16) -> u32 {
-    (before ^ byte as u32).wrapping_mul(FACTOR)
-}
-
-/// The digest of the bytes of flash, the low byte of each word first.
+// The digest of the bytes of flash, the low byte of each word first.
 fn digest_of(flash: &Flash) -> u32 {
     let mut value = EMPTY;
     for word in flash.words() {
-        value = digest(digest(value, word % 256), word / 256);
+        value = (value ^ u32::from(word % 256)).wrapping_mul(FACTOR);
+        value = (value ^ u32::from(word / 256)).wrapping_mul(FACTOR);
     }
     value
 }
 
-/// Prints a line for each word that has a name.
+// Prints a line for each word that has a name.
 fn show_names(rt: &HostRuntime, loaded: &Loaded) -> io::Result<()> {
     for word in 0..0x4000u16 {
         if let Some(name) = loaded.names.at(word) {
@@ -39,7 +35,7 @@ fn show_names(rt: &HostRuntime, loaded: &Loaded) -> io::Result<()> {
     Ok(())
 }
 
-/// Prints what a file holds.
+// Prints what a file holds.
 fn show(rt: &HostRuntime, name: &str) -> io::Result<()> {
     let bytes = fs::read(rt, name)?;
     if !is_elf(&bytes) {
