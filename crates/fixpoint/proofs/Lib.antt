@@ -9,3 +9,7 @@ pub mod Cases
 pub mod Order
 pub mod Confirm
 pub mod Answer
+pub mod Places
+pub mod Led
+pub mod Formed
+pub mod Certificates

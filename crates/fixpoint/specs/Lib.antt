@@ -3,3 +3,5 @@ pub mod Tests
 pub mod Order
 pub mod OrderLaws
 pub mod Confirm
+pub mod Leads
+pub mod Insts

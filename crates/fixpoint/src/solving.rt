@@ -7,11 +7,11 @@ ghost use Rattle.round_rules.specs.declared.refusal.Refusal.TheVariants.{Memory}
 ghost use Rattle.round_rules.specs.Solutions.{IsAnswer, IsWhyNot, IsShown};
 
 use crate::ordering::found_family;
+use crate::writing::certificate_of;
 use call_graph::Task;
 use certificate::Certificate;
 use flash_image::Flash;
 use round_rules::Refusal;
-use solution::certificate_of;
 use std::alloc::Global;
 use vector_table::Assumptions;
 

@@ -8,9 +8,9 @@ ghost use Rattle.call_graph.specs.Landings.{AreLandings};
 use super::Worked;
 use crate::tests::seeds::{Plan, SeedList, seeds_of};
 use call_graph::{Expanded, Filled, Leaving, NodeForm, Task, Worked as Family, exits, expand};
+use fixpoint::forming::forms;
 use flash_image::Flash;
 use mask_states::{Kind, NodeKey};
-use solution::forming::forms;
 use std::alloc::Global;
 use vector_table::Assumptions;
 

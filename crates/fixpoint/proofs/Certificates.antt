@@ -1,0 +1,60 @@
+-- The certificate of what was worked out.
+use Rattle.std.proofs.Common.{◌≡◌, refl, sym, ap, ◌∙◌, subst, ℕ, ◌≤◌, List, length, get_or, Some, slice_get, slice_index, arith}
+use Rattle.std.proofs.lemmas.Option.{slice_get_read}
+use Rattle.basics.specs.Lists.{get_inside, one_at}
+use Rattle.avr_model.specs.declared.assumption.Entry.{Entry}
+use Rattle.avr_model.specs.Devices.{device_of}
+use Rattle.avr_model.proofs.AllLaws.{devices_are_alike}
+use Rattle.vector_table.specs.Entries.{AreEntries}
+use Rattle.local_rules.specs.declared.local.Node.{Node}
+use Rattle.edge_rules.specs.Expansion.{Seeds}
+use Rattle.family_graph.specs.Graphs.{IsPeopled, IsGraphOf}
+use Rattle.certificate.specs.declared.instance.Inst.{Inst}
+use Rattle.certificate.specs.Claims.{Claim, IsClaim}
+use Rattle.round_rules.specs.Families.{Family, nodes_of}
+use Rattle.round_rules.specs.Refusals.{IsSolved}
+use Rattle.round_rules.specs.Solutions.{IsSolution}
+use Rattle.solution_laws.specs.Laws.{SolvedFamiliesAreShown, SolutionsAreMade}
+use Rattle.solution_laws.specs.Parts.{AreForms, AreParts, claim_of}
+use Rattle.fixpoint.specs.Insts.{AreSolvedNodes, AreInstsOf}
+
+pub peopled : (words : List ℕ) (A : List Entry) (nodes : List Node) → AreSolvedNodes words A nodes → SolvedFamiliesAreShown → IsPeopled words A nodes
+peopled words A nodes s law = subst (IsPeopled words A) (sym s.are) (law.peopled words A s.rounds s.family s.solved)
+
+module _ (words : List ℕ) (A : List Entry) (f : Family) (nodes : List Node) (is : nodes ≡ nodes_of f) (solved : (n : ℕ) × IsSolved words A n f) (insts : List Inst)
+    (seeds : Seeds) (h : AreInstsOf words A nodes insts) (forms : AreForms words A nodes seeds) (law : SolutionsAreMade) where
+  abbrev parts : AreParts words A f insts seeds
+  parts = record {
+    graph = h.graph;
+    ranks = h.ranks;
+    needs = h.needs;
+    is_graph = h.is_graph;
+    of = subst (λ (ns : List Node). IsGraphOf words A ns h.graph) is h.of;
+    least = h.least;
+    insts_are = h.insts_are;
+    forms = subst (λ (ns : List Node). AreForms words A ns seeds) is forms;
+  }
+
+  -- the first instance is the root
+  pub root_at : (root : Inst) → root ≡ get_or insts 0 root → slice_get insts 0 ≡ Some root
+  root_at root e = slice_get_read insts (length insts) 0 root refl (let some = h.is_graph.some in omega (arith, some, h.insts_are.count)) e
+
+  root_need : (root : Inst) → slice_get insts 0 ≡ Some root → root.need ≡ slice_index h.needs 0
+  root_need root e =
+      let g = get_inside h.graph 0 h.is_graph.some in
+      ap (λ (x : Inst). x.need) (one_at insts 0 root _ e (h.insts_are.each 0 g.0 g.1))
+
+  pub bound_small : (root : Inst) → slice_get insts 0 ≡ Some root → root.need ≤ 2048
+  bound_small root e =
+      let le = law.bound words A solved.0 f insts seeds solved.1 parts in
+      omega (arith, le, root_need root e, devices_are_alike.most_bytes (device_of words))
+
+  pub claim : (root : Inst) (entries : List Entry) → slice_get insts 0 ≡ Some root → entries ≡ A → AreEntries A → IsClaim (claim_of root.need entries insts seeds)
+  claim root entries e same fit =
+      let need = root_need root e in
+      subst IsClaim (λ i. claim_of (sym need i) (sym same i) insts seeds) (law.claim words A solved.0 f insts seeds fit solved.1 parts)
+
+  pub solution : (c : Claim) (root : Inst) (entries : List Entry) → slice_get insts 0 ≡ Some root → entries ≡ A → c ≡ claim_of root.need entries insts seeds → IsSolution words A f c
+  solution c root entries e same built =
+      let need = root_need root e in
+      subst (IsSolution words A f) ((λ i. claim_of (sym need i) (sym same i) insts seeds) ∙ sym built) (law.solution words A solved.0 f insts seeds solved.1 parts)

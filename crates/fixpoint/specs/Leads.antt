@@ -1,0 +1,73 @@
+-- How edges lead to nodes, and the forms of the nodes by that.
+use Rattle.std.specs.Prelude.{ℕ, ◌+◌, ◌≡◌, ◌<◌, ◌==◌, nat_lt, if◌then◌else◌, List, [], ◌∷◌, length, Some, slice_get, slice_set, slice_index_or}
+use Rattle.avr_model.specs.declared.assumption.Entry.{Entry}
+use Rattle.abs_state.specs.declared.state.AbsState.{AbsState}
+use Rattle.mask_states.specs.declared.keys.EdgeKind.{EdgeKind}
+use Rattle.mask_states.specs.declared.keys.EdgeKind.TheVariants.{Local, Call, Interrupt, Return}
+use Rattle.mask_states.specs.declared.keys.NodeKey.{NodeKey}
+use Rattle.local_rules.specs.declared.local.Node.{Node}
+use Rattle.edge_rules.specs.declared.edge.Edge.{Edge}
+use Rattle.edge_rules.specs.declared.seeded.NodeForm.{NodeForm}
+use Rattle.edge_rules.specs.declared.seeded.NodeForm.TheVariants.{State, From}
+use Rattle.edge_rules.specs.Edges.{IsEdge}
+use Rattle.edge_rules.specs.Expansion.{Seeds}
+use Rattle.call_graph.specs.declared.landing.Landing.{Landing}
+use Rattle.round_rules.specs.Sparse.{IsOnlyFrom}
+use Rattle.fixpoint.specs.declared.leading.Lead.{Lead}
+use Rattle.fixpoint.specs.declared.leading.Lead.TheVariants.{Nothing, Only, More}
+
+-- ---- one edge more
+
+-- a local edge from the node of this number
+abbrev pub moved : Lead → ℕ → Lead
+moved Nothing at = Only at
+moved (Only from) at = if from == at then Only from else More
+moved More at = More
+
+abbrev pub led : Lead → ℕ → EdgeKind → Lead
+led lead at Local = moved lead at
+led lead at Call = More
+led lead at (Interrupt v clears) = More
+led lead at Return = More
+
+abbrev pub lead_at : List Lead → ℕ → Lead
+lead_at leads p = slice_index_or leads p Nothing
+
+-- where an edge from the node of this number lands is noted
+abbrev pub noted : ℕ → List Lead → Landing → List Lead
+noted at leads l = slice_set leads l.at (led (lead_at leads l.at) at l.kind)
+
+-- ---- all edges
+
+-- an edge from one of the first nodes leads to this key
+pub record LeadsTo (words : List ℕ) (A : List Entry) (nodes : List Node) (count : ℕ) (k : NodeKey) (from : ℕ) (e : Edge) : Type 0 where
+  pub node : Node
+  pub below : from < count
+  pub at : slice_get nodes from ≡ Some node
+  pub is : IsEdge words A nodes node e
+  pub leads : e.to ≡ k
+
+-- How the edges from the first nodes lead to this key: not at all, by local ones from the node of this number alone, or so that none is
+-- the only one.
+abbrev pub IsLead : List ℕ → List Entry → List Node → ℕ → NodeKey → Lead → Type 0
+IsLead words A nodes count k Nothing = (i : ℕ) (e : Edge) → LeadsTo words A nodes count k i e → ⊥
+IsLead words A nodes count k (Only m) =
+    ((e : Edge) × LeadsTo words A nodes count k m e) × ((i : ℕ) (e : Edge) → LeadsTo words A nodes count k i e → (i ≡ m) × (e.kind ≡ Local))
+IsLead words A nodes count k More = (m : ℕ) → IsOnlyFrom words A nodes k m → ⊥
+
+-- how the edges from the first nodes lead to each
+pub record AreLeads (words : List ℕ) (A : List Entry) (nodes : List Node) (count : ℕ) (leads : List Lead) : Type 0 where
+  pub all : length leads ≡ length nodes
+  pub each : (p : ℕ) (n : Node) → slice_get nodes p ≡ Some n → IsLead words A nodes count n.key (lead_at leads p)
+
+-- ---- forms
+
+abbrev pub form_by : ℕ → Lead → AbsState → NodeForm
+form_by at Nothing s = State s
+form_by at (Only from) s = if nat_lt from at then From from else State s
+form_by at More s = State s
+
+-- the nodes with their forms, from the one of this number on
+abbrev pub forms_from : ℕ → List Lead → List Node → Seeds
+forms_from at leads [] = []
+forms_from at leads (n ∷ ns) = (n.key, form_by at (lead_at leads at) n.state) ∷ forms_from (at + 1) leads ns

@@ -1,0 +1,61 @@
+//! Which states are written and which are left out.
+
+ghost use Rattle.std.specs.Prelude.{◌≡◌, ◌≤◌, ◌<◌, length, IfOk};
+ghost use Rattle.call_graph.specs.Landings.{AreLandings};
+ghost use Rattle.solution_laws.specs.Parts.{AreForms};
+ghost use Rattle.fixpoint.specs.Leads.{lead_at, form_by, forms_from};
+
+use crate::leading::{Lead, leads};
+use abs_state::AbsState;
+use call_graph::{NodeForm, Task, Worked};
+use edge_rules::HeldState;
+use local_rules::Node;
+use mask_states::NodeKey;
+use std::alloc::{AllocError, Global};
+
+// The form of the node of this number, where edges lead to the nodes so.
+fn form(alloc: Global, leads: &[Lead], at: usize, state: AbsState) -> Result<NodeForm, AllocError>
+    requires { at < length leads.now }
+    ensures { IfOk result (λ form. form ≡ form_by at (lead_at leads.now at) state) }
+{
+    if let Lead::Only(from) = leads[at] {
+        if (from as usize) < at {
+            return Ok(NodeForm::From(from));
+        }
+    }
+    Ok(NodeForm::State(HeldState::new(alloc, state)?))
+}
+
+// The nodes with their forms, where edges lead to them so.
+fn formed(
+    alloc: Global,
+    nodes: Vec<Node>,
+    leads: &[Lead],
+) -> Result<Vec<(NodeKey, NodeForm)>, AllocError>
+    requires { length leads.now ≡ length nodes.items }
+    ensures { IfOk result (λ forms. forms.items ≡ forms_from 0 leads.now nodes.items) }
+{
+    let mut forms = Vec::with_capacity(alloc, nodes.len())?;
+    for node in nodes {
+        let at = forms.len();
+        let form = form(alloc, leads, at, node.state)?;
+        forms.push((node.key, form))?;
+    }
+    Ok(forms)
+}
+
+/// The nodes of a family, at most 65,536, with their forms: the number of an earlier node where the one edge that leads to the node is
+/// local and comes from there, and else the state. No local part is worked out for that.
+pub fn forms(task: &Task<'_>, family: Worked) -> Result<Vec<(NodeKey, NodeForm)>, AllocError>
+    requires few { length family.nodes ≤ 65536 }
+    requires landings { AreLandings task.now.flash.now task.now.assumptions.now family.nodes family.landings }
+    ensures { IfOk result (λ forms. AreForms task.now.flash.now task.now.assumptions.now family.nodes forms.items) }
+{
+    match leads(task, &family) {
+        Ok(leads) => formed(task.alloc, family.nodes.into_vec(), leads.as_slice()),
+        Err(error) => {
+            drop(family);
+            Err(error)
+        }
+    }
+}

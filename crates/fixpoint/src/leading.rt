@@ -1,0 +1,60 @@
+//! How edges lead to nodes.
+
+ghost use Rattle.std.specs.Prelude.{◌≡◌, ◌<◌, ◌≤◌, fold, length, IfOk, Contains};
+ghost use Rattle.call_graph.specs.declared.landing.Landing as landing_type;
+ghost use Rattle.call_graph.specs.Landings.{AreLandings};
+ghost use Rattle.fixpoint.specs.Leads.{led, noted, AreLeads};
+
+use call_graph::{Landing, Task, Worked};
+use mask_states::EdgeKind;
+use std::alloc::AllocError;
+
+// How edges lead to a node.
+#[derive(Clone, Copy)]
+pub(crate) enum Lead {
+    // None does.
+    Nothing,
+    // One does, which is local: from the node of this number.
+    Only(u32),
+    // More than one does, or one that isn't local.
+    More,
+}
+
+// How edges lead to a node, with one more: from the node of this number. The same one may come again.
+fn led(lead: Lead, at: u32, kind: EdgeKind) -> Lead
+    ensures { result ≡ led lead at kind }
+{
+    match kind {
+        EdgeKind::Local => match lead {
+            Lead::Nothing => Lead::Only(at),
+            Lead::Only(from) => { if from == at { lead } else { Lead::More } }
+            Lead::More => lead,
+        },
+        EdgeKind::Call | EdgeKind::Interrupt(_, _) | EdgeKind::Return => Lead::More,
+    }
+}
+
+// Notes where the edges from the node of this number land.
+fn note_all(at: u32, landings: &[Landing], leads: &mut [Lead])
+    requires { (l : landing_type.Landing) → Contains landings.now l → l.at < length leads.old }
+    ensures { leads.new ≡ fold (noted at) leads.old landings.now }
+{
+    for landing in landings {
+        let to = landing.at as usize;
+        leads[to] = led(leads[to], at, landing.kind);
+    }
+}
+
+// How edges lead to each node of a family, by where its edges land.
+pub(crate) fn leads(task: &Task<'_>, family: &Worked) -> Result<Vec<Lead>, AllocError>
+    requires few { length family.now.nodes ≤ 65536 }
+    requires landings { AreLandings task.now.flash.now task.now.assumptions.now family.now.nodes family.now.landings }
+    ensures { IfOk result (λ leads. AreLeads task.now.flash.now task.now.assumptions.now family.now.nodes (length family.now.nodes) leads.items) }
+{
+    let landings = family.landings.as_slice();
+    let mut leads = vec![in task.alloc; Lead::Nothing; family.nodes.count()]?;
+    for at in 0..family.nodes.count() {
+        note_all(at as u32, landings[at].as_slice(), leads.as_mut_slice());
+    }
+    Ok(leads)
+}

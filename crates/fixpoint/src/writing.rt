@@ -1,0 +1,78 @@
+//! The certificate, part by part.
+
+ghost use Rattle.std.specs.Prelude.{ℕ, ◌≡◌, length, IfOk};
+ghost use Rattle.call_graph.specs.Landings.{AreLandings};
+ghost use Rattle.round_rules.specs.Refusals.{IsSolved};
+ghost use Rattle.round_rules.specs.Solutions.{IsSolution};
+ghost use Rattle.solution_laws.specs.Parts.{AreInsts};
+ghost use Rattle.fixpoint.specs.Insts.{AreSolvedNodes, AreInstsOf};
+
+use crate::forming::forms;
+use call_graph::{Filled, Task, Worked};
+use certificate::{Certificate, Inst};
+use family_graph::{entered_by, graph_of};
+use family_table::Table;
+use nesting_bound::{Composed, Graph, compose_acyclic};
+use solution_laws::laws::{graphs_are_acyclic, solutions_are_made, solved_families_are_shown};
+use std::alloc::{AllocError, Global};
+use vector_table::Assumptions;
+
+// The instances of a graph with their ranks and needs.
+fn instances(alloc: Global, graph: &Graph, composed: &Composed) -> Result<Vec<Inst>, AllocError>
+    requires ranks { length composed.now.ranks ≡ length graph.now.instances }
+    requires needs { length composed.now.needs ≡ length graph.now.instances }
+    ensures { IfOk result (λ insts. AreInsts graph.now.instances composed.now.ranks composed.now.needs insts.items) }
+{
+    let graph = graph.instances.as_slice();
+    let ranks = composed.ranks.as_slice();
+    let needs = composed.needs.as_slice();
+    let mut insts = Vec::new(alloc);
+    for i in 0..graph.len() {
+        insts.push(Inst {
+            key: graph[i].key,
+            rank: ranks[i],
+            need: needs[i],
+        })?;
+    }
+    Ok(insts)
+}
+
+// The assumptions, and the instances of the family at which the rounds end.
+fn heading(task: &Task<'_>, family: &Worked) -> Result<(Assumptions, Vec<Inst>), AllocError>
+    requires solved { AreSolvedNodes task.now.flash.now task.now.assumptions.now family.now.nodes }
+    requires landings { AreLandings task.now.flash.now task.now.assumptions.now family.now.nodes family.now.landings }
+    ensures listed { IfOk result (λ head. head.0 ≡ task.now.assumptions.now) }
+    ensures insts { IfOk result (λ head. AreInstsOf task.now.flash.now task.now.assumptions.now family.now.nodes head.1.items) }
+{
+    solved_families_are_shown();
+    graphs_are_acyclic();
+    let ways = entered_by(task, family)?;
+    let graph = graph_of(task, &family.nodes, &ways)?;
+    let composed = compose_acyclic(task.alloc, &graph)?;
+    let insts = instances(task.alloc, &graph, &composed)?;
+    let listed = task.assumptions.copy()?;
+    Ok((listed, insts))
+}
+
+// The certificate of the family at which the rounds end, without a schedule. Each local part is worked out twice.
+pub(crate) fn certificate_of(task: &Task<'_>, table: Table) -> Result<Certificate, AllocError>
+    requires solved { (n : ℕ) × IsSolved task.now.flash.now task.now.assumptions.now n table }
+    ensures { IfOk result (λ c. IsSolution task.now.flash.now task.now.assumptions.now table c) }
+{
+    solved_families_are_shown();
+    solutions_are_made();
+    // These are entries that a list of assumptions may have.
+    let _entries = task.assumptions.entries();
+    let family = Worked::of(task, Filled::new(table.into_sorted(task.alloc)?))?;
+    match heading(task, &family) {
+        Ok((listed, insts)) => {
+            let seeds = forms(task, family)?;
+            let bound = insts[0].need as u16;
+            Ok(Certificate::build(bound, listed, insts, seeds))
+        }
+        Err(error) => {
+            drop(family);
+            Err(error)
+        }
+    }
+}

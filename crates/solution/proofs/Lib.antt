@@ -1,4 +1,0 @@
-pub mod Places
-pub mod Led
-pub mod Formed
-pub mod Certificates

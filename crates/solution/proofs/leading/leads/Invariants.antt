@@ -1,5 +1,0 @@
-use Rattle.solution.specs.Leads.{AreLeads}
-use Rattle.solution.proofs.leading.leads.Given as goal
-
-abbrev pub invariant-loop-at : goal.invariant-loop-at
-invariant-loop-at l = AreLeads l.task.flash.now l.task.assumptions.now l.family.nodes l.at l.leads.items
