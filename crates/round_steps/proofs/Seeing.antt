@@ -1,6 +1,8 @@
 -- One node more is looked at.
-use Rattle.std.proofs.Common.{◌≡◌, ◌≢◌, sym, ap, ◌∙◌, subst, ℕ, ◌<◌, ◌≤◌, ◌⊎◌, inl, inr, ⊎_elim, List, [], ◌∷◌, ◌++◌, Option, Some, None, Result, Ok, Err, IfOk, IfErr, Contains, arith}
+use Rattle.std.proofs.Common.{◌≡◌, ◌≢◌, sym, ap, ◌∙◌, subst, ℕ, ◌<◌, ◌≤◌, ◌⊎◌, inl, inr, ⊎_elim, List, [], ◌∷◌, ◌++◌, Option, Some, None, Result, Ok, Err, IfOk, IfErr, Contains, Bool, true, false, refl, arith}
 use Rattle.std.proofs.lemmas.List.Elements.{Contains-append_left, Contains-push, Contains-push_cases}
+use Rattle.std.proofs.lemmas.Bool.Decides.{nat_tests}
+use Rattle.std.specs.Prelude.{if◌then◌else◌, ◌||◌, ◌&&◌, ◌==◌, nat_lt}
 use Rattle.std.specs.FinMap.{get}
 use Rattle.basics.specs.Items.{none_in}
 use Rattle.avr_model.specs.declared.assumption.Entry.{Entry}
@@ -9,13 +11,13 @@ use Rattle.mask_states.specs.declared.keys.NodeKey.{NodeKey}
 use Rattle.local_rules.specs.declared.local.NodeFault.{NodeFault}
 use Rattle.local_rules.specs.declared.local.NodeFault.TheVariants.{Memory}
 use Rattle.local_rules.specs.Local.{local}
-use Rattle.local_rules.specs.Faults.{fault_offset}
+use Rattle.local_rules.specs.Faults.{cause_of, fault_offset, is_less}
 use Rattle.call_graph.specs.Ways.{ways_of}
 use Rattle.round_rules.specs.Families.{Family}
 use Rattle.round_rules.specs.Refusals.{IsNoLater, word_of}
 use Rattle.round_steps.specs.declared.looking.Look.{Look}
 use Rattle.round_steps.specs.declared.looking.Seen.{Seen}
-use Rattle.round_steps.specs.Looks.{IsLook, AreSeen, IsFaultSeen, IsSeenBesides}
+use Rattle.round_steps.specs.Looks.{IsLook, AreSeen, IsFaultSeen, IsSeenBesides, IsWorst}
 
 pub later_through : (x y z : NodeFault) → IsNoLater x y → IsNoLater y z → IsNoLater x z
 later_through x y z (inl a) (inl b) = inl (omega (arith, a, b))
@@ -32,6 +34,30 @@ later_through x y z (inr a) (inr b) = inr (a.0 ∙ b.0, by a.1 b.1)
 
 pub some_fault : (x y : NodeFault) (o : Option NodeFault) → o ≡ Some x → o ≡ Some y → x ≡ y
 some_fault x y o a b = cc
+
+-- ---- which of two faults counts
+
+itself : (x : NodeFault) → IsNoLater x x
+itself x = inr (refl, inr (refl, omega arith))
+
+worst_stays : (o : Option NodeFault) (x y : NodeFault) → o ≡ Some x → IsNoLater x y → IsWorst o y x
+worst_stays o x y is first = record { later = first; kept = λ z e. subst (IsNoLater x) (some_fault x z o is e) (itself x); either = inr is }
+
+worst_changes : (o : Option NodeFault) (x y : NodeFault) → o ≡ Some x → IsNoLater y x → IsWorst o y y
+worst_changes o x y is first = record { later = itself y; kept = λ z e. subst (IsNoLater y) (some_fault x z o is e) first; either = inl refl }
+
+less_first : (c d v w x y : ℕ) → (d ≡ c → w ≡ v) → (nat_lt c d || ((c == d) && nat_lt x y)) ≡ true → (c < d) ⊎ ((c ≡ d) × ((v < w) ⊎ ((v ≡ w) × (x ≤ y))))
+less_first c d v w x y same less = grind (arith, nat_tests)
+
+not_less_last : (c d v w x y : ℕ) → (d ≡ c → w ≡ v) → (nat_lt c d || ((c == d) && nat_lt x y)) ≡ false → (d < c) ⊎ ((d ≡ c) × ((w < v) ⊎ ((w ≡ v) × (y ≤ x))))
+not_less_last c d v w x y same less = grind (arith, nat_tests)
+
+pub worst_lesser : (o : Option NodeFault) (x y r : NodeFault) → o ≡ Some x → r ≡ (if is_less y x then y else x) → (cause_of x ≡ cause_of y → word_of x ≡ word_of y) → IsWorst o y r
+worst_lesser o x y r is e same = by (is_less y x) refl e
+  where
+    by : (t : Bool) → is_less y x ≡ t → r ≡ (if t then y else x) → IsWorst o y r
+    by true less e = subst (IsWorst o y) (sym e) (worst_changes o x y is (less_first (cause_of y) (cause_of x) (word_of y) (word_of x) (fault_offset y) (fault_offset x) same less))
+    by false less e = subst (IsWorst o y) (sym e) (worst_stays o x y is (not_less_last (cause_of y) (cause_of x) (word_of y) (word_of x) (fault_offset y) (fault_offset x) same less))
 
 some_state : (x y : AbsState) (o : Option AbsState) → o ≡ Some x → o ≡ Some y → x ≡ y
 some_state x y o a b = cc

@@ -12,16 +12,6 @@ use local_rules::Node;
 use mask_states::NodeKey;
 use std::alloc::{AllocError, Global};
 
-// As many cells, with those of one node more at this offset.
-fn with_node(counted: u64, offset: u16) -> Result<u64, AllocError>
-    ensures { IfOk result (λ more. more ≡ 1 + offset + counted) }
-{
-    match counted.checked_add(1 + u64::from(offset)) {
-        Some(more) => Ok(more),
-        None => Err(AllocError),
-    }
-}
-
 // Joins one node into the table, whose cells are counted, and notes its key.
 fn join_one(
     alloc: Global,
@@ -41,7 +31,10 @@ fn join_one(
     let before = table.len();
     table.raise(alloc, node)?;
     if before < table.len() {
-        *counted = with_node(*counted, offset)?;
+        let Some(more) = counted.checked_add(1 + u64::from(offset)) else {
+            return Err(AllocError);
+        };
+        *counted = more;
     }
     Ok(())
 }

@@ -1,7 +1,6 @@
 //! What one round does: it looks at nodes, notes what it finds, and joins what their edges lead to into the family. Source: own.
 #![tactic(auto)]
 
-pub mod faults;
 pub mod joining;
 pub mod looking;
 pub mod noting;

@@ -8,9 +8,9 @@ ghost use Rattle.local_rules.specs.Cover.{IsNodeIn};
 ghost use Rattle.local_rules.specs.Local as rows;
 ghost use Rattle.call_graph.specs.Ways.{ways_of};
 ghost use Rattle.round_rules.specs.Families.{AreFormed};
+ghost use Rattle.round_rules.specs.Refusals.{word_of};
 ghost use Rattle.round_steps.specs.Looks.{IsWorst, IsSeenBesides, AreSeen};
 
-use crate::faults::lesser;
 use abs_state::AbsState;
 use abs_step::local;
 use call_graph::Task;
@@ -62,14 +62,36 @@ fn found_at(task: &Task<'_>, key: &NodeKey, state: &AbsState) -> Result<Look, No
     }
 }
 
-// The fault that counts of these.
+// The word at which a fault is.
+fn word(fault: &NodeFault) -> u16
+    ensures { result ≡ word_of fault.now }
+{
+    match *fault {
+        NodeFault::UnresolvedJump(pc)
+        | NodeFault::UntrackedSp(pc)
+        | NodeFault::Unsupported(pc)
+        | NodeFault::TooDeep(pc, _)
+        | NodeFault::UnknownPointer(pc) => pc,
+        NodeFault::Memory => 0,
+    }
+}
+
+// The fault that counts of these: by cause, then word, then offset.
 fn worse(worst: Option<NodeFault>, fault: NodeFault) -> NodeFault
     ensures { IsWorst worst fault result }
 {
-    match worst {
-        Some(other) => lesser(other, fault),
-        None => fault,
+    let Some(other) = worst else {
+        return fault;
+    };
+    if other.cause() == fault.cause() {
+        if word(&other) < word(&fault) {
+            return other;
+        }
+        if word(&fault) < word(&other) {
+            return fault;
+        }
     }
+    other.lesser(fault)
 }
 
 // One more was found.

@@ -4,7 +4,7 @@ ghost use Rattle.std.specs.Prelude.{◌≡◌, ◌≤◌, OnOk, Contains};
 ghost use Rattle.avr_model.specs.State.{SIZE};
 ghost use Rattle.mask_states.specs.Keys.{offset_of};
 ghost use Rattle.instance_nesting.specs.Nestings.{AreOnce};
-ghost use Rattle.round_steps.specs.Notings.{blank, caller, leaver, HasCallers, HasLeaver, HasEntrances, IsNoted, AreNoted};
+ghost use Rattle.round_steps.specs.Notings.{blank, HasCallers, HasLeaver, HasEntrances, IsNoted, AreNoted};
 ghost use Rattle.round_steps.specs.declared.looking.Look as look_type;
 
 use crate::looking::Look;
@@ -26,49 +26,39 @@ pub struct Notes {
     pub nesting: Nesting,
 }
 
-// A node that enters an instance this way.
-fn caller(key: &NodeKey, way: &Way) -> Crossing
-    ensures { result ≡ caller key.now way.now }
-{
-    Crossing {
-        node: *key,
-        kind: way.kind,
-        back: way.back,
-        exit: Exit {
-            masks: key.masks,
-            i: key.i,
-            delay: key.delay,
-        },
-    }
-}
-
-// A node that leaves its instance this way.
-fn leaver(key: &NodeKey, exit: Exit) -> Crossing
-    ensures { result ≡ leaver key.now exit }
-{
-    Crossing {
-        node: *key,
-        kind: EdgeKind::Return,
-        back: key.pc,
-        exit,
-    }
-}
-
-fn note_callers(
+// The ways of a node into instances: it enters each of them.
+fn note_ways(
     callers: &mut Crossings,
+    nesting: &mut Nesting,
     alloc: Global,
     key: &NodeKey,
     ways: &[Way],
 ) -> Result<(), AllocError>
-    ensures { OnOk result (HasCallers callers.old key.now ways.now callers.new) }
+    requires small { offset_of key.now.sp ≤ SIZE }
+    requires once { AreOnce nesting.old.insts }
+    ensures callers { OnOk result (HasCallers callers.old key.now ways.now callers.new) }
+    ensures entrances { OnOk result (HasEntrances nesting.old key.now ways.now nesting.new) }
+    ensures once { OnOk result (AreOnce nesting.new.insts) }
 {
     for at in 0..ways.len() {
         let way = &ways[at];
-        callers.add(alloc, way.inst, caller(key, way))?;
+        let caller = Crossing {
+            node: *key,
+            kind: way.kind,
+            back: way.back,
+            exit: Exit {
+                masks: key.masks,
+                i: key.i,
+                delay: key.delay,
+            },
+        };
+        callers.add(alloc, way.inst, caller)?;
+        nesting.note_entrance(key, &way.inst)?;
     }
     Ok(())
 }
 
+// How a node leaves its instance, if it does.
 fn note_leaver(
     leavers: &mut Crossings,
     alloc: Global,
@@ -80,20 +70,13 @@ fn note_leaver(
     let Some(exit) = exit else {
         return Ok(());
     };
-    leavers.add(alloc, key.inst, leaver(key, exit))?;
-    Ok(())
-}
-
-fn note_entrances(nesting: &mut Nesting, key: &NodeKey, ways: &[Way]) -> Result<(), AllocError>
-    requires small { offset_of key.now.sp ≤ SIZE }
-    requires once { AreOnce nesting.old.insts }
-    ensures entrances { OnOk result (HasEntrances nesting.old key.now ways.now nesting.new) }
-    ensures once { OnOk result (AreOnce nesting.new.insts) }
-{
-    for at in 0..ways.len() {
-        let way = &ways[at];
-        nesting.note_entrance(key, &way.inst)?;
-    }
+    let leaver = Crossing {
+        node: *key,
+        kind: EdgeKind::Return,
+        back: key.pc,
+        exit,
+    };
+    leavers.add(alloc, key.inst, leaver)?;
     Ok(())
 }
 
@@ -115,10 +98,9 @@ impl Notes {
         ensures noted { OnOk result (IsNoted self.old x.now self.new) }
         ensures once { OnOk result (AreOnce self.new.nesting.insts) }
     {
-        note_callers(&mut self.callers, alloc, &x.key, &x.ways)?;
-        note_leaver(&mut self.leavers, alloc, &x.key, x.part.exit)?;
         self.nesting.note_node(&x.key)?;
-        note_entrances(&mut self.nesting, &x.key, &x.ways)?;
+        note_ways(&mut self.callers, &mut self.nesting, alloc, &x.key, &x.ways)?;
+        note_leaver(&mut self.leavers, alloc, &x.key, x.part.exit)?;
         Ok(())
     }
 

@@ -1,7 +1,5 @@
 use Rattle.std.proofs.Common.{Option, subst, sym}
 use Rattle.local_rules.specs.declared.local.Exit.{Exit}
-use Rattle.family_table.specs.declared.crossings.Crossing.{Crossing}
-use Rattle.family_table.specs.Crossings.{IsAdded}
 use Rattle.round_steps.specs.Notings.{HasLeaver}
 use Rattle.round_steps.proofs.Besides.{leaver_none, leaver_some}
 use Rattle.round_steps.proofs.noting.note_leaver.Goals as goal
@@ -13,5 +11,4 @@ returns-in_default c =
 pub returns : goal.returns
 returns c =
     subst (λ (x : Option Exit). HasLeaver c.args.leavers.now c.args.key.now x c.add.new.self) (sym c.in-Some.is)
-    (leaver_some c.args.leavers.now c.add.new.self c.args.key.now c.in-Some.exit
-    (subst (λ (p : Crossing). IsAdded c.args.leavers.now c.args.key.now.inst p c.add.new.self) c.leaver.ensures c.in_ok-add.ensures))
+    (leaver_some c.args.leavers.now c.add.new.self c.args.key.now c.in-Some.exit c.in_ok-add.ensures)
