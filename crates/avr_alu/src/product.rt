@@ -5,6 +5,7 @@ ghost use Rattle.avr_model.specs.Product.{word_of, result_of, is_fractional, fla
 
 use crate::sreg::Sreg;
 use avr_model::operation::Mul;
+use bitflags::Flags;
 
 // The product in 16 bits, before a fractional operation doubles it.
 fn word(op: Mul, a: u8, b: u8) -> u16
@@ -42,5 +43,8 @@ pub fn mul(op: Mul, a: u8, b: u8, s: Sreg) -> (u16, Sreg)
     } else {
         product
     };
-    (r, s.with_carry_and_zero(product >= 0x8000, r == 0))
+    let mut flags = s;
+    flags.set(Sreg::C, product >= 0x8000);
+    flags.set(Sreg::Z, r == 0);
+    (r, flags)
 }

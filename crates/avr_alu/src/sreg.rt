@@ -1,7 +1,7 @@
 //! The status register.
 
 ghost use Rattle.std.specs.Prelude.{⊤, ◌≡◌, ◌<◌, [], ◌∷◌, codes};
-ghost use Rattle.avr_model.specs.Sreg.{with_flags, with_carry_and_zero, flag};
+ghost use Rattle.avr_model.specs.Sreg.{with_flags, flag};
 
 use bitflags::{Flag, Flags, bitflag_items};
 
@@ -104,17 +104,7 @@ impl Sreg {
         self.contains(Sreg::H)
     }
 
-    /// The register with these values of C and Z, and the other flags kept.
-    pub(crate) fn with_carry_and_zero(self, carry: bool, zero: bool) -> Sreg
-        ensures { result.0 ≡ with_carry_and_zero carry zero self.0 }
-    {
-        let mut flags = self;
-        flags.set(Sreg::C, carry);
-        flags.set(Sreg::Z, zero);
-        flags
-    }
-
-    /// The register with the flags of an operation, and with S as N xor V. T and I are kept.
+    // The register with the flags of an operation, and with S as N xor V. T and I are kept.
     pub(crate) fn with_outcome(self, outcome: Outcome) -> Sreg
         ensures { result.0
             ≡ with_flags outcome.carry outcome.zero outcome.negative outcome.overflow outcome.half_carry self.0 }
@@ -130,7 +120,7 @@ impl Sreg {
     }
 }
 
-/// What an operation says of the flags that it may change.
+// What an operation says of the flags that it may change.
 #[derive(Clone, Copy)]
 pub(crate) struct Outcome {
     pub(crate) carry: bool,

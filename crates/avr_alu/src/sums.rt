@@ -1,7 +1,6 @@
 //! Sums and differences of two bytes. T and I are kept.
 
-ghost use Rattle.std.specs.Prelude.{◌≡◌, ◌%◌, ◌==◌, ◌&&◌, ◌||◌, not};
-ghost use Rattle.avr_model.specs.Sreg.{flag};
+ghost use Rattle.std.specs.Prelude.{◌≡◌, ◌%◌};
 ghost use Rattle.avr_model.specs.Sums.{sum_of, flags_of_sum, difference_of, flags_of_difference};
 
 use crate::sreg::{Outcome, Sreg};
@@ -25,13 +24,6 @@ pub fn add(a: u8, b: u8, carry: bool, s: Sreg) -> (u8, Sreg)
     (r, flags)
 }
 
-// Whether the result is 0, and Z was set if it is only kept or cleared.
-fn is_zero(r: u8, keep_zero: bool, s: Sreg) -> bool
-    ensures { result ≡ (r == 0 && (not keep_zero || flag s.0 1)) }
-{
-    r == 0 && (!keep_zero || s.zero())
-}
-
 /// SUB, SUBI, CP, CPI and NEG, and with `keep_zero` SBC, SBCI and CPC: `a` less `b` and a borrow. C and H are the
 /// borrows into bits 7 and 3, V is signed overflow. Where `keep_zero` holds, Z is cleared or kept, and never set.
 /// Source: Instruction Set Manual, SUB, SBC, CP, CPC and NEG.
@@ -44,7 +36,7 @@ pub fn sub(a: u8, b: u8, borrow: bool, keep_zero: bool, s: Sreg) -> (u8, Sreg)
     let overflow = (a ^ b) & (a ^ r);
     let flags = s.with_outcome(Outcome {
         carry: borrows & 0x80 != 0,
-        zero: is_zero(r, keep_zero, s),
+        zero: (r == 0) & (!keep_zero | s.zero()),
         negative: r & 0x80 != 0,
         overflow: overflow & 0x80 != 0,
         half_carry: borrows & 0x08 != 0,
