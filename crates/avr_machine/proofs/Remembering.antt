@@ -1,15 +1,12 @@
 -- The first places of the arrays that hold SRAM.
-use Rattle.std.proofs.Common.{◌≡◌, ◌<◌, ◌≤◌, ◌-◌, ℕ, Bool, true, false, List, length, take, replicate, get_or, sym, ap, subst, ◌∙◌, arith, ◌⊎◌, inl, inr}
-use Rattle.std.specs.Prelude.{nat_lt, ◌&&◌, if◌then◌else◌, slice_index, slice_set}
+use Rattle.std.proofs.Common.{◌≡◌, ◌<◌, ◌≤◌, ℕ, Bool, false, List, length, take, replicate, get_or, sym, ap, subst, ◌∙◌, arith, ◌⊎◌, inl, inr}
+use Rattle.std.specs.Prelude.{slice_index, slice_set}
 use Rattle.std.proofs.lemmas.List.{length-take, length-take-le, get_or-take, get_or_past, take_all, set_past, take-replicate}
-use Rattle.std.proofs.lemmas.Bool.{ltb-true}
-use Rattle.std.proofs.lemmas.Bool.Decides.{nat_tests}
 use Rattle.std.proofs.Math.Seq.{take-set-lt}
-use Rattle.basics.specs.Booleans.{left_of_and, right_of_and}
 use Rattle.avr_model.specs.declared.device.Device.{Device}
 use Rattle.avr_model.specs.declared.device.Device.TheVariants.{M328}
 use Rattle.avr_model.specs.Devices.{size_of}
-use Rattle.avr_model.specs.State.{Memory, set_at}
+use Rattle.avr_model.specs.State.{Memory}
 use Rattle.avr_model.proofs.AllLaws.{devices_are_alike}
 
 pub count_part : (device : Device) (bytes : List ℕ) → length bytes ≡ 2048 → length (take (size_of device) bytes) ≡ size_of device

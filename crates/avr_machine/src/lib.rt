@@ -1,11 +1,9 @@
 //! The machine as code: one step at a time, with the answer and the state that `avr_model` defines.
 #![tactic(auto)]
 
-mod applying;
 mod arithmetic;
 mod bits;
 mod effects;
-mod enables;
 mod flags;
 mod machine;
 mod memory;
