@@ -1,4 +1,4 @@
-//! Laws of explanations, each as the contract of a function that does nothing but call others.
+//! Laws of explanations, as the contract of a function that does nothing but call others.
 
 ghost use Rattle.chain_explain.specs.Laws.{ExplanationsAreOne, ExplanationsTell};
 
@@ -6,20 +6,14 @@ use edge_laws::expansions::filled_or_missing;
 use family_graph::laws::{deepest_chains_are_bounded, deepest_chains_are_one};
 use round_laws::reaching::rounds_are_reached;
 
-/// A certificate has at most one explanation.
-pub fn explanations_are_one()
-    ensures { ExplanationsAreOne }
+/// A certificate has at most one explanation. Its parts nest from the root on and add up to its number, which is at most the bound of
+/// the certificate, and the bound itself where the rounds end with this certificate.
+pub fn explanations_tell()
+    ensures one { ExplanationsAreOne }
+    ensures tells { ExplanationsTell }
 {
     filled_or_missing();
     deepest_chains_are_one();
-}
-
-/// The parts of an explanation nest from the root on and add up to its number, which is at most the bound of the certificate, and the
-/// bound itself where the rounds end with this certificate.
-pub fn explanations_tell()
-    ensures { ExplanationsTell }
-{
-    filled_or_missing();
     rounds_are_reached();
     deepest_chains_are_bounded();
 }

@@ -1,20 +1,19 @@
 //! The lines in place of a certificate, and that of an image whose certificate is measured.
 
-ghost use Rattle.std.specs.Prelude.{◌≡◌, [], ◌∷◌, IfOk, OnOk, Some, codes, decimal, length};
+ghost use Rattle.std.specs.Prelude.{◌≡◌, [], ◌∷◌, IfOk, OnOk, Some, codes};
 ghost use Rattle.sb_base.specs.Digits.{hex_digits};
 ghost use Rattle.sb_base.specs.Writing.{with_words};
-ghost use Rattle.avr_model.specs.Image.{word_at};
-ghost use Rattle.replies.specs.Texts.{AreWritten, instruction_told, cause_at, limit_word, why_not_words, why_not_text, demo_text};
+ghost use Rattle.replies.specs.Texts.{AreWritten, instruction_told, limit_word, why_not_words, why_not_text, demo_text};
 
 use crate::texts::{ended, limit_word, put_address, put_number, put_two, put_two_and_number};
 use avr_decode::{instruction, text as instruction_text};
-use certificate::{Certificate, Limit};
+use certificate::Certificate;
 use flash_image::Flash;
 use round_rules::Refusal;
 use sb_base::LineWriter;
 use std::alloc::{AllocError, Global};
 
-/// The text of the instruction at a word, or the word in digits where it is none on the device.
+// The text of the instruction at a word, or the word in digits where it is none on the device.
 pub(crate) fn put_instruction(
     alloc: Global,
     line: &mut LineWriter,
@@ -32,14 +31,7 @@ pub(crate) fn put_instruction(
     }
 }
 
-/// The number of a cause, and its name.
-#[derive(Clone, Copy)]
-struct Cause<'a> {
-    number: &'a [u8],
-    name: &'a [u8],
-}
-
-/// A cause, and the word at which it is.
+// A cause, and the word at which it is.
 fn put_cause(line: &mut LineWriter, number: &[u8], name: &[u8], at: u16) -> Result<(), AllocError>
     ensures { OnOk result (line.new ≡ with_words line.old (codes "refused" ∷ number.now ∷ name.now ∷ codes "at" ∷ hex_digits at 4 ∷ [])) }
 {
@@ -48,50 +40,7 @@ fn put_cause(line: &mut LineWriter, number: &[u8], name: &[u8], at: u16) -> Resu
     put_address(line, b"at", at)
 }
 
-fn put_re_entry(line: &mut LineWriter, vector: u8, at: u16) -> Result<(), AllocError>
-    ensures { OnOk result (line.new ≡ with_words line.old (codes "refused" ∷ codes "3" ∷ codes "re-entry" ∷ codes "of" ∷ decimal vector ∷ codes "at" ∷ hex_digits at 4 ∷ [])) }
-{
-    put_two(line, b"refused", b"3")?;
-    put_two_and_number(line, b"re-entry", b"of", u64::from(vector))?;
-    put_address(line, b"at", at)
-}
-
-fn put_too_large(line: &mut LineWriter, limit: Limit) -> Result<(), AllocError>
-    ensures { OnOk result (line.new ≡ with_words line.old (codes "refused" ∷ codes "7" ∷ codes "too-large" ∷ limit_word limit ∷ [])) }
-{
-    put_two(line, b"refused", b"7")?;
-    put_two(line, b"too-large", limit_word(limit))
-}
-
-fn put_need(line: &mut LineWriter, at: u16, need: u32) -> Result<(), AllocError>
-    ensures { OnOk result (line.new ≡ with_words line.old (codes "refused" ∷ codes "6" ∷ codes "too-deep" ∷ codes "at" ∷ hex_digits at 4 ∷ codes "need" ∷ decimal need ∷ [])) }
-{
-    put_cause(line, b"6", b"too-deep", at)?;
-    put_number(line, b"need", u64::from(need))
-}
-
-/// The same with the instruction at that word.
-fn put_cause_of(
-    alloc: Global,
-    line: &mut LineWriter,
-    flash: &Flash,
-    cause: &Cause<'_>,
-    at: u16,
-) -> Result<(), AllocError>
-    ensures { OnOk result (AreWritten line.old line.new (cause_at cause.now.number.now cause.now.name.now at (instruction_told flash.now at))) }
-{
-    put_cause(line, cause.number, cause.name, at)?;
-    put_instruction(alloc, line, flash, at)
-}
-
-fn put_unsupported(line: &mut LineWriter, at: u16, word: u16) -> Result<(), AllocError>
-    ensures { OnOk result (AreWritten line.old line.new (cause_at (codes "5") (codes "unsupported") at (codes "opcode" ∷ hex_digits word 4 ∷ []))) }
-{
-    put_cause(line, b"5", b"unsupported", at)?;
-    put_address(line, b"opcode", word)
-}
-
-/// The words in place of a certificate; none for want of memory.
+// The words in place of a certificate; none for want of memory.
 fn put_why_not(
     alloc: Global,
     line: &mut LineWriter,
@@ -102,30 +51,34 @@ fn put_why_not(
 {
     match *refusal {
         Refusal::UnresolvedJump(at) => {
-            let cause = Cause {
-                number: b"1",
-                name: b"unresolved-jump",
-            };
-            put_cause_of(alloc, line, flash, &cause, at)
+            put_cause(line, b"1", b"unresolved-jump", at)?;
+            put_instruction(alloc, line, flash, at)
         }
         Refusal::Recursion(at) => put_cause(line, b"2", b"recursion", at),
-        Refusal::ReEntry(vector, at) => put_re_entry(line, vector, at),
-        Refusal::UntrackedSp(at) => {
-            let cause = Cause {
-                number: b"4",
-                name: b"untracked-sp",
-            };
-            put_cause_of(alloc, line, flash, &cause, at)
+        Refusal::ReEntry(vector, at) => {
+            put_two(line, b"refused", b"3")?;
+            put_two_and_number(line, b"re-entry", b"of", u64::from(vector))?;
+            put_address(line, b"at", at)
         }
-        Refusal::Unsupported(at) => put_unsupported(line, at, flash.word(at)),
-        Refusal::TooDeep(at, need) => put_need(line, at, need),
-        Refusal::TooLarge(limit) => put_too_large(line, limit),
+        Refusal::UntrackedSp(at) => {
+            put_cause(line, b"4", b"untracked-sp", at)?;
+            put_instruction(alloc, line, flash, at)
+        }
+        Refusal::Unsupported(at) => {
+            put_cause(line, b"5", b"unsupported", at)?;
+            put_address(line, b"opcode", flash.word(at))
+        }
+        Refusal::TooDeep(at, need) => {
+            put_cause(line, b"6", b"too-deep", at)?;
+            put_number(line, b"need", u64::from(need))
+        }
+        Refusal::TooLarge(limit) => {
+            put_two(line, b"refused", b"7")?;
+            put_two(line, b"too-large", limit_word(limit))
+        }
         Refusal::UnknownPointer(at) => {
-            let cause = Cause {
-                number: b"8",
-                name: b"unknown-pointer",
-            };
-            put_cause_of(alloc, line, flash, &cause, at)
+            put_cause(line, b"8", b"unknown-pointer", at)?;
+            put_instruction(alloc, line, flash, at)
         }
         Refusal::Spent(steps) => put_number(line, b"spent", steps),
         Refusal::Memory => Err(AllocError),
@@ -142,20 +95,15 @@ pub fn why_not(alloc: Global, flash: &Flash, refusal: &Refusal) -> Result<Vec<u8
     ended(line)
 }
 
-fn put_demo(line: &mut LineWriter, size: u32, certificate: &Certificate) -> Result<(), AllocError>
-    ensures { OnOk result (line.new ≡ with_words line.old (codes "demo" ∷ decimal size ∷ codes "nodes" ∷ decimal (length certificate.now.nodes) ∷ codes "instances" ∷ decimal (length certificate.now.instances) ∷ codes "bound" ∷ decimal certificate.now.bound ∷ [])) }
-{
-    put_number(line, b"demo", u64::from(size))?;
-    put_number(line, b"nodes", certificate.nodes().len() as u64)?;
-    put_number(line, b"instances", certificate.count_instances() as u64)?;
-    put_number(line, b"bound", u64::from(certificate.bound()))
-}
-
 /// The size of an image, and how many nodes and instances its certificate has, with the bound.
 pub fn demo_text(alloc: Global, size: u32, certificate: &Certificate) -> Result<Vec<u8>, AllocError>
     ensures { IfOk result (λ v. v.items ≡ demo_text size certificate.now) }
 {
     let mut line = LineWriter::new(alloc);
-    put_demo(&mut line, size, certificate)?;
+    put_number(&mut line, b"demo", u64::from(size))?;
+    put_number(&mut line, b"nodes", certificate.nodes().len() as u64)?;
+    let instances = certificate.count_instances() as u64;
+    put_number(&mut line, b"instances", instances)?;
+    put_number(&mut line, b"bound", u64::from(certificate.bound()))?;
     ended(line)
 }

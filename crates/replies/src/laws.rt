@@ -5,7 +5,7 @@ ghost use Rattle.replies.specs.Headline.{RepliesAreOne, AcceptingRepliesHold, Re
 use cert_check::laws::{sound_certificates_bound_every_run, verdicts_are_one};
 use cert_format::laws::certificate_texts;
 use cert_writing::laws::texts_fit;
-use chain_explain::laws::{explanations_are_one, explanations_tell};
+use chain_explain::laws::explanations_tell;
 use device_hooks::laws::{reading_is_exact as devices_are_exact, simulations_are_runs};
 use flash_image::laws::{narrowing_is_exact, raw_images_are_their_words};
 use guided_trials::laws::trials_are_led;
@@ -18,7 +18,7 @@ use store_laws::laws::{
     flagged_runs_end_at_sites,
 };
 use witness_replay::laws::replays_are_runs;
-use witness_search::laws::{trials_are_short, waypoints_are_one};
+use witness_search::laws::trials_are_due;
 
 /// What was read of a command's files has one answer. Where a certificate is accepted, the bound holds of what was read, and where one is
 /// written, it is the least one, or the accepted one with a schedule that reaches its bound, short enough to be read again; an explanation tells where the bytes of the bound go; where all nodes are clear,
@@ -36,15 +36,13 @@ pub fn replies_are_claims()
     verdicts_are_one();
     sound_certificates_bound_every_run();
     answers_are_one();
-    waypoints_are_one();
-    trials_are_short();
+    trials_are_due();
     texts_fit();
     rounds_are_least();
     solutions_are_valid();
     replays_are_runs();
     devices_are_exact();
     simulations_are_runs();
-    explanations_are_one();
     explanations_tell();
     clear_verdicts_are_one();
     sites_are_one();

@@ -6,7 +6,7 @@ ghost use Rattle.flash_image.specs.Naming.{least_name};
 ghost use Rattle.sb_base.specs.Lines.{line};
 ghost use Rattle.sb_base.specs.Writing.{with_words, with_end};
 ghost use Rattle.line_reading.specs.Appending.{with_text};
-ghost use Rattle.replies.specs.Places.{clear_text, place_words, unclear_text, name_up_to, place_line, place_text, never_line, never_text, count_line, premises_text, protected_words, word_where, cause_words, why_line, why_text};
+ghost use Rattle.replies.specs.Places.{clear_text, place_words, unclear_text, name_up_to, place_line, place_text, never_text, count_line, premises_text, protected_words, word_where, cause_words, why_line, why_text};
 
 use crate::causes::put_instruction;
 use crate::texts::{ended, put_address, put_number, put_two_and_number};
@@ -35,7 +35,7 @@ pub fn clear_text(alloc: Global, bound: u16) -> Result<Vec<u8>, AllocError>
     ended(line)
 }
 
-/// Writes a word, and the instruction there.
+// Writes a word, and the instruction there.
 fn put_place(alloc: Global, line: &mut LineWriter, flash: &Flash, pc: u16) -> Result<(), AllocError>
     ensures { OnOk result (line.new ≡ with_words line.old (place_words flash.now pc)) }
 {
@@ -53,14 +53,14 @@ pub fn unclear_text(alloc: Global, flash: &Flash, node: u32, pc: u16) -> Result<
     ended(line)
 }
 
-/// A word, and the word whose name it stands under: the greatest that has one, of this word and those before it, or 0.
+// A word, and the word whose name it stands under: the greatest that has one, of this word and those before it, or 0.
 #[derive(Clone, Copy)]
 struct Reached {
     pc: u16,
     named: u16,
 }
 
-/// Where to look from for the name of a word: from the last word, unless that is behind it.
+// Where to look from for the name of a word: from the last word, unless that is behind it.
 #[tactic(auto, using(crate::proofs::Sites::up_first))]
 fn before(names: &Names, last: Reached, pc: u16) -> Reached
     requires { least_name names.now last.named ≡ name_up_to names.now last.pc }
@@ -74,7 +74,7 @@ fn before(names: &Names, last: Reached, pc: u16) -> Reached
     }
 }
 
-/// Goes on from the last word to another. It looks at the words between them alone, so that all places together cost what flash has words.
+// Goes on from the last word to another. It looks at the words between them alone, so that all places together cost what flash has words.
 #[tactic(auto, using(crate::proofs::Sites::up_there))]
 fn reach(names: &Names, last: Reached, pc: u16) -> Reached
     requires { least_name names.now last.named ≡ name_up_to names.now last.pc }
@@ -95,7 +95,7 @@ fn reach(names: &Names, last: Reached, pc: u16) -> Reached
     }
 }
 
-/// Writes a word at which a step may be flagged, the instruction there, and the name under which it stands.
+// Writes a word at which a step may be flagged, the instruction there, and the name under which it stands.
 fn put_named(
     out: &mut LineWriter,
     alloc: Global,
@@ -110,21 +110,7 @@ fn put_named(
     write_name(out, program.names, place.named)
 }
 
-/// Writes the line of such a word.
-fn write_place(
-    out: &mut LineWriter,
-    alloc: Global,
-    program: &Program<'_>,
-    place: Reached,
-) -> Result<(), AllocError>
-    requires { least_name program.now.names.now place.named ≡ name_up_to program.now.names.now place.pc }
-    ensures { OnOk result (out.new ≡ with_end (with_words out.old (place_line program.now.flash.now program.now.names.now place.pc))) }
-{
-    put_named(out, alloc, program, place)?;
-    out.end_line()
-}
-
-/// Writes the lines of such words. Where they ascend, each goes on from the one before.
+// Writes the lines of such words. Where they ascend, each goes on from the one before.
 fn write_places(
     out: &mut LineWriter,
     alloc: Global,
@@ -138,32 +124,26 @@ fn write_places(
     let mut place = Reached { pc: 0, named: 0 };
     for site in sites {
         place = reach(program.names, place, *site);
-        write_place(out, alloc, program, place)?;
+        put_named(out, alloc, program, place)?;
+        out.end_line()?;
     }
     Ok(())
 }
 
-/// Writes the line of a word of a vector.
-fn write_never(out: &mut LineWriter, word: u16) -> Result<(), AllocError>
-    ensures { OnOk result (out.new ≡ with_end (with_words out.old (never_line word))) }
-{
-    put_address(out, b"never", word)?;
-    out.end_line()
-}
-
-/// Writes the lines of such words.
+// Writes the lines of words of vectors.
 fn write_nevers(out: &mut LineWriter, nevers: &[u16]) -> Result<(), AllocError>
     requires { out.old.begun ≡ false }
     ensures { OnOk result (out.new ≡ with_text out.old (flat_map never_text nevers.now)) }
 {
     appending_laws();
     for word in nevers {
-        write_never(out, *word)?;
+        put_address(out, b"never", *word)?;
+        out.end_line()?;
     }
     Ok(())
 }
 
-/// Writes the first line.
+// Writes the first line.
 fn write_count(out: &mut LineWriter, bound: u16, count: u64) -> Result<(), AllocError>
     ensures { OnOk result (out.new ≡ with_end (with_words out.old (count_line bound count))) }
 {
@@ -191,14 +171,14 @@ pub fn premises_text(
     Ok(out.finish())
 }
 
-/// Writes a word, where this holds.
+// Writes a word, where this holds.
 fn write_where(out: &mut LineWriter, holds: bool, word: &[u8]) -> Result<(), AllocError>
     ensures { OnOk result (out.new ≡ with_words out.old (word_where holds word.now)) }
 {
     if holds { out.word(word) } else { Ok(()) }
 }
 
-/// At most the first eight of them.
+// At most the first eight of them.
 #[tactic(auto, using(crate::proofs::Sites::few_first))]
 fn first_eight(addresses: &[u16]) -> &[u16]
     ensures { result.now ≡ take 8 addresses.now }
@@ -210,7 +190,7 @@ fn first_eight(addresses: &[u16]) -> &[u16]
     }
 }
 
-/// Writes the protected addresses that a store may write, of which at most eight are shown.
+// Writes the protected addresses that a store may write, of which at most eight are shown.
 #[tactic(auto, using(crate::proofs::Sites::some_written, crate::proofs::Sites::none_protected))]
 fn write_protected(out: &mut LineWriter, addresses: &[u16]) -> Result<(), AllocError>
     ensures { OnOk result (out.new ≡ with_words out.old (protected_words addresses.now)) }
@@ -224,7 +204,7 @@ fn write_protected(out: &mut LineWriter, addresses: &[u16]) -> Result<(), AllocE
     write_where(out, has_more, b"..")
 }
 
-/// Writes what may happen at a word.
+// Writes what may happen at a word.
 #[tactic(auto, using(crate::proofs::Sites::three_written))]
 fn write_causes(out: &mut LineWriter, place: &FlaggedPlace) -> Result<(), AllocError>
     ensures { OnOk result (out.new ≡ with_words out.old (cause_words place.now)) }
@@ -234,25 +214,7 @@ fn write_causes(out: &mut LineWriter, place: &FlaggedPlace) -> Result<(), AllocE
     write_where(out, place.transfer, b"transfer")
 }
 
-/// Writes the line of a word at which a step may be flagged, with what may happen there.
-#[tactic(auto, using(crate::proofs::Sites::why_written))]
-fn write_why(
-    out: &mut LineWriter,
-    alloc: Global,
-    program: &Program<'_>,
-    place: &FlaggedPlace,
-    reached: Reached,
-) -> Result<(), AllocError>
-    requires word { reached.pc ≡ place.now.word }
-    requires named { least_name program.now.names.now reached.named ≡ name_up_to program.now.names.now reached.pc }
-    ensures { OnOk result (out.new ≡ with_end (with_words out.old (why_line program.now.flash.now program.now.names.now place.now))) }
-{
-    put_named(out, alloc, program, reached)?;
-    write_causes(out, place)?;
-    out.end_line()
-}
-
-/// Writes the lines of such words. Where they ascend, each goes on from the one before.
+// Writes the lines of words at which a step may be flagged, with what may happen there. Where they ascend, each goes on from the one before.
 fn write_whys(
     out: &mut LineWriter,
     alloc: Global,
@@ -266,7 +228,9 @@ fn write_whys(
     let mut reached = Reached { pc: 0, named: 0 };
     for place in places {
         reached = reach(program.names, reached, place.word);
-        write_why(out, alloc, program, place, reached)?;
+        put_named(out, alloc, program, reached)?;
+        write_causes(out, place)?;
+        out.end_line()?;
     }
     Ok(())
 }

@@ -3,7 +3,6 @@
 ghost use Rattle.std.specs.Prelude.{◌≡◌, ◌++◌, ◌<◌, [], ◌∷◌, IfOk, OnOk, Some, codes, decimal};
 ghost use Rattle.std.specs.Option.{option_map};
 ghost use Rattle.elf_load.specs.Refusing.{refusal_of};
-ghost use Rattle.cert_words.specs.KeySpelling.{node_key_words};
 ghost use Rattle.sb_base.specs.Digits.{hex_digits};
 ghost use Rattle.sb_base.specs.Writing.{with_words, with_end};
 ghost use Rattle.replies.specs.Texts.{told, usage, read_fault, too_long, raw_fault, elf_refused, firmware_outside, IsRefused, AreWritten, assumption_words, assumptions_refused, limit_word, certificate_words, certificate_refused, schedule_malformed, schedule_illegal, devices_refused, witness_word, accepted, reason_words, rejected, witness_rejected, stop_words, run_text};
@@ -15,12 +14,11 @@ use cert_writing::write_key;
 use device_hooks::DevicesFault;
 use elf_load::ElfFault;
 use indirect_targets::AssumeText;
-use mask_states::NodeKey;
 use sb_base::LineWriter;
 use std::alloc::{AllocError, Global};
 use witness_replay::ReplayReport;
 
-/// The text of a line that ends here.
+// The text of a line that ends here.
 pub(crate) fn ended(mut line: LineWriter) -> Result<Vec<u8>, AllocError>
     ensures { IfOk result (λ v. v.items ≡ (with_end line).bytes) }
 {
@@ -28,7 +26,7 @@ pub(crate) fn ended(mut line: LineWriter) -> Result<Vec<u8>, AllocError>
     Ok(line.finish())
 }
 
-/// A line of two words and a third.
+// A line of two words and a third.
 fn three_words(
     alloc: Global,
     first: &[u8],
@@ -75,7 +73,7 @@ pub fn raw_fault(alloc: Global, number: u64) -> Result<Vec<u8>, AllocError>
     ended(line)
 }
 
-/// The words that name what a test of an ELF file refuses; none for want of memory.
+// The words that name what a test of an ELF file refuses; none for want of memory.
 fn put_refusal(line: &mut LineWriter, fault: &ElfFault) -> Result<(), AllocError>
     ensures { OnOk result (IsRefused line.old line.new (refusal_of fault.now)) }
 {
@@ -114,6 +112,7 @@ pub fn firmware_outside(alloc: Global, word: u16) -> Result<Vec<u8>, AllocError>
     ended(line)
 }
 
+// Two words.
 pub(crate) fn put_two(line: &mut LineWriter, first: &[u8], second: &[u8]) -> Result<(), AllocError>
     ensures { OnOk result (line.new ≡ with_words line.old (first.now ∷ second.now ∷ [])) }
 {
@@ -121,7 +120,7 @@ pub(crate) fn put_two(line: &mut LineWriter, first: &[u8], second: &[u8]) -> Res
     line.word(second)
 }
 
-/// A word, a word and a number.
+// A word, a word and a number.
 pub(crate) fn put_two_and_number(
     line: &mut LineWriter,
     first: &[u8],
@@ -134,7 +133,7 @@ pub(crate) fn put_two_and_number(
     line.dec(number)
 }
 
-/// A word and a number.
+// A word and a number.
 pub(crate) fn put_number(line: &mut LineWriter, name: &[u8], number: u64) -> Result<(), AllocError>
     ensures { OnOk result (line.new ≡ with_words line.old (name.now ∷ decimal number ∷ [])) }
 {
@@ -142,7 +141,7 @@ pub(crate) fn put_number(line: &mut LineWriter, name: &[u8], number: u64) -> Res
     line.dec(number)
 }
 
-/// A word, and a word of flash in digits: an address, or what stands there.
+// A word, and a word of flash in digits: an address, or what stands there.
 pub(crate) fn put_address(line: &mut LineWriter, name: &[u8], word: u16) -> Result<(), AllocError>
     ensures { OnOk result (line.new ≡ with_words line.old (name.now ∷ hex_digits word 4 ∷ [])) }
 {
@@ -150,7 +149,7 @@ pub(crate) fn put_address(line: &mut LineWriter, name: &[u8], word: u16) -> Resu
     line.hex(u32::from(word), 4)
 }
 
-/// The words that name the refused line; none for want of memory.
+// The words that name the refused line; none for want of memory.
 fn put_assumption_fault(line: &mut LineWriter, fault: &AssumeText) -> Result<(), AllocError>
     ensures { OnOk result (AreWritten line.old line.new (assumption_words fault.now)) }
 {
@@ -171,7 +170,7 @@ pub fn assumptions_refused(alloc: Global, fault: &AssumeText) -> Result<Vec<u8>,
     ended(line)
 }
 
-/// The word of a limit that is passed.
+// The word of a limit that is passed.
 pub(crate) fn limit_word(limit: Limit) -> &'static [u8]
     ensures { result.now ≡ limit_word limit }
 {
@@ -181,7 +180,7 @@ pub(crate) fn limit_word(limit: Limit) -> &'static [u8]
     }
 }
 
-/// The words that name the refused line, or the limit that is passed; none for want of memory.
+// The words that name the refused line, or the limit that is passed; none for want of memory.
 fn put_certificate_fault(line: &mut LineWriter, fault: &CertFault) -> Result<(), AllocError>
     ensures { OnOk result (AreWritten line.old line.new (certificate_words fault.now)) }
 {
@@ -203,7 +202,7 @@ pub fn certificate_refused(alloc: Global, fault: &CertFault) -> Result<Vec<u8>, 
     ended(line)
 }
 
-/// A line of three words and a number.
+// A line of three words and a number.
 fn three_words_and_number(
     alloc: Global,
     first: &[u8],
@@ -245,6 +244,7 @@ pub fn devices_refused(alloc: Global, fault: &DevicesFault) -> Result<Vec<u8>, A
     }
 }
 
+// Whether a certificate has a schedule that attains its bound.
 fn witness_word(attained: bool) -> &'static [u8]
     ensures { result.now ≡ witness_word attained }
 {
@@ -261,7 +261,7 @@ pub fn accepted(alloc: Global, bound: u16, attained: bool) -> Result<Vec<u8>, Al
     ended(line)
 }
 
-/// An instance's number, a word and a number.
+// An instance's number, a word and a number.
 fn put_inst(
     line: &mut LineWriter,
     reason: &[u8],
@@ -275,30 +275,21 @@ fn put_inst(
     put_number(line, word, u64::from(number))
 }
 
-/// A node's number, and the number of what is wrong with its own step.
-fn put_node(line: &mut LineWriter, at: u32, cause: u8) -> Result<(), AllocError>
-    ensures { OnOk result (line.new ≡ with_words line.old (codes "2" ∷ codes "node" ∷ decimal at ∷ codes "cause" ∷ decimal cause ∷ [])) }
-{
-    put_two_and_number(line, b"2", b"node", u64::from(at))?;
-    put_number(line, b"cause", u64::from(cause))
-}
-
-/// A node's number, and the key to which an edge leads.
-fn put_edge(alloc: Global, line: &mut LineWriter, at: u32, key: &NodeKey) -> Result<(), AllocError>
-    ensures { OnOk result (line.new ≡ with_words line.old (codes "3" ∷ codes "node" ∷ decimal at ∷ codes "to" ∷ node_key_words key.now)) }
-{
-    put_two_and_number(line, b"3", b"node", u64::from(at))?;
-    line.word(b"to")?;
-    write_key(line, alloc, key)
-}
-
+// The words behind `rejected`, the first one the reason's number.
 fn put_reason(alloc: Global, line: &mut LineWriter, reason: &Reason) -> Result<(), AllocError>
     ensures { OnOk result (line.new ≡ with_words line.old (reason_words reason.now)) }
 {
     match *reason {
         Reason::Root => put_two(line, b"1", b"root"),
-        Reason::Node(at, cause) => put_node(line, at, cause),
-        Reason::Edge(at, key) => put_edge(alloc, line, at, &key),
+        Reason::Node(at, cause) => {
+            put_two_and_number(line, b"2", b"node", u64::from(at))?;
+            put_number(line, b"cause", u64::from(cause))
+        }
+        Reason::Edge(at, key) => {
+            put_two_and_number(line, b"3", b"node", u64::from(at))?;
+            line.word(b"to")?;
+            write_key(line, alloc, &key)
+        }
         Reason::Rank(at, entered) => put_inst(line, b"4", at, b"inst", entered),
         Reason::Need(at, least) => put_inst(line, b"5", at, b"least", least),
         Reason::Bound(least) => put_two_and_number(line, b"6", b"least", u64::from(least)),
@@ -324,7 +315,7 @@ pub fn witness_rejected(alloc: Global) -> Result<Vec<u8>, AllocError>
     three_words(alloc, b"rejected", b"8", b"witness")
 }
 
-/// A word, a word address, and an address or word.
+// A word, a word address, and an address or word.
 fn put_flag(line: &mut LineWriter, name: &[u8], pc: u16, other: u16) -> Result<(), AllocError>
     ensures { OnOk result (line.new ≡ with_words line.old (name.now ∷ hex_digits pc 4 ∷ hex_digits other 4 ∷ [])) }
 {
@@ -332,6 +323,7 @@ fn put_flag(line: &mut LineWriter, name: &[u8], pc: u16, other: u16) -> Result<(
     line.hex(u32::from(other), 4)
 }
 
+// How a run ended.
 fn put_stop(line: &mut LineWriter, stop: Stop) -> Result<(), AllocError>
     ensures { OnOk result (line.new ≡ with_words line.old (stop_words stop)) }
 {

@@ -1,11 +1,11 @@
 //! The text of an explanation.
 
-ghost use Rattle.std.specs.Prelude.{◌≡◌, ◌<◌, map, length, IfOk, OnOk, false};
+ghost use Rattle.std.specs.Prelude.{◌≡◌, map, IfOk, OnOk, false};
 ghost use Rattle.std.specs.List.{flat_map};
 ghost use Rattle.sb_base.specs.Lines.{line};
 ghost use Rattle.sb_base.specs.Writing.{with_words, with_end};
 ghost use Rattle.line_reading.specs.Appending.{with_text};
-ghost use Rattle.reports.specs.Explained.{word_text, explain_line, link_line, path_line, part_text, explanation_text};
+ghost use Rattle.reports.specs.Explained.{word_text, explain_line, link_line, part_text, explanation_text};
 
 use crate::text::write_name;
 use cert_writing::write_inst_key;
@@ -15,7 +15,7 @@ use line_reading::laws::appending_laws;
 use sb_base::LineWriter;
 use std::alloc::{AllocError, Global};
 
-/// Writes the line of a link.
+// Writes the line of a link.
 fn write_link(
     out: &mut LineWriter,
     alloc: Global,
@@ -44,16 +44,7 @@ pub fn write_words(out: &mut LineWriter, words: &[u16]) -> Result<(), AllocError
     Ok(())
 }
 
-/// Writes the line of the way to a link's place.
-fn write_path(out: &mut LineWriter, part: &Part) -> Result<(), AllocError>
-    ensures { OnOk result (out.new ≡ with_end (with_words out.old (path_line part.now))) }
-{
-    out.word(b"path")?;
-    write_words(out, part.walk.as_slice())?;
-    out.end_line()
-}
-
-/// Writes the two lines of a link.
+// Writes the two lines of a link.
 fn write_part(
     out: &mut LineWriter,
     alloc: Global,
@@ -65,26 +56,28 @@ fn write_part(
 {
     appending_laws();
     write_link(out, alloc, names, part)?;
-    write_path(out, part)
+    out.word(b"path")?;
+    write_words(out, part.walk.as_slice())?;
+    out.end_line()
 }
 
-/// Writes the lines of all links.
+// Writes the lines of all links.
 fn write_parts(
     out: &mut LineWriter,
     alloc: Global,
     names: &Names,
-    explanation: &Explanation,
+    parts: &[Part],
 ) -> Result<(), AllocError>
     requires { out.old.begun ≡ false }
-    ensures { OnOk result (out.new ≡ with_text out.old (flat_map (part_text names.now) explanation.now.parts)) }
+    ensures { OnOk result (out.new ≡ with_text out.old (flat_map (part_text names.now) parts.now)) }
 {
-    for at in 0..explanation.count() {
-        write_part(out, alloc, names, explanation.part(at))?;
+    for part in parts {
+        write_part(out, alloc, names, part)?;
     }
     Ok(())
 }
 
-/// Writes the first line.
+// Writes the first line.
 fn write_sum(out: &mut LineWriter, bound: u16, explanation: &Explanation) -> Result<(), AllocError>
     ensures { OnOk result (out.new ≡ with_end (with_words out.old (explain_line bound explanation.now))) }
 {
@@ -92,7 +85,7 @@ fn write_sum(out: &mut LineWriter, bound: u16, explanation: &Explanation) -> Res
     out.word(b"bound")?;
     out.dec(u64::from(bound))?;
     out.word(b"least")?;
-    out.dec(u64::from(explanation.least()))?;
+    out.dec(u64::from(explanation.least))?;
     out.end_line()
 }
 
@@ -109,6 +102,6 @@ pub fn explanation_text(
     appending_laws();
     let mut out = LineWriter::new(alloc);
     write_sum(&mut out, bound, explanation)?;
-    write_parts(&mut out, alloc, names, explanation)?;
+    write_parts(&mut out, alloc, names, explanation.parts.as_slice())?;
     Ok(out.finish())
 }

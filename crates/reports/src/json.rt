@@ -1,6 +1,6 @@
 //! The report as JSON.
 
-ghost use Rattle.std.specs.Prelude.{◌≡◌, ◌++◌, [], IfOk, OnOk, codes, decimal, false, string_bytes};
+ghost use Rattle.std.specs.Prelude.{◌≡◌, ◌++◌, [], IfOk, OnOk, false};
 ghost use Rattle.serde_json.specs.Data.{object, string};
 ghost use Rattle.serde_json.specs.View.{view, members_view};
 ghost use Rattle.serde_json.specs.Written.{compact_text, has_float};
@@ -16,14 +16,14 @@ use mask_states::Kind;
 use serde_json::{Map, Value};
 use std::alloc::{AllocError, Global};
 
-/// A text as a value.
+// A text as a value.
 fn text_value(alloc: Global, text: &str) -> Result<Value, AllocError>
     ensures { IfOk result (λ v. view v ≡ string text.now) }
 {
     Ok(Value::String(String::from_str(alloc, text)?))
 }
 
-/// Whether the stack fits beside static data.
+// Whether the stack fits beside static data.
 fn fits_value(
     alloc: Global,
     device: Device,
@@ -38,7 +38,7 @@ fn fits_value(
     }
 }
 
-/// The room that static data leaves.
+// The room that static data leaves.
 fn room_value(device: Device, static_end: Option<u16>) -> Value
     ensures { view result ≡ room_data device static_end }
 {
@@ -48,7 +48,7 @@ fn room_value(device: Device, static_end: Option<u16>) -> Value
     }
 }
 
-/// The end of static data.
+// The end of static data.
 fn static_value(static_end: Option<u16>) -> Value
     ensures { view result ≡ static_data static_end }
 {
@@ -58,7 +58,7 @@ fn static_value(static_end: Option<u16>) -> Value
     }
 }
 
-/// Whether there is a schedule that attains the bound.
+// Whether there is a schedule that attains the bound.
 fn witness_value(alloc: Global, certificate: &Certificate) -> Result<Value, AllocError>
     ensures { IfOk result (λ v. view v ≡ witness_data certificate.now.witness) }
 {
@@ -68,7 +68,7 @@ fn witness_value(alloc: Global, certificate: &Certificate) -> Result<Value, Allo
     }
 }
 
-/// The name of a word.
+// The name of a word.
 fn name_value(alloc: Global, names: &Names, word: u16) -> Result<Value, AllocError>
     ensures { IfOk result (λ v. view v ≡ name_data (least_name names.now word)) }
 {
@@ -78,28 +78,23 @@ fn name_value(alloc: Global, names: &Names, word: u16) -> Result<Value, AllocErr
     }
 }
 
-/// The text of an interrupt's kind.
-fn vector_text(alloc: Global, vector: u8) -> Result<String, AllocError>
-    ensures { IfOk result (λ s. string_bytes s ≡ codes "v" ++ decimal vector) }
-{
-    let mut text = String::from_str(alloc, "v")?;
-    let digits = vector.to_string(alloc)?;
-    text.push_str(digits.as_str())?;
-    Ok(text)
-}
-
-/// The kind of an instance.
+// The kind of an instance.
 fn kind_value(alloc: Global, kind: Kind) -> Result<Value, AllocError>
     ensures { IfOk result (λ v. view v ≡ string (kind_word kind)) }
 {
     match kind {
         Kind::Root => text_value(alloc, "root"),
         Kind::Call => text_value(alloc, "call"),
-        Kind::Vector(vector) => Ok(Value::String(vector_text(alloc, vector)?)),
+        Kind::Vector(vector) => {
+            let mut text = String::from_str(alloc, "v")?;
+            let digits = vector.to_string(alloc)?;
+            text.push_str(digits.as_str())?;
+            Ok(Value::String(text))
+        }
     }
 }
 
-/// Puts what is told of an instance into an object that has nothing yet.
+// Puts what is told of an instance into an object that has nothing yet.
 fn put_members(
     members: &mut Map<String, Value>,
     alloc: Global,
@@ -127,21 +122,7 @@ fn put_members(
     serde_json::put(members, alloc, "need", Value::from(inst.need))
 }
 
-/// An instance.
-fn inst_value(alloc: Global, names: &Names, inst: &Inst) -> Result<Value, AllocError>
-    ensures { IfOk result (λ v. view v ≡ inst_data names.now inst.now) }
-{
-    let mut members = Map::new(alloc);
-    match put_members(&mut members, alloc, names, inst) {
-        Ok(()) => Ok(Value::Object(members)),
-        Err(error) => {
-            drop(members);
-            Err(error)
-        }
-    }
-}
-
-/// Writes what stands before a value, and the value.
+// Writes what stands before a value, and the value.
 fn put_text(
     out: &mut Vec<u8>,
     alloc: Global,
@@ -157,7 +138,7 @@ fn put_text(
     Ok(())
 }
 
-/// The same of a value that is dropped before the next is made.
+// The same of a value that is dropped before the next is made.
 fn put(out: &mut Vec<u8>, alloc: Global, before: &[u8], value: Value) -> Result<(), AllocError>
     requires { has_float (view value) ≡ false }
     ensures { OnOk result (out.new.items ≡ out.old.items ++ (before.now ++ compact_text (view value))) }
@@ -165,7 +146,7 @@ fn put(out: &mut Vec<u8>, alloc: Global, before: &[u8], value: Value) -> Result<
     put_text(out, alloc, before, &value)
 }
 
-/// Writes an instance.
+// Writes an instance.
 fn put_inst(
     out: &mut Vec<u8>,
     alloc: Global,
@@ -175,11 +156,17 @@ fn put_inst(
 ) -> Result<(), AllocError>
     ensures { OnOk result (out.new.items ≡ out.old.items ++ (before.now ++ compact_text (inst_data names.now inst.now))) }
 {
-    let value = inst_value(alloc, names, inst)?;
-    put(out, alloc, before, value)
+    let mut members = Map::new(alloc);
+    match put_members(&mut members, alloc, names, inst) {
+        Ok(()) => put(out, alloc, before, Value::Object(members)),
+        Err(error) => {
+            drop(members);
+            Err(error)
+        }
+    }
 }
 
-/// Writes the instances, divided by commas.
+// Writes the instances, divided by commas.
 fn put_insts(
     out: &mut Vec<u8>,
     alloc: Global,
@@ -198,7 +185,7 @@ fn put_insts(
     Ok(())
 }
 
-/// What is reported: a certificate of firmware on a device, with the names of its words and the end of its static data.
+// What is reported: a certificate of firmware on a device, with the names of its words and the end of its static data.
 #[derive(Clone, Copy)]
 struct Reported<'a> {
     device: Device,
@@ -207,7 +194,7 @@ struct Reported<'a> {
     static_end: Option<u16>,
 }
 
-/// Writes the report, each part before the next is made.
+// Writes the report, each part before the next is made.
 fn put_report(out: &mut Vec<u8>, alloc: Global, told: &Reported<'_>) -> Result<(), AllocError>
     ensures { OnOk result (out.new.items ≡ out.old.items ++ json_text told.now.device told.now.certificate.now told.now.names.now told.now.static_end) }
 {

@@ -1,32 +1,25 @@
 //! Whether the stack fits into SRAM beside static data.
 
 ghost use Rattle.std.specs.Prelude.{◌≡◌};
-ghost use Rattle.reports.specs.Report.{sram_end, room, fits, fits_word};
+ghost use Rattle.reports.specs.Report.{room, fits, fits_word};
 
 use avr_model::device::Device;
 
-/// The data address behind a device's SRAM.
-fn sram_end(device: Device) -> u16
-    ensures { result ≡ sram_end device }
-{
-    device.ramend() + 1
-}
-
-/// How many bytes of SRAM are left behind static data that ends at this data address.
+// How many bytes of SRAM are left behind static data that ends at this data address.
 pub(crate) fn room(device: Device, static_end: u16) -> u16
     ensures { result ≡ room device static_end }
 {
-    sram_end(device).saturating_sub(static_end)
+    (device.ramend() + 1).saturating_sub(static_end)
 }
 
-/// Whether a stack of so many bytes doesn't meet the static data.
+// Whether a stack of so many bytes doesn't meet the static data.
 fn fits(device: Device, bound: u16, static_end: u16) -> bool
     ensures { result ≡ fits device bound static_end }
 {
-    u32::from(static_end) + u32::from(bound) <= u32::from(sram_end(device))
+    u32::from(static_end) + u32::from(bound) <= u32::from(device.ramend() + 1)
 }
 
-/// The word for it.
+// The word for it.
 pub(crate) fn fits_word(device: Device, bound: u16, static_end: u16) -> &'static str
     ensures { result.now ≡ fits_word device bound static_end }
 {

@@ -18,7 +18,7 @@ use line_reading::laws::appending_laws;
 use sb_base::LineWriter;
 use std::alloc::{AllocError, Global};
 
-/// Writes the line of the bound.
+// Writes the line of the bound.
 fn write_bound(out: &mut LineWriter, bound: u16) -> Result<(), AllocError>
     ensures { OnOk result (out.new ≡ with_end (with_words out.old (numbered (codes "bound") bound))) }
 {
@@ -27,7 +27,7 @@ fn write_bound(out: &mut LineWriter, bound: u16) -> Result<(), AllocError>
     out.end_line()
 }
 
-/// Writes whether there is a schedule that attains the bound.
+// Writes whether there is a schedule that attains the bound.
 fn write_witness(out: &mut LineWriter, certificate: &Certificate) -> Result<(), AllocError>
     ensures { OnOk result (out.new ≡ with_end (with_words out.old (witness_line certificate.now.witness))) }
 {
@@ -39,7 +39,7 @@ fn write_witness(out: &mut LineWriter, certificate: &Certificate) -> Result<(), 
     out.end_line()
 }
 
-/// Writes the line of static data.
+// Writes the line of static data.
 fn write_static(
     out: &mut LineWriter,
     device: Device,
@@ -72,7 +72,7 @@ pub fn write_name(out: &mut LineWriter, names: &Names, word: u16) -> Result<(), 
     }
 }
 
-/// Writes the line of an instance.
+// Writes the line of an instance.
 fn write_inst(
     out: &mut LineWriter,
     alloc: Global,
@@ -89,7 +89,7 @@ fn write_inst(
     out.end_line()
 }
 
-/// Writes the lines of instances.
+// Writes the lines of instances.
 fn write_insts(
     out: &mut LineWriter,
     alloc: Global,
@@ -106,7 +106,7 @@ fn write_insts(
     Ok(())
 }
 
-/// Writes the lines before those of instances.
+// Writes the lines before those of instances.
 fn write_heading(
     out: &mut LineWriter,
     device: Device,

@@ -12,18 +12,18 @@ returns c =
     let verdicts = c.verdicts_are_one.ensures in
     let bounds = c.sound_certificates_bound_every_run.ensures in
     let answers = c.answers_are_one.ensures in
-    let chains = c.waypoints_are_one.ensures in
+    let chains = c.trials_are_due.ensures.one in
     let rounds = c.rounds_are_least.ensures in
     let solutions = c.solutions_are_valid.ensures in
     let runs = c.replays_are_runs.ensures.runs in
-    let fit : AnalysesFit = analyses_fit c.texts_fit.ensures c.trials_are_short.ensures in
+    let fit : AnalysesFit = analyses_fit c.texts_fit.ensures c.trials_are_due.ensures.short in
     let devices : DevicesAreExact = record { read = c.reading_is_exact-2.ensures.read; spelled = c.reading_is_exact-2.ensures.spelled } in
     let simulations = c.simulations_are_runs.ensures.bounded in
-    let explanations = c.explanations_tell.ensures in
+    let explanations = c.explanations_tell.ensures.tells in
     let told_clear : ClearIsTold =
     record { one = c.clear_verdicts_are_one.ensures; never = c.clear_firmwares_are_never_flagged.ensures; ends = c.flagged_runs_end_at_sites.ensures; places = c.flagged_runs_end_at_places.ensures; empty = c.clear_where_no_sites.ensures } in
     record {
-      one = replies_are_one texts.read verdicts answers chains c.explanations_are_one.ensures c.clear_verdicts_are_one.ensures c.sites_are_one.ensures c.places_are_one.ensures c.nevers_are_one.ensures;
+      one = replies_are_one texts.read verdicts answers chains c.explanations_tell.ensures.one c.clear_verdicts_are_one.ensures c.sites_are_one.ensures c.places_are_one.ensures c.nevers_are_one.ensures;
       holds = replies_hold raw.one raw.some narrowing lists texts.read texts.spelled verdicts bounds answers chains rounds solutions runs fit devices simulations explanations told_clear c.trials_are_led.ensures c.texts_fit.ensures;
       exact = replies_are_exact raw.one raw.some narrowing lists texts.read texts.spelled verdicts bounds answers chains rounds solutions runs fit devices simulations explanations told_clear c.trials_are_led.ensures c.texts_fit.ensures;
     }

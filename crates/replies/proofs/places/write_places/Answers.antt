@@ -10,9 +10,9 @@ loop-site-init c = (nothing_behind c.args.out.now c.requires, up_first c.args.pr
 
 pub loop-site-preserved : goal.loop-site-preserved
 loop-site-preserved c =
-    let line = c.in_ok-write_place.ensures ∙ ap (λ pc. with_end (with_words c.loop-site.out (place_line c.args.program.now.flash.now c.args.program.now.names.now pc))) c.reach-place.ensures.pc in
+    let line = c.in_ok-end_line.ensures.written ∙ ap with_end c.in_ok-put_named.ensures ∙ ap (λ pc. with_end (with_words c.loop-site.out (place_line c.args.program.now.flash.now c.args.program.now.names.now pc))) c.reach-place.ensures.pc in
     let named = c.reach-place.ensures.named ∙ ap (name_up_to c.args.program.now.names.now) (sym c.reach-place.ensures.pc) in (
-      numbers_next (place_line c.args.program.now.flash.now c.args.program.now.names.now) c.appending_laws.ensures c.args.out.now c.loop-site.out c.write_place.new.out c.args.sites.now c.loop-site.site-index c.loop-site-test.true c.requires
+      numbers_next (place_line c.args.program.now.flash.now c.args.program.now.names.now) c.appending_laws.ensures c.args.out.now c.loop-site.out c.end_line.new.self c.args.sites.now c.loop-site.site-index c.loop-site-test.true c.requires
           c.loop-site.invariant.0 line,
       named,
     )

@@ -4,4 +4,5 @@ use Rattle.reports.specs.Report.{sram_end}
 use Rattle.reports.proofs.room.fits.Goals as goal
 
 pub returns : goal.returns
-returns c = ap (nat_le (c.from.result + c.from-2.result)) (c.from-3.ensures ∙ c.sram_end.ensures) ∙ ap₂ (λ a b. nat_le (a + b) (sram_end c.args.device)) c.from.ensures c.from-2.ensures
+returns c =
+    ap (nat_le (c.from.result + c.from-2.result)) (c.from-3.ensures ∙ ap (λ n. n + 1) c.ramend.ensures) ∙ ap₂ (λ a b. nat_le (a + b) (sram_end c.args.device)) c.from.ensures c.from-2.ensures

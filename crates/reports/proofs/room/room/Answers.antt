@@ -1,5 +1,5 @@
-use Rattle.std.proofs.Common.{◌-◌, ap, ◌∙◌}
+use Rattle.std.proofs.Common.{◌+◌, ◌-◌, ap, ◌∙◌}
 use Rattle.reports.proofs.room.room.Goals as goal
 
 pub returns : goal.returns
-returns c = c.saturating_sub.ensures ∙ ap (λ n. n - c.args.static_end) c.sram_end.ensures
+returns c = c.saturating_sub.ensures ∙ ap (λ n. (n + 1) - c.args.static_end) c.ramend.ensures
