@@ -29,7 +29,7 @@ use Rattle.edge_rules.specs.Frames.{Frame, Runs}
 use Rattle.clear_laws.specs.Aims.{may_write, aim_of}
 use Rattle.clear_laws.specs.Clear.{IsClear, MayBeFlagged, word_of_flag, IsHarmless, each_address, is_clear_by, is_flagged_address, is_address_harmless, is_transfer_listed, is_aim_harmless}
 use Rattle.clear_laws.specs.Causes.{may_write_protected, may_write_some_protected, may_write_stack, is_untold, may_write_live, IsCause, HasCause, MayFlag}
-use Rattle.clear_laws.specs.Laws.{PlacesHaveCauses}
+use Rattle.clear_laws.specs.StepLaws.{PlacesHaveCauses}
 use Rattle.clear_laws.proofs.Below.{any_found, found_below}
 use Rattle.clear_laws.proofs.Kept.{Holding}
 use Rattle.clear_laws.proofs.Told.{clear_nodes_are_told}

@@ -28,7 +28,7 @@ use Rattle.local_laws.proofs.AllLaws.{joins_are_least, each_of}
 use Rattle.edge_rules.specs.declared.edge.Edge.{Edge}
 use Rattle.edge_rules.specs.Edges.{raw_of, IsFaultless, IsEdge, moving, entering, returning, Enters, by_call, by_interrupt}
 use Rattle.clear_laws.specs.Held.{MayHold, kept, pushed, IsClosed, is_push, pushes_register, is_guarded_push}
-use Rattle.clear_laws.specs.Laws.{HeldSlotsAreLeast}
+use Rattle.clear_laws.specs.StepLaws.{HeldSlotsAreLeast}
 use Rattle.clear_laws.proofs.Rows.{row_by_unless_added}
 
 module _ (words : List ℕ) (A : List Entry) (nodes : List Node) where

@@ -13,4 +13,9 @@ pub mod Below
 pub mod Caused
 pub mod Runs
 pub mod Least
+pub mod Places
+pub mod Held
+pub mod Asked
+pub mod Ends
+pub mod One
 pub mod AllLaws

@@ -14,7 +14,7 @@ use Rattle.edge_rules.specs.Frames.{Frame, Runs, IsFine}
 use Rattle.frame_laws.proofs.AllLaws.{frames_start, frames_step}
 use Rattle.clear_laws.specs.Clear.{EndsByTake}
 use Rattle.clear_laws.specs.Causes.{MayFlag}
-use Rattle.clear_laws.specs.Laws.{FlaggedRunsAreTold}
+use Rattle.clear_laws.specs.StepLaws.{FlaggedRunsAreTold}
 use Rattle.clear_laws.proofs.Kept.{Holding, step_holds}
 use Rattle.clear_laws.proofs.Caused.{caused_here, may_be_flagged}
 

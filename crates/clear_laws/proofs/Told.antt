@@ -22,7 +22,7 @@ use Rattle.clear_laws.specs.Held.{MayHold}
 use Rattle.clear_laws.specs.Aims.{Span, Reach, Aim, may_write, aim_of}
 use Rattle.clear_laws.specs.Aims.reach as reach
 use Rattle.clear_laws.specs.Clear.{IsHarmless, no_address, under_stack, above_memory, one_register, each_address, free_slot, IsClear, is_flagged_address, is_address_harmless, are_addresses_harmless, permits_pair, AreTargetsListed, is_span_harmless, is_reach_harmless, is_slot_harmless, is_aim_harmless, is_target_listed, are_targets_listed, is_transfer_listed, is_clear_by}
-use Rattle.clear_laws.specs.Laws.{ClearNodesAreTold}
+use Rattle.clear_laws.specs.StepLaws.{ClearNodesAreTold}
 
 all_three : (a b c : Bool) → a ≡ true → b ≡ true → c ≡ false → (a && b && not c) ≡ true
 all_three a b c h g k = grind arith

@@ -2,4 +2,12 @@ pub mod Held
 pub mod Aims
 pub mod Clear
 pub mod Causes
-pub mod Laws
+pub mod StepLaws
+pub mod Reach
+pub mod Needs
+pub mod Links
+pub mod Meets
+pub mod Verdict
+pub mod Places
+pub mod CertificateLaws
+pub mod ListLaws

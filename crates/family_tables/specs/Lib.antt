@@ -1,1 +1,3 @@
 pub mod Examples
+pub mod Stores
+pub mod Clearness

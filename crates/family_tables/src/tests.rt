@@ -1,5 +1,6 @@
 //! The tables, by what they are about, and the nodes that two of them plan: the first table and row that is wrong is told.
 
+mod clearness;
 mod edges;
 mod forms;
 mod nesting;
@@ -65,6 +66,7 @@ fn tell_nesting(told: &mut Told, alloc: Global) {
 
 /// Families, verdicts and trials.
 fn tell_families(told: &mut Told, alloc: Global) {
+    clearness::clearness_is_met();
     tell(told, alloc, &edges::ROWS);
     tell(told, alloc, &forms::ROWS);
     tell(told, alloc, &verdicts::ROWS);

@@ -32,13 +32,13 @@ use Rattle.device_hooks.specs.Simulating.{simulation_of}
 use Rattle.device_hooks.specs.Laws.{SimulationsAreBounded}
 use Rattle.chain_explain.specs.Laws.{ExplanationsTell}
 use Rattle.clear_laws.specs.Clear.{word_of_flag}
-use Rattle.store_laws.specs.declared.verdict.ClearVerdict.{ClearVerdict}
-use Rattle.store_laws.specs.declared.verdict.ClearVerdict.TheVariants as clear
-use Rattle.store_laws.specs.Verdict.{AreAllClear, IsClearVerdict, AreSites}
-use Rattle.store_laws.specs.declared.place.FlaggedPlace.{FlaggedPlace}
-use Rattle.store_laws.specs.Places.{word_of, AreToldOf}
-use Rattle.store_laws.specs.Laws.{ClearVerdictsAreOne, ClearFirmwaresAreNeverFlagged, FlaggedRunsEndAtSites, FlaggedRunsEndAtPlaces, EndsByTakeAt}
-use Rattle.store_clear.specs.Laws.{ClearWhereNoSites}
+use Rattle.clear_laws.specs.declared.verdict.ClearVerdict.{ClearVerdict}
+use Rattle.clear_laws.specs.declared.verdict.ClearVerdict.TheVariants as clear
+use Rattle.clear_laws.specs.Verdict.{AreAllClear, IsClearVerdict, AreSites}
+use Rattle.clear_laws.specs.declared.place.FlaggedPlace.{FlaggedPlace}
+use Rattle.clear_laws.specs.Places.{word_of, AreToldOf}
+use Rattle.clear_laws.specs.CertificateLaws.{ClearVerdictsAreOne, ClearFirmwaresAreNeverFlagged, FlaggedRunsEndAtSites, FlaggedRunsEndAtPlaces, EndsByTakeAt}
+use Rattle.clear_laws.specs.ListLaws.{ClearWhereNoSites}
 use Rattle.cert_writing.specs.Sizes.{TextsFit}
 use Rattle.guided_trials.specs.Laws.{TrialsAreLed}
 use Rattle.commands.specs.Commands.{Command, Check, Analyse, Run, Report, Explain, Clear, Premises, Attain, Simulate, Demo, device_for}

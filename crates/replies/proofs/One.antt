@@ -19,10 +19,10 @@ use Rattle.cert_check.specs.declared.verdict.Verdict.TheVariants.{Accepted, Reje
 use Rattle.flash_image.specs.Naming.{Named}
 use Rattle.chain_explain.specs.Laws.{ExplanationsAreOne}
 use Rattle.reports.specs.Explained.{explanation_text}
-use Rattle.store_laws.specs.declared.verdict.ClearVerdict.{ClearVerdict}
-use Rattle.store_laws.specs.declared.verdict.ClearVerdict.TheVariants as clear
-use Rattle.store_laws.specs.Laws.{ClearVerdictsAreOne}
-use Rattle.store_clear.specs.Laws.{SitesAreOne, PlacesAreOne, NeversAreOne}
+use Rattle.clear_laws.specs.declared.verdict.ClearVerdict.{ClearVerdict}
+use Rattle.clear_laws.specs.declared.verdict.ClearVerdict.TheVariants as clear
+use Rattle.clear_laws.specs.CertificateLaws.{ClearVerdictsAreOne}
+use Rattle.clear_laws.specs.ListLaws.{SitesAreOne, PlacesAreOne, NeversAreOne}
 use Rattle.device_hooks.specs.declared.devices.DevicesFault.{DevicesFault}
 use Rattle.device_hooks.specs.Spelling.{Setup}
 use Rattle.device_hooks.specs.Reading.{setup_in}

@@ -9,7 +9,7 @@ use Rattle.line_reading.specs.Appending.{with_text}
 use Rattle.flash_image.specs.Naming.{Named, least_name, SayTheSame}
 use Rattle.reports.specs.Report.{name_word}
 use Rattle.reports.specs.Explained.{word_text}
-use Rattle.store_laws.specs.declared.place.FlaggedPlace.{FlaggedPlace}
+use Rattle.clear_laws.specs.declared.place.FlaggedPlace.{FlaggedPlace}
 use Rattle.replies.specs.Places.{name_or, name_up_to, place_words, place_line, place_text, never_text, count_line, word_where, first_addresses, protected_words, cause_words, why_line}
 use Rattle.replies.specs.Headline.{PlacesSayTheSame, CausesSayTheSame}
 

@@ -23,12 +23,12 @@ use Rattle.chain_explain.specs.Told.{Tells}
 use Rattle.reports.specs.Explained.{explanation_text}
 use Rattle.guided_trials.specs.Attaining.{IsCompleted, AttainedWhere}
 use Rattle.clear_laws.specs.Clear.{NeverFlagged}
-use Rattle.store_laws.specs.declared.place.FlaggedPlace.{FlaggedPlace}
-use Rattle.store_laws.specs.Places.{ArePlaces, AllTellCauses}
-use Rattle.store_laws.specs.Laws.{IsBoundedAndClear, EndFlaggedAt, EndFlaggedAsTold}
-use Rattle.store_laws.specs.declared.verdict.ClearVerdict.{ClearVerdict}
-use Rattle.store_laws.specs.declared.verdict.ClearVerdict.TheVariants.{Clear as AllClear}
-use Rattle.store_laws.specs.Verdict.{AreAllClear, IsFirstUnclear, IsClearVerdict, AreSites, AreNevers}
+use Rattle.clear_laws.specs.declared.place.FlaggedPlace.{FlaggedPlace}
+use Rattle.clear_laws.specs.Places.{ArePlaces, AllTellCauses}
+use Rattle.clear_laws.specs.CertificateLaws.{IsBoundedAndClear, EndFlaggedAt, EndFlaggedAsTold}
+use Rattle.clear_laws.specs.declared.verdict.ClearVerdict.{ClearVerdict}
+use Rattle.clear_laws.specs.declared.verdict.ClearVerdict.TheVariants.{Clear as AllClear}
+use Rattle.clear_laws.specs.Verdict.{AreAllClear, IsFirstUnclear, IsClearVerdict, AreSites, AreNevers}
 use Rattle.demo_image.specs.Image.{demo_words}
 use Rattle.device_hooks.specs.Spelling.{Setup}
 use Rattle.device_hooks.specs.Exact.{IsReading as IsDevices}

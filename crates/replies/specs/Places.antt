@@ -6,7 +6,7 @@ use Rattle.sb_base.specs.Lines.{line}
 use Rattle.flash_image.specs.Naming.{Named, least_name}
 use Rattle.reports.specs.Report.{name_word}
 use Rattle.reports.specs.Explained.{word_text}
-use Rattle.store_laws.specs.declared.place.FlaggedPlace.{FlaggedPlace}
+use Rattle.clear_laws.specs.declared.place.FlaggedPlace.{FlaggedPlace}
 use Rattle.replies.specs.Texts.{told, instruction_told}
 
 -- no node may flag a step

@@ -23,11 +23,11 @@ use Rattle.reports.specs.Json.{json_text}
 use Rattle.chain_explain.specs.declared.explanation.Explanation.{Explanation}
 use Rattle.chain_explain.specs.Explanation.{IsExplanation}
 use Rattle.reports.specs.Explained.{explanation_text}
-use Rattle.store_laws.specs.declared.verdict.ClearVerdict.{ClearVerdict}
-use Rattle.store_laws.specs.declared.verdict.ClearVerdict.TheVariants as clear
-use Rattle.store_laws.specs.Verdict.{IsClearVerdict, AreSites, AreNevers}
-use Rattle.store_laws.specs.declared.place.FlaggedPlace.{FlaggedPlace}
-use Rattle.store_laws.specs.Places.{ArePlaces}
+use Rattle.clear_laws.specs.declared.verdict.ClearVerdict.{ClearVerdict}
+use Rattle.clear_laws.specs.declared.verdict.ClearVerdict.TheVariants as clear
+use Rattle.clear_laws.specs.Verdict.{IsClearVerdict, AreSites, AreNevers}
+use Rattle.clear_laws.specs.declared.place.FlaggedPlace.{FlaggedPlace}
+use Rattle.clear_laws.specs.Places.{ArePlaces}
 use Rattle.demo_image.specs.Image.{demo_words}
 use Rattle.device_hooks.specs.declared.devices.DevicesFault.{DevicesFault}
 use Rattle.device_hooks.specs.Spelling.{Setup}

@@ -6,17 +6,17 @@ use cert_check::laws::{sound_certificates_bound_every_run, verdicts_are_one};
 use cert_format::laws::certificate_texts;
 use cert_writing::laws::texts_fit;
 use chain_explain::laws::explanations_tell;
+use clear_laws::laws::{
+    clear_firmwares_are_never_flagged, clear_verdicts_are_one, clear_where_no_sites,
+    flagged_runs_end_at_places, flagged_runs_end_at_sites, nevers_are_one, places_are_one,
+    sites_are_one,
+};
 use device_hooks::laws::{reading_is_exact as devices_are_exact, simulations_are_runs};
 use flash_image::laws::{narrowing_is_exact, raw_images_are_their_words};
 use guided_trials::laws::trials_are_led;
 use indirect_targets::laws::reading_is_exact;
 use round_laws::laws::{rounds_are_least, solutions_are_valid};
 use solution_laws::answers::answers_are_one;
-use store_clear::laws::{clear_where_no_sites, nevers_are_one, places_are_one, sites_are_one};
-use store_laws::laws::{
-    clear_firmwares_are_never_flagged, clear_verdicts_are_one, flagged_runs_end_at_places,
-    flagged_runs_end_at_sites,
-};
 use witness_replay::laws::replays_are_runs;
 use witness_search::laws::trials_are_due;
 

@@ -10,12 +10,12 @@ ghost use Rattle.replies.specs.Places.{clear_text, place_words, unclear_text, na
 
 use crate::causes::put_instruction;
 use crate::texts::{ended, put_address, put_number, put_two_and_number};
+use clear_laws::FlaggedPlace;
 use flash_image::{Flash, Names};
 use line_reading::laws::appending_laws;
 use reports::{write_name, write_words};
 use sb_base::LineWriter;
 use std::alloc::{AllocError, Global};
-use store_laws::FlaggedPlace;
 
 /// A firmware, and the names of its words.
 #[derive(Clone, Copy)]

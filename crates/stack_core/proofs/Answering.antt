@@ -18,8 +18,8 @@ use Rattle.round_rules.specs.declared.refusal.Refusal.TheVariants as refusal
 use Rattle.demo_image.specs.Image.{demo_words}
 use Rattle.cert_check.specs.declared.verdict.Verdict.{Verdict}
 use Rattle.cert_check.specs.declared.verdict.Verdict.TheVariants.{Accepted, Rejected}
-use Rattle.store_laws.specs.declared.verdict.ClearVerdict.{ClearVerdict}
-use Rattle.store_laws.specs.declared.verdict.ClearVerdict.TheVariants as clear
+use Rattle.clear_laws.specs.declared.verdict.ClearVerdict.{ClearVerdict}
+use Rattle.clear_laws.specs.declared.verdict.ClearVerdict.TheVariants as clear
 use Rattle.device_hooks.specs.declared.devices.DevicesFault.{DevicesFault}
 use Rattle.device_hooks.specs.Spelling.{Setup}
 use Rattle.device_hooks.specs.Reading.{setup_in}

@@ -1,0 +1,137 @@
+-- There is one list of words at which a step may be flagged.
+use Rattle.std.proofs.Common.{◌≡◌, refl, sym, ap, ap₂, ◌∙◌, subst, ℕ, ◌<◌, ⊎_elim, Bool, true, false, List, [], ◌∷◌, map, Contains, arith}
+use Rattle.std.specs.Prelude.{◌↔◌}
+use Rattle.std.specs.List.{AllByRecursion}
+use Rattle.std.specs.List.Sorted.{IsStrictlySortedBy}
+use Rattle.std.specs.Ordering.{nat_cmp}
+use Rattle.std.specs.declared.cmp.Ordering.TheVariants.{Less}
+use Rattle.std.proofs.lemmas.Bool.Decides.{nat_tests}
+use Rattle.basics.specs.Items.{none_in, first_in, further_in, first_or_further, contained_at}
+use Rattle.avr_model.specs.declared.assumption.Entry.{Entry}
+use Rattle.basics.specs.Lists.{same_head_and_tail}
+use Rattle.local_rules.specs.declared.local.Node.{Node}
+use Rattle.edge_rules.specs.Families.{Family}
+use Rattle.edge_laws.proofs.ExpansionLaws.{filled_or_missing}
+use Rattle.certificate.specs.Claims.{Claim}
+use Rattle.certificate.specs.Valid.{family_of}
+use Rattle.clear_laws.specs.Clear.{IsClear, MayBeFlagged, MayBeTaken}
+use Rattle.clear_laws.specs.Causes.{MayWriteLive, MayGoUnlisted}
+use Rattle.clear_laws.specs.declared.verdict.ClearVerdict.TheVariants.{Clear, Unclear}
+use Rattle.clear_laws.specs.declared.place.FlaggedPlace.{FlaggedPlace}
+use Rattle.clear_laws.specs.Verdict.{AreAllClear, IsFirstUnclear, AreSites, AreNevers}
+use Rattle.clear_laws.specs.Places.{word_of, IsPlaceOf}
+use Rattle.clear_laws.specs.ListLaws.{SitesAreOne, PlacesAreOne, NeversAreOne, ClearWhereNoSites}
+
+-- ---- ascending lists with the same members are the same
+
+of_all : (P : ℕ → Type 0) (xs : List ℕ) (x : ℕ) → AllByRecursion P xs → Contains xs x → P x
+of_all P [] x all h = absurd (none_in x h)
+of_all P (y ∷ ys) x all h = ⊎_elim (λ e. subst P (sym e) all.0) (λ i. of_all P ys x all.1 i) (first_or_further y x ys h)
+
+from_less : (x y : ℕ) → nat_cmp x y ≡ Less → x < y
+from_less x y e = grind (arith, nat_tests)
+
+heads : (x y : ℕ) (xs ys : List ℕ) → AllByRecursion (λ z. nat_cmp x z ≡ Less) xs → AllByRecursion (λ z. nat_cmp y z ≡ Less) ys → Contains (y ∷ ys) x
+    → Contains (x ∷ xs) y → x ≡ y
+heads x y xs ys above_x above_y in_y in_x =
+    ⊎_elim (λ e. e)
+    (λ more. ⊎_elim (λ e. sym e)
+    (λ other.
+    let a = from_less y x (of_all (λ z. nat_cmp y z ≡ Less) ys x above_y more) in
+    let b = from_less x y (of_all (λ z. nat_cmp x z ≡ Less) xs y above_x other) in
+    absurd (omega (arith, a, b)))
+    (first_or_further x y xs in_x))
+    (first_or_further y x ys in_y)
+
+tails : (x y : ℕ) (xs ys : List ℕ) → x ≡ y → AllByRecursion (λ z. nat_cmp x z ≡ Less) xs → (k : ℕ) → Contains xs k → Contains (y ∷ ys) k → Contains ys k
+tails x y xs ys same above k has there_k =
+    ⊎_elim (λ e. absurd (let lt = from_less x k (of_all (λ z. nat_cmp x z ≡ Less) xs k above has) in omega (arith, lt, e, same))) (λ more. more) (first_or_further y k ys there_k)
+
+same_lists : (xs ys : List ℕ) → IsStrictlySortedBy nat_cmp xs → IsStrictlySortedBy nat_cmp ys → ((k : ℕ) → Contains xs k → Contains ys k)
+    → ((k : ℕ) → Contains ys k → Contains xs k) → xs ≡ ys
+unfolding IsStrictlySortedBy
+same_lists [] [] hx hy to from = refl
+same_lists [] (y ∷ ys) hx hy to from = absurd (none_in y (from y (first_in y ys)))
+same_lists (x ∷ xs) [] hx hy to from = absurd (none_in x (to x (first_in x xs)))
+same_lists (x ∷ xs) (y ∷ ys) hx hy to from =
+    let e : x ≡ y = heads x y xs ys hx.0 hy.0 (to x (first_in x xs)) (from y (first_in y ys)) in
+    let rest : xs ≡ ys =
+    same_lists xs ys hx.1 hy.1 (λ k h. tails x y xs ys e hx.0 k h (to k (further_in x k xs h))) (λ k h. tails y x ys xs (sym e) hy.0 k h (from k (further_in y k ys h))) in
+    cc
+
+-- ---- the laws
+
+one_way : (words : List ℕ) (A : List Entry) (c : Claim) (xs ys : List ℕ) → AreSites words A c xs → AreSites words A c ys → (pc : ℕ) → Contains xs pc → Contains ys pc
+one_way words A c xs ys a b pc h =
+    let same = filled_or_missing.one words A c.nodes a.nodes b.nodes a.expanded b.expanded in
+    (b.exact pc).1 (subst (λ (nodes : List Node). MayBeFlagged words A (family_of c nodes) pc) same ((a.exact pc).0 h))
+
+pub sites_are_one : SitesAreOne
+sites_are_one words A c xs ys a b = same_lists xs ys a.ascending b.ascending (one_way words A c xs ys a b) (one_way words A c ys xs b a)
+
+-- ---- what may happen at a word
+
+same_test : (P : Type 0) (a b : Bool) → (a ≡ true) ↔ P → (b ≡ true) ↔ P → a ≡ b
+same_test P true true h g = refl
+same_test P false false h g = refl
+same_test P true false h g = sym (g.1 (h.0 refl))
+same_test P false true h g = h.1 (g.0 refl)
+
+abbrev place_of : ℕ → List ℕ → Bool → Bool → FlaggedPlace
+place_of word protected live transfer = record { word = word; protected = protected; live = live; transfer = transfer }
+
+module _ (words : List ℕ) (A : List Entry) (f : Family) where
+  one_place : (x y : FlaggedPlace) → x.word ≡ y.word → IsPlaceOf words A f x → IsPlaceOf words A f y → x ≡ y
+  one_place x y e h k =
+      let here : IsPlaceOf words A f (place_of x.word y.protected y.live y.transfer) = subst (λ w. IsPlaceOf words A f (place_of w y.protected y.live y.transfer)) (sym e) k in
+      let protected : x.protected ≡ y.protected =
+      same_lists x.protected y.protected h.ascending here.ascending (λ a m. (here.protected a).1 ((h.protected a).0 m)) (λ a m. (h.protected a).1 ((here.protected a).0 m)) in
+      let live : x.live ≡ y.live = same_test (MayWriteLive words A f x.word) x.live y.live h.live here.live in
+      let transfer : x.transfer ≡ y.transfer = same_test (MayGoUnlisted words A f x.word) x.transfer y.transfer h.transfer here.transfer in
+      ap (λ w. place_of w x.protected x.live x.transfer) e ∙ ap (λ l. place_of y.word l x.live x.transfer) protected
+      ∙ ap (λ t. place_of y.word y.protected t x.transfer) live ∙ ap (λ t. place_of y.word y.protected y.live t) transfer
+
+  same_places : (xs ys : List FlaggedPlace) → map word_of xs ≡ map word_of ys → ((p : FlaggedPlace) → Contains xs p → IsPlaceOf words A f p)
+      → ((p : FlaggedPlace) → Contains ys p → IsPlaceOf words A f p) → xs ≡ ys
+  same_places [] [] e h k = refl
+  same_places [] (y ∷ ys) e h k = absurd (cc)
+  same_places (x ∷ xs) [] e h k = absurd (cc)
+  same_places (x ∷ xs) (y ∷ ys) e h k =
+      let both = same_head_and_tail x.word y.word (map word_of xs) (map word_of ys) e in
+      ap₂ (λ (p : FlaggedPlace) (ps : List FlaggedPlace). p ∷ ps) (one_place x y both.0 (h x (first_in x xs)) (k y (first_in y ys)))
+      (same_places xs ys both.1 (λ p m. h p (further_in x p xs m)) (λ p m. k p (further_in y p ys m)))
+
+pub places_are_one : PlacesAreOne
+places_are_one words A c xs ys a b =
+    let same = filled_or_missing.one words A c.nodes a.nodes b.nodes a.expanded b.expanded in
+    same_places words A (family_of c b.nodes) xs ys (sites_are_one words A c (map word_of xs) (map word_of ys) a.sites b.sites)
+    (subst (λ (nodes : List Node). (p : FlaggedPlace) → Contains xs p → IsPlaceOf words A (family_of c nodes) p) same a.each) b.each
+
+one_take : (words : List ℕ) (A : List Entry) (c : Claim) (xs ys : List ℕ) → AreNevers words A c xs → AreNevers words A c ys → (w : ℕ) → Contains xs w → Contains ys w
+one_take words A c xs ys a b w h =
+    let same = filled_or_missing.one words A c.nodes a.nodes b.nodes a.expanded b.expanded in
+    (b.exact w).1 (subst (λ (nodes : List Node). MayBeTaken words A nodes w) same ((a.exact w).0 h))
+
+pub nevers_are_one : NeversAreOne
+nevers_are_one words A c xs ys a b = same_lists xs ys a.ascending b.ascending (one_take words A c xs ys a b) (one_take words A c ys xs b a)
+
+listed : (words : List ℕ) (c : Claim) (j pc : ℕ) (sites : List ℕ) → IsFirstUnclear words [] c j pc → AreSites words [] c sites → Contains sites pc
+listed words c j pc sites first are =
+    let same = filled_or_missing.one words [] c.nodes first.nodes are.nodes first.expanded are.expanded in
+    let m : MayBeFlagged words [] (family_of c first.nodes) pc =
+    record { node = first.node; present = contained_at first.nodes j first.node first.is; is = first.word; unclear = first.unclear } in
+    (are.exact pc).1 (subst (λ (nodes : List Node). MayBeFlagged words [] (family_of c nodes) pc) same m)
+
+pub none_where_clear : (words : List ℕ) (A : List Entry) (c : Claim) (sites : List ℕ) → AreSites words A c sites → AreAllClear words A c → sites ≡ []
+none_where_clear words A c [] are all = refl
+none_where_clear words A c (pc ∷ sites) are all =
+    let same = filled_or_missing.one words A c.nodes all.nodes are.nodes all.expanded are.expanded in
+    let m = (are.exact pc).0 (first_in pc sites) in
+    absurd (m.unclear (subst (λ (nodes : List Node). (n : Node) → Contains nodes n → IsClear words A (family_of c nodes) n) same all.clear m.node m.present))
+
+pub clear_where_no_sites : ClearWhereNoSites
+clear_where_no_sites words c Clear sites all are = (λ e. none_where_clear words [] c sites are all, λ e. refl)
+clear_where_no_sites words c (Unclear j pc) sites first are = (
+  λ e. absurd cc,
+  λ e. absurd (none_in pc (subst (λ (xs : List ℕ). Contains xs pc) e (listed words c j pc sites first are))),
+)

@@ -1,0 +1,12 @@
+pub mod Marks
+pub mod Scans
+pub mod Harmless
+pub mod Lists
+pub mod Spread
+pub mod Askings
+pub mod Settled
+pub mod Told
+pub mod Marked
+pub mod Taken
+pub mod Causing
+pub mod Sites

@@ -1,0 +1,5 @@
+pub mod Spreading
+pub mod Numbers
+pub mod Settling
+pub mod Takes
+pub mod Causing

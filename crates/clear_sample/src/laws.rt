@@ -1,9 +1,0 @@
-//! That the definitions of clear nodes are met, as the contract of a function that does nothing.
-
-ghost use Rattle.clear_sample.specs.Laws.{ClearnessIsMet};
-
-/// A firmware that stores onto a free byte of its own stack has a sound family of clear nodes. Where the byte was pushed, the store isn't
-/// clear.
-pub fn clearness_is_met()
-    ensures { ClearnessIsMet }
-{}

@@ -1,5 +1,0 @@
-use Rattle.store_clear.specs.Takes.{IsMarked, IsTakenBelow}
-use Rattle.store_clear.proofs.takes.mark_vectors.Given as goal
-
-abbrev pub invariant-loop-n : goal.invariant-loop-n
-invariant-loop-n l = IsMarked (IsTakenBelow l.task.flash.now l.task.assumptions.now l.key l.n) l.fn.marks l.marks

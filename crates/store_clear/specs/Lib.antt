@@ -1,4 +1,0 @@
-pub mod Settling
-pub mod Takes
-pub mod Causing
-pub mod Laws
