@@ -5,73 +5,37 @@ ghost use Rattle.clear_laws.specs.CertificateLaws.{ClearVerdictsAreOne, ClearFir
 ghost use Rattle.clear_laws.specs.ListLaws.{SitesAreOne, PlacesAreOne, NeversAreOne, ClearWhereNoSites};
 
 /// A run that ends flagged ends at a word of a node that may be flagged, at which just that may happen, or where it takes a vector that is
-/// never entered.
+/// never entered. Where a node may be flagged, and only there, something may happen.
 pub fn flagged_runs_are_told()
-    ensures { FlaggedRunsAreTold }
+    ensures runs { FlaggedRunsAreTold }
+    ensures causes { PlacesHaveCauses }
 {}
 
-/// The slots that may hold a live byte are the least that the rules give.
-pub fn held_slots_are_least()
-    ensures { HeldSlotsAreLeast }
-{}
-
-/// Whether a node is clear can be told.
+/// Whether a node is clear can be told by a test of slots. Those that may hold a live byte are the least that the rules give, and a slot
+/// spreads along links to just the nodes at which it may hold one; a node is clear exactly where it gets what it asks.
 pub fn clear_nodes_are_told()
-    ensures { ClearNodesAreTold }
+    ensures tests { ClearNodesAreTold }
+    ensures slots { HeldSlotsAreLeast }
+    ensures links { SlotsSpreadAlongLinks }
+    ensures askings { AskingsTellClearNodes }
 {}
 
-/// Where a node may be flagged, and only there, something may happen.
-pub fn places_have_causes()
-    ensures { PlacesHaveCauses }
+/// A certificate has at most one verdict on its nodes, one list of words at which a step may be flagged, one of them with what may happen
+/// there, and one of words of vectors that are assumed never to be taken and that some node may take. Without assumptions it is clear exactly
+/// where the first list is empty.
+pub fn clear_answers_are_one()
+    ensures verdicts { ClearVerdictsAreOne }
+    ensures sites { SitesAreOne }
+    ensures places { PlacesAreOne }
+    ensures nevers { NeversAreOne }
+    ensures clear { ClearWhereNoSites }
 {}
 
-/// A certificate has at most one such verdict.
-pub fn clear_verdicts_are_one()
-    ensures { ClearVerdictsAreOne }
-{}
-
-/// Where the conditions hold without assumptions and each node is clear, every run from reset keeps the bound, and none is flagged.
-pub fn clear_firmwares_are_never_flagged()
-    ensures { ClearFirmwaresAreNeverFlagged }
-{}
-
-/// A run that ends flagged ends at a word at which some node isn't clear, or by taking a vector that is never entered.
-pub fn flagged_runs_end_at_sites()
-    ensures { FlaggedRunsEndAtSites }
-{}
-
-/// A run that ends flagged ends where just that is told of its word, or by taking a vector that is never entered; and something is told of
-/// each word at which some node isn't clear.
-pub fn flagged_runs_end_at_places()
-    ensures { FlaggedRunsEndAtPlaces }
-{}
-
-/// A slot spreads along links to just the nodes at which it may hold a live byte.
-pub fn slots_spread_along_links()
-    ensures { SlotsSpreadAlongLinks }
-{}
-
-/// A node is clear exactly where it gets what it asks.
-pub fn askings_tell_clear_nodes()
-    ensures { AskingsTellClearNodes }
-{}
-
-/// A certificate has at most one list of words at which a step may be flagged.
-pub fn sites_are_one()
-    ensures { SitesAreOne }
-{}
-
-/// And at most one of them with what may happen there.
-pub fn places_are_one()
-    ensures { PlacesAreOne }
-{}
-
-/// A certificate has at most one list of words of vectors that are assumed never to be taken and that some node may take.
-pub fn nevers_are_one()
-    ensures { NeversAreOne }
-{}
-
-/// Without assumptions a certificate is clear exactly where that list is empty.
-pub fn clear_where_no_sites()
-    ensures { ClearWhereNoSites }
+/// Where the conditions hold without assumptions and each node is clear, every run from reset keeps the bound, and none is flagged. Else a
+/// run that ends flagged ends at a word at which some node isn't clear, where just that is told of its word, or by taking a vector that is
+/// never entered; and something is told of each such word.
+pub fn flagged_runs_end_as_told()
+    ensures never { ClearFirmwaresAreNeverFlagged }
+    ensures sites { FlaggedRunsEndAtSites }
+    ensures places { FlaggedRunsEndAtPlaces }
 {}

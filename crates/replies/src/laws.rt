@@ -6,11 +6,7 @@ use cert_check::laws::{sound_certificates_bound_every_run, verdicts_are_one};
 use cert_format::laws::certificate_texts;
 use cert_writing::laws::texts_fit;
 use chain_explain::laws::explanations_tell;
-use clear_laws::laws::{
-    clear_firmwares_are_never_flagged, clear_verdicts_are_one, clear_where_no_sites,
-    flagged_runs_end_at_places, flagged_runs_end_at_sites, nevers_are_one, places_are_one,
-    sites_are_one,
-};
+use clear_laws::laws::{clear_answers_are_one, flagged_runs_end_as_told};
 use device_hooks::laws::{reading_is_exact as devices_are_exact, simulations_are_runs};
 use flash_image::laws::{narrowing_is_exact, raw_images_are_their_words};
 use guided_trials::laws::trials_are_led;
@@ -44,14 +40,8 @@ pub fn replies_are_claims()
     devices_are_exact();
     simulations_are_runs();
     explanations_tell();
-    clear_verdicts_are_one();
-    sites_are_one();
-    places_are_one();
-    nevers_are_one();
-    clear_firmwares_are_never_flagged();
-    flagged_runs_end_at_sites();
-    flagged_runs_end_at_places();
-    clear_where_no_sites();
+    clear_answers_are_one();
+    flagged_runs_end_as_told();
     trials_are_led();
 }
 

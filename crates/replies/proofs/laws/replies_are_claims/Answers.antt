@@ -21,9 +21,9 @@ returns c =
     let simulations = c.simulations_are_runs.ensures.bounded in
     let explanations = c.explanations_tell.ensures.tells in
     let told_clear : ClearIsTold =
-    record { one = c.clear_verdicts_are_one.ensures; never = c.clear_firmwares_are_never_flagged.ensures; ends = c.flagged_runs_end_at_sites.ensures; places = c.flagged_runs_end_at_places.ensures; empty = c.clear_where_no_sites.ensures } in
+    record { one = c.clear_answers_are_one.ensures.verdicts; never = c.flagged_runs_end_as_told.ensures.never; ends = c.flagged_runs_end_as_told.ensures.sites; places = c.flagged_runs_end_as_told.ensures.places; empty = c.clear_answers_are_one.ensures.clear } in
     record {
-      one = replies_are_one texts.read verdicts answers chains c.explanations_tell.ensures.one c.clear_verdicts_are_one.ensures c.sites_are_one.ensures c.places_are_one.ensures c.nevers_are_one.ensures;
+      one = replies_are_one texts.read verdicts answers chains c.explanations_tell.ensures.one c.clear_answers_are_one.ensures.verdicts c.clear_answers_are_one.ensures.sites c.clear_answers_are_one.ensures.places c.clear_answers_are_one.ensures.nevers;
       holds = replies_hold raw.one raw.some narrowing lists texts.read texts.spelled verdicts bounds answers chains rounds solutions runs fit devices simulations explanations told_clear c.trials_are_led.ensures c.texts_fit.ensures;
       exact = replies_are_exact raw.one raw.some narrowing lists texts.read texts.spelled verdicts bounds answers chains rounds solutions runs fit devices simulations explanations told_clear c.trials_are_led.ensures c.texts_fit.ensures;
     }

@@ -1,5 +1,0 @@
-use Rattle.clear_laws.proofs.AllLaws as all
-use Rattle.clear_laws.proofs.laws.places_have_causes.Goals as goal
-
-pub returns : goal.returns
-returns c = all.places_have_causes
