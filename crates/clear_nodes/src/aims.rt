@@ -2,7 +2,7 @@
 
 ghost use Rattle.std.specs.Prelude.{◌≡◌};
 ghost use Rattle.local_rules.specs.Local as rows;
-ghost use Rattle.clear_laws.specs.Aims.{first_byte, last_byte, pair_span, raised, lowered, pointer_reach, is_in_interval, permits_bytes, permits_number, slot_at_number, slot_aimed, aim_of, spanning};
+ghost use Rattle.clear_laws.specs.Aims.{first_byte, last_byte, pair_span, raised, lowered, pointer_reach, permits_bytes, permits_number, slot_aimed, aim_of};
 
 use abs_reads::pointers::{has, point, step_before};
 use abs_rows::registers::pair;
@@ -48,15 +48,13 @@ fn last_byte(value: AbsByte) -> Option<u8>
     None
 }
 
-// From the number of the least bytes to that of the greatest.
-fn spanning(
-    first_low: Option<u8>,
-    first_high: Option<u8>,
-    last_low: Option<u8>,
-    last_high: Option<u8>,
-) -> Option<Span>
-    ensures { result ≡ spanning first_low first_high last_low last_high }
+// The least and the greatest number that the registers permit.
+fn pair_span(state: &AbsState, r: LowRegister) -> Option<Span>
+    ensures { result ≡ pair_span state.now r }
 {
+    let (low, high) = pair(state, r);
+    let (first_low, first_high) = (first_byte(low), first_byte(high));
+    let (last_low, last_high) = (last_byte(low), last_byte(high));
     match (first_low, first_high, last_low, last_high) {
         (Some(first_low), Some(first_high), Some(last_low), Some(last_high)) => Some(Span {
             first: u16::from(first_low) + 256 * u16::from(first_high),
@@ -64,19 +62,6 @@ fn spanning(
         }),
         _ => None,
     }
-}
-
-// The least and the greatest number that the registers permit.
-fn pair_span(state: &AbsState, r: LowRegister) -> Option<Span>
-    ensures { result ≡ pair_span state.now r }
-{
-    let (low, high) = pair(state, r);
-    spanning(
-        first_byte(low),
-        first_byte(high),
-        last_byte(low),
-        last_byte(high),
-    )
 }
 
 // With a number added to both ends.
@@ -126,42 +111,29 @@ pub(crate) fn permits_bytes(state: &AbsState, r: LowRegister, number: u16) -> bo
     may_be(low, (number % 256) as u8) && may_be(high, (number / 256) as u8)
 }
 
-// Whether the number lies in the interval of the registers, where pairs are followed.
-fn is_in_interval(facts: &Facts, r: LowRegister, number: u16) -> bool
-    ensures { result ≡ is_in_interval facts.now r number }
-{
-    match facts.get() {
-        None => true,
-        Some(facts) => {
-            let interval = interval_of(&facts, r.widened());
-            interval.low <= number && number <= interval.high
-        }
-    }
-}
-
 /// Whether the registers may hold this number, by bits and ranges, and where pairs are followed also by their interval.
 pub(crate) fn permits_number(state: &AbsState, r: LowRegister, number: u16) -> bool
     ensures { result ≡ permits_number state.now r number }
 {
-    permits_bytes(state, r, number) && is_in_interval(&state.facts, r, number)
-}
-
-// The root's slot at an address, whose base is the last of SRAM.
-fn slot_at_number(device: Device, address: Option<u16>) -> Option<u16>
-    ensures { result ≡ slot_at_number device address }
-{
-    match address {
-        Some(address) if address <= device.ramend() => Some(device.ramend() - address),
-        _ => None,
+    let permitted = permits_bytes(state, r, number);
+    match state.facts.get() {
+        None => permitted,
+        Some(facts) => {
+            let interval = interval_of(&facts, r.widened());
+            permitted && (interval.low <= number && number <= interval.high)
+        }
     }
 }
 
-// The slot of the running frame that the address is, where it is known.
+// The slot of the running frame that the address is, where it is known: in the root, whose base is the last of SRAM, by a number.
 fn slot_aimed(device: Device, kind: Kind, pointed: Pointed) -> Option<u16>
     ensures { result ≡ slot_aimed device kind pointed }
 {
     match kind {
-        Kind::Root => slot_at_number(device, pointed.constant),
+        Kind::Root => match pointed.constant {
+            Some(address) if address <= device.ramend() => Some(device.ramend() - address),
+            _ => None,
+        },
         Kind::Call | Kind::Vector(_) => pointed.frame,
     }
 }

@@ -5,7 +5,7 @@ ghost use Rattle.avr_model.specs.Assumptions as assumed;
 ghost use Rattle.avr_model.specs.Devices.{device_of, size_of};
 ghost use Rattle.avr_model.specs.Sites.{instruction_at};
 ghost use Rattle.avr_model.specs.Step as steps;
-ghost use Rattle.clear_laws.specs.Clear.{is_flagged_address, is_address_harmless, is_span_harmless, is_reach_harmless, is_slot_harmless, is_aim_harmless, permits_pair, is_target_listed, are_targets_listed, is_transfer_listed, is_clear_by};
+ghost use Rattle.clear_laws.specs.Clear.{is_flagged_address, is_address_harmless, is_reach_harmless, is_aim_harmless, permits_pair, is_target_listed, are_targets_listed, is_transfer_listed, is_clear_by};
 ghost use Rattle.clear_laws.specs.Needs.{meets};
 
 use crate::aims::{aim, permits_number};
@@ -22,16 +22,6 @@ use clear_laws::stores::{Aim, Reach, Span};
 use flash_image::Flash;
 use mask_states::NodeKey;
 use vector_table::{Assumptions, is_protected};
-
-fn is_pointer_store(instr: &Instr) -> bool
-    ensures { result ≡ steps.is_pointer_store instr.now }
-{
-    match instr {
-        Instr::Std(_, _, _) => true,
-        Instr::St(_, _) => true,
-        _ => false,
-    }
-}
 
 /// Whether this is `ijmp` or `icall`.
 pub fn is_indirect(instr: &Instr) -> bool
@@ -55,7 +45,7 @@ fn lists(items: &[u16], item: u16) -> bool
 pub(crate) fn is_flagged_address(store: &Store<'_>, address: u16) -> bool
     ensures { result ≡ is_flagged_address store.now.flash.now store.now.assumptions.now store.now.pc store.now.instr.now address }
 {
-    let is_store = is_pointer_store(store.instr);
+    let is_store = matches!(store.instr, Instr::Std(..) | Instr::St(..));
     let fixed = store.flash.is_fixed_site(store.assumptions, store.pc);
     let protected = is_protected(address);
     let listed = lists(store.assumptions.stores(store.pc), address);
@@ -74,35 +64,20 @@ pub(crate) fn is_address_harmless(store: &Store<'_>, bound: u16, address: u16) -
 }
 
 // Whether a store to one of these addresses writes neither a live byte nor a flagged address.
-fn is_span_harmless(store: &Store<'_>, bound: u16, span: Span) -> bool
-    requires { bound ≤ size_of (device_of store.now.flash.now) }
-    ensures { result ≡ is_span_harmless store.now.flash.now store.now.assumptions.now bound store.now.pc store.now.instr.now span }
-{
-    let ramend = store.flash.device().ramend();
-    let flagged = is_flagged_address(store, span.first);
-    (BELOW < span.first && span.last <= ramend - bound)
-        || ramend < span.first
-        || (span.first == span.last && span.first <= BELOW && !flagged)
-}
-
 fn is_reach_harmless(store: &Store<'_>, bound: u16, reach: Reach) -> bool
     requires { bound ≤ size_of (device_of store.now.flash.now) }
     ensures { result ≡ is_reach_harmless store.now.flash.now store.now.assumptions.now bound store.now.pc store.now.instr.now reach }
 {
     match reach {
         Reach::Nothing => true,
-        Reach::Within(span) => is_span_harmless(store, bound, span),
+        Reach::Within(Span { first, last }) => {
+            let ramend = store.flash.device().ramend();
+            let flagged = is_flagged_address(store, first);
+            (BELOW < first && last <= ramend - bound)
+                || ramend < first
+                || (first == last && first <= BELOW && !flagged)
+        }
         Reach::Beyond => false,
-    }
-}
-
-// What a store into a slot asks, whose addresses may harm.
-fn asks_of_slot(offset: u16, slot: Option<u16>) -> Asks
-    ensures { (held : ℕ → Bool) → is_slot_harmless offset held slot ≡ meets result held }
-{
-    match slot {
-        Some(slot) if slot < offset => Asks::Free(slot),
-        _ => Asks::Never,
     }
 }
 
@@ -112,15 +87,15 @@ fn asks_of_aim(store: &Store<'_>, bound: u16, key: &NodeKey, aim: Option<Aim>) -
     requires small { bound ≤ size_of (device_of store.now.flash.now) }
     ensures { (held : ℕ → Bool) → is_aim_harmless store.now.flash.now store.now.assumptions.now bound key.now store.now.state.now store.now.instr.now held aim ≡ meets result held }
 {
-    match aim {
-        None => Asks::Nothing,
-        Some(aim) => {
-            if is_reach_harmless(store, bound, aim.reach) || are_addresses_harmless(store, bound) {
-                Asks::Nothing
-            } else {
-                asks_of_slot(key.offset(), aim.slot)
-            }
-        }
+    let Some(aim) = aim else {
+        return Asks::Nothing;
+    };
+    if is_reach_harmless(store, bound, aim.reach) || are_addresses_harmless(store, bound) {
+        return Asks::Nothing;
+    }
+    match aim.slot {
+        Some(slot) if slot < key.offset() => Asks::Free(slot),
+        _ => Asks::Never,
     }
 }
 

@@ -4,7 +4,7 @@ ghost use Rattle.std.specs.Prelude.{◌≡◌, ◌++◌, map, IfOk, OnOk};
 ghost use Rattle.call_graph.specs.Landings.{AreLandings};
 ghost use Rattle.clear_laws.specs.Held as held;
 ghost use Rattle.clear_laws.specs.Links.{offsets_of};
-ghost use Rattle.clear_nodes.specs.Settling.{is_local, links_by, seeds_by, AreSeeds, SpreadsAlong};
+ghost use Rattle.clear_nodes.specs.Settling.{links_by, seeds_by, AreSeeds, SpreadsAlong};
 
 use avr_model::instruction::Instr;
 use avr_model::listed::Listed;
@@ -61,31 +61,13 @@ fn offsets_of(alloc: Global, nodes: &Filled) -> Result<Listed<u16>, AllocError>
     Ok(offsets)
 }
 
-fn is_local(kind: EdgeKind) -> bool
-    ensures { result ≡ is_local kind }
-{
-    match kind {
-        EdgeKind::Local => true,
-        _ => false,
-    }
-}
-
-fn is_push(instr: &Instr) -> bool
-    ensures { result ≡ held.is_push instr.now }
-{
-    match instr {
-        Instr::Push(_) => true,
-        _ => false,
-    }
-}
-
 // Whether a guarded byte is pushed at this word.
 fn is_guarded_push(flash: &Flash, pc: u16) -> bool
     ensures { result ≡ held.is_guarded_push flash.now pc }
 {
     match flash.instruction(pc) {
         None => false,
-        Some(instr) => is_push(&instr) && !flash.is_scratch(pc),
+        Some(instr) => matches!(&instr, Instr::Push(_)) && !flash.is_scratch(pc),
     }
 }
 
@@ -94,7 +76,7 @@ fn add_seeds(landings: &[Landing], slot: u16, seeds: &mut Listed<Seed>) -> Resul
     ensures { OnOk result (seeds.new ≡ seeds.old ++ seeds_by slot landings.now) }
 {
     for landing in landings {
-        if is_local(landing.kind) {
+        if matches!(landing.kind, EdgeKind::Local) {
             seeds.push(Seed {
                 node: landing.at,
                 slot,

@@ -3,7 +3,7 @@
 ghost use Rattle.std.specs.Prelude.{◌≡◌, ◌≤◌};
 ghost use Rattle.avr_model.specs.Devices.{device_of, size_of};
 ghost use Rattle.clear_laws.specs.Aims.{may_write};
-ghost use Rattle.clear_laws.specs.Causes.{may_write_protected, may_write_some_protected, may_write_stack, is_untold, may_write_live};
+ghost use Rattle.clear_laws.specs.Causes.{may_write_protected, may_write_some_protected, may_write_stack, may_write_live};
 
 use crate::aims::permits_number;
 use crate::need::{is_flagged_address, is_indirect};
@@ -65,18 +65,13 @@ fn may_write_stack(flash: &Flash, bound: u16, state: &AbsState, instr: &Instr) -
     false
 }
 
-// Whether pairs aren't followed, and a store at this word may go neither where the stack can reach nor to a protected address.
-fn is_untold(store: &Store<'_>) -> bool
-    ensures { result ≡ is_untold store.now.flash.now store.now.assumptions.now store.now.pc store.now.state.now store.now.instr.now }
-{
-    !store.state.facts.is_followed()
-        && !(is_indirect(store.instr) || may_write_some_protected(store))
-}
-
-/// Whether a store at this word that isn't harmless may write a byte that was pushed, where the stack takes at most this many bytes.
+// Whether a store at this word that isn't harmless may write a byte that was pushed, where the stack takes at most this many bytes: it may
+// go where the stack can reach, or pairs aren't followed and nothing else is told of it.
 pub fn may_write_live(store: &Store<'_>, bound: u16) -> bool
     requires { bound ≤ size_of (device_of store.now.flash.now) }
     ensures { result ≡ may_write_live store.now.flash.now store.now.assumptions.now bound store.now.pc store.now.state.now store.now.instr.now }
 {
-    may_write_stack(store.flash, bound, store.state, store.instr) || is_untold(store)
+    may_write_stack(store.flash, bound, store.state, store.instr)
+        || (!store.state.facts.is_followed()
+            && !(is_indirect(store.instr) || may_write_some_protected(store)))
 }
