@@ -1,6 +1,6 @@
 //! Data transfer: loads, stores, bytes of flash, and I/O.
 
-ghost use Rattle.std.specs.Prelude.{◌≡◌, slice_set, if◌then◌else◌};
+ghost use Rattle.std.specs.Prelude.{slice_set, if◌then◌else◌};
 ghost use Rattle.local_rules.specs.Writes.{written_at};
 ghost use Rattle.local_rules.specs.Registers as registers;
 ghost use Rattle.local_rules.specs.Raw as raw;

@@ -3,7 +3,6 @@
 ghost use Rattle.std.specs.Prelude.{◌≡◌, ◌<◌, ◌∷◌, [], true, not, length};
 ghost use Rattle.mask_states.specs.Keys.{offset_of};
 ghost use Rattle.avr_model.specs.Image.{WORDS};
-ghost use Rattle.avr_model.specs.declared.instruction.Instr.TheVariants as i;
 ghost use Rattle.abs_state.specs.PairBytes.{left_in};
 ghost use Rattle.local_rules.specs.Raw.{all_of};
 ghost use Rattle.local_rules.specs.Flow as flow;

@@ -1,9 +1,7 @@
 //! Jump tables: a node at a table site splits by the bytes that r30 may hold, so that the ways to the entries stay apart.
 
-ghost use Rattle.std.specs.Prelude.{◌≡◌, ◌<◌, true, length, Some, map, IfOk, IfErr};
+ghost use Rattle.std.specs.Prelude.{◌≡◌, ◌<◌, Some, map, IfOk, IfErr};
 ghost use Rattle.avr_model.specs.Image.{WORDS};
-ghost use Rattle.mask_states.specs.Keys.{offset_of};
-ghost use Rattle.abs_state.specs.PairBytes.{left_in};
 ghost use Rattle.local_rules.specs.declared.local.NodeFault.TheVariants.{Memory};
 ghost use Rattle.local_rules.specs.Raw.{Raw, all_of};
 ghost use Rattle.local_rules.specs.Local as rows;
@@ -17,7 +15,6 @@ use crate::pointer_stores::first;
 use crate::site::Site;
 use crate::successors::copied;
 use abs_reads::picks::picks;
-use abs_state::AbsState;
 use local_rules::local::{NodeFault, Nodes};
 use mask_states::NodeKey;
 use pair_cuts::pick_cut;
@@ -39,36 +36,6 @@ fn split_site(site: &Site<'_>) -> Option<u16>
     }
 }
 
-// What the node with this byte picked leads to from what is left of its state, if something is.
-fn picked_row(
-    nodes: &mut Nodes,
-    site: &Site<'_>,
-    byte: u8,
-    left: bool,
-    picked: &AbsState,
-) -> Result<Outside, NodeFault>
-    requires word { site.now.key.now.pc < WORDS }
-    requires sized { left ≡ true → length picked.now.slots ≡ offset_of site.now.key.now.sp }
-    ensures { Leads (plain nodes.old) (plain nodes.new) result (rows.picked_row (rows.row_in site.now.device site.now.flash.now site.now.assumptions.now) (rows.picking site.now.key.now byte) (left_in left picked.now)) }
-{
-    if !left {
-        return staying(site.alloc, Ok(()));
-    }
-    let key = NodeKey {
-        pick: Some(byte),
-        ..*site.key
-    };
-    let site = Site {
-        alloc: site.alloc,
-        device: site.device,
-        flash: site.flash,
-        assumptions: site.assumptions,
-        key: &key,
-        state: picked,
-    };
-    at_instruction(nodes, &site)
-}
-
 // What the node leads to with this byte picked, where something is left of its state.
 #[tactic(auto, using(crate::proofs::Slots::pick_slots))]
 fn with_pick(nodes: &mut Nodes, site: &Site<'_>, byte: u8) -> Result<Outside, NodeFault>
@@ -77,7 +44,23 @@ fn with_pick(nodes: &mut Nodes, site: &Site<'_>, byte: u8) -> Result<Outside, No
 {
     let mut picked = copied(site.alloc, site.state)?;
     let left = pick_cut(&mut picked, byte);
-    let led = picked_row(nodes, site, byte, left, &picked);
+    let led = if left {
+        let key = NodeKey {
+            pick: Some(byte),
+            ..*site.key
+        };
+        let site = Site {
+            alloc: site.alloc,
+            device: site.device,
+            flash: site.flash,
+            assumptions: site.assumptions,
+            key: &key,
+            state: &picked,
+        };
+        at_instruction(nodes, &site)
+    } else {
+        staying(site.alloc, Ok(()))
+    };
     drop(picked);
     led
 }

@@ -110,24 +110,6 @@ fn with_i(key: &NodeKey, is_out: bool, on: bool) -> NodeKey
     }
 }
 
-// A write of the status register: one successor for each value of I that is permitted.
-fn sreg_written(
-    nodes: &mut Moves<'_>,
-    alloc: Global,
-    write: &Write<'_>,
-    is_out: bool,
-) -> Result<(), NodeFault>
-    ensures { Adds nodes.old nodes.new result (writes.sreg_written (tri_at write.now.value.bits 7) write.now.key write.now.state.now is_out) }
-{
-    let off = with_i(&write.key, is_out, false);
-    let on = with_i(&write.key, is_out, true);
-    match write.value.bits.bit(I) {
-        Tri::Zero => add_copy(nodes, alloc, off, write.state),
-        Tri::One => add_copy(nodes, alloc, on, write.state),
-        Tri::Any => add_two(nodes, alloc, off, on, write.state),
-    }
-}
-
 // One successor for each of these enable bits.
 fn add_masks(
     nodes: &mut Moves<'_>,
@@ -189,7 +171,7 @@ fn set_of(d: Register) -> u32
     1u32 << d.get()
 }
 
-// A write of the status register by its address.
+// A write of the status register by its address: one successor for each value of I that is permitted.
 fn flags_set(
     nodes: &mut Moves<'_>,
     alloc: Global,
@@ -201,14 +183,13 @@ fn flags_set(
     let (state, value) = (write.state, write.value);
     let mut after = changed(alloc, state, &state.registers, flags_written(value))?;
     end_facts(&mut after.facts, 0, true, true);
-    let set = Write {
-        device: write.device,
-        pc: write.pc,
-        key: write.key,
-        state: &after,
-        value,
+    let off = with_i(&write.key, is_out, false);
+    let on = with_i(&write.key, is_out, true);
+    let added = match value.bits.bit(I) {
+        Tri::Zero => add_copy(nodes, alloc, off, &after),
+        Tri::One => add_copy(nodes, alloc, on, &after),
+        Tri::Any => add_two(nodes, alloc, off, on, &after),
     };
-    let added = sreg_written(nodes, alloc, &set, is_out);
     drop(after);
     added
 }

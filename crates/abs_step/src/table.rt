@@ -1,6 +1,6 @@
 //! The whole table: where an instruction leads, and what leaves its instance.
 
-ghost use Rattle.std.specs.Prelude.{◌≡◌, ◌<◌};
+ghost use Rattle.std.specs.Prelude.{◌<◌};
 ghost use Rattle.avr_model.specs.Assumptions.{is_frame};
 ghost use Rattle.avr_model.specs.Image.{WORDS};
 ghost use Rattle.local_rules.specs.Local as rows;

@@ -1,6 +1,6 @@
 //! The hulls of pairs that an instruction writes.
 
-ghost use Rattle.std.specs.Prelude.{◌≡◌, ◌≤◌, ◌+◌, ◌*◌, ◌∷◌, []};
+ghost use Rattle.std.specs.Prelude.{◌≡◌, ◌+◌, ◌*◌, ◌∷◌, []};
 ghost use Rattle.avr_model.specs.Written.{moved_pair, set_by_binary, written};
 ghost use Rattle.abs_state.specs.Ended.{written_hull};
 ghost use Rattle.pair_rules.specs.Hulls.{all_hulled};
