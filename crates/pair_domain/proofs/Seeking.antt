@@ -1,5 +1,5 @@
 -- What the loops that seek a member have done so far.
-use Rattle.std.proofs.Common.{◌≡◌, refl, sym, ◌∙◌, ap, ℕ, suc, ◌+◌, ◌-◌, ◌/◌, ◌^◌, ◌<◌, ◌≤◌, inl, inr, Bool, true, false, Some, None, arith}
+use Rattle.std.proofs.Common.{◌≡◌, ◌≢◌, refl, sym, ◌∙◌, ap, ℕ, suc, ◌+◌, ◌-◌, ◌/◌, ◌^◌, ◌<◌, ◌≤◌, inl, inr, Bool, true, false, Some, None, arith}
 use Rattle.std.specs.Prelude.{◌==◌, if◌then◌else◌}
 use Rattle.std.specs.Int.{bit_at}
 use Rattle.std.proofs.lemmas.Bool.{eq-eqb, ne_eqb, false≢true, cases_eq}
@@ -15,6 +15,9 @@ use Rattle.pair_domain.specs.Narrow.{shared_bit, least_from, greatest_from}
 
 pub shared_there : (low high i : ℕ) → low / 2 ^ i ≡ high / 2 ^ i → shared_bit low high i ≡ tri_bit (bit_at low i)
 shared_there low high i e = ap (λ (b : Bool). if b then tri_bit (bit_at low i) else Any) (eq-eqb (low / 2 ^ i) (high / 2 ^ i) e)
+
+pub not_shared : (low high i : ℕ) → low / 2 ^ i ≢ high / 2 ^ i → shared_bit low high i ≡ Any
+not_shared low high i e = ap (λ (b : Bool). if b then tri_bit (bit_at low i) else Any) (ne_eqb (low / 2 ^ i) (high / 2 ^ i) e)
 
 chosen : (b : Bool) (t u : Tri) → b ≡ true → (if b then t else u) ≡ t
 chosen true t u e = refl

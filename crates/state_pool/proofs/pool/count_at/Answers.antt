@@ -1,5 +1,0 @@
-use Rattle.std.proofs.Common.{sym}
-use Rattle.state_pool.proofs.pool.count_at.Goals as goal
-
-pub returns : goal.returns
-returns c = (c.in-Some.field-0-0.now, sym c.in-Some.ensures.entry)
