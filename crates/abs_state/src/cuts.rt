@@ -65,7 +65,7 @@ impl AbsByte {
     ghost use Rattle.abs_state.specs.Frames.{with_tag};
     ghost use Rattle.abs_state.specs.Values.{set_of};
 
-    /// A low byte cut to those of an interval whose numbers have one high byte.
+    // A low byte cut to those of an interval whose numbers have one high byte.
     fn narrow_to(self, interval: Interval) -> Option<AbsByte>
         ensures { result ≡ with_tag self.tag (low_within (set_of self) interval) }
     {
