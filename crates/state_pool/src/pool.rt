@@ -1,11 +1,10 @@
 //! The states and their counts.
 
-ghost use Rattle.std.specs.Prelude.{ℕ, ◌≡◌, ◌<◌, Some, IfOk, IfErr, OnErr, IsSome, slice_get, length};
+ghost use Rattle.std.specs.Prelude.{ℕ, ◌≡◌, ◌<◌, IfOk, IfErr, OnErr, IsSome};
 ghost use Rattle.std.specs.FinMap.{get, empty, len};
 ghost use Rattle.indexmap.specs.IndexMap.{index_map_len};
 ghost use Rattle.indexmap.specs.Layout.{set_value_at};
-ghost use Rattle.abs_state.specs.declared.state.AbsState.{AbsState};
-ghost use Rattle.state_pool.specs.Uses.{IsInterned, IsAbsent, AreDistinct, AreUsed, AreBelow, IsHeld, released, last_state};
+ghost use Rattle.state_pool.specs.Uses.{IsInterned, AreDistinct, AreUsed, AreBelow, IsHeld, released, last_state};
 
 use crate::numbers::Numbers;
 use crate::shared::Shared;
@@ -17,9 +16,9 @@ use std::marker::Model;
 /// States by their numbers, each with a count of its uses. Seen as a map from the numbers to both. Equal states have one number.
 #[derive(Drop)]
 pub struct Pool {
-    /// Each state and its count.
+    // Each state and its count.
     uses: IndexMap<Shared, u32>,
-    /// The number of each place among these; behind them those that no state has.
+    // The number of each place among these; behind them those that no state has.
     numbers: Numbers,
 }
 
@@ -37,17 +36,6 @@ impl Model for Pool {
     ghost view = { λ p. from_entries (numbered p.numbers p.uses.entries) };
 
     ghost invariant = { λ p. AreKept p.numbers p.uses.entries };
-}
-
-// The count at a place.
-fn count_at(uses: &IndexMap<Shared, u32>, place: usize) -> u32
-    requires { place < index_map_len uses.now }
-    ensures { (s : AbsState) × (slice_get uses.now.entries place ≡ Some (s, result)) }
-{
-    match uses.get_index(place) {
-        Some((_, count)) => *count,
-        None => unreachable!(),
-    }
 }
 
 // Another count at a place.
@@ -121,7 +109,10 @@ impl Pool {
         ensures given { result ≡ last_state (get self.old number) }
     {
         let place = self.numbers.place(number);
-        let count = count_at(&self.uses, place);
+        let count = match self.uses.get_index(place) {
+            Some((_, count)) => *count,
+            None => unreachable!(),
+        };
         if count > 1 {
             set_count(&mut self.uses, place, count - 1);
             None
