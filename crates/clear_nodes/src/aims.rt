@@ -16,7 +16,7 @@ use mask_states::{Kind, NodeKey};
 use pair_domain::Facts;
 use pair_told::told::interval_of;
 
-/// Whether the value may be this byte: its bits permit it, and it lies in the range.
+// Whether the value may be this byte: its bits permit it, and it lies in the range.
 pub(crate) fn may_be(value: AbsByte, byte: u8) -> bool
     ensures { result ≡ rows.may_be value byte }
 {
@@ -103,7 +103,7 @@ fn pointer_reach(pointer: Pointer, state: &AbsState) -> Reach
     }
 }
 
-/// Whether the bits and ranges of the registers permit this number.
+// Whether the bits and ranges of the registers permit this number.
 pub(crate) fn permits_bytes(state: &AbsState, r: LowRegister, number: u16) -> bool
     ensures { result ≡ permits_bytes state.now r number }
 {
@@ -111,7 +111,7 @@ pub(crate) fn permits_bytes(state: &AbsState, r: LowRegister, number: u16) -> bo
     may_be(low, (number % 256) as u8) && may_be(high, (number / 256) as u8)
 }
 
-/// Whether the registers may hold this number, by bits and ranges, and where pairs are followed also by their interval.
+// Whether the registers may hold this number, by bits and ranges, and where pairs are followed also by their interval.
 pub(crate) fn permits_number(state: &AbsState, r: LowRegister, number: u16) -> bool
     ensures { result ≡ permits_number state.now r number }
 {
@@ -138,8 +138,8 @@ fn slot_aimed(device: Device, kind: Kind, pointed: Pointed) -> Option<u16>
     }
 }
 
-/// Where the byte of `st`, `std` or `sts` goes on this device; None of any other instruction.
-pub fn aim(device: Device, key: &NodeKey, state: &AbsState, instr: &Instr) -> Option<Aim>
+// Where the byte of `st`, `std` or `sts` goes on this device; None of any other instruction.
+pub(crate) fn aim(device: Device, key: &NodeKey, state: &AbsState, instr: &Instr) -> Option<Aim>
     ensures { result ≡ aim_of device key.now state.now instr.now }
 {
     let kind = key.inst.kind;

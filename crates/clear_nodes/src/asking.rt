@@ -9,7 +9,7 @@ use call_graph::{Filled, Task};
 use clear_laws::slots::Asks;
 use std::alloc::AllocError;
 
-/// What each node asks to be clear, by its number, where the stack takes at most this many bytes.
+// What each node asks to be clear, by its number, where the stack takes at most this many bytes.
 pub(crate) fn asked(task: &Task<'_>, bound: u16, nodes: &Filled) -> Result<Vec<Asks>, AllocError>
     requires { bound ≤ size_of (device_of task.now.flash.now) }
     ensures { IfOk result (λ asks. AreAsked task.now.flash.now task.now.assumptions.now bound nodes.now asks.items) }

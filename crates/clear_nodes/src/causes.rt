@@ -25,7 +25,7 @@ use clear_laws::slots::Asks;
 use mask_states::NodeKey;
 use std::alloc::AllocError;
 
-/// A word with its instruction.
+// A word with its instruction.
 #[derive(Clone, Copy)]
 struct Site<'a> {
     pc: u16,
@@ -143,7 +143,7 @@ fn place_of(
     }
 }
 
-/// What may happen at each of these words, at each of which some node isn't clear.
+// What may happen at each of these words, at each of which some node isn't clear.
 pub(crate) fn places_at(
     task: &Task<'_>,
     certificate: &Certificate,

@@ -23,8 +23,8 @@ use flash_image::Flash;
 use mask_states::NodeKey;
 use vector_table::{Assumptions, is_protected};
 
-/// Whether this is `ijmp` or `icall`.
-pub fn is_indirect(instr: &Instr) -> bool
+// Whether this is `ijmp` or `icall`.
+pub(crate) fn is_indirect(instr: &Instr) -> bool
     ensures { result ≡ steps.is_indirect instr.now }
 {
     match instr {
@@ -41,7 +41,7 @@ fn lists(items: &[u16], item: u16) -> bool
     items.iter().any(|other| *other == item)
 }
 
-/// Whether a write of this address at this word is flagged for a protected one.
+// Whether a write of this address at this word is flagged for a protected one.
 pub(crate) fn is_flagged_address(store: &Store<'_>, address: u16) -> bool
     ensures { result ≡ is_flagged_address store.now.flash.now store.now.assumptions.now store.now.pc store.now.instr.now address }
 {
@@ -52,7 +52,7 @@ pub(crate) fn is_flagged_address(store: &Store<'_>, address: u16) -> bool
     is_store && !fixed && (protected && !listed)
 }
 
-/// Whether a byte at this address isn't one that was pushed, and a write of it isn't flagged, where the stack takes at most this many bytes.
+// Whether a byte at this address isn't one that was pushed, and a write of it isn't flagged, where the stack takes at most this many bytes.
 pub(crate) fn is_address_harmless(store: &Store<'_>, bound: u16, address: u16) -> bool
     requires { bound ≤ size_of (device_of store.now.flash.now) }
     ensures { result ≡ is_address_harmless store.now.flash.now store.now.assumptions.now bound store.now.pc store.now.instr.now address }
@@ -151,8 +151,8 @@ fn is_transfer_listed(
     }
 }
 
-/// What a node asks of its slots to be clear, where the stack takes at most this many bytes.
-pub fn asked_by(
+// What a node asks of its slots to be clear, where the stack takes at most this many bytes.
+pub(crate) fn asked_by(
     flash: &Flash,
     assumptions: &Assumptions,
     bound: u16,

@@ -79,8 +79,8 @@ fn are_numbers_harmless(
     is_interval_harmless(store, bound, r, up, interval)
 }
 
-/// Whether pairs are followed, and each address to which the byte of an instruction may go is harmless, where the stack takes at most this
-/// many bytes.
+// Whether pairs are followed, and each address to which the byte of an instruction may go is harmless, where the stack takes at most this
+// many bytes.
 pub(crate) fn are_addresses_harmless(store: &Store<'_>, bound: u16) -> bool
     requires { bound ≤ size_of (device_of store.now.flash.now) }
     ensures { result ≡ are_addresses_harmless store.now.flash.now store.now.assumptions.now bound store.now.pc store.now.state.now store.now.instr.now }

@@ -120,10 +120,10 @@ fn spread(alloc: Global, nodes: &Nodes<'_>, slot: u16, seen: &mut [bool]) -> Res
     }
 }
 
-/// Which nodes a slot reaches, by their numbers: those of its seeds, and with each those to which its links lead and whose offset
-/// is above the slot. Nodes are as many as links and offsets, and links and seeds lead to nodes. The error is want of memory. Each
-/// link is looked at once.
-pub fn reached(
+// Which nodes a slot reaches, by their numbers: those of its seeds, and with each those to which its links lead and whose offset
+// is above the slot. Nodes are as many as links and offsets, and links and seeds lead to nodes. The error is want of memory. Each
+// link is looked at once.
+pub(crate) fn reached(
     alloc: Global,
     links: &[Listed<u32>],
     offsets: &[u16],

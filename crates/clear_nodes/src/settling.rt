@@ -47,7 +47,7 @@ fn settle_slot(
     Ok(())
 }
 
-/// Settles what all nodes ask: none asks for a slot any more. The marks of a slot are worked out once for all nodes that ask for it.
+// Settles what all nodes ask: none asks for a slot any more. The marks of a slot are worked out once for all nodes that ask for it.
 pub(crate) fn settle(alloc: Global, frames: &Frames, asks: &mut [Asks]) -> Result<(), AllocError>
     requires inside { AreInside frames.now.links frames.now.offsets frames.now.seeds }
     requires same { length asks.old ≡ length frames.now.offsets }

@@ -15,14 +15,14 @@ use flash_image::Flash;
 use mask_states::EdgeKind;
 use std::alloc::{AllocError, Global};
 
-/// Along which edges slots spread, by the numbers of nodes.
+// Along which edges slots spread, by the numbers of nodes.
 #[derive(Drop)]
 pub(crate) struct Frames {
-    /// By node, to which nodes its edges lead that stay in its frame.
+    // By node, to which nodes its edges lead that stay in its frame.
     pub links: Listed<Listed<u32>>,
-    /// By node, how many slots it has.
+    // By node, how many slots it has.
     pub offsets: Listed<u16>,
-    /// The slots that guarded pushes add.
+    // The slots that guarded pushes add.
     pub seeds: Listed<Seed>,
 }
 
@@ -102,7 +102,7 @@ fn all_seeds(task: &Task<'_>, family: &Worked) -> Result<Listed<Seed>, AllocErro
     Ok(seeds)
 }
 
-/// Along which edges slots spread. No local part is worked out for it.
+// Along which edges slots spread. No local part is worked out for it.
 pub(crate) fn frames_of(task: &Task<'_>, family: &Worked) -> Result<Frames, AllocError>
     requires { AreLandings task.now.flash.now task.now.assumptions.now family.now.nodes family.now.landings }
     ensures { IfOk result (λ f. SpreadsAlong task.now.flash.now task.now.assumptions.now family.now.nodes f.links f.offsets f.seeds) }

@@ -5,17 +5,17 @@ use avr_model::instruction::Instr;
 use flash_image::Flash;
 use vector_table::Assumptions;
 
-/// An instruction at a word, with the firmware, what is assumed of it, and what is known there.
+// An instruction at a word, with the firmware, what is assumed of it, and what is known there.
 #[derive(Clone, Copy)]
-pub struct Store<'a> {
-    /// The words of flash.
+pub(crate) struct Store<'a> {
+    // The words of flash.
     pub flash: &'a Flash,
-    /// What is assumed.
+    // What is assumed.
     pub assumptions: &'a Assumptions,
-    /// The word.
+    // The word.
     pub pc: u16,
-    /// What is known of a node there.
+    // What is known of a node there.
     pub state: &'a AbsState,
-    /// The instruction.
+    // The instruction.
     pub instr: &'a Instr,
 }

@@ -35,7 +35,7 @@ fn may_take(key: &NodeKey) -> bool
     key.i && !key.delay
 }
 
-/// Marks the words of the vectors that a node may take and that have a `never` line.
+// Marks the words of the vectors that a node may take and that have a `never` line.
 pub(crate) fn mark_takes(task: &Task<'_>, nodes: &Filled, marks: &mut [bool])
     requires { length marks.old ≡ WORDS }
     ensures { IsMarked (IsTakenAt task.now.flash.now task.now.assumptions.now nodes.now (length nodes.now)) marks.old marks.new }

@@ -13,16 +13,16 @@ use certificate::Certificate;
 use clear_laws::slots::Asks;
 use std::alloc::AllocError;
 
-/// Nodes, and what each still asks: nothing where it is clear.
+// Nodes, and what each still asks: nothing where it is clear.
 #[derive(Clone, Copy)]
 pub(crate) struct Told<'a> {
-    /// The nodes with their states.
+    // The nodes with their states.
     pub nodes: &'a Filled,
-    /// What each asks, by its number.
+    // What each asks, by its number.
     pub asks: &'a [Asks],
 }
 
-/// Whether a node that still asks this is clear.
+// Whether a node that still asks this is clear.
 pub(crate) fn passes(asks: Asks) -> bool
     ensures { result ≡ passes asks }
 {
@@ -32,7 +32,7 @@ pub(crate) fn passes(asks: Asks) -> bool
     }
 }
 
-/// What each node of a certificate's family still asks.
+// What each node of a certificate's family still asks.
 pub(crate) fn tell(
     task: &Task<'_>,
     certificate: &Certificate,

@@ -11,7 +11,7 @@ use avr_model::listed::Listed;
 use clear_laws::slots::Asks;
 use std::alloc::{AllocError, Global};
 
-/// The number of the first that still asks something.
+// The number of the first that still asks something.
 pub(crate) fn first_unclear(asks: &[Asks]) -> Option<usize>
     ensures { IsFirst asks.now result }
 {
@@ -37,7 +37,7 @@ fn mark_words(told: &Told<'_>, marks: &mut [bool])
     }
 }
 
-/// The numbers of those that are marked, ascending.
+// The numbers of those that are marked, ascending.
 pub(crate) fn places(alloc: Global, marks: &[bool]) -> Result<Listed<u16>, AllocError>
     requires { length marks.now ≤ 65536 }
     ensures { IfOk result (λ places. places ≡ places_of marks.now) }
@@ -51,7 +51,7 @@ pub(crate) fn places(alloc: Global, marks: &[bool]) -> Result<Listed<u16>, Alloc
     Ok(places)
 }
 
-/// The words at which some node isn't clear, ascending, each once.
+// The words at which some node isn't clear, ascending, each once.
 pub(crate) fn sites_of(alloc: Global, told: &Told<'_>) -> Result<Listed<u16>, AllocError>
     requires { length told.now.asks.now ≡ length told.now.nodes.now }
     ensures { IfOk result (λ sites. AreSitesTold told.now.nodes.now told.now.asks.now sites) }

@@ -32,8 +32,8 @@ fn may_write(state: &AbsState, instr: &Instr, address: u16) -> bool
     }
 }
 
-/// Whether the byte of a store at this word may go to this data address, and a write of it is flagged as that of a protected one.
-pub fn may_write_protected(store: &Store<'_>, address: u16) -> bool
+// Whether the byte of a store at this word may go to this data address, and a write of it is flagged as that of a protected one.
+pub(crate) fn may_write_protected(store: &Store<'_>, address: u16) -> bool
     ensures { result ≡ may_write_protected store.now.flash.now store.now.assumptions.now store.now.pc store.now.state.now store.now.instr.now address }
 {
     is_flagged_address(store, address) && may_write(store.state, store.instr, address)
@@ -67,7 +67,7 @@ fn may_write_stack(flash: &Flash, bound: u16, state: &AbsState, instr: &Instr) -
 
 // Whether a store at this word that isn't harmless may write a byte that was pushed, where the stack takes at most this many bytes: it may
 // go where the stack can reach, or pairs aren't followed and nothing else is told of it.
-pub fn may_write_live(store: &Store<'_>, bound: u16) -> bool
+pub(crate) fn may_write_live(store: &Store<'_>, bound: u16) -> bool
     requires { bound ≤ size_of (device_of store.now.flash.now) }
     ensures { result ≡ may_write_live store.now.flash.now store.now.assumptions.now bound store.now.pc store.now.state.now store.now.instr.now }
 {
