@@ -3,9 +3,9 @@
 ghost use Rattle.std.specs.Prelude.{◌≡◌, ◌≤◌, IfOk};
 ghost use Rattle.avr_model.specs.Devices.{device_of, size_of};
 ghost use Rattle.call_graph.specs.Landings.{AreLandings};
-ghost use Rattle.clear_nodes.specs.Settling.{passes, AreTold};
+ghost use Rattle.clear_nodes.specs.Settling.{passes, AreAsked, AreTold};
 
-use crate::asking::asked;
+use crate::need::asked_by;
 use crate::settling::settle;
 use crate::spreading::frames_of;
 use call_graph::{Filled, Task, Worked};
@@ -30,6 +30,19 @@ pub(crate) fn passes(asks: Asks) -> bool
         Asks::Nothing => true,
         _ => false,
     }
+}
+
+// What each node asks to be clear, by its number, where the stack takes at most this many bytes.
+fn asked(task: &Task<'_>, bound: u16, nodes: &Filled) -> Result<Vec<Asks>, AllocError>
+    requires { bound ≤ size_of (device_of task.now.flash.now) }
+    ensures { IfOk result (λ asks. AreAsked task.now.flash.now task.now.assumptions.now bound nodes.now asks.items) }
+{
+    let mut asks = Vec::new(task.alloc);
+    for at in 0..nodes.count() {
+        let (key, state) = (nodes.key(at), nodes.state(at));
+        asks.push(asked_by(task.flash, task.assumptions, bound, key, state))?;
+    }
+    Ok(asks)
 }
 
 // What each node of a certificate's family still asks.

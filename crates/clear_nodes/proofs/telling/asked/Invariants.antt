@@ -1,5 +1,5 @@
 use Rattle.clear_nodes.specs.Settling.{AreAskedTo}
-use Rattle.clear_nodes.proofs.asking.asked.Given as goal
+use Rattle.clear_nodes.proofs.telling.asked.Given as goal
 
 abbrev pub invariant-loop-at : goal.invariant-loop-at
 invariant-loop-at l = AreAskedTo l.task.flash.now l.task.assumptions.now l.bound l.nodes l.at l.asks.items

@@ -3,7 +3,7 @@ use Rattle.basics.specs.Lists.{get_inside}
 use Rattle.clear_laws.specs.declared.slots.Asks.{Asks}
 use Rattle.clear_nodes.specs.Settling.{AreAskedTo}
 use Rattle.clear_nodes.proofs.Askings.{key_is, state_is, asking_is, asked_none, asked_more}
-use Rattle.clear_nodes.proofs.asking.asked.Goals as goal
+use Rattle.clear_nodes.proofs.telling.asked.Goals as goal
 
 pub loop-at-init : goal.loop-at-init
 loop-at-init c =
