@@ -11,7 +11,7 @@ use Rattle.avr_model.specs.Vectors.{is_enabled, vector_word}
 use Rattle.pair_domain.specs.Facts.{is_followed}
 use Rattle.pair_domain.proofs.AllLaws.{facts_rise}
 use Rattle.abs_state.specs.declared.state.AbsState.{AbsState}
-use Rattle.abs_state.specs.Values.{root, following_root}
+use Rattle.abs_state.specs.Values.{following_root}
 use Rattle.abs_state.specs.Frames.{entered}
 use Rattle.abs_state.specs.PairsBack.{returned}
 use Rattle.abs_state.specs.Formed.{IsFormed}
