@@ -3,7 +3,7 @@
 ghost use Rattle.std.specs.Prelude.{◌≡◌, ◌<◌, ◌≤◌, ◌+◌, ◌&&◌};
 ghost use Rattle.avr_model.specs.Devices.{IsFlash};
 ghost use Rattle.avr_model.specs.Image.{WORDS};
-ghost use Rattle.avr_model.specs.Sites.{adds_low, adds_high, is_some_that, instruction_at, is_ijmp, onward, ijmp_from, table_site};
+ghost use Rattle.avr_model.specs.Sites.{adds_low, adds_high, is_some_that, instruction_at, onward, ijmp_from, table_site};
 
 use crate::decoding::length;
 use crate::fixed::leaves;
