@@ -29,11 +29,6 @@ fn number(text: &str) -> Option<u16> {
     u16::from_str_radix(text, 16).ok()
 }
 
-// A hexadecimal number of at most two digits.
-fn byte(text: &str) -> Option<u8> {
-    u8::from_str_radix(text, 16).ok()
-}
-
 fn decimal(text: &str) -> Option<u16> {
     u16::from_str_radix(text, 10).ok()
 }
@@ -75,33 +70,30 @@ fn form(text: &str) -> Option<SpForm> {
     };
     let offset = decimal(offset.strip_prefix('o')?)?;
     let high = match high.strip_prefix('k') {
-        Some(known) => High::Known(byte(known)?),
+        Some(known) => High::Known(u8::from_str_radix(known, 16).ok()?),
         None => High::Tag(number(high.strip_prefix('t')?)?),
     };
     Some(SpForm::Open(offset, high))
 }
 
-// A tag as certificates spell it: `-`, `f`, `e` and a register, `l` and a byte, `h` and a number.
-fn tag(text: &str) -> Option<Tag> {
-    if text == "-" {
-        Some(Tag::None)
-    } else if text == "f" {
-        Some(Tag::EntryFlags)
-    } else if let Some(r) = text.strip_prefix('e') {
-        Some(Tag::Entry(byte(r)?))
-    } else if let Some(j) = text.strip_prefix('l') {
-        Some(Tag::SpLo(byte(j)?))
-    } else {
-        Some(Tag::SpHi(number(text.strip_prefix('h')?)?))
-    }
-}
-
-// A tag, and two digits each for the known bits, their values, and the least and the greatest byte.
+// A value as certificates spell it: the tag `-`, `f`, `e` with a register, `l` with a byte or `h` with a number, and two digits each for
+// the known bits, their values, and the least and the greatest byte.
 fn value(text: &str) -> Option<AbsByte> {
     let (front, digits) = text.split_at_checked(text.len().checked_sub(8)?)?;
     let [known, value, low, high] = u32::from_str_radix(digits, 16).ok()?.to_be_bytes();
+    let tag = if front == "-" {
+        Tag::None
+    } else if front == "f" {
+        Tag::EntryFlags
+    } else if let Some(r) = front.strip_prefix('e') {
+        Tag::Entry(u8::from_str_radix(r, 16).ok()?)
+    } else if let Some(j) = front.strip_prefix('l') {
+        Tag::SpLo(u8::from_str_radix(j, 16).ok()?)
+    } else {
+        Tag::SpHi(number(front.strip_prefix('h')?)?)
+    };
     Some(AbsByte {
-        tag: tag(front)?,
+        tag,
         bits: TriByte::new(known, value),
         low,
         high,
@@ -194,7 +186,7 @@ impl Row {
         } else if name == "device" {
             self.device = device(text)?;
         } else if name == "pick" {
-            self.key.pick = Some(byte(text)?);
+            self.key.pick = Some(u8::from_str_radix(text, 16).ok()?);
         } else if name == "flags" {
             let [known, value] = number(text.strip_prefix('-')?)?.to_be_bytes();
             self.state.flags.bits = TriByte::new(known, value);
