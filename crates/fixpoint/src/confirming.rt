@@ -1,6 +1,6 @@
 //! Whether the rounds end at a family that was found in another order. Nodes are looked at one by one, so that little is held at a time.
 
-ghost use Rattle.std.specs.Prelude.{◌≡◌, ◌∷◌, ◌++◌, [], List, Contains, None, Some, OnOk, IfOk};
+ghost use Rattle.std.specs.Prelude.{◌≡◌, ◌∷◌, [], Contains, None, Some, OnOk, IfOk};
 ghost use Rattle.std.specs.FinMap.{get};
 ghost use Rattle.avr_model.specs.Assumptions.{has_pairs};
 ghost use Rattle.abs_state.specs.declared.state.AbsState as state_type;
@@ -31,19 +31,6 @@ fn look_at(task: &Task<'_>, table: &Table, key: &NodeKey) -> Result<Seen, AllocE
     look_all(task, table, &one)
 }
 
-// Notes what is found at one node.
-fn note_one(task: &Task<'_>, table: &Table, notes: &mut Notes, key: &NodeKey) -> Result<(), Refusal>
-    requires formed { AreFormed (has_pairs task.now.assumptions.now) table.now }
-    requires once { AreOnce notes.old.nesting.insts }
-    ensures known { (keys : List key_type.NodeKey) → AreKnownAt task.now.flash.now task.now.assumptions.now table.now keys notes.old → OnOk result (AreKnownAt task.now.flash.now task.now.assumptions.now table.now (keys ++ key.now ∷ []) notes.new) }
-    ensures once { OnOk result (AreOnce notes.new.nesting.insts) }
-{
-    let seen = look_at(task, table, key)?;
-    let told = note_seen(task.alloc, notes, &seen);
-    drop(seen);
-    told
-}
-
 // Notes what is found at these nodes.
 fn note_each(
     task: &Task<'_>,
@@ -57,25 +44,15 @@ fn note_each(
     ensures once { OnOk result (AreOnce notes.new.nesting.insts) }
 {
     for at in 0..keys.len() {
-        note_one(task, table, notes, &keys[at])?;
+        let seen = look_at(task, table, &keys[at])?;
+        let told = note_seen(task.alloc, notes, &seen);
+        drop(seen);
+        told?;
     }
     Ok(())
 }
 
-// The edges of one node lead to nodes that are there.
-fn check_edges(task: &Task<'_>, table: &Table, notes: &Notes, key: &NodeKey) -> Result<(), Refusal>
-    requires formed { AreFormed (has_pairs task.now.assumptions.now) table.now }
-    requires known { AreKnown task.now.flash.now task.now.assumptions.now table.now notes.now }
-    ensures { OnOk result (LandAt task.now.flash.now task.now.assumptions.now table.now (key.now ∷ [])) }
-{
-    let seen = look_at(task, table, key)?;
-    let nodes = targets(task.alloc, table, notes, seen.looks)?;
-    let lands = nodes.is_empty();
-    drop(nodes);
-    if lands { Ok(()) } else { Err(Refusal::Memory) }
-}
-
-// The edges of these nodes do.
+// The edges of these nodes lead to nodes that are there.
 fn check_all_edges(
     task: &Task<'_>,
     table: &Table,
@@ -87,7 +64,13 @@ fn check_all_edges(
     ensures { OnOk result (LandAt task.now.flash.now task.now.assumptions.now table.now keys.now) }
 {
     for at in 0..keys.len() {
-        check_edges(task, table, notes, &keys[at])?;
+        let seen = look_at(task, table, &keys[at])?;
+        let nodes = targets(task.alloc, table, notes, seen.looks)?;
+        let lands = nodes.is_empty();
+        drop(nodes);
+        if !lands {
+            return Err(Refusal::Memory);
+        }
     }
     Ok(())
 }

@@ -59,17 +59,12 @@ fn look_on(
 /// A node that waits: its offset in the frame, its word, and its key. The greatest is the one of the least offset and word.
 type Due = (Reverse<u16>, Reverse<u16>, NodeKey);
 
-// A node that waits.
-fn due(key: NodeKey) -> Due {
-    (Reverse(key.offset()), Reverse(key.pc), key)
-}
-
 // These wait too.
 fn await_all(waiting: &mut BinaryHeap<Due>, keys: Vec<NodeKey>) -> Result<(), AllocError>
     ensures { OnOk result (heap_len waiting.new ≡ heap_len waiting.old + length keys.items) }
 {
     'keys: for key in keys {
-        waiting.push(due(key))?;
+        waiting.push((Reverse(key.offset()), Reverse(key.pc), key))?;
     }
     Ok(())
 }
@@ -194,18 +189,6 @@ pub fn ordered_family(task: &Task<'_>) -> Result<Table, Refusal>
     walk_to_end(task, &mut table).and(Ok(table))
 }
 
-// The same, or what the rounds tell where the other order gives nothing.
-fn in_another_order(task: &Task<'_>, steps: Option<u64>) -> Result<Table, Refusal>
-    requires { steps ≡ None }
-    ensures found { IfOk result (λ f. IsFound task.now.flash.now task.now.assumptions.now steps f) }
-    ensures why_not { IfErr result (λ r. IsWhyNot task.now.flash.now task.now.assumptions.now steps r) }
-{
-    match ordered_family(task) {
-        Ok(table) => Ok(table),
-        Err(_) => least_family(task, steps, false),
-    }
-}
-
 /// The family at which the rounds end, or why they end at none within the budget. With a budget the rounds alone tell this. Without one they
 /// begin in a hurry; where they are left, the other order is tried, and where that gives nothing, they go to their end.
 pub fn found_family(task: &Task<'_>, steps: Option<u64>) -> Result<Table, Refusal>
@@ -216,7 +199,10 @@ pub fn found_family(task: &Task<'_>, steps: Option<u64>) -> Result<Table, Refusa
         return least_family(task, steps, false);
     }
     match least_family(task, steps, true) {
-        Err(Refusal::Memory) => in_another_order(task, steps),
+        Err(Refusal::Memory) => match ordered_family(task) {
+            Ok(table) => Ok(table),
+            Err(_) => least_family(task, steps, false),
+        },
         told => told,
     }
 }

@@ -13,7 +13,7 @@ use certificate::{Certificate, Inst};
 use family_graph::{entered_by, graph_of};
 use family_table::Table;
 use nesting_bound::{Composed, Graph, compose_acyclic};
-use solution_laws::laws::{graphs_are_acyclic, solutions_are_made, solved_families_are_shown};
+use solution_laws::laws::solved_families_are_shown;
 use std::alloc::{AllocError, Global};
 use vector_table::Assumptions;
 
@@ -45,7 +45,6 @@ fn heading(task: &Task<'_>, family: &Worked) -> Result<(Assumptions, Vec<Inst>),
     ensures insts { IfOk result (λ head. AreInstsOf task.now.flash.now task.now.assumptions.now family.now.nodes head.1.items) }
 {
     solved_families_are_shown();
-    graphs_are_acyclic();
     let ways = entered_by(task, family)?;
     let graph = graph_of(task, &family.nodes, &ways)?;
     let composed = compose_acyclic(task.alloc, &graph)?;
@@ -60,7 +59,6 @@ pub(crate) fn certificate_of(task: &Task<'_>, table: Table) -> Result<Certificat
     ensures { IfOk result (λ c. IsSolution task.now.flash.now task.now.assumptions.now table c) }
 {
     solved_families_are_shown();
-    solutions_are_made();
     // These are entries that a list of assumptions may have.
     let _entries = task.assumptions.entries();
     let family = Worked::of(task, Filled::new(table.into_sorted(task.alloc)?))?;

@@ -1,5 +1,11 @@
 use Rattle.solution_laws.proofs.AllLaws as all
 use Rattle.solution_laws.proofs.laws.solved_families_are_shown.Goals as goal
 
-pub returns : goal.returns
-returns c = all.solved_families_are_shown
+pub returns-clause-shown : goal.returns-clause-shown
+returns-clause-shown c = all.solved_families_are_shown
+
+pub returns-clause-acyclic : goal.returns-clause-acyclic
+returns-clause-acyclic c = all.graphs_are_acyclic
+
+pub returns-clause-made : goal.returns-clause-made
+returns-clause-made c = all.solutions_are_made
