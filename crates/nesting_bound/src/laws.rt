@@ -7,19 +7,16 @@ pub fn ranks_rule_out_cycles()
     ensures { RanksRuleOutCycles }
 {}
 
-/// However calls and interrupts nest below an instance, its need bounds the bytes that they take.
+/// However calls and interrupts nest below an instance, its need bounds the bytes that they take; and a chain ends as deep as the root's
+/// need, so no smaller bound holds of how entries nest.
 pub fn needs_bound_nesting()
-    ensures { NeedsBoundNesting }
+    ensures bound { NeedsBoundNesting }
+    ensures reached { ChainsReachTheNeed }
 {}
 
 /// Least ranks and needs are the only ones, and so is the instance that is named where some reach themselves.
 pub fn answers_are_one()
     ensures { AnswersAreOne }
-{}
-
-/// A chain ends as deep as the root's need: so no smaller bound holds of how entries nest.
-pub fn chains_reach_the_need()
-    ensures { ChainsReachTheNeed }
 {}
 
 /// There is one chain.
