@@ -1,11 +1,7 @@
 //! Laws of the rounds, each as the contract of a function that does nothing.
 
+ghost use Rattle.round_laws.specs.Closed.{ClosedFamiliesEndRounds};
 ghost use Rattle.round_laws.specs.Laws.{FamiliesAreTheirNodes, RoundsAreJoins, RoundsAreLeast, RoundsEndOnce, SolutionsAreValid};
-
-/// The nodes of a family are what it has at their keys.
-pub fn families_are_their_nodes()
-    ensures { FamiliesAreTheirNodes }
-{}
 
 /// The rounds come to one family at each number. It lies below that of each valid certificate, and no test holds of it where there is
 /// one.
@@ -13,9 +9,11 @@ pub fn rounds_are_least()
     ensures { RoundsAreLeast }
 {}
 
-/// The rounds end once: with one family, or with one refusal.
+/// The rounds end once: with one family, or with one refusal. A family that is made of the first one by targets of its own edges in
+/// whatever order, is closed, and of which no test holds, is where they end.
 pub fn rounds_end_once()
-    ensures { RoundsEndOnce }
+    ensures once { RoundsEndOnce }
+    ensures closed { ClosedFamiliesEndRounds }
 {}
 
 /// The certificate of a solved family is valid, and no valid one has a smaller bound.
@@ -23,7 +21,8 @@ pub fn solutions_are_valid()
     ensures { SolutionsAreValid }
 {}
 
-/// Nodes that are joined into a family one after the other make the next one.
+/// The nodes of a family are what it has at their keys, and nodes that are joined into it one after the other make the next one.
 pub fn rounds_are_joins()
-    ensures { RoundsAreJoins }
+    ensures nodes { FamiliesAreTheirNodes }
+    ensures joins { RoundsAreJoins }
 {}
