@@ -15,7 +15,7 @@ use mask_states::SpForm;
 use nesting_bound::{Entered, Graph, GraphInst, Place};
 use std::alloc::AllocError;
 
-/// The places and the edges of an instance, as far as they are listed.
+// The places and the edges of an instance, as far as they are listed.
 #[derive(Drop)]
 struct Parts {
     offsets: Vec<Place>,

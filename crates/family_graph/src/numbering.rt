@@ -9,12 +9,12 @@ use call_graph::Filled;
 use mask_states::InstKey;
 use std::alloc::{AllocError, Global};
 
-/// The instances of a family's nodes in the order of their keys, and for each node the number of its instance.
+// The instances of a family's nodes in the order of their keys, and for each node the number of its instance.
 #[derive(Drop)]
 pub(crate) struct Numbering {
-    /// The instances.
+    // The instances.
     pub insts: Vec<InstKey>,
-    /// The number of each node's instance.
+    // The number of each node's instance.
     pub numbers: Vec<u32>,
 }
 
@@ -40,7 +40,7 @@ fn put(insts: &mut Vec<InstKey>, inst: &InstKey) -> Result<u32, AllocError>
     Ok(insts.len() as u32 - 1)
 }
 
-/// The numbers of the instances of all nodes.
+// The numbers of the instances of all nodes.
 pub(crate) fn numbered(alloc: Global, nodes: &Filled) -> Result<Numbering, AllocError>
     requires { length nodes.now ≤ 65536 }
     ensures { IfOk result (λ n. AreNumbers nodes.now (length nodes.now) n.insts.items n.numbers.items) }
@@ -54,7 +54,7 @@ pub(crate) fn numbered(alloc: Global, nodes: &Filled) -> Result<Numbering, Alloc
     Ok(Numbering { insts, numbers })
 }
 
-/// The number of an instance that has a node.
+// The number of an instance that has a node.
 pub(crate) fn number_of(nodes: &Filled, numbering: &Numbering, inst: &InstKey) -> u32
     requires numbers { AreNumbers nodes.now (length nodes.now) numbering.now.insts.items numbering.now.numbers.items }
     requires has { HasInst nodes.now inst.now }

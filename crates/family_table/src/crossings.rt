@@ -42,7 +42,7 @@ impl Hash for Crossing {
     }
 }
 
-/// An instance, to be hashed. Seen as its key.
+// An instance, to be hashed. Seen as its key.
 #[derive(Drop)]
 struct Place {
     key: InstKey,

@@ -11,10 +11,9 @@ use std::cmp::Ordering;
 use std::hash::{Hash, Hasher};
 use std::marker::Model;
 
-/// A node's key, to be hashed. Seen as the key.
+// A node's key, to be hashed. Seen as the key.
 #[derive(Drop)]
 pub struct Place {
-    /// The key.
     pub key: NodeKey,
 }
 

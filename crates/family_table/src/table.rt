@@ -31,9 +31,9 @@ const MOST: usize = 4_294_967_294;
 /// has as many slots as its key's offset says.
 #[derive(Drop)]
 pub struct Table {
-    /// The number of each node's state.
+    // The number of each node's state.
     map: IndexMap<Place, u32>,
-    /// The states, each with as many uses as nodes have it.
+    // The states, each with as many uses as nodes have it.
     pool: Pool,
 }
 

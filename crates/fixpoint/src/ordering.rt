@@ -56,7 +56,7 @@ fn look_on(
     Ok(changed)
 }
 
-/// A node that waits: its offset in the frame, its word, and its key. The greatest is the one of the least offset and word.
+// A node that waits: its offset in the frame, its word, and its key. The greatest is the one of the least offset and word.
 type Due = (Reverse<u16>, Reverse<u16>, NodeKey);
 
 // These wait too.
