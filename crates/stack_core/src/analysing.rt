@@ -7,7 +7,7 @@ ghost use Rattle.round_rules.specs.Solutions.{IsAnswer, IsWhyNot};
 ghost use Rattle.demo_image.specs.Image.{demo_words};
 ghost use Rattle.replies.specs.Texts.{why_not_status, why_not_text, demo_text};
 ghost use Rattle.replies.specs.Reply.{Refuses, AnalyseReply, DemoReply};
-ghost use Rattle.stack_core.specs.Answering.{IsWitnessed, IsWitnessedText};
+ghost use Rattle.stack_core.specs.Answering.{IsWitnessedText};
 
 use crate::reply::Reply;
 use call_graph::Task;
@@ -23,7 +23,7 @@ use std::alloc::{AllocError, Global};
 use vector_table::Assumptions;
 use witness_search::search;
 
-/// The status in place of a certificate.
+// The status in place of a certificate.
 fn why_not_status(refusal: &Refusal) -> u8
     ensures { result ≡ why_not_status refusal.now }
 {
@@ -33,7 +33,7 @@ fn why_not_status(refusal: &Refusal) -> u8
     }
 }
 
-/// What is answered in place of a certificate.
+// What is answered in place of a certificate.
 fn why_not(alloc: Global, flash: &Flash, refusal: &Refusal) -> Result<Reply, AllocError>
     ensures { IfOk result (λ r. Refuses (why_not_status refusal.now) (why_not_text flash.now refusal.now) r.status r.text.items) }
 {
@@ -43,15 +43,6 @@ fn why_not(alloc: Global, flash: &Flash, refusal: &Refusal) -> Result<Reply, All
     })
 }
 
-/// The certificate with the schedule that the trials find, if they find one.
-fn witnessed(task: &Task<'_>, certificate: Certificate) -> Result<Certificate, AllocError>
-    requires { IsSound task.now.flash.now task.now.assumptions.now certificate }
-    ensures { IfOk result (λ c. IsWitnessed task.now.flash.now task.now.assumptions.now certificate c) }
-{
-    let found = search(task.alloc, task.flash, task.assumptions, &certificate)?;
-    Ok(certificate.with_witness(found))
-}
-
 // What every certificate keeps.
 fn claims(certificate: &Certificate)
     ensures { IsClaim certificate.now }
@@ -59,15 +50,15 @@ fn claims(certificate: &Certificate)
     let _nodes = certificate.nodes();
 }
 
-/// The text of the certificate with its schedule.
+// The text of the certificate with the schedule that the trials find, if they find one.
 fn solved(task: &Task<'_>, certificate: Certificate) -> Result<Vec<u8>, AllocError>
     requires { IsSound task.now.flash.now task.now.assumptions.now certificate }
     ensures text { IfOk result (λ v. IsWitnessedText task.now.flash.now task.now.assumptions.now certificate v.items) }
     ensures claim { IfOk result (λ v. IsClaim certificate) }
 {
     claims(&certificate);
-    let whole = witnessed(task, certificate)?;
-    write(task.alloc, &whole)
+    let found = search(task.alloc, task.flash, task.assumptions, &certificate)?;
+    write(task.alloc, &certificate.with_witness(found))
 }
 
 /// What is answered to an analysis.
@@ -83,7 +74,7 @@ pub fn analyse(task: &Task<'_>, steps: Option<u64>) -> Result<Reply, AllocError>
     }
 }
 
-/// What is answered of an image whose certificate this is: it is judged, and accepted.
+// What is answered of an image whose certificate this is: it is judged, and accepted.
 fn measured(task: &Task<'_>, size: u32, certificate: &Certificate) -> Result<Reply, AllocError>
     requires { IsSound task.now.flash.now task.now.assumptions.now certificate.now }
     ensures reply { IfOk result (λ r. (r.status ≡ 0) × (r.text.items ≡ demo_text size certificate.now)) }

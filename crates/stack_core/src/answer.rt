@@ -1,10 +1,9 @@
 //! What is answered to the words, before any of it is written.
 
-ghost use Rattle.std.specs.Prelude.{◌≡◌, map, IfOk, MatchResult, Some};
+ghost use Rattle.std.specs.Prelude.{map, MatchResult, Some};
 ghost use Rattle.std.specs.Option.{option_map};
 ghost use Rattle.commands.specs.Commands.{command_of};
 ghost use Rattle.commands.specs.Views.{command_seen};
-ghost use Rattle.replies.specs.Texts as told;
 ghost use Rattle.stack_core.specs.Answer.{IsAnswer, IsCutOff};
 
 use crate::reply::Reply;
@@ -17,34 +16,7 @@ use replies::texts;
 use sb_base::Files;
 use std::alloc::{AllocError, Global};
 
-fn usage(alloc: Global) -> Result<Reply, AllocError>
-    ensures { IfOk result (λ r. (r.status ≡ 2) × (r.text.items ≡ told.usage)) }
-{
-    Ok(Reply {
-        status: 2,
-        text: texts::usage(alloc)?,
-    })
-}
-
-fn too_long(alloc: Global, name: &str) -> Result<Reply, AllocError>
-    ensures { IfOk result (λ r. (r.status ≡ 5) × (r.text.items ≡ told.too_long name.now)) }
-{
-    Ok(Reply {
-        status: 5,
-        text: texts::too_long(alloc, name)?,
-    })
-}
-
-fn read_fault(alloc: Global, name: &str) -> Result<Reply, AllocError>
-    ensures { IfOk result (λ r. (r.status ≡ 3) × (r.text.items ≡ told.read_fault name.now)) }
-{
-    Ok(Reply {
-        status: 3,
-        text: texts::read_fault(alloc, name)?,
-    })
-}
-
-/// What is answered to a command.
+// What is answered to a command.
 fn answer_to<F: Files>(
     alloc: Global,
     command: &Command<'_>,
@@ -61,8 +33,14 @@ fn answer_to<F: Files>(
             &read.second,
             &read.assumptions,
         ),
-        Err(Unread::Long(name)) => too_long(alloc, name),
-        Err(Unread::Failed(name)) => read_fault(alloc, name),
+        Err(Unread::Long(name)) => Ok(Reply {
+            status: 5,
+            text: texts::too_long(alloc, name)?,
+        }),
+        Err(Unread::Failed(name)) => Ok(Reply {
+            status: 3,
+            text: texts::read_fault(alloc, name)?,
+        }),
         Err(Unread::Memory) => Err(AllocError),
     }
 }
@@ -73,7 +51,10 @@ pub fn answer<F: Files>(alloc: Global, words: &[&str], files: &mut F) -> Result<
 {
     match command_of(alloc, words) {
         Ok(Some(command)) => answer_to(alloc, &command, files),
-        Ok(None) => usage(alloc),
+        Ok(None) => Ok(Reply {
+            status: 2,
+            text: texts::usage(alloc)?,
+        }),
         Err(fault) => Err(fault),
     }
 }

@@ -3,7 +3,7 @@
 ghost use Rattle.std.specs.Prelude.{◌≡◌, [], IfOk};
 ghost use Rattle.cert_check.specs.Verdict.{IsFamilyOf};
 ghost use Rattle.cert_format.specs.Reading.{certificate_in};
-ghost use Rattle.replies.specs.Reply.{ClearReply, PremisesReply, WhyReply, PlacesReply, CertificateReply};
+ghost use Rattle.replies.specs.Reply.{ClearReply, PlacesReply, CertificateReply};
 
 use crate::judging::{Judged, judge_text};
 use crate::reply::Reply;
@@ -17,7 +17,7 @@ use replies::places::{self, Program};
 use std::alloc::{AllocError, Global};
 use vector_table::Assumptions;
 
-/// Whether all nodes of an accepted certificate with this family are clear.
+// Whether all nodes of an accepted certificate with this family are clear.
 fn cleared(task: &Task<'_>, certificate: &Certificate, family: &Worked) -> Result<Reply, AllocError>
     requires none { task.now.assumptions.now ≡ [] }
     requires family { IsFamilyOf task.now.flash.now task.now.assumptions.now certificate.now family.now }
@@ -51,59 +51,8 @@ pub fn clear(alloc: Global, flash: &Flash, text: &[u8]) -> Result<Reply, AllocEr
     }
 }
 
-/// The words at which a step may be flagged under an accepted certificate with this family, with these names.
-fn listed(
-    task: &Task<'_>,
-    names: &Names,
-    certificate: &Certificate,
-    family: &Worked,
-) -> Result<Reply, AllocError>
-    requires { IsFamilyOf task.now.flash.now task.now.assumptions.now certificate.now family.now }
-    ensures { IfOk result (λ r. PremisesReply names.now task.now.flash.now task.now.assumptions.now certificate.now r.status r.text.items) }
-{
-    let sites = flagged_sites_in(task, certificate, family)?;
-    let nevers = never_takes_in(task, &family.nodes)?;
-    let program = Program {
-        flash: task.flash,
-        names,
-    };
-    let text = places::premises_text(
-        task.alloc,
-        &program,
-        certificate.bound(),
-        sites.as_slice(),
-        nevers.as_slice(),
-    )?;
-    Ok(Reply { status: 0, text })
-}
-
-/// The same with what may happen there.
-fn caused(
-    task: &Task<'_>,
-    names: &Names,
-    certificate: &Certificate,
-    family: &Worked,
-) -> Result<Reply, AllocError>
-    requires { IsFamilyOf task.now.flash.now task.now.assumptions.now certificate.now family.now }
-    ensures { IfOk result (λ r. WhyReply names.now task.now.flash.now task.now.assumptions.now certificate.now r.status r.text.items) }
-{
-    let marked = flagged_places_in(task, certificate, family)?;
-    let nevers = never_takes_in(task, &family.nodes)?;
-    let program = Program {
-        flash: task.flash,
-        names,
-    };
-    let text = places::why_text(
-        task.alloc,
-        &program,
-        certificate.bound(),
-        marked.as_slice(),
-        nevers.as_slice(),
-    )?;
-    Ok(Reply { status: 0, text })
-}
-
-/// Those words, with what may happen there where that is asked.
+// The words at which a step may be flagged under an accepted certificate with this family, with these names, and what may happen there
+// where that is asked.
 fn told(
     task: &Task<'_>,
     names: &Names,
@@ -114,10 +63,32 @@ fn told(
     requires { IsFamilyOf task.now.flash.now task.now.assumptions.now certificate.now family.now }
     ensures { IfOk result (λ r. PlacesReply why names.now task.now.flash.now task.now.assumptions.now certificate.now r.status r.text.items) }
 {
+    let nevers = never_takes_in(task, &family.nodes)?;
+    let program = Program {
+        flash: task.flash,
+        names,
+    };
+    let bound = certificate.bound();
     if why {
-        caused(task, names, certificate, family)
+        let marked = flagged_places_in(task, certificate, family)?;
+        let text = places::why_text(
+            task.alloc,
+            &program,
+            bound,
+            marked.as_slice(),
+            nevers.as_slice(),
+        )?;
+        Ok(Reply { status: 0, text })
     } else {
-        listed(task, names, certificate, family)
+        let sites = flagged_sites_in(task, certificate, family)?;
+        let text = places::premises_text(
+            task.alloc,
+            &program,
+            bound,
+            sites.as_slice(),
+            nevers.as_slice(),
+        )?;
+        Ok(Reply { status: 0, text })
     }
 }
 

@@ -1,6 +1,6 @@
 //! Certificates that are judged, for all commands that do.
 
-ghost use Rattle.std.specs.Prelude.{◌≡◌, IfOk, Ok};
+ghost use Rattle.std.specs.Prelude.{IfOk, Ok};
 ghost use Rattle.std.specs.Option.{is_some};
 ghost use Rattle.cert_format.specs.Reading.{certificate_in};
 ghost use Rattle.replies.specs.Texts.{accepted};
@@ -24,7 +24,7 @@ pub enum Judged {
     Refused(Reply),
 }
 
-/// What is answered of an accepted certificate.
+// What is answered of an accepted certificate.
 #[tactic(auto, using(crate::proofs::Replies::copied_is_some))]
 fn checked(alloc: Global, certificate: &Certificate) -> Result<Reply, AllocError>
     ensures { IfOk result (λ r. Says 0 (accepted certificate.now.bound (is_some certificate.now.witness)) r.status r.text.items) }
@@ -36,24 +36,7 @@ fn checked(alloc: Global, certificate: &Certificate) -> Result<Reply, AllocError
     })
 }
 
-/// A report in lines or as JSON.
-fn report_of(
-    alloc: Global,
-    certificate: &Certificate,
-    device: Device,
-    loaded: &Loaded,
-    json: bool,
-) -> Result<Vec<u8>, AllocError>
-    ensures { IfOk result (λ v. v.items ≡ report_by json device loaded.now.names loaded.now.static_end certificate.now) }
-{
-    if json {
-        report_json(alloc, device, certificate, &loaded.names, loaded.static_end)
-    } else {
-        report_text(alloc, device, certificate, &loaded.names, loaded.static_end)
-    }
-}
-
-/// What is answered with a report.
+// What is answered with a report, in lines or as JSON.
 fn reported(
     alloc: Global,
     certificate: &Certificate,
@@ -63,13 +46,15 @@ fn reported(
 ) -> Result<Reply, AllocError>
     ensures { IfOk result (λ r. Says 0 (report_by json device loaded.now.names loaded.now.static_end certificate.now) r.status r.text.items) }
 {
-    Ok(Reply {
-        status: 0,
-        text: report_of(alloc, certificate, device, loaded, json)?,
-    })
+    let text = if json {
+        report_json(alloc, device, certificate, &loaded.names, loaded.static_end)?
+    } else {
+        report_text(alloc, device, certificate, &loaded.names, loaded.static_end)?
+    };
+    Ok(Reply { status: 0, text })
 }
 
-/// The family of a certificate that is accepted, or the line of one that isn't.
+// The family of a certificate that is accepted, or the line of one that isn't.
 fn weighed(
     task: &Task<'_>,
     certificate: &Certificate,
@@ -88,7 +73,7 @@ fn weighed(
     }
 }
 
-/// A certificate that was read, if it is accepted.
+// A certificate that was read, if it is accepted.
 fn judge_claim(task: &Task<'_>, certificate: Certificate) -> Result<Judged, AllocError>
     ensures { IfOk result (λ j. IsJudgedAs task.now.flash.now task.now.assumptions.now (Ok certificate) j) }
 {

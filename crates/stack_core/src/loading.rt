@@ -1,10 +1,9 @@
 //! Firmware and assumptions of files that were read.
 
-ghost use Rattle.std.specs.Prelude.{◌≡◌, IfOk, true, false, length};
+ghost use Rattle.std.specs.Prelude.{◌≡◌, IfOk, false, length};
 ghost use Rattle.avr_model.specs.Image.{WORDS};
-ghost use Rattle.elf_load.specs.Elf.{is_elf};
 ghost use Rattle.command_files.specs.Reading.{bytes_of};
-ghost use Rattle.stack_core.specs.Answering.{LoadsBy, LoadsAs, NarrowedTo, LoadsOn, ReadsAs, ListsAs};
+ghost use Rattle.stack_core.specs.Answering.{LoadsBy, LoadsAs, NarrowedTo, LoadsOn, ListsAs};
 
 use crate::reply::Reply;
 use elf_load::{Loaded, is_elf, load};
@@ -29,7 +28,7 @@ pub enum Listing {
     Unlisted(Reply),
 }
 
-/// The flash of a raw file, which gives no names and no static data.
+// The flash of a raw file, which gives no names and no static data.
 fn raw_image(alloc: Global, bytes: &[u8]) -> Result<Image, AllocError>
     ensures { IfOk result (λ i. LoadsBy false bytes.now i) }
 {
@@ -52,11 +51,13 @@ fn raw_image(alloc: Global, bytes: &[u8]) -> Result<Image, AllocError>
     }
 }
 
-/// The firmware of an ELF file.
-fn elf_image(alloc: Global, bytes: &[u8]) -> Result<Image, AllocError>
-    requires { is_elf bytes.now ≡ true }
-    ensures { IfOk result (λ i. LoadsBy true bytes.now i) }
+// The firmware of a file, in the greatest flash.
+fn whole(alloc: Global, bytes: &[u8]) -> Result<Image, AllocError>
+    ensures { IfOk result (λ i. LoadsAs bytes.now i) }
 {
+    if !is_elf(bytes) {
+        return raw_image(alloc, bytes);
+    }
     match load(alloc, bytes) {
         Ok(loaded) => Ok(Image::Loaded(loaded)),
         Err(fault) => Ok(Image::Refused(Reply {
@@ -66,20 +67,7 @@ fn elf_image(alloc: Global, bytes: &[u8]) -> Result<Image, AllocError>
     }
 }
 
-/// The firmware of a file, in the greatest flash.
-fn whole(alloc: Global, bytes: &[u8]) -> Result<Image, AllocError>
-    ensures { IfOk result (λ i. LoadsAs bytes.now i) }
-{
-    if is_elf(bytes) {
-        let image = elf_image(alloc, bytes)?;
-        Ok(image)
-    } else {
-        let image = raw_image(alloc, bytes)?;
-        Ok(image)
-    }
-}
-
-/// The same firmware on a device.
+// The same firmware on a device.
 fn narrowed(alloc: Global, device: Device, loaded: Loaded) -> Result<Image, AllocError>
     requires { length loaded.flash ≡ WORDS }
     ensures { IfOk result (λ i. NarrowedTo device loaded i) }
@@ -114,25 +102,18 @@ pub fn loaded(alloc: Global, device: Device, bytes: &[u8]) -> Result<Image, Allo
     }
 }
 
-/// The assumptions of a file's bytes.
-fn list_of(alloc: Global, bytes: &[u8]) -> Result<Listing, AllocError>
-    ensures { IfOk result (λ l. ReadsAs bytes.now l) }
+/// The assumptions of a file that there may be.
+pub fn listed(alloc: Global, list: &Option<Vec<u8>>) -> Result<Listing, AllocError>
+    ensures { IfOk result (λ l. ListsAs (bytes_of list.now) l) }
 {
+    let Some(bytes) = list else {
+        return Ok(Listing::Listed(Assumptions::empty(alloc)));
+    };
     match read_list(alloc, bytes) {
         Ok(assumptions) => Ok(Listing::Listed(assumptions)),
         Err(fault) => Ok(Listing::Unlisted(Reply {
             status: 7,
             text: texts::assumptions_refused(alloc, &fault)?,
         })),
-    }
-}
-
-/// The assumptions of a file that there may be.
-pub fn listed(alloc: Global, list: &Option<Vec<u8>>) -> Result<Listing, AllocError>
-    ensures { IfOk result (λ l. ListsAs (bytes_of list.now) l) }
-{
-    match list {
-        Some(bytes) => list_of(alloc, bytes),
-        None => Ok(Listing::Listed(Assumptions::empty(alloc))),
     }
 }
