@@ -1,7 +1,6 @@
 -- The forms of the nodes of a family, by how edges lead to them.
-use Rattle.std.proofs.Common.{◌≡◌, refl, sym, ap, ap₂, ◌∙◌, subst, ℕ, zero, suc, ◌+◌, Bool, true, false, cond, nat_lt, List, [], ◌∷◌, ◌++◌, length, Some, slice_get, replicate, length-append, Result, IfOk, Vec, Global, arith}
+use Rattle.std.proofs.Common.{◌≡◌, refl, sym, ap, ap₂, ◌∙◌, subst, ℕ, zero, suc, ◌+◌, Bool, true, false, cond, nat_lt, List, [], ◌∷◌, ◌++◌, length, Some, slice_get, length-append, Result, IfOk, Vec, Global, arith}
 use Rattle.std.proofs.lemmas.Bool.Decides.{nat_tests}
-use Rattle.std.proofs.lemmas.List.{get_or-replicate, length-replicate}
 use Rattle.std.proofs.lemmas.Option.{none-some, same_Some, slice_get_within}
 use Rattle.std.proofs.lemmas.Result.{IfOk-weaker}
 use Rattle.basics.specs.Items.{get_contained}
@@ -100,13 +99,6 @@ forms_more at leads (x ∷ xs) n =
     ap (λ (l : Seeds). (x.key, form_by at (lead_at leads at) x.state) ∷ l)
     (forms_more (at + 1) leads xs n
     ∙ ap (λ (j : ℕ). forms_from (at + 1) leads xs ++ (n.key, form_by j (lead_at leads j) n.state) ∷ []) there)
-
--- before any edge is noted
-pub none_led : (words : List ℕ) (A : List Entry) (nodes : List Node) (leads : List Lead) → leads ≡ replicate (length nodes) Nothing → AreLeads words A nodes 0 leads
-none_led words A nodes leads e = record {
-  all = ap length e ∙ length-replicate (length nodes) Nothing;
-  each = λ p n is. subst (IsLead words A nodes 0 n.key) (sym (ap (λ (l : List Lead). lead_at l p) e ∙ get_or-replicate (length nodes) p Nothing Nothing (slice_get_within nodes p n is))) (λ i x l. let lt = l.below in omega (arith, lt));
-}
 
 pub forms_pushed : (leads : List Lead) (done : List Node) (n : Node) (forms pushed : Seeds) (at : ℕ) (form : NodeForm) → forms ≡ forms_from 0 leads done
     → length forms ≡ length done → at ≡ length forms → form ≡ form_by at (lead_at leads at) n.state → pushed ≡ forms ++ (n.key, form) ∷ []

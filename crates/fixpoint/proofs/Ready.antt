@@ -36,11 +36,6 @@ pub handed_on : {X E : Type 0} (r : Result X E) (x : E) (P : E → Type 0) → I
 handed_on (Ok y) x P h p = tt
 handed_on (Err e) x P h p = subst P (sym h) p
 
--- two things that hold where there is no error
-pub both_ok : {V E P Q R : Type 0} (r : Result V E) → OnOk r P → OnOk r Q → (P → Q → R) → OnOk r R
-both_ok (Ok v) p q f = f p q
-both_ok (Err e) p q f = p
-
 -- what was made, handed on with what was told of it
 pub made_if : {A X E : Type 0} (told : Result A E) (x : X) (r : Result X E) (P : X → Type 0) → r ≡ result_and told (Ok x) → OnOk told (P x) → IfOk r P
 made_if (Ok a) x r P is h = subst (λ s. IfOk s P) (sym is) h
