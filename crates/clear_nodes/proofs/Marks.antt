@@ -1,5 +1,5 @@
 -- Marking what is reached.
-use Rattle.std.proofs.Common.{◌≡◌, ℕ, zero, suc, ◌+◌, ◌<◌, Bool, true, false, List, [], ◌∷◌, ◌++◌, length, get_or, set, take, drop, replicate, refl, sym, ap, ◌∙◌, subst, arith, inl, inr, ⊎_elim, get_or-set_other, get_or-set_same, length-append, ◌⊎◌}
+use Rattle.std.proofs.Common.{◌≡◌, ℕ, zero, suc, ◌+◌, ◌<◌, Bool, true, false, List, [], ◌∷◌, ◌++◌, length, get_or, set, take, replicate, refl, sym, ap, ◌∙◌, subst, arith, inl, inr, ⊎_elim, get_or-set_other, get_or-set_same, length-append, ◌⊎◌}
 use Rattle.std.specs.List.{Contains}
 use Rattle.std.proofs.lemmas.Bool.{cases_eq}
 use Rattle.std.proofs.lemmas.List.{take_more, length-set}
@@ -197,11 +197,3 @@ next_marked offsets slot node a b sa sb lt =
 pub next_passed : (offsets : List ℕ) (slot node : ℕ) (seen : List Bool) (stack : List ℕ) → (slot < offset_at offsets node → ⊥) → IsSpread (IsNext offsets slot node) seen stack seen stack
 next_passed offsets slot node seen stack other =
     spread_none (IsNext offsets slot node) seen stack (λ j h. other (subst (λ x. slot < offset_at offsets x) h.0 h.1))
-
--- a list written back into the vector that it was borrowed from
-pub written_back : (n : ℕ) (new old : List Bool) → length new ≡ n → take n (new ++ drop (length new) old) ≡ new
-written_back n new old e = subst (λ x. take x (new ++ drop (length new) old) ≡ new) e (take_front new (drop (length new) old))
-  where
-    take_front : (xs ys : List Bool) → take (length xs) (xs ++ ys) ≡ xs
-    take_front [] ys = refl
-    take_front (x ∷ xs) ys = ap (λ zs. x ∷ zs) (take_front xs ys)

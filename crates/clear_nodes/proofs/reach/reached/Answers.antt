@@ -1,6 +1,7 @@
 use Rattle.std.proofs.Common.{sym, subst, arith}
 use Rattle.clear_laws.specs.Reach.{AreReached}
-use Rattle.clear_nodes.proofs.Marks.{are_reached, written_back}
+use Rattle.clear_nodes.proofs.Lists.{written_back}
+use Rattle.clear_nodes.proofs.Marks.{are_reached}
 use Rattle.clear_nodes.proofs.reach.reached.Goals as goal
 
 pub returns : goal.returns
