@@ -3,7 +3,6 @@
 ghost use Rattle.std.specs.Prelude.{ℕ, ◌≡◌, ◌<◌, IfOk};
 ghost use Rattle.abs_state.specs.Values.{value_at};
 ghost use Rattle.abs_state.specs.Formed.{NamesRegister};
-ghost use Rattle.edge_rules.specs.Edges.{pick_back};
 ghost use Rattle.call_graph.specs.Next.{returned_node};
 
 use crate::ways::Way;
@@ -21,16 +20,6 @@ pub struct Caller<'a> {
     pub state: &'a AbsState,
     /// The way by which it entered.
     pub way: Way,
-}
-
-// The pick after a return to a node with this one that entered by such an edge.
-fn pick_back(kind: EdgeKind, pick: Option<u8>) -> Option<u8>
-    ensures { result ≡ pick_back kind pick }
-{
-    match kind {
-        EdgeKind::Interrupt(..) => pick,
-        _ => None,
-    }
 }
 
 /// Where an exit of the instance leads its caller, in the caller's own frame: to the word behind the call or the interrupted word, with
@@ -54,7 +43,10 @@ pub fn returned(
         i: exit.i,
         delay: exit.delay,
         sp: caller.key.sp,
-        pick: pick_back(caller.way.kind, caller.key.pick),
+        pick: match caller.way.kind {
+            EdgeKind::Interrupt(..) => caller.key.pick,
+            _ => None,
+        },
     };
     Ok(Some(Node { key, state }))
 }

@@ -64,14 +64,22 @@ impl Filled {
     pub fn find(&self, key: &NodeKey) -> Option<usize>
         ensures { result ≡ place_of key.now self.now }
     {
-        place_of(&self.items, key)
+        let nodes = self.items.as_slice();
+        let at = nodes.partition_point(|node| node.key.cmp(key).is_lt());
+        if at < nodes.len() && nodes[at].key == *key {
+            return Some(at);
+        }
+        None
     }
 
     /// The first number of the instance's nodes and the one behind their last, or two equal ones.
     pub fn span(&self, inst: &InstKey) -> (usize, usize)
         ensures { IsSpan self.now inst.now result.0 result.1 }
     {
-        span_of(&self.items, inst)
+        let nodes = self.items.as_slice();
+        let low = nodes.partition_point(|node| node.key.inst.cmp(inst).is_lt());
+        let high = nodes.partition_point(|node| node.key.inst.cmp(inst).is_le());
+        (low, high)
     }
 
     /// The nodes in their order.
@@ -98,7 +106,7 @@ impl Filled {
                 return Some(at);
             }
         }
-        place_of(&self.items, key)
+        self.find(key)
     }
 }
 
@@ -109,26 +117,4 @@ pub enum Expanded {
     Whole(Filled),
     /// The least number of a node that has no expansion, counted from 0.
     Missing(u32),
-}
-
-// The number of the node of this key.
-fn place_of(nodes: &[Node], key: &NodeKey) -> Option<usize>
-    requires { AreShown nodes.now }
-    ensures { result ≡ place_of key.now nodes.now }
-{
-    let at = nodes.partition_point(|node| node.key.cmp(key).is_lt());
-    if at < nodes.len() && nodes[at].key == *key {
-        return Some(at);
-    }
-    None
-}
-
-// The first number of the instance's nodes and the one behind their last.
-fn span_of(nodes: &[Node], inst: &InstKey) -> (usize, usize)
-    requires { AreShown nodes.now }
-    ensures { IsSpan nodes.now inst.now result.0 result.1 }
-{
-    let low = nodes.partition_point(|node| node.key.inst.cmp(inst).is_lt());
-    let high = nodes.partition_point(|node| node.key.inst.cmp(inst).is_le());
-    (low, high)
 }

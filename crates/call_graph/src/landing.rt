@@ -1,7 +1,7 @@
 //! Where edges land, by the numbers of nodes.
 
-ghost use Rattle.std.specs.Prelude.{◌≡◌, ◌++◌, ◌≤◌, length, IfOk, OnOk};
-ghost use Rattle.call_graph.specs.Landings.{landing_of, landings_by};
+ghost use Rattle.std.specs.Prelude.{◌≡◌, ◌≤◌, length, IfOk};
+ghost use Rattle.call_graph.specs.Landings.{landings_by};
 
 use crate::filled::Filled;
 use avr_model::listed::Listed;
@@ -18,26 +18,6 @@ pub struct Landing {
     pub at: u32,
 }
 
-// Where one edge lands, if it lands at one of the nodes.
-fn add_landing(
-    landings: &mut Listed<Landing>,
-    nodes: &Filled,
-    first: usize,
-    edge: &Edge,
-) -> Result<(), AllocError>
-    requires { length nodes.now ≤ 65536 }
-    ensures { OnOk result (landings.new ≡ landings.old ++ landing_of nodes.now edge.now) }
-{
-    let Some(at) = nodes.find_from(first, &edge.to) else {
-        return Ok(());
-    };
-    landings.push(Landing {
-        kind: edge.kind,
-        at: at as u32,
-    })?;
-    Ok(())
-}
-
 /// Where these edges land. Nodes are sought from the number `first` on.
 pub fn landings_of(
     alloc: Global,
@@ -50,7 +30,12 @@ pub fn landings_of(
 {
     let mut landings = Listed::empty(alloc);
     for edge in edges {
-        add_landing(&mut landings, nodes, first, edge)?;
+        if let Some(at) = nodes.find_from(first, &edge.to) {
+            landings.push(Landing {
+                kind: edge.kind,
+                at: at as u32,
+            })?;
+        }
     }
     Ok(landings)
 }

@@ -1,9 +1,7 @@
 //! The edges from a node.
 
-ghost use Rattle.std.specs.Prelude.{ℕ, ◌≡◌, ◌≢◌, ◌↔◌, ◌<◌, ◌++◌, map, length, slice_get, Some, Err, IfOk, OnOk};
+ghost use Rattle.std.specs.Prelude.{◌≡◌, ◌≢◌, ◌↔◌, ◌<◌, ◌++◌, map, length, slice_get, Some, Err, IfOk, OnOk};
 ghost use Rattle.sb_base.specs.Answers.{Answers};
-ghost use Rattle.abs_state.specs.Values.{value_at};
-ghost use Rattle.abs_state.specs.Formed.{NamesRegister};
 ghost use Rattle.local_rules.specs.Local as rows;
 ghost use Rattle.local_rules.specs.declared.local.NodeFault.TheVariants.{Memory};
 ghost use Rattle.local_rules.specs.declared.local.NodeFault as fault_type;
@@ -12,7 +10,7 @@ ghost use Rattle.edge_rules.specs.Edges.{IsFaultless, AreEdges};
 ghost use Rattle.edge_rules.specs.Views.{AreShown};
 ghost use Rattle.call_graph.specs.Ways.{ways_of};
 ghost use Rattle.call_graph.specs.Exits.{AreExits, AreKnown};
-ghost use Rattle.call_graph.specs.Next.{local_edge, entry_edge, returned_by, return_edges, returns_in, all_returns, edges_with, next_of};
+ghost use Rattle.call_graph.specs.Next.{local_edge, entry_edge, return_edges, returns_in, all_returns, edges_with, next_of};
 
 use crate::callers::{Caller, returned};
 use crate::filled::Filled;
@@ -27,14 +25,14 @@ use local_rules::{Exit, Local, Node, NodeFault};
 use mask_states::{EdgeKind, NodeKey};
 use std::alloc::{AllocError, Global};
 
-/// The nodes of a family, and the exits of the first of them, as far as they are known.
+// The nodes of a family, and the exits of the first of them, as far as they are known.
 #[derive(Clone, Copy)]
 struct Known<'a> {
     nodes: &'a Filled,
     exits: &'a [Option<Exit>],
 }
 
-/// A node that edges leave.
+// A node that edges leave.
 #[derive(Clone, Copy)]
 struct Start<'a> {
     key: &'a NodeKey,
@@ -75,29 +73,7 @@ fn add_entries(
     Ok(())
 }
 
-// The edge back from a node of the entered instance that returns so, if its state fits.
-fn add_return(
-    alloc: Global,
-    edges: &mut Listed<Edge>,
-    caller: &Caller<'_>,
-    exit: &Exit,
-    leaving: &AbsState,
-) -> Result<(), AllocError>
-    requires { (r : ℕ) → r < 32 → NamesRegister (value_at leaving.now.registers r).tag }
-    ensures { OnOk result (edges.new ≡ edges.old ++ returned_by caller.now.key.now caller.now.state.now caller.now.way (Some exit.now) leaving.now) }
-{
-    let Some(node) = returned(alloc, caller, exit, leaving)? else {
-        return Ok(());
-    };
-    edges.push(Edge {
-        kind: EdgeKind::Return,
-        to: node.key,
-        state: node.state,
-    })?;
-    Ok(())
-}
-
-// The edge back from the node of this number.
+// The edge back from the node of this number, if it returns and its state fits.
 fn add_leaver(
     task: &Task<'_>,
     edges: &mut Listed<Edge>,
@@ -110,13 +86,19 @@ fn add_leaver(
     requires given { AreKnown task.now.flash.now task.now.assumptions.now known.now.nodes.now known.now.exits.now }
     ensures { (n : Node) → slice_get known.now.nodes.now at ≡ Some n → OnOk result (edges.new ≡ edges.old ++ return_edges task.now.flash.now task.now.assumptions.now caller.now.key.now caller.now.state.now caller.now.way n) }
 {
-    match exit_of(task, known.nodes, at, known.exits)? {
-        Some(exit) => {
-            let leaving = known.nodes.state(at);
-            add_return(task.alloc, edges, caller, &exit, leaving)
-        }
-        None => Ok(()),
-    }
+    let Some(exit) = exit_of(task, known.nodes, at, known.exits)? else {
+        return Ok(());
+    };
+    let leaving = known.nodes.state(at);
+    let Some(node) = returned(task.alloc, caller, &exit, leaving)? else {
+        return Ok(());
+    };
+    edges.push(Edge {
+        kind: EdgeKind::Return,
+        to: node.key,
+        state: node.state,
+    })?;
+    Ok(())
 }
 
 // The edges back from the instance that the caller entered.

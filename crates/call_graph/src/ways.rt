@@ -1,7 +1,7 @@
 //! The ways out of a node's frame into other instances.
 
 ghost use Rattle.std.specs.Prelude.{◌≡◌, ◌≤◌, ◌++◌, map, true, IfOk, OnOk, OnErr};
-ghost use Rattle.call_graph.specs.Ways.{call_way, vector_way, may_enter, at_vector, vectors_below, ways_of};
+ghost use Rattle.call_graph.specs.Ways.{call_way, vector_way, at_vector, vectors_below, ways_of};
 
 use crate::task::Task;
 use local_rules::CallSite;
@@ -68,22 +68,13 @@ fn add_calls(ways: &mut Vec<Way>, key: &NodeKey, calls: &[CallSite]) -> Result<(
     Ok(())
 }
 
-// An interrupt is enabled, and its word has no `never` line.
-fn may_enter(task: &Task<'_>, key: &NodeKey, v: u8) -> bool
-    requires low { 2 ≤ v }
-    requires high { v ≤ 26 }
-    ensures { result ≡ may_enter task.now.flash.now task.now.assumptions.now key.now v }
-{
-    key.masks.has(v) && !task.assumptions.never(task.flash.device().vector_word(v))
-}
-
-// The ways of a vector's interrupt, if it may come.
+// The ways of a vector's interrupt, if it is enabled and its word has no `never` line.
 fn add_vector(ways: &mut Vec<Way>, task: &Task<'_>, key: &NodeKey, v: u8) -> Result<(), AllocError>
     requires low { 2 ≤ v }
     requires high { v ≤ 26 }
     ensures { OnOk result (ways.new.items ≡ ways.old.items ++ at_vector task.now.flash.now task.now.assumptions.now key.now v) }
 {
-    if may_enter(task, key, v) {
+    if key.masks.has(v) && !task.assumptions.never(task.flash.device().vector_word(v)) {
         ways.push(vector_way(task, key, v, false))?;
         if v == 7 {
             ways.push(vector_way(task, key, v, true))?;

@@ -2,4 +2,4 @@ use Rattle.call_graph.proofs.AllLaws as all
 use Rattle.call_graph.proofs.laws.answers_are_exact.Goals as goal
 
 pub returns : goal.returns
-returns c = all.answers_are_exact
+returns c = record { states = all.answers_are_exact; exits = all.exits_are_exact; edges = all.local_parts_are_edges }
