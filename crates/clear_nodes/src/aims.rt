@@ -13,7 +13,6 @@ use avr_model::instruction::{Instr, LowRegister, Pointer};
 use clear_laws::stores::{Aim, Reach, Span};
 use local_rules::Pointed;
 use mask_states::{Kind, NodeKey};
-use pair_domain::Facts;
 use pair_told::told::interval_of;
 
 // Whether the value may be this byte: its bits permit it, and it lies in the range.

@@ -1,7 +1,7 @@
 //! The nodes that a slot reaches.
 
-ghost use Rattle.std.specs.Prelude.{◌≡◌, ◌≤◌, ◌<◌, ℕ, Contains, IfOk, OnOk, length, slice_index_or, false, []};
-ghost use Rattle.clear_laws.specs.Reach.{links_of, offset_at, AreReached, AreInside};
+ghost use Rattle.std.specs.Prelude.{◌≡◌, ◌<◌, ℕ, Contains, IfOk, OnOk, length, slice_index_or, false, []};
+ghost use Rattle.clear_laws.specs.Reach.{offset_at, AreReached, AreInside};
 ghost use Rattle.clear_nodes.specs.Spreading.{IsOne, IsSeed, IsNext, IsSpread, IsSpreading};
 
 use avr_model::listed::Listed;
