@@ -1,31 +1,24 @@
 //! The condition on a certificate's schedule.
 
-ghost use Rattle.std.specs.Prelude.{◌≡◌, ◌↔◌, IsTrue, Some};
+ghost use Rattle.std.specs.Prelude.{◌↔◌, IsTrue};
 ghost use Rattle.certificate.specs.Valid.{IsAttained};
 
 use avr_model::choice::Stop;
 use certificate::Certificate;
 use flash_image::Flash;
 use vector_table::Assumptions;
-use witness_replay::{Schedule, replay};
-
-/// Whether the run of this schedule ends without a stop, with the bound as its depth.
-fn attains(flash: &Flash, assumptions: &Assumptions, schedule: &Schedule, bound: u16) -> bool
-    ensures { IsTrue result ↔ IsAttained flash.now assumptions.now bound (Some schedule.now) }
-{
-    match replay(flash, assumptions, schedule) {
-        Ok(report) => report.stop == Stop::End && report.depth == bound,
-        Err(_) => false,
-    }
-}
+use witness_replay::replay;
 
 /// Whether the certificate's schedule attains its bound: no illegal choice is reached, the run ends without a stop, and its
 /// depth is the bound. A certificate without a schedule says nothing of this, and passes.
 pub fn is_attained(flash: &Flash, assumptions: &Assumptions, certificate: &Certificate) -> bool
     ensures { IsTrue result ↔ IsAttained flash.now assumptions.now certificate.now.bound certificate.now.witness }
 {
-    match certificate.witness() {
-        Some(schedule) => attains(flash, assumptions, schedule, certificate.bound()),
-        None => true,
+    let Some(schedule) = certificate.witness() else {
+        return true;
+    };
+    match replay(flash, assumptions, schedule) {
+        Ok(report) => report.stop == Stop::End && report.depth == certificate.bound(),
+        Err(_) => false,
     }
 }

@@ -16,11 +16,11 @@ use std::alloc::AllocError;
 // What a node asks of its instance, by the numbers of instances.
 #[derive(Clone, Copy)]
 pub(crate) struct Demand {
-    /// The node's instance.
+    // The node's instance.
     pub inst: usize,
-    /// The instance that the node enters, whose rank must be lower; none for the node's own offset.
+    // The instance that the node enters, whose rank must be lower; none for the node's own offset.
     pub into: Option<usize>,
-    /// How many bytes the node's instance needs at least.
+    // How many bytes the node's instance needs at least.
     pub bytes: u32,
 }
 

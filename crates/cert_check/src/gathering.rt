@@ -18,18 +18,18 @@ use std::alloc::AllocError;
 // What is known of nodes whose edges all land.
 #[derive(Drop)]
 pub(crate) struct Gathered {
-    /// What they ask of their instances.
+    // What they ask of their instances.
     pub demands: Vec<Demand>,
-    /// Where the edges of each land.
+    // Where the edges of each land.
     pub landings: Listed<Listed<Landing>>,
 }
 
 // What a pass over all edges finds.
 #[derive(Drop)]
 pub(crate) enum Found {
-    /// This node is the first with an edge that doesn't land, and the key is the least of such an edge.
+    // This node is the first with an edge that doesn't land, and the key is the least of such an edge.
     Gap(usize, NodeKey),
-    /// All edges land.
+    // All edges land.
     All(Gathered),
 }
 

@@ -33,9 +33,9 @@ use vector_table::Assumptions;
 // What is said of the nodes with their states.
 #[derive(Drop)]
 pub(crate) enum Settled {
-    /// All conditions hold, and here the edges of each node land.
+    // All conditions hold, and here the edges of each node land.
     Met(Listed<Listed<Landing>>),
-    /// The least reason against them.
+    // The least reason against them.
     Refused(Reason),
 }
 

@@ -21,20 +21,20 @@ use std::alloc::{AllocError, Global};
 // The nodes at which edges may land.
 #[derive(Clone, Copy)]
 pub(crate) struct Site<'c, 'n> {
-    /// Whether pairs are followed.
+    // Whether pairs are followed.
     pub followed: bool,
-    /// The certificate's own nodes.
+    // The certificate's own nodes.
     pub certificate: &'c Certificate,
-    /// The same nodes with their states.
+    // The same nodes with their states.
     pub nodes: &'n Filled,
 }
 
 // Where edges of a node land.
 #[derive(Drop)]
 pub(crate) struct Landed {
-    /// The least key to which one of them leads that doesn't land.
+    // The least key to which one of them leads that doesn't land.
     pub gap: Option<NodeKey>,
-    /// The nodes to which they lead, as far as nodes of their keys are there.
+    // The nodes to which they lead, as far as nodes of their keys are there.
     pub landings: Listed<Landing>,
 }
 

@@ -2,9 +2,9 @@
 
 ghost use Rattle.std.specs.Prelude.{◌≡◌, IsTrue, ◌↔◌, IfOk};
 ghost use Rattle.edge_rules.specs.Seeds.{form_of};
-ghost use Rattle.cert_check.specs.Reading.{hulled, facts_read, read_state, read_form, read_seeds, TellsNothing};
+ghost use Rattle.cert_check.specs.Reading.{facts_read, read_form, read_seeds, TellsNothing};
 
-use abs_state::{AbsByte, AbsState};
+use abs_state::AbsState;
 use certificate::{Certificate, HeldState, NodeForm, Seed, Seeded, hulls_of};
 use mask_states::NodeKey;
 use pair_domain::{Facts, PairFacts};
@@ -35,16 +35,6 @@ impl Seeded for Reading {
     }
 }
 
-// What the bytes of the registers say of pairs.
-fn hulled(registers: &[AbsByte; 32]) -> PairFacts
-    ensures { result ≡ hulled registers.now }
-{
-    PairFacts {
-        intervals: hulls_of(registers),
-        ..PairFacts::nothing()
-    }
-}
-
 // What is known of pairs where they aren't followed, and what is known or their bytes say where they are.
 fn facts_read(alloc: Global, followed: bool, state: &AbsState) -> Result<Facts, AllocError>
     ensures { IfOk result (λ facts. facts ≡ facts_read followed state.now.registers state.now.facts) }
@@ -55,29 +45,28 @@ fn facts_read(alloc: Global, followed: bool, state: &AbsState) -> Result<Facts, 
     if state.facts.is_followed() {
         return state.facts.copy(alloc);
     }
-    Facts::new(alloc, hulled(&state.registers))
+    let hulled = PairFacts {
+        intervals: hulls_of(&state.registers),
+        ..PairFacts::nothing()
+    };
+    Facts::new(alloc, hulled)
 }
 
-// The state with what is read of pairs.
-fn read_state(alloc: Global, followed: bool, state: &AbsState) -> Result<AbsState, AllocError>
-    ensures { IfOk result (λ read. read ≡ read_state followed state.now) }
-{
-    let facts = facts_read(alloc, followed, state)?;
-    let slots = state.slots.copy(alloc)?;
-    Ok(AbsState {
-        registers: state.registers,
-        flags: state.flags,
-        slots,
-        facts,
-    })
-}
-
+// How a state is given, with what is read of pairs.
 fn read_form(alloc: Global, followed: bool, form: &NodeForm) -> Result<NodeForm, AllocError>
     ensures { IfOk result (λ read. read ≡ read_form followed form.now) }
 {
     match form {
         NodeForm::State(state) => {
-            let read = read_state(alloc, followed, state.get())?;
+            let state = state.get();
+            let facts = facts_read(alloc, followed, state)?;
+            let slots = state.slots.copy(alloc)?;
+            let read = AbsState {
+                registers: state.registers,
+                flags: state.flags,
+                slots,
+                facts,
+            };
             Ok(NodeForm::State(HeldState::new(alloc, read)?))
         }
         NodeForm::From(from) => Ok(NodeForm::From(*from)),
