@@ -19,8 +19,32 @@ pub struct Part {
 /// The deepest chain over the nodes of a certificate that are reached, link by link from the root on, and how deep it is.
 #[derive(Drop)]
 pub struct Explanation {
+    pub(crate) least: u16,
+    pub(crate) parts: Listed<Part>,
+}
+
+impl Explanation {
+    ghost use Rattle.std.specs.Prelude.{◌≡◌, ◌<◌, length, slice_get, Some};
+
     /// The least need of the root over the reached nodes, in bytes: what the parts add up to.
-    pub least: u16,
-    /// The links.
-    pub parts: Listed<Part>,
+    pub fn least(&self) -> u16
+        ensures { result ≡ self.now.least }
+    {
+        self.least
+    }
+
+    /// How many parts there are.
+    pub fn count(&self) -> usize
+        ensures { result ≡ length self.now.parts }
+    {
+        self.parts.as_slice().len()
+    }
+
+    /// The part of this number, from 0 on.
+    pub fn part(&self, n: usize) -> &Part
+        requires { n < length self.now.parts }
+        ensures { slice_get self.now.parts n ≡ Some result.now }
+    {
+        &self.parts.as_slice()[n]
+    }
 }

@@ -10,5 +10,5 @@ mod reaching;
 mod steps;
 mod way;
 
-pub use explaining::explain_family;
+pub use explaining::{explain, explain_family};
 pub use explanation::{Explanation, Part};

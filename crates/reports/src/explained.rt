@@ -1,6 +1,6 @@
 //! The text of an explanation.
 
-ghost use Rattle.std.specs.Prelude.{◌≡◌, map, IfOk, OnOk, false};
+ghost use Rattle.std.specs.Prelude.{◌≡◌, ◌<◌, map, length, IfOk, OnOk, false};
 ghost use Rattle.std.specs.List.{flat_map};
 ghost use Rattle.sb_base.specs.Lines.{line};
 ghost use Rattle.sb_base.specs.Writing.{with_words, with_end};
@@ -66,13 +66,13 @@ fn write_parts(
     out: &mut LineWriter,
     alloc: Global,
     names: &Names,
-    parts: &[Part],
+    explanation: &Explanation,
 ) -> Result<(), AllocError>
     requires { out.old.begun ≡ false }
-    ensures { OnOk result (out.new ≡ with_text out.old (flat_map (part_text names.now) parts.now)) }
+    ensures { OnOk result (out.new ≡ with_text out.old (flat_map (part_text names.now) explanation.now.parts)) }
 {
-    for part in parts {
-        write_part(out, alloc, names, part)?;
+    for at in 0..explanation.count() {
+        write_part(out, alloc, names, explanation.part(at))?;
     }
     Ok(())
 }
@@ -85,7 +85,7 @@ fn write_sum(out: &mut LineWriter, bound: u16, explanation: &Explanation) -> Res
     out.word(b"bound")?;
     out.dec(u64::from(bound))?;
     out.word(b"least")?;
-    out.dec(u64::from(explanation.least))?;
+    out.dec(u64::from(explanation.least()))?;
     out.end_line()
 }
 
@@ -102,6 +102,6 @@ pub fn explanation_text(
     appending_laws();
     let mut out = LineWriter::new(alloc);
     write_sum(&mut out, bound, explanation)?;
-    write_parts(&mut out, alloc, names, explanation.parts.as_slice())?;
+    write_parts(&mut out, alloc, names, explanation)?;
     Ok(out.finish())
 }

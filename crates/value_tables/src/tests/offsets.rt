@@ -442,6 +442,8 @@ impl Worked for BaseRow {
 enum Action {
     Nothing,
     Push(u16),
+    // The slot that is popped, if any.
+    Pop(Option<Slot<u16>>),
     Set(u16, u16),
     Resize(u16),
 }
@@ -449,9 +451,10 @@ enum Action {
 /// What is done, how many slots there are then, and the first and the last of them.
 struct Step(Action, u16, Option<Slot<u16>>, Option<Slot<u16>>);
 
-// What is pushed is there, until it is cut.
-static PUSHES: [Step; 4] = [
+// What is pushed is there and can be popped, and there is nothing to pop at first.
+static PUSHES: [Step; 5] = [
     Step(Action::Nothing, 0, None, None),
+    Step(Action::Pop(None), 0, None, None),
     Step(
         Action::Push(7),
         1,
@@ -465,7 +468,7 @@ static PUSHES: [Step; 4] = [
         Some(Slot::Guarded(9)),
     ),
     Step(
-        Action::Resize(1),
+        Action::Pop(Some(Slot::Guarded(9))),
         1,
         Some(Slot::Guarded(7)),
         Some(Slot::Guarded(7)),
@@ -502,11 +505,12 @@ fn is_set(slots: &mut Slots<u16>, at: u16, value: u16) -> bool {
     there
 }
 
-// Whether it could be done.
+// Whether it could be done, and a slot that is popped is that one.
 fn is_done(slots: &mut Slots<u16>, action: &Action) -> bool {
     match action {
         Action::Nothing => true,
         Action::Push(value) => is_pushed(slots, *value),
+        Action::Pop(due) => slots.pop() == *due,
         Action::Set(at, value) => is_set(slots, *at, *value),
         Action::Resize(count) => slots.resize(*count).is_ok(),
     }
@@ -532,7 +536,7 @@ fn is_kept(slots: &mut Slots<u16>, copy: &Slots<u16>) -> bool {
     go_so(slots, &SIZES) && copy.as_slice() == [Slot::Guarded(7)].as_slice()
 }
 
-/// Whether slots are pushed, cut and grown, and a copy keeps what it was made of. Want of memory is wrong too.
+/// Whether slots are pushed, popped, cut and grown, and a copy keeps what it was made of. Want of memory is wrong too.
 pub fn are_slots(alloc: Global) -> bool {
     let mut slots: Slots<u16> = Slots::new(alloc);
     let pushed = go_so(&mut slots, &PUSHES);

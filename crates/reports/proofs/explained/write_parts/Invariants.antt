@@ -4,5 +4,5 @@ use Rattle.line_reading.specs.Appending.{with_text}
 use Rattle.reports.specs.Explained.{part_text}
 use Rattle.reports.proofs.explained.write_parts.Given as goal
 
-abbrev pub invariant-loop-part : goal.invariant-loop-part
-invariant-loop-part l = l.out ≡ with_text l.initial.out (flat_map (part_text l.names) (take l.part-index l.parts))
+abbrev pub invariant-loop-at : goal.invariant-loop-at
+invariant-loop-at l = l.out ≡ with_text l.initial.out (flat_map (part_text l.names) (take l.at l.explanation.parts))
