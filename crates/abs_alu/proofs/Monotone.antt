@@ -18,7 +18,7 @@ use Rattle.abs_alu.specs.Flags.{tri_zero}
 use Rattle.abs_alu.specs.Sums.{sum_flags, zero_after}
 use Rattle.abs_alu.specs.Bitwise.{logic_bits, step_bits, step_limit, top_bit, shift_bits}
 use Rattle.abs_alu.specs.Words.{word_answer, abs_wide}
-use Rattle.abs_alu.specs.Laws.{OperationsAreMonotone, IsPairWithin, IsAnswerWithin}
+use Rattle.abs_alu.specs.Laws.{OperationsAreMonotone, AreBothWithin, IsAnswerWithin}
 use Rattle.abs_alu.proofs.FlagCover.{below_eight, flags_within, result_within, zero_within, same_within}
 use Rattle.abs_alu.proofs.ProductCover.{products_within}
 
@@ -71,7 +71,7 @@ word_within low high low' high' s s' wl wh ws = (
       (bits_within s s' ws 5 (omega arith)) ws,
 )
 
-wide_within : (up : Bool) (a a' : TriByte × TriByte) (k : ℕ) (s s' : TriByte) → IsPairWithin a a' → IsWithin s s'
+wide_within : (up : Bool) (a a' : TriByte × TriByte) (k : ℕ) (s s' : TriByte) → AreBothWithin a a' → IsWithin s s'
     → IsAnswerWithin (abs_wide up a k s) (abs_wide up a' k s')
 wide_within true a a' k s s' wa ws =
     let low = byte_sum a.0 (byte_known k) Zero in

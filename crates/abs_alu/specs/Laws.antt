@@ -28,11 +28,11 @@ abbrev pub CoversWord : (TriByte × TriByte) × TriByte → ℕ → ℕ → Type
 CoversWord answer r f = Has answer.0.0 (r % 256) × Has answer.0.1 (r / 256) × Has answer.1 f
 
 -- one answer stands for all that another does
-abbrev pub IsPairWithin : TriByte × TriByte → TriByte × TriByte → Type 0
-IsPairWithin p q = IsWithin p.0 q.0 × IsWithin p.1 q.1
+abbrev pub AreBothWithin : TriByte × TriByte → TriByte × TriByte → Type 0
+AreBothWithin p q = IsWithin p.0 q.0 × IsWithin p.1 q.1
 
 abbrev pub IsAnswerWithin : (TriByte × TriByte) × TriByte → (TriByte × TriByte) × TriByte → Type 0
-IsAnswerWithin p q = IsPairWithin p.0 q.0 × IsWithin p.1 q.1
+IsAnswerWithin p q = AreBothWithin p.0 q.0 × IsWithin p.1 q.1
 
 -- in each law x and y are members of the operands, w is one of the register, and c is a carry or borrow that is permitted
 pub record SumsCover : Type 0 where
@@ -64,15 +64,15 @@ pub record WordsCover : Type 0 where
 
 pub record OperationsAreMonotone : Type 0 where
   pub sums : (a b s a' b' s' : TriByte) (carry carry' : Tri) → IsWithin a a' → IsWithin b b' → IsWithin s s' → IsTriWithin carry carry'
-      → IsPairWithin (abs_add a b carry s) (abs_add a' b' carry' s')
+      → AreBothWithin (abs_add a b carry s) (abs_add a' b' carry' s')
   pub differences : (a b s a' b' s' : TriByte) (borrow borrow' : Tri) (keep_zero : Bool) → IsWithin a a' → IsWithin b b' → IsWithin s s' → IsTriWithin borrow borrow'
-      → IsPairWithin (abs_sub a b borrow keep_zero s) (abs_sub a' b' borrow' keep_zero s')
+      → AreBothWithin (abs_sub a b borrow keep_zero s) (abs_sub a' b' borrow' keep_zero s')
   pub logics : (op : Logic) (a b s a' b' s' : TriByte) → IsWithin a a' → IsWithin b b' → IsWithin s s'
-      → IsPairWithin (abs_logic op a b s) (abs_logic op a' b' s')
-  pub coms : (a s a' s' : TriByte) → IsWithin a a' → IsWithin s s' → IsPairWithin (abs_com a s) (abs_com a' s')
-  pub steps : (up : Bool) (a s a' s' : TriByte) → IsWithin a a' → IsWithin s s' → IsPairWithin (abs_step_one up a s) (abs_step_one up a' s')
-  pub shifts : (op : Shift) (a s a' s' : TriByte) → IsWithin a a' → IsWithin s s' → IsPairWithin (abs_shift op a s) (abs_shift op a' s')
+      → AreBothWithin (abs_logic op a b s) (abs_logic op a' b' s')
+  pub coms : (a s a' s' : TriByte) → IsWithin a a' → IsWithin s s' → AreBothWithin (abs_com a s) (abs_com a' s')
+  pub steps : (up : Bool) (a s a' s' : TriByte) → IsWithin a a' → IsWithin s s' → AreBothWithin (abs_step_one up a s) (abs_step_one up a' s')
+  pub shifts : (op : Shift) (a s a' s' : TriByte) → IsWithin a a' → IsWithin s s' → AreBothWithin (abs_shift op a s) (abs_shift op a' s')
   pub products : (op : Mul) (a b s a' b' s' : TriByte) → IsWithin a a' → IsWithin b b' → IsWithin s s'
       → IsAnswerWithin (abs_mul op a b s) (abs_mul op a' b' s')
-  pub words : (up : Bool) (a a' : TriByte × TriByte) (k : ℕ) (s s' : TriByte) → IsPairWithin a a' → IsWithin s s'
+  pub words : (up : Bool) (a a' : TriByte × TriByte) (k : ℕ) (s s' : TriByte) → AreBothWithin a a' → IsWithin s s'
       → IsAnswerWithin (abs_wide up a k s) (abs_wide up a' k s')

@@ -1,7 +1,6 @@
 //! The flags of a result.
 
 ghost use Rattle.std.specs.Prelude.{◌≡◌};
-ghost use Rattle.bit_domain.specs.TriByte.{tri_at};
 ghost use Rattle.abs_alu.specs.Flags.{tri_flags, tri_zero, result_flags};
 
 use bit_domain::bits::Tri;

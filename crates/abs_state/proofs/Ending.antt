@@ -18,7 +18,7 @@ use Rattle.pair_domain.specs.declared.tags.CompareTag.TheVariants as compare
 use Rattle.pair_domain.specs.declared.tags.ZeroTag.{ZeroTag}
 use Rattle.pair_domain.specs.declared.tags.ZeroTag.TheVariants as zero_tag
 use Rattle.pair_domain.specs.Intervals.{InInterval, IsIntervalWithin, whole}
-use Rattle.pair_domain.specs.Tags.{pair_number, side_byte, signed_below, LiesUp, LiesDown, AreNear, IsNear, IsCompared, SumHolds, CompareHolds, ZeroHolds, IsSumWithin, IsCompareWithin, IsZeroWithin}
+use Rattle.pair_domain.specs.Tags.{pair_number, side_byte, signed_below, LiesUp, LiesDown, AreNear, IsNear, IsCompared, SumHolds, CompareHolds, ZeroHolds, IsSumTagWithin, IsCompareWithin, IsZeroWithin}
 use Rattle.pair_domain.specs.Facts.{interval_at, IsKnownWithin, HasSixteen, is_followed}
 use Rattle.pair_domain.specs.Rank.{IntervalFits, SumFits, CompareFits, ZeroFits, KnownFits}
 use Rattle.pair_domain.proofs.AllLaws.{intervals_are_ordered, sums_are_ordered, compares_are_ordered, zeros_are_ordered, hulls_hold}
@@ -28,7 +28,7 @@ use Rattle.abs_state.specs.Stands.{RegistersStand}
 use Rattle.abs_state.specs.Order.{IsByteWithin}
 use Rattle.abs_state.specs.Formed.{ByteFits}
 use Rattle.abs_state.specs.Laws.{HoldsAt}
-use Rattle.abs_state.specs.Ended.{in_pair, in_side, sum_ended, compare_ended, zero_ended, intervals_ended, ended, hull_at, written_hull, AreWritten, AreFlagsWritten, WritesEndFacts}
+use Rattle.abs_state.specs.Ended.{in_pair, in_side, sum_ended, compare_ended, zero_ended, intervals_ended, ended, hull_at, written_hull, AreRegistersWritten, AreFlagsWritten, WritesEndFacts}
 use Rattle.abs_state.proofs.Listed.{same_items}
 use Rattle.abs_state.proofs.Cutting.{interval_other, each_interval, both_intervals}
 
@@ -73,7 +73,7 @@ interval_less : (b : Bool) (i : Interval) → i.high < 65536 → IsIntervalWithi
 interval_less true i small = intervals_are_ordered.top i small
 interval_less false i small = intervals_are_ordered.same i
 
-sum_chosen : (b : Bool) (t : SumTag) → IsSumWithin t (if b then sum.None else t)
+sum_chosen : (b : Bool) (t : SumTag) → IsSumTagWithin t (if b then sum.None else t)
 sum_chosen true t = tt
 sum_chosen false t = sums_are_ordered.same t
 
@@ -85,7 +85,7 @@ zero_chosen : (b : Bool) (t : ZeroTag) → IsZeroWithin t (if b then zero_tag.No
 zero_chosen true t = tt
 zero_chosen false t = zeros_are_ordered.same t
 
-sum_less : (written : ℕ → Bool) (b : Bool) (t : SumTag) → IsSumWithin t (sum_ended written b t)
+sum_less : (written : ℕ → Bool) (b : Bool) (t : SumTag) → IsSumTagWithin t (sum_ended written b t)
 sum_less written b sum.None = tt
 sum_less written b (sum.Up r a c) = sum_chosen (b || in_pair written r) (sum.Up r a c)
 sum_less written b (sum.Down r a c) = sum_chosen (b || in_pair written r) (sum.Down r a c)
@@ -117,43 +117,43 @@ interval_more : (b : Bool) (i j : Interval) → IsIntervalWithin i j → IsInter
 interval_more true i j le = intervals_are_ordered.same whole
 interval_more false i j le = le
 
-near_up : (t : SumTag) (s d e : ℕ) → (AreNear d e → IsSumWithin t (sum.Up s d e)) → IsSumWithin t (sum.Up s d e)
+near_up : (t : SumTag) (s d e : ℕ) → (AreNear d e → IsSumTagWithin t (sum.Up s d e)) → IsSumTagWithin t (sum.Up s d e)
 near_up sum.None s d e h = λ near. h near near
 near_up (sum.Up q x y) s d e h = λ near. h near near
 near_up (sum.Down q x y) s d e h = λ near. h near near
 
-near_down : (t : SumTag) (s d e : ℕ) → (AreNear d e → IsSumWithin t (sum.Down s d e)) → IsSumWithin t (sum.Down s d e)
+near_down : (t : SumTag) (s d e : ℕ) → (AreNear d e → IsSumTagWithin t (sum.Down s d e)) → IsSumTagWithin t (sum.Down s d e)
 near_down sum.None s d e h = λ near. h near near
 near_down (sum.Up q x y) s d e h = λ near. h near near
 near_down (sum.Down q x y) s d e h = λ near. h near near
 
 -- ends that lie within kept ones are of one pair
-up_more : (written : ℕ → Bool) (b : Bool) (r a c s d e : ℕ) → IsSumWithin (sum.Up r a c) (sum.Up s d e)
-    → IsSumWithin (if b || in_pair written r then sum.None else sum.Up r a c) (if b || in_pair written s then sum.None else sum.Up s d e)
+up_more : (written : ℕ → Bool) (b : Bool) (r a c s d e : ℕ) → IsSumTagWithin (sum.Up r a c) (sum.Up s d e)
+    → IsSumTagWithin (if b || in_pair written r then sum.None else sum.Up r a c) (if b || in_pair written s then sum.None else sum.Up s d e)
 up_more written b r a c s d e le = by (b || in_pair written s) refl
   where
-    by : (x : Bool) → (b || in_pair written s) ≡ x → IsSumWithin (if b || in_pair written r then sum.None else sum.Up r a c) (if x then sum.None else sum.Up s d e)
+    by : (x : Bool) → (b || in_pair written s) ≡ x → IsSumTagWithin (if b || in_pair written r then sum.None else sum.Up r a c) (if x then sum.None else sum.Up s d e)
     by true is = tt
     by false is =
         near_up (if b || in_pair written r then sum.None else sum.Up r a c) s d e (λ near.
-        subst (λ (x : Bool). IsSumWithin (if x then sum.None else sum.Up r a c) (sum.Up s d e)) (sym (ap (λ (q : ℕ). b || in_pair written q) (le near).pair ∙ is)) le)
+        subst (λ (x : Bool). IsSumTagWithin (if x then sum.None else sum.Up r a c) (sum.Up s d e)) (sym (ap (λ (q : ℕ). b || in_pair written q) (le near).pair ∙ is)) le)
 
-down_more : (written : ℕ → Bool) (b : Bool) (r a c s d e : ℕ) → IsSumWithin (sum.Down r a c) (sum.Down s d e)
-    → IsSumWithin (if b || in_pair written r then sum.None else sum.Down r a c) (if b || in_pair written s then sum.None else sum.Down s d e)
+down_more : (written : ℕ → Bool) (b : Bool) (r a c s d e : ℕ) → IsSumTagWithin (sum.Down r a c) (sum.Down s d e)
+    → IsSumTagWithin (if b || in_pair written r then sum.None else sum.Down r a c) (if b || in_pair written s then sum.None else sum.Down s d e)
 down_more written b r a c s d e le = by (b || in_pair written s) refl
   where
-    by : (x : Bool) → (b || in_pair written s) ≡ x → IsSumWithin (if b || in_pair written r then sum.None else sum.Down r a c) (if x then sum.None else sum.Down s d e)
+    by : (x : Bool) → (b || in_pair written s) ≡ x → IsSumTagWithin (if b || in_pair written r then sum.None else sum.Down r a c) (if x then sum.None else sum.Down s d e)
     by true is = tt
     by false is =
         near_down (if b || in_pair written r then sum.None else sum.Down r a c) s d e (λ near.
-        subst (λ (x : Bool). IsSumWithin (if x then sum.None else sum.Down r a c) (sum.Down s d e)) (sym (ap (λ (q : ℕ). b || in_pair written q) (le near).pair ∙ is)) le)
+        subst (λ (x : Bool). IsSumTagWithin (if x then sum.None else sum.Down r a c) (sum.Down s d e)) (sym (ap (λ (q : ℕ). b || in_pair written q) (le near).pair ∙ is)) le)
 
 -- a tag of another kind says nothing that a kept one does
-other_more : (t u : SumTag) (x y : Bool) → (IsNear u → ⊥) → IsSumWithin (if x then sum.None else t) (if y then sum.None else u)
+other_more : (t u : SumTag) (x y : Bool) → (IsNear u → ⊥) → IsSumTagWithin (if x then sum.None else t) (if y then sum.None else u)
 other_more t u x true wide = tt
 other_more t u x false wide = sums_are_ordered.wide (if x then sum.None else t) u wide
 
-sum_more : (written : ℕ → Bool) (b : Bool) (t u : SumTag) → IsSumWithin t u → IsSumWithin (sum_ended written b t) (sum_ended written b u)
+sum_more : (written : ℕ → Bool) (b : Bool) (t u : SumTag) → IsSumTagWithin t u → IsSumTagWithin (sum_ended written b t) (sum_ended written b u)
 sum_more written b t sum.None le = tt
 sum_more written b (sum.Up r a c) (sum.Up s d e) le = up_more written b r a c s d e le
 sum_more written b (sum.Down r a c) (sum.Down s d e) le = down_more written b r a c s d e le
@@ -242,7 +242,7 @@ compared_again half x y x' y' c z s c' z' s' ex ey ec ez es h = record {
   less = es ∙ h.less ∙ ap₂ (signed_below half) (sym ex) (sym ey);
 }
 
-module _ (written : ℕ → Bool) (old new : List ℕ) (are : AreWritten written old new) where
+module _ (written : ℕ → Bool) (old new : List ℕ) (are : AreRegistersWritten written old new) where
   number_kept : (r : ℕ) → in_pair written r ≡ false → pair_number new r ≡ pair_number old r
   number_kept r e =
       let parts = or_parts (written r) (written (r + 1)) e in
@@ -316,7 +316,7 @@ module _ (written : ℕ → Bool) (old new : List ℕ) (are : AreWritten written
               let parts = or_parts b (in_pair written r) e in
               (kept parts.0).1 ∙ h ∙ ap (λ (v : ℕ). v == 0) (sym (number_kept r parts.1))
 
-holds : (written : ℕ → Bool) (flags carry : Bool) (x : Option PairFacts) (old new : List ℕ) (sreg sreg' : ℕ) → AreWritten written old new
+holds : (written : ℕ → Bool) (flags carry : Bool) (x : Option PairFacts) (old new : List ℕ) (sreg sreg' : ℕ) → AreRegistersWritten written old new
     → AreFlagsWritten flags carry sreg sreg' → HoldsAt x old sreg → HoldsAt (ended written flags carry x) new sreg'
 holds written flags carry None old new sreg sreg' are set h = tt
 holds written flags carry (Some f) old new sreg sreg' are set h =

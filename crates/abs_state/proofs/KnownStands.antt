@@ -2,7 +2,7 @@
 use Rattle.std.proofs.Common.{◌≡◌, refl, sym, ◌∙◌, ap, subst, ℕ, ◌+◌, ◌*◌, ◌%◌, ◌<◌, Bool, true, false, ◌&&◌, List, Option, Some, None, slice_index, arith}
 use Rattle.std.specs.Prelude.{◌==◌, if◌then◌else◌}
 use Rattle.std.proofs.lemmas.Bool.{eqb-true, eq-eqb, false≢true}
-use Rattle.bit_domain.specs.Ranges.{Holds, IsSetWithin}
+use Rattle.bit_domain.specs.Ranges.{SetHas, IsSetWithin}
 use Rattle.sp_domain.specs.declared.tags.Tag.{Tag}
 use Rattle.sp_domain.specs.declared.tags.Tag.TheVariants as tag
 use Rattle.sp_domain.specs.Tags.{Origin, TagHolds, IsTagWithin, is_same_tag}
@@ -17,7 +17,7 @@ use Rattle.pair_domain.specs.declared.tags.CompareTag.TheVariants as compare
 use Rattle.pair_domain.specs.declared.tags.ZeroTag.{ZeroTag}
 use Rattle.pair_domain.specs.declared.tags.ZeroTag.TheVariants as zero
 use Rattle.pair_domain.specs.Intervals.{InInterval, IsIntervalWithin, hull}
-use Rattle.pair_domain.specs.Tags.{pair_number, side_byte, LiesUp, LiesDown, IsCompared, SumHolds, CompareHolds, ZeroHolds, IsSumWithin, IsCompareWithin, IsZeroWithin}
+use Rattle.pair_domain.specs.Tags.{pair_number, side_byte, LiesUp, LiesDown, IsCompared, SumHolds, CompareHolds, ZeroHolds, IsSumTagWithin, IsCompareWithin, IsZeroWithin}
 use Rattle.std.specs.Int.{from_bool}
 use Rattle.pair_domain.specs.Facts.{interval_at, KnownHolds, AreFactsWithin, IsKnownWithin}
 use Rattle.pair_domain.specs.Rank.{SideFits, SumFits, CompareFits, ZeroFits, FactsFit, KnownFits}
@@ -47,7 +47,7 @@ both false b e = absurd (false≢true e)
 
 module _ (o callee : Origin) (exit after : List AbsByte) (registers : List ℕ) (out : RegistersStand callee exit registers) (names : (r : ℕ) → r < 32 → NamesRegister (value_at exit r).tag)
     (in_frame : RegistersStand o after registers) where
-  held_at : (r : ℕ) → r < 32 → Holds (set_of (value_at after r)) (slice_index registers r)
+  held_at : (r : ℕ) → r < 32 → SetHas (set_of (value_at after r)) (slice_index registers r)
   held_at r lt = let h = in_frame r lt in record { bits = h.bits; low = h.low; high = h.high; small = h.small }
 
   entry_value : (r a : ℕ) → r < 32 → (value_at exit r).tag ≡ tag.Entry a → (slice_index registers r ≡ slice_index callee.registers a) × (a < 32)
@@ -226,12 +226,12 @@ module _ (exit exit' after after' : List AbsByte) (over : (r : ℕ) → r < 32 �
       let k = both (keeps exit' r) (keeps exit' (r + 1)) e in
       both_true (keeps exit r) (keeps exit (r + 1)) (keeps_more r lt k.0) (keeps_more (r + 1) (omega (arith, lt, even)) k.1)
 
-  sum_if : (b b' : Bool) (t t' : SumTag) → (b' ≡ true → b ≡ true) → IsSumWithin t t' → IsSumWithin (if b then t else sum.None) (if b' then t' else sum.None)
+  sum_if : (b b' : Bool) (t t' : SumTag) → (b' ≡ true → b ≡ true) → IsSumTagWithin t t' → IsSumTagWithin (if b then t else sum.None) (if b' then t' else sum.None)
   sum_if b false t t' same le = tt
   sum_if true true t t' same le = le
   sum_if false true t t' same le = absurd (false≢true (same refl))
 
-  sum_more : (t t' : SumTag) → SumFits t' → IsSumWithin t t' → IsSumWithin (sum_after exit t) (sum_after exit' t')
+  sum_more : (t t' : SumTag) → SumFits t' → IsSumTagWithin t t' → IsSumTagWithin (sum_after exit t) (sum_after exit' t')
   sum_more t sum.None fits le = tt
   sum_more (sum.Up r a b) (sum.Up q c d) fits le =
       sum_if (keeps exit r && keeps exit (r + 1)) (keeps exit' q && keeps exit' (q + 1)) (sum.Up r a b) (sum.Up q c d)

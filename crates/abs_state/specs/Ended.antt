@@ -94,7 +94,7 @@ written_hull registers a (Some f) = Some (record f { intervals = slice_set f.int
 -- ---- laws
 
 -- registers that are bytes, and the same but for those that are written
-pub record AreWritten (written : ℕ → Bool) (old new : List ℕ) : Type 0 where
+pub record AreRegistersWritten (written : ℕ → Bool) (old new : List ℕ) : Type 0 where
   pub kept : (r : ℕ) → written r ≡ false → slice_index new r ≡ slice_index old r
   pub bytes : (r : ℕ) → r < 32 → slice_index new r < 256
 
@@ -109,7 +109,7 @@ pub record WritesEndFacts : Type 0 where
   pub more : (written : ℕ → Bool) (flags carry : Bool) (x y : Option PairFacts) → IsKnownWithin x y
       → IsKnownWithin (ended written flags carry x) (ended written flags carry y)
   pub fits : (written : ℕ → Bool) (flags carry : Bool) (x : Option PairFacts) → KnownFits x → KnownFits (ended written flags carry x)
-  pub holds : (written : ℕ → Bool) (flags carry : Bool) (x : Option PairFacts) (old new : List ℕ) (sreg sreg' : ℕ) → AreWritten written old new
+  pub holds : (written : ℕ → Bool) (flags carry : Bool) (x : Option PairFacts) (old new : List ℕ) (sreg sreg' : ℕ) → AreRegistersWritten written old new
       → AreFlagsWritten flags carry sreg sreg' → HoldsAt x old sreg → HoldsAt (ended written flags carry x) new sreg'
   pub count : (written : ℕ → Bool) (flags carry : Bool) (x : Option PairFacts) → HasSixteen x → HasSixteen (ended written flags carry x)
   pub hull_more : (vs ws : List AbsByte) (a : ℕ) (x y : Option PairFacts) → HasSixteen x → HasSixteen y

@@ -9,7 +9,7 @@ use Rattle.bit_domain.specs.declared.bytes.TriByte.{TriByte}
 use Rattle.bit_domain.specs.TriByte.{Has, IsWithin}
 use Rattle.sp_domain.specs.declared.slots.Slot.{Slot}
 use Rattle.sp_domain.specs.declared.tags.Tag.{Tag}
-use Rattle.sp_domain.specs.Tags.{Origin, TagHolds, LessHolds, HasBytes, IsTagWithin}
+use Rattle.sp_domain.specs.Tags.{Origin, TagHolds, LessHolds, HasByteNumbers, IsTagWithin}
 use Rattle.sp_domain.specs.Slots.{slot_at, resized}
 use Rattle.pair_domain.specs.declared.facts.PairFacts.{PairFacts}
 use Rattle.pair_domain.specs.Facts.{KnownHolds, is_followed}
@@ -169,8 +169,8 @@ pub record StatesRise : Type 0 where
 -- The numbers of tags fit after reset, at an entry, and where they fit in the caller's state after a return; and where less is said.
 pub record TagsStayFit : Type 0 where
   pub at_reset : TagsFit root
-  pub at_entry : (s : AbsState) → TagsFit (entered s) × HasBytes (entered s).flags.carry
+  pub at_entry : (s : AbsState) → TagsFit (entered s) × HasByteNumbers (entered s).flags.carry
   pub at_return : (caller exit t : AbsState) → length caller.registers ≡ 32 → TagsFit caller → returned caller exit ≡ Some t → TagsFit t
-  pub carry_at_return : (caller exit t : AbsState) → HasBytes caller.flags.carry → returned caller exit ≡ Some t → HasBytes t.flags.carry
+  pub carry_at_return : (caller exit t : AbsState) → HasByteNumbers caller.flags.carry → returned caller exit ≡ Some t → HasByteNumbers t.flags.carry
   pub less : (s t : AbsState) → IsStateWithin s t → TagsFit s → TagsFit t
-  pub carry_less : (s t : AbsState) → IsStateWithin s t → HasBytes s.flags.carry → HasBytes t.flags.carry
+  pub carry_less : (s t : AbsState) → IsStateWithin s t → HasByteNumbers s.flags.carry → HasByteNumbers t.flags.carry

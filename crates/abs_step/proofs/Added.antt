@@ -9,7 +9,7 @@ use Rattle.local_rules.specs.declared.local.Node.{Node}
 use Rattle.local_rules.specs.declared.local.NodeFault.{NodeFault}
 use Rattle.local_rules.specs.Raw.{one, moves_to}
 use Rattle.local_rules.specs.Local.{placed, joined_onto, node_where, refined_nodes}
-use Rattle.abs_step.specs.Adding.{Teller, Moving, plain, left_by, through, with_nodes, IsAdded, Adds}
+use Rattle.abs_step.specs.Adding.{Teller, Moving, plain, left_by, through, with_nodes, AreNodesAdded, Adds}
 
 -- ---- what is left of nodes
 
@@ -48,25 +48,25 @@ pub with_none : (m : Moving) → m ≡ with_nodes m []
 unfolding joined_onto
 with_none m = sym (ap (λ (xs : List Node). record m { nodes = joined_onto m.nodes xs }) (through_none m.by))
 
-pub none_added : (old : Moving) → IsAdded old old (moves_to [])
+pub none_added : (old : Moving) → AreNodesAdded old old (moves_to [])
 none_added old = record { moves = refl; nodes = with_none old }
 
 pub put_added : (old new : List Node) (k : NodeKey) (s : AbsState) → new ≡ placed (record { key = k; state = s }) old
-    → IsAdded (plain old) (plain new) (moves_to (node_where k (Some s)))
+    → AreNodesAdded (plain old) (plain new) (moves_to (node_where k (Some s)))
 unfolding joined_onto
 put_added old new k s e = record { moves = refl; nodes = ap plain e }
 
 -- what is left of the node was put into the list
 pub one_added : (by : Option Teller) (old new : List Node) (k : NodeKey) (s : AbsState)
-    → IsAdded (plain old) (plain new) (moves_to (node_where k (left_by by s)))
-    → IsAdded (record { by = by; nodes = old }) (record { by = by; nodes = new }) (one k s)
+    → AreNodesAdded (plain old) (plain new) (moves_to (node_where k (left_by by s)))
+    → AreNodesAdded (record { by = by; nodes = old }) (record { by = by; nodes = new }) (one k s)
 one_added by old new k s h = record {
   moves = refl;
   nodes = ap (λ (xs : List Node). record { by = by; nodes = xs }) (ap (λ (m : Moving). m.nodes) h.nodes ∙ ap (joined_onto old) (sym (through_one by k s)));
 }
 
-pub two_added : (old mid new : Moving) (j k : NodeKey) (s t : AbsState) → IsAdded old mid (one j s) → IsAdded mid new (one k t)
-    → IsAdded old new (moves_to (record { key = j; state = s } ∷ record { key = k; state = t } ∷ []))
+pub two_added : (old mid new : Moving) (j k : NodeKey) (s t : AbsState) → AreNodesAdded old mid (one j s) → AreNodesAdded mid new (one k t)
+    → AreNodesAdded old new (moves_to (record { key = j; state = s } ∷ record { key = k; state = t } ∷ []))
 two_added old mid new j k s t p q = record {
   moves = refl;
   nodes = q.nodes ∙ ap (λ (m : Moving). with_nodes m (record { key = k; state = t } ∷ [])) p.nodes
@@ -74,7 +74,7 @@ two_added old mid new j k s t p q = record {
 }
 
 -- the second may be refused
-pub two_add : {U : Type 0} (result : Result U NodeFault) (old mid new : Moving) (j k : NodeKey) (s t : AbsState) → IsAdded old mid (one j s)
+pub two_add : {U : Type 0} (result : Result U NodeFault) (old mid new : Moving) (j k : NodeKey) (s t : AbsState) → AreNodesAdded old mid (one j s)
     → Adds mid new result (one k t) → Adds old new result (moves_to (record { key = j; state = s } ∷ record { key = k; state = t } ∷ []))
 two_add (Ok u) old mid new j k s t p q = two_added old mid new j k s t p q
 two_add (Err f) old mid new j k s t p q = q
@@ -91,8 +91,8 @@ map_more f (x ∷ xs) (suc at) zero d lt e = absurd (omega (arith, e))
 map_more f (x ∷ xs) (suc at) (suc next) d lt e = ap (λ ns. f x ∷ ns) (map_more f xs at next d (omega (arith, lt)) (omega (arith, e)))
 
 pub more_added : (f : ℕ → Node) (xs : List ℕ) (at d : ℕ) (old mid new : Moving) (k : NodeKey) (s : AbsState) → at < length xs
-    → record { key = k; state = s } ≡ f (slice_index_or xs at d) → IsAdded old mid (moves_to (map f (take at xs))) → IsAdded mid new (one k s)
-    → IsAdded old new (moves_to (map f (take (at + 1) xs)))
+    → record { key = k; state = s } ≡ f (slice_index_or xs at d) → AreNodesAdded old mid (moves_to (map f (take at xs))) → AreNodesAdded mid new (one k s)
+    → AreNodesAdded old new (moves_to (map f (take (at + 1) xs)))
 more_added f xs at d old mid new k s lt e p q =
     record {
       moves = refl;

@@ -9,11 +9,11 @@ use Rattle.local_rules.specs.declared.local.NodeFault.{NodeFault}
 use Rattle.local_rules.specs.Raw.{Raw, all_of}
 use Rattle.local_rules.specs.Flow.{part_of, with_value, where_carry}
 use Rattle.local_rules.specs.Registers.{value}
-use Rattle.abs_step.specs.Adding.{Moving, with_nodes, first_fault, IsAdded, Adds}
-use Rattle.abs_reads.specs.Cuts.{with_part, registers_where}
+use Rattle.abs_step.specs.Adding.{Moving, with_nodes, first_fault, AreNodesAdded, Adds}
+use Rattle.local_reads.specs.Cuts.{with_part, registers_where}
 use Rattle.abs_step.proofs.Added.{with_all}
 
-pub both_added : (old mid new : Moving) (r q : Raw) → IsAdded old mid r → IsAdded mid new q → IsAdded old new (all_of (r ∷ q ∷ []))
+pub both_added : (old mid new : Moving) (r q : Raw) → AreNodesAdded old mid r → AreNodesAdded mid new q → AreNodesAdded old new (all_of (r ∷ q ∷ []))
 both_added old mid new r q p s =
     let none_r : r.faults ≡ [] = ap (λ (x : Raw). x.faults) p.moves in
     let none_q : q.faults ≡ [] = ap (λ (x : Raw). x.faults) s.moves in
@@ -24,7 +24,7 @@ both_added old mid new r q p s =
     }
 
 -- the second may be refused
-pub both_add : {U : Type 0} (result : Result U NodeFault) (old mid new : Moving) (r q : Raw) → IsAdded old mid r → Adds mid new result q
+pub both_add : {U : Type 0} (result : Result U NodeFault) (old mid new : Moving) (r q : Raw) → AreNodesAdded old mid r → Adds mid new result q
     → Adds old new result (all_of (r ∷ q ∷ []))
 both_add (Ok u) old mid new r q p s = both_added old mid new r q p s
 both_add (Err f) old mid new r q p s = λ free.

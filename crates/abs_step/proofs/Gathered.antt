@@ -6,7 +6,7 @@ use Rattle.local_rules.specs.declared.local.NodeFault.{NodeFault}
 use Rattle.local_rules.specs.declared.local.NodeFault.TheVariants.{Memory}
 use Rattle.local_rules.specs.Faults.{cause_of, is_less, least}
 use Rattle.local_rules.specs.Raw.{Raw, all_of}
-use Rattle.abs_step.specs.Adding.{Moving, with_nodes, first_fault, first_of, with_another, IsAdded, IsGathered}
+use Rattle.abs_step.specs.Adding.{Moving, with_nodes, first_fault, first_of, with_another, AreNodesAdded, AreMovesGathered}
 use Rattle.abs_step.proofs.Added.{with_all}
 
 abbrev lesser : NodeFault → NodeFault → NodeFault
@@ -59,21 +59,21 @@ not_memory f n e h m = h (e ∙ ap cause_of m)
 
 -- ---- one more
 
-pub gathered_more : (old mid new : Moving) (fault : Option NodeFault) (r q : Raw) → IsGathered old mid fault r → IsAdded mid new q
-    → IsGathered old new fault (with_another r q)
+pub gathered_more : (old mid new : Moving) (fault : Option NodeFault) (r q : Raw) → AreMovesGathered old mid fault r → AreNodesAdded mid new q
+    → AreMovesGathered old new fault (with_another r q)
 gathered_more old mid new fault r q g h = record {
   fault = ap (λ fs. first_fault (r.faults ++ fs)) (ap (λ (q : Raw). q.faults) h.moves) ∙ ap first_fault (append-nil r.faults) ∙ g.fault;
   nodes = λ none. h.nodes ∙ ap (λ (m : Moving). with_nodes m q.moves) (g.nodes none) ∙ sym (with_all old r.moves q.moves);
 }
 
-pub gathered_fault : (old mid new : Moving) (fault : Option NodeFault) (found : NodeFault) (r q : Raw) → IsGathered old mid fault r
-    → first_fault q.faults ≡ Some found → IsGathered old new (Some (first_of fault found)) (with_another r q)
+pub gathered_fault : (old mid new : Moving) (fault : Option NodeFault) (found : NodeFault) (r q : Raw) → AreMovesGathered old mid fault r
+    → first_fault q.faults ≡ Some found → AreMovesGathered old new (Some (first_of fault found)) (with_another r q)
 gathered_fault old mid new fault found r q g e = record {
   fault = first_more r.faults q.faults found e ∙ ap (λ o. Some (first_of o found)) g.fault;
   nodes = λ none. cc;
 }
 
-pub as_gathered : (old a b : Moving) (x y : Option NodeFault) (r : Raw) → a ≡ b → x ≡ y → IsGathered old b y r → IsGathered old a x r
+pub as_gathered : (old a b : Moving) (x y : Option NodeFault) (r : Raw) → a ≡ b → x ≡ y → AreMovesGathered old b y r → AreMovesGathered old a x r
 as_gathered old a b x y r d e h = record { fault = h.fault ∙ sym e; nodes = λ none. d ∙ h.nodes (sym e ∙ none) }
 
 -- ---- of a list
@@ -119,20 +119,20 @@ module _ (p : ℕ → Bool) (f : ℕ → Raw) (base : Raw) (xs : List ℕ) (at :
   abbrev pub so_far : ℕ → Raw
   so_far n = all_of (base ∷ map f (filter p (take n xs)))
 
-  pub gathered_skip : p (slice_index_or xs at 0) ≡ false → IsGathered old new fault (so_far at) → IsGathered old new fault (so_far (at + 1))
+  pub gathered_skip : p (slice_index_or xs at 0) ≡ false → AreMovesGathered old new fault (so_far at) → AreMovesGathered old new fault (so_far (at + 1))
   gathered_skip e h =
-      subst (λ (ns : List ℕ). IsGathered old new fault (all_of (base ∷ map f ns)))
+      subst (λ (ns : List ℕ). AreMovesGathered old new fault (all_of (base ∷ map f ns)))
       (sym (append-nil (filter p (take at xs))) ∙ sym (filter_more p xs at (at + 1) lt refl ∙ ap (λ (b : Bool). filter p (take at xs) ++ (if b then slice_index_or xs at 0 ∷ [] else [])) e)) h
 
-  pub gathered_next : p (slice_index_or xs at 0) ≡ true → IsGathered old new fault (with_another (so_far at) (f (slice_index_or xs at 0)))
-      → IsGathered old new fault (so_far (at + 1))
+  pub gathered_next : p (slice_index_or xs at 0) ≡ true → AreMovesGathered old new fault (with_another (so_far at) (f (slice_index_or xs at 0)))
+      → AreMovesGathered old new fault (so_far (at + 1))
   gathered_next e h =
-      subst (IsGathered old new fault)
+      subst (AreMovesGathered old new fault)
       (all_more (base ∷ map f (filter p (take at xs))) (f (slice_index_or xs at 0))
       ∙ ap (λ rs. all_of (base ∷ rs)) (sym (map_all f (filter p (take at xs)) (slice_index_or xs at 0 ∷ [])))
       ∙ ap (λ ns. all_of (base ∷ map f ns)) (sym (filter_more p xs at (at + 1) lt refl ∙ ap (λ (b : Bool). filter p (take at xs) ++ (if b then slice_index_or xs at 0 ∷ [] else [])) e))) h
 
-pub gathered_added : (old new : Moving) (base : Raw) (rs : List Raw) → IsGathered old new None (all_of (base ∷ rs)) → IsAdded old new (all_of (base ∷ rs))
+pub gathered_added : (old new : Moving) (base : Raw) (rs : List Raw) → AreMovesGathered old new None (all_of (base ∷ rs)) → AreNodesAdded old new (all_of (base ∷ rs))
 gathered_added old new base rs h =
     let none = no_faults (all_of (base ∷ rs)).faults h.fault in
     record { moves = λ i. record { moves = (all_of (base ∷ rs)).moves; calls = []; exit = None; faults = none i }; nodes = h.nodes refl }

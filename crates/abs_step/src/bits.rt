@@ -7,14 +7,14 @@ ghost use Rattle.abs_step.specs.Adding.{Adds};
 
 use crate::moves::Moves;
 use crate::site::Site;
-use crate::stores::{Write, written_at};
+use crate::stores::{ByteWrite, written_at};
 use crate::successors::{add_copy, next, setting};
-use abs_reads::flow::port;
-use abs_reads::reads::read_at;
-use abs_rows::bits::flag;
 use abs_state::AbsByte;
 use avr_model::instruction::{Bit, LowPort};
 use bit_domain::Tri;
+use local_reads::flow::port;
+use local_reads::reads::read_at;
+use local_rows::bits::flag;
 use local_rules::local::NodeFault;
 use mask_states::NodeKey;
 
@@ -32,7 +32,7 @@ pub fn bit_row(
     let bits = read_at(site.device, site.key, site.state, address)
         .bits
         .with(bit.get() as u8, if on { Tri::One } else { Tri::Zero });
-    let write = Write {
+    let write = ByteWrite {
         device: site.device,
         pc: site.key.pc,
         key: next(site.device, site.key),

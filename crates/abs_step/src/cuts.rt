@@ -8,8 +8,8 @@ ghost use Rattle.abs_step.specs.Adding.{Adds};
 use crate::moves::Moves;
 use crate::site::Site;
 use crate::successors::{changed, off_table};
-use abs_reads::cuts::registers_where;
 use bit_domain::Tri;
+use local_reads::cuts::registers_where;
 use local_rules::local::NodeFault;
 
 // Going on at a word where C has this value, if it can.

@@ -11,15 +11,15 @@ ghost use Rattle.abs_step.specs.Adding.{Adds};
 use crate::moves::Moves;
 use crate::pointer_stores::{Indirect, pointer_write};
 use crate::site::Site;
-use crate::stores::{Write, written_at};
+use crate::stores::{ByteWrite, written_at};
 use crate::successors::{at_word, changed, setting};
-use abs_reads::flow::further;
-use abs_reads::pointers::{flash_value, pair_constant, point, read_pointed, step_before};
-use abs_reads::reads::read_at;
-use abs_rows::registers::{set, value};
-use abs_rows::transfer::{base_register, pointer_moved, pointer_register};
 use abs_state::AbsByte;
 use avr_model::instruction::{Base, Pointer, Register};
+use local_reads::flow::further;
+use local_reads::pointers::{flash_value, pair_constant, point, read_pointed, step_before};
+use local_reads::reads::read_at;
+use local_rows::registers::{set, value};
+use local_rows::transfer::{base_register, pointer_moved, pointer_register};
 use local_rules::local::NodeFault;
 
 /// `ld` and `ldd`: register `d` of these gets what is at an address that registers give. There is no successor where nothing can be read.
@@ -104,7 +104,7 @@ pub fn known_write(
     ensures { Adds nodes.old nodes.new result (written_at site.now.device site.now.key.now.pc (raw.at_word site.now.key.now (raw.further site.now.device site.now.key.now (if is_out then 1 else 2))) site.now.state.now is_out address (registers.value site.now.state.now r)) }
 {
     let words = if is_out { 1 } else { 2 };
-    let write = Write {
+    let write = ByteWrite {
         device: site.device,
         pc: site.key.pc,
         key: at_word(site.key, further(site.device, site.key, words)),

@@ -11,24 +11,24 @@ ghost use Rattle.local_rules.specs.Raw as raw;
 ghost use Rattle.local_rules.specs.Flow as flow;
 ghost use Rattle.local_rules.specs.Flow.{words_on};
 ghost use Rattle.abs_step.specs.Adding.{Moving, Adds};
-ghost use Rattle.abs_step.specs.Leading.{Finds, Leads};
+ghost use Rattle.abs_step.specs.Leading.{FindsWords, LeadsOn};
 
 use crate::cuts::carry_branch;
 use crate::moves::Moves;
 use crate::site::Site;
 use crate::stack::room_row;
 use crate::successors::{add_copy, branch, off_table};
-use abs_reads::flow::{further, is_target};
-use abs_rows::arithmetic::carry_bit;
-use abs_rows::registers::pair;
-use abs_rows::status::flag_at;
-use abs_rows::transfer::base_register;
 use abs_state::AbsState;
 use avr_model::device::Device;
 use avr_model::instruction::{Base, Bit};
 use avr_model::listed::Listed;
 use bit_domain::Tri;
 use indirect_targets::targets_on;
+use local_reads::flow::{further, is_target};
+use local_rows::arithmetic::carry_bit;
+use local_rows::registers::pair;
+use local_rows::status::flag_at;
+use local_rows::transfer::base_register;
 use local_rules::local::{CallSite, Exit, NodeFault};
 use mask_states::{Kind, NodeKey, SpForm};
 use std::alloc::Global;
@@ -99,7 +99,7 @@ fn unlisted_targets(
     state: &AbsState,
     pc: u16,
 ) -> Result<Vec<u16>, NodeFault>
-    ensures { Finds result (flow.targets_by device None (registers.bits state.now 30) (registers.bits state.now 31)) pc }
+    ensures { FindsWords result (flow.targets_by device None (registers.bits state.now 30) (registers.bits state.now 31)) pc }
 {
     let (low, high) = pair(state, base_register(Base::Z));
     match targets_on(&low.bits, &high.bits, device.width()) {
@@ -113,7 +113,7 @@ fn unlisted_targets(
 
 // The words to which an indirect transfer may lead.
 pub(crate) fn targets_at(site: &Site<'_>) -> Result<Vec<u16>, NodeFault>
-    ensures { Finds result (flow.targets_at site.now.device site.now.assumptions.now site.now.key.now site.now.state.now) site.now.key.now.pc }
+    ensures { FindsWords result (flow.targets_at site.now.device site.now.assumptions.now site.now.key.now site.now.state.now) site.now.key.now.pc }
 {
     match site.assumptions.jumps(site.key.pc) {
         Some(listed) => listed_targets(site.alloc, site.device, site.state, listed),
@@ -148,7 +148,7 @@ pub(crate) fn jumping(nodes: &mut Moves<'_>, site: &Site<'_>) -> Result<(), Node
 
 /// What leaves the instance.
 #[derive(Drop)]
-pub struct Outside {
+pub struct Outgoing {
     /// Calls.
     pub calls: Listed<CallSite>,
     /// A return.
@@ -156,11 +156,11 @@ pub struct Outside {
 }
 
 // Nothing leaves it where nodes were added.
-pub(crate) fn staying(alloc: Global, added: Result<(), NodeFault>) -> Result<Outside, NodeFault>
-    ensures { (old new : Moving) (r : Raw) → Adds old new added r → Leads old new result r }
+pub(crate) fn staying(alloc: Global, added: Result<(), NodeFault>) -> Result<Outgoing, NodeFault>
+    ensures { (old new : Moving) (r : Raw) → Adds old new added r → LeadsOn old new result r }
 {
     match added {
-        Ok(()) => Ok(Outside {
+        Ok(()) => Ok(Outgoing {
             calls: Listed::empty(alloc),
             exit: None,
         }),
@@ -189,21 +189,21 @@ pub(crate) fn calling(
     key: &NodeKey,
     back: u16,
     entries: &[u16],
-) -> Result<Outside, NodeFault>
-    ensures { (nodes : Moving) → Leads nodes nodes result (flow.calling key.now back entries.now) }
+) -> Result<Outgoing, NodeFault>
+    ensures { (nodes : Moving) → LeadsOn nodes nodes result (flow.calling key.now back entries.now) }
 {
     match key.sp {
         SpForm::Closed(_) => {
             let calls = sites(alloc, entries, back)?;
-            Ok(Outside { calls, exit: None })
+            Ok(Outgoing { calls, exit: None })
         }
         SpForm::Open(_, _) => Err(NodeFault::UntrackedSp(key.pc)),
     }
 }
 
 // An indirect call.
-pub(crate) fn indirect_call(site: &Site<'_>) -> Result<Outside, NodeFault>
-    ensures { (nodes : Moving) → Leads nodes nodes result (flow.indirect_call site.now.device (flow.targets_at site.now.device site.now.assumptions.now site.now.key.now site.now.state.now) site.now.key.now) }
+pub(crate) fn indirect_call(site: &Site<'_>) -> Result<Outgoing, NodeFault>
+    ensures { (nodes : Moving) → LeadsOn nodes nodes result (flow.indirect_call site.now.device (flow.targets_at site.now.device site.now.assumptions.now site.now.key.now site.now.state.now) site.now.key.now) }
 {
     let entries = targets_at(site)?;
     let back = further(site.device, site.key, 1);
@@ -213,13 +213,13 @@ pub(crate) fn indirect_call(site: &Site<'_>) -> Result<Outside, NodeFault>
 }
 
 // A return, where the stack pointer isn't half written.
-pub(crate) fn returning(site: &Site<'_>, exit: Exit) -> Result<Outside, NodeFault>
-    ensures { (nodes : Moving) → Leads nodes nodes result (flow.at_closed site.now.key.now.sp site.now.key.now.pc (flow.returning exit site.now.key.now.pc site.now.key.now.inst.kind)) }
+pub(crate) fn returning(site: &Site<'_>, exit: Exit) -> Result<Outgoing, NodeFault>
+    ensures { (nodes : Moving) → LeadsOn nodes nodes result (flow.at_closed site.now.key.now.sp site.now.key.now.pc (flow.returning exit site.now.key.now.pc site.now.key.now.inst.kind)) }
 {
     let (pc, kind) = (site.key.pc, site.key.inst.kind);
     match site.key.sp {
         SpForm::Closed(offset) => match kind {
-            Kind::Call | Kind::Vector(_) if offset == 0 => Ok(Outside {
+            Kind::Call | Kind::Vector(_) if offset == 0 => Ok(Outgoing {
                 calls: Listed::empty(site.alloc),
                 exit: Some(exit),
             }),
@@ -235,8 +235,8 @@ pub(crate) fn relative_call(
     site: &Site<'_>,
     scratch: bool,
     target: u16,
-) -> Result<Outside, NodeFault>
-    ensures { Leads nodes.old nodes.new result (flow.relative_call site.now.device scratch site.now.key.now site.now.state.now target) }
+) -> Result<Outgoing, NodeFault>
+    ensures { LeadsOn nodes.old nodes.new result (flow.relative_call site.now.device scratch site.now.key.now site.now.state.now target) }
 {
     if scratch {
         staying(site.alloc, room_row(nodes, site, target))

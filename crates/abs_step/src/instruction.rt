@@ -8,9 +8,9 @@ ghost use Rattle.sp_domain.specs.declared.tags.CarryTag.TheVariants as tag;
 ghost use Rattle.local_rules.specs.Registers as registers;
 ghost use Rattle.local_rules.specs.Local as rows;
 ghost use Rattle.abs_step.specs.Adding.{plain};
-ghost use Rattle.abs_step.specs.Leading.{Leads};
+ghost use Rattle.abs_step.specs.Leading.{LeadsOn};
 
-use crate::flow::Outside;
+use crate::flow::Outgoing;
 use crate::moves::Moves;
 use crate::pairs::{paired_row, row_through};
 use crate::site::Site;
@@ -71,9 +71,9 @@ pub(crate) fn row_forgetting(
     site: &Site<'_>,
     scratch: bool,
     instr: &Instr,
-) -> Result<Outside, NodeFault>
+) -> Result<Outgoing, NodeFault>
     requires word { site.now.key.now.pc < WORDS }
-    ensures { Leads nodes.old nodes.new result (rows.row_of site.now.device site.now.flash.now site.now.assumptions.now scratch site.now.key.now (registers.before instr.now site.now.state.now) instr.now) }
+    ensures { LeadsOn nodes.old nodes.new result (rows.row_of site.now.device site.now.flash.now site.now.assumptions.now scratch site.now.key.now (registers.before instr.now site.now.state.now) instr.now) }
 {
     let state = site.state;
     if !is_ended(state, instr) {
@@ -95,9 +95,9 @@ pub(crate) fn row_forgetting(
 }
 
 // What the instruction at the node leads to; its word may lie behind the device's flash.
-pub(crate) fn at_instruction(nodes: &mut Nodes, site: &Site<'_>) -> Result<Outside, NodeFault>
+pub(crate) fn at_instruction(nodes: &mut Nodes, site: &Site<'_>) -> Result<Outgoing, NodeFault>
     requires word { site.now.key.now.pc < WORDS }
-    ensures { Leads (plain nodes.old) (plain nodes.new) result (rows.row_in site.now.device site.now.flash.now site.now.assumptions.now site.now.key.now site.now.state.now) }
+    ensures { LeadsOn (plain nodes.old) (plain nodes.new) result (rows.row_in site.now.device site.now.flash.now site.now.assumptions.now site.now.key.now site.now.state.now) }
 {
     let pc = site.key.pc;
     if pc >= site.device.words() {

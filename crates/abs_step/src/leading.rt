@@ -12,9 +12,9 @@ ghost use Rattle.abs_step.specs.Leading.{Settles};
 
 use crate::site::Site;
 use crate::splitting::splitting;
-use abs_reads::stack_pointer::is_hung;
 use abs_state::AbsState;
 use flash_image::Flash;
+use local_reads::stack_pointer::is_hung;
 use local_rules::local::{Local, NodeFault, Nodes};
 use mask_states::NodeKey;
 use std::alloc::Global;

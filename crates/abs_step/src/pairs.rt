@@ -8,21 +8,21 @@ ghost use Rattle.local_rules.specs.Raw.{all_of};
 ghost use Rattle.local_rules.specs.Flow as flow;
 ghost use Rattle.local_rules.specs.Local as rows;
 ghost use Rattle.abs_step.specs.Adding.{Adds, plain, refined_if};
-ghost use Rattle.abs_step.specs.Leading.{Leads};
+ghost use Rattle.abs_step.specs.Leading.{LeadsOn};
 ghost use Rattle.abs_step.specs.Tests.{IsTest, cut_by};
 
-use crate::flow::{Outside, staying};
+use crate::flow::{Outgoing, staying};
 use crate::instruction::{before, row_forgetting};
 use crate::moves::{Moves, put};
 use crate::pointer_stores::{Indirect, pointer_write};
 use crate::site::Site;
 use crate::successors::{copied, off_table};
-use abs_reads::flow::further;
-use abs_reads::pointers::step_before;
-use abs_rows::transfer::{pointer_moved, pointer_register};
 use abs_state::AbsState;
 use avr_decode::near;
 use avr_model::instruction::{BinaryOp, Bit, Instr, Pointer, Register};
+use local_reads::flow::further;
+use local_reads::pointers::step_before;
+use local_rows::transfer::{pointer_moved, pointer_register};
 use local_rules::local::{NodeFault, Nodes};
 use pair_cuts::{bit_cut, equal_cut, flag_cut};
 use pair_steps::refine;
@@ -31,42 +31,42 @@ use std::mem;
 // A test whose outcome tells of the state.
 #[derive(Clone, Copy)]
 pub(crate) enum Test {
-    /// Whether this flag is 1.
+    // Whether this flag is 1.
     Flag(u8),
-    /// Whether a register's bit is 1.
+    // Whether a register's bit is 1.
     Bit(u8, u8),
-    /// Whether two registers are equal.
+    // Whether two registers are equal.
     Equal(u8, u8),
 }
 
 // Two words that a test leads to.
 #[derive(Clone, Copy)]
 pub(crate) struct Ways {
-    /// Where it comes out so.
+    // Where it comes out so.
     pub pc: u16,
-    /// Where it doesn't.
+    // Where it doesn't.
     pub other: u16,
 }
 
 // A branch on a flag.
 #[derive(Clone, Copy)]
 pub(crate) struct FlagBranch {
-    /// The flag.
+    // The flag.
     pub n: Bit,
-    /// The word where it is 0.
+    // The word where it is 0.
     pub clear: u16,
-    /// The word where it is 1.
+    // The word where it is 1.
     pub set: u16,
 }
 
 // An `st`, and what it names.
 #[derive(Drop)]
-pub(crate) struct Store<'a> {
-    /// The instruction.
+pub(crate) struct StoreInstr<'a> {
+    // The instruction.
     pub instr: &'a Instr,
-    /// The pointer.
+    // The pointer.
     pub pointer: Pointer,
-    /// The register that is stored.
+    // The register that is stored.
     pub r: Register,
 }
 
@@ -143,7 +143,7 @@ fn store_row(
     let mut moved = before(site.alloc, site.state, &instr)?;
     moved.registers = pointer_moved(pointer, site.state);
     let left = refine(site.flash, &instr, site.state, &mut moved);
-    let store = Store {
+    let store = StoreInstr {
         instr: &instr,
         pointer,
         r,
@@ -157,7 +157,7 @@ fn store_row(
 fn stored(
     nodes: &mut Nodes,
     site: &Site<'_>,
-    store: &Store<'_>,
+    store: &StoreInstr<'_>,
     left: bool,
     moved: &AbsState,
 ) -> Result<(), NodeFault>
@@ -185,9 +185,9 @@ pub(crate) fn row_through(
     scratch: bool,
     instr: &Instr,
     refines: bool,
-) -> Result<Outside, NodeFault>
+) -> Result<Outgoing, NodeFault>
     requires word { site.now.key.now.pc < WORDS }
-    ensures { Leads (plain nodes.old) (plain nodes.new) result (refined_if refines site.now.flash.now instr.now site.now.state.now (rows.plain_row site.now.device site.now.flash.now site.now.assumptions.now scratch site.now.key.now site.now.state.now instr.now)) }
+    ensures { LeadsOn (plain nodes.old) (plain nodes.new) result (refined_if refines site.now.flash.now instr.now site.now.state.now (rows.plain_row site.now.device site.now.flash.now site.now.assumptions.now scratch site.now.key.now site.now.state.now instr.now)) }
 {
     let so_far = mem::replace(nodes, Nodes::new(site.alloc));
     let mut moves = Moves::new(so_far, site, instr, refines);
@@ -203,9 +203,9 @@ fn paired_branch(
     scratch: bool,
     instr: &Instr,
     branch: FlagBranch,
-) -> Result<Outside, NodeFault>
+) -> Result<Outgoing, NodeFault>
     requires word { site.now.key.now.pc < WORDS }
-    ensures { Leads (plain nodes.old) (plain nodes.new) result (rows.paired_branch branch.n site.now.key.now site.now.state.now branch.set branch.clear (rows.plain_row site.now.device site.now.flash.now site.now.assumptions.now scratch site.now.key.now site.now.state.now instr.now)) }
+    ensures { LeadsOn (plain nodes.old) (plain nodes.new) result (rows.paired_branch branch.n site.now.key.now site.now.state.now branch.set branch.clear (rows.plain_row site.now.device site.now.flash.now site.now.assumptions.now scratch site.now.key.now site.now.state.now instr.now)) }
 {
     if branch.n.get() >= 7 {
         return row_through(nodes, site, scratch, instr, false);
@@ -225,9 +225,9 @@ pub(crate) fn paired_row(
     site: &Site<'_>,
     scratch: bool,
     instr: &Instr,
-) -> Result<Outside, NodeFault>
+) -> Result<Outgoing, NodeFault>
     requires word { site.now.key.now.pc < WORDS }
-    ensures { Leads (plain nodes.old) (plain nodes.new) result (rows.paired_row site.now.device site.now.flash.now site.now.assumptions.now scratch site.now.key.now site.now.state.now instr.now) }
+    ensures { LeadsOn (plain nodes.old) (plain nodes.new) result (rows.paired_row site.now.device site.now.flash.now site.now.assumptions.now scratch site.now.key.now site.now.state.now instr.now) }
 {
     let (a, device, key) = (site.alloc, site.device, site.key);
     match instr {

@@ -7,16 +7,16 @@ ghost use Rattle.local_rules.specs.Raw.{Raw, next};
 ghost use Rattle.local_rules.specs.Registers.{value};
 ghost use Rattle.local_rules.specs.Reads.{pointed};
 ghost use Rattle.local_rules.specs.Writes as writes;
-ghost use Rattle.abs_step.specs.Adding.{Moving, Adds, IsGathered, with_another, first_of};
+ghost use Rattle.abs_step.specs.Adding.{Moving, Adds, AreMovesGathered, with_another, first_of};
 
 use crate::moves::Moves;
 use crate::site::Site;
-use crate::stores::{Write, written_at};
+use crate::stores::{ByteWrite, written_at};
 use crate::successors::{add_copy, next};
-use abs_reads::pointers::{point, reaches};
-use abs_rows::registers::value;
 use abs_state::AbsState;
 use avr_model::instruction::{LowRegister, Register};
+use local_reads::pointers::{point, reaches};
+use local_rows::registers::value;
 use local_rules::local::NodeFault;
 use std::alloc::Global;
 
@@ -43,11 +43,11 @@ pub fn first(fault: Option<NodeFault>, found: NodeFault) -> NodeFault
 fn stored_too(
     nodes: &mut Moves<'_>,
     alloc: Global,
-    write: &Write<'_>,
+    write: &ByteWrite<'_>,
     address: u16,
     fault: Option<NodeFault>,
 ) -> Result<Option<NodeFault>, NodeFault>
-    ensures ok { IfOk result (λ next. (old : Moving) (r : Raw) → IsGathered old nodes.old fault r → IsGathered old nodes.new next (with_another r (writes.written_at write.now.device write.now.pc write.now.key write.now.state.now false address write.now.value))) }
+    ensures ok { IfOk result (λ next. (old : Moving) (r : Raw) → AreMovesGathered old nodes.old fault r → AreMovesGathered old nodes.new next (with_another r (writes.written_at write.now.device write.now.pc write.now.key write.now.state.now false address write.now.value))) }
     ensures err { IfErr result (λ e. e ≡ Memory) }
 {
     match written_at(nodes, alloc, write, false, address) {
@@ -66,7 +66,7 @@ fn stored_too(
 fn listed_writes(
     nodes: &mut Moves<'_>,
     site: &Site<'_>,
-    write: &Write<'_>,
+    write: &ByteWrite<'_>,
     to: &Indirect,
     addresses: &[u16],
 ) -> Result<(), NodeFault>
@@ -96,7 +96,7 @@ pub fn pointer_write(
     requires { length after.now.slots ≡ offset_of site.now.key.now.sp }
     ensures { Adds nodes.old nodes.new result (writes.pointer_write site.now.device site.now.flash.now site.now.assumptions.now site.now.state.now to.r to.up (pointed site.now.state.now to.r to.up) site.now.key.now.pc (next site.now.device site.now.key.now) after.now (value site.now.state.now source)) }
 {
-    let write = Write {
+    let write = ByteWrite {
         device: site.device,
         pc: site.key.pc,
         key: next(site.device, site.key),

@@ -5,16 +5,16 @@ ghost use Rattle.avr_model.specs.Image.{WORDS};
 ghost use Rattle.local_rules.specs.declared.local.NodeFault.TheVariants.{Memory};
 ghost use Rattle.local_rules.specs.Raw.{Raw, all_of};
 ghost use Rattle.local_rules.specs.Local as rows;
-ghost use Rattle.abs_step.specs.Adding.{Moving, Adds, IsGathered, plain, with_another};
+ghost use Rattle.abs_step.specs.Adding.{Moving, Adds, AreMovesGathered, plain, with_another};
 ghost use Rattle.pair_cuts.specs.Cuts.{pick_cut};
-ghost use Rattle.abs_step.specs.Leading.{Leads};
+ghost use Rattle.abs_step.specs.Leading.{LeadsOn};
 
-use crate::flow::{Outside, staying};
+use crate::flow::{Outgoing, staying};
 use crate::instruction::at_instruction;
 use crate::pointer_stores::first;
 use crate::site::Site;
 use crate::successors::copied;
-use abs_reads::picks::picks;
+use local_reads::picks::picks;
 use local_rules::local::{NodeFault, Nodes};
 use mask_states::NodeKey;
 use pair_cuts::pick_cut;
@@ -38,9 +38,9 @@ fn split_site(site: &Site<'_>) -> Option<u16>
 
 // What the node leads to with this byte picked, where something is left of its state.
 #[tactic(auto, using(crate::proofs::Slots::pick_slots))]
-fn with_pick(nodes: &mut Nodes, site: &Site<'_>, byte: u8) -> Result<Outside, NodeFault>
+fn with_pick(nodes: &mut Nodes, site: &Site<'_>, byte: u8) -> Result<Outgoing, NodeFault>
     requires word { site.now.key.now.pc < WORDS }
-    ensures { Leads (plain nodes.old) (plain nodes.new) result (rows.picked_row (rows.row_in site.now.device site.now.flash.now site.now.assumptions.now) (rows.picking site.now.key.now byte) (pick_cut byte site.now.state.now)) }
+    ensures { LeadsOn (plain nodes.old) (plain nodes.new) result (rows.picked_row (rows.row_in site.now.device site.now.flash.now site.now.assumptions.now) (rows.picking site.now.key.now byte) (pick_cut byte site.now.state.now)) }
 {
     let mut picked = copied(site.alloc, site.state)?;
     let left = pick_cut(&mut picked, byte);
@@ -73,7 +73,7 @@ fn picked_too(
     fault: Option<NodeFault>,
 ) -> Result<Option<NodeFault>, NodeFault>
     requires word { site.now.key.now.pc < WORDS }
-    ensures ok { IfOk result (λ next. (old : Moving) (r : Raw) → IsGathered old (plain nodes.old) fault r → IsGathered old (plain nodes.new) next (with_another r (rows.picked_row (rows.row_in site.now.device site.now.flash.now site.now.assumptions.now) (rows.picking site.now.key.now byte) (pick_cut byte site.now.state.now)))) }
+    ensures ok { IfOk result (λ next. (old : Moving) (r : Raw) → AreMovesGathered old (plain nodes.old) fault r → AreMovesGathered old (plain nodes.new) next (with_another r (rows.picked_row (rows.row_in site.now.device site.now.flash.now site.now.assumptions.now) (rows.picking site.now.key.now byte) (pick_cut byte site.now.state.now)))) }
     ensures err { IfErr result (λ e. e ≡ Memory) }
 {
     match with_pick(nodes, site, byte) {
@@ -118,9 +118,9 @@ fn split(nodes: &mut Nodes, site: &Site<'_>, jump: u16) -> Result<(), NodeFault>
 }
 
 // What the node leads to: where it splits, all that it would with each byte that r30 may hold.
-pub(crate) fn splitting(nodes: &mut Nodes, site: &Site<'_>) -> Result<Outside, NodeFault>
+pub(crate) fn splitting(nodes: &mut Nodes, site: &Site<'_>) -> Result<Outgoing, NodeFault>
     requires word { site.now.key.now.pc < WORDS }
-    ensures { Leads (plain nodes.old) (plain nodes.new) result (rows.splitting (rows.split_site site.now.flash.now site.now.assumptions.now site.now.key.now.pc site.now.key.now.pick) (rows.row_in site.now.device site.now.flash.now site.now.assumptions.now) site.now.key.now site.now.state.now) }
+    ensures { LeadsOn (plain nodes.old) (plain nodes.new) result (rows.splitting (rows.split_site site.now.flash.now site.now.assumptions.now site.now.key.now.pc site.now.key.now.pick) (rows.row_in site.now.device site.now.flash.now site.now.assumptions.now) site.now.key.now site.now.state.now) }
 {
     match split_site(site) {
         Some(jump) => staying(site.alloc, split(nodes, site, jump)),

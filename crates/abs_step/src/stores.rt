@@ -13,14 +13,14 @@ ghost use Rattle.abs_step.specs.Adding.{Adds};
 
 use crate::moves::Moves;
 use crate::successors::{add_copy, add_two, changed, copied};
-use abs_reads::stack_pointer::{closing_offset, high_part};
-use abs_rows::bits::I;
-use abs_rows::registers::set;
-use abs_rows::status::flags_written;
 use abs_state::{AbsByte, AbsFlags, AbsState, end_facts, hull_written};
 use avr_model::device::{Device, REGISTERS_END, SPH, SPL, SREG};
 use avr_model::instruction::Register;
 use bit_domain::Tri;
+use local_reads::stack_pointer::{closing_offset, high_part};
+use local_rows::bits::I;
+use local_rows::registers::set;
+use local_rows::status::flags_written;
 use local_rules::local::NodeFault;
 use mask_states::{High, NodeKey, SpForm, split};
 use sp_domain::CarryTag;
@@ -29,7 +29,7 @@ use vector_table::Masks;
 
 /// What is written: the device, the byte, the word of the instruction, and the node that the machine is at after it otherwise.
 #[derive(Drop)]
-pub struct Write<'a> {
+pub struct ByteWrite<'a> {
     /// The device.
     pub device: Device,
     /// The word of the instruction.
@@ -48,7 +48,7 @@ fn opening(
     nodes: &mut Moves<'_>,
     alloc: Global,
     high: Option<High>,
-    write: &Write<'_>,
+    write: &ByteWrite<'_>,
 ) -> Result<(), NodeFault>
     ensures { Adds nodes.old nodes.new result (writes.opening high write.now.key write.now.state.now write.now.pc) }
 {
@@ -82,7 +82,7 @@ fn closing(
     nodes: &mut Moves<'_>,
     alloc: Global,
     offset: Option<u16>,
-    write: &Write<'_>,
+    write: &ByteWrite<'_>,
 ) -> Result<(), NodeFault>
     ensures { Adds nodes.old nodes.new result (writes.closing write.now.device offset write.now.key write.now.state.now write.now.pc) }
 {
@@ -114,7 +114,7 @@ fn with_i(key: &NodeKey, is_out: bool, on: bool) -> NodeKey
 fn add_masks(
     nodes: &mut Moves<'_>,
     alloc: Global,
-    write: &Write<'_>,
+    write: &ByteWrite<'_>,
     all: &[Masks],
 ) -> Result<(), NodeFault>
     ensures { Adds nodes.old nodes.new result (moves_to (map (λ m. record { key = record write.now.key { masks = m }; state = write.now.state.now }) all.now)) }
@@ -146,7 +146,7 @@ fn forgotten(carry: CarryTag, d: Register) -> CarryTag
 fn register_written(
     nodes: &mut Moves<'_>,
     alloc: Global,
-    write: &Write<'_>,
+    write: &ByteWrite<'_>,
     d: Register,
 ) -> Result<(), NodeFault>
     ensures { Adds nodes.old nodes.new result (one write.now.key (writes.register_written write.now.state.now d write.now.value)) }
@@ -175,7 +175,7 @@ fn set_of(d: Register) -> u32
 fn flags_set(
     nodes: &mut Moves<'_>,
     alloc: Global,
-    write: &Write<'_>,
+    write: &ByteWrite<'_>,
     is_out: bool,
 ) -> Result<(), NodeFault>
     ensures { Adds nodes.old nodes.new result (writes.sreg_written (tri_at write.now.value.bits 7) write.now.key (writes.put_flags write.now.state.now (writes.flags_written write.now.value)) is_out) }
@@ -199,7 +199,7 @@ fn flags_set(
 pub fn written_at(
     nodes: &mut Moves<'_>,
     alloc: Global,
-    write: &Write<'_>,
+    write: &ByteWrite<'_>,
     is_out: bool,
     address: u16,
 ) -> Result<(), NodeFault>

@@ -10,10 +10,10 @@ ghost use Rattle.abs_step.specs.Adding.{Adds};
 
 use crate::moves::Moves;
 use crate::site::Site;
-use abs_reads::flow::further;
 use abs_state::{AbsByte, AbsFlags, AbsState};
 use avr_model::device::Device;
 use bit_domain::Tri;
+use local_reads::flow::further;
 use local_rules::local::NodeFault;
 use mask_states::NodeKey;
 use std::alloc::Global;

@@ -5,12 +5,12 @@ ghost use Rattle.avr_model.specs.Assumptions.{is_frame};
 ghost use Rattle.avr_model.specs.Image.{WORDS};
 ghost use Rattle.local_rules.specs.Local as rows;
 ghost use Rattle.abs_step.specs.Adding.{Adds};
-ghost use Rattle.abs_step.specs.Leading.{Leads};
+ghost use Rattle.abs_step.specs.Leading.{LeadsOn};
 
 use crate::bits::{bit_row, flag_row};
 use crate::data_transfer::{known_write, load_row, lpm_row, read_row, store_row};
 use crate::flow::{
-    Outside, calling, flag_branch, indirect_call, jumping, relative_call, returning, skipping,
+    Outgoing, calling, flag_branch, indirect_call, jumping, relative_call, returning, skipping,
     staying,
 };
 use crate::moves::Moves;
@@ -18,13 +18,13 @@ use crate::pointer_stores::{Indirect, pointer_write};
 use crate::site::Site;
 use crate::stack::{pop_row, push_row};
 use crate::successors::{going_to, setting};
-use abs_reads::flow::{further, port, port_bit, register_bit};
-use abs_reads::pointers::step_before;
-use abs_rows::registers::bits;
-use abs_rows::rows::{binary_at, computed_by};
-use abs_rows::transfer::{base_register, pointer_moved, pointer_register};
 use avr_decode::{far, near};
 use avr_model::instruction::{BinaryOp, Instr, Pointer, Register};
+use local_reads::flow::{further, port, port_bit, register_bit};
+use local_reads::pointers::step_before;
+use local_rows::registers::bits;
+use local_rows::rows::{binary_at, computed_by};
+use local_rows::transfer::{base_register, pointer_moved, pointer_register};
 use local_rules::local::{Exit, NodeFault};
 
 // Flow, and what has no operand.
@@ -33,9 +33,9 @@ fn flow_row(
     site: &Site<'_>,
     scratch: bool,
     instr: &Instr,
-) -> Result<Outside, NodeFault>
+) -> Result<Outgoing, NodeFault>
     requires word { site.now.key.now.pc < WORDS }
-    ensures { Leads nodes.old nodes.new result (rows.flow_row site.now.device site.now.flash.now site.now.assumptions.now scratch site.now.key.now site.now.state.now instr.now) }
+    ensures { LeadsOn nodes.old nodes.new result (rows.flow_row site.now.device site.now.flash.now site.now.assumptions.now scratch site.now.key.now site.now.state.now instr.now) }
 {
     let (a, device) = (site.alloc, site.device);
     let (key, state) = (site.key, site.state);
@@ -91,9 +91,9 @@ fn memory_row(
     site: &Site<'_>,
     scratch: bool,
     instr: &Instr,
-) -> Result<Outside, NodeFault>
+) -> Result<Outgoing, NodeFault>
     requires word { site.now.key.now.pc < WORDS }
-    ensures { Leads nodes.old nodes.new result (rows.memory_row site.now.device site.now.flash.now site.now.assumptions.now scratch site.now.key.now site.now.state.now instr.now) }
+    ensures { LeadsOn nodes.old nodes.new result (rows.memory_row site.now.device site.now.flash.now site.now.assumptions.now scratch site.now.key.now site.now.state.now instr.now) }
 {
     let state = site.state;
     let added = match instr {
@@ -166,9 +166,9 @@ pub(crate) fn row(
     site: &Site<'_>,
     scratch: bool,
     instr: &Instr,
-) -> Result<Outside, NodeFault>
+) -> Result<Outgoing, NodeFault>
     requires word { site.now.key.now.pc < WORDS }
-    ensures { Leads nodes.old nodes.new result (rows.row_of site.now.device site.now.flash.now site.now.assumptions.now scratch site.now.key.now site.now.state.now instr.now) }
+    ensures { LeadsOn nodes.old nodes.new result (rows.row_of site.now.device site.now.flash.now site.now.assumptions.now scratch site.now.key.now site.now.state.now instr.now) }
 {
     let line = site.assumptions.frame(site.key.pc);
     let added = match computed_by(site.state, line, instr) {

@@ -4,14 +4,14 @@ ghost use Rattle.std.specs.Prelude.{◌≡◌, ◌-◌, ◌*◌, ◌^◌, true, 
 ghost use Rattle.avr_model.specs.Sreg.{flag};
 ghost use Rattle.avr_model.specs.Bitwise.{logic_of, flags_of_result, step_of, step_overflows, top_of, shift_of, flags_of_shift};
 
-use crate::sreg::{Outcome, Sreg};
+use crate::sreg::{FlagOutcome, Sreg};
 use avr_model::operation::{Logic, Shift};
 
 // The register with these C and V, with N and Z of a result, and with H kept.
 fn of_result(carry: bool, overflow: bool, result_byte: u8, s: Sreg) -> Sreg
     ensures { result.0 ≡ flags_of_result carry overflow result_byte s.0 }
 {
-    s.with_outcome(Outcome {
+    s.with_outcome(FlagOutcome {
         carry,
         zero: result_byte == 0,
         negative: result_byte & 0x80 != 0,

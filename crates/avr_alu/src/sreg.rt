@@ -12,21 +12,21 @@ pub struct Sreg(pub u8);
 
 bitflag_items! {
     impl Sreg: u8 {
-        /// Carry.
+        // Carry.
         const C = 1;
-        /// Zero.
+        // Zero.
         const Z = 2;
-        /// Negative.
+        // Negative.
         const N = 4;
-        /// Two's complement overflow.
+        // Two's complement overflow.
         const V = 8;
-        /// Sign: N xor V.
+        // Sign: N xor V.
         const S = 16;
-        /// Half carry.
+        // Half carry.
         const H = 32;
-        /// The bit that `bst` and `bld` copy.
+        // The bit that `bst` and `bld` copy.
         const T = 64;
-        /// Global interrupt enable.
+        // Global interrupt enable.
         const I = 128;
     }
 }
@@ -105,7 +105,7 @@ impl Sreg {
     }
 
     // The register with the flags of an operation, and with S as N xor V. T and I are kept.
-    pub(crate) fn with_outcome(self, outcome: Outcome) -> Sreg
+    pub(crate) fn with_outcome(self, outcome: FlagOutcome) -> Sreg
         ensures { result.0
             ≡ with_flags outcome.carry outcome.zero outcome.negative outcome.overflow outcome.half_carry self.0 }
     {
@@ -122,7 +122,7 @@ impl Sreg {
 
 // What an operation says of the flags that it may change.
 #[derive(Clone, Copy)]
-pub(crate) struct Outcome {
+pub(crate) struct FlagOutcome {
     pub(crate) carry: bool,
     pub(crate) zero: bool,
     pub(crate) negative: bool,

@@ -3,7 +3,7 @@
 ghost use Rattle.std.specs.Prelude.{◌≡◌, ◌%◌};
 ghost use Rattle.avr_model.specs.Sums.{sum_of, flags_of_sum, difference_of, flags_of_difference};
 
-use crate::sreg::{Outcome, Sreg};
+use crate::sreg::{FlagOutcome, Sreg};
 
 /// ADD and ADC: the sum of `a`, `b` and a carry. C and H are the carries out of bits 7 and 3, V is signed overflow.
 /// Source: Instruction Set Manual, ADD and ADC.
@@ -14,7 +14,7 @@ pub fn add(a: u8, b: u8, carry: bool, s: Sreg) -> (u8, Sreg)
     let r = a.wrapping_add(b).wrapping_add(u8::from(carry));
     let carries = (a & b) | ((a | b) & !r);
     let overflow = (a ^ r) & (b ^ r);
-    let flags = s.with_outcome(Outcome {
+    let flags = s.with_outcome(FlagOutcome {
         carry: carries & 0x80 != 0,
         zero: r == 0,
         negative: r & 0x80 != 0,
@@ -34,7 +34,7 @@ pub fn sub(a: u8, b: u8, borrow: bool, keep_zero: bool, s: Sreg) -> (u8, Sreg)
     let r = a.wrapping_sub(b).wrapping_sub(u8::from(borrow));
     let borrows = (!a & b) | ((!a | b) & r);
     let overflow = (a ^ b) & (a ^ r);
-    let flags = s.with_outcome(Outcome {
+    let flags = s.with_outcome(FlagOutcome {
         carry: borrows & 0x80 != 0,
         zero: (r == 0) & (!keep_zero | s.zero()),
         negative: r & 0x80 != 0,

@@ -3,7 +3,7 @@
 ghost use Rattle.std.specs.Prelude.{◌≡◌};
 ghost use Rattle.avr_model.specs.Wide.{wide_of, flags_of_wide};
 
-use crate::sreg::{Outcome, Sreg};
+use crate::sreg::{FlagOutcome, Sreg};
 
 /// ADIW where `up` holds, and else SBIW: a word plus or minus `k`. C is the carry or borrow of 16 bits, V is signed
 /// overflow of 16 bits, and N is bit 15.
@@ -21,7 +21,7 @@ pub fn wide(up: bool, a: u16, k: u8, s: Sreg) -> (u16, Sreg)
         let r = a.wrapping_sub(k);
         (r, r & !a, !r & a)
     };
-    let flags = s.with_outcome(Outcome {
+    let flags = s.with_outcome(FlagOutcome {
         carry: carry & 0x8000 != 0,
         zero: r == 0,
         negative: r & 0x8000 != 0,

@@ -2,7 +2,7 @@
 use Rattle.std.specs.Prelude.{ℕ, ◌+◌, ◌&&◌, Bool, true, false, List, [], ◌∷◌, Option, Some, None, if◌then◌else◌}
 use Rattle.avr_model.specs.declared.instruction.Instr.{Instr}
 use Rattle.avr_model.specs.Sites.{leaves, is_ldi, sets}
-use Rattle.avr_decode.specs.declared.fixed.Told.{Told}
+use Rattle.avr_decode.specs.declared.fixed.PointerTold.{PointerTold}
 
 -- whether the last instruction that sets the register is `ldi`, where `behind` says it of those behind this one
 abbrev pub set_before : ℕ → Instr → Option Bool → Option Bool
@@ -15,12 +15,12 @@ last_set r [] = None
 last_set r (x ∷ xs) = set_before r x (last_set r xs)
 
 -- what a way tells of the pair of registers from r up
-abbrev pub told : ℕ → Option (List Instr) → Option Told
+abbrev pub told : ℕ → Option (List Instr) → Option PointerTold
 told r None = None
 told r (Some xs) = Some (record { low = last_set r xs; high = last_set (r + 1) xs })
 
 -- what a way tells that begins with this instruction and goes on with one that tells this
-abbrev pub told_before : ℕ → Option Instr → Option Told → Option Told
+abbrev pub told_before : ℕ → Option Instr → Option PointerTold → Option PointerTold
 told_before r None rest = None
 told_before r (Some x) None = None
 told_before r (Some x) (Some t) = if leaves x then None else Some (record { low = set_before r x t.low; high = set_before (r + 1) x t.high })
@@ -34,11 +34,11 @@ may_be_load None = true
 may_be_load (Some loaded) = loaded
 
 -- the way loads both registers
-abbrev pub loads_both : Option Told → Bool
+abbrev pub loads_both : Option PointerTold → Bool
 loads_both None = false
 loads_both (Some t) = is_load t.low && is_load t.high
 
 -- some way that goes on with this one may load both
-abbrev pub may_load : Option Told → Bool
+abbrev pub may_load : Option PointerTold → Bool
 may_load None = false
 may_load (Some t) = may_be_load t.low && may_be_load t.high

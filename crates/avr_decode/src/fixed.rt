@@ -53,7 +53,7 @@ fn store_pointer(instr: &Instr) -> Option<u16>
 // What a way to a store tells of the pair of registers that is its pointer: of each, whether the last instruction that sets
 // it is `ldi`; none where none sets it.
 #[derive(Clone, Copy)]
-struct Told {
+struct PointerTold {
     low: Option<bool>,
     high: Option<bool>,
 }
@@ -75,9 +75,9 @@ fn told_from(
     words: &[u16],
     at: usize,
     register: u16,
-    one: Option<Told>,
-    two: Option<Told>,
-) -> Option<Told>
+    one: Option<PointerTold>,
+    two: Option<PointerTold>,
+) -> Option<PointerTold>
     requires flash { IsFlash words.now }
     requires room { at < 131072 }
     requires register { register < 31 }
@@ -93,7 +93,7 @@ fn told_from(
     if leaves(&instr) {
         return None;
     }
-    Some(Told {
+    Some(PointerTold {
         low: set_before(register, &instr, told.low),
         high: set_before(register + 1, &instr, told.high),
     })
@@ -101,7 +101,7 @@ fn told_from(
 
 // Whether the way loads both registers, where one that nothing on it sets counts as `unset` says: it may still be loaded on a longer
 // way.
-fn loads(told: Option<Told>, unset: bool) -> bool
+fn loads(told: Option<PointerTold>, unset: bool) -> bool
     ensures { result ≡ (if unset then may_load told else loads_both told) }
 {
     match told {
@@ -125,7 +125,7 @@ pub fn is_fixed(words: &[u16], a: u16) -> bool
         return false;
     };
     // What the ways from one and from two words behind the next one tell: first those from the store itself and from behind it.
-    let mut one = Some(Told {
+    let mut one = Some(PointerTold {
         low: None,
         high: None,
     });

@@ -1,6 +1,6 @@
 //! What a program's words say at a word address.
 
-ghost use Rattle.std.specs.Prelude.{◌≡◌, ◌≤◌, IfOk, length};
+ghost use Rattle.std.specs.Prelude.{◌≤◌, IfOk, length};
 ghost use Rattle.avr_model.specs.Devices.{IsFlash};
 ghost use Rattle.avr_model.specs.Image.{AreErased};
 ghost use Rattle.avr_decode.specs.Reading.{AreReadings};

@@ -8,8 +8,8 @@ use Rattle.std.proofs.Math.Seq.{take-append_seam, take-append-add, take-set-lt}
 use Rattle.std.proofs.lemmas.List.{length-take, length-take-le, length-drop, get_or-take, get_or_past, take-replicate, take-append-drop, take-append-le, take-set-le, drop-take, replicate-append-replicate}
 
 -- no place below the floor is live
-abbrev pub IsClear : ℕ → List Bool → Type 0
-IsClear floor flags = take floor flags ≡ replicate floor false
+abbrev pub IsBitClear : ℕ → List Bool → Type 0
+IsBitClear floor flags = take floor flags ≡ replicate floor false
 
 pub none_live : (size : ℕ) → size ≤ 2048 → take size (replicate 2048 false) ≡ replicate size false
 none_live size le = take-replicate size 2048 false le
@@ -21,7 +21,7 @@ pub none_past : (size place : ℕ) (flags : List Bool) → size ≤ place → sl
 none_past size place flags le = get_or_past (take size flags) place false (let e = length-take size flags in omega (arith, le, e))
 
 -- fewer places are clear too
-clear_below : (flags : List Bool) (floor n : ℕ) → IsClear floor flags → n ≤ floor → IsClear n flags
+clear_below : (flags : List Bool) (floor n : ℕ) → IsBitClear floor flags → n ≤ floor → IsBitClear n flags
 clear_below flags floor n clear le =
     ap (take n) (sym (take-append-drop floor flags))
     ∙ ap (λ (xs : List Bool). take n (xs ++ drop floor flags)) clear
@@ -29,7 +29,7 @@ clear_below flags floor n clear le =
     ∙ take-replicate n floor false le
 
 -- a place that becomes live lowers the floor
-pub clear_set : (flags : List Bool) (floor place n : ℕ) (x : Bool) → IsClear floor flags → n ≡ min floor place → IsClear n (slice_set flags place x)
+pub clear_set : (flags : List Bool) (floor place n : ℕ) (x : Bool) → IsBitClear floor flags → n ≡ min floor place → IsBitClear n (slice_set flags place x)
 clear_set flags floor place n x clear is =
     take-set-le n flags place x (omega (arith, is)) ∙ clear_below flags floor n clear (omega (arith, is))
 
@@ -40,11 +40,11 @@ set_part flags size place lt = take-set-lt size flags place true lt
 abbrev pub IsCleared : ℕ → List Bool → List Bool → Type 0
 IsCleared end before after = after ≡ replicate end false ++ drop end before
 
-pub cleared_already : (flags : List Bool) (floor end : ℕ) → IsClear floor flags → end ≤ floor → IsCleared end flags flags
+pub cleared_already : (flags : List Bool) (floor end : ℕ) → IsBitClear floor flags → end ≤ floor → IsCleared end flags flags
 cleared_already flags floor end clear le =
     sym (take-append-drop end flags) ∙ ap (λ (xs : List Bool). xs ++ drop end flags) (clear_below flags floor end clear le)
 
-pub cleared_mid : (flags part : List Bool) (floor end : ℕ) → IsClear floor flags → floor < end → end ≤ length flags → part ≡ replicate (length (mid_of floor (end - floor) flags)) false
+pub cleared_mid : (flags part : List Bool) (floor end : ℕ) → IsBitClear floor flags → floor < end → end ≤ length flags → part ≡ replicate (length (mid_of floor (end - floor) flags)) false
     → IsCleared end flags (put_mid floor (end - floor) flags part)
 cleared_mid flags part floor end clear less fits is =
     let count : length (mid_of floor (end - floor) flags) ≡ end - floor =
@@ -60,7 +60,7 @@ cleared_mid flags part floor end clear less fits is =
     ∙ ap (λ (n : ℕ). replicate n false) sum)
     (drop-put_mid floor (end - floor) flags part end (omega (arith, less)) (omega (arith, less, fits)) size)
 
-pub clear_after : (before after : List Bool) (end : ℕ) → IsCleared end before after → IsClear end after
+pub clear_after : (before after : List Bool) (end : ℕ) → IsCleared end before after → IsBitClear end after
 clear_after before after end cleared =
     ap (take end) cleared
     ∙ ap (λ (n : ℕ). take n (replicate end false ++ drop end before)) (sym (length-replicate {A = Bool} end false))

@@ -18,7 +18,7 @@ use Rattle.edge_laws.proofs.ExpansionLaws.{same_list}
 use Rattle.call_graph.specs.declared.exit_list.Leaving.{Leaving}
 use Rattle.call_graph.specs.declared.exit_list.Leaving.TheVariants.{All, Fault}
 use Rattle.call_graph.specs.Next.{exit_in}
-use Rattle.call_graph.specs.Exits.{AreExits, IsFirstFault, GivesExits, exit_or, AreKnown, ExitsSoFar}
+use Rattle.call_graph.specs.Exits.{AreExits, IsFirstFault, GivesExits, exit_or, AreExitsKnown, ExitsSoFar}
 use Rattle.call_graph.specs.Laws.{ExitsAreExact}
 
 -- ---- lists
@@ -61,10 +61,10 @@ module _ (words : List ℕ) (A : List Entry) where
   -- ---- exits that are known
 
   module _ (nodes : List Node) where
-    pub none_known : AreKnown words A nodes []
+    pub none_known : AreExitsKnown words A nodes []
     none_known at n x there e = absurd (none-some x e)
 
-    pub all_known : (exits : List (Option Exit)) → AreExits words A nodes exits → AreKnown words A nodes exits
+    pub all_known : (exits : List (Option Exit)) → AreExits words A nodes exits → AreExitsKnown words A nodes exits
     all_known exits e at n x there is =
         same_Some x (raw_of words A n).exit (sym is ∙ e.each at n there) ∙ sym (exit_is n (e.faultless n (contained_at nodes at n there)))
 

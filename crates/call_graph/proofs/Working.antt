@@ -10,7 +10,7 @@ use Rattle.mask_states.specs.Order.{same_node}
 use Rattle.local_rules.specs.declared.local.Node.{Node}
 use Rattle.edge_rules.specs.declared.seeded.NodeForm.{NodeForm}
 use Rattle.edge_rules.specs.Expansion.{Seeds, AreSeeds, HasKeyAt, IsFilled, IsMissing}
-use Rattle.edge_laws.specs.Carrying.{first_at, carried, worked, SoFar}
+use Rattle.edge_laws.specs.Carrying.{first_at, carried, worked, AreExpandedSoFar}
 use Rattle.edge_laws.proofs.ExpansionLaws.{same_seed, one_more, missing, whole}
 use Rattle.edge_rules.specs.declared.seeded.Seed.{Seed}
 use Rattle.edge_rules.specs.declared.seeded.Seed.TheVariants as seed
@@ -28,7 +28,7 @@ worked_from words A done k x m n e g = sym (ap (λ (y : Seed). worked words A do
 seed_is : (nodes : Seeds) (at : ℕ) (k : NodeKey) (f : NodeForm) → HasKeyAt nodes at k → HasFormAt nodes at f → slice_get nodes at ≡ Some (k, f)
 seed_is nodes at k f a b = a.1 ∙ (λ i. Some (k, (same_seed (slice_get nodes at) k b.0 a.0 f a.1 b.1).1 i))
 
-module _ (words : List ℕ) (A : List Entry) (nodes : Seeds) (at : ℕ) (done : List Node) (so : SoFar words A nodes at done) where
+module _ (words : List ℕ) (A : List Entry) (nodes : Seeds) (at : ℕ) (done : List Node) (so : AreExpandedSoFar words A nodes at done) where
   pub numbered : (list : List Node) → list ≡ done → AreNumbered (has_pairs A) list
   numbered list e = subst (AreNumbered (has_pairs A)) (sym e) (λ i n g. (so.each i n g).node)
 
@@ -38,13 +38,13 @@ module _ (words : List ℕ) (A : List Entry) (nodes : Seeds) (at : ℕ) (done : 
     gives_missing none = missing words A nodes at done so k f (seed_is nodes at k f a b) (ap (λ l. worked words A l k f) (sym e) ∙ (sym is ∙ none))
 
     pub gives_more : AreSeeds (has_pairs A) nodes → (s : AbsState) (new : List Node) → found ≡ Some s → new ≡ done ++ record { key = k; state = s } ∷ []
-        → SoFar words A nodes (at + 1) new
+        → AreExpandedSoFar words A nodes (at + 1) new
     gives_more seeds s new some items =
-        subst (SoFar words A nodes (at + 1)) (sym items)
+        subst (AreExpandedSoFar words A nodes (at + 1)) (sym items)
         (one_more words A nodes seeds at done so k f s (seed_is nodes at k f a b) (ap (λ l. worked words A l k f) (sym e) ∙ (sym is ∙ some)))
 
   pub gives_whole : (filled : List Node) → filled ≡ done → at ≡ length nodes → IsFilled words A nodes filled
-  gives_whole filled e full = subst (IsFilled words A nodes) (sym e) (whole words A nodes done (subst (λ x. SoFar words A nodes x done) full so))
+  gives_whole filled e full = subst (IsFilled words A nodes) (sym e) (whole words A nodes done (subst (λ x. AreExpandedSoFar words A nodes x done) full so))
 
 -- ---- the first node of a key
 

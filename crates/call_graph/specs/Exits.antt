@@ -37,8 +37,8 @@ exit_or (Ok l) = Ok l.exit
 exit_or (Err f) = Err f
 
 -- as far as exits are given, they are those of the nodes
-abbrev pub AreKnown : List ℕ → List Entry → List Node → List (Option Exit) → Type 0
-AreKnown words A nodes known =
+abbrev pub AreExitsKnown : List ℕ → List Entry → List Node → List (Option Exit) → Type 0
+AreExitsKnown words A nodes known =
     (at : ℕ) (n : Node) (x : Option Exit) → slice_get nodes at ≡ Some n → slice_get known at ≡ Some x → x ≡ exit_in (local words A n.key n.state)
 
 -- the exits of the nodes below this number, which have no fault

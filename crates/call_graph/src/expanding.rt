@@ -1,12 +1,12 @@
 //! The state of each node, worked out once, in the order of the nodes.
 
-ghost use Rattle.std.specs.Prelude.{◌≡◌, ℕ, length, Some, IfOk};
+ghost use Rattle.std.specs.Prelude.{◌≡◌, length, Some, IfOk};
 ghost use Rattle.avr_model.specs.Assumptions.{has_pairs};
 ghost use Rattle.local_rules.specs.Cover.{IsNodeIn};
 ghost use Rattle.edge_rules.specs.Expansion.{AreSeeds};
 ghost use Rattle.edge_laws.specs.Carrying.{first_at, carried, worked};
 ghost use Rattle.edge_rules.specs.Seeds.{form_of};
-ghost use Rattle.edge_laws.specs.Expansions.{AreAscending};
+ghost use Rattle.edge_laws.specs.Expansions.{AreSeedsAscending};
 ghost use Rattle.call_graph.specs.Expanding.{IsExpanded, AreNumbered, ComesFromBelow};
 
 use crate::filled::{Expanded, Filled};
@@ -68,7 +68,7 @@ fn work(
 /// The expansion of each node, or the least node that has none. The local part of a node is worked out once for each that comes from it.
 pub fn expand<S: Seeded>(task: &Task<'_>, nodes: &S) -> Result<Expanded, AllocError>
     requires seeds { AreSeeds (has_pairs task.now.assumptions.now) (S.nodes nodes.now) }
-    requires ascending { AreAscending (S.nodes nodes.now) }
+    requires ascending { AreSeedsAscending (S.nodes nodes.now) }
     ensures { IfOk result (λ answer. IsExpanded task.now.flash.now task.now.assumptions.now (S.nodes nodes.now) answer) }
 {
     let mut done = Vec::new(task.alloc);

@@ -1,6 +1,6 @@
 //! How the nodes of a family return, each worked out once.
 
-ghost use Rattle.std.specs.Prelude.{ℕ, ◌≡◌, ◌<◌, length, slice_get, Some, IfOk};
+ghost use Rattle.std.specs.Prelude.{◌≡◌, ◌<◌, length, slice_get, Some, IfOk};
 ghost use Rattle.sb_base.specs.Answers.{Answers};
 ghost use Rattle.local_rules.specs.Local as rows;
 ghost use Rattle.local_rules.specs.declared.local.NodeFault.TheVariants.{Memory};
@@ -8,7 +8,7 @@ ghost use Rattle.local_rules.specs.declared.local.Node.{Node};
 ghost use Rattle.edge_rules.specs.Families.{AreFaultless};
 ghost use Rattle.edge_rules.specs.Views.{AreShown};
 ghost use Rattle.call_graph.specs.Next.{exit_in};
-ghost use Rattle.call_graph.specs.Exits.{exit_or, AreExits, AreKnown, GivesExits};
+ghost use Rattle.call_graph.specs.Exits.{exit_or, AreExits, AreExitsKnown, GivesExits};
 
 use crate::exit_list::Leaving;
 use crate::filled::Filled;
@@ -39,7 +39,7 @@ pub(crate) fn exit_of(
 ) -> Result<Option<Exit>, AllocError>
     requires place { at < length nodes.now }
     requires shown { AreShown nodes.now }
-    requires given { AreKnown task.now.flash.now task.now.assumptions.now nodes.now known.now }
+    requires given { AreExitsKnown task.now.flash.now task.now.assumptions.now nodes.now known.now }
     ensures { (n : Node) → slice_get nodes.now at ≡ Some n → IfOk result (λ x. x ≡ exit_in (rows.local task.now.flash.now task.now.assumptions.now n.key n.state)) }
 {
     if at < known.len() {

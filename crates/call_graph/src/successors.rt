@@ -9,7 +9,7 @@ ghost use Rattle.local_rules.specs.declared.local.Node.{Node};
 ghost use Rattle.edge_rules.specs.Edges.{IsFaultless, AreEdges};
 ghost use Rattle.edge_rules.specs.Views.{AreShown};
 ghost use Rattle.call_graph.specs.Ways.{ways_of};
-ghost use Rattle.call_graph.specs.Exits.{AreExits, AreKnown};
+ghost use Rattle.call_graph.specs.Exits.{AreExits, AreExitsKnown};
 ghost use Rattle.call_graph.specs.Next.{local_edge, entry_edge, return_edges, returns_in, all_returns, edges_with, next_of};
 
 use crate::callers::{Caller, returned};
@@ -83,7 +83,7 @@ fn add_leaver(
 ) -> Result<(), AllocError>
     requires place { at < length known.now.nodes.now }
     requires shown { AreShown known.now.nodes.now }
-    requires given { AreKnown task.now.flash.now task.now.assumptions.now known.now.nodes.now known.now.exits.now }
+    requires given { AreExitsKnown task.now.flash.now task.now.assumptions.now known.now.nodes.now known.now.exits.now }
     ensures { (n : Node) → slice_get known.now.nodes.now at ≡ Some n → OnOk result (edges.new ≡ edges.old ++ return_edges task.now.flash.now task.now.assumptions.now caller.now.key.now caller.now.state.now caller.now.way n) }
 {
     let Some(exit) = exit_of(task, known.nodes, at, known.exits)? else {
@@ -109,7 +109,7 @@ fn add_returns(
     known: &Known<'_>,
 ) -> Result<(), AllocError>
     requires shown { AreShown known.now.nodes.now }
-    requires given { AreKnown task.now.flash.now task.now.assumptions.now known.now.nodes.now known.now.exits.now }
+    requires given { AreExitsKnown task.now.flash.now task.now.assumptions.now known.now.nodes.now known.now.exits.now }
     ensures { OnOk result (edges.new ≡ edges.old ++ returns_in task.now.flash.now task.now.assumptions.now caller.now.key.now caller.now.state.now known.now.nodes.now caller.now.way) }
 {
     let (low, high) = known.nodes.span(&caller.way.inst);
@@ -128,7 +128,7 @@ fn add_all_returns(
     known: &Known<'_>,
 ) -> Result<(), AllocError>
     requires shown { AreShown known.now.nodes.now }
-    requires given { AreKnown task.now.flash.now task.now.assumptions.now known.now.nodes.now known.now.exits.now }
+    requires given { AreExitsKnown task.now.flash.now task.now.assumptions.now known.now.nodes.now known.now.exits.now }
     ensures { OnOk result (edges.new ≡ edges.old ++ all_returns task.now.flash.now task.now.assumptions.now start.now.key.now start.now.state.now known.now.nodes.now ways.now) }
 {
     for at in 0..ways.len() {
@@ -150,7 +150,7 @@ fn edges_of(
     known: &Known<'_>,
 ) -> Result<Listed<Edge>, AllocError>
     requires shown { AreShown known.now.nodes.now }
-    requires given { AreKnown task.now.flash.now task.now.assumptions.now known.now.nodes.now known.now.exits.now }
+    requires given { AreExitsKnown task.now.flash.now task.now.assumptions.now known.now.nodes.now known.now.exits.now }
     ensures { IfOk result (λ edges. edges ≡ edges_with task.now.flash.now task.now.assumptions.now known.now.nodes.now start.now.key.now start.now.state.now (ways_of task.now.flash.now task.now.assumptions.now start.now.key.now found.calls) found) }
 {
     let all = ways(task, start.key, found.calls.as_slice())?;
@@ -169,7 +169,7 @@ fn listed(
     known: &[Option<Exit>],
 ) -> Result<Listed<Edge>, NodeFault>
     requires place { at < length nodes.now }
-    requires given { AreKnown task.now.flash.now task.now.assumptions.now nodes.now known.now }
+    requires given { AreExitsKnown task.now.flash.now task.now.assumptions.now nodes.now known.now }
     ensures { (n : Node) → slice_get nodes.now at ≡ Some n → Answers (λ edges. edges) Memory result (next_of task.now.flash.now task.now.assumptions.now nodes.now n.key n.state) }
 {
     let count = nodes.count();

@@ -24,9 +24,9 @@ use Rattle.cert_check.specs.declared.verdict.Reason.TheVariants as reason
 use Rattle.cert_check.specs.declared.verdict.Verdict.{Verdict}
 use Rattle.cert_check.specs.declared.verdict.Verdict.TheVariants.{Accepted, Rejected}
 use Rattle.cert_check.specs.Verdict.{AllLanded, InstEnters, IsFirstRank, IsFirstNeed, HasReset}
-use Rattle.cert_check.specs.Demands.{AreInstances, place_in, rank_of, rank_at, need_of, need_at, Asks, offset, entry, IsAsked, AreDemands, AllBelong, IsLeast, Pair, MeetsRank, LowRank, PairBelow, lesser_pair, MeetsNeed, LowNeed, NumberBelow, lesser_number, IsMost, more_asked, RanksFall, AllMet, IsWeighed, Decides}
+use Rattle.cert_check.specs.Demands.{AreInstances, place_in, rank_of, rank_at, need_of, need_at, Asks, offset, entry, IsAsked, AreDemands, AllBelong, IsLeastOffered, Pair, MeetsRank, LowRank, PairBelow, lesser_pair, MeetsNeed, LowNeed, NumberBelow, lesser_number, IsMost, more_asked, RanksFall, AllMet, IsWeighed, Decides}
 use Rattle.cert_check.proofs.Lists.{IsLesser}
-use Rattle.cert_check.proofs.Insts.{HasPlace, place_is, placed, rank_there, need_there}
+use Rattle.cert_check.proofs.Insts.{HasInstPlace, place_is, placed, rank_there, need_there}
 use Rattle.cert_check.proofs.Demands.{entered_belongs}
 
 -- ---- the lesser pair and the lesser number
@@ -180,8 +180,8 @@ module _ (words : List ℕ) (A : List Entry) (c : Claim) (nodes : List Node) (ar
   }
 
   -- the instance of a node by its number
-  own_place : (n : Node) (j : ℕ) → Contains nodes n → place_in c.instances n.key.inst ≡ j → HasPlace c.instances n.key.inst j
-  own_place n j h e = subst (HasPlace c.instances n.key.inst) e (placed c.instances n.key.inst are (belong n h))
+  own_place : (n : Node) (j : ℕ) → Contains nodes n → place_in c.instances n.key.inst ≡ j → HasInstPlace c.instances n.key.inst j
+  own_place n j h e = subst (HasInstPlace c.instances n.key.inst) e (placed c.instances n.key.inst are (belong n h))
 
   number_is : (k : InstKey) (j : ℕ) (x : Inst) → slice_get c.instances j ≡ Some x → k ≡ x.key → place_in c.instances k ≡ j
   number_is k j x is same = place_is c.instances k j are (record { inst = x; is = is; same = sym same })
@@ -220,8 +220,8 @@ module _ (words : List ℕ) (A : List Entry) (c : Claim) (nodes : List Node) (ar
       record { node = n; present = h; way = way; inst = inst; back = back; enters = e; from = is; into = same_Some (place_in c.instances inst) l to }
 
   rank_at_place : (j l : ℕ) (w : IsWay j l) → rank_at c.instances j ≤ rank_at c.instances l
-      → ((d : Demand) (m : Pair) → Contains demands d → LowRank c.instances d m → PairBelow (j, l) m) → HasPlace c.instances w.node.key.inst j
-      → HasPlace c.instances w.inst l → IsFirstRank words A c nodes j l
+      → ((d : Demand) (m : Pair) → Contains demands d → LowRank c.instances d m → PairBelow (j, l) m) → HasInstPlace c.instances w.node.key.inst j
+      → HasInstPlace c.instances w.inst l → IsFirstRank words A c nodes j l
   rank_at_place j l w low before p q = record {
     from = p.inst;
     into = q.inst;
@@ -250,12 +250,12 @@ module _ (words : List ℕ) (A : List Entry) (c : Claim) (nodes : List Node) (ar
         (cases_lt y.rank x.rank);
   }
 
-  entered_place : (j l : ℕ) (w : IsWay j l) → HasPlace c.instances w.inst l
+  entered_place : (j l : ℕ) (w : IsWay j l) → HasInstPlace c.instances w.inst l
   entered_place j l w =
-      subst (HasPlace c.instances w.inst) w.into
+      subst (HasInstPlace c.instances w.inst) w.into
       (placed c.instances w.inst are (entered_belongs words A c.instances nodes are belong (λ n e h i. (land n e h i).0) w.node w.way w.inst w.back w.present w.enters))
 
-  pub first_rank : (j l : ℕ) → IsLeast (MeetsRank c.instances) (LowRank c.instances) PairBelow demands (Some (j, l)) → IsFirstRank words A c nodes j l
+  pub first_rank : (j l : ℕ) → IsLeastOffered (MeetsRank c.instances) (LowRank c.instances) PairBelow demands (Some (j, l)) → IsFirstRank words A c nodes j l
   first_rank j l h = by ((asked h.0.0).0 h.0.1.0)
     where
       at : IsWay j l → IsFirstRank words A c nodes j l
@@ -289,7 +289,7 @@ module _ (words : List ℕ) (A : List Entry) (c : Claim) (nodes : List Node) (ar
       → d.bytes ≤ m
   above_asked x j m is s d h e = by ((asked d).0 h)
     where
-      from : (a : IsAsked words A c.instances nodes d) → HasPlace c.instances a.node.key.inst j → d.bytes ≤ m
+      from : (a : IsAsked words A c.instances nodes d) → HasInstPlace c.instances a.node.key.inst j → d.bytes ≤ m
       from a p =
           let same : a.node.key.inst ≡ x.key = sym p.same ∙ ap (λ (y : Inst). y.key) (one_at c.instances j p.inst x p.is is) in
           suffices_for a.node x.key d m a.present a.asks same s
@@ -303,7 +303,7 @@ module _ (words : List ℕ) (A : List Entry) (c : Claim) (nodes : List Node) (ar
 
   -- an instance of which a demand isn't met, and none before it has one
   need_at_place : (j need : ℕ) (d : Demand) (k : InstKey) → Contains demands d → d.inst ≡ j → need_at c.instances j < d.bytes → IsMost demands j need
-      → ((e : Demand) (m : ℕ) → Contains demands e → LowNeed c.instances e m → j ≤ m) → HasPlace c.instances k j → IsFirstNeed words A c nodes j need
+      → ((e : Demand) (m : ℕ) → Contains demands e → LowNeed c.instances e m → j ≤ m) → HasInstPlace c.instances k j → IsFirstNeed words A c nodes j need
   need_at_place j need d k h is low most before p = record {
     inst = p.inst;
     is = p.is;
@@ -318,7 +318,7 @@ module _ (words : List ℕ) (A : List Entry) (c : Claim) (nodes : List Node) (ar
         )) (λ below. below) (cases_lt x.need e.bytes));
   }
 
-  pub first_need : (j need : ℕ) → IsLeast (MeetsNeed c.instances) (LowNeed c.instances) NumberBelow demands (Some j) → IsMost demands j need
+  pub first_need : (j need : ℕ) → IsLeastOffered (MeetsNeed c.instances) (LowNeed c.instances) NumberBelow demands (Some j) → IsMost demands j need
       → IsFirstNeed words A c nodes j need
   first_need j need h most = by ((asked h.0.0).0 h.0.1.0)
     where

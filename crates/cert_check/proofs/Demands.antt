@@ -18,7 +18,7 @@ use Rattle.certificate.specs.declared.instance.Inst.{Inst}
 use Rattle.certificate.specs.Insts.{inst_keys}
 use Rattle.certificate.specs.Valid.{AllLand}
 use Rattle.cert_check.specs.declared.demand.Demand.{Demand}
-use Rattle.cert_check.specs.Demands.{AreInstances, place_in, need_at, offset_demand, entry_demand, demands_of, Asks, offset, entry, AreDemands, AllBelong, IsInside, AreInside}
+use Rattle.cert_check.specs.Demands.{AreInstances, place_in, need_at, offset_demand, entry_demand, demands_of, Asks, offset, entry, AreDemands, AllBelong, IsInside, AreDemandsInside}
 use Rattle.cert_check.proofs.Insts.{placed}
 
 module _ (words : List ℕ) (A : List Entry) (insts : List Inst) (n : Node) where
@@ -95,5 +95,5 @@ module _ (words : List ℕ) (A : List Entry) (insts : List Inst) (nodes : List N
         subst (λ x. x < length insts) same (place_inside inst (entered_belongs n way inst back h enters)),
   )
 
-  pub all_inside : (demands : List Demand) → AreDemands words A insts nodes demands → AreInside insts demands
+  pub all_inside : (demands : List Demand) → AreDemands words A insts nodes demands → AreDemandsInside insts demands
   all_inside demands asked = λ d h. let w = (asked d).0 h in asks_inside w.node d w.present w.asks

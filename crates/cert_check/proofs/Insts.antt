@@ -38,12 +38,12 @@ pair (x ∷ xs) (suc i) (suc j) a b s ea eb lt = pair xs i j a b s.1 ea eb (omeg
 -- ---- the instance of a key
 
 -- it has this number
-pub record HasPlace (xs : List Inst) (key : InstKey) (j : ℕ) : Type 0 where
+pub record HasInstPlace (xs : List Inst) (key : InstKey) (j : ℕ) : Type 0 where
   pub inst : Inst
   pub is : slice_get xs j ≡ Some inst
   pub same : inst.key ≡ key
 
-pub place_there : (xs : List Inst) (key : InstKey) → Contains (inst_keys xs) key → (j : ℕ) × HasPlace xs key j
+pub place_there : (xs : List Inst) (key : InstKey) → Contains (inst_keys xs) key → (j : ℕ) × HasInstPlace xs key j
 place_there [] key h = absurd (none_in key h)
 place_there (x ∷ xs) key h =
     ⊎_elim (λ e. (0, record { inst = x; is = refl; same = sym e }))
@@ -64,14 +64,14 @@ place_at (y ∷ ys) zero x s e = rw ((keys_are_ordered.same_insts y.key x.key).1
 place_at (y ∷ ys) (suc j) x s e =
     rw (other y.key x.key (not_itself y.key x.key (key_has (λ k. inst_cmp y.key k ≡ Less) ys j x s.0 e))) (ap suc (place_at ys j x s.1 e))
 
-pub place_is : (xs : List Inst) (key : InstKey) (j : ℕ) → AreInstances xs → HasPlace xs key j → place_in xs key ≡ j
+pub place_is : (xs : List Inst) (key : InstKey) (j : ℕ) → AreInstances xs → HasInstPlace xs key j → place_in xs key ≡ j
 place_is xs key j are h = subst (λ k. place_in xs k ≡ j) h.same (place_at xs j h.inst are.ascend h.is)
 
 -- the number that is worked out is its number
-pub placed : (xs : List Inst) (key : InstKey) → AreInstances xs → Contains (inst_keys xs) key → HasPlace xs key (place_in xs key)
+pub placed : (xs : List Inst) (key : InstKey) → AreInstances xs → Contains (inst_keys xs) key → HasInstPlace xs key (place_in xs key)
 placed xs key are h =
     let w = place_there xs key h in
-    subst (HasPlace xs key) (sym (place_is xs key w.0 are w.1)) w.1
+    subst (HasInstPlace xs key) (sym (place_is xs key w.0 are w.1)) w.1
 
 pub rank_there : (xs : List Inst) (key : InstKey) → rank_at xs (place_in xs key) ≡ rank_in xs key
 rank_there [] key = refl
@@ -104,12 +104,12 @@ parted xs k are = λ i j d le lt up.
 
 module _ (xs : List Inst) (k : InstKey) (at : ℕ) (are : AreInstances xs)
     (point : IsPartitionPoint (λ x. is_below_key k x ≡ true) (λ x. is_below_key k x ≡ false) xs at) (h : Contains (inst_keys xs) k) where
-  not_before : (j : ℕ) → HasPlace xs k j → j < at → ⊥
+  not_before : (j : ℕ) → HasInstPlace xs k j → j < at → ⊥
   not_before j p lt =
       let up = subst (λ m. is_below_key k m ≡ true) (get_or_from_slice_get xs j p.inst p.inst p.is) (point.0 j p.inst (omega arith) lt) in
       not_itself p.inst.key k (less_by_test (inst_cmp p.inst.key k) up) p.same
 
-  not_behind : (j : ℕ) → HasPlace xs k j → at < j → ⊥
+  not_behind : (j : ℕ) → HasInstPlace xs k j → at < j → ⊥
   not_behind j p lt =
       let inside : at < length xs = let w = slice_get_within xs j p.inst p.is in omega (arith, w, lt) in
       let y = get_or xs at p.inst in

@@ -36,7 +36,7 @@ use Rattle.cert_check.specs.declared.verdict.Verdict.TheVariants.{Accepted, Reje
 use Rattle.cert_check.specs.declared.verdict.Judgement.{Judgement}
 use Rattle.cert_check.specs.declared.verdict.Judgement.TheVariants as judgement
 use Rattle.cert_check.specs.Reading.{read_seeds, IsOpen}
-use Rattle.cert_check.specs.Verdict.{AllLanded, InstEnters, IsFirstFault, IsFirstGap, IsFirstRank, IsFirstNeed, HasReset, IsLeastReason, IsRejected, IsReason, IsVerdict, IsFamilyOf, IsJudgement}
+use Rattle.cert_check.specs.Verdict.{AllLanded, InstEnters, IsFirstFaultOfCause, IsFirstGap, IsFirstRank, IsFirstNeed, HasReset, IsLeastReason, IsRejected, IsReason, IsVerdict, IsFamilyOf, IsJudgement}
 use Rattle.cert_check.specs.Laws.{VerdictsAreOne, SoundCertificatesBoundEveryRun}
 use Rattle.cert_check.specs.Demands.{AreInstances, Decides, need_at, rank_at, rank_of, need_of}
 use Rattle.cert_check.proofs.ReadAs.{own_is_read, own_is_open}
@@ -74,7 +74,7 @@ module _ (words : List ℕ) (A : List Entry) (c : Claim) (claim : IsClaim c) (no
 
   -- ---- a reason excludes the condition that it tells of
 
-  not_clean : (j cause : ℕ) → IsFirstFault words A nodes j cause → AreFaultless words A nodes → ⊥
+  not_clean : (j cause : ℕ) → IsFirstFaultOfCause words A nodes j cause → AreFaultless words A nodes → ⊥
   not_clean j cause h clean = fault_counts words A h.node h.fault h.has (clean h.node (contained_at nodes j h.node h.is))
 
   not_landed : (j : ℕ) (to : NodeKey) → IsFirstGap words A c.nodes nodes j to → AllLanded words A c.nodes nodes → ⊥
@@ -103,10 +103,10 @@ module _ (words : List ℕ) (A : List Entry) (c : Claim) (claim : IsClaim c) (no
 
   -- ---- a reason's numbers are one
 
-  fault_before : (i j a b : ℕ) → IsFirstFault words A nodes i a → IsFirstFault words A nodes j b → i < j → ⊥
+  fault_before : (i j a b : ℕ) → IsFirstFaultOfCause words A nodes i a → IsFirstFaultOfCause words A nodes j b → i < j → ⊥
   fault_before i j a b g h lt = fault_counts words A g.node g.fault g.has (h.earlier i g.node g.is lt)
 
-  one_fault : (i j a b : ℕ) → IsFirstFault words A nodes i a → IsFirstFault words A nodes j b → Rejected (reason.Node i a) ≡ Rejected (reason.Node j b)
+  one_fault : (i j a b : ℕ) → IsFirstFaultOfCause words A nodes i a → IsFirstFaultOfCause words A nodes j b → Rejected (reason.Node i a) ≡ Rejected (reason.Node j b)
   one_fault i j a b g h =
       let same : i ≡ j = same_if_neither i j (fault_before i j a b g h) (fault_before j i b a h g) in
       let node : g.node ≡ h.node = one_at nodes j g.node h.node (subst (λ k. slice_get nodes k ≡ Some g.node) same g.is) h.is in

@@ -20,9 +20,9 @@ use Rattle.edge_laws.proofs.AllLaws.{edges_lead_to_nodes}
 use Rattle.certificate.specs.declared.instance.Inst.{Inst}
 use Rattle.certificate.specs.Insts.{inst_keys}
 use Rattle.cert_check.specs.declared.demand.Demand.{Demand}
-use Rattle.cert_check.specs.Reading.{Lands}
+use Rattle.cert_check.specs.Reading.{LandsOpen}
 use Rattle.cert_check.specs.Verdict.{AllLanded, IsFirstGap}
-use Rattle.cert_check.specs.Demands.{IsLeast, LeadsToNode, GapAt, KeyBelow, AreTargets, demands_of, Asks, AreDemands, AllBelong, IsMidway}
+use Rattle.cert_check.specs.Demands.{IsLeastOffered, LeadsToNode, GapAt, KeyBelow, AreTargets, demands_of, Asks, AreDemands, AllBelong, IsMidway}
 use Rattle.cert_check.proofs.Demands.{listed_asks, asked_listed, landed_belongs}
 
 key_is : (nodes : List Node) (at : ℕ) (n : Node) (k : NodeKey) → slice_get nodes at ≡ Some n → option_map key_of (slice_get nodes at) ≡ Some k → n.key ≡ k
@@ -44,7 +44,7 @@ module _ (words : List ℕ) (A : List Entry) (own : Seeds) (insts : List Inst) (
     pub targets : AreShown nodes → AreTargets edges
     targets shown = λ e h. own_node e.to e.state (edges_lead_to_nodes.edges words A nodes n e shown.all (contained_at nodes at n is) ((are e).0 h))
 
-    pub gap_first : (to : NodeKey) → IsLeast (LeadsToNode (has_pairs A) own nodes) (GapAt (has_pairs A) own nodes) KeyBelow edges (Some to) → IsFirstGap words A own nodes at to
+    pub gap_first : (to : NodeKey) → IsLeastOffered (LeadsToNode (has_pairs A) own nodes) (GapAt (has_pairs A) own nodes) KeyBelow edges (Some to) → IsFirstGap words A own nodes at to
     gap_first to h = record {
       node = n;
       is = is;
@@ -56,12 +56,12 @@ module _ (words : List ℕ) (A : List Entry) (own : Seeds) (insts : List Inst) (
       earlier = λ i m e im lt ie. mid.land i m e im lt ie;
     }
 
-    pub targets_belong : AllBelong insts nodes → IsLeast (LeadsToNode (has_pairs A) own nodes) (GapAt (has_pairs A) own nodes) KeyBelow edges None → (e : Edge) → Contains edges e
+    pub targets_belong : AllBelong insts nodes → IsLeastOffered (LeadsToNode (has_pairs A) own nodes) (GapAt (has_pairs A) own nodes) KeyBelow edges None → (e : Edge) → Contains edges e
         → Contains (inst_keys insts) e.to.inst
     targets_belong belong clear = λ e h. landed_belongs insts nodes (target e) belong (clear e h).0
 
-    land_here : IsLeast (LeadsToNode (has_pairs A) own nodes) (GapAt (has_pairs A) own nodes) KeyBelow edges None → (i : ℕ) (m : Node) (e : Edge) → slice_get nodes i ≡ Some m → i < at + 1
-        → IsEdge words A nodes m e → Lands (has_pairs A) own nodes (target e)
+    land_here : IsLeastOffered (LeadsToNode (has_pairs A) own nodes) (GapAt (has_pairs A) own nodes) KeyBelow edges None → (i : ℕ) (m : Node) (e : Edge) → slice_get nodes i ≡ Some m → i < at + 1
+        → IsEdge words A nodes m e → LandsOpen (has_pairs A) own nodes (target e)
     land_here clear i m e im lt ie =
         ⊎_elim (λ below. mid.land i m e im below ie)
         (λ above. let same : i ≡ at = omega (arith, lt, above) in
@@ -80,7 +80,7 @@ module _ (words : List ℕ) (A : List Entry) (own : Seeds) (insts : List Inst) (
         (asked_listed words A insts n nodes edges are d (subst (λ x. Asks words A insts x d) mn asks)))
         (cases_lt i at))
 
-    pub goes_on : (k : NodeKey) (new : List Demand) → option_map key_of (slice_get nodes at) ≡ Some k → IsLeast (LeadsToNode (has_pairs A) own nodes) (GapAt (has_pairs A) own nodes) KeyBelow edges None
+    pub goes_on : (k : NodeKey) (new : List Demand) → option_map key_of (slice_get nodes at) ≡ Some k → IsLeastOffered (LeadsToNode (has_pairs A) own nodes) (GapAt (has_pairs A) own nodes) KeyBelow edges None
         → new ≡ demands ++ demands_of insts k edges → IsMidway words A own insts nodes (at + 1) new
     goes_on k new key clear e =
         let f : new ≡ demands ++ demands_of insts n.key edges = subst (λ x. new ≡ demands ++ demands_of insts x edges) (sym (key_is nodes at n k is key)) e in

@@ -31,7 +31,7 @@ use Rattle.edge_rules.specs.Expansion.{Seeds, AreSeeds, IsFilled, HasKeyAt}
 use Rattle.edge_rules.specs.Seeds.{HasFormAt}
 use Rattle.edge_rules.specs.Views.{place_of}
 use Rattle.edge_rules.specs.Places.{not_itself, found_at}
-use Rattle.edge_laws.specs.Expansions.{AreAscending}
+use Rattle.edge_laws.specs.Expansions.{AreSeedsAscending}
 use Rattle.edge_laws.proofs.ExpansionLaws.{filled_or_missing}
 use Rattle.certificate.specs.Claims.{Claim, IsClaim, node_keys}
 use Rattle.certificate.proofs.AllLaws.{claims_are_seeds, hull_here, count_hulls, hull_fits}
@@ -137,7 +137,7 @@ module _ (c : Claim) (claim : IsClaim c) where
             seeds.earlier at m k (r.is ∙ ap (λ (g : NodeForm). Some (k, g)) (from_form followed r.before m r.after));
       }
 
-  pub ascending_read : (followed : Bool) → AreAscending (read_seeds followed c.nodes)
+  pub ascending_read : (followed : Bool) → AreSeedsAscending (read_seeds followed c.nodes)
   ascending_read followed = subst (IsStrictlySortedBy node_cmp) (sym (keys_read followed c.nodes)) claim.nodes_ascend
 
   pub beside_read : (followed : Bool) (words : List ℕ) (A : List Entry) (nodes : List Node) → IsFilled words A (read_seeds followed c.nodes) nodes → AreBeside c.nodes nodes
@@ -199,7 +199,7 @@ all_keys : (P : NodeKey → Type 0) (es : Seeds) (e : NodeKey × NodeForm) → A
 all_keys P [] e h i = absurd (none_in e i)
 all_keys P (x ∷ xs) e h i = ⊎_elim (λ same. subst (λ (y : NodeKey × NodeForm). P y.0) (sym same) h.0) (all_keys P xs e h.1) (first_or_further x e xs i)
 
-one_seed : (es : Seeds) → AreAscending es → (d e : NodeKey × NodeForm) → Contains es d → Contains es e → d.0 ≡ e.0 → d ≡ e
+one_seed : (es : Seeds) → AreSeedsAscending es → (d e : NodeKey × NodeForm) → Contains es d → Contains es e → d.0 ≡ e.0 → d ≡ e
 unfolding IsStrictlySortedBy
 one_seed [] s d e hd he same = absurd (none_in d hd)
 one_seed (x ∷ xs) s d e hd he same =
@@ -212,7 +212,7 @@ one_seed (x ∷ xs) s d e hd he same =
     (first_or_further x d xs hd)
 
 -- the node of a number is open just where its own form says nothing
-pub open_at : (own : Seeds) (at : ℕ) (k : NodeKey) (form : NodeForm) → AreAscending own → slice_get own at ≡ Some (k, form) → TellsNothing form ↔ IsOpen false own k
+pub open_at : (own : Seeds) (at : ℕ) (k : NodeKey) (form : NodeForm) → AreSeedsAscending own → slice_get own at ≡ Some (k, form) → TellsNothing form ↔ IsOpen false own k
 open_at own at k form ascend is = (
   λ t other h. subst TellsNothing (ap (λ (p : NodeKey × NodeForm). p.1) (one_seed own ascend (k, form) (k, other) (contained_at own at (k, form) is) h refl)) t,
   λ all. all form (contained_at own at (k, form) is),
@@ -231,7 +231,7 @@ key_found own nodes k at beside found =
     let w = found_at k nodes at found in
     subst (HasKeyAt own at) w.same (key_beside own nodes at w.node beside w.is)
 
-pub open_by_form : (followed : Bool) (own : Seeds) (at : ℕ) (k : NodeKey) (form : NodeForm) → followed ≡ false → AreAscending own → HasFormAt own at form → HasKeyAt own at k
+pub open_by_form : (followed : Bool) (own : Seeds) (at : ℕ) (k : NodeKey) (form : NodeForm) → followed ≡ false → AreSeedsAscending own → HasFormAt own at form → HasKeyAt own at k
     → TellsNothing form ↔ IsOpen followed own k
 open_by_form followed own at k form plain ascend given has =
     let same : (given.0, form) ≡ (k, has.0) = same_Some (given.0, form) (k, has.0) (sym given.1 ∙ has.1) in

@@ -23,8 +23,8 @@ use Rattle.certificate.specs.Claims.{Claim, IsClaim, Belongs, node_keys}
 use Rattle.certificate.specs.Valid.{reset_node}
 use Rattle.cert_check.specs.declared.demand.Demand.{Demand}
 use Rattle.cert_check.specs.Reading.{read_seeds}
-use Rattle.cert_check.specs.Verdict.{IsFirstFault}
-use Rattle.cert_check.specs.Demands.{AreBeside, AllBelong, AreInside, IsLeast, MeetsRank, LowRank, PairBelow, MeetsNeed, LowNeed, NumberBelow}
+use Rattle.cert_check.specs.Verdict.{IsFirstFaultOfCause}
+use Rattle.cert_check.specs.Demands.{AreBeside, AllBelong, AreDemandsInside, IsLeastOffered, MeetsRank, LowRank, PairBelow, MeetsNeed, LowNeed, NumberBelow}
 use Rattle.cert_check.proofs.Passing.{own_node}
 use Rattle.cert_check.proofs.ReadAs.{seeds_read, beside_read, key_beside}
 
@@ -34,15 +34,15 @@ if_ok P Q (Err e) f h = h
 
 -- ---- numbers fit
 
-pub inst_fits : (insts : List Inst) (demands : List Demand) (j l : ℕ) → length insts ≤ 65536 → AreInside insts demands
-    → IsLeast (MeetsRank insts) (LowRank insts) PairBelow demands (Some (j, l)) → (j < 65536) × (l < 65536)
+pub inst_fits : (insts : List Inst) (demands : List Demand) (j l : ℕ) → length insts ≤ 65536 → AreDemandsInside insts demands
+    → IsLeastOffered (MeetsRank insts) (LowRank insts) PairBelow demands (Some (j, l)) → (j < 65536) × (l < 65536)
 inst_fits insts demands j l few inside h =
     let in_list = inside h.0.0 h.0.1.0 in
     let up = in_list.1 l h.0.1.1.1 in
     (omega (arith, in_list.0, few, h.0.1.1.0), omega (arith, up, few))
 
-pub need_fits : (insts : List Inst) (demands : List Demand) (j : ℕ) → length insts ≤ 65536 → AreInside insts demands
-    → IsLeast (MeetsNeed insts) (LowNeed insts) NumberBelow demands (Some j) → j < 65536
+pub need_fits : (insts : List Inst) (demands : List Demand) (j : ℕ) → length insts ≤ 65536 → AreDemandsInside insts demands
+    → IsLeastOffered (MeetsNeed insts) (LowNeed insts) NumberBelow demands (Some j) → j < 65536
 need_fits insts demands j few inside h =
     let in_list = inside h.0.0 h.0.1.0 in
     omega (arith, in_list.0, few, h.0.1.1.0)
@@ -79,7 +79,7 @@ pub reset_is : (A : List Entry) (i : InstKey) (k : NodeKey) (s : AbsState) → i
 reset_is A i k s ei ek es = λ j. record { key = (ek ∙ ap entry_key ei) j; state = es j }
 
 pub first_fault : (words : List ℕ) (A : List Entry) (nodes : List Node) (j cause : ℕ) (f : NodeFault) → HasFirstFault words A nodes j f → cause ≡ cause_of f
-    → IsFirstFault words A nodes j cause
+    → IsFirstFaultOfCause words A nodes j cause
 first_fault words A nodes j cause f h e = record {
   node = h.node;
   is = h.present;

@@ -24,27 +24,27 @@ use Rattle.certificate.specs.Insts.{IsInst, inst_keys, need_in}
 use Rattle.certificate.specs.Claims.{Claim, most_instances, node_keys}
 use Rattle.certificate.specs.Valid.{IsBounded, MeetsConditions}
 use Rattle.cert_check.specs.declared.demand.Demand.{Demand}
-use Rattle.cert_check.specs.declared.gathering.Gathered.{Gathered}
-use Rattle.cert_check.specs.declared.gathering.Found.{Found}
-use Rattle.cert_check.specs.declared.gathering.Found.TheVariants.{Gap, All}
+use Rattle.cert_check.specs.declared.gathering.LandedNodes.{LandedNodes}
+use Rattle.cert_check.specs.declared.gathering.Gathering.{Gathering}
+use Rattle.cert_check.specs.declared.gathering.Gathering.TheVariants.{Gap, All}
 use Rattle.cert_check.specs.declared.judging.Settled.{Settled}
 use Rattle.cert_check.specs.declared.judging.Settled.TheVariants.{Met, Refused}
 use Rattle.cert_check.specs.declared.verdict.Reason.TheVariants as reason
 use Rattle.cert_check.specs.declared.verdict.Verdict.{Verdict}
 use Rattle.cert_check.specs.declared.verdict.Verdict.TheVariants.{Accepted, Rejected}
-use Rattle.cert_check.specs.Reading.{Lands}
+use Rattle.cert_check.specs.Reading.{LandsOpen}
 use Rattle.cert_check.specs.Verdict.{IsGap, AllLanded, IsFirstGap, IsLeastReason}
 
 -- ---- the least of what the items of a list offer
 
 -- An item is clear, or it offers a key. All are clear; or this key is offered, and none that is offered is below it.
-abbrev pub IsLeast : {X K : Type 0} → (X → Type 0) → (X → K → Type 0) → (K → K → Type 0) → List X → Option K → Type 0
-IsLeast {X} {K} clear offers below xs None = (x : X) → Contains xs x → clear x
-IsLeast {X} {K} clear offers below xs (Some k) = ((x : X) × (Contains xs x × offers x k)) × ((x : X) (m : K) → Contains xs x → offers x m → below k m)
+abbrev pub IsLeastOffered : {X K : Type 0} → (X → Type 0) → (X → K → Type 0) → (K → K → Type 0) → List X → Option K → Type 0
+IsLeastOffered {X} {K} clear offers below xs None = (x : X) → Contains xs x → clear x
+IsLeastOffered {X} {K} clear offers below xs (Some k) = ((x : X) × (Contains xs x × offers x k)) × ((x : X) (m : K) → Contains xs x → offers x m → below k m)
 
 -- what is least after one item more: the same where it is clear, else the lesser of that and the only one that it offers
-abbrev pub IsNoted : {X K : Type 0} → (X → Type 0) → (X → K → Type 0) → (Option K → K → K) → Option K → X → Option K → Type 0
-IsNoted {X} {K} clear offers lesser old x new =
+abbrev pub IsOfferNoted : {X K : Type 0} → (X → Type 0) → (X → K → Type 0) → (Option K → K → K) → Option K → X → Option K → Type 0
+IsOfferNoted {X} {K} clear offers lesser old x new =
     (clear x × (new ≡ old)) ⊎ ((k : K) × (offers x k × ((m : K) → offers x m → m ≡ k) × (new ≡ Some (lesser old k))))
 
 -- ---- edges that don't land
@@ -54,7 +54,7 @@ abbrev pub AreBeside : Seeds → List Node → Type 0
 AreBeside own nodes = map key_of nodes ≡ node_keys own
 
 abbrev pub LeadsToNode : Bool → Seeds → List Node → Edge → Type 0
-LeadsToNode followed own nodes e = Lands followed own nodes (target e)
+LeadsToNode followed own nodes e = LandsOpen followed own nodes (target e)
 
 -- an edge that doesn't land offers its key
 abbrev pub GapAt : Bool → Seeds → List Node → Edge → NodeKey → Type 0
@@ -135,9 +135,9 @@ abbrev pub AllBelong : List Inst → List Node → Type 0
 AllBelong insts nodes = (n : Node) → Contains nodes n → Contains (inst_keys insts) n.key.inst
 
 -- all edges land, these are the demands, and here the edges of each node land; else the first gap
-abbrev pub IsFound : List ℕ → List Entry → Seeds → List Inst → List Node → Found → Type 0
-IsFound words A own insts nodes (Gap j to) = IsFirstGap words A own nodes j to
-IsFound words A own insts nodes (All g) = AllLanded words A own nodes × AreDemands words A insts nodes g.demands.items × AreLandings words A nodes g.landings
+abbrev pub IsGathering : List ℕ → List Entry → Seeds → List Inst → List Node → Gathering → Type 0
+IsGathering words A own insts nodes (Gap j to) = IsFirstGap words A own nodes j to
+IsGathering words A own insts nodes (All g) = AllLanded words A own nodes × AreDemands words A insts nodes g.demands.items × AreLandings words A nodes g.landings
 
 -- ---- which demands aren't met
 
@@ -185,8 +185,8 @@ more_asked most j d = if (d.inst == j) && nat_lt most d.bytes then d.bytes else 
 abbrev pub IsInside : List Inst → Demand → Type 0
 IsInside insts d = (d.inst < length insts) × ((l : ℕ) → d.into ≡ Some l → l < length insts)
 
-abbrev pub AreInside : List Inst → List Demand → Type 0
-AreInside insts demands = (d : Demand) → Contains demands d → IsInside insts d
+abbrev pub AreDemandsInside : List Inst → List Demand → Type 0
+AreDemandsInside insts demands = (d : Demand) → Contains demands d → IsInside insts d
 
 abbrev pub RanksFall : List Inst → List Demand → Type 0
 RanksFall insts demands = (d : Demand) → Contains demands d → MeetsRank insts d
@@ -198,9 +198,9 @@ AllMet insts demands = (d : Demand) → Contains demands d → MeetsNeed insts d
 abbrev pub IsWeighed : List ℕ → Claim → List Entry → List Demand → Verdict → Type 0
 IsWeighed words c A demands (Accepted bound) =
     RanksFall c.instances demands × AllMet c.instances demands × IsBounded words c × (c.assumptions ≡ A) × (bound ≡ c.bound)
-IsWeighed words c A demands (Rejected (reason.Rank j l)) = IsLeast (MeetsRank c.instances) (LowRank c.instances) PairBelow demands (Some (j, l))
+IsWeighed words c A demands (Rejected (reason.Rank j l)) = IsLeastOffered (MeetsRank c.instances) (LowRank c.instances) PairBelow demands (Some (j, l))
 IsWeighed words c A demands (Rejected (reason.Need j need)) =
-    RanksFall c.instances demands × IsLeast (MeetsNeed c.instances) (LowNeed c.instances) NumberBelow demands (Some j) × IsMost demands j need
+    RanksFall c.instances demands × IsLeastOffered (MeetsNeed c.instances) (LowNeed c.instances) NumberBelow demands (Some j) × IsMost demands j need
 IsWeighed words c A demands (Rejected (reason.Bound need)) =
     RanksFall c.instances demands × AllMet c.instances demands × (need ≡ need_in c.instances root_inst) × (IsBounded words c → ⊥)
 IsWeighed words c A demands (Rejected reason.Assumptions) =
@@ -213,21 +213,21 @@ Decides words A c nodes (Accepted bound) = MeetsConditions words A c nodes × (b
 Decides words A c nodes (Rejected r) = IsLeastReason words A c nodes r
 
 -- the same with where the edges of each node land, in place of the bound
-abbrev pub Settles : List ℕ → List Entry → Claim → List Node → Settled → Type 0
-Settles words A c nodes (Met landings) = MeetsConditions words A c nodes × AreLandings words A nodes landings
-Settles words A c nodes (Refused r) = IsLeastReason words A c nodes r
+abbrev pub SettlesClaim : List ℕ → List Entry → Claim → List Node → Settled → Type 0
+SettlesClaim words A c nodes (Met landings) = MeetsConditions words A c nodes × AreLandings words A nodes landings
+SettlesClaim words A c nodes (Refused r) = IsLeastReason words A c nodes r
 
 -- all edges of the nodes below this number land, and what is listed is asked, and what those nodes ask is listed
 pub record IsMidway (words : List ℕ) (A : List Entry) (own : Seeds) (insts : List Inst) (nodes : List Node) (at : ℕ) (demands : List Demand) : Type 0 where
-  pub land : (i : ℕ) (n : Node) (e : Edge) → slice_get nodes i ≡ Some n → i < at → IsEdge words A nodes n e → Lands (has_pairs A) own nodes (target e)
+  pub land : (i : ℕ) (n : Node) (e : Edge) → slice_get nodes i ≡ Some n → i < at → IsEdge words A nodes n e → LandsOpen (has_pairs A) own nodes (target e)
   pub asked : (d : Demand) → Contains demands d → IsAsked words A insts nodes d
   pub listed : (i : ℕ) (n : Node) (d : Demand) → slice_get nodes i ≡ Some n → i < at → Asks words A insts n d → Contains demands d
 
 -- the nodes below this number are gathered
-abbrev pub AreGathered : List ℕ → List Entry → Claim → List Node → ℕ → Gathered → Type 0
+abbrev pub AreGathered : List ℕ → List Entry → Claim → List Node → ℕ → LandedNodes → Type 0
 AreGathered words A c nodes at g = IsMidway words A c.nodes c.instances nodes at g.demands.items × AreLandingsTo words A nodes at g.landings
 
 -- and the node of this number, where all its edges land
-abbrev pub IsAdded : List ℕ → List Entry → Claim → List Node → ℕ → Option NodeKey → Gathered → Type 0
-IsAdded words A c nodes at None g = AreGathered words A c nodes (at + 1) g
-IsAdded words A c nodes at (Some to) g = IsFirstGap words A c.nodes nodes at to
+abbrev pub IsNodeGathered : List ℕ → List Entry → Claim → List Node → ℕ → Option NodeKey → LandedNodes → Type 0
+IsNodeGathered words A c nodes at None g = AreGathered words A c nodes (at + 1) g
+IsNodeGathered words A c nodes at (Some to) g = IsFirstGap words A c.nodes nodes at to

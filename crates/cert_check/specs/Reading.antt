@@ -53,5 +53,5 @@ IsOpen true own k = ⊤
 IsOpen false own k = (form : NodeForm) → Contains own (k, form) → TellsNothing form
 
 -- a node with the key is there, open, and with a state at least this one; the certificate's own nodes are given beside those with their states
-abbrev pub Lands : Bool → Seeds → List Node → Node → Type 0
-Lands followed own nodes n = IsCovered nodes n × IsOpen followed own n.key
+abbrev pub LandsOpen : Bool → Seeds → List Node → Node → Type 0
+LandsOpen followed own nodes n = IsCovered nodes n × IsOpen followed own n.key

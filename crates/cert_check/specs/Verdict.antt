@@ -28,10 +28,10 @@ use Rattle.cert_check.specs.declared.verdict.Verdict.{Verdict}
 use Rattle.cert_check.specs.declared.verdict.Verdict.TheVariants.{Accepted, Rejected}
 use Rattle.cert_check.specs.declared.verdict.Judgement.{Judgement}
 use Rattle.cert_check.specs.declared.verdict.Judgement.TheVariants as judgement
-use Rattle.cert_check.specs.Reading.{read_seeds, Lands}
+use Rattle.cert_check.specs.Reading.{read_seeds, LandsOpen}
 
 -- node j has a fault of this cause, and no earlier node has one
-pub record IsFirstFault (words : List ℕ) (A : List Entry) (nodes : List Node) (j cause : ℕ) : Type 0 where
+pub record IsFirstFaultOfCause (words : List ℕ) (A : List Entry) (nodes : List Node) (j cause : ℕ) : Type 0 where
   pub node : Node
   pub is : slice_get nodes j ≡ Some node
   pub fault : NodeFault
@@ -41,11 +41,11 @@ pub record IsFirstFault (words : List ℕ) (A : List Entry) (nodes : List Node) 
 
 -- the edge doesn't land
 abbrev pub IsGap : Bool → Seeds → List Node → Edge → Type 0
-IsGap followed own nodes e = Lands followed own nodes (target e) → ⊥
+IsGap followed own nodes e = LandsOpen followed own nodes (target e) → ⊥
 
 -- each edge lands
 abbrev pub AllLanded : List ℕ → List Entry → Seeds → List Node → Type 0
-AllLanded words A own nodes = (n : Node) (e : Edge) → Contains nodes n → IsEdge words A nodes n e → Lands (has_pairs A) own nodes (target e)
+AllLanded words A own nodes = (n : Node) (e : Edge) → Contains nodes n → IsEdge words A nodes n e → LandsOpen (has_pairs A) own nodes (target e)
 
 -- Node j has an edge to this key that doesn't land, and none to a lesser key; all edges of earlier nodes land.
 pub record IsFirstGap (words : List ℕ) (A : List Entry) (own : Seeds) (nodes : List Node) (j : ℕ) (to : NodeKey) : Type 0 where
@@ -56,7 +56,7 @@ pub record IsFirstGap (words : List ℕ) (A : List Entry) (own : Seeds) (nodes :
   pub leads : edge.to ≡ to
   pub gap : IsGap (has_pairs A) own nodes edge
   pub least : (e : Edge) → IsEdge words A nodes node e → IsGap (has_pairs A) own nodes e → node_cmp to e.to ≢ Greater
-  pub earlier : (i : ℕ) (n : Node) (e : Edge) → slice_get nodes i ≡ Some n → i < j → IsEdge words A nodes n e → Lands (has_pairs A) own nodes (target e)
+  pub earlier : (i : ℕ) (n : Node) (e : Edge) → slice_get nodes i ≡ Some n → i < j → IsEdge words A nodes n e → LandsOpen (has_pairs A) own nodes (target e)
 
 -- instance x has a node that enters instance y
 pub record InstEnters (words : List ℕ) (A : List Entry) (nodes : List Node) (x y : Inst) : Type 0 where
@@ -91,13 +91,13 @@ pub record IsFirstNeed (words : List ℕ) (A : List Entry) (c : Claim) (nodes : 
 
 -- the node at reset is there, open, and with a state at least that one
 abbrev pub HasReset : List Entry → Claim → List Node → Type 0
-HasReset A c nodes = Lands (has_pairs A) c.nodes nodes (reset_node A)
+HasReset A c nodes = LandsOpen (has_pairs A) c.nodes nodes (reset_node A)
 
 -- A reason holds of the nodes with their states, none before it does, and its numbers are the least.
 abbrev pub IsLeastReason : List ℕ → List Entry → Claim → List Node → Reason → Type 0
 IsLeastReason words A c nodes (reason.Expansion at) = ⊥
 IsLeastReason words A c nodes reason.Root = HasReset A c nodes → ⊥
-IsLeastReason words A c nodes (reason.Node j cause) = HasReset A c nodes × IsFirstFault words A nodes j cause
+IsLeastReason words A c nodes (reason.Node j cause) = HasReset A c nodes × IsFirstFaultOfCause words A nodes j cause
 IsLeastReason words A c nodes (reason.Edge j to) = HasReset A c nodes × AreFaultless words A nodes × IsFirstGap words A c.nodes nodes j to
 IsLeastReason words A c nodes (reason.Rank j l) =
     HasReset A c nodes × AreFaultless words A nodes × AllLanded words A c.nodes nodes × IsFirstRank words A c nodes j l

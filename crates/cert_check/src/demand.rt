@@ -1,6 +1,6 @@
 //! What nodes ask of their instances.
 
-ghost use Rattle.std.specs.Prelude.{ℕ, ◌≡◌, ◌≤◌, ◌<◌, ◌++◌, length, slice_get, Some, OnOk, Contains};
+ghost use Rattle.std.specs.Prelude.{◌≡◌, ◌≤◌, ◌<◌, ◌++◌, length, Some, OnOk, Contains};
 ghost use Rattle.avr_model.specs.State.{SIZE};
 ghost use Rattle.std.specs.List.{flat_map};
 ghost use Rattle.edge_rules.specs.declared.edge.Edge as edge_type;

@@ -4,10 +4,10 @@ ghost use Rattle.std.specs.Prelude.{◌≡◌, ◌<◌, ◌≤◌, IfOk, length}
 ghost use Rattle.avr_model.specs.Assumptions.{has_pairs};
 ghost use Rattle.edge_rules.specs.Views.{AreShown};
 ghost use Rattle.call_graph.specs.Exits.{AreExits};
-ghost use Rattle.cert_check.specs.Demands.{AreInstances, AreBeside, AllBelong, IsFound, AreGathered, IsAdded};
+ghost use Rattle.cert_check.specs.Demands.{AreInstances, AreBeside, AllBelong, IsGathering, AreGathered, IsNodeGathered};
 
 use crate::demand::{Demand, add_demands};
-use crate::landing::{Landed, Site, landed_from};
+use crate::landing::{Landed, LandingSite, landed_from};
 use avr_model::listed::Listed;
 use call_graph::{Filled, Landing, Task, next_with};
 use certificate::Certificate;
@@ -17,7 +17,7 @@ use std::alloc::AllocError;
 
 // What is known of nodes whose edges all land.
 #[derive(Drop)]
-pub(crate) struct Gathered {
+pub(crate) struct LandedNodes {
     // What they ask of their instances.
     pub demands: Vec<Demand>,
     // Where the edges of each land.
@@ -26,20 +26,20 @@ pub(crate) struct Gathered {
 
 // What a pass over all edges finds.
 #[derive(Drop)]
-pub(crate) enum Found {
+pub(crate) enum Gathering {
     // This node is the first with an edge that doesn't land, and the key is the least of such an edge.
     Gap(usize, NodeKey),
     // All edges land.
-    All(Gathered),
+    All(LandedNodes),
 }
 
 // The least key to which an edge of the node of this number leads that doesn't land. Where all of them land, the node is gathered.
 fn gather_node(
     task: &Task<'_>,
-    site: &Site<'_, '_>,
+    site: &LandingSite<'_, '_>,
     exits: &Listed<Option<Exit>>,
     at: usize,
-    gathered: &mut Gathered,
+    gathered: &mut LandedNodes,
 ) -> Result<Option<NodeKey>, AllocError>
     requires inside { at < length site.now.nodes.now }
     requires shown { AreShown site.now.nodes.now }
@@ -50,7 +50,7 @@ fn gather_node(
     requires beside { AreBeside site.now.certificate.now.nodes site.now.nodes.now }
     requires taken { AreExits task.now.flash.now task.now.assumptions.now site.now.nodes.now exits.now }
     requires before { AreGathered task.now.flash.now task.now.assumptions.now site.now.certificate.now site.now.nodes.now at gathered.now }
-    ensures { IfOk result (λ gap. IsAdded task.now.flash.now task.now.assumptions.now site.now.certificate.now site.now.nodes.now at gap gathered.new) }
+    ensures { IfOk result (λ gap. IsNodeGathered task.now.flash.now task.now.assumptions.now site.now.certificate.now site.now.nodes.now at gap gathered.new) }
 {
     let edges = next_with(task, site.nodes, at, exits)?;
     let Landed { gap, landings } = landed_from(task.alloc, site, at + 1, edges.as_slice())?;
@@ -74,27 +74,27 @@ pub(crate) fn gather(
     certificate: &Certificate,
     nodes: &Filled,
     exits: &Listed<Option<Exit>>,
-) -> Result<Found, AllocError>
+) -> Result<Gathering, AllocError>
     requires few { length nodes.now ≤ 65536 }
     requires instances { AreInstances certificate.now.instances }
     requires belong { AllBelong certificate.now.instances nodes.now }
     requires beside { AreBeside certificate.now.nodes nodes.now }
     requires taken { AreExits task.now.flash.now task.now.assumptions.now nodes.now exits.now }
-    ensures { IfOk result (λ found. IsFound task.now.flash.now task.now.assumptions.now certificate.now.nodes certificate.now.instances nodes.now found) }
+    ensures { IfOk result (λ found. IsGathering task.now.flash.now task.now.assumptions.now certificate.now.nodes certificate.now.instances nodes.now found) }
 {
-    let site = Site {
+    let site = LandingSite {
         followed: task.assumptions.has_pairs(),
         certificate,
         nodes,
     };
-    let mut gathered = Gathered {
+    let mut gathered = LandedNodes {
         demands: Vec::new(task.alloc),
         landings: Listed::empty(task.alloc),
     };
     for at in 0..nodes.count() {
         if let Some(to) = gather_node(task, &site, exits, at, &mut gathered)? {
-            return Ok(Found::Gap(at, to));
+            return Ok(Gathering::Gap(at, to));
         }
     }
-    Ok(Found::All(gathered))
+    Ok(Gathering::All(gathered))
 }

@@ -13,10 +13,10 @@ ghost use Rattle.certificate.specs.Valid.{IsSound};
 ghost use Rattle.cert_check.specs.declared.verdict.Reason as reason_type;
 ghost use Rattle.cert_check.specs.Reading.{read_seeds};
 ghost use Rattle.cert_check.specs.Verdict.{HasReset, IsVerdict, IsReason, IsJudgement};
-ghost use Rattle.cert_check.specs.Demands.{AreBeside, Settles};
+ghost use Rattle.cert_check.specs.Demands.{AreBeside, SettlesClaim};
 
-use crate::gathering::{Found, Gathered, gather};
-use crate::landing::{Site, lands};
+use crate::gathering::{Gathering, LandedNodes, gather};
+use crate::landing::{LandingSite, lands};
 use crate::reading::read;
 use crate::verdict::{Judgement, Reason, Verdict};
 use crate::weighing::weigh;
@@ -50,11 +50,15 @@ fn settle_edges(
     requires filled { IsFilled task.now.flash.now task.now.assumptions.now (read_seeds (has_pairs task.now.assumptions.now) certificate.now.nodes) nodes.now }
     requires reset { HasReset task.now.assumptions.now certificate.now nodes.now }
     requires taken { AreExits task.now.flash.now task.now.assumptions.now nodes.now exits.now }
-    ensures { IfOk result (λ settled. Settles task.now.flash.now task.now.assumptions.now certificate.now nodes.now settled) }
+    ensures { IfOk result (λ settled. SettlesClaim task.now.flash.now task.now.assumptions.now certificate.now nodes.now settled) }
 {
     match gather(task, certificate, nodes, exits)? {
-        Found::Gap(at, to) => Ok(Settled::Refused(Reason::Edge(at as u32, to))),
-        Found::All(Gathered { demands, landings }) => match weigh(task, certificate, &demands) {
+        Gathering::Gap(at, to) => Ok(Settled::Refused(Reason::Edge(at as u32, to))),
+        Gathering::All(LandedNodes { demands, landings }) => match weigh(
+            task,
+            certificate,
+            &demands,
+        ) {
             Verdict::Accepted(_) => Ok(Settled::Met(landings)),
             Verdict::Rejected(reason) => {
                 drop(landings);
@@ -71,7 +75,7 @@ fn has_reset(task: &Task<'_>, certificate: &Certificate, nodes: &Filled) -> Resu
 {
     let state = root_of(task.alloc, task.assumptions)?;
     let key = NodeKey::entry(&InstKey::root());
-    let site = Site {
+    let site = LandingSite {
         followed: task.assumptions.has_pairs(),
         certificate,
         nodes,
@@ -83,7 +87,7 @@ fn has_reset(task: &Task<'_>, certificate: &Certificate, nodes: &Filled) -> Resu
 fn settle(task: &Task<'_>, certificate: &Certificate, nodes: &Filled) -> Result<Settled, AllocError>
     requires claim { IsClaim certificate.now }
     requires filled { IsFilled task.now.flash.now task.now.assumptions.now (read_seeds (has_pairs task.now.assumptions.now) certificate.now.nodes) nodes.now }
-    ensures { IfOk result (λ settled. Settles task.now.flash.now task.now.assumptions.now certificate.now nodes.now settled) }
+    ensures { IfOk result (λ settled. SettlesClaim task.now.flash.now task.now.assumptions.now certificate.now nodes.now settled) }
 {
     if !has_reset(task, certificate, nodes)? {
         return Ok(Settled::Refused(Reason::Root));

@@ -4,10 +4,10 @@ ghost use Rattle.std.specs.Prelude.{◌≡◌, ◌≤◌, ◌<◌, ◌↔◌, �
 ghost use Rattle.edge_rules.specs.Views.{IsOwnNode, place_of};
 ghost use Rattle.edge_rules.specs.Expansion.{HasKeyAt};
 ghost use Rattle.mask_states.specs.declared.keys.NodeKey as key_type;
-ghost use Rattle.edge_laws.specs.Expansions.{AreAscending};
+ghost use Rattle.edge_laws.specs.Expansions.{AreSeedsAscending};
 ghost use Rattle.call_graph.specs.Landings.{landing_of, landings_by};
-ghost use Rattle.cert_check.specs.Reading.{IsOpen, Lands};
-ghost use Rattle.cert_check.specs.Demands.{IsLeast, IsNoted, AreBeside, LeadsToNode, GapAt, KeyBelow, lesser_key, AreTargets};
+ghost use Rattle.cert_check.specs.Reading.{IsOpen, LandsOpen};
+ghost use Rattle.cert_check.specs.Demands.{IsLeastOffered, IsOfferNoted, AreBeside, LeadsToNode, GapAt, KeyBelow, lesser_key, AreTargets};
 
 use crate::reading::tells_nothing;
 use abs_state::AbsState;
@@ -20,7 +20,7 @@ use std::alloc::{AllocError, Global};
 
 // The nodes at which edges may land.
 #[derive(Clone, Copy)]
-pub(crate) struct Site<'c, 'n> {
+pub(crate) struct LandingSite<'c, 'n> {
     // Whether pairs are followed.
     pub followed: bool,
     // The certificate's own nodes.
@@ -41,7 +41,7 @@ pub(crate) struct Landed {
 // Whether edges may land at the node of this number.
 fn is_open(followed: bool, certificate: &Certificate, at: usize) -> bool
     requires inside { at < length certificate.now.nodes }
-    requires ascending { AreAscending certificate.now.nodes }
+    requires ascending { AreSeedsAscending certificate.now.nodes }
     ensures { (k : key_type.NodeKey) → HasKeyAt certificate.now.nodes at k → IsTrue result ↔ IsOpen followed certificate.now.nodes k }
 {
     followed || tells_nothing(certificate.seed(at))
@@ -50,7 +50,7 @@ fn is_open(followed: bool, certificate: &Certificate, at: usize) -> bool
 // Whether an edge with this state lands at the node of this key, which is at this number if it is there: it is there, open, and
 // with a state at least this one.
 pub(crate) fn lands(
-    site: &Site<'_, '_>,
+    site: &LandingSite<'_, '_>,
     place: Option<usize>,
     key: &NodeKey,
     state: &AbsState,
@@ -58,7 +58,7 @@ pub(crate) fn lands(
     requires place { place ≡ place_of key.now site.now.nodes.now }
     requires node { IsOwnNode key.now state.now }
     requires beside { AreBeside site.now.certificate.now.nodes site.now.nodes.now }
-    ensures { IsTrue result ↔ Lands site.now.followed site.now.certificate.now.nodes site.now.nodes.now (record { key = key.now; state = state.now }) }
+    ensures { IsTrue result ↔ LandsOpen site.now.followed site.now.certificate.now.nodes site.now.nodes.now (record { key = key.now; state = state.now }) }
 {
     let count = site.nodes.count();
     match place {
@@ -82,7 +82,7 @@ fn lesser(least: Option<NodeKey>, key: &NodeKey) -> NodeKey
 
 // Where edges of a node land, with one edge more, whose node is sought once, from the number `first` on.
 fn note(
-    site: &Site<'_, '_>,
+    site: &LandingSite<'_, '_>,
     first: usize,
     landed: &mut Landed,
     edge: &Edge,
@@ -90,7 +90,7 @@ fn note(
     requires few { length site.now.nodes.now ≤ 65536 }
     requires node { IsOwnNode edge.now.to edge.now.state }
     requires beside { AreBeside site.now.certificate.now.nodes site.now.nodes.now }
-    ensures gap { OnOk result (IsNoted (LeadsToNode site.now.followed site.now.certificate.now.nodes site.now.nodes.now) (GapAt site.now.followed site.now.certificate.now.nodes site.now.nodes.now) lesser_key landed.old.gap edge.now landed.new.gap) }
+    ensures gap { OnOk result (IsOfferNoted (LeadsToNode site.now.followed site.now.certificate.now.nodes site.now.nodes.now) (GapAt site.now.followed site.now.certificate.now.nodes site.now.nodes.now) lesser_key landed.old.gap edge.now landed.new.gap) }
     ensures landings { OnOk result (landed.new.landings ≡ landed.old.landings ++ landing_of site.now.nodes.now edge.now) }
 {
     let place = site.nodes.find_from(first, &edge.to);
@@ -109,14 +109,14 @@ fn note(
 // Where these edges land. Their nodes are sought from the number `first` on.
 pub(crate) fn landed_from(
     alloc: Global,
-    site: &Site<'_, '_>,
+    site: &LandingSite<'_, '_>,
     first: usize,
     edges: &[Edge],
 ) -> Result<Landed, AllocError>
     requires few { length site.now.nodes.now ≤ 65536 }
     requires targets { AreTargets edges.now }
     requires beside { AreBeside site.now.certificate.now.nodes site.now.nodes.now }
-    ensures gap { IfOk result (λ landed. IsLeast (LeadsToNode site.now.followed site.now.certificate.now.nodes site.now.nodes.now) (GapAt site.now.followed site.now.certificate.now.nodes site.now.nodes.now) KeyBelow edges.now landed.gap) }
+    ensures gap { IfOk result (λ landed. IsLeastOffered (LeadsToNode site.now.followed site.now.certificate.now.nodes site.now.nodes.now) (GapAt site.now.followed site.now.certificate.now.nodes site.now.nodes.now) KeyBelow edges.now landed.gap) }
     ensures landings { IfOk result (λ landed. landed.landings ≡ landings_by site.now.nodes.now edges.now) }
 {
     let mut landed = Landed {

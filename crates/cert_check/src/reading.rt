@@ -12,11 +12,11 @@ use std::alloc::{AllocError, Global};
 
 // Nodes by their keys, each given by its state or by an earlier node.
 #[derive(Drop)]
-pub(crate) struct Reading {
+pub(crate) struct ReadNodes {
     nodes: Vec<(NodeKey, NodeForm)>,
 }
 
-impl Seeded for Reading {
+impl Seeded for ReadNodes {
     ghost nodes = { λ reading. reading.nodes.items };
 
     fn count(&self) -> usize {
@@ -78,7 +78,7 @@ pub(crate) fn read(
     alloc: Global,
     followed: bool,
     certificate: &Certificate,
-) -> Result<Reading, AllocError>
+) -> Result<ReadNodes, AllocError>
     ensures { IfOk result (λ reading. reading.nodes.items ≡ read_seeds followed certificate.now.nodes) }
 {
     let own = certificate.nodes();
@@ -87,7 +87,7 @@ pub(crate) fn read(
         let form = read_form(alloc, followed, &own[at].1)?;
         nodes.push((own[at].0, form))?;
     }
-    Ok(Reading { nodes })
+    Ok(ReadNodes { nodes })
 }
 
 // Whether the node's own state, if it has one, says nothing of pairs.

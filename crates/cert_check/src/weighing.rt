@@ -3,10 +3,9 @@
 ghost use Rattle.std.specs.Prelude.{◌≡◌, ◌≤◌, ◌↔◌, Contains, IsTrue};
 ghost use Rattle.avr_model.specs.Devices.{device_of, size_of};
 ghost use Rattle.mask_states.specs.Keys.{root_inst};
-ghost use Rattle.vector_table.specs.Entries.{AreEntries};
 ghost use Rattle.certificate.specs.Claims.{IsClaim};
 ghost use Rattle.certificate.specs.Insts.{inst_keys};
-ghost use Rattle.cert_check.specs.Demands.{AreInstances, AreInside, IsInside, IsLeast, IsNoted, MeetsRank, LowRank, PairBelow, lesser_pair, MeetsNeed, LowNeed, NumberBelow, lesser_number, IsMost, more_asked, IsWeighed};
+ghost use Rattle.cert_check.specs.Demands.{AreInstances, AreDemandsInside, IsInside, IsLeastOffered, IsOfferNoted, MeetsRank, LowRank, PairBelow, lesser_pair, MeetsNeed, LowNeed, NumberBelow, lesser_number, IsMost, more_asked, IsWeighed};
 
 use crate::demand::{Demand, need_at, number_of, rank_at};
 use crate::verdict::{Reason, Verdict};
@@ -32,7 +31,7 @@ fn noted_rank(
     demand: &Demand,
 ) -> Option<(usize, usize)>
     requires { IsInside instances.now demand.now }
-    ensures { IsNoted (MeetsRank instances.now) (LowRank instances.now) lesser_pair least demand.now result }
+    ensures { IsOfferNoted (MeetsRank instances.now) (LowRank instances.now) lesser_pair least demand.now result }
 {
     match demand.into {
         Some(into) if rank_at(instances, demand.inst) <= rank_at(instances, into) => {
@@ -44,8 +43,8 @@ fn noted_rank(
 
 // The least instance whose rank isn't above that of one that it enters, and the least such one.
 fn low_rank(instances: &[Inst], demands: &[Demand]) -> Option<(usize, usize)>
-    requires { AreInside instances.now demands.now }
-    ensures { IsLeast (MeetsRank instances.now) (LowRank instances.now) PairBelow demands.now result }
+    requires { AreDemandsInside instances.now demands.now }
+    ensures { IsLeastOffered (MeetsRank instances.now) (LowRank instances.now) PairBelow demands.now result }
 {
     let mut least = None;
     for at in 0..demands.len() {
@@ -68,7 +67,7 @@ fn lesser_number(least: Option<usize>, number: usize) -> usize
 fn noted_need(instances: &[Inst], least: Option<usize>, demand: &Demand) -> Option<usize>
     requires inside { IsInside instances.now demand.now }
     requires instances { AreInstances instances.now }
-    ensures { IsNoted (MeetsNeed instances.now) (LowNeed instances.now) lesser_number least demand.now result }
+    ensures { IsOfferNoted (MeetsNeed instances.now) (LowNeed instances.now) lesser_number least demand.now result }
 {
     if need_at(instances, demand.inst) < demand.bytes {
         Some(lesser_number(least, demand.inst))
@@ -79,9 +78,9 @@ fn noted_need(instances: &[Inst], least: Option<usize>, demand: &Demand) -> Opti
 
 // The least instance whose need is too low.
 fn low_need(instances: &[Inst], demands: &[Demand]) -> Option<usize>
-    requires inside { AreInside instances.now demands.now }
+    requires inside { AreDemandsInside instances.now demands.now }
     requires instances { AreInstances instances.now }
-    ensures { IsLeast (MeetsNeed instances.now) (LowNeed instances.now) NumberBelow demands.now result }
+    ensures { IsLeastOffered (MeetsNeed instances.now) (LowNeed instances.now) NumberBelow demands.now result }
 {
     let mut least = None;
     for at in 0..demands.len() {
@@ -122,7 +121,7 @@ fn is_bounded(flash: &Flash, bound: u16, need: u32) -> bool
 // The verdict where all edges land, by what nodes ask of their instances.
 pub(crate) fn weigh(task: &Task<'_>, certificate: &Certificate, demands: &[Demand]) -> Verdict
     requires claim { IsClaim certificate.now }
-    requires inside { AreInside certificate.now.instances demands.now }
+    requires inside { AreDemandsInside certificate.now.instances demands.now }
     requires root { Contains (inst_keys certificate.now.instances) root_inst }
     ensures { IsWeighed task.now.flash.now certificate.now task.now.assumptions.now demands.now result }
 {

@@ -30,7 +30,7 @@ use Rattle.certificate.specs.declared.limit.Limit.TheVariants as limit
 use Rattle.certificate.specs.Insts.{IsInst, inst_keys}
 use Rattle.certificate.specs.Claims.{cells_of, most_cells, most_instances, node_keys, FitsAt, AreFrom, Belongs}
 use Rattle.certificate.specs.Versions.{NodeIsOf, is_third}
-use Rattle.cert_words.specs.Text.{inst_words, place_of, node_words, node_words_at}
+use Rattle.cert_words.specs.Text.{inst_words, inst_number, node_words, node_words_at}
 use Rattle.cert_format.specs.LineLaws.{InstLines, NodeLines, IsInstanceOf}
 use Rattle.cert_format.specs.Reading.{is_admitted, entry_by, inst_by, node_by, last_in, is_inst_above, is_node_above, refused_entry, refused_inst, refused_node}
 use Rattle.cert_format.proofs.Items.{cells_more}
@@ -241,7 +241,7 @@ pub node_spells : WordLaws → NodeLines → KeysAreOrdered → (version : Versi
 node_spells k l o version insts ascend at text n e =
     let t = l.spelled version insts at (words_of text) n e in
     let own = place_unique o insts t.place t.inst.inst ascend t.inst.there in
-    let place : place_of n.0.inst insts ≡ t.place = ap (λ (key : InstKey). place_of key insts) (sym t.inst.same) ∙ own in
+    let place : inst_number n.0.inst insts ≡ t.place = ap (λ (key : InstKey). inst_number key insts) (sym t.inst.same) ∙ own in
     let P : InstKey → Type 0 = λ key. Contains (inst_keys insts) key in (
       sym (k.line_words text) ∙ ap spaced (t.words ∙ ap (λ (i : ℕ). node_words_at version i n) (sym place)),
       (t.fits, subst P t.inst.same (key_at insts t.place t.inst.inst t.inst.there), t.of_version),
@@ -250,16 +250,16 @@ node_spells k l o version insts ascend at text n e =
 pub node_reads : WordLaws → NodeLines → KeysAreOrdered → (version : Version) (insts : List Inst) → length insts ≤ most_instances → Reads (node_by version insts) (node_words version insts) (FitsNode version insts)
 node_reads k l o version insts few at n most h =
     let t = has_place o insts n.0.inst h.1 in
-    let within = slice_get_within insts (place_of n.0.inst insts) t.inst t.there in
-    let small : place_of n.0.inst insts < 65536 = omega (arith, within, few) in
-    let inst : IsInstanceOf insts (place_of n.0.inst insts) n.0 = record { inst = t.inst; there = t.there; same = t.same } in
-    ap (node_in version insts at) (k.words_stand (codes "node") _ (l.words version at (place_of n.0.inst insts) n most small h.0 h.2)) ∙ l.read version insts at (place_of n.0.inst insts) n most small inst h.0 h.2
+    let within = slice_get_within insts (inst_number n.0.inst insts) t.inst t.there in
+    let small : inst_number n.0.inst insts < 65536 = omega (arith, within, few) in
+    let inst : IsInstanceOf insts (inst_number n.0.inst insts) n.0 = record { inst = t.inst; there = t.there; same = t.same } in
+    ap (node_in version insts at) (k.words_stand (codes "node") _ (l.words version at (inst_number n.0.inst insts) n most small h.0 h.2)) ∙ l.read version insts at (inst_number n.0.inst insts) n most small inst h.0 h.2
 
 pub node_is_plain : NodeLines → KeysAreOrdered → (version : Version) (insts : List Inst) → length insts ≤ most_instances → (at : ℕ) (n : NodeKey × NodeForm) → at ≤ 65536 → FitsNode version insts at n → AllByRecursion IsWord (node_words version insts n)
 node_is_plain l o version insts few at n most h =
     let t = has_place o insts n.0.inst h.1 in
-    let within = slice_get_within insts (place_of n.0.inst insts) t.inst t.there in
-    l.words version at (place_of n.0.inst insts) n most (omega (arith, within, few)) h.0 h.2
+    let within = slice_get_within insts (inst_number n.0.inst insts) t.inst t.there in
+    l.words version at (inst_number n.0.inst insts) n most (omega (arith, within, few)) h.0 h.2
 
 pub all_from : (version : Version) (insts : List Inst) (at : ℕ) (ns : Seeds) → AllFrom (FitsNode version insts) at ns → AreFrom (is_third version) at ns
 all_from version insts at [] h = tt

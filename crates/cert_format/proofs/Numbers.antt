@@ -14,7 +14,7 @@ use Rattle.line_reading.proofs.AllLaws.{bind_some, no_words}
 use Rattle.certificate.specs.Claims.{most_nodes}
 use Rattle.cert_words.proofs.AllLaws.{word_take}
 use Rattle.cert_format.specs.Reading.{counted, count_at, count_in}
-use Rattle.cert_format.specs.Refusals.{IsDecimal, AreNodes}
+use Rattle.cert_format.specs.Refusals.{IsDecimal, IsNodesLine}
 
 cons_some : (b : ℕ) (bs : List ℕ) → b ∷ bs ≢ []
 cons_some b bs h = cc
@@ -92,7 +92,7 @@ many_at (w ∷ ws) e = elim (chosen (is_over ws) _ _ (Some None) e) [
   | inr h ↦ absurd (none-some None h.1)
 ]
 
-pub too_many : (ws : List (List ℕ)) → count_in ws ≡ Some None → AreNodes (λ w. most_nodes < number_from 10 0 w) ws
+pub too_many : (ws : List (List ℕ)) → count_in ws ≡ Some None → IsNodesLine (λ w. most_nodes < number_from 10 0 w) ws
 unfolding count_in
 too_many ws e =
     let h = bind_some (word_at (codes "nodes") ws) _ None e in

@@ -21,7 +21,7 @@ use Rattle.line_reading.specs.Words.{IsWord, whole, sizes, Passes, WordLaws}
 use Rattle.line_reading.proofs.AllLaws.{bind_some, no_words, line_takes, line_again, passes_more, passes_split, sizes_append, number_of}
 use Rattle.witness_replay.specs.Spelling.{Plan, IsSchedule, schedule_lines, text_of as schedule_text}
 use Rattle.witness_replay.specs.Reading.{schedule_at}
-use Rattle.witness_replay.specs.Exact.{TextIsReading, ReadIsSpelled as ScheduleIsSpelled, SpelledIsRead as ScheduleIsRead}
+use Rattle.witness_replay.specs.Exact.{TextIsReading, ReadScheduleIsSpelled as ScheduleIsSpelled, SpelledScheduleIsRead as ScheduleIsRead}
 use Rattle.cert_format.specs.declared.fault.CertFault.{CertFault}
 use Rattle.cert_format.specs.declared.fault.CertFault.TheVariants as fault
 use Rattle.certificate.specs.Claims.{most_nodes}

@@ -28,7 +28,7 @@ use Rattle.edge_rules.specs.declared.seeded.NodeForm.{NodeForm}
 use Rattle.edge_rules.specs.Expansion.{Seeds}
 use Rattle.witness_replay.specs.Spelling.{Plan}
 use Rattle.witness_replay.specs.Reading.{schedule_at}
-use Rattle.witness_replay.specs.Exact.{RefusedIsStuck}
+use Rattle.witness_replay.specs.Exact.{RefusedScheduleIsStuck}
 use Rattle.certificate.specs.declared.instance.Inst.{Inst}
 use Rattle.certificate.specs.declared.version.Version.{Version}
 use Rattle.certificate.specs.declared.version.Version.TheVariants.{One, Two, Three}
@@ -41,7 +41,7 @@ use Rattle.cert_format.specs.declared.fault.CertFault.TheVariants as fault
 use Rattle.certificate.specs.declared.limit.Limit.{Limit}
 use Rattle.certificate.specs.declared.limit.Limit.TheVariants as limit
 use Rattle.cert_format.specs.Reading.{entry_by, inst_by, node_by, numbered_in, numbered_by, count_in, count_by, version_by, ending_by, formed, limited, last_in, is_inst_above, is_node_above, refused_entry, refused_inst, refused_node, heading_at, least_entries, first_at, entries_at, insts_at, nodes_at, plan_if, witness_at, if_last, end_at, claim_at, claim_alone, certificate_in}
-use Rattle.cert_format.specs.Refusals.{Part, Begin, Bound, Assume, FirstEntry, AnEntry, Instances, AnInst, Nodes, ANode, Ending, End, Nothing, Stands, IsNext, IsNumbered, AreNodes, IsLow, IsTooMuch, IsStopped, IsRefused, IsDue, IsDueUnlessMemory, ReadIsDue, start}
+use Rattle.cert_format.specs.Refusals.{Part, Begin, Bound, Assume, FirstEntry, AnEntry, Instances, AnInst, Nodes, ANode, Ending, End, Nothing, StandsBefore, IsNextLine, IsNumbered, IsNodesLine, IsLow, IsTooMuch, IsStopped, IsCertificateRefused, IsCertificateDue, IsCertificateDueUnlessMemory, ReadCertificateIsDue, start}
 use Rattle.cert_format.proofs.Numbers.{decimal_word, nodes_count, too_many}
 use Rattle.cert_format.proofs.Lists.{err_ok, formed_ok, AllFrom, all_of_any, admitted_all, sorted_at, sorted_push, lines}
 use Rattle.cert_format.proofs.Items.{cells_more}
@@ -49,7 +49,7 @@ use Rattle.cert_format.proofs.FirstEntries.{firsts, firsts_count, firsts_mode, f
 use Rattle.cert_format.proofs.Kept.{EntryOf, entry_steady, entry_spells, entry_reads, AnyInst, inst_steady, insts_kept, inst_spells, inst_reads, inst_above_is, FitsNode, node_steady, NodesKeep, nodes_kept, node_spells, node_reads, node_above_is, keys_append}
 use Rattle.cert_format.proofs.Parts.{Stand, stand_more, plain, numbered_again, numbered_plain, number_take, nodes_take, this_again, this_take, version_again, version_take, heading_take, witness_part, ending_again, ending_words, ending_is}
 use Rattle.cert_format.proofs.Stops.{err_is, then_stop, formed_err, line_stop, not_next, is_next, Stop, ItemRefused, ItemsStop, items_stop}
-use Rattle.cert_format.proofs.Whole.{Below, first_take, some_keep, some_stand, entries_take, insts_take, nodes_part, claim_of, fitting_nodes, read_is_spelled}
+use Rattle.cert_format.proofs.Whole.{LowerLaws, first_take, some_keep, some_stand, entries_take, insts_take, nodes_part, claim_of, fitting_nodes, read_is_spelled}
 
 -- ---- claims of the parts that are read
 
@@ -81,9 +81,9 @@ with_insts version n es xs small h mode hx ax few = certificate_of version n es 
 
 -- ---- a line that isn't of its form
 
-malformed : (p : Place) (c : Claim) (part : Part) (q : Place) (g : CertFault) → Stands p c part q → IsStopped c part q.rest → g ≡ fault.Malformed q.at → IsRefused p g
+malformed : (p : Place) (c : Claim) (part : Part) (q : Place) (g : CertFault) → StandsBefore p c part q → IsStopped c part q.rest → g ≡ fault.Malformed q.at → IsCertificateRefused p g
 malformed p c part q g h stop e =
-    let P : CertFault → Type 0 = λ f. IsRefused p f in
+    let P : CertFault → Type 0 = λ f. IsCertificateRefused p f in
     subst P (sym e) (q, refl, inl (record { claim = c; part = part; stands = h; stop = stop }))
 
 numbered_reads : WordLaws → (name : List ℕ) (least most : ℕ) (ws : List (List ℕ)) → IsWord name → most < 2 ^ 64 → IsNumbered name least most ws → (n : ℕ) × (numbered_by name least most (spaced ws) ≡ Some n)
@@ -93,18 +93,18 @@ numbered_reads k name least most ws word room h = (
       ∙ numbered_again k name least most h.0 room h.1 h.2,
 )
 
-no_number : WordLaws → (name : List ℕ) (least most : ℕ) (ls : List TextLine) → IsWord name → most < 2 ^ 64 → first_by (numbered_by name least most) ls ≡ None → (ws : List (List ℕ)) → IsNext ls ws → IsNumbered name least most ws → ⊥
+no_number : WordLaws → (name : List ℕ) (least most : ℕ) (ls : List TextLine) → IsWord name → most < 2 ^ 64 → first_by (numbered_by name least most) ls ≡ None → (ws : List (List ℕ)) → IsNextLine ls ws → IsNumbered name least most ws → ⊥
 no_number k name least most ls word room none ws next h = let t = numbered_reads k name least most ws word room h in not_next (numbered_by name least most) ls ws t.0 none next t.1
 
-no_this : (line : List (List ℕ)) (ls : List TextLine) → first_by (this_by (spaced line)) ls ≡ None → (ws : List (List ℕ)) → IsNext ls ws → ws ≡ line → ⊥
+no_this : (line : List (List ℕ)) (ls : List TextLine) → first_by (this_by (spaced line)) ls ≡ None → (ws : List (List ℕ)) → IsNextLine ls ws → ws ≡ line → ⊥
 no_this line ls none ws next h = not_next (this_by (spaced line)) ls ws tt none next (ap (λ (xs : List (List ℕ)). this_by (spaced line) (spaced xs)) h ∙ this_again (spaced line))
 
 -- ---- the heading
 
-no_version : (ls : List TextLine) → first_by version_by ls ≡ None → (ws : List (List ℕ)) → IsNext ls ws → (version : Version) × (ws ≡ version_line version) → ⊥
+no_version : (ls : List TextLine) → first_by version_by ls ≡ None → (ws : List (List ℕ)) → IsNextLine ls ws → (version : Version) × (ws ≡ version_line version) → ⊥
 no_version ls none ws next h = not_next version_by ls ws h.0 none next (ap (λ (xs : List (List ℕ)). version_by (spaced xs)) h.1 ∙ version_again h.0)
 
-heading_stops : WordLaws → (p : Place) (g : CertFault) → heading_at p ≡ Err g → IsRefused p g
+heading_stops : WordLaws → (p : Place) (g : CertFault) → heading_at p ≡ Err g → IsCertificateRefused p g
 unfolding heading_at
 heading_stops k p g e = elim (then_stop (formed (line_by version_by p)) _ g e) [
   | inl h ↦
@@ -138,14 +138,14 @@ entry_low es e at g h = low_by (is_above_last es e) (fault.Order at) g h
 inst_low : (xs : List Inst) (x : Inst) (at : ℕ) (g : CertFault) → refused_inst xs x at ≡ Some g → (is_inst_above (last_in xs) x ≡ false) × (g ≡ fault.Order at)
 inst_low xs x at g h = low_by (is_inst_above (last_in xs) x) (fault.Order at) g h
 
-out_of_order : (p : Place) (c : Claim) (part : Part) (q : Place) (ws : List (List ℕ)) (g : CertFault) → Stands p c part q → IsNext q.rest ws → IsLow c part ws → g ≡ fault.Order q.at → IsRefused p g
+out_of_order : (p : Place) (c : Claim) (part : Part) (q : Place) (ws : List (List ℕ)) (g : CertFault) → StandsBefore p c part q → IsNextLine q.rest ws → IsLow c part ws → g ≡ fault.Order q.at → IsCertificateRefused p g
 out_of_order p c part q ws g h next low e =
-    let P : CertFault → Type 0 = λ f. IsRefused p f in
+    let P : CertFault → Type 0 = λ f. IsCertificateRefused p f in
     subst P (sym e) (record { claim = c; part = part; place = q; words = ws; stands = h; offset = refl; next = next; low = low })
 
 -- ---- assumptions
 
-entry_stops : Below → (p : Place) (c : Claim) (n : ℕ) (q : Place) (g : CertFault) → Stands p c (AnEntry n) q → Stop (λ at. entry_by (is_third c.version)) entry_words (EntryOf (is_third c.version)) refused_entry c.assumptions q g → IsRefused p g
+entry_stops : LowerLaws → (p : Place) (c : Claim) (n : ℕ) (q : Place) (g : CertFault) → StandsBefore p c (AnEntry n) q → Stop (λ at. entry_by (is_third c.version)) entry_words (EntryOf (is_third c.version)) refused_entry c.assumptions q g → IsCertificateRefused p g
 entry_stops b p c n q g h stop = elim stop [
   | inl f ↦ malformed p c (AnEntry n) q g h
       (λ ws next form. not_next (entry_by (is_third c.version)) q.rest ws form.0 f.0 next
@@ -155,7 +155,7 @@ entry_stops b p c n q g h stop = elim stop [
 
 -- the first line of the third version
 first_stops : (version : Version) (p a m : Place) (n count : ℕ) (g : CertFault) → n ≤ SIZE → Stand p (heading version n) a → Stand a (numbered (codes "assume") count ∷ []) m → least_entries version ≤ count → count ≤ most_entries
-    → first_at version m ≡ Err g → IsRefused p g
+    → first_at version m ≡ Err g → IsCertificateRefused p g
 unfolding first_at
 first_stops One p a m n count g small h k least most e = absurd (err_ok {A = List Entry × Place} g ([], m) (sym e))
 first_stops Two p a m n count g small h k least most e = absurd (err_ok {A = List Entry × Place} g ([], m) (sym e))
@@ -171,8 +171,8 @@ abbrev EntriesStop : Version → List Entry → ℕ → Place → CertFault → 
 EntriesStop version front n p g = ItemsStop (λ at. entry_by (is_third version)) entry_words (EntryOf (is_third version)) refused_entry front n p g
 
 -- a line behind the first ones
-further_stops : Below → (version : Version) (p a m f : Place) (n count : ℕ) (g : CertFault) → n ≤ SIZE → Stand p (heading version n) a → Stand a (numbered (codes "assume") count ∷ []) m → least_entries version ≤ count → count ≤ most_entries
-    → Stand m (map entry_words (firsts version)) f → EntriesStop version (firsts version) (count - least_entries version) f g → IsRefused p g
+further_stops : LowerLaws → (version : Version) (p a m f : Place) (n count : ℕ) (g : CertFault) → n ≤ SIZE → Stand p (heading version n) a → Stand a (numbered (codes "assume") count ∷ []) m → least_entries version ≤ count → count ≤ most_entries
+    → Stand m (map entry_words (firsts version)) f → EntriesStop version (firsts version) (count - least_entries version) f g → IsCertificateRefused p g
 further_stops b version p a m f n count g small h k least most first s =
     let all : List Entry = firsts version ++ s.items in
     let number : length all < count = omega (arith, length-append (firsts version) s.items, firsts_count version, s.fewer, least) in
@@ -185,7 +185,7 @@ further_stops b version p a m f n count g small h k least most first s =
       lines = behind entry_words (codes "assume") (heading version n) p a m s.place count all h k some;
     }) s.stop
 
-entries_stops : Below → (version : Version) (p a : Place) (n : ℕ) (g : CertFault) → n ≤ SIZE → Stand p (heading version n) a → entries_at version a ≡ Err g → IsRefused p g
+entries_stops : LowerLaws → (version : Version) (p a : Place) (n : ℕ) (g : CertFault) → n ≤ SIZE → Stand p (heading version n) a → entries_at version a ≡ Err g → IsCertificateRefused p g
 unfolding entries_at
 entries_stops b version p a n g small h e = elim (then_stop (formed (line_by (numbered_by (codes "assume") (least_entries version) most_entries) a)) _ g e) [
   | inl f ↦
@@ -212,14 +212,14 @@ not_ascending xs x low h =
     let up = sorted_at inst_cmp (inst_keys xs) x.key [] (subst P (map-append (λ (y : Inst). y.key) xs (x ∷ [])) h) in
     false≢true (sym low ∙ inst_above_is xs x ∙ up)
 
-inst_stops : Below → (p : Place) (c : Claim) (n : ℕ) (q : Place) (g : CertFault) → Stands p c (AnInst n) q → Stop (λ at. inst_by) inst_words AnyInst refused_inst c.instances q g → IsRefused p g
+inst_stops : LowerLaws → (p : Place) (c : Claim) (n : ℕ) (q : Place) (g : CertFault) → StandsBefore p c (AnInst n) q → Stop (λ at. inst_by) inst_words AnyInst refused_inst c.instances q g → IsCertificateRefused p g
 inst_stops b p c n q g h stop = elim stop [
   | inl f ↦ malformed p c (AnInst n) q g h
       (λ ws next form. not_next inst_by q.rest ws form.0 f.0 next (ap (λ (xs : List (List ℕ)). inst_by (spaced xs)) form.2 ∙ inst_reads b.words b.insts 0 form.0 (omega arith) form.1)) f.1
   | inr r ↦ let low = inst_low c.instances r.item q.at g r.refuses in out_of_order p c (AnInst n) q (inst_words r.item) g h r.next (r.item, r.fits, refl, not_ascending c.instances r.item low.0) low.1
 ]
 
-insts_stops : Below → (version : Version) (p a d : Place) (n : ℕ) (es : List Entry) (g : CertFault) → n ≤ SIZE → AreEntries es → is_third version ≡ has_pairs es → Stand p (heading version n) a → Stand a (entry_lines es) d → insts_at d ≡ Err g → IsRefused p g
+insts_stops : LowerLaws → (version : Version) (p a d : Place) (n : ℕ) (es : List Entry) (g : CertFault) → n ≤ SIZE → AreEntries es → is_third version ≡ has_pairs es → Stand p (heading version n) a → Stand a (entry_lines es) d → insts_at d ≡ Err g → IsCertificateRefused p g
 unfolding insts_at
 insts_stops b version p a d n es g small he mode h k e =
     let front = stand_more p a d (heading version n) (entry_lines es) h k in
@@ -254,7 +254,7 @@ nodes_not_ascending ns n low h =
     let up = sorted_at node_cmp (node_keys ns) n.0 [] (subst P (keys_append ns (n ∷ [])) h) in
     false≢true (sym low ∙ node_above_is ns n.0 ∙ up)
 
-too_much : Below → (c : Claim) (n : NodeKey × NodeForm) → IsStrictlySortedBy node_cmp (node_keys c.nodes) → is_node_above (last_in c.nodes) n.0 ≡ true
+too_much : LowerLaws → (c : Claim) (n : NodeKey × NodeForm) → IsStrictlySortedBy node_cmp (node_keys c.nodes) → is_node_above (last_in c.nodes) n.0 ≡ true
     → nat_le (cells_of (node_keys c.nodes) + (1 + offset_of n.0.sp)) most_cells ≡ false → IsTooMuch c n
 too_much b c n ascend up room =
     let P : List NodeKey → Type 0 = λ ks. IsStrictlySortedBy node_cmp ks in
@@ -263,9 +263,9 @@ too_much b c n ascend up room =
       omega (arith, full, cells_more c.nodes n),
     )
 
-node_refused : Below → (p : Place) (c : Claim) (n : ℕ) (q : Place) (g : CertFault) → Stands p c (ANode n) q → ItemRefused (node_words c.version c.instances) (FitsNode c.version c.instances) refused_node c.nodes q g → IsRefused p g
+node_refused : LowerLaws → (p : Place) (c : Claim) (n : ℕ) (q : Place) (g : CertFault) → StandsBefore p c (ANode n) q → ItemRefused (node_words c.version c.instances) (FitsNode c.version c.instances) refused_node c.nodes q g → IsCertificateRefused p g
 node_refused b p c n q g h r =
-    let P : CertFault → Type 0 = λ f. IsRefused p f in
+    let P : CertFault → Type 0 = λ f. IsCertificateRefused p f in
     elim (node_low_by (is_node_above (last_in c.nodes) r.item.0) (nat_le (cells_of (node_keys c.nodes) + (1 + offset_of r.item.0.sp)) most_cells) (fault.Limit limit.Cells) (fault.Order q.at) g r.refuses) [
       | inl low ↦ out_of_order p c (ANode n) q (node_words c.version c.instances r.item) g h r.next (r.item, r.fits.0, r.fits.1, r.fits.2, refl, nodes_not_ascending c.nodes r.item low.0) low.1
       | inr full ↦ subst P (sym full.2) (record {
@@ -279,7 +279,7 @@ node_refused b p c n q g h r =
       })
     ]
 
-node_stops : Below → (p : Place) (c : Claim) (n : ℕ) (q : Place) (g : CertFault) → Stands p c (ANode n) q → Stop (node_by c.version c.instances) (node_words c.version c.instances) (FitsNode c.version c.instances) refused_node c.nodes q g → IsRefused p g
+node_stops : LowerLaws → (p : Place) (c : Claim) (n : ℕ) (q : Place) (g : CertFault) → StandsBefore p c (ANode n) q → Stop (node_by c.version c.instances) (node_words c.version c.instances) (FitsNode c.version c.instances) refused_node c.nodes q g → IsCertificateRefused p g
 node_stops b p c n q g h stop = elim stop [
   | inl f ↦ malformed p c (ANode n) q g h
       (λ ws next form. not_next (node_by c.version c.instances (length c.nodes)) q.rest ws form.0 f.0 next
@@ -293,16 +293,16 @@ limited_err (Ok (Some n, q)) g e = absurd (err_ok {A = ℕ × Place} g (n, q) (s
 limited_err (Ok (None, q)) g e = inr (q, refl, sym (err_is {A = ℕ × Place} (fault.Limit limit.Nodes) g e))
 limited_err (Err f) g e = inl (ap (λ (x : CertFault). Err x) (err_is {A = ℕ × Place} f g e))
 
-no_count : WordLaws → (ls : List TextLine) → first_by count_by ls ≡ None → (ws : List (List ℕ)) → IsNext ls ws → AreNodes (λ w. ⊤) ws → ⊥
+no_count : WordLaws → (ls : List TextLine) → first_by count_by ls ≡ None → (ws : List (List ℕ)) → IsNextLine ls ws → IsNodesLine (λ w. ⊤) ws → ⊥
 no_count k ls none ws next h =
     let t = nodes_count h.0 h.1 in
     not_next count_by ls ws t.0 none next (ap (λ (xs : List (List ℕ)). count_by (spaced xs)) h.2
     ∙ ap count_in (k.words_stand (codes "nodes") (h.0 ∷ []) ((plain (codes "nodes" ∷ []) refl).0, (decimal_word h.0 h.1, tt))) ∙ t.1)
 
 -- the line `nodes N`
-count_stops : Below → (p : Place) (c : Claim) (q : Place) (g : CertFault) → Stands p c Nodes q → limited (formed (line_by count_by q)) ≡ Err g → IsRefused p g
+count_stops : LowerLaws → (p : Place) (c : Claim) (q : Place) (g : CertFault) → StandsBefore p c Nodes q → limited (formed (line_by count_by q)) ≡ Err g → IsCertificateRefused p g
 count_stops b p c q g h e =
-    let P : CertFault → Type 0 = λ f. IsRefused p f in
+    let P : CertFault → Type 0 = λ f. IsCertificateRefused p f in
     elim (limited_err (formed (line_by count_by q)) g e) [
       | inl f ↦ let t = line_stop count_by q g f in malformed p c Nodes q g h (no_count b.words q.rest t.0) t.1
       | inr m ↦
@@ -318,8 +318,8 @@ count_stops b p c q g h e =
           })
     ]
 
-nodes_stops : Below → (version : Version) (p a d f : Place) (n : ℕ) (es : List Entry) (xs : List Inst) (g : CertFault) → n ≤ SIZE → AreEntries es → is_third version ≡ has_pairs es → AllByRecursion IsInst xs → IsStrictlySortedBy inst_cmp (inst_keys xs) → length xs ≤ most_instances
-    → Stand p (heading version n) a → Stand a (entry_lines es) d → Stand d (inst_lines xs) f → nodes_at version xs f ≡ Err g → IsRefused p g
+nodes_stops : LowerLaws → (version : Version) (p a d f : Place) (n : ℕ) (es : List Entry) (xs : List Inst) (g : CertFault) → n ≤ SIZE → AreEntries es → is_third version ≡ has_pairs es → AllByRecursion IsInst xs → IsStrictlySortedBy inst_cmp (inst_keys xs) → length xs ≤ most_instances
+    → Stand p (heading version n) a → Stand a (entry_lines es) d → Stand d (inst_lines xs) f → nodes_at version xs f ≡ Err g → IsCertificateRefused p g
 unfolding nodes_at
 nodes_stops b version p a d f n es xs g small he mode hx ax few h k j e =
     let front = stand_more p a f (heading version n) (entry_lines es ++ inst_lines xs) h (stand_more a d f (entry_lines es) (inst_lines xs) k j) in
@@ -340,10 +340,10 @@ nodes_stops b version p a d f n es xs g small he mode hx ax few h k j e =
 
 -- ---- the schedule and the end
 
-plan_stops : RefusedIsStuck → (p : Place) (c : Claim) (bl : Bool) (q m : Place) (g : CertFault) → IsClaim c → Stand p (front_lines c) q → Stand q (ending_words bl ∷ []) m → plan_if bl m ≡ Err g → IsRefused p g
+plan_stops : RefusedScheduleIsStuck → (p : Place) (c : Claim) (bl : Bool) (q m : Place) (g : CertFault) → IsClaim c → Stand p (front_lines c) q → Stand q (ending_words bl ∷ []) m → plan_if bl m ≡ Err g → IsCertificateRefused p g
 plan_stops stuck p c false q m g h front line e = absurd (err_ok {A = Option Plan × Place} g (None, m) (sym e))
 plan_stops stuck p c true q m g h front line e =
-    let P : CertFault → Type 0 = λ f. IsRefused p f in
+    let P : CertFault → Type 0 = λ f. IsCertificateRefused p f in
     elim (then_stop (formed (schedule_at m)) _ g e) [
       | inl f ↦
           let r = formed_err (schedule_at m) g f in
@@ -351,11 +351,11 @@ plan_stops stuck p c true q m g h front line e =
       | inr s ↦ absurd (err_ok {A = Option Plan × Place} g (Some s.0.0, s.0.1) (sym s.2))
     ]
 
-no_ending : (ls : List TextLine) → first_by ending_by ls ≡ None → (ws : List (List ℕ)) → IsNext ls ws → (ws ≡ open_line) ⊎ (ws ≡ attained_line) → ⊥
+no_ending : (ls : List TextLine) → first_by ending_by ls ≡ None → (ws : List (List ℕ)) → IsNextLine ls ws → (ws ≡ open_line) ⊎ (ws ≡ attained_line) → ⊥
 no_ending ls none ws next (inl h) = not_next ending_by ls ws false none next (ap (λ (xs : List (List ℕ)). ending_by (spaced xs)) h ∙ ending_again false)
 no_ending ls none ws next (inr h) = not_next ending_by ls ws true none next (ap (λ (xs : List (List ℕ)). ending_by (spaced xs)) h ∙ ending_again true)
 
-witness_stops : RefusedIsStuck → (p : Place) (c : Claim) (q : Place) (g : CertFault) → IsCertificate c → Stand p (front_lines c) q → witness_at q ≡ Err g → IsRefused p g
+witness_stops : RefusedScheduleIsStuck → (p : Place) (c : Claim) (q : Place) (g : CertFault) → IsCertificate c → Stand p (front_lines c) q → witness_at q ≡ Err g → IsCertificateRefused p g
 unfolding witness_at
 witness_stops stuck p c q g h front e = elim (then_stop (formed (line_by ending_by q)) _ g e) [
   | inl f ↦ let t = line_stop ending_by q g f in malformed p c Ending q g (record { fits = h; room = tt; lines = front }) (no_ending q.rest t.0) t.1
@@ -371,7 +371,7 @@ last_stop : (ls : List TextLine) (q : Place) (g : CertFault) → if_last ls q �
 last_stop [] q g e = absurd (err_ok {A = Unit {0} × Place} g (tt, q) (sym e))
 last_stop (l ∷ ls) q g e = (lines_left l ls, sym (err_is {A = Unit {0} × Place} (fault.Malformed q.at) g e))
 
-end_stops : (p : Place) (c : Claim) (q r : Place) (g : CertFault) → IsCertificate c → Stand p (front_lines c) q → Stand q (witness_lines c.witness) r → end_at r ≡ Err g → IsRefused p g
+end_stops : (p : Place) (c : Claim) (q r : Place) (g : CertFault) → IsCertificate c → Stand p (front_lines c) q → Stand q (witness_lines c.witness) r → end_at r ≡ Err g → IsCertificateRefused p g
 unfolding end_at
 end_stops p c q r g h front witness e = elim (then_stop (formed (line_by (this_by (spaced end_line)) r)) _ g e) [
   | inl f ↦
@@ -386,8 +386,8 @@ end_stops p c q r g h front witness e = elim (then_stop (formed (line_by (this_b
 
 -- ---- the whole
 
-behind_nodes : Below → (version : Version) (p : Place) (n : ℕ) (es : List Entry) (xs : List Inst) (ns : Seeds) (q : Place) (g : CertFault) → IsCertificate (claim_to version n es xs ns None)
-    → Stand p (front_lines (claim_to version n es xs ns None)) q → (r : Place × Option Plan) → witness_at q ≡ Ok (r.1, r.0) → end_at r.0 ≡ Err g → IsRefused p g
+behind_nodes : LowerLaws → (version : Version) (p : Place) (n : ℕ) (es : List Entry) (xs : List Inst) (ns : Seeds) (q : Place) (g : CertFault) → IsCertificate (claim_to version n es xs ns None)
+    → Stand p (front_lines (claim_to version n es xs ns None)) q → (r : Place × Option Plan) → witness_at q ≡ Ok (r.1, r.0) → end_at r.0 ≡ Err g → IsCertificateRefused p g
 behind_nodes b version p n es xs ns q g h front r e f =
     let w = witness_part b.schedule_spelled q (r.1, r.0) e in
     end_stops p (claim_to version n es xs ns r.1) q r.0 g
@@ -397,7 +397,7 @@ behind_nodes b version p n es xs ns q g h front r e f =
       schedule = w.schedule;
     }) front w.lines f
 
-claim_stops : Below → RefusedIsStuck → (p : Place) (g : CertFault) → claim_at p ≡ Err g → IsRefused p g
+claim_stops : LowerLaws → RefusedScheduleIsStuck → (p : Place) (g : CertFault) → claim_at p ≡ Err g → IsCertificateRefused p g
 unfolding claim_at
 claim_stops k stuck p g e = elim (then_stop (heading_at p) _ g e) [
   | inl h ↦ heading_stops k.words p g h
@@ -440,12 +440,12 @@ alone_err : (d : Result (Claim × Place) CertFault) (g : CertFault) → claim_al
 alone_err (Ok x) g e = absurd (err_ok {A = Claim} g x.0 (sym e))
 alone_err (Err f) g e = ap (λ (x : CertFault). Err x) (err_is {A = Claim} f g e)
 
-due_by : Below → RefusedIsStuck → (text : List ℕ) (r : Result Claim CertFault) → certificate_in text ≡ r → IsDue text r
+due_by : LowerLaws → RefusedScheduleIsStuck → (text : List ℕ) (r : Result Claim CertFault) → certificate_in text ≡ r → IsCertificateDue text r
 unfolding certificate_in
 due_by k stuck text (Ok c) e = let t = read_is_spelled k text c e in (t.1, t.0)
 due_by k stuck text (Err g) e = claim_stops k stuck (start text) g (alone_err (claim_at (start text)) g e)
 
-pub read_is_due : Below → RefusedIsStuck → ReadIsDue
+pub read_is_due : LowerLaws → RefusedScheduleIsStuck → ReadCertificateIsDue
 read_is_due k stuck text = due_by k stuck text (certificate_in text) refl
 
 -- ---- what is answered
@@ -459,12 +459,12 @@ not_order at e = cc
 not_limit : (l : Limit) → fault.Limit l ≢ fault.Memory
 not_limit l e = cc
 
-err_due : (text : List ℕ) (f : CertFault) → ReadIsDue → (f ≢ fault.Memory → certificate_in text ≡ Err f) → IsDueUnlessMemory text (Err f)
+err_due : (text : List ℕ) (f : CertFault) → ReadCertificateIsDue → (f ≢ fault.Memory → certificate_in text ≡ Err f) → IsCertificateDueUnlessMemory text (Err f)
 err_due text fault.Memory due h = tt
-err_due text (fault.Malformed at) due h = let P : Result Claim CertFault → Type 0 = λ r. IsDue text r in subst P (h (not_malformed at)) (due text)
-err_due text (fault.Order at) due h = let P : Result Claim CertFault → Type 0 = λ r. IsDue text r in subst P (h (not_order at)) (due text)
-err_due text (fault.Limit l) due h = let P : Result Claim CertFault → Type 0 = λ r. IsDue text r in subst P (h (not_limit l)) (due text)
+err_due text (fault.Malformed at) due h = let P : Result Claim CertFault → Type 0 = λ r. IsCertificateDue text r in subst P (h (not_malformed at)) (due text)
+err_due text (fault.Order at) due h = let P : Result Claim CertFault → Type 0 = λ r. IsCertificateDue text r in subst P (h (not_order at)) (due text)
+err_due text (fault.Limit l) due h = let P : Result Claim CertFault → Type 0 = λ r. IsCertificateDue text r in subst P (h (not_limit l)) (due text)
 
-pub told : ReadIsDue → (text : List ℕ) (r : Result Claim CertFault) → Answers (λ c. c) fault.Memory r (certificate_in text) → IsDueUnlessMemory text r
-told due text (Ok c) h = let P : Result Claim CertFault → Type 0 = λ r. IsDue text r in subst P h (due text)
+pub told : ReadCertificateIsDue → (text : List ℕ) (r : Result Claim CertFault) → Answers (λ c. c) fault.Memory r (certificate_in text) → IsCertificateDueUnlessMemory text r
+told due text (Ok c) h = let P : Result Claim CertFault → Type 0 = λ r. IsCertificateDue text r in subst P h (due text)
 told due text (Err f) h = err_due text f due h

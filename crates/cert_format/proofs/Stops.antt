@@ -10,7 +10,7 @@ use Rattle.line_reading.proofs.AllLaws.{line_takes, line_refuses, passes_none, p
 use Rattle.cert_format.specs.declared.fault.CertFault.{CertFault}
 use Rattle.cert_format.specs.declared.fault.CertFault.TheVariants as fault
 use Rattle.cert_format.specs.Reading.{formed, unless, with_item, longer_at, items_from}
-use Rattle.cert_format.specs.Refusals.{IsNext}
+use Rattle.cert_format.specs.Refusals.{IsNextLine}
 use Rattle.cert_format.proofs.Lists.{err_ok, formed_ok, Admitted, Steady, Spells, lines, longer_take}
 
 -- ---- results
@@ -34,16 +34,16 @@ line_stop f p g e =
     (l.0, r.2 ∙ ap (λ (q : Place). fault.Malformed q.at) (sym l.1))
 
 -- words that a reading reads aren't those of a line that it doesn't
-pub not_next : {A : Type 0} (f : List ℕ → Option A) (ls : List TextLine) (ws : List (List ℕ)) (x : A) → first_by f ls ≡ None → IsNext ls ws → f (spaced ws) ≡ Some x → ⊥
+pub not_next : {A : Type 0} (f : List ℕ → Option A) (ls : List TextLine) (ws : List (List ℕ)) (x : A) → first_by f ls ≡ None → IsNextLine ls ws → f (spaced ws) ≡ Some x → ⊥
 not_next f [] ws x none next e = next
 not_next f (l ∷ ls) ws x none next e = none-some x (sym none ∙ ap (λ (y : TextLine). first_by f (y ∷ ls)) next ∙ e)
 
-passes_next : (p : Place) (ws : List (List ℕ)) (q : Place) (ls : List TextLine) → ls ≡ p.rest → Passes p (whole ws ∷ []) q → IsNext ls ws
+passes_next : (p : Place) (ws : List (List ℕ)) (q : Place) (ls : List TextLine) → ls ≡ p.rest → Passes p (whole ws ∷ []) q → IsNextLine ls ws
 passes_next p ws q [] is h = absurd (nil_not_cons (whole ws) q.rest (is ∙ h.lines))
 passes_next p ws q (l ∷ ls) is h = same_head l (whole ws) ls q.rest (is ∙ h.lines)
 
 -- the line that is passed is the next one
-pub is_next : (p : Place) (ws : List (List ℕ)) (q : Place) → Passes p (whole ws ∷ []) q → IsNext p.rest ws
+pub is_next : (p : Place) (ws : List (List ℕ)) (q : Place) → Passes p (whole ws ∷ []) q → IsNextLine p.rest ws
 is_next p ws q h = passes_next p ws q p.rest refl h
 
 -- ---- lists
@@ -57,7 +57,7 @@ pub record ItemRefused {A : Type 0} (words : A → List (List ℕ)) (P : ℕ →
   pub item : A
   pub fits : P (length xs) item
   pub refuses : refused xs item p.at ≡ Some g
-  pub next : IsNext p.rest (words item)
+  pub next : IsNextLine p.rest (words item)
 
 -- no item is read, or one that is refused
 abbrev pub Stop : {A : Type 0} → (ℕ → List ℕ → Option A) → (A → List (List ℕ)) → (ℕ → A → Type 0) → (List A → A → ℕ → Option CertFault) → List A → Place → CertFault → Type 0

@@ -21,7 +21,7 @@ use Rattle.mask_states.specs.Order.{inst_cmp}
 use Rattle.mask_states.specs.Laws.{KeysAreOrdered}
 use Rattle.edge_rules.specs.Expansion.{Seeds}
 use Rattle.witness_replay.specs.Spelling.{Plan}
-use Rattle.witness_replay.specs.Exact.{TextIsReading, ReadIsSpelled as ScheduleIsSpelled, SpelledIsRead as ScheduleIsRead}
+use Rattle.witness_replay.specs.Exact.{TextIsReading, ReadScheduleIsSpelled as ScheduleIsSpelled, SpelledScheduleIsRead as ScheduleIsRead}
 use Rattle.certificate.specs.declared.instance.Inst.{Inst}
 use Rattle.certificate.specs.declared.version.Version.{Version}
 use Rattle.certificate.specs.declared.version.Version.TheVariants.{One, Two, Three}
@@ -33,7 +33,7 @@ use Rattle.certificate.specs.Claims.{Claim, AreFrom, IsClaim, IsCertificate, mos
 use Rattle.cert_format.specs.LineLaws.{InstLines, NodeLines}
 use Rattle.cert_words.specs.Text.{numbered, inst_words, node_words, heading, entry_lines, inst_lines, node_lines, witness_lines, end_line, front_lines, certificate_lines, text_of}
 use Rattle.cert_format.specs.Reading.{entry_by, inst_by, node_by, refused_entry, refused_inst, refused_node, formed, numbered_by, count_by, limited, heading_at, is_admitted, least_entries, first_at, entries_at, insts_at, nodes_at, witness_at, end_at, claim_at, claim_alone, certificate_in}
-use Rattle.cert_format.specs.Exact.{ReadIsSpelled, SpelledIsRead, OneText, PartsMakeClaims}
+use Rattle.cert_format.specs.Exact.{ReadCertificateIsSpelled, SpelledCertificateIsRead, CertificatesHaveOneText, PartsMakeClaims}
 use Rattle.line_reading.specs.Reading.{this_by, line_by}
 use Rattle.line_reading.proofs.AllLaws.{passes_none, passes_end}
 use Rattle.cert_format.proofs.Lists.{ok_is, err_ok, then_ok, AllFrom, all_of_any, Admitted, admitted_all, ItemsRead, items_take, items_again}
@@ -43,7 +43,7 @@ use Rattle.cert_format.proofs.Versions.{each_of, are_of}
 use Rattle.cert_format.proofs.Parts.{Stand, stand_more, stand_cut, before, stand, plain, numbered_plain, this_take, this_line, number_take, number_line, nodes_take, nodes_line, ListPart, list_take, list_again, version_plain, heading_take, heading_again, witness_part, witness_again, end_part, end_again}
 
 -- what the laws of the lower crates say
-pub record Below : Type 0 where
+pub record LowerLaws : Type 0 where
   pub words : WordLaws
   pub insts : InstLines
   pub nodes : NodeLines
@@ -105,7 +105,7 @@ entries_part version p m s n z count least most first r =
       lines = stand_more p m z.1 (numbered (codes "assume") (length all) ∷ []) (map entry_words all) (subst P (sym number) count) (some_stand version m s z.1 r.items first r.passes);
     })
 
-pub entries_take : Below → (version : Version) (p : Place) (z : List Entry × Place) → entries_at version p ≡ Ok z → EntriesPart version p z
+pub entries_take : LowerLaws → (version : Version) (p : Place) (z : List Entry × Place) → entries_at version p ≡ Ok z → EntriesPart version p z
 unfolding entries_at
 entries_take b version p z e =
     let n = then_ok (formed (line_by (numbered_by (codes "assume") (least_entries version) most_entries) p)) _ z e in
@@ -120,7 +120,7 @@ all_behind : {A : Type 0} (P : A → Type 0) (front xs : List A) → AllByRecurs
 all_behind P [] xs h = h
 all_behind P (y ∷ ys) xs h = all_behind P ys xs h.1
 
-entries_of : Below → (version : Version) (p : Place) (rest : List Entry) (q : Place) → AreEntries (firsts version ++ rest) → AllByRecursion (λ e. is_admitted (is_third version) e ≡ true) rest
+entries_of : LowerLaws → (version : Version) (p : Place) (rest : List Entry) (q : Place) → AreEntries (firsts version ++ rest) → AllByRecursion (λ e. is_admitted (is_third version) e ≡ true) rest
     → Stand p (entry_lines (firsts version ++ rest)) q → entries_at version p ≡ Ok (firsts version ++ rest, q)
 unfolding entries_at
 entries_of b version p rest q h admitted s =
@@ -136,28 +136,28 @@ entries_of b version p rest q h admitted s =
     (omega (arith, size, few, firsts_count version)) (entries_admitted (is_third version) (firsts version) rest h fits admitted) (omega (arith, size)) d.2 in
     rw (number, first_again version c.0 d.0 d.1) items
 
-entries_again : Below → (version : Version) (p : Place) (es : List Entry) (q : Place) → AreEntries es → is_third version ≡ has_pairs es → Stand p (entry_lines es) q → entries_at version p ≡ Ok (es, q)
+entries_again : LowerLaws → (version : Version) (p : Place) (es : List Entry) (q : Place) → AreEntries es → is_third version ≡ has_pairs es → Stand p (entry_lines es) q → entries_at version p ≡ Ok (es, q)
 entries_again b version p es q h mode s =
     let t = begins version es h mode in
     let P : List Entry → Type 0 = λ xs. Stand p (entry_lines xs) q in
     let Q : List Entry → Type 0 = λ xs. entries_at version p ≡ Ok (xs, q) in
     subst Q (sym t.all) (entries_of b version p t.rest q (subst AreEntries t.all h) t.admitted (subst P t.all s))
 
-pub insts_take : Below → (p : Place) (z : List Inst × Place) → insts_at p ≡ Ok z → ListPart (codes "instances") most_instances inst_words AnyInst refused_inst p z
+pub insts_take : LowerLaws → (p : Place) (z : List Inst × Place) → insts_at p ≡ Ok z → ListPart (codes "instances") most_instances inst_words AnyInst refused_inst p z
 unfolding insts_at
 insts_take b p z e =
     let n = then_ok (formed (line_by (numbered_by (codes "instances") 0 most_instances) p)) _ z e in
     let count = number_take b.words (codes "instances") 0 most_instances p n.0 (lit< tt) n.1 in
     list_take (λ at. inst_by) inst_words AnyInst refused_inst (inst_spells b.words b.insts) inst_steady (codes "instances") most_instances n.0.0 p n.0.1 z count.0 count.2 n.2
 
-insts_again : Below → (p : Place) (xs : List Inst) (q : Place) → IsStrictlySortedBy inst_cmp (inst_keys xs) → AllByRecursion IsInst xs → length xs ≤ most_instances → Stand p (inst_lines xs) q → insts_at p ≡ Ok (xs, q)
+insts_again : LowerLaws → (p : Place) (xs : List Inst) (q : Place) → IsStrictlySortedBy inst_cmp (inst_keys xs) → AllByRecursion IsInst xs → length xs ≤ most_instances → Stand p (inst_lines xs) q → insts_at p ≡ Ok (xs, q)
 unfolding insts_at
 insts_again b p xs q ascend all few s =
     let r = list_again (λ at. inst_by) inst_words AnyInst refused_inst (inst_reads b.words b.insts) (codes "instances") xs p q (omega (arith, few)) (insts_admitted xs ascend all) s in
     let count = number_line b.words (codes "instances") 0 most_instances (length xs) p r.0 (plain (codes "instances" ∷ []) refl).0 (lit< tt) (omega arith) few r.1 in
     rw count r.2
 
-pub nodes_part : Below → (version : Version) (insts : List Inst) → IsStrictlySortedBy inst_cmp (inst_keys insts) → (p : Place) (z : Seeds × Place) → nodes_at version insts p ≡ Ok z
+pub nodes_part : LowerLaws → (version : Version) (insts : List Inst) → IsStrictlySortedBy inst_cmp (inst_keys insts) → (p : Place) (z : Seeds × Place) → nodes_at version insts p ≡ Ok z
     → ListPart (codes "nodes") most_nodes (node_words version insts) (FitsNode version insts) refused_node p z
 unfolding nodes_at
 nodes_part b version insts ascend p z e =
@@ -165,7 +165,7 @@ nodes_part b version insts ascend p z e =
     let count = nodes_take b.words p n.0 n.1 in
     list_take (node_by version insts) (node_words version insts) (FitsNode version insts) refused_node (node_spells b.words b.nodes b.keys version insts ascend) node_steady (codes "nodes") most_nodes n.0.0 p n.0.1 z count.0 count.1 n.2
 
-nodes_again : Below → (version : Version) (insts : List Inst) → length insts ≤ most_instances → (p : Place) (ns : Seeds) (q : Place) → NodesKeep ns → AllFrom (FitsNode version insts) 0 ns → length ns ≤ most_nodes
+nodes_again : LowerLaws → (version : Version) (insts : List Inst) → length insts ≤ most_instances → (p : Place) (ns : Seeds) (q : Place) → NodesKeep ns → AllFrom (FitsNode version insts) 0 ns → length ns ≤ most_nodes
     → Stand p (node_lines version insts ns) q → nodes_at version insts p ≡ Ok (ns, q)
 unfolding nodes_at
 nodes_again b version insts few p ns q keep all most s =
@@ -192,7 +192,7 @@ claim_of version n es xs ns w small he mode hx ax few hn kn most = record {
   of_list = mode;
 }
 
-claim_by : Below → (version : Version) (n : ℕ) (a c d : Place) (es : List Entry × Place) (xs : List Inst × Place) (ns : Seeds × Place) (w : Option Plan) → n ≤ SIZE → entries_at version a ≡ Ok es → insts_at c ≡ Ok xs → nodes_at version xs.0 d ≡ Ok ns
+claim_by : LowerLaws → (version : Version) (n : ℕ) (a c d : Place) (es : List Entry × Place) (xs : List Inst × Place) (ns : Seeds × Place) (w : Option Plan) → n ≤ SIZE → entries_at version a ≡ Ok es → insts_at c ≡ Ok xs → nodes_at version xs.0 d ≡ Ok ns
     → IsClaim (record { version = version; bound = n; assumptions = es.0; instances = xs.0; nodes = ns.0; witness = w })
 claim_by b version n a c d es xs ns w small e f g =
     let entries = entries_take b version a es e in
@@ -207,7 +207,7 @@ record ClaimRead (p : Place) (z : Claim × Place) : Type 0 where
   pub lines : Stand p (certificate_lines z.0) z.1
   pub over : z.1.rest ≡ []
 
-claim_take : Below → (p : Place) (z : Claim × Place) → claim_at p ≡ Ok z → ClaimRead p z
+claim_take : LowerLaws → (p : Place) (z : Claim × Place) → claim_at p ≡ Ok z → ClaimRead p z
 unfolding claim_at
 claim_take k p z e =
     let b = then_ok (heading_at p) _ z e in
@@ -244,7 +244,7 @@ spelled_text k text c q h =
     let none : joined q.rest ≡ [] = ap joined h.over in
     sym (k.text_joined text) ∙ t.bytes ∙ ap (λ (xs : List ℕ). text_of c ++ xs) none ∙ append-nil (text_of c)
 
-pub read_is_spelled : Below → ReadIsSpelled
+pub read_is_spelled : LowerLaws → ReadCertificateIsSpelled
 unfolding certificate_in
 read_is_spelled k text c e =
     let a = alone (claim_at (before 0 text)) c e in
@@ -261,7 +261,7 @@ joined_plain : (xs bs : List (List (List ℕ))) → AllByRecursion (AllByRecursi
 joined_plain [] bs h g = g
 joined_plain (a ∷ xs) bs h g = (h.0, joined_plain xs bs h.1 g)
 
-node_plain_all : Below → (version : Version) (insts : List Inst) → length insts ≤ most_instances → (at : ℕ) (ns : Seeds) → at + length ns ≤ most_nodes → AllFrom (FitsNode version insts) at ns
+node_plain_all : LowerLaws → (version : Version) (insts : List Inst) → length insts ≤ most_instances → (at : ℕ) (ns : Seeds) → at + length ns ≤ most_nodes → AllFrom (FitsNode version insts) at ns
     → AllByRecursion (AllByRecursion IsWord) (map (node_words version insts) ns)
 node_plain_all b version insts few at [] most h = tt
 node_plain_all b version insts few at (n ∷ ns) most h = (node_is_plain b.nodes b.keys version insts few at n (omega (arith, most)) h.0, node_plain_all b version insts few (at + 1) ns (omega (arith, most)) h.1)
@@ -269,7 +269,7 @@ node_plain_all b version insts few at (n ∷ ns) most h = (node_is_plain b.nodes
 pub fitting_nodes : (c : Claim) → IsClaim c → AllFrom (FitsNode c.version c.instances) 0 c.nodes
 fitting_nodes c h = all_fit c.version c.instances 0 c.nodes (subst (λ followed. AreFrom followed 0 c.nodes) (sym h.of_list) h.nodes_fit) h.nodes_belong (each_of c.version c.nodes h.of_version)
 
-front_plain : Below → (c : Claim) → IsClaim c → AllByRecursion (AllByRecursion IsWord) (front_lines c)
+front_plain : LowerLaws → (c : Claim) → IsClaim c → AllByRecursion (AllByRecursion IsWord) (front_lines c)
 front_plain b c h =
     let k = b.words in
     let bound = numbered_plain k (codes "bound") c.bound (plain (codes "bound" ∷ []) refl).0 (omega (arith, h.bound_fits)) in
@@ -284,7 +284,7 @@ front_plain b c h =
     ) in
     (version_plain c.version, (bound, joined_plain (entry_lines c.assumptions) (inst_lines c.instances ++ node_lines c.version c.instances c.nodes) entries (joined_plain (inst_lines c.instances) (node_lines c.version c.instances c.nodes) insts nodes)))
 
-again_at : Below → (c : Claim) → IsClaim c → (p q : Place) → Stand p (front_lines c) q
+again_at : LowerLaws → (c : Claim) → IsClaim c → (p q : Place) → Stand p (front_lines c) q
     → (a : Place) × (d : Place) × (f : Place) × (heading_at p ≡ Ok ((c.version, c.bound), a)) × (entries_at c.version a ≡ Ok (c.assumptions, d)) × (insts_at d ≡ Ok (c.instances, f)) × (nodes_at c.version c.instances f ≡ Ok (c.nodes, q))
 again_at b c h p q s =
     let x = stand_cut p q (heading c.version c.bound) (entry_lines c.assumptions ++ (inst_lines c.instances ++ node_lines c.version c.instances c.nodes)) s in
@@ -304,7 +304,7 @@ text_parts c =
     flat_map-append line (front_lines c) (witness_lines c.witness ++ end_line ∷ [])
     ∙ ap (λ (xs : List ℕ). flat_map line (front_lines c) ++ xs) (flat_map-append line (witness_lines c.witness) (end_line ∷ []))
 
-claim_again : Below → (c : Claim) → IsCertificate c
+claim_again : LowerLaws → (c : Claim) → IsCertificate c
     → (q : Place) × (claim_at (before 0 (flat_map line (front_lines c) ++ (flat_map line (witness_lines c.witness) ++ flat_map line (end_line ∷ [])))) ≡ Ok (c, q))
 unfolding claim_at
 claim_again b c h =
@@ -316,13 +316,13 @@ claim_again b c h =
     let end = end_again b.words witness.0 in
     (before end.0 [], rw (r.3, r.4, r.5, r.6, witness.1, end.1) refl)
 
-pub spelled_is_read : Below → SpelledIsRead
+pub spelled_is_read : LowerLaws → SpelledCertificateIsRead
 unfolding certificate_in
 spelled_is_read b c h =
     let a = claim_again b c h in
     ap (λ (text : List ℕ). claim_alone (claim_at (before 0 text))) (text_parts c) ∙ ap claim_alone a.1
 
-pub one_text : Below → OneText
+pub one_text : LowerLaws → CertificatesHaveOneText
 one_text k a b h g e = ok_is a b (sym (spelled_is_read k a h) ∙ ap certificate_in e ∙ spelled_is_read k b g)
 
 -- ---- what is answered
@@ -333,17 +333,17 @@ unfolding certificate_in
 answered text p q (Ok c) e h = ap claim_alone (rw e at h)
 answered text p q (Err f) e h = λ other. ap claim_alone (rw e at (h other))
 
-pub claims_keep : Below → PartsMakeClaims
+pub claims_keep : LowerLaws → PartsMakeClaims
 claims_keep k version a d f q n es xs ns small e g h = claim_by k version n a d f (es, d) (xs, f) (ns, q) None small e g h
 
-pub found : ReadIsSpelled → (text : List ℕ) (r : Result Claim CertFault) → Answers (λ c. c) fault.Memory r (certificate_in text) → IfOk r (λ c. text ≡ text_of c)
+pub found : ReadCertificateIsSpelled → (text : List ℕ) (r : Result Claim CertFault) → Answers (λ c. c) fault.Memory r (certificate_in text) → IfOk r (λ c. text ≡ text_of c)
 found read text (Ok c) h = (read text c h).0
 found read text (Err f) h = tt
 
-pub kept : ReadIsSpelled → (text : List ℕ) (r : Result Claim CertFault) → Answers (λ c. c) fault.Memory r (certificate_in text) → IfOk r IsCertificate
+pub kept : ReadCertificateIsSpelled → (text : List ℕ) (r : Result Claim CertFault) → Answers (λ c. c) fault.Memory r (certificate_in text) → IfOk r IsCertificate
 kept read text (Ok c) h = (read text c h).1
 kept read text (Err f) h = tt
 
-pub spelled : SpelledIsRead → (text : List ℕ) (r : Result Claim CertFault) → Answers (λ c. c) fault.Memory r (certificate_in text) → (c : Claim) → IsCertificate c → text ≡ text_of c → Answers (λ x. x) fault.Memory r (Ok c)
+pub spelled : SpelledCertificateIsRead → (text : List ℕ) (r : Result Claim CertFault) → Answers (λ c. c) fault.Memory r (certificate_in text) → (c : Claim) → IsCertificate c → text ≡ text_of c → Answers (λ x. x) fault.Memory r (Ok c)
 spelled reads text (Ok x) h c k e = sym (reads c k) ∙ sym (ap certificate_in e) ∙ h
 spelled reads text (Err f) h c k e = λ other. sym (reads c k) ∙ sym (ap certificate_in e) ∙ h other

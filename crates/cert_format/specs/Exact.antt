@@ -11,15 +11,15 @@ use Rattle.cert_words.specs.Text.{text_of}
 use Rattle.cert_format.specs.Reading.{entries_at, insts_at, nodes_at, certificate_in}
 
 -- what is read is a certificate, and the text is its text
-abbrev pub ReadIsSpelled : Type 0
-ReadIsSpelled = (text : List ℕ) (c : Claim) → certificate_in text ≡ Ok c → (text ≡ text_of c) × IsCertificate c
+abbrev pub ReadCertificateIsSpelled : Type 0
+ReadCertificateIsSpelled = (text : List ℕ) (c : Claim) → certificate_in text ≡ Ok c → (text ≡ text_of c) × IsCertificate c
 
 -- each certificate's text is read as it
-abbrev pub SpelledIsRead : Type 0
-SpelledIsRead = (c : Claim) → IsCertificate c → certificate_in (text_of c) ≡ Ok c
+abbrev pub SpelledCertificateIsRead : Type 0
+SpelledCertificateIsRead = (c : Claim) → IsCertificate c → certificate_in (text_of c) ≡ Ok c
 
-abbrev pub OneText : Type 0
-OneText = (a b : Claim) → IsCertificate a → IsCertificate b → text_of a ≡ text_of b → a ≡ b
+abbrev pub CertificatesHaveOneText : Type 0
+CertificatesHaveOneText = (a b : Claim) → IsCertificate a → IsCertificate b → text_of a ≡ text_of b → a ≡ b
 
 -- the parts that are read make up a claim
 abbrev pub PartsMakeClaims : Type 0

@@ -14,7 +14,7 @@ use Rattle.mask_states.specs.declared.keys.NodeKey.{NodeKey}
 use Rattle.mask_states.specs.Order.{inst_cmp, node_cmp}
 use Rattle.edge_rules.specs.declared.seeded.NodeForm.{NodeForm}
 use Rattle.indirect_targets.specs.Spelling.{entry_words}
-use Rattle.witness_replay.specs.Exact.{IsStuck}
+use Rattle.witness_replay.specs.Exact.{IsScheduleStuck}
 use Rattle.certificate.specs.declared.instance.Inst.{Inst}
 use Rattle.certificate.specs.declared.version.Version.{Version}
 use Rattle.certificate.specs.Insts.{IsInst, inst_keys}
@@ -60,25 +60,25 @@ lines_to c End = front_lines c ++ witness_lines c.witness
 lines_to c Nothing = certificate_lines c
 
 -- fewer items than announced, and no more announced than there may be
-abbrev pub HasRoom : Claim → Part → Type 0
-HasRoom c (FirstEntry n) = (is_third c.version ≡ true) × (1 ≤ n) × (n ≤ most_entries)
-HasRoom c (AnEntry n) = (length c.assumptions < n) × (n ≤ most_entries)
-HasRoom c (AnInst n) = (length c.instances < n) × (n ≤ most_instances)
-HasRoom c (ANode n) = (length c.nodes < n) × (n ≤ most_nodes)
-HasRoom c part = ⊤
+abbrev pub HasRoomFor : Claim → Part → Type 0
+HasRoomFor c (FirstEntry n) = (is_third c.version ≡ true) × (1 ≤ n) × (n ≤ most_entries)
+HasRoomFor c (AnEntry n) = (length c.assumptions < n) × (n ≤ most_entries)
+HasRoomFor c (AnInst n) = (length c.instances < n) × (n ≤ most_instances)
+HasRoomFor c (ANode n) = (length c.nodes < n) × (n ≤ most_nodes)
+HasRoomFor c part = ⊤
 
 -- The lines of this certificate before the part stand at the first place, and the second place is behind them.
-pub record Stands (p : Place) (c : Claim) (part : Part) (q : Place) : Type 0 where
+pub record StandsBefore (p : Place) (c : Claim) (part : Part) (q : Place) : Type 0 where
   pub fits : IsCertificate c
-  pub room : HasRoom c part
+  pub room : HasRoomFor c part
   pub lines : Passes p (map whole (lines_to c part)) q
 
 -- ---- the next line
 
 -- a line is left, and it is whole and has these words
-abbrev pub IsNext : List TextLine → List (List ℕ) → Type 0
-IsNext [] ws = ⊥
-IsNext (l ∷ ls) ws = l ≡ whole ws
+abbrev pub IsNextLine : List TextLine → List (List ℕ) → Type 0
+IsNextLine [] ws = ⊥
+IsNextLine (l ∷ ls) ws = l ≡ whole ws
 
 -- digits, of which the first of several isn't 0
 pub record IsDecimal (w : List ℕ) : Type 0 where
@@ -101,8 +101,8 @@ IsInstWith P ws = (x : Inst) × IsInst x × (ws ≡ inst_words x) × P x
 abbrev pub IsNodeWith : Claim → (NodeKey × NodeForm → Type 0) → List (List ℕ) → Type 0
 IsNodeWith c P ws = (n : NodeKey × NodeForm) × FitsAt (is_third c.version) (length c.nodes) n.0 n.1 × Belongs c.instances n.0 × NodeIsOf c.version n × (ws ≡ node_words c.version c.instances n) × P n
 
-abbrev pub AreNodes : (List ℕ → Type 0) → List (List ℕ) → Type 0
-AreNodes P ws = (w : List ℕ) × IsDecimal w × (ws ≡ codes "nodes" ∷ w ∷ []) × P w
+abbrev pub IsNodesLine : (List ℕ → Type 0) → List (List ℕ) → Type 0
+IsNodesLine P ws = (w : List ℕ) × IsDecimal w × (ws ≡ codes "nodes" ∷ w ∷ []) × P w
 
 -- words of the form that stands at this part
 abbrev pub IsOfForm : Claim → Part → List (List ℕ) → Type 0
@@ -113,7 +113,7 @@ IsOfForm c (FirstEntry n) ws = ws ≡ entry_words Pairs
 IsOfForm c (AnEntry n) ws = IsEntryWith c.version (λ e. ⊤) ws
 IsOfForm c Instances ws = IsNumbered (codes "instances") 0 most_instances ws
 IsOfForm c (AnInst n) ws = IsInstWith (λ x. ⊤) ws
-IsOfForm c Nodes ws = AreNodes (λ w. ⊤) ws
+IsOfForm c Nodes ws = IsNodesLine (λ w. ⊤) ws
 IsOfForm c (ANode n) ws = IsNodeWith c (λ e. ⊤) ws
 IsOfForm c Ending ws = (ws ≡ open_line) ⊎ (ws ≡ attained_line)
 IsOfForm c End ws = ws ≡ end_line
@@ -134,7 +134,7 @@ IsTooMuch c n = Ascend (node_keys (c.nodes ++ n ∷ [])) × (most_cells < cells_
 
 -- words of their form, and above the last, that pass this limit
 abbrev pub IsPast : Claim → Part → Limit → List (List ℕ) → Type 0
-IsPast c Nodes limit.Nodes ws = AreNodes (λ w. most_nodes < number_from 10 0 w) ws
+IsPast c Nodes limit.Nodes ws = IsNodesLine (λ w. most_nodes < number_from 10 0 w) ws
 IsPast c (ANode n) limit.Cells ws = IsNodeWith c (IsTooMuch c) ws
 IsPast c part l ws = ⊥
 
@@ -143,12 +143,12 @@ IsPast c part l ws = ⊥
 -- no line of the form that stands at this part follows, or something follows behind the last line
 abbrev pub IsStopped : Claim → Part → List TextLine → Type 0
 IsStopped c Nothing ls = ls ≢ []
-IsStopped c part ls = (ws : List (List ℕ)) → IsNext ls ws → IsOfForm c part ws → ⊥
+IsStopped c part ls = (ws : List (List ℕ)) → IsNextLine ls ws → IsOfForm c part ws → ⊥
 
 pub record StopsAt (p q : Place) : Type 0 where
   pub claim : Claim
   pub part : Part
-  pub stands : Stands p claim part q
+  pub stands : StandsBefore p claim part q
   pub stop : IsStopped claim part q.rest
 
 -- a schedule is to follow, and none goes on there
@@ -157,20 +157,20 @@ pub record StopsInSchedule (p q : Place) : Type 0 where
   pub fits : IsClaim claim
   pub begin : Place
   pub lines : Passes p (map whole (front_lines claim ++ attained_line ∷ [])) begin
-  pub stuck : IsStuck begin q
+  pub stuck : IsScheduleStuck begin q
 
-abbrev pub IsMalformed : Place → ℕ → Type 0
-IsMalformed p at = (q : Place) × (q.at ≡ at) × (StopsAt p q ⊎ StopsInSchedule p q)
+abbrev pub IsCertificateMalformed : Place → ℕ → Type 0
+IsCertificateMalformed p at = (q : Place) × (q.at ≡ at) × (StopsAt p q ⊎ StopsInSchedule p q)
 
 -- the line at this offset
-pub record IsOutOfOrder (p : Place) (at : ℕ) : Type 0 where
+pub record IsCertificateOutOfOrder (p : Place) (at : ℕ) : Type 0 where
   pub claim : Claim
   pub part : Part
   pub place : Place
   pub words : List (List ℕ)
-  pub stands : Stands p claim part place
+  pub stands : StandsBefore p claim part place
   pub offset : place.at ≡ at
-  pub next : IsNext place.rest words
+  pub next : IsNextLine place.rest words
   pub low : IsLow claim part words
 
 pub record IsOverLimit (p : Place) (l : Limit) : Type 0 where
@@ -178,30 +178,30 @@ pub record IsOverLimit (p : Place) (l : Limit) : Type 0 where
   pub part : Part
   pub place : Place
   pub words : List (List ℕ)
-  pub stands : Stands p claim part place
-  pub next : IsNext place.rest words
+  pub stands : StandsBefore p claim part place
+  pub next : IsNextLine place.rest words
   pub past : IsPast claim part l words
 
 -- the refusal that is due from this place on
-abbrev pub IsRefused : Place → CertFault → Type 0
-IsRefused p (fault.Malformed at) = IsMalformed p at
-IsRefused p (fault.Order at) = IsOutOfOrder p at
-IsRefused p (fault.Limit l) = IsOverLimit p l
-IsRefused p fault.Memory = ⊥
+abbrev pub IsCertificateRefused : Place → CertFault → Type 0
+IsCertificateRefused p (fault.Malformed at) = IsCertificateMalformed p at
+IsCertificateRefused p (fault.Order at) = IsCertificateOutOfOrder p at
+IsCertificateRefused p (fault.Limit l) = IsOverLimit p l
+IsCertificateRefused p fault.Memory = ⊥
 
 abbrev pub start : List ℕ → Place
 start text = record { at = 0; rest = lines_of text }
 
 -- the answer that is due for a text
-abbrev pub IsDue : List ℕ → Result Claim CertFault → Type 0
-IsDue text (Ok c) = IsCertificate c × (text ≡ text_of c)
-IsDue text (Err f) = IsRefused (start text) f
+abbrev pub IsCertificateDue : List ℕ → Result Claim CertFault → Type 0
+IsCertificateDue text (Ok c) = IsCertificate c × (text ≡ text_of c)
+IsCertificateDue text (Err f) = IsCertificateRefused (start text) f
 
 -- what was answered is due, unless memory was wanting
-abbrev pub IsDueUnlessMemory : List ℕ → Result Claim CertFault → Type 0
-IsDueUnlessMemory text (Err fault.Memory) = ⊤
-IsDueUnlessMemory text answer = IsDue text answer
+abbrev pub IsCertificateDueUnlessMemory : List ℕ → Result Claim CertFault → Type 0
+IsCertificateDueUnlessMemory text (Err fault.Memory) = ⊤
+IsCertificateDueUnlessMemory text answer = IsCertificateDue text answer
 
 -- what is read of a text is due
-abbrev pub ReadIsDue : Type 0
-ReadIsDue = (text : List ℕ) → IsDue text (certificate_in text)
+abbrev pub ReadCertificateIsDue : Type 0
+ReadCertificateIsDue = (text : List ℕ) → IsCertificateDue text (certificate_in text)

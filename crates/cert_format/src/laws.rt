@@ -1,8 +1,8 @@
 //! Laws of certificates' texts. Each function does nothing; its contract is the laws.
 
 ghost use Rattle.cert_format.specs.LineLaws.{InstLines, NodeLines};
-ghost use Rattle.cert_format.specs.Exact.{ReadIsSpelled, SpelledIsRead, OneText, PartsMakeClaims};
-ghost use Rattle.cert_format.specs.Refusals.{ReadIsDue};
+ghost use Rattle.cert_format.specs.Exact.{ReadCertificateIsSpelled, SpelledCertificateIsRead, CertificatesHaveOneText, PartsMakeClaims};
+ghost use Rattle.cert_format.specs.Refusals.{ReadCertificateIsDue};
 
 use cert_words::laws::key_words;
 use indirect_targets::laws::list_texts;
@@ -23,10 +23,10 @@ pub fn item_lines()
 /// What is read is a certificate's text, each certificate's text is read as it, and no text is that of two certificates; where a
 /// text is refused, the line there tells why. What the parts of a text are read as makes up a claim.
 pub fn certificate_texts()
-    ensures read { ReadIsSpelled }
-    ensures spelled { SpelledIsRead }
-    ensures one { OneText }
-    ensures due { ReadIsDue }
+    ensures read { ReadCertificateIsSpelled }
+    ensures spelled { SpelledCertificateIsRead }
+    ensures one { CertificatesHaveOneText }
+    ensures due { ReadCertificateIsDue }
     ensures parts { PartsMakeClaims }
 {
     word_laws();

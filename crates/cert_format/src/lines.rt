@@ -8,7 +8,7 @@ ghost use Rattle.mask_states.specs.Keys.{offset_of};
 ghost use Rattle.cert_format.specs.LineReading.{inst_in, whole_key_at, node_in};
 
 use avr_model::device;
-use cert_words::{form_of, inst_key_of, is_root, node_key_of};
+use cert_words::{inst_key_of, is_root, node_form_of, node_key_of};
 use certificate::{Inst, Version};
 use edge_rules::NodeForm;
 use line_reading::{dec_word, expect_word, is_over};
@@ -76,7 +76,7 @@ pub(crate) fn node_of(
         return Ok(None);
     };
     let root = is_root(key.inst.kind);
-    let Some(form) = form_of(alloc, &mut words, version, root, key.offset(), at)? else {
+    let Some(form) = node_form_of(alloc, &mut words, version, root, key.offset(), at)? else {
         return Ok(None);
     };
     if is_over(&mut words) {

@@ -11,7 +11,7 @@ ghost use Rattle.certificate.specs.Claims.{Claim, IsCertificate, most_nodes};
 ghost use Rattle.certificate.specs.Versions.{is_third};
 ghost use Rattle.cert_words.specs.Text.{text_of};
 ghost use Rattle.cert_format.specs.Reading.{formed, version_by, numbered_in, numbered_by, count_in, count_by, ending_by, heading_at, least_entries, first_at, entries_at, insts_at, limited, nodes_at, witness_at, end_at, claim_at, certificate_in};
-ghost use Rattle.cert_format.specs.Refusals.{IsDueUnlessMemory};
+ghost use Rattle.cert_format.specs.Refusals.{IsCertificateDueUnlessMemory};
 
 use crate::fault::CertFault;
 use crate::gathered::{NodeList, read_each};
@@ -281,7 +281,7 @@ pub fn read(alloc: Global, text: &[u8]) -> Result<Certificate, CertFault>
     ensures exact { Answers (λ c. c) fault.Memory result (certificate_in text.now) }
     ensures found { IfOk result (λ c. text.now ≡ text_of c) }
     ensures kept { IfOk result IsCertificate }
-    ensures told { IsDueUnlessMemory text.now result }
+    ensures told { IsCertificateDueUnlessMemory text.now result }
     ensures spelled { (c : Claim) → IsCertificate c → text.now ≡ text_of c → Answers (λ x. x) fault.Memory result (Ok c) }
 {
     certificate_texts();

@@ -56,18 +56,18 @@ kind_take k w kd e =
     ]
 
 -- vectors are numbered up to 26
-abbrev IsNumbered : Kind → Type 0
-IsNumbered Root = Unit {0}
-IsNumbered Call = Unit {0}
-IsNumbered (Vector v) = v ≤ 26
+abbrev IsKindNumbered : Kind → Type 0
+IsKindNumbered Root = Unit {0}
+IsKindNumbered Call = Unit {0}
+IsKindNumbered (Vector v) = v ≤ 26
 
-kind_again : WordLaws → (kd : Kind) → IsNumbered kd → kind_in (kind_word kd) ≡ Some kd
+kind_again : WordLaws → (kd : Kind) → IsKindNumbered kd → kind_in (kind_word kd) ≡ Some kd
 unfolding kind_in vector_in
 kind_again k Root h = refl
 kind_again k Call h = refl
 kind_again k (Vector v) h = rw (k.dec_taken 26 v [] (lit< tt) h) refl
 
-kind_is_word : WordLaws → (kd : Kind) → IsNumbered kd → IsWord (kind_word kd)
+kind_is_word : WordLaws → (kd : Kind) → IsKindNumbered kd → IsWord (kind_word kd)
 kind_is_word k Root h = ((refl, (refl, (refl, (refl, tt)))), (refl, (refl, (refl, (refl, tt)))))
 kind_is_word k Call h = ((refl, (refl, (refl, (refl, tt)))), (refl, (refl, (refl, (refl, tt)))))
 kind_is_word k (Vector v) h = joined_word (codes "v") (decimal v) ((refl, tt), (refl, tt)) (k.dec_word v (omega (arith, h)))
@@ -90,7 +90,7 @@ vector_fits v entry masks i e =
     let most : v ≤ 26 = grind (arith, nat_tests, c.1) in
     (most, vector_low v entry most b.1)
 
-numbered : (kd : Kind) (entry masks : ℕ) (i : Bool) → fits_kind kd entry masks i ≡ true → IsNumbered kd
+numbered : (kd : Kind) (entry masks : ℕ) (i : Bool) → fits_kind kd entry masks i ≡ true → IsKindNumbered kd
 numbered Root entry masks i e = tt
 numbered Call entry masks i e = tt
 numbered (Vector v) entry masks i e = (vector_fits v entry masks i e).0

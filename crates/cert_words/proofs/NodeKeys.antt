@@ -31,13 +31,13 @@ use Rattle.cert_words.specs.Spelling.{form_word}
 use Rattle.cert_words.specs.KeySpelling.{pick_word, pick_words, place_words}
 use Rattle.cert_words.specs.Reading.{form_in}
 use Rattle.cert_words.specs.KeyReading.{masks_at, flag_at, is_root, pick_in, pick_at, node_key_at}
-use Rattle.cert_words.specs.Fits.{IsHigh, IsForm}
+use Rattle.cert_words.specs.Fits.{IsHigh, IsSpForm}
 use Rattle.cert_words.specs.Laws.{ValueWords}
-use Rattle.cert_words.specs.KeyLaws.{IsPlace, PlaceWords}
+use Rattle.cert_words.specs.KeyLaws.{IsPlaceSpelled, PlaceWords}
 use Rattle.cert_words.proofs.Fields.{hex_take, masks_take, masks_again, flag_take, flag_again, word_by_take}
 use Rattle.cert_words.proofs.InstKeys.{cons}
 
-form_offset : (root : Bool) (f : SpForm) → IsForm root f → offset_of f ≤ SIZE
+form_offset : (root : Bool) (f : SpForm) → IsSpForm root f → offset_of f ≤ SIZE
 form_offset root (Closed offset) h = h
 form_offset root (Open offset x) h = h.0
 
@@ -49,7 +49,7 @@ high_fits Call offset (high.Tag k) h = h
 high_fits (Vector v) offset (high.Known byte) h = h
 high_fits (Vector v) offset (high.Tag k) h = h
 
-form_fits : (kd : Kind) (f : SpForm) → IsForm (is_root kd) f → FormFitsKind kd f
+form_fits : (kd : Kind) (f : SpForm) → IsSpForm (is_root kd) f → FormFitsKind kd f
 form_fits kd (Closed offset) h = tt
 form_fits kd (Open offset x) h = high_fits kd offset x h.1
 
@@ -61,7 +61,7 @@ is_high Call offset (high.Tag k) h = h
 is_high (Vector v) offset (high.Known byte) h = h
 is_high (Vector v) offset (high.Tag k) h = h
 
-is_form : (kd : Kind) (f : SpForm) → offset_of f ≤ SIZE → FormFitsKind kd f → IsForm (is_root kd) f
+is_form : (kd : Kind) (f : SpForm) → offset_of f ≤ SIZE → FormFitsKind kd f → IsSpForm (is_root kd) f
 is_form kd (Closed offset) small h = small
 is_form kd (Open offset x) small h = (small, is_high kd offset x h)
 
@@ -125,7 +125,7 @@ pick_plain k Three pick h = (pick_is_word k pick h, tt)
 
 -- ---- the key
 
-key_take : WordLaws → ValueWords → (version : Version) (inst : InstKey) (ws : List (List ℕ)) (z : NodeKey × List (List ℕ)) → node_key_at version inst ws ≡ Some z → IsPlace version inst ws z.1 z.0
+key_take : WordLaws → ValueWords → (version : Version) (inst : InstKey) (ws : List (List ℕ)) (z : NodeKey × List (List ℕ)) → node_key_at version inst ws ≡ Some z → IsPlaceSpelled version inst ws z.1 z.0
 unfolding node_key_at
 key_take k v version inst ws z e =
     let pc = bind_some (hex_at 4 ws) _ z e in
@@ -141,7 +141,7 @@ key_take k v version inst ws z e =
     let pick = pick_at_take k version f.0.1 p.0 p.1 in
     let masks = masks_take k pc.0.1 m.0 m.1 in
     let below : pc.0.0 < WORDS = grind (arith, nat_tests, last.0) in
-    let P : NodeKey × List (List ℕ) → Type 0 = λ y. IsPlace version inst ws y.1 y.0 in
+    let P : NodeKey × List (List ℕ) → Type 0 = λ y. IsPlaceSpelled version inst ws y.1 y.0 in
     subst P last.1 (record {
       words = (hex_take k 4 ws pc.0 pc.1).0 ∙ ap (cons (hex_digits pc.0.0 4)) (masks.0 ∙ ap (cons (hex_digits m.0.0 7)) (flag_take k m.0.1 i.0 i.1
           ∙ ap (cons (bit i.0.0)) (flag_take k i.0.1 d.0 d.1 ∙ ap (cons (bit d.0.0)) (w.1 ∙ ap₂ cons form.0 pick.words))));
@@ -150,7 +150,7 @@ key_take k v version inst ws z e =
       same = refl;
     })
 
-key_spelled : WordLaws → ValueWords → (version : Version) (inst : InstKey) (ws rest : List (List ℕ)) (key : NodeKey) → node_key_at version inst ws ≡ Some (key, rest) → IsPlace version inst ws rest key
+key_spelled : WordLaws → ValueWords → (version : Version) (inst : InstKey) (ws rest : List (List ℕ)) (key : NodeKey) → node_key_at version inst ws ≡ Some (key, rest) → IsPlaceSpelled version inst ws rest key
 key_spelled k v version inst ws rest key e = key_take k v version inst ws (key, rest) e
 
 key_again : WordLaws → ValueWords → (version : Version) (key : NodeKey) (rest : List (List ℕ)) → IsKey key → PickIsOf version key.pick → node_key_at version key.inst (place_words version key ++ rest) ≡ Some (key, rest)

@@ -13,7 +13,7 @@ use Rattle.mask_states.specs.Laws.{KeysAreOrdered}
 use Rattle.certificate.specs.declared.instance.Inst.{Inst}
 use Rattle.certificate.specs.Insts.{inst_keys}
 use Rattle.certificate.proofs.Instances.{key_has}
-use Rattle.cert_words.specs.Text.{place_of}
+use Rattle.cert_words.specs.Text.{inst_number}
 
 equal_is : (o : Ordering) → is_eq o ≡ true → o ≡ Equal
 equal_is Less e = cc
@@ -33,7 +33,7 @@ unfolding same_inst
 less_differs a b e = ap is_eq e
 
 -- an instance's number is where it stands
-pub place_unique : KeysAreOrdered → (xs : List Inst) (i : ℕ) (x : Inst) → IsStrictlySortedBy inst_cmp (inst_keys xs) → slice_get xs i ≡ Some x → place_of x.key xs ≡ i
+pub place_unique : KeysAreOrdered → (xs : List Inst) (i : ℕ) (x : Inst) → IsStrictlySortedBy inst_cmp (inst_keys xs) → slice_get xs i ≡ Some x → inst_number x.key xs ≡ i
 unfolding IsStrictlySortedBy
 place_unique o [] i x h e = absurd (none-some x e)
 place_unique o (y ∷ ys) zero x h e = rw (same_if o y.key x.key (ap (λ (z : Inst). z.key) (same_Some y x e))) refl
@@ -43,23 +43,23 @@ place_unique o (y ∷ ys) (suc i) x h e =
     rw (other, more) (omega arith)
 
 -- an instance that is there has a number
-pub record HasPlace (xs : List Inst) (key : InstKey) : Type 0 where
+pub record HasWordPlace (xs : List Inst) (key : InstKey) : Type 0 where
   pub inst : Inst
-  pub there : slice_get xs (place_of key xs) ≡ Some inst
+  pub there : slice_get xs (inst_number key xs) ≡ Some inst
   pub same : inst.key ≡ key
 
-place_by : (t : Bool) (x : Inst) (xs : List Inst) (key : InstKey) → same_inst x.key key ≡ t → (t ≡ true → x.key ≡ key) → (t ≡ false → HasPlace xs key) → HasPlace (x ∷ xs) key
+place_by : (t : Bool) (x : Inst) (xs : List Inst) (key : InstKey) → same_inst x.key key ≡ t → (t ≡ true → x.key ≡ key) → (t ≡ false → HasWordPlace xs key) → HasWordPlace (x ∷ xs) key
 place_by true x xs key e here there = record { inst = x; there = rw e refl; same = here refl }
 place_by false x xs key e here there =
     let h = there refl in
-    let next : place_of key xs + 1 ≡ suc (place_of key xs) = omega arith in
+    let next : inst_number key xs + 1 ≡ suc (inst_number key xs) = omega arith in
     record { inst = h.inst; there = rw (e, next) h.there; same = h.same }
 
 contained : KeysAreOrdered → (x : Inst) (xs : List Inst) (key : InstKey) → Contains (inst_keys (x ∷ xs)) key → same_inst x.key key ≡ false → Contains (inst_keys xs) key
 contained o x xs key (zero, l, e) other = absurd (false≢true (sym other ∙ same_if o x.key key e))
 contained o x xs key (suc i, l, e) other = (i, omega (arith, l), e)
 
-pub has_place : KeysAreOrdered → (xs : List Inst) (key : InstKey) → Contains (inst_keys xs) key → HasPlace xs key
+pub has_place : KeysAreOrdered → (xs : List Inst) (key : InstKey) → Contains (inst_keys xs) key → HasWordPlace xs key
 has_place o [] key h = absurd (omega (arith, h.1))
 has_place o (x ∷ xs) key h =
     place_by (same_inst x.key key) x xs key refl (λ t. same_is o x.key key t) (λ f. has_place o xs key (contained o x xs key h f))

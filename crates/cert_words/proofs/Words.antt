@@ -41,7 +41,7 @@ use Rattle.cert_words.specs.Spelling.{bits_text, tag_text, range_text, value_wor
 use Rattle.cert_words.specs.Reading.{bits_at, tag_by, tag_at, ends_at, range_at, value_in, slot_in, entry_by, flags_in, bytes_in, borrow_in, sum_in, less_in, tagged_by, carry_by, carry_in, offset_in, marked_in, high_in, high_size, open_in, form_in}
 use Rattle.pair_words.specs.Reading.{register_at}
 use Rattle.pair_words.proofs.AllLaws.{register_take, register_again}
-use Rattle.cert_words.specs.Fits.{IsTag, IsValue, AreFlags, IsCarry, IsSlot, IsHigh, IsForm}
+use Rattle.cert_words.specs.Fits.{IsTag, IsValue, AreFlags, IsCarry, IsSlot, IsHigh, IsSpForm}
 use Rattle.cert_words.specs.Laws.{ValueWords}
 use Rattle.cert_words.proofs.Pieces.{three, bits_take, bits_again, offset_take, offset_again, marked_take, marked_again}
 
@@ -50,15 +50,15 @@ front x xs = x ∷ xs
 
 -- ---- tags
 
-record IsTagOf (letter : ℕ) (bs : List ℕ) (z : Tag × List ℕ) : Type 0 where
+record IsTagText (letter : ℕ) (bs : List ℕ) (z : Tag × List ℕ) : Type 0 where
   pub text : letter ∷ bs ≡ tag_text z.0 ++ z.1
   pub names : NamesRegister z.0
   pub fits : TagFits z.0
 
-tag_by_take : WordLaws → (letter : ℕ) (bs : List ℕ) (z : Tag × List ℕ) → tag_by letter bs ≡ Some z → IsTagOf letter bs z
+tag_by_take : WordLaws → (letter : ℕ) (bs : List ℕ) (z : Tag × List ℕ) → tag_by letter bs ≡ Some z → IsTagText letter bs z
 unfolding tag_by
 tag_by_take k letter bs z e =
-    let P : Tag × List ℕ → Type 0 = λ y. IsTagOf letter bs y in
+    let P : Tag × List ℕ → Type 0 = λ y. IsTagText letter bs y in
     elim (chosen (letter == 101) _ _ (Some z) e) [
       | inl h ↦
           let r = map_some (register_at bs) (λ x. (tag.Entry x.0, x.1)) z h.1 in
@@ -449,7 +449,7 @@ high_length true (high.Tag j) h = absurd h
 high_length false (high.Known byte) h = absurd h
 high_length false (high.Tag j) h = omega (arith, length_hex j 4)
 
-open_take : WordLaws → (root : Bool) (bs : List ℕ) (f : SpForm) → open_in root bs ≡ Some f → (111 ∷ bs ≡ form_word f) × IsForm root f
+open_take : WordLaws → (root : Bool) (bs : List ℕ) (f : SpForm) → open_in root bs ≡ Some f → (111 ∷ bs ≡ form_word f) × IsSpForm root f
 unfolding open_in
 open_take k root bs f e = elim (chosen (nat_lt (length bs) (high_size root)) _ _ (Some f) e) [
   | inl h ↦ absurd (none-some f h.1)
@@ -459,7 +459,7 @@ open_take k root bs f e = elim (chosen (nat_lt (length bs) (high_size root)) _ _
       let g = bind_some (high_in root (drop i bs)) _ f n.2 in
       let number = offset_take k (take i bs) n.0 n.1 in
       let byte = high_take k root (drop i bs) g.0 g.1 in
-      let P : SpForm → Type 0 = λ y. (111 ∷ bs ≡ form_word y) × IsForm root y in
+      let P : SpForm → Type 0 = λ y. (111 ∷ bs ≡ form_word y) × IsSpForm root y in
       subst P (some_is (Open n.0 g.0) f g.2) (ap (front 111) (sym (take-append-drop i bs) ∙ ap₂ (λ (xs ys : List ℕ). xs ++ ys) number.0 byte.0), (number.1, byte.1))
 ]
 
@@ -476,12 +476,12 @@ open_again k root n h small fits =
     let back : drop (length ds) (ds ++ hs) ≡ hs = drop-append_seam ds hs in
     rw (long, place, first, back, offset_again k n small, high_again k root h fits) refl
 
-form_take : WordLaws → (root : Bool) (w : List ℕ) (f : SpForm) → form_in root w ≡ Some f → (w ≡ form_word f) × IsForm root f
+form_take : WordLaws → (root : Bool) (w : List ℕ) (f : SpForm) → form_in root w ≡ Some f → (w ≡ form_word f) × IsSpForm root f
 unfolding form_in
 form_take k root w f e =
     let l = bind_some (letter_at w) _ f e in
     let first = letter_take w l.0 l.1 in
-    let P : SpForm → Type 0 = λ y. (w ≡ form_word y) × IsForm root y in
+    let P : SpForm → Type 0 = λ y. (w ≡ form_word y) × IsSpForm root y in
     elim (chosen (l.0.0 == 99) _ _ (Some f) l.2) [
       | inl h ↦
           let n = map_some (offset_in l.0.1) (λ x. Closed x) f h.1 in
@@ -493,7 +493,7 @@ form_take k root w f e =
       ]
     ]
 
-form_again : WordLaws → (root : Bool) (f : SpForm) → IsForm root f → form_in root (form_word f) ≡ Some f
+form_again : WordLaws → (root : Bool) (f : SpForm) → IsSpForm root f → form_in root (form_word f) ≡ Some f
 unfolding form_in
 form_again k root (Closed offset) h = rw (offset_again k offset h) refl
 form_again k root (Open offset h) g = rw (open_again k root offset h g.0 g.1) refl
@@ -556,7 +556,7 @@ high_is_word k true (high.Tag j) h = absurd h
 high_is_word k false (high.Known byte) h = absurd h
 high_is_word k false (high.Tag j) h = joined_word (codes ",t") (hex_digits j 4) ((refl, (refl, tt)), (refl, (refl, tt))) (k.hex_word j 4 (omega (arith, h)))
 
-form_is_word : WordLaws → (root : Bool) (f : SpForm) → IsForm root f → IsWord (form_word f)
+form_is_word : WordLaws → (root : Bool) (f : SpForm) → IsSpForm root f → IsWord (form_word f)
 form_is_word k root (Closed offset) h = joined_word (codes "c") (decimal offset) ((refl, tt), (refl, tt)) (k.dec_word offset (omega (arith, h)))
 form_is_word k root (Open offset h) g =
     joined_word (codes "o") (decimal offset ++ high_text h) ((refl, tt), (refl, tt))

@@ -9,7 +9,7 @@ use Rattle.sp_domain.specs.declared.tags.Tag.TheVariants as tag
 use Rattle.sp_domain.specs.declared.tags.CarryTag.{CarryTag}
 use Rattle.sp_domain.specs.declared.slots.Slot.{Slot}
 use Rattle.sp_domain.specs.declared.slots.Slot.TheVariants.{Free, Guarded}
-use Rattle.sp_domain.specs.Tags.{HasBytes}
+use Rattle.sp_domain.specs.Tags.{HasByteNumbers}
 use Rattle.abs_state.specs.declared.values.AbsByte.{AbsByte}
 use Rattle.abs_state.specs.Formed.{NamesRegister, CarryNamesRegister, ByteFits, CarryIsUntagged}
 use Rattle.mask_states.specs.declared.keys.High.{High}
@@ -43,7 +43,7 @@ pub record AreFlags (root entry : Bool) (bits : TriByte) : Type 0 where
 
 -- its numbers are bytes, a register that it names is there, in the root's frame it is of no base, and the version can say it
 pub record IsCarry (version : Version) (root : Bool) (c : CarryTag) : Type 0 where
-  pub bytes : HasBytes c
+  pub bytes : HasByteNumbers c
   pub names : CarryNamesRegister c
   pub untagged : root ≡ true → CarryIsUntagged c
   pub of_version : CarryIsOf version c
@@ -54,6 +54,6 @@ IsHigh true (high.Tag k) = ⊥
 IsHigh false (high.Known byte) = ⊥
 IsHigh false (high.Tag k) = k < 65536
 
-abbrev pub IsForm : Bool → SpForm → Type 0
-IsForm root (Closed offset) = offset ≤ SIZE
-IsForm root (Open offset h) = (offset ≤ SIZE) × IsHigh root h
+abbrev pub IsSpForm : Bool → SpForm → Type 0
+IsSpForm root (Closed offset) = offset ≤ SIZE
+IsSpForm root (Open offset h) = (offset ≤ SIZE) × IsHigh root h

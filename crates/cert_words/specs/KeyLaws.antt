@@ -25,14 +25,14 @@ pub record InstKeyWords : Type 0 where
   pub words : (key : InstKey) → IsInstKey key → AllByRecursion IsWord (inst_key_words key)
 
 -- the words are those of this node of the instance, and of what stands behind them
-pub record IsPlace (version : Version) (inst : InstKey) (ws rest : List (List ℕ)) (key : NodeKey) : Type 0 where
+pub record IsPlaceSpelled (version : Version) (inst : InstKey) (ws rest : List (List ℕ)) (key : NodeKey) : Type 0 where
   pub words : ws ≡ place_words version key ++ rest
   pub key_fits : IsKey key
   pub of_version : PickIsOf version key.pick
   pub same : inst ≡ key.inst
 
 pub record PlaceWords : Type 0 where
-  pub spelled : (version : Version) (inst : InstKey) (ws rest : List (List ℕ)) (key : NodeKey) → node_key_at version inst ws ≡ Some (key, rest) → IsPlace version inst ws rest key
+  pub spelled : (version : Version) (inst : InstKey) (ws rest : List (List ℕ)) (key : NodeKey) → node_key_at version inst ws ≡ Some (key, rest) → IsPlaceSpelled version inst ws rest key
   pub read : (version : Version) (key : NodeKey) (rest : List (List ℕ)) → IsKey key → PickIsOf version key.pick → node_key_at version key.inst (place_words version key ++ rest) ≡ Some (key, rest)
   pub words : (version : Version) (key : NodeKey) → IsKey key → AllByRecursion IsWord (place_words version key)
 

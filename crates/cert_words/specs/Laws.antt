@@ -9,7 +9,7 @@ use Rattle.certificate.specs.declared.version.Version.{Version}
 use Rattle.line_reading.specs.Words.{IsWord}
 use Rattle.cert_words.specs.Spelling.{value_word, flags_word, carry_word, slot_word, form_word}
 use Rattle.cert_words.specs.Reading.{value_in, flags_in, carry_in, slot_in, form_in}
-use Rattle.cert_words.specs.Fits.{IsValue, AreFlags, IsCarry, IsSlot, IsForm}
+use Rattle.cert_words.specs.Fits.{IsValue, AreFlags, IsCarry, IsSlot, IsSpForm}
 
 -- a word that is read is that of a fitting value
 pub record WordsAreSpelled : Type 0 where
@@ -17,15 +17,15 @@ pub record WordsAreSpelled : Type 0 where
   pub slot : (version : Version) (root : Bool) (w : List ℕ) (s : Slot AbsByte) → slot_in version root w ≡ Some s → (w ≡ slot_word version s) × IsSlot version root s
   pub flags : (root : Bool) (w : List ℕ) (entry : Bool) (bits : TriByte) → flags_in root w ≡ Some (entry, bits) → (w ≡ flags_word entry bits) × AreFlags root entry bits
   pub carry : (version : Version) (root : Bool) (w : List ℕ) (c : CarryTag) → carry_in version root w ≡ Some c → (w ≡ carry_word c) × IsCarry version root c
-  pub form : (root : Bool) (w : List ℕ) (f : SpForm) → form_in root w ≡ Some f → (w ≡ form_word f) × IsForm root f
+  pub form : (root : Bool) (w : List ℕ) (f : SpForm) → form_in root w ≡ Some f → (w ≡ form_word f) × IsSpForm root f
 
 -- the word of a fitting value is read as it
-pub record WordsAreRead : Type 0 where
+pub record ValueWordsAreRead : Type 0 where
   pub value : (version : Version) (root : Bool) (v : AbsByte) → IsValue version root v → value_in version root (value_word version v) ≡ Some v
   pub slot : (version : Version) (root : Bool) (s : Slot AbsByte) → IsSlot version root s → slot_in version root (slot_word version s) ≡ Some s
   pub flags : (root entry : Bool) (bits : TriByte) → AreFlags root entry bits → flags_in root (flags_word entry bits) ≡ Some (entry, bits)
   pub carry : (version : Version) (root : Bool) (c : CarryTag) → IsCarry version root c → carry_in version root (carry_word c) ≡ Some c
-  pub form : (root : Bool) (f : SpForm) → IsForm root f → form_in root (form_word f) ≡ Some f
+  pub form : (root : Bool) (f : SpForm) → IsSpForm root f → form_in root (form_word f) ≡ Some f
 
 -- no space and no line feed is in it
 pub record WordsAreWords : Type 0 where
@@ -33,9 +33,9 @@ pub record WordsAreWords : Type 0 where
   pub slot : (version : Version) (root : Bool) (s : Slot AbsByte) → IsSlot version root s → IsWord (slot_word version s)
   pub flags : (entry : Bool) (bits : TriByte) → IsWord (flags_word entry bits)
   pub carry : (version : Version) (root : Bool) (c : CarryTag) → IsCarry version root c → IsWord (carry_word c)
-  pub form : (root : Bool) (f : SpForm) → IsForm root f → IsWord (form_word f)
+  pub form : (root : Bool) (f : SpForm) → IsSpForm root f → IsWord (form_word f)
 
 pub record ValueWords : Type 0 where
   pub spelled : WordsAreSpelled
-  pub read : WordsAreRead
+  pub read : ValueWordsAreRead
   pub words : WordsAreWords

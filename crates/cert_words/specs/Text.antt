@@ -28,16 +28,16 @@ abbrev pub inst_words : Inst → List (List ℕ)
 inst_words x = codes "inst" ∷ inst_key_words x.key ++ codes "rank" ∷ decimal x.rank ∷ codes "need" ∷ decimal x.need ∷ []
 
 -- the number of an instance's line, from 0
-abbrev pub place_of : InstKey → List Inst → ℕ
-place_of key [] = 0
-place_of key (x ∷ xs) = if same_inst x.key key then 0 else place_of key xs + 1
+abbrev pub inst_number : InstKey → List Inst → ℕ
+inst_number key [] = 0
+inst_number key (x ∷ xs) = if same_inst x.key key then 0 else inst_number key xs + 1
 
 -- the words of the line of a node whose instance has this number
 abbrev pub node_words_at : Version → ℕ → NodeKey × NodeForm → List (List ℕ)
 node_words_at version place n = codes "node" ∷ decimal place ∷ place_words version n.0 ++ form_words version n.1
 
 abbrev pub node_words : Version → List Inst → NodeKey × NodeForm → List (List ℕ)
-node_words version insts n = node_words_at version (place_of n.0.inst insts) n
+node_words version insts n = node_words_at version (inst_number n.0.inst insts) n
 
 -- ---- parts
 

@@ -8,4 +8,4 @@ mod state;
 mod values;
 
 pub use keys::{inst_key_of, is_root, node_key_of};
-pub use state::form_of;
+pub use state::node_form_of;

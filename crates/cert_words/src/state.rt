@@ -132,7 +132,7 @@ fn state_of(
 /// and whose stack pointer has this offset: a state, or `from` and the number of an earlier node. None exactly where they are those
 /// of no such node.
 #[tactic(auto, unfolding(crate::specs::KeyReading::form_at, crate::specs::KeyReading::from_behind))]
-pub fn form_of(
+pub fn node_form_of(
     alloc: Global,
     words: &mut Words<'_>,
     version: Version,

@@ -15,7 +15,7 @@ use Rattle.edge_rules.specs.Expansion.{Seeds}
 use Rattle.certificate.specs.declared.instance.Inst.{Inst}
 use Rattle.certificate.specs.Insts.{inst_keys}
 use Rattle.certificate.specs.Claims.{Belongs, node_keys}
-use Rattle.cert_words.specs.Text.{place_of}
+use Rattle.cert_words.specs.Text.{inst_number}
 use Rattle.cert_words.proofs.AllLaws.{place_unique, has_place}
 use Rattle.cert_writing.specs.Places.{IsAt, IsNowhereFrom}
 
@@ -36,15 +36,15 @@ none_more insts key from j x before lt is other = λ i low less at.
 pub nowhere : (insts : List Inst) (key : InstKey) (from j : ℕ) → NoneBefore insts key from j → length insts ≤ j → IsNowhereFrom insts key from
 nowhere insts key from j before all = λ i low at. before i low (omega (arith, all, slice_get_within insts i at.0 at.1)) at
 
-pub place_at : KeysAreOrdered → (insts : List Inst) (key : InstKey) (j : ℕ) → IsStrictlySortedBy inst_cmp (inst_keys insts) → IsAt insts key j → j ≡ place_of key insts
-place_at o insts key j sorted at = sym (place_unique o insts j at.0 sorted at.1) ∙ ap (λ (k : InstKey). place_of k insts) at.2
+pub place_at : KeysAreOrdered → (insts : List Inst) (key : InstKey) (j : ℕ) → IsStrictlySortedBy inst_cmp (inst_keys insts) → IsAt insts key j → j ≡ inst_number key insts
+place_at o insts key j sorted at = sym (place_unique o insts j at.0 sorted at.1) ∙ ap (λ (k : InstKey). inst_number k insts) at.2
 
 pub place_found : KeysAreOrdered → (insts : List Inst) (key : InstKey) (r : Option ℕ) → IsStrictlySortedBy inst_cmp (inst_keys insts) → Contains (inst_keys insts) key → IfSome r (λ j. IsAt insts key j) → IfNone r (IsNowhereFrom insts key 0)
-    → unwrap_or r 0 ≡ place_of key insts
+    → unwrap_or r 0 ≡ inst_number key insts
 place_found o insts key (Some j) sorted there found none = place_at o insts key j sorted found
 place_found o insts key None sorted there found none =
     let t = has_place o insts key there in
-    absurd (none (place_of key insts) (omega arith) (t.inst, t.there, t.same))
+    absurd (none (inst_number key insts) (omega arith) (t.inst, t.there, t.same))
 
 pub belongs_at : (insts : List Inst) (ns : Seeds) (i : ℕ) (n : NodeKey × NodeForm) → AllByRecursion (Belongs insts) (node_keys ns) → i < length ns → n ≡ get_or ns i n → Belongs insts n.0
 belongs_at insts [] i n h lt is = absurd (omega (arith, lt))

@@ -54,7 +54,7 @@ use Rattle.certificate.specs.Claims.{Claim, IsClaim, FitsAt, AreFrom, cells_of, 
 use Rattle.cert_words.specs.Spelling.{bits_text, tag_text, range_text, value_word, flags_word, carry_word, slot_word, high_text, form_word}
 use Rattle.certificate.specs.Hulls.{hulls_of}
 use Rattle.cert_words.specs.KeySpelling.{kind_word, pick_word, pick_words, place_words, pairs_words, state_words, form_words}
-use Rattle.cert_words.specs.Text.{numbered, version_line, heading, entry_lines, inst_words, inst_lines, place_of, node_words, node_lines, attained_line, witness_lines, end_line, front_lines}
+use Rattle.cert_words.specs.Text.{numbered, version_line, heading, entry_lines, inst_words, inst_lines, inst_number, node_words, node_lines, attained_line, witness_lines, end_line, front_lines}
 use Rattle.line_reading.proofs.AllLaws.{length_hex}
 use Rattle.cert_writing.specs.Sizes.{HasFewChoices, TextsFit}
 
@@ -188,9 +188,9 @@ place_by : (b : Bool) (p n : ℕ) → p ≤ n → cond b 0 (p + 1) ≤ n + 1
 place_by true p n h = omega arith
 place_by false p n h = omega (arith, h)
 
-place_few : (key : InstKey) (insts : List Inst) → place_of key insts ≤ length insts
+place_few : (key : InstKey) (insts : List Inst) → inst_number key insts ≤ length insts
 place_few key [] = omega arith
-place_few key (x ∷ xs) = omega (arith, place_by (same_inst x.key key) (place_of key xs) (length xs) (place_few key xs))
+place_few key (x ∷ xs) = omega (arith, place_by (same_inst x.key key) (inst_number key xs) (length xs) (place_few key xs))
 
 nodes_short : (followed : Bool) (version : Version) (insts : List Inst) (at : ℕ) (ns : Seeds) → length insts ≤ 65536 → at + length ns ≤ 65536 → AreFrom followed at ns
     → text (node_words version insts) ns ≤ 700 * length ns + 14 * cells_of (node_keys ns)
@@ -200,7 +200,7 @@ nodes_short followed version insts at (n ∷ ns) few most h =
     let front = place_short version n.0 (key_small followed at n.0 n.1 h.0) in
     let body = body_short followed version at n.0 n.1 (omega (arith, most)) h.0 in
     let behind = nodes_short followed version insts (at + 1) ns few (omega (arith, most)) h.1 in
-    let own = number_short (place_of n.0.inst insts) (omega (arith, place_few n.0.inst insts, few)) in
+    let own = number_short (inst_number n.0.inst insts) (omega (arith, place_few n.0.inst insts, few)) in
     omega (arith, text_more (node_words version insts) n ns, taken_both (place_words version n.0) (form_words version n.1), front, body, own, behind)
 
 -- ---- instances

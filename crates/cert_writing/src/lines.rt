@@ -11,7 +11,7 @@ ghost use Rattle.certificate.specs.declared.instance.Inst.{Inst};
 ghost use Rattle.certificate.specs.Insts.{inst_keys};
 ghost use Rattle.certificate.specs.Claims.{node_keys, Belongs};
 ghost use Rattle.std.specs.List.{AllByRecursion};
-ghost use Rattle.cert_words.specs.Text.{inst_words, node_words_at, node_words, place_of};
+ghost use Rattle.cert_words.specs.Text.{inst_words, node_words_at, node_words, inst_number};
 ghost use Rattle.cert_writing.specs.Places.{IsAt, IsNowhereFrom};
 
 use crate::keys::{write_inst_key, write_place};
@@ -70,7 +70,7 @@ fn place_from(insts: &[Inst], from: usize, key: &InstKey) -> Option<usize>
 fn place(insts: &[Inst], guess: usize, key: &InstKey) -> usize
     requires sorted { IsStrictlySortedBy inst_cmp (inst_keys insts.now) }
     requires there { Contains (inst_keys insts.now) key.now }
-    ensures { result ≡ place_of key.now insts.now }
+    ensures { result ≡ inst_number key.now insts.now }
 {
     keys_are_ordered();
     match place_from(insts, guess, key) {

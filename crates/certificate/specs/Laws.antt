@@ -4,7 +4,7 @@ use Rattle.avr_model.specs.declared.assumption.Entry.{Entry}
 use Rattle.avr_model.specs.Assumptions.{has_pairs}
 use Rattle.local_rules.specs.declared.local.Node.{Node}
 use Rattle.edge_rules.specs.Expansion.{AreSeeds, IsFilled}
-use Rattle.edge_rules.specs.Families.{IsSound as IsSoundFamily}
+use Rattle.edge_rules.specs.Families.{IsSoundFamily as IsSoundFamily}
 use Rattle.certificate.specs.Claims.{Claim, IsClaim}
 use Rattle.certificate.specs.Valid.{MeetsConditions, family_of}
 

@@ -12,7 +12,7 @@ use Rattle.edge_rules.specs.declared.edge.Edge.{Edge}
 use Rattle.edge_rules.specs.Edges.{Enters, IsEdge, target}
 use Rattle.edge_rules.specs.Expansion.{IsFilled}
 use Rattle.edge_rules.specs.Roots.{root_of}
-use Rattle.edge_rules.specs.Families.{Family, IsCovered, AreFaultless}
+use Rattle.edge_rules.specs.Families.{RankedFamily, IsCovered, AreFaultless}
 use Rattle.witness_replay.specs.Spelling.{Plan}
 use Rattle.witness_replay.specs.Replay.{replay_of}
 use Rattle.certificate.specs.Insts.{rank_in, need_in}
@@ -83,5 +83,5 @@ pub record IsValid (words : List ℕ) (A : List Entry) (c : Claim) : Type 0 wher
   pub attained : IsAttained words A c.bound c.witness
 
 -- the family of nodes, with ranks and needs, that a certificate with these nodes stands for
-abbrev pub family_of : Claim → List Node → Family
+abbrev pub family_of : Claim → List Node → RankedFamily
 family_of c nodes = record { nodes = nodes; rank_of = rank_in c.instances; need_of = need_in c.instances; bound = c.bound }

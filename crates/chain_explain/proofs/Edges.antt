@@ -22,7 +22,7 @@ use Rattle.call_graph.specs.declared.landing.Landing.{Landing}
 use Rattle.call_graph.specs.Landings.{AreLandings}
 use Rattle.certificate.specs.Valid.{reset_node, AllLand}
 use Rattle.shortest_walk.specs.Graph as walk
-use Rattle.shortest_walk.specs.Graph.{Leads, IsGraph}
+use Rattle.shortest_walk.specs.Graph.{PointsTo, IsNumberedGraph}
 use Rattle.chain_explain.specs.Reached.{IsReached, at_reset, by_edge}
 use Rattle.chain_explain.specs.Walks.{is_move, MovesTo}
 use Rattle.chain_explain.specs.Moves.{at_of, move_of, moves_of, leads_by, moves_by, AreMoves}
@@ -60,7 +60,7 @@ pub move_in : (landings : List Landing) (l : Landing) → Contains landings l �
 move_in landings l has e = contained_in_join move_of landings l l.at has (chosen_in (is_entry l.kind) l.at e)
 
 -- an edge leads from the node of the first number to that of the second
-pub record LeadsTo (words : List ℕ) (A : List Entry) (nodes : List Node) (i j : ℕ) : Type 0 where
+pub record LeadsByNumber (words : List ℕ) (A : List Entry) (nodes : List Node) (i j : ℕ) : Type 0 where
   pub from : Node
   pub at : slice_get nodes i ≡ Some from
   pub edge : Edge
@@ -87,11 +87,11 @@ module _ (words : List ℕ) (A : List Entry) (nodes : List Node) (shown : AreSho
     pub count_is : {X : Type 0} (f : List Landing → X) → length (map f all) ≡ length nodes
     count_is f = length-map all f ∙ are.are.count_is
 
-    pub leads_on : (i j : ℕ) → Leads (leads_by all) i j → LeadsTo words A nodes i j
+    pub leads_on : (i j : ℕ) → PointsTo (leads_by all) i j → LeadsByNumber words A nodes i j
     leads_on i j h =
         let lt : i < length nodes = let w = inside_if_contained (leads_by all) i j h in let c = count_is (map at_of) in omega (arith, w, c) in
         let n = get_inside nodes i lt in
-        each_in_map at_of (LeadsTo words A nodes i) (get_or all i [])
+        each_in_map at_of (LeadsByNumber words A nodes i) (get_or all i [])
         (λ l has.
         let x = (are.are.each i n.0 lt n.1 l).0 has in
         let found = found_at x.edge.to nodes l.at x.at in
@@ -99,17 +99,17 @@ module _ (words : List ℕ) (A : List Entry) (nodes : List Node) (shown : AreSho
         j (subst (λ (xs : List ℕ). Contains xs j) (read_each (map at_of) all i refl) h)
 
     -- the landing of an edge that leads on
-    landing_in : (i j : ℕ) (l : LeadsTo words A nodes i j) → Contains (get_or all i []) (record { kind = l.edge.kind; at = j })
+    landing_in : (i j : ℕ) (l : LeadsByNumber words A nodes i j) → Contains (get_or all i []) (record { kind = l.edge.kind; at = j })
     landing_in i j l =
         (are.are.each i l.from (slice_get_within nodes i l.from l.at) l.at (record { kind = l.edge.kind; at = j })).1
         (record { edge = l.edge; is = l.is_edge; kind = refl; at = is_found nodes shown.ascending l.edge.to j l.to l.lands l.key })
 
-    pub on_leads : (i j : ℕ) → LeadsTo words A nodes i j → Leads (leads_by all) i j
+    pub on_leads : (i j : ℕ) → LeadsByNumber words A nodes i j → PointsTo (leads_by all) i j
     on_leads i j l =
         subst (λ (xs : List ℕ). Contains xs j) (sym (read_each (map at_of) all i refl))
         (in_map at_of (get_or all i []) (record { kind = l.edge.kind; at = j }) (landing_in i j l))
 
-    moves_on : (i j : ℕ) → Leads (moves_by all) i j → MovesTo words A nodes i j
+    moves_on : (i j : ℕ) → PointsTo (moves_by all) i j → MovesTo words A nodes i j
     moves_on i j h =
         let lt : i < length nodes = let w = inside_if_contained (moves_by all) i j h in let c = count_is moves_of in omega (arith, w, c) in
         let n = get_inside nodes i lt in
@@ -132,9 +132,9 @@ module _ (words : List ℕ) (A : List Entry) (nodes : List Node) (shown : AreSho
         })
         j (subst (λ (xs : List ℕ). Contains xs j) (read_each moves_of all i refl) h)
 
-    on_moves : (i j : ℕ) → MovesTo words A nodes i j → Leads (moves_by all) i j
+    on_moves : (i j : ℕ) → MovesTo words A nodes i j → PointsTo (moves_by all) i j
     on_moves i j m =
-        let l : LeadsTo words A nodes i j = record { from = m.from; at = m.at; edge = m.edge; is_edge = m.is_edge; to = m.to; lands = m.lands; key = m.key } in
+        let l : LeadsByNumber words A nodes i j = record { from = m.from; at = m.at; edge = m.edge; is_edge = m.is_edge; to = m.to; lands = m.lands; key = m.key } in
         subst (λ (xs : List ℕ). Contains xs j) (sym (read_each moves_of all i refl))
         (move_in (get_or all i []) (record { kind = m.edge.kind; at = j }) (landing_in i j l) (no_entry m.edge.kind m.moves))
 
@@ -148,7 +148,7 @@ module _ (words : List ℕ) (A : List Entry) (nodes : List Node) (shown : AreSho
           reset = reset;
         }
 
-    pub is_graph : length nodes ≤ 65536 → IsGraph (leads_by all)
+    pub is_graph : length nodes ≤ 65536 → IsNumberedGraph (leads_by all)
     is_graph few =
         record {
           few = let c = count_is (map at_of) in omega (arith, c, few);
@@ -166,7 +166,7 @@ module _ (words : List ℕ) (A : List Entry) (nodes : List Node) (shown : AreSho
     IsReachedAt i = (n : Node) × ((slice_get nodes i ≡ Some n) × IsReached words A nodes n.key)
 
     module _ (root : ℕ) (reset : Node) (at : slice_get nodes root ≡ Some reset) (is : reset.key ≡ entry_key root_inst) where
-      pub reached_down : (i : ℕ) → walk.IsReached (leads_by all) (root ∷ []) i → IsReachedAt i
+      pub reached_down : (i : ℕ) → walk.IsNumberReached (leads_by all) (root ∷ []) i → IsReachedAt i
       reached_down i (walk.at_start _ h) =
           (reset, (subst (λ (x : ℕ). slice_get nodes x ≡ Some reset) (sym (only_one_in root i h)) at, subst (IsReached words A nodes) (sym is) at_reset))
       reached_down j (walk.by_edge i _ r leads) =
@@ -176,7 +176,7 @@ module _ (words : List ℕ) (A : List Entry) (nodes : List Node) (shown : AreSho
           let from : IsReached words A nodes l.from.key = subst (λ (n : Node). IsReached words A nodes n.key) same before.1.1 in
           (l.to, (l.lands, subst (IsReached words A nodes) (sym l.key) (by_edge l.from l.edge (contained_at nodes i l.from l.at) from l.is_edge)))
 
-      pub reached_up : (k : NodeKey) → IsReached words A nodes k → (i : ℕ) (n : Node) → slice_get nodes i ≡ Some n → n.key ≡ k → walk.IsReached (leads_by all) (root ∷ []) i
+      pub reached_up : (k : NodeKey) → IsReached words A nodes k → (i : ℕ) (n : Node) → slice_get nodes i ≡ Some n → n.key ≡ k → walk.IsNumberReached (leads_by all) (root ∷ []) i
       reached_up _ at_reset i n e same =
           walk.at_start i (subst (Contains (root ∷ [])) (same_number nodes shown.ascending root i reset n at e (is ∙ sym same)) (first_in root []))
       reached_up _ (by_edge m edge has r is_edge) i n e same =

@@ -24,15 +24,15 @@ use Rattle.chain_explain.specs.Moves.{kept_by, leads_by}
 use Rattle.chain_explain.proofs.Edges.{reached_down, reached_up}
 
 -- the node has a number that is marked
-pub record IsMarked (marks : List Bool) (nodes : List Node) (n : Node) : Type 0 where
+pub record IsNumberMarked (marks : List Bool) (nodes : List Node) (n : Node) : Type 0 where
   pub number : ℕ
   pub at : slice_get nodes number ≡ Some n
   pub mark : get_or marks number false ≡ true
 
-later : (mark : Bool) (marks : List Bool) (x : Node) (nodes : List Node) (n : Node) → IsMarked marks nodes n → IsMarked (mark ∷ marks) (x ∷ nodes) n
+later : (mark : Bool) (marks : List Bool) (x : Node) (nodes : List Node) (n : Node) → IsNumberMarked marks nodes n → IsNumberMarked (mark ∷ marks) (x ∷ nodes) n
 later mark marks x nodes n m = record { number = suc m.number; at = m.at; mark = m.mark }
 
-pub kept_marked : (marks : List Bool) (nodes : List Node) (n : Node) → Contains (kept_by marks nodes) n → IsMarked marks nodes n
+pub kept_marked : (marks : List Bool) (nodes : List Node) (n : Node) → Contains (kept_by marks nodes) n → IsNumberMarked marks nodes n
 kept_marked [] nodes n h = absurd (none_in n h)
 kept_marked (mark ∷ marks) [] n h = absurd (none_in n h)
 kept_marked (true ∷ marks) (x ∷ nodes) n h =

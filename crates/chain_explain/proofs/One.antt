@@ -17,8 +17,8 @@ use Rattle.edge_rules.specs.Views.{key_of}
 use Rattle.edge_laws.specs.Expansions.{FilledOrMissing}
 use Rattle.edge_laws.proofs.ExpansionLaws.{filled_lists_are_shown}
 use Rattle.nesting_bound.specs.declared.graph.Link.{Link}
-use Rattle.shortest_walk.specs.Graph.{Leads}
-use Rattle.shortest_walk.specs.Walk.{GoesOn, IsWalk, IsShortest, IsFirstOfShortest}
+use Rattle.shortest_walk.specs.Graph.{PointsTo}
+use Rattle.shortest_walk.specs.Walk.{WalksOn, IsWalk, IsShortest, IsFirstOfShortest}
 use Rattle.shortest_walk.proofs.AllLaws.{first_is_one}
 use Rattle.family_graph.specs.Chains.{IsDeepest}
 use Rattle.family_graph.specs.Laws.{DeepestChainsAreOne}
@@ -31,8 +31,8 @@ use Rattle.chain_explain.proofs.Numbers.{same_number}
 
 -- ---- walks go by where nodes lead, and by which starts there are
 
-module _ (graph other : List (List ℕ)) (leads : (i j : ℕ) → Leads graph i j → Leads other i j) (starts more : List ℕ) (begin : (i : ℕ) → Contains starts i → Contains more i) where
-  goes_too : (target i : ℕ) (rest : List ℕ) → GoesOn graph target i rest → GoesOn other target i rest
+module _ (graph other : List (List ℕ)) (leads : (i j : ℕ) → PointsTo graph i j → PointsTo other i j) (starts more : List ℕ) (begin : (i : ℕ) → Contains starts i → Contains more i) where
+  goes_too : (target i : ℕ) (rest : List ℕ) → WalksOn graph target i rest → WalksOn other target i rest
   goes_too target i [] h = h
   goes_too target i (j ∷ rest) h = (leads i j h.0, goes_too target j rest h.1)
 
@@ -40,7 +40,7 @@ module _ (graph other : List (List ℕ)) (leads : (i j : ℕ) → Leads graph i 
   walks_too target nodes w =
       record { first = w.first; rest = w.rest; are = w.are; begins = begin w.first w.begins; goes = goes_too target w.first w.rest w.goes }
 
-module _ (graph other : List (List ℕ)) (leads : (i j : ℕ) → Leads graph i j ↔ Leads other i j) (starts more : List ℕ) (begin : (i : ℕ) → Contains starts i ↔ Contains more i) where
+module _ (graph other : List (List ℕ)) (leads : (i j : ℕ) → PointsTo graph i j ↔ PointsTo other i j) (starts more : List ℕ) (begin : (i : ℕ) → Contains starts i ↔ Contains more i) where
   shortest_too : (target : ℕ) (nodes : List ℕ) → IsShortest graph starts target nodes → IsShortest other more target nodes
   shortest_too target nodes s =
       record {
@@ -48,7 +48,7 @@ module _ (graph other : List (List ℕ)) (leads : (i j : ℕ) → Leads graph i 
         least = λ walk w. s.least walk (walks_too other graph (λ i j. (leads i j).1) more starts (λ i. (begin i).1) target walk w);
       }
 
-module _ (graph other : List (List ℕ)) (leads : (i j : ℕ) → Leads graph i j ↔ Leads other i j) (starts more : List ℕ) (begin : (i : ℕ) → Contains starts i ↔ Contains more i) where
+module _ (graph other : List (List ℕ)) (leads : (i j : ℕ) → PointsTo graph i j ↔ PointsTo other i j) (starts more : List ℕ) (begin : (i : ℕ) → Contains starts i ↔ Contains more i) where
   pub first_too : (target : ℕ) (nodes : List ℕ) → IsFirstOfShortest graph starts target nodes → IsFirstOfShortest other more target nodes
   first_too target nodes f =
       record {

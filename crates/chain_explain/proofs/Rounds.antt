@@ -28,7 +28,7 @@ use Rattle.nesting_bound.specs.declared.graph.Place.{Place}
 use Rattle.nesting_bound.specs.Least.{IsLeast}
 use Rattle.family_graph.specs.Graphs.{insts_of, IsGraphOf}
 use Rattle.certificate.specs.Claims.{Claim}
-use Rattle.round_rules.specs.Families.{Family, nodes_of, Has}
+use Rattle.round_rules.specs.Families.{Family, nodes_of, FamilyHas}
 use Rattle.round_rules.specs.Rounds.{AreNeeds}
 use Rattle.round_rules.specs.Refusals.{IsSolved}
 use Rattle.round_laws.proofs.AllLaws.{has_member, member_has}
@@ -97,7 +97,7 @@ valued_at (k ∷ ks) (x ∷ xs) (suc i) inst s same e = by (valued_at ks xs i in
 module _ (words : List ℕ) (A : List Entry) (f : Family) (n : ℕ) (solved : IsSolved words A n f) (law : RoundsAreReached) (reached : List Node)
     (are : AreReached words A (nodes_of f) reached) (reset : HasKey (nodes_of f) (entry_key root_inst)) where
   -- where an edge from a node of the family leads there is one
-  lands_at : (m : Node) (e : Edge) → Has f m → IsEdge words A (nodes_of f) m e → HasKey (nodes_of f) e.to
+  lands_at : (m : Node) (e : Edge) → FamilyHas f m → IsEdge words A (nodes_of f) m e → HasKey (nodes_of f) e.to
   lands_at m e has is =
       let l = solved.closed m e has is in
       let to : Node = record { key = e.to; state = l.at } in
@@ -113,7 +113,7 @@ module _ (words : List ℕ) (A : List Entry) (f : Family) (n : ℕ) (solved : Is
       has_held reached e.to (into_reached e.to (lands_at m e has is) (by_edge m e (member_has f m has) r is))
 
   -- each node of the family is reached
-  all_reached : (m : Node) → Has f m → Contains reached m
+  all_reached : (m : Node) → FamilyHas f m → Contains reached m
   all_reached m has =
       let held = law words A n f (is_held reached) solved.comes solved.passes.faultless (has_held reached (entry_key root_inst) (into_reached (entry_key root_inst) reset at_reset)) kept m has in
       let h = held_has reached m.key held in
@@ -127,7 +127,7 @@ module _ (words : List ℕ) (A : List Entry) (f : Family) (n : ℕ) (solved : Is
     need_at : (i : ℕ) (inst : InstKey) → slice_get (insts_of gs) i ≡ Some inst → need inst ≡ slice_index needs i
     need_at i inst e = valued_at (insts_of gs) needs i inst family.ascending (least.needs_length ∙ sym (length-map gs (λ g. g.key))) e
 
-    number : (m : Node) → Has f m → (i : ℕ) × (slice_get (insts_of gs) i ≡ Some m.key.inst)
+    number : (m : Node) → FamilyHas f m → (i : ℕ) × (slice_get (insts_of gs) i ≡ Some m.key.inst)
     number m has = place_of_contained (insts_of gs) m.key.inst ((family.insts m.key.inst).1 (m, all_reached m has, refl))
 
     closed_by : (m : Node) (way : EdgeKind) (inst : InstKey) (back : ℕ) → Enters words A m way inst back → (offset : ℕ) × (m.key.sp ≡ Closed offset)

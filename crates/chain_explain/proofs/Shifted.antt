@@ -7,8 +7,8 @@ use Rattle.std.specs.declared.cmp.Ordering.TheVariants.{Less}
 use Rattle.std.proofs.lemmas.List.{length-map}
 use Rattle.basics.specs.Items.{only_one_in, inside_if_contained, none_in, first_in, first_or_further}
 use Rattle.local_laws.proofs.AllLaws.{in_map, each_in_map}
-use Rattle.shortest_walk.specs.Graph.{Leads, IsGraph, IsReached, at_start, by_edge}
-use Rattle.shortest_walk.specs.Walk.{GoesOn, IsWalk, IsShortest, IsFirstOfShortest}
+use Rattle.shortest_walk.specs.Graph.{PointsTo, IsNumberedGraph, IsNumberReached, at_start, by_edge}
+use Rattle.shortest_walk.specs.Walk.{WalksOn, IsWalk, IsShortest, IsFirstOfShortest}
 use Rattle.chain_explain.specs.Moves.{IsPortion}
 
 -- the number in the whole graph
@@ -34,25 +34,25 @@ pub record IsApart (graph : List (List ℕ)) (low high : ℕ) : Type 0 where
   pub order : low ≤ high
   pub inside : high ≤ length graph
   pub few : length graph ≤ 65536
-  pub above : (i j : ℕ) → low ≤ i → i < high → Leads graph i j → low ≤ j
-  pub below : (i j : ℕ) → low ≤ i → i < high → Leads graph i j → j < high
+  pub above : (i j : ℕ) → low ≤ i → i < high → PointsTo graph i j → low ≤ j
+  pub below : (i j : ℕ) → low ≤ i → i < high → PointsTo graph i j → j < high
 
 module _ (graph portion : List (List ℕ)) (low high : ℕ) (apart : IsApart graph low high) (is : IsPortion graph low (high - low) portion) where
-  leads_up : (i j : ℕ) → Leads portion i j → Leads graph (low + i) (low + j)
+  leads_up : (i j : ℕ) → PointsTo portion i j → PointsTo graph (low + i) (low + j)
   leads_up i j h =
       let lt : i < high - low = let w = inside_if_contained portion i j h in let c = is.count_is in omega (arith, w, c) in
       let h' = subst (λ (xs : List ℕ). Contains xs j) (is.each i lt) h in
-      each_in_map (λ x. x - low) (λ y. Leads graph (low + i) (low + y)) (get_or graph (low + i) [])
+      each_in_map (λ x. x - low) (λ y. PointsTo graph (low + i) (low + y)) (get_or graph (low + i) [])
       (λ x has.
       let a = apart.above (low + i) x (omega arith) (omega (arith, lt)) has in
-      subst (Leads graph (low + i)) (omega (arith, a)) has) j h'
+      subst (PointsTo graph (low + i)) (omega (arith, a)) has) j h'
 
-  leads_down : (i j : ℕ) → i < high - low → Leads graph (low + i) (low + j) → Leads portion i j
+  leads_down : (i j : ℕ) → i < high - low → PointsTo graph (low + i) (low + j) → PointsTo portion i j
   leads_down i j lt h =
       subst (λ (xs : List ℕ). Contains xs j) (sym (is.each i lt))
       (subst (Contains (map (λ x. x - low) (get_or graph (low + i) []))) (omega arith) (in_map (λ x. x - low) (get_or graph (low + i) []) (low + j) h))
 
-  pub is_graph : IsGraph portion
+  pub is_graph : IsNumberedGraph portion
   is_graph =
       record {
         few = let c = is.count_is in let a = apart.inside in let b = apart.few in omega (arith, c, a, b);
@@ -63,7 +63,7 @@ module _ (graph portion : List (List ℕ)) (low high : ℕ) (apart : IsApart gra
             omega (arith, b, c);
       }
 
-  goes_up : (target i : ℕ) (rest : List ℕ) → GoesOn portion target i rest → GoesOn graph (low + target) (low + i) (map (lifted low) rest)
+  goes_up : (target i : ℕ) (rest : List ℕ) → WalksOn portion target i rest → WalksOn graph (low + target) (low + i) (map (lifted low) rest)
   goes_up target i [] e = ap (lifted low) e
   goes_up target i (j ∷ rest) h = (leads_up i j h.0, goes_up target j rest h.1)
 
@@ -71,19 +71,19 @@ module _ (graph portion : List (List ℕ)) (low high : ℕ) (apart : IsApart gra
   pub record Lowered (target i : ℕ) (rest : List ℕ) : Type 0 where
     pub own : List ℕ
     pub are : rest ≡ map (lifted low) own
-    pub goes : GoesOn portion target i own
+    pub goes : WalksOn portion target i own
 
-  goes_down : (target i : ℕ) (rest : List ℕ) → i < high - low → GoesOn graph (low + target) (low + i) rest → Lowered target i rest
+  goes_down : (target i : ℕ) (rest : List ℕ) → i < high - low → WalksOn graph (low + target) (low + i) rest → Lowered target i rest
   goes_down target i [] lt e = record { own = []; are = refl; goes = omega (arith, e) }
   goes_down target i (j ∷ rest) lt h =
       let a = apart.above (low + i) j (omega arith) (omega (arith, lt)) h.0 in
       let b = apart.below (low + i) j (omega arith) (omega (arith, lt)) h.0 in
       let e : j ≡ low + (j - low) = omega (arith, a) in
-      let l = goes_down target (j - low) rest (omega (arith, a, b)) (subst (λ (x : ℕ). GoesOn graph (low + target) x rest) e h.1) in
+      let l = goes_down target (j - low) rest (omega (arith, a, b)) (subst (λ (x : ℕ). WalksOn graph (low + target) x rest) e h.1) in
       record {
         own = (j - low) ∷ l.own;
         are = λ k. e k ∷ l.are k;
-        goes = (leads_down i (j - low) lt (subst (Leads graph (low + i)) e h.0), l.goes);
+        goes = (leads_down i (j - low) lt (subst (PointsTo graph (low + i)) e h.0), l.goes);
       }
 
   module _ (start target : ℕ) (within : start < high - low) where
@@ -106,7 +106,7 @@ module _ (graph portion : List (List ℕ)) (low high : ℕ) (apart : IsApart gra
     walk_down : (nodes : List ℕ) → IsWalk graph ((low + start) ∷ []) (low + target) nodes → LoweredWalk nodes
     walk_down nodes w =
         let begins : w.first ≡ low + start = only_one_in (low + start) w.first w.begins in
-        let l = goes_down target start w.rest within (subst (λ (x : ℕ). GoesOn graph (low + target) x w.rest) begins w.goes) in
+        let l = goes_down target start w.rest within (subst (λ (x : ℕ). WalksOn graph (low + target) x w.rest) begins w.goes) in
         record {
           own = start ∷ l.own;
           are = w.are ∙ (λ k. begins k ∷ l.are k);
@@ -148,13 +148,13 @@ module _ (graph portion : List (List ℕ)) (low high : ℕ) (apart : IsApart gra
       pub own : ℕ
       pub is_own : i ≡ low + own
       pub inside : own < high - low
-      pub reached : IsReached portion (start ∷ []) own
+      pub reached : IsNumberReached portion (start ∷ []) own
 
-    pub reached_below : (i : ℕ) → IsReached graph ((low + start) ∷ []) i → ReachedBelow i
+    pub reached_below : (i : ℕ) → IsNumberReached graph ((low + start) ∷ []) i → ReachedBelow i
     reached_below i (at_start _ h) = record { own = start; is_own = only_one_in (low + start) i h; inside = within; reached = at_start start (first_in start []) }
     reached_below j (by_edge i _ r leads) =
         let b = reached_below i r in
-        let at : Leads graph (low + b.own) j = subst (λ (x : ℕ). Leads graph x j) b.is_own leads in
+        let at : PointsTo graph (low + b.own) j = subst (λ (x : ℕ). PointsTo graph x j) b.is_own leads in
         let lt = b.inside in
         let above = apart.above (low + b.own) j (omega arith) (omega (arith, lt)) at in
         let below = apart.below (low + b.own) j (omega arith) (omega (arith, lt)) at in
@@ -163,16 +163,16 @@ module _ (graph portion : List (List ℕ)) (low high : ℕ) (apart : IsApart gra
           own = j - low;
           is_own = e;
           inside = omega (arith, above, below);
-          reached = by_edge b.own (j - low) b.reached (leads_down b.own (j - low) lt (subst (Leads graph (low + b.own)) e at));
+          reached = by_edge b.own (j - low) b.reached (leads_down b.own (j - low) lt (subst (PointsTo graph (low + b.own)) e at));
         }
 
 -- the nodes of a walk are nodes of the graph
-inside_on : (graph : List (List ℕ)) (target i : ℕ) (rest : List ℕ) → IsGraph graph → GoesOn graph target i rest → (j : ℕ) → Contains rest j → j < length graph
+inside_on : (graph : List (List ℕ)) (target i : ℕ) (rest : List ℕ) → IsNumberedGraph graph → WalksOn graph target i rest → (j : ℕ) → Contains rest j → j < length graph
 inside_on graph target i [] is goes j h = absurd (none_in j h)
 inside_on graph target i (k ∷ rest) is goes j h =
     ⊎_elim (λ e. subst (λ x. x < length graph) (sym e) (is.within i k goes.0)) (inside_on graph target k rest is goes.1 j) (first_or_further k j rest h)
 
-pub walk_inside : (graph : List (List ℕ)) (start target : ℕ) (nodes : List ℕ) → IsGraph graph → start < length graph → IsWalk graph (start ∷ []) target nodes → (j : ℕ) → Contains nodes j → j < length graph
+pub walk_inside : (graph : List (List ℕ)) (start target : ℕ) (nodes : List ℕ) → IsNumberedGraph graph → start < length graph → IsWalk graph (start ∷ []) target nodes → (j : ℕ) → Contains nodes j → j < length graph
 walk_inside graph start target nodes is lt w j h =
     ⊎_elim (λ e. subst (λ x. x < length graph) (sym (e ∙ only_one_in start w.first w.begins)) lt) (inside_on graph target w.first w.rest is w.goes j)
     (first_or_further w.first j w.rest (subst (λ xs. Contains xs j) w.are h))

@@ -14,7 +14,7 @@ use Rattle.edge_rules.specs.declared.edge.Edge.{Edge}
 use Rattle.edge_rules.specs.Edges.{IsEdge, moving, entering, returning}
 use Rattle.edge_rules.specs.Views.{AreShown, IsSpan, place_of}
 use Rattle.shortest_walk.specs.Graph as walk
-use Rattle.shortest_walk.specs.Graph.{Leads, IsGraph}
+use Rattle.shortest_walk.specs.Graph.{PointsTo, IsNumberedGraph}
 use Rattle.shortest_walk.specs.Walk.{IsFirstOfShortest}
 use Rattle.chain_explain.specs.Reached.{IsReached, at_reset, by_edge}
 use Rattle.chain_explain.specs.Walks as walks
@@ -59,12 +59,12 @@ module _ (words : List ℕ) (A : List Entry) (nodes : List Node) (shown : AreSho
     -- ---- how the node of the key is reached within its instance
 
     pub moves_reach : (k : NodeKey) → IsReached words A nodes k → (i start : ℕ) (n first : Node) → slice_get nodes i ≡ Some n → n.key ≡ k → slice_get nodes start ≡ Some first
-        → first.key ≡ entry_key k.inst → walk.IsReached moves (start ∷ []) i
+        → first.key ≡ entry_key k.inst → walk.IsNumberReached moves (start ∷ []) i
     moves_reach _ at_reset i start n first e same f is = walk.at_start i (subst (Contains (start ∷ [])) (same_number nodes shown.ascending start i first n f e (is ∙ sym same)) (first_in start []))
     moves_reach _ (by_edge m edge has r is_edge) i start n first e same f is =
         onward (λ p at begins. moves_reach m.key r p start m first at refl f begins) edge is_edge same is
       where
-        move : ((p : ℕ) → slice_get nodes p ≡ Some m → first.key ≡ entry_key m.key.inst → walk.IsReached moves (start ∷ []) p) → (d : Edge) → IsEdge words A nodes m d → is_move d.kind ≡ true → n.key ≡ d.to → first.key ≡ entry_key d.to.inst → walk.IsReached moves (start ∷ []) i
+        move : ((p : ℕ) → slice_get nodes p ≡ Some m → first.key ≡ entry_key m.key.inst → walk.IsNumberReached moves (start ∷ []) p) → (d : Edge) → IsEdge words A nodes m d → is_move d.kind ≡ true → n.key ≡ d.to → first.key ≡ entry_key d.to.inst → walk.IsNumberReached moves (start ∷ []) i
         move before d is_d moves_d to begins =
             let p = place_of_contained nodes m has in
             let stay = stays words A nodes shown m d has is_d moves_d in
@@ -82,7 +82,7 @@ module _ (words : List ℕ) (A : List Entry) (nodes : List Node) (shown : AreSho
               stays = ap (λ (x : NodeKey). x.inst) to ∙ stay;
             }))
 
-        onward : ((p : ℕ) → slice_get nodes p ≡ Some m → first.key ≡ entry_key m.key.inst → walk.IsReached moves (start ∷ []) p) → (d : Edge) → IsEdge words A nodes m d → n.key ≡ d.to → first.key ≡ entry_key d.to.inst → walk.IsReached moves (start ∷ []) i
+        onward : ((p : ℕ) → slice_get nodes p ≡ Some m → first.key ≡ entry_key m.key.inst → walk.IsNumberReached moves (start ∷ []) p) → (d : Edge) → IsEdge words A nodes m d → n.key ≡ d.to → first.key ≡ entry_key d.to.inst → walk.IsNumberReached moves (start ∷ []) i
         onward before _ (moving to clean member) to_is begins =
             move before (record { kind = kind.Local; to = to.key; state = to.state }) (moving to clean member) refl to_is begins
         onward before _ (entering way inst back enters) to_is begins =
@@ -104,7 +104,7 @@ module _ (words : List ℕ) (A : List Entry) (nodes : List Node) (shown : AreSho
             below = λ i j le lt h. (both i j le lt h).1;
           }
         where
-          both : (i j : ℕ) → low ≤ i → i < high → Leads moves i j → (low ≤ j) × (j < high)
+          both : (i j : ℕ) → low ≤ i → i < high → PointsTo moves i j → (low ≤ j) × (j < high)
           both i j le lt h =
               let m = (are.exact i j).0 h in
               let own : m.from.key.inst ≡ k.inst = (span.exact i m.from m.at).1 (le, lt) in
@@ -124,7 +124,7 @@ module _ (words : List ℕ) (A : List Entry) (nodes : List Node) (shown : AreSho
         target_inside = (span.exact target last.node last.is).0 (ap (λ (x : NodeKey). x.inst) last.same)
 
         module _ (graph : List (List ℕ)) (is : IsPortion moves low (high - low) graph) where
-          pub portion_graph : IsGraph graph
+          pub portion_graph : IsNumberedGraph graph
           portion_graph = shifted.is_graph moves graph low high apart is
 
           start_is : start ≡ low + (start - low)
@@ -136,13 +136,13 @@ module _ (words : List ℕ) (A : List Entry) (nodes : List Node) (shown : AreSho
           start_low : start - low < high - low
           start_low = let a = start_inside.0 in let b = start_inside.1 in omega (arith, a, b)
 
-          pub portion_reaches : walk.IsReached graph ((start - low) ∷ []) (target - low)
+          pub portion_reaches : walk.IsNumberReached graph ((start - low) ∷ []) (target - low)
           portion_reaches =
               let whole = moves_reach k reached target start last.node first.node last.is last.same first.is first.same in
               let b : ReachedBelow moves graph low high apart is (start - low) (target - low) start_low target =
               reached_below moves graph low high apart is (start - low) (target - low) start_low target
-              (subst (λ (x : ℕ). walk.IsReached moves (x ∷ []) target) start_is whole) in
-              subst (walk.IsReached graph ((start - low) ∷ [])) (let e = b.is_own in omega (arith, e)) b.reached
+              (subst (λ (x : ℕ). walk.IsNumberReached moves (x ∷ []) target) start_is whole) in
+              subst (walk.IsNumberReached graph ((start - low) ∷ [])) (let e = b.is_own in omega (arith, e)) b.reached
 
           pub is_way : (numbers words' : List ℕ) → IsFirstOfShortest graph ((start - low) ∷ []) (target - low) numbers → words' ≡ map (λ i. pc_at nodes (low + i)) numbers
               → IsWay words A nodes k.inst target words'

@@ -8,7 +8,7 @@ use Rattle.call_graph.specs.declared.landing.Landing.{Landing}
 use Rattle.nesting_bound.specs.declared.graph.Link.{Link}
 use Rattle.edge_rules.specs.Families.{IsCovered}
 use Rattle.certificate.specs.Valid.{reset_node, AllLand}
-use Rattle.shortest_walk.specs.Graph.{Leads}
+use Rattle.shortest_walk.specs.Graph.{PointsTo}
 use Rattle.chain_explain.specs.Walks.{MovesTo}
 
 -- ---- where edges lead, by the numbers of nodes
@@ -35,7 +35,7 @@ moves_by all = map moves_of all
 pub record AreMoves (words : List ℕ) (A : List Entry) (nodes : List Node) (moves : List (List ℕ)) : Type 0 where
   pub few : length nodes ≤ 65536
   pub count : length moves ≡ length nodes
-  pub exact : (i j : ℕ) → Leads moves i j ↔ MovesTo words A nodes i j
+  pub exact : (i j : ℕ) → PointsTo moves i j ↔ MovesTo words A nodes i j
   pub lands : AllLand words A nodes
   pub reset : IsCovered nodes (reset_node A)
 

@@ -9,7 +9,7 @@ use Rattle.mask_states.specs.Keys.{root_inst, entry_key}
 use Rattle.local_rules.specs.declared.local.Node.{Node}
 use Rattle.edge_rules.specs.declared.edge.Edge.{Edge}
 use Rattle.edge_rules.specs.Edges.{Enters, IsEdge}
-use Rattle.shortest_walk.specs.Graph.{Leads}
+use Rattle.shortest_walk.specs.Graph.{PointsTo}
 use Rattle.shortest_walk.specs.Walk.{IsFirstOfShortest}
 
 -- an edge of this kind doesn't enter an instance: it is local, or returns
@@ -54,7 +54,7 @@ pc_at nodes i = pc_of (slice_get nodes i)
 -- whose list of node numbers is the least.
 pub record IsWay (words : List ℕ) (A : List Entry) (nodes : List Node) (inst : InstKey) (target : ℕ) (walk : List ℕ) : Type 0 where
   pub graph : List (List ℕ)
-  pub moves : (i j : ℕ) → Leads graph i j ↔ MovesTo words A nodes i j
+  pub moves : (i j : ℕ) → PointsTo graph i j ↔ MovesTo words A nodes i j
   pub starts : List ℕ
   pub begin : (i : ℕ) → Contains starts i ↔ IsStart words A nodes inst i
   pub numbers : List ℕ

@@ -44,7 +44,7 @@ fn part(task: &Task<'_>, family: &Worked, reached: &Filled, link: &Link) -> Resu
     })
 }
 
-/// The parts for the links of a chain over the reached nodes.
+// The parts for the links of a chain over the reached nodes.
 pub(crate) fn parts(
     task: &Task<'_>,
     family: &Worked,

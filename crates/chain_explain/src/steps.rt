@@ -14,7 +14,7 @@ fn numbers(alloc: Global, landings: &[Landing]) -> Result<Vec<u32>, AllocError>
     landings.iter().map(|landing| landing.at).collect(alloc)
 }
 
-/// By node, to which nodes its edges lead, where the edges of each node land so.
+// By node, to which nodes its edges lead, where the edges of each node land so.
 pub(crate) fn leads(
     alloc: Global,
     landings: &[Listed<Landing>],

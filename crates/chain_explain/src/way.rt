@@ -68,8 +68,8 @@ fn words(
     Ok(words)
 }
 
-/// The words of the first of the shortest ways to the node of this key, which is reached, within its instance. Time is linear in the
-/// nodes and edges of the instance.
+// The words of the first of the shortest ways to the node of this key, which is reached, within its instance. Time is linear in the
+// nodes and edges of the instance.
 pub(crate) fn way(
     task: &Task<'_>,
     family: &Worked,

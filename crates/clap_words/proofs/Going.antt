@@ -14,7 +14,7 @@ use Rattle.clap.specs.Takes.{use_passes, settle_passes, react_passes, positional
 use Rattle.commands.specs.declared.line.Valued.{Valued}
 use Rattle.commands.specs.declared.line.Valued.TheVariants.{Assume, Steps, Device, Trials}
 use Rattle.commands.specs.Commands.{Line, named, waiting, with_value}
-use Rattle.clap_words.proofs.Pieces.{Piece, Named, Given, Marked, Mark, Json, Why, option_name, mark_name, all_added, value_of, valued, is_marked, marked, with_mark, gets, marks, same_value, same_mark, same_marks, Stays, stays, some_is}
+use Rattle.clap_words.proofs.Pieces.{Piece, Named, Given, Marked, Mark, Json, Why, option_name, mark_name, all_added, value_of, valued, is_marked, marked, with_mark, gets, marks, same_value, same_mark, same_marks, StaysGiven, stays, some_is}
 use Rattle.clap_words.proofs.Steps.{goes, final, begun, name_goes, value_goes, option_goes, flag_goes}
 use Rattle.clap_words.proofs.Rows.{is_explicit, new_row, has_row_end, explicit_end, is_given_here, finally_given}
 
@@ -66,13 +66,13 @@ pub record IsFlag (s : Shape) (name : Text) : Type 0 where
   pub adds : (rows : List Row) → used rule [] rows ≡ with_values name how CommandLine values (without name rows)
 
 -- which options a command has, and whether it has a second name
-pub record Allows : Type 0 where
+pub record AllowsWords : Type 0 where
   pub second : Bool
   pub given : Valued → Bool
   pub marked : Mark → Bool
 
 -- the level has them; the first name has this id
-pub record IsLevel (s : Shape) (w : Allows) (id : Text) : Type 0 where
+pub record IsWordLevel (s : Shape) (w : AllowsWords) (id : Text) : Type 0 where
   pub first : IsPositional s 1 id
   pub second : w.second ≡ true → IsPositional s 2 (codes "second")
   pub given : (v : Valued) → w.given v ≡ true → IsOption s (option_name v)
@@ -85,7 +85,7 @@ pub record IsLevel (s : Shape) (w : Allows) (id : Text) : Type 0 where
   pub of_marked : (m : Mark) → (bytes_eq id (mark_name m) ≡ false) × (bytes_eq (mark_name m) id ≡ false)
 
 -- the line has what the command wants, and nothing else
-pub record IsWanted (w : Allows) (l : Line) : Type 0 where
+pub record IsWanted (w : AllowsWords) (l : Line) : Type 0 where
   pub first : is_some l.first ≡ true
   pub second : is_some l.second ≡ w.second
   pub given : (v : Valued) → is_some (value_of v l) ≡ true → w.given v ≡ true
@@ -93,7 +93,7 @@ pub record IsWanted (w : Allows) (l : Line) : Type 0 where
 
 -- ---- what is found is what stands on the line
 
-pub record Shows (id : Text) (line : Line) (rows : List Row) : Type 0 where
+pub record ShowsRows (id : Text) (line : Line) (rows : List Row) : Type 0 where
   pub first : has_row id rows ≡ is_some line.first
   pub second : has_row (codes "second") rows ≡ is_some line.second
   pub given : (v : Valued) → has_row (option_name v) rows ≡ is_some (value_of v line)
@@ -113,8 +113,8 @@ with_first line word = record line { first = Some word }
 abbrev with_second : Line → Text → Line
 with_second line word = record line { second = Some word }
 
-module _ (s : Shape) (w : Allows) (id : Text) (level : IsLevel s w id) where
-  shows_first : (line : Line) (word : Text) (rows : List Row) (how : Reading) → Shows id line rows → Shows id (with_first line word) (rows ++ row id how (word ∷ []) ∷ [])
+module _ (s : Shape) (w : AllowsWords) (id : Text) (level : IsWordLevel s w id) where
+  shows_first : (line : Line) (word : Text) (rows : List Row) (how : Reading) → ShowsRows id line rows → ShowsRows id (with_first line word) (rows ++ row id how (word ∷ []) ∷ [])
   shows_first line word rows how k = record {
     first = gains id (row id how (word ∷ [])) rows level.same;
     second = keeps (codes "second") (row id how (word ∷ [])) rows _ k.second level.of_second.0;
@@ -134,8 +134,8 @@ module _ (s : Shape) (w : Allows) (id : Text) (level : IsLevel s w id) where
   second_is_no_mark Json = refl
   second_is_no_mark Why = refl
 
-  shows_second : (line : Line) (word : Text) (rows : List Row) (how : Reading) → is_some line.first ≡ true → Shows id line rows
-      → Shows id (with_second line word) (rows ++ row (codes "second") how (word ∷ []) ∷ [])
+  shows_second : (line : Line) (word : Text) (rows : List Row) (how : Reading) → is_some line.first ≡ true → ShowsRows id line rows
+      → ShowsRows id (with_second line word) (rows ++ row (codes "second") how (word ∷ []) ∷ [])
   shows_second line word rows how there k = record {
     first = keeps id (row (codes "second") how (word ∷ [])) rows _ k.first level.of_second.1;
     second = gains (codes "second") (row (codes "second") how (word ∷ [])) rows refl;
@@ -178,7 +178,7 @@ module _ (s : Shape) (w : Allows) (id : Text) (level : IsLevel s w id) where
   one_marked Why Json line rows how values h = keeps (mark_name Json) (row (mark_name Why) how values) rows _ h refl
   one_marked Why Why line rows how values h = gains (mark_name Why) (row (mark_name Why) how values) rows refl
 
-  shows_marked : (m : Mark) (line : Line) (rows : List Row) (how : Reading) (values : List Text) → Shows id line rows → Shows id (marked m line) (rows ++ row (mark_name m) how values ∷ [])
+  shows_marked : (m : Mark) (line : Line) (rows : List Row) (how : Reading) (values : List Text) → ShowsRows id line rows → ShowsRows id (marked m line) (rows ++ row (mark_name m) how values ∷ [])
   shows_marked m line rows how values k = record {
     first = keeps id (row (mark_name m) how values) rows _ k.first (level.of_marked m).1 ∙ ap is_some (sym (marked_first m line));
     second = keeps (codes "second") (row (mark_name m) how values) rows _ k.second (mark_is_no_second m) ∙ ap is_some (sym (marked_second m line));
@@ -236,7 +236,7 @@ module _ (s : Shape) (w : Allows) (id : Text) (level : IsLevel s w id) where
   none_is_mark Trials Json = refl
   none_is_mark Trials Why = refl
 
-  shows_given : (v : Valued) (line : Line) (word : Text) (rows : List Row) (how : Reading) → Shows id line rows → Shows id (valued v line word) (rows ++ row (option_name v) how (word ∷ []) ∷ [])
+  shows_given : (v : Valued) (line : Line) (word : Text) (rows : List Row) (how : Reading) → ShowsRows id line rows → ShowsRows id (valued v line word) (rows ++ row (option_name v) how (word ∷ []) ∷ [])
   shows_given v line word rows how k = record {
     first = keeps id (row (option_name v) how (word ∷ [])) rows _ k.first (level.of_given v).1 ∙ ap is_some (sym (same_first v line word));
     second = keeps (codes "second") (row (option_name v) how (word ∷ [])) rows _ k.second (none_is_second v) ∙ ap is_some (sym (same_second v line word));
@@ -302,7 +302,7 @@ module _ (s : Shape) (w : Allows) (id : Text) (level : IsLevel s w id) where
   position (Some x) None = 2
   position (Some x) (Some y) = 3
 
-  ends : (line : Line) (h : Held) → settles s h ≡ true → Shows id line (rows_at s h) → IsWanted w line → final s h ≡ true
+  ends : (line : Line) (h : Held) → settles s h ≡ true → ShowsRows id line (rows_at s h) → IsWanted w line → final s h ≡ true
   ends line h e k n =
       and_from (settles s h) _ e
       (and_from (list_all default_passes s.rules) _ level.defaults
@@ -310,28 +310,28 @@ module _ (s : Shape) (w : Allows) (id : Text) (level : IsLevel s w id) where
       (λ t. finally_given (codes "second") s.rules (rows_at s h) (is_given_here (codes "second") (rows_at s h) k.explicit (k.second ∙ n.second ∙ t)))))
 
   Goes : List Piece → Type 0
-  Goes ps = (line l : Line) (h : Held) → settles s h ≡ true → Shows id line (rows_at s h) → all_added (Some line) ps ≡ Some l → IsWanted w l → goes s h (position line.first line.second) ps ≡ true
+  Goes ps = (line l : Line) (h : Held) → settles s h ≡ true → ShowsRows id line (rows_at s h) → all_added (Some line) ps ≡ Some l → IsWanted w l → goes s h (position line.first line.second) ps ≡ true
 
   not_second : ◌≡◌ {A = Bool} false true → ⊥
   not_second e = cc
 
-  name_goes_by : (ps : List Piece) → Goes ps → (b : ℕ) (bs : List ℕ) (line l : Line) (h : Held) (f t : Option Text) → line.first ≡ f → line.second ≡ t → settles s h ≡ true → Shows id line (rows_at s h)
+  name_goes_by : (ps : List Piece) → Goes ps → (b : ℕ) (bs : List ℕ) (line l : Line) (h : Held) (f t : Option Text) → line.first ≡ f → line.second ≡ t → settles s h ≡ true → ShowsRows id line (rows_at s h)
       → all_added (named f t line (b ∷ bs)) ps ≡ Some l → IsWanted w l → name_goes s h (position f t) (b ∷ bs) (arg_by_index s.rules (position f t)) (λ k j. goes s k j ps) ≡ true
   unfolding Goes
   name_goes_by ps go b bs line l h None None is_f is_t e k all n =
       name_goes_on 1 id (b ∷ bs) level.first h (λ k j. goes s k j ps) e (k.first ∙ ap is_some is_f)
       (λ m me mr. ap (λ (o : Option Text). goes s m (position (Some (b ∷ bs)) o) ps) (sym is_t)
-      ∙ go (with_first line (b ∷ bs)) l m me (subst (Shows id (with_first line (b ∷ bs))) (sym mr) (shows_first line (b ∷ bs) (rows_at s h) level.first.usable.how k)) all n)
+      ∙ go (with_first line (b ∷ bs)) l m me (subst (ShowsRows id (with_first line (b ∷ bs))) (sym mr) (shows_first line (b ∷ bs) (rows_at s h) level.first.usable.how k)) all n)
   name_goes_by ps go b bs line l h None (Some y) is_f is_t e k all n = absurd (not_second (sym (ap is_some is_f) ∙ k.order (ap is_some is_t)))
   name_goes_by ps go b bs line l h (Some x) None is_f is_t e k all n =
-      let stay : Stays (with_second line (b ∷ bs)) l = stays ps (with_second line (b ∷ bs)) l all in
+      let stay : StaysGiven (with_second line (b ∷ bs)) l = stays ps (with_second line (b ∷ bs)) l all in
       let p : IsPositional s 2 (codes "second") = level.second (sym n.second ∙ stay.second refl) in
       name_goes_on 2 (codes "second") (b ∷ bs) p h (λ k j. goes s k j ps) e (k.second ∙ ap is_some is_t)
       (λ m me mr. ap (λ (o : Option Text). goes s m (position o (Some (b ∷ bs))) ps) (sym is_f)
-      ∙ go (with_second line (b ∷ bs)) l m me (subst (Shows id (with_second line (b ∷ bs))) (sym mr) (shows_second line (b ∷ bs) (rows_at s h) p.usable.how (ap is_some is_f) k)) all n)
+      ∙ go (with_second line (b ∷ bs)) l m me (subst (ShowsRows id (with_second line (b ∷ bs))) (sym mr) (shows_second line (b ∷ bs) (rows_at s h) p.usable.how (ap is_some is_f) k)) all n)
   name_goes_by ps go b bs line l h (Some x) (Some y) is_f is_t e k all n = absurd (none-some l all)
 
-  given_goes : (ps : List Piece) → Goes ps → (v : Valued) (b : ℕ) (bs : List ℕ) (line l : Line) (h : Held) → settles s h ≡ true → Shows id line (rows_at s h)
+  given_goes : (ps : List Piece) → Goes ps → (v : Valued) (b : ℕ) (bs : List ℕ) (line l : Line) (h : Held) → settles s h ≡ true → ShowsRows id line (rows_at s h)
       → all_added (with_value v (waiting line v) (b ∷ bs)) ps ≡ Some l → IsWanted w l → goes s h (position line.first line.second) (Given v b bs ∷ ps) ≡ true
   unfolding Goes goes
   given_goes ps go v b bs line l h e k all n = by (with_value v (waiting line v) (b ∷ bs)) refl all where
@@ -340,18 +340,18 @@ module _ (s : Shape) (w : Allows) (id : Text) (level : IsLevel s w id) where
     by (Some next) is all =
         let is_next : next ≡ valued v line (b ∷ bs) = (gets v line next (b ∷ bs) is).is in
         let on : all_added (Some (valued v line (b ∷ bs))) ps ≡ Some l = subst (λ (x : Line). all_added (Some x) ps ≡ Some l) is_next all in
-        let stay : Stays (valued v line (b ∷ bs)) l = stays ps (valued v line (b ∷ bs)) l on in
+        let stay : StaysGiven (valued v line (b ∷ bs)) l = stays ps (valued v line (b ∷ bs)) l on in
         let p : IsOption s (option_name v) = level.given v (n.given v (stay.given v (has_it v))) in
         option_goes_on (option_name v) (b ∷ bs) p h (λ k. goes s k (position line.first line.second) ps) e (k.given v ∙ ap is_some (gets v line next (b ∷ bs) is).had)
         (λ m me mr. ap₂ (λ (x y : Option Text). goes s m (position x y) ps) (sym (same_first v line (b ∷ bs))) (sym (same_second v line (b ∷ bs)))
-        ∙ go (valued v line (b ∷ bs)) l m me (subst (Shows id (valued v line (b ∷ bs))) (sym mr) (shows_given v line (b ∷ bs) (rows_at s h) p.usable.how k)) on n) where
+        ∙ go (valued v line (b ∷ bs)) l m me (subst (ShowsRows id (valued v line (b ∷ bs))) (sym mr) (shows_given v line (b ∷ bs) (rows_at s h) p.usable.how k)) on n) where
           has_it : (v : Valued) → is_some (value_of v (valued v line (b ∷ bs))) ≡ true
           has_it Assume = refl
           has_it Steps = refl
           has_it Device = refl
           has_it Trials = refl
 
-  marked_goes : (ps : List Piece) → Goes ps → (m : Mark) (line l : Line) (h : Held) → settles s h ≡ true → Shows id line (rows_at s h)
+  marked_goes : (ps : List Piece) → Goes ps → (m : Mark) (line l : Line) (h : Held) → settles s h ≡ true → ShowsRows id line (rows_at s h)
       → all_added (with_mark m line) ps ≡ Some l → IsWanted w l → goes s h (position line.first line.second) (Marked m ∷ ps) ≡ true
   unfolding Goes goes
   marked_goes ps go m line l h e k all n = by (with_mark m line) refl all where
@@ -362,12 +362,12 @@ module _ (s : Shape) (w : Allows) (id : Text) (level : IsLevel s w id) where
         let p : IsFlag s (mark_name m) = level.marked m (n.marked m ((stays ps (marked m line) l on).marked m (there m))) in
         flag_goes_on (mark_name m) p h (λ k. goes s k (position line.first line.second) ps) e (k.marked m ∙ (marks m line next is).had)
         (λ q me mr. ap₂ (λ (x y : Option Text). goes s q (position x y) ps) (sym (marked_first m line)) (sym (marked_second m line))
-        ∙ go (marked m line) l q me (subst (Shows id (marked m line)) (sym mr) (shows_marked m line (rows_at s h) p.how p.values k)) on n) where
+        ∙ go (marked m line) l q me (subst (ShowsRows id (marked m line)) (sym mr) (shows_marked m line (rows_at s h) p.how p.values k)) on n) where
           there : (m : Mark) → is_marked m (marked m line) ≡ true
           there Json = refl
           there Why = refl
 
-  pub goes_on : (ps : List Piece) (line l : Line) (h : Held) → settles s h ≡ true → Shows id line (rows_at s h) → all_added (Some line) ps ≡ Some l → IsWanted w l → goes s h (position line.first line.second) ps ≡ true
+  pub goes_on : (ps : List Piece) (line l : Line) (h : Held) → settles s h ≡ true → ShowsRows id line (rows_at s h) → all_added (Some line) ps ≡ Some l → IsWanted w l → goes s h (position line.first line.second) ps ≡ true
   unfolding Goes goes
   goes_on [] line l h e k all n = ends line h e k (subst (IsWanted w) (sym (some_is line l all)) n)
   goes_on (Named b bs ∷ ps) line l h e k all n = name_goes_by ps (goes_on ps) b bs line l h line.first line.second refl refl e k all n

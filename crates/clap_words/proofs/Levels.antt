@@ -40,7 +40,7 @@ after a words w =
     && (settle_passes a.top.rules a.top.args_override_self w.held
     && (list_all default_passes a.top.rules && is_valid a.top (finished a.top.rules w.held) (is_some (entered a w.stopped)))))
 
-record IsNamed (a : App) (name : Text) (s : Shape) : Type 0 where
+record IsLevelNamed (a : App) (name : Text) (s : Shape) : Type 0 where
   stops : walked a.top.rules (names_of a) (walk_from nothing_held) name ≡ stopped_at name []
   found : find (λ s. answers_to name (label_of s)) a.subs ≡ Some s
   passes : turn_passes a.top (names_of a) (walk_from nothing_held) name ≡ true
@@ -48,7 +48,7 @@ record IsNamed (a : App) (name : Text) (s : Shape) : Type 0 where
   defaults : list_all default_passes a.top.rules ≡ true
   valid : is_valid a.top (finished a.top.rules nothing_held) true ≡ true
 
-built_takes_named : (a : App) (name : Text) (s : Shape) (ws : List Text) → IsNamed a name s → level_takes s ws ≡ true → built_takes a nothing_held (name ∷ ws) ≡ true
+built_takes_named : (a : App) (name : Text) (s : Shape) (ws : List Text) → IsLevelNamed a name s → level_takes s ws ≡ true → built_takes a nothing_held (name ∷ ws) ≡ true
 unfolding walk_passes
 built_takes_named a name s ws k h =
     let ends : walk a.top.rules (names_of a) nothing_held (name ∷ ws) ≡ stopped_at name ws =
@@ -64,70 +64,70 @@ built_takes_named a name s ws k h =
     (and_from (settle_passes a.top.rules a.top.args_override_self nothing_held) _ k.settles
     (and_from (list_all default_passes a.top.rules) _ k.defaults valid)))
 
-named_check : IsNamed (built line_app) (codes "check") (below check_app)
+named_check : IsLevelNamed (built line_app) (codes "check") (below check_app)
 unfolding clap_on_literals
 named_check = record { stops = refl; found = refl; passes = refl; settles = refl; defaults = refl; valid = refl }
 
 pub check_level : (ws : List Text) → level_takes (below check_app) ws ≡ true → takes line_app (codes "check" ∷ ws) ≡ true
 check_level ws h = built_takes_named (built line_app) (codes "check") (below check_app) ws named_check h
 
-named_analyse : IsNamed (built line_app) (codes "analyse") (below analyse_app)
+named_analyse : IsLevelNamed (built line_app) (codes "analyse") (below analyse_app)
 unfolding clap_on_literals
 named_analyse = record { stops = refl; found = refl; passes = refl; settles = refl; defaults = refl; valid = refl }
 
 pub analyse_level : (ws : List Text) → level_takes (below analyse_app) ws ≡ true → takes line_app (codes "analyse" ∷ ws) ≡ true
 analyse_level ws h = built_takes_named (built line_app) (codes "analyse") (below analyse_app) ws named_analyse h
 
-named_run : IsNamed (built line_app) (codes "run") (below run_app)
+named_run : IsLevelNamed (built line_app) (codes "run") (below run_app)
 unfolding clap_on_literals
 named_run = record { stops = refl; found = refl; passes = refl; settles = refl; defaults = refl; valid = refl }
 
 pub run_level : (ws : List Text) → level_takes (below run_app) ws ≡ true → takes line_app (codes "run" ∷ ws) ≡ true
 run_level ws h = built_takes_named (built line_app) (codes "run") (below run_app) ws named_run h
 
-named_report : IsNamed (built line_app) (codes "report") (below report_app)
+named_report : IsLevelNamed (built line_app) (codes "report") (below report_app)
 unfolding clap_on_literals
 named_report = record { stops = refl; found = refl; passes = refl; settles = refl; defaults = refl; valid = refl }
 
 pub report_level : (ws : List Text) → level_takes (below report_app) ws ≡ true → takes line_app (codes "report" ∷ ws) ≡ true
 report_level ws h = built_takes_named (built line_app) (codes "report") (below report_app) ws named_report h
 
-named_explain : IsNamed (built line_app) (codes "explain") (below explain_app)
+named_explain : IsLevelNamed (built line_app) (codes "explain") (below explain_app)
 unfolding clap_on_literals
 named_explain = record { stops = refl; found = refl; passes = refl; settles = refl; defaults = refl; valid = refl }
 
 pub explain_level : (ws : List Text) → level_takes (below explain_app) ws ≡ true → takes line_app (codes "explain" ∷ ws) ≡ true
 explain_level ws h = built_takes_named (built line_app) (codes "explain") (below explain_app) ws named_explain h
 
-named_clear : IsNamed (built line_app) (codes "clear") (below clear_app)
+named_clear : IsLevelNamed (built line_app) (codes "clear") (below clear_app)
 unfolding clap_on_literals
 named_clear = record { stops = refl; found = refl; passes = refl; settles = refl; defaults = refl; valid = refl }
 
 pub clear_level : (ws : List Text) → level_takes (below clear_app) ws ≡ true → takes line_app (codes "clear" ∷ ws) ≡ true
 clear_level ws h = built_takes_named (built line_app) (codes "clear") (below clear_app) ws named_clear h
 
-named_premises : IsNamed (built line_app) (codes "premises") (below premises_app)
+named_premises : IsLevelNamed (built line_app) (codes "premises") (below premises_app)
 unfolding clap_on_literals
 named_premises = record { stops = refl; found = refl; passes = refl; settles = refl; defaults = refl; valid = refl }
 
 pub premises_level : (ws : List Text) → level_takes (below premises_app) ws ≡ true → takes line_app (codes "premises" ∷ ws) ≡ true
 premises_level ws h = built_takes_named (built line_app) (codes "premises") (below premises_app) ws named_premises h
 
-named_attain : IsNamed (built line_app) (codes "attain") (below attain_app)
+named_attain : IsLevelNamed (built line_app) (codes "attain") (below attain_app)
 unfolding clap_on_literals
 named_attain = record { stops = refl; found = refl; passes = refl; settles = refl; defaults = refl; valid = refl }
 
 pub attain_level : (ws : List Text) → level_takes (below attain_app) ws ≡ true → takes line_app (codes "attain" ∷ ws) ≡ true
 attain_level ws h = built_takes_named (built line_app) (codes "attain") (below attain_app) ws named_attain h
 
-named_simulate : IsNamed (built line_app) (codes "simulate") (below simulate_app)
+named_simulate : IsLevelNamed (built line_app) (codes "simulate") (below simulate_app)
 unfolding clap_on_literals
 named_simulate = record { stops = refl; found = refl; passes = refl; settles = refl; defaults = refl; valid = refl }
 
 pub simulate_level : (ws : List Text) → level_takes (below simulate_app) ws ≡ true → takes line_app (codes "simulate" ∷ ws) ≡ true
 simulate_level ws h = built_takes_named (built line_app) (codes "simulate") (below simulate_app) ws named_simulate h
 
-named_demo : IsNamed (built line_app) (codes "demo") (below demo_app)
+named_demo : IsLevelNamed (built line_app) (codes "demo") (below demo_app)
 unfolding clap_on_literals
 named_demo = record { stops = refl; found = refl; passes = refl; settles = refl; defaults = refl; valid = refl }
 

@@ -51,14 +51,14 @@ all_words [] = []
 all_words (p ∷ ps) = words_of p ++ all_words ps
 
 -- its text doesn't begin with a hyphen
-abbrev pub IsFit : Piece → Type 0
-IsFit (Named b bs) = (b == 45) ≡ false
-IsFit (Given v b bs) = (b == 45) ≡ false
-IsFit (Marked m) = ⊤
+abbrev pub IsPieceFit : Piece → Type 0
+IsPieceFit (Named b bs) = (b == 45) ≡ false
+IsPieceFit (Given v b bs) = (b == 45) ≡ false
+IsPieceFit (Marked m) = ⊤
 
 abbrev pub AreFit : List Piece → Type 0
 AreFit [] = ⊤
-AreFit (p ∷ ps) = IsFit p × AreFit ps
+AreFit (p ∷ ps) = IsPieceFit p × AreFit ps
 
 abbrev pub with_mark : Mark → Line → Option Line
 with_mark Json line = with_json line
@@ -176,7 +176,7 @@ is_text : (w t : List ℕ) → bytes_eq w t ≡ true → w ≡ t
 is_text w t h = (bytes_eq-Decides w t).0 h
 
 -- one piece at the front
-more : (line next l : Line) (p : Piece) (w vs : List (List ℕ)) → w ≡ words_of p ++ vs → IsFit p → added line p ≡ Some next → Cut next vs l → Cut line w l
+more : (line next l : Line) (p : Piece) (w vs : List (List ℕ)) → w ≡ words_of p ++ vs → IsPieceFit p → added line p ≡ Some next → Cut next vs l → Cut line w l
 more line next l p w vs e fit is c = record {
   pieces = p ∷ c.pieces;
   words = e ∙ ap (λ (xs : List (List ℕ)). words_of p ++ xs) c.words;
@@ -185,13 +185,13 @@ more line next l p w vs e fit is c = record {
 }
 
 -- what is to be had of lines of at most n words
-Cuts : Line → ℕ → Type 0
-Cuts l n = (vs : List (List ℕ)) (line : Line) → line.waits ≡ None → length vs ≤ n → then_words (Some line) vs ≡ Some l → Cut line vs l
+CutsWords : Line → ℕ → Type 0
+CutsWords l n = (vs : List (List ℕ)) (line : Line) → line.waits ≡ None → length vs ≤ n → then_words (Some line) vs ≡ Some l → Cut line vs l
 
-module _ (l : Line) (whole : l.waits ≡ None) (n : ℕ) (go : Cuts l n) where
+module _ (l : Line) (whole : l.waits ≡ None) (n : ℕ) (go : CutsWords l n) where
   -- one piece, and the words behind it
-  cut_piece : (p : Piece) (w vs : List (List ℕ)) (line : Line) → line.waits ≡ None → length vs ≤ n → w ≡ words_of p ++ vs → IsFit p → then_words (added line p) vs ≡ Some l → Cut line w l
-  unfolding Cuts
+  cut_piece : (p : Piece) (w vs : List (List ℕ)) (line : Line) → line.waits ≡ None → length vs ≤ n → w ≡ words_of p ++ vs → IsPieceFit p → then_words (added line p) vs ≡ Some l → Cut line w l
+  unfolding CutsWords
   cut_piece p w vs line rests le is fit e = by (added line p) refl e where
     by : (o : Option Line) → added line p ≡ o → then_words o vs ≡ Some l → Cut line w l
     by None k e = absurd (none_words vs l e)
@@ -267,8 +267,8 @@ module _ (l : Line) (whole : l.waits ≡ None) (n : ℕ) (go : Cuts l n) where
     by true is e = cut_given Assume w ws line rests le (is_text w (codes "--assume") is) e
     by false is e = cut_steps w ws line rests le e
 
-cut : (l : Line) → l.waits ≡ None → (n : ℕ) → Cuts l n
-unfolding Cuts
+cut : (l : Line) → l.waits ≡ None → (n : ℕ) → CutsWords l n
+unfolding CutsWords
 cut l whole zero [] line rests le e = record { pieces = []; words = refl; fit = tt; ends = e }
 cut l whole zero (w ∷ ws) line rests le e = absurd (omega (arith, le))
 cut l whole (suc n) [] line rests le e = record { pieces = []; words = refl; fit = tt; ends = e }
@@ -276,18 +276,18 @@ cut l whole (suc n) (w ∷ ws) line rests le e =
     cut_first l whole n (cut l whole n) w ws line rests (omega (arith, le)) (sym (ap (λ (o : Option Valued). then_words (placed o line w) ws) rests) ∙ e)
 
 pub cut_words : (ws : List (List ℕ)) (line l : Line) → line.waits ≡ None → l.waits ≡ None → then_words (Some line) ws ≡ Some l → Cut line ws l
-unfolding Cuts
+unfolding CutsWords
 cut_words ws line l rests whole e = cut l whole (length ws) ws line rests (omega arith) e
 
 -- ---- what is on the line stays
 
-pub record Stays (line l : Line) : Type 0 where
+pub record StaysGiven (line l : Line) : Type 0 where
   pub first : is_some line.first ≡ true → is_some l.first ≡ true
   pub second : is_some line.second ≡ true → is_some l.second ≡ true
   pub given : (v : Valued) → is_some (value_of v line) ≡ true → is_some (value_of v l) ≡ true
   pub marked : (m : Mark) → is_marked m line ≡ true → is_marked m l ≡ true
 
-itself : (l : Line) → Stays l l
+itself : (l : Line) → StaysGiven l l
 itself l = record { first = λ h. h; second = λ h. h; given = λ v h. h; marked = λ m h. h }
 
 value_stays : (v u : Valued) (line : Line) (word : List ℕ) → is_some (value_of u line) ≡ true → is_some (value_of u (valued v line word)) ≡ true
@@ -321,7 +321,7 @@ same_marks Trials Why line word = refl
 value_marks : (v : Valued) (m : Mark) (line : Line) (word : List ℕ) → is_marked m line ≡ true → is_marked m (valued v line word) ≡ true
 value_marks v m line word h = same_marks v m line word ∙ h
 
-others_stay : (v : Valued) (line : Line) (word : List ℕ) → Stays line (valued v line word)
+others_stay : (v : Valued) (line : Line) (word : List ℕ) → StaysGiven line (valued v line word)
 others_stay Assume line word = record { first = λ h. h; second = λ h. h; given = λ u h. value_stays Assume u line word h; marked = λ m h. value_marks Assume m line word h }
 others_stay Steps line word = record { first = λ h. h; second = λ h. h; given = λ u h. value_stays Steps u line word h; marked = λ m h. value_marks Steps m line word h }
 others_stay Device line word = record { first = λ h. h; second = λ h. h; given = λ u h. value_stays Device u line word h; marked = λ m h. value_marks Device m line word h }
@@ -345,14 +345,14 @@ both_marked Json Why line h = h
 both_marked Why Json line h = h
 both_marked Why Why line h = refl
 
-named_stays : (first second : Option (List ℕ)) (line next : Line) (word : List ℕ) → line.first ≡ first → line.second ≡ second → named first second line word ≡ Some next → Stays line next
-named_stays None second line next word f s e = subst (Stays line) (some_is (record line { first = Some word }) next e) (record {
+named_stays : (first second : Option (List ℕ)) (line next : Line) (word : List ℕ) → line.first ≡ first → line.second ≡ second → named first second line word ≡ Some next → StaysGiven line next
+named_stays None second line next word f s e = subst (StaysGiven line) (some_is (record line { first = Some word }) next e) (record {
   first = λ h. refl;
   second = λ h. h;
   given = λ v h. ap is_some (same_value v line (record line { first = Some word }) refl refl refl refl) ∙ h;
   marked = λ m h. same_mark m line (record line { first = Some word }) refl refl ∙ h;
 })
-named_stays (Some x) None line next word f s e = subst (Stays line) (some_is (record line { second = Some word }) next e) (record {
+named_stays (Some x) None line next word f s e = subst (StaysGiven line) (some_is (record line { second = Some word }) next e) (record {
   first = λ h. h;
   second = λ h. refl;
   given = λ v h. ap is_some (same_value v line (record line { second = Some word }) refl refl refl refl) ∙ h;
@@ -360,7 +360,7 @@ named_stays (Some x) None line next word f s e = subst (Stays line) (some_is (re
 })
 named_stays (Some x) (Some y) line next word f s e = absurd (none-some next e)
 
-marked_stays : (m : Mark) (line : Line) → Stays line (marked m line)
+marked_stays : (m : Mark) (line : Line) → StaysGiven line (marked m line)
 marked_stays Json line = record {
   first = λ h. h;
   second = λ h. h;
@@ -374,12 +374,12 @@ marked_stays Why line = record {
   marked = λ k h. both_marked Why k line h;
 }
 
-stays_one : (line : Line) (p : Piece) (l : Line) → added line p ≡ Some l → Stays line l
+stays_one : (line : Line) (p : Piece) (l : Line) → added line p ≡ Some l → StaysGiven line l
 stays_one line (Named b bs) l e = named_stays line.first line.second line l (b ∷ bs) refl refl e
-stays_one line (Given v b bs) l e = subst (Stays line) (sym (gets v line l (b ∷ bs) e).is) (others_stay v line (b ∷ bs))
-stays_one line (Marked m) l e = subst (Stays line) (sym (marks m line l e).is) (marked_stays m line)
+stays_one line (Given v b bs) l e = subst (StaysGiven line) (sym (gets v line l (b ∷ bs) e).is) (others_stay v line (b ∷ bs))
+stays_one line (Marked m) l e = subst (StaysGiven line) (sym (marks m line l e).is) (marked_stays m line)
 
-through : (a b c : Line) → Stays a b → Stays b c → Stays a c
+through : (a b c : Line) → StaysGiven a b → StaysGiven b c → StaysGiven a c
 through a b c f g = record {
   first = λ h. g.first (f.first h);
   second = λ h. g.second (f.second h);
@@ -387,9 +387,9 @@ through a b c f g = record {
   marked = λ m h. g.marked m (f.marked m h);
 }
 
-pub stays : (ps : List Piece) (line l : Line) → all_added (Some line) ps ≡ Some l → Stays line l
-stays [] line l e = subst (Stays line) (some_is line l e) (itself line)
+pub stays : (ps : List Piece) (line l : Line) → all_added (Some line) ps ≡ Some l → StaysGiven line l
+stays [] line l e = subst (StaysGiven line) (some_is line l e) (itself line)
 stays (p ∷ ps) line l e = by (λ next. stays ps next l) (added line p) refl e where
-  by : ((next : Line) → all_added (Some next) ps ≡ Some l → Stays next l) → (o : Option Line) → added line p ≡ o → all_added o ps ≡ Some l → Stays line l
+  by : ((next : Line) → all_added (Some next) ps ≡ Some l → StaysGiven next l) → (o : Option Line) → added line p ≡ o → all_added o ps ≡ Some l → StaysGiven line l
   by later None is e = absurd (none-some l e)
   by later (Some next) is e = through line next l (stays_one line p next is) (later next e)

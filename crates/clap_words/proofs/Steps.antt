@@ -56,11 +56,11 @@ goes s h i (Marked m ∷ ps) = flag_goes s h (arg_by_long s.rules (mark_name m))
 
 -- ---- words
 
-record Taken (s : Shape) (w : Walk) (ws : List Text) : Type 0 where
+record TakenWords (s : Shape) (w : Walk) (ws : List Text) : Type 0 where
   passes : walk_passes s [] w ws ≡ true
   ends : final s (fold (walked s.rules []) w ws).held ≡ true
 
-step : (s : Shape) (w after_word : Walk) (word : Text) (ws : List Text) → turn_passes s [] w word ≡ true → walked s.rules [] w word ≡ after_word → Taken s after_word ws → Taken s w (word ∷ ws)
+step : (s : Shape) (w after_word : Walk) (word : Text) (ws : List Text) → turn_passes s [] w word ≡ true → walked s.rules [] w word ≡ after_word → TakenWords s after_word ws → TakenWords s w (word ∷ ws)
 unfolding walk_passes
 step s w after_word word ws turn e k = record {
   passes = and_from (turn_passes s [] w word) _ turn (ap (λ (x : Walk). walk_passes s [] x ws) e ∙ k.passes);
@@ -182,10 +182,10 @@ flag_walked s h i word name a d l is v =
 
 -- ---- pieces are taken
 
-take_name : (s : Shape) (h : Held) (i b : ℕ) (bs : List ℕ) (ws : List Text) (go : Held → ℕ → Bool) → ((k : Held) (j : ℕ) → go k j ≡ true → Taken s (at k idle j) ws) → (b == 45) ≡ false
-    → name_goes s h i (b ∷ bs) (arg_by_index s.rules i) go ≡ true → Taken s (at h idle i) ((b ∷ bs) ∷ ws)
+take_name : (s : Shape) (h : Held) (i b : ℕ) (bs : List ℕ) (ws : List Text) (go : Held → ℕ → Bool) → ((k : Held) (j : ℕ) → go k j ≡ true → TakenWords s (at k idle j) ws) → (b == 45) ≡ false
+    → name_goes s h i (b ∷ bs) (arg_by_index s.rules i) go ≡ true → TakenWords s (at h idle i) ((b ∷ bs) ∷ ws)
 take_name s h i b bs ws go later n e = by (arg_by_index s.rules i) refl e where
-  by : (o : Option Rule) → arg_by_index s.rules i ≡ o → name_goes s h i (b ∷ bs) o go ≡ true → Taken s (at h idle i) ((b ∷ bs) ∷ ws)
+  by : (o : Option Rule) → arg_by_index s.rules i ≡ o → name_goes s h i (b ∷ bs) o go ≡ true → TakenWords s (at h idle i) ((b ∷ bs) ∷ ws)
   by None is e = absurd (cc)
   by (Some a) is e =
       let p = and_parts (positional_passes s.rules s.args_override_self a h) _ e in
@@ -198,10 +198,10 @@ take_name s h i b bs ws go later n e = by (arg_by_index s.rules i) refl e where
       (not-true (is_multiple a) q.0) (not-true a.trailing_var_arg r.0))
       (later (positional_held s.rules a (b ∷ bs) h) (next_position a i) r.1)
 
-take_value : (s : Shape) (h : Held) (id : Text) (i b : ℕ) (bs : List ℕ) (ws : List Text) (go : Held → Bool) → ((k : Held) → go k ≡ true → Taken s (at k idle i) ws) → (b == 45) ≡ false
-    → value_goes h id (b ∷ bs) (arg_by_id s.rules id) go ≡ true → Taken s (at h (option id) i) ((b ∷ bs) ∷ ws)
+take_value : (s : Shape) (h : Held) (id : Text) (i b : ℕ) (bs : List ℕ) (ws : List Text) (go : Held → Bool) → ((k : Held) → go k ≡ true → TakenWords s (at k idle i) ws) → (b == 45) ≡ false
+    → value_goes h id (b ∷ bs) (arg_by_id s.rules id) go ≡ true → TakenWords s (at h (option id) i) ((b ∷ bs) ∷ ws)
 take_value s h id i b bs ws go later n e = by (arg_by_id s.rules id) refl e where
-  by : (o : Option Rule) → arg_by_id s.rules id ≡ o → value_goes h id (b ∷ bs) o go ≡ true → Taken s (at h (option id) i) ((b ∷ bs) ∷ ws)
+  by : (o : Option Rule) → arg_by_id s.rules id ≡ o → value_goes h id (b ∷ bs) o go ≡ true → TakenWords s (at h (option id) i) ((b ∷ bs) ∷ ws)
   by None is e = absurd (cc)
   by (Some a) is e =
       let p = and_parts (not (nat_lt (pending_count a (pushed id (b ∷ bs) h).pending) (most_values a))) _ e in
@@ -210,10 +210,10 @@ take_value s h id i b bs ws go later n e = by (arg_by_id s.rules id) refl e wher
       ∙ ap (λ (t : Bool). at (pushed id (b ∷ bs) h) (if t then option id else idle) i) (not-true (nat_lt (pending_count a (pushed id (b ∷ bs) h).pending) (most_values a)) p.0))
       (later (pushed id (b ∷ bs) h) p.1)
 
-take_option : (s : Shape) (h : Held) (word name : Text) (i b : ℕ) (bs : List ℕ) (ws : List Text) (go : Held → Bool) → ((k : Held) → go k ≡ true → Taken s (at k idle i) ws) → (b == 45) ≡ false
-    → bytes_eq word dashes ≡ false → long_of word ≡ Some (name, None) → option_goes s h (b ∷ bs) (arg_by_long s.rules name) go ≡ true → Taken s (at h idle i) (word ∷ (b ∷ bs) ∷ ws)
+take_option : (s : Shape) (h : Held) (word name : Text) (i b : ℕ) (bs : List ℕ) (ws : List Text) (go : Held → Bool) → ((k : Held) → go k ≡ true → TakenWords s (at k idle i) ws) → (b == 45) ≡ false
+    → bytes_eq word dashes ≡ false → long_of word ≡ Some (name, None) → option_goes s h (b ∷ bs) (arg_by_long s.rules name) go ≡ true → TakenWords s (at h idle i) (word ∷ (b ∷ bs) ∷ ws)
 take_option s h word name i b bs ws go later n d l e = by (arg_by_long s.rules name) refl e where
-  by : (o : Option Rule) → arg_by_long s.rules name ≡ o → option_goes s h (b ∷ bs) o go ≡ true → Taken s (at h idle i) (word ∷ (b ∷ bs) ∷ ws)
+  by : (o : Option Rule) → arg_by_long s.rules name ≡ o → option_goes s h (b ∷ bs) o go ≡ true → TakenWords s (at h idle i) (word ∷ (b ∷ bs) ∷ ws)
   by None is e = absurd (cc)
   by (Some a) is e =
       let p = and_parts (takes_values a) _ e in
@@ -221,10 +221,10 @@ take_option s h word name i b bs ws go later n d l e = by (arg_by_long s.rules n
       step s (at h idle i) (at (begun s.rules a h) (option a.id) i) word ((b ∷ bs) ∷ ws) (option_turn s h i word name a d l is p.0 q.0) (option_walked s h i word name a d l is p.0)
       (take_value s (begun s.rules a h) a.id i b bs ws go later n q.1)
 
-take_flag : (s : Shape) (h : Held) (word name : Text) (i : ℕ) (ws : List Text) (go : Held → Bool) → ((k : Held) → go k ≡ true → Taken s (at k idle i) ws)
-    → bytes_eq word dashes ≡ false → long_of word ≡ Some (name, None) → flag_goes s h (arg_by_long s.rules name) go ≡ true → Taken s (at h idle i) (word ∷ ws)
+take_flag : (s : Shape) (h : Held) (word name : Text) (i : ℕ) (ws : List Text) (go : Held → Bool) → ((k : Held) → go k ≡ true → TakenWords s (at k idle i) ws)
+    → bytes_eq word dashes ≡ false → long_of word ≡ Some (name, None) → flag_goes s h (arg_by_long s.rules name) go ≡ true → TakenWords s (at h idle i) (word ∷ ws)
 take_flag s h word name i ws go later d l e = by (arg_by_long s.rules name) refl e where
-  by : (o : Option Rule) → arg_by_long s.rules name ≡ o → flag_goes s h o go ≡ true → Taken s (at h idle i) (word ∷ ws)
+  by : (o : Option Rule) → arg_by_long s.rules name ≡ o → flag_goes s h o go ≡ true → TakenWords s (at h idle i) (word ∷ ws)
   by None is e = absurd (cc)
   by (Some a) is e =
       let p = and_parts (not (takes_values a)) _ e in
@@ -255,7 +255,7 @@ mark_long : (m : Mark) → long_of (mark_spelled m) ≡ Some (mark_name m, None)
 mark_long Json = refl
 mark_long Why = refl
 
-take_pieces : (s : Shape) (h : Held) (i : ℕ) (ps : List Piece) → AreFit ps → goes s h i ps ≡ true → Taken s (at h idle i) (all_words ps)
+take_pieces : (s : Shape) (h : Held) (i : ℕ) (ps : List Piece) → AreFit ps → goes s h i ps ≡ true → TakenWords s (at h idle i) (all_words ps)
 unfolding goes walk_passes dashes
 take_pieces s h i [] fit e = record { passes = refl; ends = e }
 take_pieces s h i (Named b bs ∷ ps) fit e = take_name s h i b bs (all_words ps) (λ k j. goes s k j ps) (λ k j. take_pieces s k j ps fit.1) fit.0 e

@@ -2,22 +2,22 @@
 use Rattle.std.proofs.Common.{◌≡◌, ◌≤◌, ◌<◌, ◌-◌, List, [], ◌∷◌, length, get_or, drop, take, take_all, ap, ◌∙◌, refl, arith}
 use Rattle.std.specs.Borrow.{Bor}
 use Rattle.clap.specs.Words.{App, Text, new_app, with_rule, with_subcommand}
-use Rattle.clap_words.specs.declared.line.Kind.{Kind}
+use Rattle.clap_words.specs.declared.line.ArgumentKind.{ArgumentKind}
 use Rattle.clap_words.specs.Lines.{rule_by, with_rules, with_commands}
 
 -- an argument
-abbrev pub Named : Type 0
-Named = Bor Text × Kind
+abbrev pub NamedArgument : Type 0
+NamedArgument = Bor Text × ArgumentKind
 
 -- a command with its arguments
 abbrev pub Listed : Type 0
-Listed = Bor Text × Bor (List Named)
+Listed = Bor Text × Bor (List NamedArgument)
 
-pub no_args : (xs : List Named) (app : App) → length xs < 1 → app ≡ with_rules app xs
+pub no_args : (xs : List NamedArgument) (app : App) → length xs < 1 → app ≡ with_rules app xs
 no_args [] app none = refl
 no_args (x ∷ xs) app none = absurd (omega (arith, none))
 
-pub first_arg : (xs : List Named) (other : Named) (app grown : App) → 1 ≤ length xs → grown ≡ with_rule app (rule_by (get_or xs 0 other).1 (get_or xs 0 other).0.now)
+pub first_arg : (xs : List NamedArgument) (other : NamedArgument) (app grown : App) → 1 ≤ length xs → grown ≡ with_rule app (rule_by (get_or xs 0 other).1 (get_or xs 0 other).0.now)
     → with_rules grown (take (length xs - 1) (drop 1 xs)) ≡ with_rules app xs
 first_arg [] other app grown some e = absurd (omega (arith, some))
 first_arg (x ∷ xs) other app grown some e = ap (with_rules grown) (take_all (length (x ∷ xs) - 1) xs (omega arith)) ∙ ap (λ (y : App). with_rules y xs) e

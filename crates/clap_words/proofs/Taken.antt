@@ -19,7 +19,7 @@ use Rattle.clap_words.specs.Lines.{judging_app, analyse_app, report_app, clear_a
 use Rattle.clap_words.proofs.Levels.{below, level_takes, check_level, analyse_level, run_level, report_level, explain_level, clear_level, premises_level, attain_level, simulate_level, demo_level}
 use Rattle.clap_words.proofs.Pieces.{Piece, Named, Given, Marked, Mark, Json, Why, option_name, spelled, mark_name, mark_spelled, value_of, is_marked, all_words, AreFit, Cut, cut_words}
 use Rattle.clap_words.proofs.Steps.{level_goes}
-use Rattle.clap_words.proofs.Going.{IsOption, IsFlag, Allows, IsLevel, IsWanted, Shows, goes_on}
+use Rattle.clap_words.proofs.Going.{IsOption, IsFlag, AllowsWords, IsWordLevel, IsWanted, ShowsRows, goes_on}
 
 -- ---- what each command has
 
@@ -61,28 +61,28 @@ abbrev why_mark : Mark → Bool
 why_mark Json = false
 why_mark Why = true
 
-abbrev judging : Allows
+abbrev judging : AllowsWords
 judging = record { second = true; given = two_options; marked = no_marks }
 
-abbrev reporting : Allows
+abbrev reporting : AllowsWords
 reporting = record { second = true; given = two_options; marked = json_mark }
 
-abbrev telling : Allows
+abbrev telling : AllowsWords
 telling = record { second = true; given = two_options; marked = why_mark }
 
-abbrev analysing : Allows
+abbrev analysing : AllowsWords
 analysing = record { second = false; given = step_options; marked = no_marks }
 
-abbrev attains : Allows
+abbrev attains : AllowsWords
 attains = record { second = true; given = trial_options; marked = no_marks }
 
-abbrev simulating : Allows
+abbrev simulating : AllowsWords
 simulating = record { second = true; given = step_options; marked = no_marks }
 
-abbrev clearing : Allows
+abbrev clearing : AllowsWords
 clearing = record { second = true; given = device_option; marked = no_marks }
 
-abbrev measuring : Allows
+abbrev measuring : AllowsWords
 measuring = record { second = false; given = no_options; marked = no_marks }
 
 -- ---- and so does its level
@@ -147,7 +147,7 @@ judging_options n Device e =
     }
 judging_options n Trials e = absurd (no_value e)
 
-judging_has : (n : Text) → IsLevel (below (judging_app n)) judging (codes "firmware")
+judging_has : (n : Text) → IsWordLevel (below (judging_app n)) judging (codes "firmware")
 unfolding clap_on_literals
 judging_has n =
     let a : Rule = name_at (below (judging_app n)) 1 in
@@ -219,7 +219,7 @@ report_marks Json e =
     }
 report_marks Why e = absurd (no_value e)
 
-report_has : IsLevel (below report_app) reporting (codes "firmware")
+report_has : IsWordLevel (below report_app) reporting (codes "firmware")
 unfolding clap_on_literals
 report_has =
     let a : Rule = name_at (below report_app) 1 in
@@ -291,7 +291,7 @@ premises_marks Why e =
       adds = λ rows. refl;
     }
 
-premises_has : IsLevel (below premises_app) telling (codes "firmware")
+premises_has : IsWordLevel (below premises_app) telling (codes "firmware")
 unfolding clap_on_literals
 premises_has =
     let a : Rule = name_at (below premises_app) 1 in
@@ -356,7 +356,7 @@ analyse_options Device e =
     }
 analyse_options Trials e = absurd (no_value e)
 
-analyse_has : IsLevel (below analyse_app) analysing (codes "firmware")
+analyse_has : IsWordLevel (below analyse_app) analysing (codes "firmware")
 unfolding clap_on_literals
 analyse_has =
     let a : Rule = name_at (below analyse_app) 1 in
@@ -412,7 +412,7 @@ simulate_options Device e =
     }
 simulate_options Trials e = absurd (no_value e)
 
-simulate_has : IsLevel (below simulate_app) simulating (codes "firmware")
+simulate_has : IsWordLevel (below simulate_app) simulating (codes "firmware")
 unfolding clap_on_literals
 simulate_has =
     let a : Rule = name_at (below simulate_app) 1 in
@@ -477,7 +477,7 @@ attain_options Trials e =
       one = λ word. refl;
     }
 
-attain_has : IsLevel (below attain_app) attains (codes "firmware")
+attain_has : IsWordLevel (below attain_app) attains (codes "firmware")
 unfolding clap_on_literals
 attain_has =
     let a : Rule = name_at (below attain_app) 1 in
@@ -526,7 +526,7 @@ clear_options Device e =
     }
 clear_options Trials e = absurd (no_value e)
 
-clear_has : IsLevel (below clear_app) clearing (codes "firmware")
+clear_has : IsWordLevel (below clear_app) clearing (codes "firmware")
 unfolding clap_on_literals
 clear_has =
     let a : Rule = name_at (below clear_app) 1 in
@@ -560,7 +560,7 @@ clear_has =
       of_marked = firmware_unmarked;
     }
 
-demo_has : IsLevel (below demo_app) measuring (codes "size")
+demo_has : IsWordLevel (below demo_app) measuring (codes "size")
 unfolding clap_on_literals
 demo_has =
     let a : Rule = name_at (below demo_app) 1 in
@@ -775,7 +775,7 @@ pieces_free (Given v b bs ∷ ps) fit =
     ap₂ (λ (x y : Bool). x || y) (option_free v) (ap₂ (λ (x y : Bool). x || y) (text_free b bs fit.0) (pieces_free ps fit.1))
 pieces_free (Marked m ∷ ps) fit = ap₂ (λ (x y : Bool). x || y) (mark_free m) (pieces_free ps fit.1)
 
-shows_nothing : (id : Text) → Shows id empty_line []
+shows_nothing : (id : Text) → ShowsRows id empty_line []
 shows_nothing id = record { first = refl; second = refl; given = none; marked = no_mark; explicit = refl; order = λ h. h } where
   no_mark : (m : Mark) → false ≡ is_marked m empty_line
   no_mark Json = refl
@@ -787,7 +787,7 @@ shows_nothing id = record { first = refl; second = refl; given = none; marked = 
   none Device = refl
   none Trials = refl
 
-good : (name : Text) (s : Shape) (w : Allows) (id : Text) → IsLevel s w id → ((ws : List Text) → level_takes s ws ≡ true → takes line_app (name ∷ ws) ≡ true)
+good : (name : Text) (s : Shape) (w : AllowsWords) (id : Text) → IsWordLevel s w id → ((ws : List Text) → level_takes s ws ≡ true → takes line_app (name ∷ ws) ≡ true)
     → is_refused name ≡ false → (word : Text) (words : List Text) (l : Line) → l.waits ≡ None → then_words (Some empty_line) words ≡ Some l → bytes_eq word name ≡ true → IsWanted w l → IsGood (word ∷ words)
 good name s w id level takes_at plain word words l waits e is n =
     let c : Cut empty_line words l = cut_words words empty_line l refl waits e in

@@ -6,8 +6,8 @@ use Rattle.clap.specs.Words.{App, Rule, Text, new_app, new_rule, with_rule, with
 use Rattle.clap.specs.Simple.{new_shape}
 use Rattle.clap.specs.declared.builder.action.ArgAction.TheVariants.{SetTrue}
 use Rattle.commands.specs.Commands.{is_name}
-use Rattle.clap_words.specs.declared.line.Kind.{Kind}
-use Rattle.clap_words.specs.declared.line.Kind.TheVariants.{Name, Value, Flag}
+use Rattle.clap_words.specs.declared.line.ArgumentKind.{ArgumentKind}
+use Rattle.clap_words.specs.declared.line.ArgumentKind.TheVariants.{Name, Value, Flag}
 
 -- ---- what clap knows
 
@@ -90,18 +90,18 @@ bare_app = record {
 -- ---- the same, made of a table
 
 -- an argument of a kind
-abbrev pub rule_by : Kind → Text → Rule
+abbrev pub rule_by : ArgumentKind → Text → Rule
 rule_by Name id = name_rule id
 rule_by Value id = value_rule id
 rule_by Flag id = flag_rule id
 
 -- the command with these arguments
-abbrev pub with_rules : App → List (Bor Text × Kind) → App
+abbrev pub with_rules : App → List (Bor Text × ArgumentKind) → App
 with_rules app [] = app
 with_rules app (a ∷ rest) = with_rules (with_rule app (rule_by a.1 a.0.now)) rest
 
 -- the program with these commands, each with its arguments
-abbrev pub with_commands : App → List (Bor Text × Bor (List (Bor Text × Kind))) → App
+abbrev pub with_commands : App → List (Bor Text × Bor (List (Bor Text × ArgumentKind))) → App
 with_commands app [] = app
 with_commands app (c ∷ rest) = with_commands (with_subcommand app (with_rules (new_app c.0.now) c.1.now).top) rest
 

@@ -9,7 +9,7 @@ use clap::{Arg, ArgAction, Command};
 use std::alloc::{AllocError, Global};
 
 // What an argument is.
-pub(crate) enum Kind {
+pub(crate) enum ArgumentKind {
     // A name that has to stand there.
     Name,
     // An option that takes the next word.
@@ -18,48 +18,60 @@ pub(crate) enum Kind {
     Flag,
 }
 
-const FIRMWARE: (&str, Kind) = ("firmware", Kind::Name);
+const FIRMWARE: (&str, ArgumentKind) = ("firmware", ArgumentKind::Name);
 
-const SECOND: (&str, Kind) = ("second", Kind::Name);
+const SECOND: (&str, ArgumentKind) = ("second", ArgumentKind::Name);
 
-const ASSUME: (&str, Kind) = ("assume", Kind::Value);
+const ASSUME: (&str, ArgumentKind) = ("assume", ArgumentKind::Value);
 
-const DEVICE: (&str, Kind) = ("device", Kind::Value);
+const DEVICE: (&str, ArgumentKind) = ("device", ArgumentKind::Value);
 
-const STEPS: (&str, Kind) = ("steps", Kind::Value);
+const STEPS: (&str, ArgumentKind) = ("steps", ArgumentKind::Value);
 
-const TRIALS: (&str, Kind) = ("trials", Kind::Value);
+const TRIALS: (&str, ArgumentKind) = ("trials", ArgumentKind::Value);
 
 // The commands, each with its arguments in their order.
-static COMMANDS: [(&str, &[(&str, Kind)]); 10] = [
+static COMMANDS: [(&str, &[(&str, ArgumentKind)]); 10] = [
     ("check", &[FIRMWARE, SECOND, ASSUME, DEVICE]),
     ("analyse", &[FIRMWARE, ASSUME, DEVICE, STEPS]),
     ("run", &[FIRMWARE, SECOND, ASSUME, DEVICE]),
     (
         "report",
-        &[FIRMWARE, SECOND, ASSUME, DEVICE, ("json", Kind::Flag)],
+        &[
+            FIRMWARE,
+            SECOND,
+            ASSUME,
+            DEVICE,
+            ("json", ArgumentKind::Flag),
+        ],
     ),
     ("explain", &[FIRMWARE, SECOND, ASSUME, DEVICE]),
     ("clear", &[FIRMWARE, SECOND, DEVICE]),
     (
         "premises",
-        &[FIRMWARE, SECOND, ASSUME, DEVICE, ("why", Kind::Flag)],
+        &[
+            FIRMWARE,
+            SECOND,
+            ASSUME,
+            DEVICE,
+            ("why", ArgumentKind::Flag),
+        ],
     ),
     ("attain", &[FIRMWARE, SECOND, ASSUME, DEVICE, TRIALS]),
     ("simulate", &[FIRMWARE, SECOND, ASSUME, DEVICE, STEPS]),
-    ("demo", &[("size", Kind::Name)]),
+    ("demo", &[("size", ArgumentKind::Name)]),
 ];
 
 // The argument of this name.
-fn arg_of<'a>(alloc: Global, id: &'a str, kind: &Kind) -> Arg<'a>
+fn arg_of<'a>(alloc: Global, id: &'a str, kind: &ArgumentKind) -> Arg<'a>
     ensures rule { rule_of result ≡ rule_by kind.now id.entry.now }
     ensures local { result.global ≡ false }
 {
     let arg = Arg::new(alloc, id);
     match kind {
-        Kind::Name => arg.required(true),
-        Kind::Value => arg.long(id),
-        Kind::Flag => arg.long(id).action(ArgAction::SetTrue),
+        ArgumentKind::Name => arg.required(true),
+        ArgumentKind::Value => arg.long(id),
+        ArgumentKind::Flag => arg.long(id).action(ArgAction::SetTrue),
     }
 }
 
@@ -67,7 +79,7 @@ fn arg_of<'a>(alloc: Global, id: &'a str, kind: &Kind) -> Arg<'a>
 fn with_args<'a>(
     alloc: Global,
     command: Command<'a>,
-    args: &[(&'a str, Kind)],
+    args: &[(&'a str, ArgumentKind)],
 ) -> Result<Command<'a>, AllocError>
     requires { (fields_of command).has_globals ≡ false }
     ensures app { IfOk result (λ c. app_of c ≡ with_rules (app_of command.entry) args.now) }
@@ -83,7 +95,7 @@ fn with_args<'a>(
 fn with_commands<'a>(
     alloc: Global,
     program: Command<'a>,
-    commands: &[(&'a str, &[(&'a str, Kind)])],
+    commands: &[(&'a str, &[(&'a str, ArgumentKind)])],
 ) -> Result<Command<'a>, AllocError>
     ensures { (app : App) → app_of program.entry ≡ app → IfOk result (λ c. app_of c ≡ with_commands app commands.now) }
 {

@@ -43,13 +43,13 @@ use Rattle.clear_laws.specs.Aims.reach as reach
 
 -- ---- the least and the greatest number that passes a test
 
-abbrev IsLow : Option ℕ → ℕ → Type 0
-IsLow None x = ⊥
-IsLow (Some a) x = a ≤ x
+abbrev IsLowByte : Option ℕ → ℕ → Type 0
+IsLowByte None x = ⊥
+IsLowByte (Some a) x = a ≤ x
 
-abbrev IsHigh : Option ℕ → ℕ → Type 0
-IsHigh None x = ⊥
-IsHigh (Some a) x = x ≤ a
+abbrev IsHighByte : Option ℕ → ℕ → Type 0
+IsHighByte None x = ⊥
+IsHighByte (Some a) x = x ≤ a
 
 least_small : (p : ℕ → Bool) (n a : ℕ) → least_below p n ≡ Some a → a < n
 unfolding least_below
@@ -61,7 +61,7 @@ least_small p (suc n) a e = by (least_below p n) (p n) (least_small p n) e
     by None true small e = let same : n ≡ a = cc in omega (arith, same)
     by None false small e = absurd (cc)
 
-least_at : (p : ℕ → Bool) (n x : ℕ) → x < n → p x ≡ true → IsLow (least_below p n) x
+least_at : (p : ℕ → Bool) (n x : ℕ) → x < n → p x ≡ true → IsLowByte (least_below p n) x
 unfolding least_below
 least_at p zero x lt h = absurd (omega (arith, lt))
 least_at p (suc n) x lt h =
@@ -70,21 +70,21 @@ least_at p (suc n) x lt h =
     let same : n ≡ x = omega (arith, lt, over) in
     last (least_below p n) (p n) (least_small p n) (ap p same ∙ h) same) (cases_lt x n)
   where
-    kept : (o : Option ℕ) (b : Bool) → IsLow o x → IsLow (or_number o b n) x
+    kept : (o : Option ℕ) (b : Bool) → IsLowByte o x → IsLowByte (or_number o b n) x
     kept (Some a) b h = h
     kept None b h = absurd h
 
-    last : (o : Option ℕ) (b : Bool) → ((a : ℕ) → o ≡ Some a → a < n) → b ≡ true → n ≡ x → IsLow (or_number o b n) x
+    last : (o : Option ℕ) (b : Bool) → ((a : ℕ) → o ≡ Some a → a < n) → b ≡ true → n ≡ x → IsLowByte (or_number o b n) x
     last (Some a) b small t same = let lt = small a refl in omega (arith, lt, same)
     last None true small t same = omega (arith, same)
     last None false small t same = absurd (cc)
 
-greatest_at : (p : ℕ → Bool) (n x : ℕ) → x < n → p x ≡ true → IsHigh (greatest_below p n) x
+greatest_at : (p : ℕ → Bool) (n x : ℕ) → x < n → p x ≡ true → IsHighByte (greatest_below p n) x
 unfolding greatest_below
 greatest_at p zero x lt h = absurd (omega (arith, lt))
 greatest_at p (suc n) x lt h = by (greatest_at p n x) (p n) refl
   where
-    by : (x < n → p x ≡ true → IsHigh (greatest_below p n) x) → (b : Bool) → p n ≡ b → IsHigh (if b then Some n else greatest_below p n) x
+    by : (x < n → p x ≡ true → IsHighByte (greatest_below p n) x) → (b : Bool) → p n ≡ b → IsHighByte (if b then Some n else greatest_below p n) x
     by before true is = omega (arith, lt)
     by before false is =
         ⊎_elim (λ less. before less h)
@@ -99,26 +99,26 @@ may_stand o v x stands =
     all_three _ _ _ ((tests_tell_members.bytes v.bits x).1 stands.bits) low high
 
 -- the address is within the span
-pub record IsWithin (span : Span) (a : ℕ) : Type 0 where
+pub record IsInSpan (span : Span) (a : ℕ) : Type 0 where
   pub first : span.first ≤ a
   pub last : a ≤ span.last
 
 abbrev IsSpanned : Option Span → ℕ → Type 0
 IsSpanned None a = ⊥
-IsSpanned (Some span) a = IsWithin span a
+IsSpanned (Some span) a = IsInSpan span a
 
 -- the address is one that a store may reach
-abbrev pub IsReached : Reach → ℕ → Type 0
-IsReached reach.Nothing a = ⊥
-IsReached (reach.Within span) a = IsWithin span a
-IsReached reach.Beyond a = ⊤
+abbrev pub IsStoreReached : Reach → ℕ → Type 0
+IsStoreReached reach.Nothing a = ⊥
+IsStoreReached (reach.Within span) a = IsInSpan span a
+IsStoreReached reach.Beyond a = ⊤
 
 -- what an aim says of an address
 pub record IsAimed (base : ℕ) (aim : Aim) (a : ℕ) : Type 0 where
-  pub reach : IsReached aim.reach a
+  pub reach : IsStoreReached aim.reach a
   pub slot : (d : ℕ) → aim.slot ≡ Some d → a ≡ minus16 base d
 
-spans : (a b c d : Option ℕ) (x y : ℕ) → IsLow a x → IsLow b y → IsHigh c x → IsHigh d y → IsSpanned (spanning a b c d) (x + 256 * y)
+spans : (a b c d : Option ℕ) (x y : ℕ) → IsLowByte a x → IsLowByte b y → IsHighByte c x → IsHighByte d y → IsSpanned (spanning a b c d) (x + 256 * y)
 spans (Some a) (Some b) (Some c) (Some d) x y h g i j = record { first = omega (arith, h, g); last = omega (arith, i, j) }
 spans None b c d x y h g i j = absurd h
 spans (Some a) None c d x y h g i j = absurd g
@@ -127,23 +127,23 @@ spans (Some a) (Some b) (Some c) None x y h g i j = absurd j
 
 -- ---- with a number added, or 1 taken off
 
-raised_reached : (span : Option Span) (q p : ℕ) → IsSpanned span p → IsReached (raised span q) (plus16 p q)
+raised_reached : (span : Option Span) (q p : ℕ) → IsSpanned span p → IsStoreReached (raised span q) (plus16 p q)
 raised_reached None q p h = absurd h
 raised_reached (Some span) q p h = by (nat_lt (span.first + q) 65536 && nat_lt (span.last + q) 65536) refl
   where
     by : (b : Bool) → (nat_lt (span.first + q) 65536 && nat_lt (span.last + q) 65536) ≡ b
-        → IsReached (if b then reach.Within (record { first = span.first + q; last = span.last + q }) else reach.Beyond) (plus16 p q)
+        → IsStoreReached (if b then reach.Within (record { first = span.first + q; last = span.last + q }) else reach.Beyond) (plus16 p q)
     by true is =
         let fits : span.last + q < 65536 = grind (arith, nat_tests) in
         record { first = omega (arith, h.first, h.last, fits); last = omega (arith, h.last, fits) }
     by false is = tt
 
-lowered_reached : (span : Option Span) (p : ℕ) → p < 65536 → IsSpanned span p → IsReached (lowered span) (minus16 p 1)
+lowered_reached : (span : Option Span) (p : ℕ) → p < 65536 → IsSpanned span p → IsStoreReached (lowered span) (minus16 p 1)
 lowered_reached None p small h = absurd h
 lowered_reached (Some span) p small h = by (nat_le 1 span.first && nat_le 1 span.last) refl
   where
     by : (b : Bool) → (nat_le 1 span.first && nat_le 1 span.last) ≡ b
-        → IsReached (if b then reach.Within (record { first = span.first - 1; last = span.last - 1 }) else reach.Beyond) (minus16 p 1)
+        → IsStoreReached (if b then reach.Within (record { first = span.first - 1; last = span.last - 1 }) else reach.Beyond) (minus16 p 1)
     by true is =
         let fits : 1 ≤ span.first = grind (arith, nat_tests) in
         record { first = omega (arith, h.first, h.last, fits, small); last = omega (arith, h.first, h.last, fits, small) }
@@ -208,10 +208,10 @@ module _ {followed : Bool} (m : State) (o : Origin) (k : NodeKey) (s : AbsState)
   stands : (r : ℕ) → r < 32 → ByteStands o (value s r) (register m r)
   stands r lt = at.stands.registers r lt
 
-  first_at : (r : ℕ) → r < 32 → IsLow (first_byte (value s r)) (register m r)
+  first_at : (r : ℕ) → r < 32 → IsLowByte (first_byte (value s r)) (register m r)
   first_at r lt = let here = stands r lt in least_at (may_be (value s r)) 256 (register m r) here.small (may_stand o (value s r) (register m r) here)
 
-  last_at : (r : ℕ) → r < 32 → IsHigh (last_byte (value s r)) (register m r)
+  last_at : (r : ℕ) → r < 32 → IsHighByte (last_byte (value s r)) (register m r)
   last_at r lt = let here = stands r lt in greatest_at (may_be (value s r)) 256 (register m r) here.small (may_stand o (value s r) (register m r) here)
 
   module _ (r : ℕ) (there : r + 1 < 32) where

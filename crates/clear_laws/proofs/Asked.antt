@@ -4,7 +4,7 @@ use Rattle.std.proofs.lemmas.Bool.{both_ways, not-false}
 use Rattle.basics.specs.Numbers.{equals_itself}
 use Rattle.avr_model.specs.declared.assumption.Entry.{Entry}
 use Rattle.local_rules.specs.declared.local.Node.{Node}
-use Rattle.edge_rules.specs.Families.{Family}
+use Rattle.edge_rules.specs.Families.{RankedFamily}
 use Rattle.clear_laws.specs.Clear.{IsClear, is_clear}
 use Rattle.clear_laws.specs.Held.{MayHold}
 use Rattle.clear_laws.proofs.Told.{clear_nodes_are_told}
@@ -19,7 +19,7 @@ same_as d x h = eqb-true x d h
 
 -- ---- one node
 
-module _ (words : List ℕ) (A : List Entry) (f : Family) (n : Node) where
+module _ (words : List ℕ) (A : List Entry) (f : RankedFamily) (n : Node) where
   abbrev Holding : ℕ → Type 0
   Holding d = MayHold words A f.nodes n.key d
 

@@ -6,12 +6,12 @@ use Rattle.avr_model.specs.State.{Memory}
 use Rattle.sp_domain.specs.Tags.{Origin}
 use Rattle.mask_states.specs.declared.keys.InstKey.{InstKey}
 use Rattle.mask_states.specs.Keys.{offset_of}
-use Rattle.edge_rules.specs.Families.{Family, IsSound}
+use Rattle.edge_rules.specs.Families.{RankedFamily, IsSoundFamily}
 use Rattle.edge_rules.specs.Frames.{Frame, AreLeft}
 
-module _ (words : List ℕ) (A : List Entry) (f : Family) (memory : Memory) where
+module _ (words : List ℕ) (A : List Entry) (f : RankedFamily) (memory : Memory) where
   -- what the frames above a base take, and what its instance needs, is within the bound
-  pub within : IsSound words A f → (gs : List Frame) (inst : InstKey) (o : Origin) → AreLeft words A f memory gs inst o
+  pub within : IsSoundFamily words A f → (gs : List Frame) (inst : InstKey) (o : Origin) → AreLeft words A f memory gs inst o
       → ramend (device_of words) + f.need_of inst ≤ o.base + f.bound
   within sound [] inst o l = omega (arith, ap f.need_of l.0, l.1, sound.bounded)
   within sound (g ∷ gs) inst o l =

@@ -24,7 +24,7 @@ use Rattle.pair_domain.specs.Facts.{is_followed}
 use Rattle.abs_state.specs.declared.state.AbsState.{AbsState}
 use Rattle.mask_states.specs.declared.keys.NodeKey.{NodeKey}
 use Rattle.local_rules.specs.declared.local.Node.{Node}
-use Rattle.edge_rules.specs.Families.{Family, IsSound}
+use Rattle.edge_rules.specs.Families.{RankedFamily, IsSoundFamily}
 use Rattle.edge_rules.specs.Frames.{Frame, Runs}
 use Rattle.clear_laws.specs.Aims.{may_write, aim_of}
 use Rattle.clear_laws.specs.Clear.{IsClear, MayBeFlagged, word_of_flag, IsHarmless, each_address, is_clear_by, is_flagged_address, is_address_harmless, is_transfer_listed, is_aim_harmless}
@@ -37,19 +37,19 @@ use Rattle.clear_laws.proofs.Unflagged.{IsSafe, IsStore, writes, by_instruction,
 
 -- ---- which case a flag is of
 
-abbrev IsOf : ℕ → Option ℕ → Option ℕ → Option ℕ → Flag → Type 0
-IsOf pc live protected transfer (Live p x) = (pc ≡ p) × (live ≡ Some x)
-IsOf pc live protected transfer (Protected p x) = (pc ≡ p) × (protected ≡ Some x)
-IsOf pc live protected transfer (Transfer p x) = (pc ≡ p) × (transfer ≡ Some x)
+abbrev IsCauseOf : ℕ → Option ℕ → Option ℕ → Option ℕ → Flag → Type 0
+IsCauseOf pc live protected transfer (Live p x) = (pc ≡ p) × (live ≡ Some x)
+IsCauseOf pc live protected transfer (Protected p x) = (pc ≡ p) × (protected ≡ Some x)
+IsCauseOf pc live protected transfer (Transfer p x) = (pc ≡ p) × (transfer ≡ Some x)
 
 flag_same : (p q : Flag) → Flagged p ≡ Flagged q → p ≡ q
 flag_same p q e = cc
 
-flagged_by : (t : Bool) (pc : ℕ) (a b c : Option ℕ) (x : State) (flag : Flag) → (if t then flagged_or (flag_by pc a b c) x else Overflow pc) ≡ Flagged flag → IsOf pc a b c flag
+flagged_by : (t : Bool) (pc : ℕ) (a b c : Option ℕ) (x : State) (flag : Flag) → (if t then flagged_or (flag_by pc a b c) x else Overflow pc) ≡ Flagged flag → IsCauseOf pc a b c flag
 flagged_by false pc a b c x flag e = absurd (cc)
-flagged_by true pc (Some a) b c x flag e = subst (IsOf pc (Some a) b c) (flag_same (Live pc a) flag e) (refl, refl)
-flagged_by true pc None (Some b) c x flag e = subst (IsOf pc None (Some b) c) (flag_same (Protected pc b) flag e) (refl, refl)
-flagged_by true pc None None (Some c) x flag e = subst (IsOf pc None None (Some c)) (flag_same (Transfer pc c) flag e) (refl, refl)
+flagged_by true pc (Some a) b c x flag e = subst (IsCauseOf pc (Some a) b c) (flag_same (Live pc a) flag e) (refl, refl)
+flagged_by true pc None (Some b) c x flag e = subst (IsCauseOf pc None (Some b) c) (flag_same (Protected pc b) flag e) (refl, refl)
+flagged_by true pc None None (Some c) x flag e = subst (IsCauseOf pc None None (Some c)) (flag_same (Transfer pc c) flag e) (refl, refl)
 flagged_by true pc None None None x flag e = absurd (cc)
 
 -- ---- one write
@@ -80,7 +80,7 @@ aim_none device k s i.Ijmp e = refl
 aim_none device k s i.Icall e = refl
 aim_none device k s _ e = absurd (cc)
 
-module _ (words : List ℕ) (A : List Entry) (f : Family) (n : Node) where
+module _ (words : List ℕ) (A : List Entry) (f : RankedFamily) (n : Node) where
   clear_listed : (instr : Instr) → instruction_at words n.key.pc ≡ Some instr → is_indirect instr ≡ true → is_transfer_listed words A n.key.pc n.state instr ≡ true → IsClear words A f n
   clear_listed instr is indirect listed =
       clear_nodes_are_told.clear words A f n (λ d. true) (λ d lt none may. absurd (let no : true ≡ false = none in cc))
@@ -138,7 +138,7 @@ module _ (words : List ℕ) (A : List Entry) (f : Family) (n : Node) where
 
 -- ---- a step that is flagged
 
-module _ (words : List ℕ) (A : List Entry) (f : Family) (sound : IsSound words A f) (m : State) (g : Frame) (gs : List Frame) (runs : Runs words A f m g gs)
+module _ (words : List ℕ) (A : List Entry) (f : RankedFamily) (sound : IsSoundFamily words A f) (m : State) (g : Frame) (gs : List Frame) (runs : Runs words A f m g gs)
     (holds : Holding words A f m.memory g gs) where
   abbrev top : ℕ
   top = ramend (device_of words)
@@ -193,7 +193,7 @@ module _ (words : List ℕ) (A : List Entry) (f : Family) (sound : IsSound words
         subst (λ p. not (is_transfer_listed words A p g.node.state instr) ≡ true) at_word
         (not_listed words A f g.node instr (subst (λ p. instruction_at words p ≡ Some instr) (sym at_word) is) (indirect_by (is_indirect instr) _ x e) unclear)
 
-    caused_by : (flag : Flag) → IsOf m.pc (live_write m.memory (effect.stores ++ effect.pushes)) (protected_write words A m.pc instr effect) (unlisted_transfer A m.pc instr effect) flag
+    caused_by : (flag : Flag) → IsCauseOf m.pc (live_write m.memory (effect.stores ++ effect.pushes)) (protected_write words A m.pc instr effect) (unlisted_transfer A m.pc instr effect) flag
         → (IsClear words A f g.node → ⊥) → MayFlag words A f flag
     caused_by (Live p x) h unclear =
         subst (λ pc. IsCause words A f pc (may_write_live words A f.bound pc)) h.0 (cause (may_write_live words A f.bound m.pc) instr is unclear (written_live x h.1))
@@ -220,7 +220,7 @@ module _ (words : List ℕ) (A : List Entry) (f : Family) (sound : IsSound words
 
 -- ---- words
 
-module _ (words : List ℕ) (A : List Entry) (f : Family) where
+module _ (words : List ℕ) (A : List Entry) (f : RankedFamily) where
   forgets : (pc : ℕ) (test : AbsState → Instr → Bool) → IsCause words A f pc test → MayBeFlagged words A f pc
   forgets pc test c = record { node = c.node; present = c.present; is = c.is; unclear = c.unclear }
 

@@ -35,8 +35,8 @@ use Rattle.clear_laws.proofs.Rows.{pushes}
 use Rattle.clear_laws.proofs.Aims.{IsAimed, displaced, by_pointer, direct, displaced_permitted, pointer_permitted}
 
 -- the stack pointer isn't half written
-abbrev pub IsWhole : SpForm → Type 0
-IsWhole sp = (offset : ℕ) × (sp ≡ Closed offset)
+abbrev pub IsSpWhole : SpForm → Type 0
+IsSpWhole sp = (offset : ℕ) × (sp ≡ Closed offset)
 
 -- What an instruction stores and pushes: nothing; a byte in I/O, a byte where its aim says and its pointer permits, a register's byte on the stack, or the way back
 -- of a call. It pushes only where a node with no fault has a whole stack pointer. A guarded call has no successor in its frame.
@@ -45,18 +45,18 @@ pub data Does (device : Device) (m : State) (base : ℕ) (k : NodeKey) (s : AbsS
   to_port : (a byte : ℕ) → a ≤ BELOW → is_pointer_store instr ≡ false → e.stores ≡ set a byte → e.pushes ≡ [] → Does device m base k s instr e row guarded_row
   by_aim : (a byte : ℕ) (aim : Aim) → aim_of device k s instr ≡ Some aim → IsAimed base aim a → may_write s instr a ≡ true → e.stores ≡ set a byte → e.pushes ≡ []
       → Does device m base k s instr e row guarded_row
-  pushing : (byte : ℕ) → is_push instr ≡ true → pushes instr ≡ true → (row.faults ≡ [] → IsWhole k.sp) → e.is_open ≡ false → e.stores ≡ []
+  pushing : (byte : ℕ) → is_push instr ≡ true → pushes instr ≡ true → (row.faults ≡ [] → IsSpWhole k.sp) → e.is_open ≡ false → e.stores ≡ []
       → e.pushes ≡ set m.sp byte → Does device m base k s instr e row guarded_row
-  entering : (back : ℕ) → guarded_row.moves ≡ [] → pushes instr ≡ true → (row.faults ≡ [] → IsWhole k.sp) → e.is_open ≡ false → e.stores ≡ []
+  entering : (back : ℕ) → guarded_row.moves ≡ [] → pushes instr ≡ true → (row.faults ≡ [] → IsSpWhole k.sp) → e.is_open ≡ false → e.stores ≡ []
       → e.pushes ≡ way_back m.sp back → Does device m base k s instr e row guarded_row
 
 -- ---- nodes with no fault
 
-whole_at : (sp : SpForm) (pc : ℕ) (f : ℕ → Raw) → (at_closed sp pc f).faults ≡ [] → IsWhole sp
+whole_at : (sp : SpForm) (pc : ℕ) (f : ℕ → Raw) → (at_closed sp pc f).faults ≡ [] → IsSpWhole sp
 whole_at (Closed offset) pc f h = (offset, refl)
 whole_at (Open offset high) pc f h = absurd (cc)
 
-whole_by : (sp : SpForm) (pc : ℕ) (r : Raw) → (untracked_if (is_half_written sp) pc r).faults ≡ [] → IsWhole sp
+whole_by : (sp : SpForm) (pc : ℕ) (r : Raw) → (untracked_if (is_half_written sp) pc r).faults ≡ [] → IsSpWhole sp
 whole_by (Closed offset) pc r h = (offset, refl)
 whole_by (Open offset high) pc r h = absurd (cc)
 
@@ -73,11 +73,11 @@ module _ (device : Device) (k : NodeKey) where
   no_indirect_moves None = no_failed_moves (is_half_written k.sp) k.pc _
   no_indirect_moves (Some targets) = no_moves (is_half_written k.sp) k.pc _
 
-  whole_indirect : (targets : Option (List ℕ)) → (indirect_call device targets k).faults ≡ [] → IsWhole k.sp
+  whole_indirect : (targets : Option (List ℕ)) → (indirect_call device targets k).faults ≡ [] → IsSpWhole k.sp
   whole_indirect None h = whole_by k.sp k.pc _ h
   whole_indirect (Some targets) h = whole_by k.sp k.pc _ h
 
-  whole_relative : (scratch : Bool) (s : AbsState) (target : ℕ) → (relative_call device scratch k s target).faults ≡ [] → IsWhole k.sp
+  whole_relative : (scratch : Bool) (s : AbsState) (target : ℕ) → (relative_call device scratch k s target).faults ≡ [] → IsSpWhole k.sp
   whole_relative true s target h = whole_at k.sp k.pc _ h
   whole_relative false s target h = whole_by k.sp k.pc _ h
 

@@ -15,8 +15,8 @@ use Rattle.mask_states.specs.Keys.{offset_of}
 use Rattle.local_rules.specs.declared.local.Node.{Node}
 use Rattle.edge_rules.specs.Views.{AreShown, place_of}
 use Rattle.clear_laws.specs.Held.{MayHold, kept, pushed}
-use Rattle.clear_laws.specs.Reach.{links_of, offset_at, Reaches, begins, along}
-use Rattle.clear_laws.specs.declared.slots.Seed.{Seed}
+use Rattle.clear_laws.specs.Reach.{links_of, offset_at, SlotReaches, begins, along}
+use Rattle.clear_laws.specs.declared.slots.SlotSeed.{SlotSeed}
 use Rattle.clear_laws.specs.Links.{offsets_of, AreLinks}
 use Rattle.clear_laws.specs.CertificateLaws.{SlotsSpreadAlongLinks}
 use Rattle.clear_laws.proofs.Places.{contains_at, same_node_at, own_number}
@@ -26,9 +26,9 @@ offset_there [] at n e = absurd (none-some n e)
 offset_there (x ∷ nodes) zero n e = ap (λ (m : Node). offset_of m.key.sp) (same_Some x n e)
 offset_there (x ∷ nodes) (suc at) n e = offset_there nodes at n e
 
-module _ (words : List ℕ) (A : List Entry) (nodes : List Node) (links : List (List ℕ)) (offsets : List ℕ) (seeds : List Seed) (are : AreLinks words A nodes links offsets seeds) (shown : AreShown nodes) where
+module _ (words : List ℕ) (A : List Entry) (nodes : List Node) (links : List (List ℕ)) (offsets : List ℕ) (seeds : List SlotSeed) (are : AreLinks words A nodes links offsets seeds) (shown : AreShown nodes) where
   abbrev Reaching : ℕ → ℕ → Type 0
-  Reaching d k = Reaches links offsets seeds d k
+  Reaching d k = SlotReaches links offsets seeds d k
 
   offset_is : (at : ℕ) (n : Node) → slice_get nodes at ≡ Some n → offset_at offsets at ≡ offset_of n.key.sp
   offset_is at n e = ap (λ (xs : List ℕ). offset_at xs at) are.offsets_are ∙ offset_there nodes at n e

@@ -28,30 +28,30 @@ use Rattle.local_rules.specs.Machine.{IsMachine}
 use Rattle.local_laws.proofs.AllLaws.{joins_are_least, above_if_live}
 use Rattle.edge_rules.specs.declared.edge.Edge.{Edge}
 use Rattle.edge_rules.specs.Edges.{raw_of, IsFaultless, Enters, by_call, by_interrupt, returned_key, IsEdge, moving, returning}
-use Rattle.edge_rules.specs.Families.{Family, IsSound}
+use Rattle.edge_rules.specs.Families.{RankedFamily, IsSoundFamily}
 use Rattle.edge_rules.specs.Frames.{Frame, AreLeft, Runs, Change, moved, called, returned_to, interrupted}
 use Rattle.clear_laws.specs.Held.{MayHold, kept, pushed}
 use Rattle.clear_laws.proofs.Bases.{within}
 use Rattle.clear_laws.proofs.Opens.{open_moves_keep}
-use Rattle.clear_laws.proofs.Effects.{IsWhole}
-use Rattle.clear_laws.proofs.Steps.{Fresh, Comes, IsAbove, comes_by_go, comes_by_take, is_above}
+use Rattle.clear_laws.proofs.Effects.{IsSpWhole}
+use Rattle.clear_laws.proofs.Steps.{Fresh, ComesFrom, IsLiveAbove, comes_by_go, comes_by_take, is_above}
 
 -- the frame's live slots are ones at which its node may hold a live byte
-abbrev pub IsHeld : List ℕ → List Entry → List Node → Memory → Frame → Type 0
-IsHeld words A nodes memory g = (d : ℕ) → d < offset_of g.node.key.sp → is_live memory (g.origin.base - d) ≡ true → MayHold words A nodes g.node.key d
+abbrev pub IsFrameHeld : List ℕ → List Entry → List Node → Memory → Frame → Type 0
+IsFrameHeld words A nodes memory g = (d : ℕ) → d < offset_of g.node.key.sp → is_live memory (g.origin.base - d) ≡ true → MayHold words A nodes g.node.key d
 
-abbrev pub AreHeld : List ℕ → List Entry → List Node → Memory → List Frame → Type 0
-AreHeld words A nodes memory [] = ⊤
-AreHeld words A nodes memory (g ∷ gs) = IsHeld words A nodes memory g × AreHeld words A nodes memory gs
+abbrev pub AreFramesHeld : List ℕ → List Entry → List Node → Memory → List Frame → Type 0
+AreFramesHeld words A nodes memory [] = ⊤
+AreFramesHeld words A nodes memory (g ∷ gs) = IsFrameHeld words A nodes memory g × AreFramesHeld words A nodes memory gs
 
 -- No byte is live below the running frame's slots, which lie within the bound; and so it is in each frame.
-pub record Holding (words : List ℕ) (A : List Entry) (f : Family) (memory : Memory) (g : Frame) (gs : List Frame) : Type 0 where
+pub record Holding (words : List ℕ) (A : List Entry) (f : RankedFamily) (memory : Memory) (g : Frame) (gs : List Frame) : Type 0 where
   pub above : (a : ℕ) → is_live memory a ≡ true → g.origin.base < a + offset_of g.node.key.sp
   pub depth : ramend (device_of words) + offset_of g.node.key.sp ≤ g.origin.base + f.bound
-  pub running : IsHeld words A f.nodes memory g
-  pub left : AreHeld words A f.nodes memory gs
+  pub running : IsFrameHeld words A f.nodes memory g
+  pub left : AreFramesHeld words A f.nodes memory gs
 
-pub whole_where_entered : {words : List ℕ} {A : List Entry} {n : Node} {way : EdgeKind} {inst : InstKey} {back : ℕ} → Enters words A n way inst back → IsWhole n.key.sp
+pub whole_where_entered : {words : List ℕ} {A : List Entry} {n : Node} {way : EdgeKind} {inst : InstKey} {back : ℕ} → Enters words A n way inst back → IsSpWhole n.key.sp
 whole_where_entered (by_call offset site faultless form member) = (offset, form)
 whole_where_entered (by_interrupt offset v clears faultless form i delay enabled allowed clearable) = (offset, form)
 
@@ -67,15 +67,15 @@ open_is base is_open sp offset h form e is = (subst (SpIs base is_open sp) e is)
 few_live : (n : State) → IsMachine n → length n.memory.live ≤ 2048
 few_live n machine = omega (arith, machine.count_live, devices_are_alike.most_bytes n.device)
 
-module _ (words : List ℕ) (A : List Entry) (f : Family) (sound : IsSound words A f) where
+module _ (words : List ℕ) (A : List Entry) (f : RankedFamily) (sound : IsSoundFamily words A f) where
   -- what holds where the running frame's stack pointer is whole
-  closed_above : (n : State) (h : Frame) (hs : List Frame) → Runs words A f n h hs → IsAbove n → IsWhole h.node.key.sp → (a : ℕ) → is_live n.memory a ≡ true
+  closed_above : (n : State) (h : Frame) (hs : List Frame) → Runs words A f n h hs → IsLiveAbove n → IsSpWhole h.node.key.sp → (a : ℕ) → is_live n.memory a ≡ true
       → h.origin.base < a + offset_of h.node.key.sp
   closed_above n h hs next above form a live =
       let offset : offset_of h.node.key.sp ≡ form.0 = ap offset_of form.1 in
       omega (arith, offset, fits h.origin.base n.sp a form.0 n.is_open h.node.key.sp form.1 next.running.place.sp (λ closed. above closed a live))
 
-  closed_depth : (n : State) (h : Frame) (hs : List Frame) → Runs words A f n h hs → IsWhole h.node.key.sp
+  closed_depth : (n : State) (h : Frame) (hs : List Frame) → Runs words A f n h hs → IsSpWhole h.node.key.sp
       → ramend (device_of words) + offset_of h.node.key.sp ≤ h.origin.base + f.bound
   closed_depth n h hs next form =
       let offset : offset_of h.node.key.sp ≡ form.0 = ap offset_of form.1 in
@@ -83,7 +83,7 @@ module _ (words : List ℕ) (A : List Entry) (f : Family) (sound : IsSound words
 
   -- frames that were left stay so where no byte above the next one's way back has come to be live
   left_held : (memory old new : Memory) (gs : List Frame) (inst : InstKey) (o : Origin) → AreLeft words A f memory gs inst o
-      → ((a : ℕ) → o.base + 2 < a → is_live new a ≡ true → is_live old a ≡ true) → AreHeld words A f.nodes old gs → AreHeld words A f.nodes new gs
+      → ((a : ℕ) → o.base + 2 < a → is_live new a ≡ true → is_live old a ≡ true) → AreFramesHeld words A f.nodes old gs → AreFramesHeld words A f.nodes new gs
   left_held memory old new [] inst o left was held = tt
   left_held memory old new (g ∷ gs) inst o left was held =
       let offset : offset_of g.node.key.sp ≡ left.0.offset = ap offset_of left.0.closed in (
@@ -93,7 +93,7 @@ module _ (words : List ℕ) (A : List Entry) (f : Family) (sound : IsSound words
 
   module _ (m n : State) (g : Frame) (gs : List Frame) (runs : Runs words A f m g gs) (holds : Holding words A f m.memory g gs) where
     -- what lies above the running frame's base is live only if it was
-    was_above : (c : Choice) → Comes words A g m n c → (a : ℕ) → g.origin.base < a → is_live n.memory a ≡ true → is_live m.memory a ≡ true
+    was_above : (c : Choice) → ComesFrom words A g m n c → (a : ℕ) → g.origin.base < a → is_live n.memory a ≡ true → is_live m.memory a ≡ true
     was_above c comes a lt live = ⊎_elim (λ l. l) (λ (new : Fresh words A g n c a). absurd (omega (arith, lt, new.low))) (comes a live)
 
     -- a slot that was live is one of those that the running frame has
@@ -127,11 +127,11 @@ module _ (words : List ℕ) (A : List Entry) (f : Family) (sound : IsSound words
           (λ none. absurd (nothing_moves _ to none member))
           (new.which b1 b2 refl)
 
-      slots_held : Comes words A g m n (Go b1 b2) → IsHeld words A f.nodes n.memory h
+      slots_held : ComesFrom words A g m n (Go b1 b2) → IsFrameHeld words A f.nodes n.memory h
       slots_held comes d lt live =
           ⊎_elim (λ was. kept g.node edge d runs.present is_edge tt (holds.running d (slot_below d was) was) lt) (λ new. new_slot d new live) (comes (g.origin.base - d) live)
 
-      above_moved : (form : SpForm) → to.key.sp ≡ form → Runs words A f n h gs → IsAbove n → Comes words A g m n (Go b1 b2) → (a : ℕ) → is_live n.memory a ≡ true
+      above_moved : (form : SpForm) → to.key.sp ≡ form → Runs words A f n h gs → IsLiveAbove n → ComesFrom words A g m n (Go b1 b2) → (a : ℕ) → is_live n.memory a ≡ true
           → g.origin.base < a + offset_of to.key.sp
       above_moved (Closed offset) e next above comes a live = closed_above n h gs next above (offset, e) a live
       above_moved (Open offset high) e next above comes a live =
@@ -146,7 +146,7 @@ module _ (words : List ℕ) (A : List Entry) (f : Family) (sound : IsSound words
           let same : offset_of to.key.sp ≡ offset_of g.node.key.sp = ap offset_of e ∙ offset_kept offset high e in
           omega (arith, same, holds.depth)
 
-      after_move : Runs words A f n h gs → IsAbove n → Comes words A g m n (Go b1 b2) → Holding words A f n.memory h gs
+      after_move : Runs words A f n h gs → IsLiveAbove n → ComesFrom words A g m n (Go b1 b2) → Holding words A f n.memory h gs
       after_move next above comes =
           record {
             above = above_moved to.key.sp refl next above comes;
@@ -156,7 +156,7 @@ module _ (words : List ℕ) (A : List Entry) (f : Family) (sound : IsSound words
           }
 
     -- an entry: the new frame has no slots yet
-    after_entry : (c : Choice) (h : Frame) → h.node.key.sp ≡ Closed 0 → Runs words A f n h (g ∷ gs) → IsAbove n → Comes words A g m n c → Holding words A f n.memory h (g ∷ gs)
+    after_entry : (c : Choice) (h : Frame) → h.node.key.sp ≡ Closed 0 → Runs words A f n h (g ∷ gs) → IsLiveAbove n → ComesFrom words A g m n c → Holding words A f n.memory h (g ∷ gs)
     after_entry c h form next above comes =
         let none : offset_of h.node.key.sp ≡ 0 = ap offset_of form in
         record {
@@ -180,10 +180,10 @@ module _ (words : List ℕ) (A : List Entry) (f : Family) (sound : IsSound words
       is_left : AreLeft words A f m.memory (h ∷ hs) g.node.key.inst g.origin
       is_left = subst (λ fs. AreLeft words A f m.memory fs g.node.key.inst g.origin) frames runs.left
 
-      were_held : AreHeld words A f.nodes m.memory (h ∷ hs)
-      were_held = subst (AreHeld words A f.nodes m.memory) frames holds.left
+      were_held : AreFramesHeld words A f.nodes m.memory (h ∷ hs)
+      were_held = subst (AreFramesHeld words A f.nodes m.memory) frames holds.left
 
-      after_return : Runs words A f n to hs → IsAbove n → Comes words A g m n (Go b1 b2) → Holding words A f n.memory to hs
+      after_return : Runs words A f n to hs → IsLiveAbove n → ComesFrom words A g m n (Go b1 b2) → Holding words A f n.memory to hs
       after_return next above comes =
           let left = is_left in
           let offset : offset_of h.node.key.sp ≡ left.0.offset = ap offset_of left.0.closed in
@@ -198,17 +198,17 @@ module _ (words : List ℕ) (A : List Entry) (f : Family) (sound : IsSound words
           }
 
     -- each change of the frames
-    holding_after : (c : Choice) (h : Frame) (hs : List Frame) → Runs words A f n h hs → Change words A g gs c h hs → IsAbove n → Comes words A g m n c → Holding words A f n.memory h hs
+    holding_after : (c : Choice) (h : Frame) (hs : List Frame) → Runs words A f n h hs → Change words A g gs c h hs → IsLiveAbove n → ComesFrom words A g m n c → Holding words A f n.memory h hs
     holding_after _ _ _ next (moved b1 b2 to state faultless member over) above comes = after_move b1 b2 to state faultless member next above comes
     holding_after _ _ _ next (called b1 b2 site state o faultless member over) above comes = after_entry (Go b1 b2) _ refl next above comes
     holding_after _ _ _ next (interrupted v clears state o enters over) above comes = after_entry (Take v clears) _ refl next above comes
     holding_after _ _ _ next (returned_to b1 b2 h hs way back x after state frames enters faultless exit returns over) above comes =
         after_return b1 b2 h hs way back x after state frames enters faultless exit returns next above comes
 
-    whole_at_take : (v : ℕ) (clears : Bool) (h : Frame) (hs : List Frame) → Change words A g gs (Take v clears) h hs → IsWhole g.node.key.sp
+    whole_at_take : (v : ℕ) (clears : Bool) (h : Frame) (hs : List Frame) → Change words A g gs (Take v clears) h hs → IsSpWhole g.node.key.sp
     whole_at_take _ _ _ _ (interrupted v clears state o enters over) = whole_where_entered enters
 
-    comes : (few : length n.memory.live ≤ 2048) (c : Choice) (h : Frame) (hs : List Frame) → Change words A g gs c h hs → step words A m c ≡ Done n → Comes words A g m n c
+    comes : (few : length n.memory.live ≤ 2048) (c : Choice) (h : Frame) (hs : List Frame) → Change words A g gs c h hs → step words A m c ≡ Done n → ComesFrom words A g m n c
     comes few (Go b1 b2) h hs change e = comes_by_go words A f sound m n few g gs runs b1 b2 e
     comes few (Take v clears) h hs change e = comes_by_take words A f sound m n few g gs runs v clears e (whole_at_take v clears h hs change)
 

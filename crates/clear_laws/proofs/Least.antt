@@ -27,12 +27,12 @@ use Rattle.local_rules.specs.Local.{row_of, row_by, node_where, refining}
 use Rattle.local_laws.proofs.AllLaws.{joins_are_least, each_of}
 use Rattle.edge_rules.specs.declared.edge.Edge.{Edge}
 use Rattle.edge_rules.specs.Edges.{raw_of, IsFaultless, IsEdge, moving, entering, returning, Enters, by_call, by_interrupt}
-use Rattle.clear_laws.specs.Held.{MayHold, kept, pushed, IsClosed, is_push, pushes_register, is_guarded_push}
+use Rattle.clear_laws.specs.Held.{MayHold, kept, pushed, IsMapClosed, is_push, pushes_register, is_guarded_push}
 use Rattle.clear_laws.specs.StepLaws.{HeldSlotsAreLeast}
 use Rattle.clear_laws.proofs.Rows.{row_by_unless_added}
 
 module _ (words : List ℕ) (A : List Entry) (nodes : List Node) where
-  least : (may : NodeKey → ℕ → Bool) → IsClosed words A nodes may → (k : NodeKey) (d : ℕ) → MayHold words A nodes k d → may k d ≡ true
+  least : (may : NodeKey → ℕ → Bool) → IsMapClosed words A nodes may → (k : NodeKey) (d : ℕ) → MayHold words A nodes k d → may k d ≡ true
   least may closed _ _ (kept n e d member edge stays held lt) = closed.keeps n e d member edge stays (least may closed n.key d held) lt
   least may closed _ _ (pushed n e member edge is push) = closed.pushes n e member edge is push
 

@@ -10,7 +10,7 @@ use Rattle.basics.specs.Items.{none_in, first_in, further_in, first_or_further, 
 use Rattle.avr_model.specs.declared.assumption.Entry.{Entry}
 use Rattle.basics.specs.Lists.{same_head_and_tail}
 use Rattle.local_rules.specs.declared.local.Node.{Node}
-use Rattle.edge_rules.specs.Families.{Family}
+use Rattle.edge_rules.specs.Families.{RankedFamily}
 use Rattle.edge_laws.proofs.ExpansionLaws.{filled_or_missing}
 use Rattle.certificate.specs.Claims.{Claim}
 use Rattle.certificate.specs.Valid.{family_of}
@@ -77,19 +77,19 @@ same_test P false false h g = refl
 same_test P true false h g = sym (g.1 (h.0 refl))
 same_test P false true h g = h.1 (g.0 refl)
 
-abbrev place_of : ℕ → List ℕ → Bool → Bool → FlaggedPlace
-place_of word protected live transfer = record { word = word; protected = protected; live = live; transfer = transfer }
+abbrev flagged_place : ℕ → List ℕ → Bool → Bool → FlaggedPlace
+flagged_place word protected live transfer = record { word = word; protected = protected; live = live; transfer = transfer }
 
-module _ (words : List ℕ) (A : List Entry) (f : Family) where
+module _ (words : List ℕ) (A : List Entry) (f : RankedFamily) where
   one_place : (x y : FlaggedPlace) → x.word ≡ y.word → IsPlaceOf words A f x → IsPlaceOf words A f y → x ≡ y
   one_place x y e h k =
-      let here : IsPlaceOf words A f (place_of x.word y.protected y.live y.transfer) = subst (λ w. IsPlaceOf words A f (place_of w y.protected y.live y.transfer)) (sym e) k in
+      let here : IsPlaceOf words A f (flagged_place x.word y.protected y.live y.transfer) = subst (λ w. IsPlaceOf words A f (flagged_place w y.protected y.live y.transfer)) (sym e) k in
       let protected : x.protected ≡ y.protected =
       same_lists x.protected y.protected h.ascending here.ascending (λ a m. (here.protected a).1 ((h.protected a).0 m)) (λ a m. (h.protected a).1 ((here.protected a).0 m)) in
       let live : x.live ≡ y.live = same_test (MayWriteLive words A f x.word) x.live y.live h.live here.live in
       let transfer : x.transfer ≡ y.transfer = same_test (MayGoUnlisted words A f x.word) x.transfer y.transfer h.transfer here.transfer in
-      ap (λ w. place_of w x.protected x.live x.transfer) e ∙ ap (λ l. place_of y.word l x.live x.transfer) protected
-      ∙ ap (λ t. place_of y.word y.protected t x.transfer) live ∙ ap (λ t. place_of y.word y.protected y.live t) transfer
+      ap (λ w. flagged_place w x.protected x.live x.transfer) e ∙ ap (λ l. flagged_place y.word l x.live x.transfer) protected
+      ∙ ap (λ t. flagged_place y.word y.protected t x.transfer) live ∙ ap (λ t. flagged_place y.word y.protected y.live t) transfer
 
   same_places : (xs ys : List FlaggedPlace) → map word_of xs ≡ map word_of ys → ((p : FlaggedPlace) → Contains xs p → IsPlaceOf words A f p)
       → ((p : FlaggedPlace) → Contains ys p → IsPlaceOf words A f p) → xs ≡ ys

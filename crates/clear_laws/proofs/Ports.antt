@@ -24,18 +24,18 @@ small p w n e = subst (λ (n : ℕ). letter 65 0 p w < n) e (letter_below 65 p w
 within : (a : ℕ) → a < 32 → a < 64
 within a h = omega arith
 
-abbrev RowsFit : List Row → ℕ → ℕ → Type 0
-RowsFit [] w next = ⊤
-RowsFit (row ∷ rows) w next = PortFits (row.instr (fields row.pattern w next)) × RowsFit rows w next
+abbrev PortRowsFit : List Row → ℕ → ℕ → Type 0
+PortRowsFit [] w next = ⊤
+PortRowsFit (row ∷ rows) w next = PortFits (row.instr (fields row.pattern w next)) × PortRowsFit rows w next
 
-table_fits : (w next : ℕ) → RowsFit table w next
+table_fits : (w next : ℕ) → PortRowsFit table w next
 table_fits w next =
     let cbi = within _ (small (places "1001 1000 AAAA Abbb") w 32 refl) in
     let sbi = within _ (small (places "1001 1010 AAAA Abbb") w 32 refl) in
     let out = small (places "1011 1AAr rrrr AAAA") w 64 refl in
     assumption (cbi, sbi, out)
 
-rows_fit : (rows : List Row) (w next : ℕ) (instr : Instr) → RowsFit rows w next → decoded_by rows w next ≡ Some instr → PortFits instr
+rows_fit : (rows : List Row) (w next : ℕ) (instr : Instr) → PortRowsFit rows w next → decoded_by rows w next ≡ Some instr → PortFits instr
 rows_fit [] w next instr h e = cc
 rows_fit (row ∷ rows) w next instr h e = by (matches row w) (rows_fit rows w next instr h.1) e
   where

@@ -52,7 +52,7 @@ abbrev pub IsRowBy : List ℕ → List Entry → NodeKey → AbsState → Instr 
 IsRowBy words A k s instr facts = HasRow words A k s (row_by facts (device_of words) words A (is_scratch words k.pc) k s instr)
 
 -- its instruction's plain row has no fault, and the node leads nowhere if that row doesn't
-pub record IsRow (words : List ℕ) (A : List Entry) (k : NodeKey) (s : AbsState) (instr : Instr) : Type 0 where
+pub record IsPlainRow (words : List ℕ) (A : List Entry) (k : NodeKey) (s : AbsState) (instr : Instr) : Type 0 where
   pub faultless : (row_of (device_of words) words A (is_scratch words k.pc) k (before instr s) instr).faults ≡ []
   pub none : (row_of (device_of words) words A (is_scratch words k.pc) k (before instr s) instr).moves ≡ [] → (raw words A k s).moves ≡ []
 
@@ -73,18 +73,18 @@ adds_none (i.Rcall t) h = refl
 adds_none _ h = absurd (cc)
 
 -- its row is the plain one, of whose successors some may be left out
-record IsLike (r plain : Raw) : Type 0 where
+record IsLikePlain (r plain : Raw) : Type 0 where
   faults : r.faults ≡ plain.faults
   none : plain.moves ≡ [] → r.moves ≡ []
 
 refined_none : (words : List ℕ) (instr : Instr) (s : AbsState) (nodes : List Node) → nodes ≡ [] → refined_nodes words instr s nodes ≡ []
 refined_none words instr s nodes e = ap (refined_nodes words instr s) e
 
-refining_is : (words : List ℕ) (instr : Instr) (s : AbsState) (r : Raw) → IsLike (refining words instr s r) r
+refining_is : (words : List ℕ) (instr : Instr) (s : AbsState) (r : Raw) → IsLikePlain (refining words instr s r) r
 refining_is words instr s r = record { faults = refl; none = refined_none words instr s r.moves }
 
 like_plain : (facts : Option PairFacts) (device : Device) (words : List ℕ) (A : List Entry) (scratch : Bool) (k : NodeKey) (s : AbsState) (instr : Instr) → pushes instr ≡ true
-    → IsLike (row_by facts device words A scratch k s instr) (row_of device words A scratch k (before instr s) instr)
+    → IsLikePlain (row_by facts device words A scratch k s instr) (row_of device words A scratch k (before instr s) instr)
 like_plain None device words A scratch k s instr h = record { faults = refl; none = λ e. e }
 like_plain (Some f) device words A scratch k s (i.Push r) h = refining_is words (i.Push r) s _
 like_plain (Some f) device words A scratch k s i.Icall h = refining_is words i.Icall s _
@@ -137,7 +137,7 @@ module _ (words : List ℕ) (A : List Entry) (k : NodeKey) (s : AbsState) where
         by (inl row) = row
         by (inr adds) = absurd (let no : true ≡ false = sym adds ∙ other in cc)
 
-    pub row_of_pushing : pushes instr ≡ true → IsRow words A k s instr
+    pub row_of_pushing : pushes instr ≡ true → IsPlainRow words A k s instr
     row_of_pushing h =
         let row = row_by_unless_added (adds_none instr h) in
         let like = like_plain s.facts device words A (is_scratch words k.pc) k s instr h in

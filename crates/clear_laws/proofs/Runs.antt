@@ -9,7 +9,7 @@ use Rattle.avr_model.specs.State.{State, IsReset, BELOW, live_in}
 use Rattle.avr_model.specs.Step.{Answer, Illegal, Undefined, Overflow, Flagged, Done, step}
 use Rattle.avr_model.specs.Run.{IsRun, RunsOn, stop_of, stop_on}
 use Rattle.local_rules.specs.Machine.{AreWords}
-use Rattle.edge_rules.specs.Families.{Family, IsSound}
+use Rattle.edge_rules.specs.Families.{RankedFamily, IsSoundFamily}
 use Rattle.edge_rules.specs.Frames.{Frame, Runs, IsFine}
 use Rattle.frame_laws.proofs.AllLaws.{frames_start, frames_step}
 use Rattle.clear_laws.specs.Clear.{EndsByTake}
@@ -37,7 +37,7 @@ none_live n live a e h =
 flag_same : (p q : Flag) → stop.Flag p ≡ stop.Flag q → p ≡ q
 flag_same p q e = cc
 
-module _ (words : List ℕ) (A : List Entry) (f : Family) (sized : AreWords words) (sound : IsSound words A f) (flag : Flag) where
+module _ (words : List ℕ) (A : List Entry) (f : RankedFamily) (sized : AreWords words) (sound : IsSoundFamily words A f) (flag : Flag) where
   -- what a run owes from a state on
   abbrev Told : List Choice → State → Type 0
   Told cs m = (g : Frame) (gs : List Frame) → Runs words A f m g gs → Holding words A f m.memory g gs → IsRun words A cs m → stop_of words A cs m ≡ stop.Flag flag

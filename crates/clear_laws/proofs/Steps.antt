@@ -22,13 +22,13 @@ use Rattle.mask_states.specs.Place.{SpIs}
 use Rattle.local_rules.specs.Registers.{before}
 use Rattle.local_rules.specs.Local.{row_of}
 use Rattle.edge_rules.specs.Edges.{raw_of}
-use Rattle.edge_rules.specs.Families.{Family, IsSound}
+use Rattle.edge_rules.specs.Families.{RankedFamily, IsSoundFamily}
 use Rattle.edge_rules.specs.Frames.{Frame, Runs}
 use Rattle.clear_laws.specs.Held.{is_push, pushes_register, is_guarded_push}
 use Rattle.clear_laws.proofs.Memory.{IsPushedAt, inside_if_live, live_comes, live_above}
 use Rattle.clear_laws.proofs.Ports.{ports_fit}
-use Rattle.clear_laws.proofs.Effects.{IsWhole, Does, nothing, to_port, by_aim, pushing, entering as enters, does}
-use Rattle.clear_laws.proofs.Rows.{IsRow, pushes, row_of_pushing}
+use Rattle.clear_laws.proofs.Effects.{IsSpWhole, Does, nothing, to_port, by_aim, pushing, entering as enters, does}
+use Rattle.clear_laws.proofs.Rows.{IsPlainRow, pushes, row_of_pushing}
 
 -- ---- what a step that is done did
 
@@ -80,19 +80,19 @@ pub record Fresh (words : List ℕ) (A : List Entry) (g : Frame) (n : State) (c 
   pub which : (b1 b2 : ℕ) → c ≡ Go b1 b2
       → ((is_guarded_push words g.node.key.pc ≡ true) × (a + offset ≡ g.origin.base)) ⊎ ((raw_of words A g.node).moves ≡ [])
 
-abbrev pub Comes : List ℕ → List Entry → Frame → State → State → Choice → Type 0
-Comes words A g m n c = (a : ℕ) → is_live n.memory a ≡ true → (is_live m.memory a ≡ true) ⊎ Fresh words A g n c a
+abbrev pub ComesFrom : List ℕ → List Entry → Frame → State → State → Choice → Type 0
+ComesFrom words A g m n c = (a : ℕ) → is_live n.memory a ≡ true → (is_live m.memory a ≡ true) ⊎ Fresh words A g n c a
 
 -- no byte at or below a whole stack pointer is live
-abbrev pub IsAbove : State → Type 0
-IsAbove n = n.is_open ≡ false → (a : ℕ) → is_live n.memory a ≡ true → n.sp < a
+abbrev pub IsLiveAbove : State → Type 0
+IsLiveAbove n = n.is_open ≡ false → (a : ℕ) → is_live n.memory a ≡ true → n.sp < a
 
 above_by : (memory : Memory) (sp : ℕ) (stores pushes : List Write) (a : ℕ) (guarded is_open : Bool) → is_open ≡ false
     → is_live (memory_after memory guarded is_open sp stores pushes) a ≡ true → sp < a
 above_by memory sp stores pushes a guarded true e h = absurd (cc)
 above_by memory sp stores pushes a guarded false e h = live_above memory sp stores pushes a guarded h
 
-above_after : (m : State) (guarded : Bool) (e : Effect) → IsAbove (after m guarded e)
+above_after : (m : State) (guarded : Bool) (e : Effect) → IsLiveAbove (after m guarded e)
 above_after m guarded e whole a h = above_by m.memory _ e.stores e.pushes a guarded _ whole h
 
 -- a byte of the way back lies at the stack pointer or below
@@ -109,7 +109,7 @@ guarded_by words pc pc' instr same is push guarded =
 pub whole_sp : (base : ℕ) (is_open : Bool) (sp offset : ℕ) (form : SpForm) → form ≡ Closed offset → SpIs base is_open sp form → sp + offset ≡ base
 whole_sp base is_open sp offset form e h = (subst (SpIs base is_open sp) e h).1
 
-module _ (words : List ℕ) (A : List Entry) (f : Family) (sound : IsSound words A f) (m n : State) (few : length n.memory.live ≤ 2048) (g : Frame) (gs : List Frame)
+module _ (words : List ℕ) (A : List Entry) (f : RankedFamily) (sound : IsSoundFamily words A f) (m n : State) (few : length n.memory.live ≤ 2048) (g : Frame) (gs : List Frame)
     (runs : Runs words A f m g gs) where
   at_sp : (offset : ℕ) → g.node.key.sp ≡ Closed offset → m.sp + offset ≡ g.origin.base
   at_sp offset e = whole_sp g.origin.base m.is_open m.sp offset g.node.key.sp e runs.running.place.sp
@@ -133,7 +133,7 @@ module _ (words : List ℕ) (A : List Entry) (f : Family) (sound : IsSound words
     here : instruction_at words k.pc ≡ Some w.instr
     here = subst (λ p. instruction_at words p ≡ Some w.instr) runs.running.place.pc w.is
 
-    row : pushes w.instr ≡ true → IsRow words A k g.node.state w.instr
+    row : pushes w.instr ≡ true → IsPlainRow words A k g.node.state w.instr
     row = row_of_pushing words A k g.node.state w.instr here (sound.faultless g.node runs.present)
 
     -- a guarded instruction's row is that of one that isn't scratch
@@ -176,7 +176,7 @@ module _ (words : List ℕ) (A : List Entry) (f : Family) (sound : IsSound words
           which = λ c1 c2 e. inr (still plain guarded none);
         }
 
-    comes_going : Comes words A g m n (Go b1 b2)
+    comes_going : ComesFrom words A g m n (Go b1 b2)
     comes_going a live =
         let guarded = not (is_scratch words m.pc) in
         let was = subst (λ (x : State). is_live x.memory a ≡ true) (sym w.leads) live in
@@ -185,10 +185,10 @@ module _ (words : List ℕ) (A : List Entry) (f : Family) (sound : IsSound words
         (does words A m g.origin k g.node.state state runs.running scratch b1 b2 (device_of words) runs.device w.instr (ports_fit words m.pc w.instr w.is))))
         (live_comes m.memory (sp_after effect.sp effect.stores) effect.stores effect.pushes a guarded (open_after effect.is_open effect.stores) was)
 
-  pub comes_by_go : (b1 b2 : ℕ) → step words A m (Go b1 b2) ≡ Done n → Comes words A g m n (Go b1 b2)
+  pub comes_by_go : (b1 b2 : ℕ) → step words A m (Go b1 b2) ≡ Done n → ComesFrom words A g m n (Go b1 b2)
   comes_by_go b1 b2 e = comes_going b1 b2 (went words A m n b1 b2 e)
 
-  pub comes_by_take : (v : ℕ) (clears : Bool) → step words A m (Take v clears) ≡ Done n → IsWhole g.node.key.sp → Comes words A g m n (Take v clears)
+  pub comes_by_take : (v : ℕ) (clears : Bool) → step words A m (Take v clears) ≡ Done n → IsSpWhole g.node.key.sp → ComesFrom words A g m n (Take v clears)
   comes_by_take v clears e form a live =
       let leads = took words A m n v clears e in
       let effect = entering m v clears in
@@ -203,6 +203,6 @@ module _ (words : List ℕ) (A : List Entry) (f : Family) (sound : IsSound words
       }))
       (live_comes m.memory effect.sp effect.stores effect.pushes a true effect.is_open was)
 
-  pub is_above : (c : Choice) → step words A m c ≡ Done n → IsAbove n
-  is_above (Go b1 b2) e = let w = went words A m n b1 b2 e in subst IsAbove w.leads (above_after m (not (is_scratch words m.pc)) (effect_of words m w.instr b1 b2))
-  is_above (Take v clears) e = subst IsAbove (took words A m n v clears e) (above_after m true (entering m v clears))
+  pub is_above : (c : Choice) → step words A m c ≡ Done n → IsLiveAbove n
+  is_above (Go b1 b2) e = let w = went words A m n b1 b2 e in subst IsLiveAbove w.leads (above_after m (not (is_scratch words m.pc)) (effect_of words m w.instr b1 b2))
+  is_above (Take v clears) e = subst IsLiveAbove (took words A m n v clears e) (above_after m true (entering m v clears))

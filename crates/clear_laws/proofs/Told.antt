@@ -17,7 +17,7 @@ use Rattle.pair_domain.specs.Facts.{is_followed}
 use Rattle.abs_state.specs.declared.state.AbsState.{AbsState}
 use Rattle.mask_states.specs.Keys.{offset_of}
 use Rattle.local_rules.specs.declared.local.Node.{Node}
-use Rattle.edge_rules.specs.Families.{Family}
+use Rattle.edge_rules.specs.Families.{RankedFamily}
 use Rattle.clear_laws.specs.Held.{MayHold}
 use Rattle.clear_laws.specs.Aims.{Span, Reach, Aim, may_write, aim_of}
 use Rattle.clear_laws.specs.Aims.reach as reach
@@ -77,7 +77,7 @@ to_span first last = record { first = first; last = last }
 one_span : (span : Span) → span.first ≡ span.last → span ≡ record { first = span.first; last = span.first }
 one_span span e = ap (λ (last : ℕ). to_span span.first last) (sym e)
 
-module _ (words : List ℕ) (A : List Entry) (f : Family) (n : Node) (held : ℕ → Bool) where
+module _ (words : List ℕ) (A : List Entry) (f : RankedFamily) (n : Node) (held : ℕ → Bool) where
   -- what isn't told to be held isn't, and what is told is
   abbrev Frees : Type 0
   Frees = (d : ℕ) → d < offset_of n.key.sp → held d ≡ false → MayHold words A f.nodes n.key d → ⊥

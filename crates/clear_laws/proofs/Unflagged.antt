@@ -36,15 +36,15 @@ use Rattle.abs_state.specs.Stands.{ByteStands}
 use Rattle.local_rules.specs.Registers.{value, before}
 use Rattle.local_rules.specs.Local.{row_of, is_hung, may_be}
 use Rattle.local_laws.proofs.AllLaws.{open_pairs_hang, above_if_live}
-use Rattle.edge_rules.specs.Families.{Family, IsSound}
+use Rattle.edge_rules.specs.Families.{RankedFamily, IsSoundFamily}
 use Rattle.edge_rules.specs.Frames.{Frame, Runs}
 use Rattle.clear_laws.specs.Aims.{Aim, permits_number, may_write, aim_of}
 use Rattle.clear_laws.specs.Clear.{IsClear, IsHarmless, no_address, under_stack, above_memory, one_register, each_address, free_slot, is_flagged_address, is_address_harmless, permits_by, AreTargetsListed}
 use Rattle.clear_laws.proofs.Memory.{inside_if_live}
 use Rattle.clear_laws.proofs.Ports.{ports_fit}
-use Rattle.clear_laws.proofs.Aims.{IsReached, IsAimed, pair_permitted}
+use Rattle.clear_laws.proofs.Aims.{IsStoreReached, IsAimed, pair_permitted}
 use Rattle.clear_laws.proofs.Bases.{base_inside}
-use Rattle.clear_laws.proofs.Effects.{IsWhole, Does, nothing, to_port, by_aim, pushing, entering as enters, does}
+use Rattle.clear_laws.proofs.Effects.{IsSpWhole, Does, nothing, to_port, by_aim, pushing, entering as enters, does}
 use Rattle.clear_laws.proofs.Rows.{row_of_pushing, not_hung}
 use Rattle.clear_laws.proofs.Steps.{whole_sp}
 use Rattle.clear_laws.proofs.Kept.{Holding}
@@ -130,7 +130,7 @@ and_false a b c d h = grind arith
 -- ---- what a store writes
 
 -- a write to this address isn't flagged
-record IsFree (words : List ℕ) (A : List Entry) (memory : Memory) (pc : ℕ) (instr : Instr) (a : ℕ) : Type 0 where
+record IsFreeToWrite (words : List ℕ) (A : List Entry) (memory : Memory) (pc : ℕ) (instr : Instr) (a : ℕ) : Type 0 where
   dead : is_live memory a ≡ false
   free : is_flagged_address words A pc instr a ≡ false
 
@@ -164,12 +164,12 @@ all_four : (a b c d : Bool) → (a && b && not c && d) ≡ true → (a ≡ true)
 all_four a b c d h = (grind arith, grind arith, grind arith)
 
 whole_where_taken : (device : Device) (A : List Entry) (k : NodeKey) (v : ℕ) (form : SpForm) → k.sp ≡ form → k.i ≡ true → k.delay ≡ false → is_enabled k.masks v ≡ true
-    → is_never A (vector_word device v) ≡ false → is_hung device A k form ≡ false → IsWhole k.sp
+    → is_never A (vector_word device v) ≡ false → is_hung device A k form ≡ false → IsSpWhole k.sp
 whole_where_taken device A k v (Closed offset) is i delay enabled allowed hung = (offset, is)
 whole_where_taken device A k v (Open offset high) is i delay enabled allowed hung =
     absurd (never_both (is_hung device A k (Open offset high)) (open_pairs_hang.hung device A k v offset high i delay enabled allowed) hung)
 
-module _ (words : List ℕ) (A : List Entry) (f : Family) (sound : IsSound words A f) (m : State) (g : Frame) (gs : List Frame) (runs : Runs words A f m g gs)
+module _ (words : List ℕ) (A : List Entry) (f : RankedFamily) (sound : IsSoundFamily words A f) (m : State) (g : Frame) (gs : List Frame) (runs : Runs words A f m g gs)
     (holds : Holding words A f m.memory g gs) where
   abbrev k : NodeKey
   k = g.node.key
@@ -192,10 +192,10 @@ module _ (words : List ℕ) (A : List Entry) (f : Family) (sound : IsSound words
   top_small = omega (arith, devices_are_alike.most_bytes (device_of words))
 
   -- the bytes at a whole stack pointer and below it aren't live
-  sp_dead : IsWhole k.sp → is_live m.memory m.sp ≡ false
+  sp_dead : IsSpWhole k.sp → is_live m.memory m.sp ≡ false
   sp_dead form = never (is_live m.memory m.sp) (λ live. omega (arith, holds.above m.sp live, sp_at form.0 form.1, ap offset_of form.1))
 
-  below_dead : IsWhole k.sp → is_live m.memory (minus16 m.sp 1) ≡ false
+  below_dead : IsSpWhole k.sp → is_live m.memory (minus16 m.sp 1) ≡ false
   below_dead form =
       never (is_live m.memory (minus16 m.sp 1))
       (λ live.
@@ -218,44 +218,44 @@ module _ (words : List ℕ) (A : List Entry) (f : Family) (sound : IsSound words
   abbrev outside : Instr → ℕ → Bool
   outside instr a = nat_le a BELOW && not (is_flagged_address words A k.pc instr a)
 
-  under_free : (instr : Instr) (a : ℕ) → BELOW < a → a + f.bound ≤ top → IsFree words A m.memory k.pc instr a
+  under_free : (instr : Instr) (a : ℕ) → BELOW < a → a + f.bound ≤ top → IsFreeToWrite words A m.memory k.pc instr a
   under_free instr a low high =
       record { dead = never (is_live m.memory a) (λ live. omega (arith, high, holds.above a live, holds.depth)); free = high_free instr a (omega (arith, low)) }
 
-  over_free : (instr : Instr) (a : ℕ) → top < a → IsFree words A m.memory k.pc instr a
+  over_free : (instr : Instr) (a : ℕ) → top < a → IsFreeToWrite words A m.memory k.pc instr a
   over_free instr a over = record { dead = never (is_live m.memory a) (λ live. omega (arith, over, inside a live)); free = high_free instr a (omega (arith, over)) }
 
-  below_free : (instr : Instr) (a : ℕ) → a ≤ BELOW → is_flagged_address words A k.pc instr a ≡ false → IsFree words A m.memory k.pc instr a
+  below_free : (instr : Instr) (a : ℕ) → a ≤ BELOW → is_flagged_address words A k.pc instr a ≡ false → IsFreeToWrite words A m.memory k.pc instr a
   below_free instr a low free = record { dead = never (is_live m.memory a) (λ live. omega (arith, low, above_if_live m.memory.live a live)); free = free }
 
-  address_free : (instr : Instr) (a : ℕ) → is_address_harmless words A f.bound k.pc instr a ≡ true → IsFree words A m.memory k.pc instr a
+  address_free : (instr : Instr) (a : ℕ) → is_address_harmless words A f.bound k.pc instr a ≡ true → IsFreeToWrite words A m.memory k.pc instr a
   address_free instr a h = ⊎_elim (λ first. ⊎_elim by_under by_over (or_cases (under a) (nat_lt top a) first)) by_outside (or_cases (under a || nat_lt top a) (outside instr a) h)
     where
-      by_under : under a ≡ true → IsFree words A m.memory k.pc instr a
+      by_under : under a ≡ true → IsFreeToWrite words A m.memory k.pc instr a
       by_under t =
           let parts = and_parts (nat_lt BELOW a) (nat_le (a + f.bound) top) t in
           under_free instr a (less_from_test BELOW a parts.0) (at_most_from_test (a + f.bound) top parts.1)
 
-      by_over : nat_lt top a ≡ true → IsFree words A m.memory k.pc instr a
+      by_over : nat_lt top a ≡ true → IsFreeToWrite words A m.memory k.pc instr a
       by_over t = over_free instr a (less_from_test top a t)
 
-      by_outside : outside instr a ≡ true → IsFree words A m.memory k.pc instr a
+      by_outside : outside instr a ≡ true → IsFreeToWrite words A m.memory k.pc instr a
       by_outside t =
           let parts = and_parts (nat_le a BELOW) (not (is_flagged_address words A k.pc instr a)) t in
           below_free instr a (at_most_from_test a BELOW parts.0) (not-true (is_flagged_address words A k.pc instr a) parts.1)
 
   -- a harmless store
   harmless_free : (instr : Instr) (aim : Aim) (a : ℕ) → IsAimed g.origin.base aim a → may_write g.node.state instr a ≡ true → IsHarmless words A f g.node instr aim
-      → IsFree words A m.memory k.pc instr a
-  harmless_free instr aim a aimed may (no_address is) = absurd (subst (λ r. IsReached r a) is aimed.reach)
+      → IsFreeToWrite words A m.memory k.pc instr a
+  harmless_free instr aim a aimed may (no_address is) = absurd (subst (λ r. IsStoreReached r a) is aimed.reach)
   harmless_free instr aim a aimed may (under_stack span is low high) =
-      let within = subst (λ r. IsReached r a) is aimed.reach in
+      let within = subst (λ r. IsStoreReached r a) is aimed.reach in
       under_free instr a (omega (arith, within.first, low)) (omega (arith, within.last, high))
   harmless_free instr aim a aimed may (above_memory span is over) =
-      let within = subst (λ r. IsReached r a) is aimed.reach in
+      let within = subst (λ r. IsStoreReached r a) is aimed.reach in
       over_free instr a (omega (arith, within.first, over))
   harmless_free instr aim a aimed may (one_register b is low free) =
-      let within = subst (λ r. IsReached r a) is aimed.reach in
+      let within = subst (λ r. IsStoreReached r a) is aimed.reach in
       let same = both_ends a b within.first within.last in
       below_free instr a (omega (arith, same, low)) (subst (λ x. is_flagged_address words A k.pc instr x ≡ false) same free)
   harmless_free instr aim a aimed may (each_address followed each) =

@@ -12,7 +12,7 @@ use Rattle.avr_model.specs.Step.{is_indirect}
 use Rattle.pair_domain.specs.Facts.{is_followed}
 use Rattle.abs_state.specs.declared.state.AbsState.{AbsState}
 use Rattle.local_rules.specs.declared.local.Node.{Node}
-use Rattle.edge_rules.specs.Families.{Family}
+use Rattle.edge_rules.specs.Families.{RankedFamily}
 use Rattle.clear_laws.specs.Aims.{may_write}
 use Rattle.clear_laws.specs.Clear.{IsClear, is_flagged_address, is_transfer_listed}
 
@@ -43,7 +43,7 @@ may_write_live words A bound pc s instr = may_write_stack (device_of words) boun
 -- ---- what may happen at a word
 
 -- a node of the family at this word isn't clear, and its state and instruction pass a test
-pub record IsCause (words : List ℕ) (A : List Entry) (f : Family) (pc : ℕ) (test : AbsState → Instr → Bool) : Type 0 where
+pub record IsCause (words : List ℕ) (A : List Entry) (f : RankedFamily) (pc : ℕ) (test : AbsState → Instr → Bool) : Type 0 where
   pub node : Node
   pub present : Contains f.nodes node
   pub is : node.key.pc ≡ pc
@@ -53,21 +53,21 @@ pub record IsCause (words : List ℕ) (A : List Entry) (f : Family) (pc : ℕ) (
   pub passes : test node.state instr ≡ true
 
 -- a store may write this protected address, a pushed byte; an indirect transfer may go to a word that its `jump` line doesn't list
-abbrev pub MayWriteProtected : List ℕ → List Entry → Family → ℕ → ℕ → Type 0
+abbrev pub MayWriteProtected : List ℕ → List Entry → RankedFamily → ℕ → ℕ → Type 0
 MayWriteProtected words A f pc a = IsCause words A f pc (λ s instr. may_write_protected words A pc s instr a)
 
-abbrev pub MayWriteLive : List ℕ → List Entry → Family → ℕ → Type 0
+abbrev pub MayWriteLive : List ℕ → List Entry → RankedFamily → ℕ → Type 0
 MayWriteLive words A f pc = IsCause words A f pc (may_write_live words A f.bound pc)
 
-abbrev pub MayGoUnlisted : List ℕ → List Entry → Family → ℕ → Type 0
+abbrev pub MayGoUnlisted : List ℕ → List Entry → RankedFamily → ℕ → Type 0
 MayGoUnlisted words A f pc = IsCause words A f pc (λ s instr. not (is_transfer_listed words A pc s instr))
 
 -- one of them
-abbrev pub HasCause : List ℕ → List Entry → Family → ℕ → Type 0
+abbrev pub HasCause : List ℕ → List Entry → RankedFamily → ℕ → Type 0
 HasCause words A f pc = ((a : ℕ) × MayWriteProtected words A f pc a) ⊎ (MayWriteLive words A f pc ⊎ MayGoUnlisted words A f pc)
 
 -- that of a flag
-abbrev pub MayFlag : List ℕ → List Entry → Family → Flag → Type 0
+abbrev pub MayFlag : List ℕ → List Entry → RankedFamily → Flag → Type 0
 MayFlag words A f (Live pc a) = MayWriteLive words A f pc
 MayFlag words A f (Protected pc a) = MayWriteProtected words A f pc a
 MayFlag words A f (Transfer pc target) = MayGoUnlisted words A f pc

@@ -12,14 +12,14 @@ use Rattle.avr_model.specs.State.{State, IsReset}
 use Rattle.avr_model.specs.Run.{IsRun, stop_of, Bounded}
 use Rattle.local_rules.specs.Machine.{AreWords}
 use Rattle.local_rules.specs.declared.local.Node.{Node}
-use Rattle.edge_rules.specs.Families.{Family}
+use Rattle.edge_rules.specs.Families.{RankedFamily}
 use Rattle.edge_rules.specs.Views.{AreShown}
 use Rattle.certificate.specs.Claims.{Claim, IsClaim}
 use Rattle.certificate.specs.Valid.{IsSound}
 use Rattle.clear_laws.specs.Clear.{IsClear, is_clear, NeverFlagged, word_of_flag}
 use Rattle.clear_laws.specs.Held.{MayHold}
-use Rattle.clear_laws.specs.declared.slots.Seed.{Seed}
-use Rattle.clear_laws.specs.Reach.{Reaches}
+use Rattle.clear_laws.specs.declared.slots.SlotSeed.{SlotSeed}
+use Rattle.clear_laws.specs.Reach.{SlotReaches}
 use Rattle.clear_laws.specs.declared.slots.Asks.{Asks}
 use Rattle.clear_laws.specs.Needs.{meets}
 use Rattle.clear_laws.specs.Links.{AreLinks}
@@ -79,11 +79,11 @@ pub record FlaggedRunsEndAtPlaces : Type 0 where
 
 -- With links as they are, a slot spreads to just the nodes at which it may hold a live byte.
 abbrev pub SlotsSpreadAlongLinks : Type 0
-SlotsSpreadAlongLinks = (words : List ℕ) (A : List Entry) (nodes : List Node) (links : List (List ℕ)) (offsets : List ℕ) (seeds : List Seed)
+SlotsSpreadAlongLinks = (words : List ℕ) (A : List Entry) (nodes : List Node) (links : List (List ℕ)) (offsets : List ℕ) (seeds : List SlotSeed)
     → AreLinks words A nodes links offsets seeds → AreShown nodes → (at d : ℕ) (n : Node) → slice_get nodes at ≡ Some n
-    → Reaches links offsets seeds d at ↔ MayHold words A nodes n.key d
+    → SlotReaches links offsets seeds d at ↔ MayHold words A nodes n.key d
 
 -- Where a node asks this of its slots, it is clear exactly where that is met.
 abbrev pub AskingsTellClearNodes : Type 0
-AskingsTellClearNodes = (words : List ℕ) (A : List Entry) (f : Family) (n : Node) (a : Asks) → ((held : ℕ → Bool) → is_clear words A f.bound n held ≡ meets a held)
+AskingsTellClearNodes = (words : List ℕ) (A : List Entry) (f : RankedFamily) (n : Node) (a : Asks) → ((held : ℕ → Bool) → is_clear words A f.bound n held ≡ meets a held)
     → Meets a (λ d. MayHold words A f.nodes n.key d) ↔ IsClear words A f n

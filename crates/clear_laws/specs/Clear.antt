@@ -24,7 +24,7 @@ use Rattle.mask_states.specs.declared.keys.NodeKey.{NodeKey}
 use Rattle.mask_states.specs.Keys.{offset_of}
 use Rattle.local_rules.specs.declared.local.Node.{Node}
 use Rattle.local_rules.specs.Registers.{bits}
-use Rattle.edge_rules.specs.Families.{Family}
+use Rattle.edge_rules.specs.Families.{RankedFamily}
 use Rattle.clear_laws.specs.Aims.{Span, Reach, Aim, permits_number, may_write, aim_of}
 use Rattle.clear_laws.specs.Aims.reach as reach
 use Rattle.clear_laws.specs.Held.{MayHold}
@@ -45,7 +45,7 @@ is_address_harmless words A bound pc instr a =
 -- A store with this aim writes no live byte and no flagged address: there is no address; all lie in SRAM below what the stack can reach; all
 -- lie above SRAM; there is one, below SRAM, that isn't flagged; or the address is a slot, below the offset, that may hold no live byte. Where
 -- pairs are followed it is also harmless where each address to which its byte may go is.
-pub data IsHarmless (words : List ℕ) (A : List Entry) (f : Family) (n : Node) (instr : Instr) (aim : Aim) : Type 0 where
+pub data IsHarmless (words : List ℕ) (A : List Entry) (f : RankedFamily) (n : Node) (instr : Instr) (aim : Aim) : Type 0 where
   no_address : aim.reach ≡ reach.Nothing → IsHarmless words A f n instr aim
   under_stack : (span : Span) → aim.reach ≡ reach.Within span → BELOW < span.first → span.last + f.bound ≤ ramend (device_of words)
       → IsHarmless words A f n instr aim
@@ -75,14 +75,14 @@ AreTargetsListed device s (Some listed) = (z : ℕ) → z < 65536 → permits_pa
 
 -- Where its instruction is a store, that is harmless; and where it is an indirect transfer, whose site has a `jump` line, the line lists all
 -- words to which it may go.
-pub record IsClear (words : List ℕ) (A : List Entry) (f : Family) (n : Node) : Type 0 where
+pub record IsClear (words : List ℕ) (A : List Entry) (f : RankedFamily) (n : Node) : Type 0 where
   pub store : (instr : Instr) (aim : Aim) → instruction_at words n.key.pc ≡ Some instr → aim_of (device_of words) n.key n.state instr ≡ Some aim
       → IsHarmless words A f n instr aim
   pub transfer : (instr : Instr) → instruction_at words n.key.pc ≡ Some instr → is_indirect instr ≡ true
       → AreTargetsListed (device_of words) n.state (jump_line A n.key.pc)
 
 -- a node of the family at this word that isn't clear
-pub record MayBeFlagged (words : List ℕ) (A : List Entry) (f : Family) (pc : ℕ) : Type 0 where
+pub record MayBeFlagged (words : List ℕ) (A : List Entry) (f : RankedFamily) (pc : ℕ) : Type 0 where
   pub node : Node
   pub present : Contains f.nodes node
   pub is : node.key.pc ≡ pc

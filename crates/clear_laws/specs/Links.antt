@@ -10,7 +10,7 @@ use Rattle.edge_rules.specs.declared.edge.Edge.{Edge}
 use Rattle.edge_rules.specs.Edges.{IsEdge}
 use Rattle.edge_rules.specs.Views.{place_of}
 use Rattle.clear_laws.specs.Held.{StaysInFrame, is_guarded_push}
-use Rattle.clear_laws.specs.declared.slots.Seed.{Seed}
+use Rattle.clear_laws.specs.declared.slots.SlotSeed.{SlotSeed}
 use Rattle.clear_laws.specs.Reach.{links_of}
 
 -- the node where the edge lands, if it stays in its frame
@@ -18,19 +18,19 @@ abbrev pub IsTarget : List Node → Edge → ℕ → Type 0
 IsTarget nodes e t = StaysInFrame e.kind × (place_of e.to nodes ≡ Some t)
 
 -- the node where it lands, if it is local, with this slot
-abbrev pub IsSeed : List Node → ℕ → Edge → Seed → Type 0
-IsSeed nodes slot e s = (e.kind ≡ kind.Local) × (place_of e.to nodes ≡ Some s.node) × (s.slot ≡ slot)
+abbrev pub IsLandingSeed : List Node → ℕ → Edge → SlotSeed → Type 0
+IsLandingSeed nodes slot e s = (e.kind ≡ kind.Local) × (place_of e.to nodes ≡ Some s.node) × (s.slot ≡ slot)
 
 -- how many slots each node has
 abbrev pub offsets_of : List Node → List ℕ
 offsets_of nodes = map (λ (n : Node). offset_of n.key.sp) nodes
 
 -- the same where the edge is of a node at which a guarded byte is pushed
-abbrev pub IsPushed : List ℕ → List Node → NodeKey → Edge → Seed → Type 0
-IsPushed words nodes k e s = (is_guarded_push words k.pc ≡ true) × IsSeed nodes (offset_of k.sp) e s
+abbrev pub IsPushed : List ℕ → List Node → NodeKey → Edge → SlotSeed → Type 0
+IsPushed words nodes k e s = (is_guarded_push words k.pc ≡ true) × IsLandingSeed nodes (offset_of k.sp) e s
 
 -- a node adds a slot by a guarded push
-pub record SeedComes (words : List ℕ) (A : List Entry) (nodes : List Node) (s : Seed) : Type 0 where
+pub record SeedComes (words : List ℕ) (A : List Entry) (nodes : List Node) (s : SlotSeed) : Type 0 where
   pub at : ℕ
   pub node : Node
   pub edge : Edge
@@ -40,9 +40,9 @@ pub record SeedComes (words : List ℕ) (A : List Entry) (nodes : List Node) (s 
 
 -- Links by the numbers of nodes, the slots that guarded pushes add, and how many slots each node has: of each node, where its edges land that
 -- stay in its frame.
-pub record AreLinks (words : List ℕ) (A : List Entry) (nodes : List Node) (links : List (List ℕ)) (offsets : List ℕ) (seeds : List Seed) : Type 0 where
+pub record AreLinks (words : List ℕ) (A : List Entry) (nodes : List Node) (links : List (List ℕ)) (offsets : List ℕ) (seeds : List SlotSeed) : Type 0 where
   pub count : length links ≡ length nodes
   pub link : (at : ℕ) (n : Node) (t : ℕ) → slice_get nodes at ≡ Some n
       → Contains (links_of links at) t ↔ ((e : Edge) × (IsEdge words A nodes n e × IsTarget nodes e t))
-  pub seed : (s : Seed) → Contains seeds s ↔ SeedComes words A nodes s
+  pub seed : (s : SlotSeed) → Contains seeds s ↔ SeedComes words A nodes s
   pub offsets_are : offsets ≡ offsets_of nodes

@@ -6,7 +6,7 @@ use Rattle.avr_model.specs.declared.assumption.Entry.{Entry}
 use Rattle.avr_model.specs.declared.choice.Flag.{Flag}
 use Rattle.avr_model.specs.declared.choice.Flag.TheVariants.{Live, Protected, Transfer}
 use Rattle.local_rules.specs.declared.local.Node.{Node}
-use Rattle.edge_rules.specs.Families.{Family}
+use Rattle.edge_rules.specs.Families.{RankedFamily}
 use Rattle.edge_rules.specs.Expansion.{IsFilled}
 use Rattle.certificate.specs.Claims.{Claim}
 use Rattle.certificate.specs.Valid.{family_of}
@@ -18,7 +18,7 @@ abbrev pub word_of : FlaggedPlace → ℕ
 word_of place = place.word
 
 -- what may happen at its word by some node of the family that isn't clear, and nothing else
-pub record IsPlaceOf (words : List ℕ) (A : List Entry) (f : Family) (place : FlaggedPlace) : Type 0 where
+pub record IsPlaceOf (words : List ℕ) (A : List Entry) (f : RankedFamily) (place : FlaggedPlace) : Type 0 where
   pub ascending : IsStrictlySortedBy nat_cmp place.protected
   pub protected : (a : ℕ) → Contains place.protected a ↔ MayWriteProtected words A f place.word a
   pub live : (place.live ≡ true) ↔ MayWriteLive words A f place.word

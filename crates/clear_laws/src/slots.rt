@@ -2,7 +2,7 @@
 
 /// A node that has a slot from the start.
 #[derive(Clone, Copy)]
-pub struct Seed {
+pub struct SlotSeed {
     /// The number of the node.
     pub node: u32,
     /// The slot.

@@ -1,6 +1,6 @@
 -- The files of a command, read in their order.
 use Rattle.std.proofs.Common.{◌≡◌, ℕ, true, List, Option, Some, None, refl, sym, ap, ◌∙◌, subst}
-use Rattle.sb_base.specs.Outside.{Held, Blamed, Rose, Blames}
+use Rattle.sb_base.specs.Outside.{Held, Blamed, Rose, IsBlamed}
 use Rattle.commands.specs.Commands.{Command, Role, Firmware, Second, Assumptions, name_of}
 use Rattle.replies.specs.Texts.{too_long}
 use Rattle.replies.specs.Reading as read
@@ -96,8 +96,8 @@ module _ (c : Command) (holds : List ℕ → Held) where
 
 -- ---- where a file isn't read whole
 
-blames_at : (blamed : Blamed) (n m : List ℕ) → n ≡ m → Blames blamed m → Blames blamed n
-blames_at blamed n m e h = subst (Blames blamed) (sym e) h
+blames_at : (blamed : Blamed) (n m : List ℕ) → n ≡ m → IsBlamed blamed m → IsBlamed blamed n
+blames_at blamed n m e h = subst (IsBlamed blamed) (sym e) h
 
 pub first_stops : (c : Command) (holds : List ℕ → Held) (before after : ℕ) (blamed : Blamed) (o : Option (List ℕ)) (e : Unfetched) → name_of c Firmware ≡ o
     → IsUnfetchedUnder holds firmware_cap before after blamed o e → IsUngathered c holds before after blamed e

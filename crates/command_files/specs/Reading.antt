@@ -2,7 +2,7 @@
 use Rattle.std.specs.Prelude.{ℕ, ◌≡◌, List, [], Option, Some, None, ⊤}
 use Rattle.std.specs.Option.{option_map}
 use Rattle.std.specs.Global.{Vec}
-use Rattle.sb_base.specs.Outside.{Held, Blamed, Rose, Blames}
+use Rattle.sb_base.specs.Outside.{Held, Blamed, Rose, IsBlamed}
 use Rattle.commands.specs.Commands.{Command, Firmware, Second, Assumptions, name_of}
 use Rattle.replies.specs.Texts.{too_long}
 use Rattle.replies.specs.Reading as read
@@ -19,7 +19,7 @@ IsFetched held cap before after bytes = Agrees held cap (Whole bytes) × (after 
 
 abbrev pub IsUnfetched : Held → ℕ → List ℕ → ℕ → ℕ → Blamed → Unfetched → Type 0
 IsUnfetched held cap name before after blamed (unread.Long n) = (n.now ≡ name) × Agrees held cap Long × (after ≡ before)
-IsUnfetched held cap name before after blamed (unread.Failed n) = (n.now ≡ name) × Rose before after × Blames blamed name
+IsUnfetched held cap name before after blamed (unread.Failed n) = (n.now ≡ name) × Rose before after × IsBlamed blamed name
 IsUnfetched held cap name before after blamed unread.Memory = after ≡ before
 
 -- ---- a file that a command may have

@@ -9,19 +9,19 @@ use commands::Command;
 use sb_base::{FileFault, Files};
 use std::alloc::Global;
 
-/// The most bytes of a firmware: 16 MiB.
+// The most bytes of a firmware: 16 MiB.
 const FIRMWARE_CAP: usize = 16_777_216;
 
-/// The most bytes of a schedule: 16 MiB.
+// The most bytes of a schedule: 16 MiB.
 const SCHEDULE_CAP: usize = 16_777_216;
 
-/// The most bytes of a certificate: 192 MiB.
+// The most bytes of a certificate: 192 MiB.
 const CERTIFICATE_CAP: usize = 201_326_592;
 
-/// The most bytes of the text of devices: 1 MiB.
+// The most bytes of the text of devices: 1 MiB.
 const DEVICES_CAP: usize = 1_048_576;
 
-/// The most bytes of an assumption file: 1 MiB.
+// The most bytes of an assumption file: 1 MiB.
 const ASSUMPTION_CAP: usize = 1_048_576;
 
 /// Why the files of a command weren't all read.
@@ -60,7 +60,7 @@ fn fetch<'a, F: Files>(
     }
 }
 
-/// The bytes of a file that a command may have, and none where it has no such file.
+// The bytes of a file that a command may have, and none where it has no such file.
 fn fetch_bytes<'a, F: Files>(
     alloc: Global,
     files: &mut F,
@@ -76,7 +76,7 @@ fn fetch_bytes<'a, F: Files>(
     }
 }
 
-/// The same where no file isn't the same as an empty one.
+// The same where no file isn't the same as an empty one.
 fn fetch_optional<'a, F: Files>(
     alloc: Global,
     files: &mut F,
@@ -92,7 +92,7 @@ fn fetch_optional<'a, F: Files>(
     }
 }
 
-/// The cap of a command's second file.
+// The cap of a command's second file.
 fn second_cap(command: &Command<'_>) -> usize
     ensures { result ≡ caps.second_cap (command_seen command.now) }
 {

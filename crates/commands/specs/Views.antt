@@ -1,7 +1,7 @@
 -- What the code's types say.
 use Rattle.std.specs.Prelude.{ℕ, List, Option, Some, None}
 use Rattle.std.specs.Borrow.{Bor}
-use Rattle.commands.specs.declared.line.Line.{Line as Words}
+use Rattle.commands.specs.declared.line.CommandLine.{CommandLine as Words}
 use Rattle.commands.specs.declared.command.Command.{Command as Owned}
 use Rattle.commands.specs.declared.command.Command.TheVariants as owned
 use Rattle.commands.specs.Commands.{Command, Check, Analyse, Run, Report, Explain, Clear, Premises, Attain, Simulate, Demo, Line}

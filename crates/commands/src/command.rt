@@ -2,11 +2,11 @@
 
 ghost use Rattle.std.specs.Prelude.{◌≡◌, map, None, Some};
 ghost use Rattle.std.specs.Option.{option_map};
-ghost use Rattle.commands.specs.Commands.{Firmware, Second, Assumptions, device_for, name_of, empty_line, then_words, steps_in, size_in, device_in, is_stepping, is_plain, check_of, analyse_of, run_of, report_of, explain_of, clear_of, premises_of, attain_of, simulate_of, choices_in, trials_in, demo_of, called, command_of};
+ghost use Rattle.commands.specs.Commands.{Firmware, Second, Assumptions, device_for, name_of, then_words, steps_in, size_in, device_in, is_stepping, is_plain, check_of, analyse_of, run_of, report_of, explain_of, clear_of, premises_of, attain_of, simulate_of, choices_in, trials_in, demo_of, called, command_of};
 ghost use Rattle.commands.specs.Views.{text_of, line_of, command_seen};
 
-use crate::line::Line;
-use crate::size::{Choices, Size};
+use crate::line::CommandLine;
+use crate::size::{ChoiceCount, Size};
 use avr_model::device::Device;
 use sb_base::read_dec;
 
@@ -77,7 +77,7 @@ pub enum Command<'a> {
         firmware: &'a str,
         devices: &'a str,
         assume: Option<&'a str>,
-        steps: Choices,
+        steps: ChoiceCount,
     },
     /// Measures the analysis by the image of this size.
     Demo {
@@ -158,14 +158,14 @@ impl<'a> Command<'a> {
 }
 
 // Whether no option is there but `--assume`, `--device` and `--steps`.
-fn is_stepping(line: &Line<'_>) -> bool
+fn is_stepping(line: &CommandLine<'_>) -> bool
     ensures { result ≡ is_stepping (line_of line.now) }
 {
     line.trials.is_none() && !line.json && !line.why
 }
 
 // Whether no option is there but `--assume` and `--device`.
-fn is_plain(line: &Line<'_>) -> bool
+fn is_plain(line: &CommandLine<'_>) -> bool
     ensures { result ≡ is_plain (line_of line.now) }
 {
     line.steps.is_none() && is_stepping(line)
@@ -185,18 +185,18 @@ fn steps_in(word: Option<&str>) -> Option<Option<u64>>
 }
 
 // The number of choices of a simulated run: 200,000 where none is said, and at most 16,777,216.
-fn choices_in(word: Option<&str>) -> Option<Choices>
+fn choices_in(word: Option<&str>) -> Option<ChoiceCount>
     ensures { result ≡ choices_in (text_of word.entry) }
 {
     match steps_in(word)? {
         Some(steps) => {
             if steps <= 16_777_216 {
-                Some(Choices::new(steps as u32))
+                Some(ChoiceCount::new(steps as u32))
             } else {
-                Some(Choices::new(16_777_216))
+                Some(ChoiceCount::new(16_777_216))
             }
         }
-        None => Some(Choices::new(200_000)),
+        None => Some(ChoiceCount::new(200_000)),
     }
 }
 
@@ -249,7 +249,7 @@ fn device_in(word: Option<&str>) -> Option<Device>
     }
 }
 
-fn check_of<'a>(line: Line<'a>) -> Option<Command<'a>>
+fn check_of<'a>(line: CommandLine<'a>) -> Option<Command<'a>>
     ensures { option_map command_seen result ≡ check_of (line_of line.entry) }
 {
     if !is_plain(&line) {
@@ -270,7 +270,7 @@ fn check_of<'a>(line: Line<'a>) -> Option<Command<'a>>
     })
 }
 
-fn analyse_of<'a>(line: Line<'a>) -> Option<Command<'a>>
+fn analyse_of<'a>(line: CommandLine<'a>) -> Option<Command<'a>>
     ensures { option_map command_seen result ≡ analyse_of (line_of line.entry) }
 {
     if !is_stepping(&line) || line.second.is_some() {
@@ -291,7 +291,7 @@ fn analyse_of<'a>(line: Line<'a>) -> Option<Command<'a>>
     })
 }
 
-fn run_of<'a>(line: Line<'a>) -> Option<Command<'a>>
+fn run_of<'a>(line: CommandLine<'a>) -> Option<Command<'a>>
     ensures { option_map command_seen result ≡ run_of (line_of line.entry) }
 {
     if !is_plain(&line) {
@@ -312,7 +312,7 @@ fn run_of<'a>(line: Line<'a>) -> Option<Command<'a>>
     })
 }
 
-fn report_of<'a>(line: Line<'a>) -> Option<Command<'a>>
+fn report_of<'a>(line: CommandLine<'a>) -> Option<Command<'a>>
     ensures { option_map command_seen result ≡ report_of (line_of line.entry) }
 {
     if line.steps.is_some() || line.trials.is_some() || line.why {
@@ -334,7 +334,7 @@ fn report_of<'a>(line: Line<'a>) -> Option<Command<'a>>
     })
 }
 
-fn explain_of<'a>(line: Line<'a>) -> Option<Command<'a>>
+fn explain_of<'a>(line: CommandLine<'a>) -> Option<Command<'a>>
     ensures { option_map command_seen result ≡ explain_of (line_of line.entry) }
 {
     if !is_plain(&line) {
@@ -355,7 +355,7 @@ fn explain_of<'a>(line: Line<'a>) -> Option<Command<'a>>
     })
 }
 
-fn clear_of<'a>(line: Line<'a>) -> Option<Command<'a>>
+fn clear_of<'a>(line: CommandLine<'a>) -> Option<Command<'a>>
     ensures { option_map command_seen result ≡ clear_of (line_of line.entry) }
 {
     if line.assume.is_some() || !is_plain(&line) {
@@ -375,7 +375,7 @@ fn clear_of<'a>(line: Line<'a>) -> Option<Command<'a>>
     })
 }
 
-fn premises_of<'a>(line: Line<'a>) -> Option<Command<'a>>
+fn premises_of<'a>(line: CommandLine<'a>) -> Option<Command<'a>>
     ensures { option_map command_seen result ≡ premises_of (line_of line.entry) }
 {
     if line.steps.is_some() || line.trials.is_some() || line.json {
@@ -397,7 +397,7 @@ fn premises_of<'a>(line: Line<'a>) -> Option<Command<'a>>
     })
 }
 
-fn attain_of<'a>(line: Line<'a>) -> Option<Command<'a>>
+fn attain_of<'a>(line: CommandLine<'a>) -> Option<Command<'a>>
     ensures { option_map command_seen result ≡ attain_of (line_of line.entry) }
 {
     if line.steps.is_some() || line.json || line.why {
@@ -420,7 +420,7 @@ fn attain_of<'a>(line: Line<'a>) -> Option<Command<'a>>
     })
 }
 
-fn simulate_of<'a>(line: Line<'a>) -> Option<Command<'a>>
+fn simulate_of<'a>(line: CommandLine<'a>) -> Option<Command<'a>>
     ensures { option_map command_seen result ≡ simulate_of (line_of line.entry) }
 {
     if !is_stepping(&line) {
@@ -443,7 +443,7 @@ fn simulate_of<'a>(line: Line<'a>) -> Option<Command<'a>>
     })
 }
 
-fn demo_of<'a>(line: Line<'a>) -> Option<Command<'a>>
+fn demo_of<'a>(line: CommandLine<'a>) -> Option<Command<'a>>
     ensures { option_map command_seen result ≡ demo_of (line_of line.entry) }
 {
     if line.assume.is_some() || line.device.is_some() || !is_plain(&line) || line.second.is_some() {
@@ -455,7 +455,7 @@ fn demo_of<'a>(line: Line<'a>) -> Option<Command<'a>>
 }
 
 // The command of this name.
-fn called<'a>(word: &str, line: Line<'a>) -> Option<Command<'a>>
+fn called<'a>(word: &str, line: CommandLine<'a>) -> Option<Command<'a>>
     ensures { option_map command_seen result ≡ called word.now (line_of line.entry) }
 {
     if word == "check" {
@@ -484,7 +484,7 @@ fn called<'a>(word: &str, line: Line<'a>) -> Option<Command<'a>>
 }
 
 // The line with all these words more, if each can stand where it does. At most twelve can.
-fn line_with<'a>(line: Line<'a>, words: &'a [&'a str]) -> Option<Line<'a>>
+fn line_with<'a>(line: CommandLine<'a>, words: &'a [&'a str]) -> Option<CommandLine<'a>>
     ensures { option_map line_of result ≡ then_words (Some (line_of line.entry)) (map (λ w. w.now) words.now) }
 {
     match words {
@@ -502,7 +502,7 @@ pub fn command_of<'a>(words: &'a [&'a str]) -> Option<Command<'a>>
     match words {
         [] => None,
         [word, rest @ ..] => {
-            let line = line_with(Line::empty(), rest)?;
+            let line = line_with(CommandLine::empty(), rest)?;
             match line.waits {
                 None => called(word, line),
                 Some(_) => None,

@@ -6,4 +6,4 @@ mod line;
 mod size;
 
 pub use command::{Command, command_of};
-pub use size::{Choices, Size};
+pub use size::{ChoiceCount, Size};

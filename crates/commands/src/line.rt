@@ -2,7 +2,7 @@
 
 ghost use Rattle.std.specs.Prelude.{◌≡◌, Some};
 ghost use Rattle.std.specs.Option.{option_map};
-ghost use Rattle.commands.specs.Commands.{is_name, empty_line, once, with_value, named, waiting, with_free, placed, with_word};
+ghost use Rattle.commands.specs.Commands.{is_name, empty_line, with_value, named, waiting, with_free, with_word};
 ghost use Rattle.commands.specs.Views.{text_of, line_of};
 
 /// An option that takes the next word.
@@ -16,7 +16,7 @@ pub enum Valued {
 
 /// The first two names in their order, the options with their values, and the option whose value is the next word.
 #[derive(Clone, Copy)]
-pub struct Line<'a> {
+pub struct CommandLine<'a> {
     pub first: Option<&'a str>,
     pub second: Option<&'a str>,
     pub assume: Option<&'a str>,
@@ -38,12 +38,12 @@ fn is_name(word: &str) -> bool
     }
 }
 
-impl<'a> Line<'a> {
+impl<'a> CommandLine<'a> {
     /// A line without words.
-    pub fn empty() -> Line<'a>
+    pub fn empty() -> CommandLine<'a>
         ensures { line_of result ≡ empty_line }
     {
-        Line {
+        CommandLine {
             first: None,
             second: None,
             assume: None,
@@ -57,13 +57,13 @@ impl<'a> Line<'a> {
     }
 
     // The line with the value of an option, which stands at most once.
-    fn with_value(self, option: Valued, word: &'a str) -> Option<Line<'a>>
+    fn with_value(self, option: Valued, word: &'a str) -> Option<CommandLine<'a>>
         ensures { option_map line_of result ≡ with_value option (line_of self.entry) word.entry.now }
     {
         match option {
             Valued::Assume => match self.assume {
                 Some(_) => None,
-                None => Some(Line {
+                None => Some(CommandLine {
                     assume: Some(word),
                     waits: None,
                     ..self
@@ -71,7 +71,7 @@ impl<'a> Line<'a> {
             },
             Valued::Steps => match self.steps {
                 Some(_) => None,
-                None => Some(Line {
+                None => Some(CommandLine {
                     steps: Some(word),
                     waits: None,
                     ..self
@@ -79,7 +79,7 @@ impl<'a> Line<'a> {
             },
             Valued::Device => match self.device {
                 Some(_) => None,
-                None => Some(Line {
+                None => Some(CommandLine {
                     device: Some(word),
                     waits: None,
                     ..self
@@ -87,7 +87,7 @@ impl<'a> Line<'a> {
             },
             Valued::Trials => match self.trials {
                 Some(_) => None,
-                None => Some(Line {
+                None => Some(CommandLine {
                     trials: Some(word),
                     waits: None,
                     ..self
@@ -97,16 +97,16 @@ impl<'a> Line<'a> {
     }
 
     // The line with a name behind those before, of which there are at most two.
-    fn with_name(self, word: &'a str) -> Option<Line<'a>>
+    fn with_name(self, word: &'a str) -> Option<CommandLine<'a>>
         ensures { option_map line_of result ≡ named (text_of self.entry.first) (text_of self.entry.second) (line_of self.entry) word.entry.now }
     {
         match self.first {
-            None => Some(Line {
+            None => Some(CommandLine {
                 first: Some(word),
                 ..self
             }),
             Some(_) => match self.second {
-                None => Some(Line {
+                None => Some(CommandLine {
                     second: Some(word),
                     ..self
                 }),
@@ -116,17 +116,17 @@ impl<'a> Line<'a> {
     }
 
     // The line whose next word is the value of an option.
-    fn waiting(self, option: Valued) -> Option<Line<'a>>
+    fn waiting(self, option: Valued) -> Option<CommandLine<'a>>
         ensures { option_map line_of result ≡ Some (waiting (line_of self.entry) option) }
     {
-        Some(Line {
+        Some(CommandLine {
             waits: Some(option),
             ..self
         })
     }
 
     // The line with a word that is no option's value.
-    fn with_free(self, word: &'a str) -> Option<Line<'a>>
+    fn with_free(self, word: &'a str) -> Option<CommandLine<'a>>
         ensures { option_map line_of result ≡ with_free (line_of self.entry) word.entry.now }
     {
         if word == "--assume" {
@@ -141,13 +141,13 @@ impl<'a> Line<'a> {
             if self.json {
                 None
             } else {
-                Some(Line { json: true, ..self })
+                Some(CommandLine { json: true, ..self })
             }
         } else if word == "--why" {
             if self.why {
                 None
             } else {
-                Some(Line { why: true, ..self })
+                Some(CommandLine { why: true, ..self })
             }
         } else if is_name(word) {
             self.with_name(word)
@@ -157,7 +157,7 @@ impl<'a> Line<'a> {
     }
 
     /// The line with one word more, if it can stand there.
-    pub fn with_word(self, word: &'a str) -> Option<Line<'a>>
+    pub fn with_word(self, word: &'a str) -> Option<CommandLine<'a>>
         ensures { option_map line_of result ≡ with_word (line_of self.entry) word.entry.now }
     {
         match self.waits {

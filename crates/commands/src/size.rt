@@ -42,11 +42,11 @@ impl Size {
 
 /// How many choices a simulated run has unless a stop comes before: at most 16,777,216.
 #[derive(Clone, Copy)]
-pub struct Choices {
+pub struct ChoiceCount {
     count: u32,
 }
 
-impl Model for Choices {
+impl Model for ChoiceCount {
     ghost Value = { ℕ };
 
     ghost view = { λ a. a.count };
@@ -56,13 +56,13 @@ impl Model for Choices {
     ghost inverse = { λ n. record { count = n } };
 }
 
-impl Choices {
+impl ChoiceCount {
     /// So many choices.
-    pub fn new(count: u32) -> Choices
+    pub fn new(count: u32) -> ChoiceCount
         requires { count ≤ 16777216 }
         ensures { result ≡ count }
     {
-        Choices { count }
+        ChoiceCount { count }
     }
 
     /// The number of choices.

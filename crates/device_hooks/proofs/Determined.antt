@@ -7,7 +7,7 @@ use Rattle.std.specs.Fn.{Shared}
 use Rattle.basics.specs.Numbers.{most_from_start}
 use Rattle.witness_replay.specs.Replay.{Report, steps_of}
 use Rattle.device_hooks.specs.declared.hook.Moment.{Moment}
-use Rattle.device_hooks.specs.declared.walk.Walked.{Walked}
+use Rattle.device_hooks.specs.declared.walk.WalkedRun.{WalkedRun}
 use Rattle.avr_model.specs.declared.choice.Choice.{Choice}
 use Rattle.avr_model.specs.declared.assumption.Entry.{Entry}
 use Rattle.avr_model.specs.Devices.{device_of, ramend}
@@ -154,7 +154,7 @@ first_due_at {F} {g} h k timers hook same answers =
     subst P (sym same) (first_due_by g k.1 k.0 timers answers)
 
 -- what is told of the walk is what is told of the run of the devices alone
-pub told : DepthIsKept → (first second : Answering) (setup : Setup) (words : List ℕ) (A : List Entry) (n : ℕ) (m : Machine) (walk : Walked) (end : Machine) → Walks (Either first second) setup words A n false m walk end
+pub told : DepthIsKept → (first second : Answering) (setup : Setup) (words : List ℕ) (A : List Entry) (n : ℕ) (m : Machine) (walk : WalkedRun) (end : Machine) → Walks (Either first second) setup words A n false m walk end
     → m ≡ starting (initial words setup) → IsFirstDue first setup true → IsFirstDue second setup false
     → ◌≡◌ {A = Report} (record { steps = walk.steps; depth = end.depth; stop = walk.stop }) (simulation_of words A setup n)
 told law first second setup words A n m walk end w start f g =

@@ -12,14 +12,14 @@ use Rattle.sb_base.specs.Answers.{Answers}
 use Rattle.sb_base.specs.Lines.{TextLine, Place, joined, lines_of, spaced}
 use Rattle.line_reading.specs.Reading.{first_by, this_by, line_by}
 use Rattle.line_reading.specs.Words.{IsWord, whole, Passes, WordLaws}
-use Rattle.device_hooks.specs.declared.devices.Kind.{Kind}
-use Rattle.device_hooks.specs.declared.devices.Kind.TheVariants.{Timer, Bytes}
+use Rattle.device_hooks.specs.declared.devices.SourceKind.{SourceKind}
+use Rattle.device_hooks.specs.declared.devices.SourceKind.TheVariants.{Timer, Bytes}
 use Rattle.device_hooks.specs.declared.devices.Source.{Source}
 use Rattle.device_hooks.specs.declared.devices.DevicesFault.{DevicesFault}
 use Rattle.device_hooks.specs.declared.devices.DevicesFault.TheVariants.{Malformed, Memory}
 use Rattle.device_hooks.specs.Spelling.{Setup, IsSource, IsSetup, most_sources, name_of, source_words, header, ending, setup_lines, text_of}
 use Rattle.device_hooks.specs.Reading.{sources_from, if_last, setup_at, malformed, setup_in}
-use Rattle.device_hooks.specs.Exact.{IsReading, Begins, NoneGoesOn, IsDueUnlessMemory, ReadIsSpelled, SpelledIsRead, RefusedIsStuck, OneText}
+use Rattle.device_hooks.specs.Exact.{IsSetupReading, BeginsSetup, NoSetupGoesOn, IsSetupDueUnlessMemory, ReadSetupIsSpelled, SpelledSetupIsRead, RefusedSetupIsStuck, SetupsHaveOneText}
 use Rattle.line_reading.proofs.AllLaws.{ok_is, err_ok, line_takes, line_refuses, line_again, passes_none, passes_more, passes_split, then_ok, then_err}
 use Rattle.device_hooks.proofs.Sources.{source_lines, sources_take, NoSource, sources_stuck, sources_again, are_words}
 
@@ -54,7 +54,7 @@ setup_words k setup h = (
 
 -- ---- what is read is spelled so
 
-record Stands (p : Place) (setup : Setup) : Type 0 where
+record StandsWhole (p : Place) (setup : Setup) : Type 0 where
   pub fits : IsSetup setup
   pub end : Place
   pub nothing : end.rest ≡ []
@@ -64,7 +64,7 @@ last_ok : (ls : List TextLine) (s setup : Setup) (p : Place) → if_last ls s p 
 last_ok [] s setup p e = (refl, ok_is s setup e)
 last_ok (l ∷ ls) s setup p e = absurd (err_ok p setup e)
 
-read_stands : WordLaws → (p : Place) (setup : Setup) → setup_at p ≡ Ok setup → Stands p setup
+read_stands : WordLaws → (p : Place) (setup : Setup) → setup_at p ≡ Ok setup → StandsWhole p setup
 unfolding setup_at
 read_stands k p setup e =
     let h = then_ok (line_by header_by p) _ setup e in
@@ -77,7 +77,7 @@ read_stands k p setup e =
     let sources = sources_take k most_sources f.0.1.at f.0.1.rest r.0.0 r.0.1 r.1 in
     let top = as_words header_by p h.0.0 h.0.1 first header (header_is first.text h.0.0 first.read) in
     let fill = as_words fill_by h.0.1 f.0.0 f.0.1 second (filling f.0.0) byte.0 in
-    subst (Stands p) last.1 (record {
+    subst (StandsWhole p) last.1 (record {
       fits = record { fill_is_byte = byte.1; count = sources.room; all = sources.fit };
       end = r.0.1;
       nothing = last.0;
@@ -92,7 +92,7 @@ malformed_ok (Err q) x e = cc
 joined_none : (q : Place) → q.rest ≡ [] → joined q.rest ≡ []
 joined_none q e = ap joined e
 
-pub read_is_spelled : WordLaws → ReadIsSpelled
+pub read_is_spelled : WordLaws → ReadSetupIsSpelled
 unfolding setup_in
 read_is_spelled k text setup e =
     let s = read_stands k (start text) setup (malformed_ok (setup_at (start text)) setup e) in
@@ -114,7 +114,7 @@ stands_read k p setup q fits none lines =
     let sources = sources_again k most_sources b.0.at b.0.rest setup.sources q fits.all fits.count b.2 in
     rw (top, fill, sources, none) refl
 
-pub spelled_is_read : WordLaws → SpelledIsRead
+pub spelled_is_read : WordLaws → SpelledSetupIsRead
 unfolding setup_in
 spelled_is_read k text setup h =
     let q : Place = record { at = 0 + length (text_of setup); rest = [] } in
@@ -122,7 +122,7 @@ spelled_is_read k text setup h =
     let lines = k.text_lines (start text) (setup_lines setup) q (setup_words k setup h.fits) (k.are_lines text) tt (record { bytes = bytes; offset = refl }) in
     ap malformed (stands_read k (start text) setup q h.fits refl lines)
 
-pub one_text : WordLaws → OneText
+pub one_text : WordLaws → SetupsHaveOneText
 one_text k a b fa fb e =
     let ra = spelled_is_read k (text_of a) a (record { fits = fa; bytes = refl }) in
     let rb = spelled_is_read k (text_of a) b (record { fits = fb; bytes = e }) in
@@ -138,7 +138,7 @@ record NextSource (left : ℕ) (ws : List (List ℕ)) : Type 0 where
   pub room : 1 ≤ left
   pub words : ws ≡ source_words source
 
-end_is_no_kind : (kind : Kind) → codes "end" ≡ name_of kind → ⊥
+end_is_no_kind : (kind : SourceKind) → codes "end" ≡ name_of kind → ⊥
 end_is_no_kind Timer e = cc
 end_is_no_kind (Bytes bs) e = cc
 
@@ -178,20 +178,20 @@ bare b = record { fill = b; sources = [] }
 bare_fits : (b : ℕ) → b < 256 → IsSetup (bare b)
 bare_fits b small = record { fill_is_byte = small; count = lit≤ tt; all = tt }
 
-stop_header : (ls : List TextLine) → first_by header_by ls ≡ None → NoneGoesOn [] ls
+stop_header : (ls : List TextLine) → first_by header_by ls ≡ None → NoSetupGoesOn [] ls
 stop_header [] e = λ b. nil_not_cons _ _ (sym b.all)
 stop_header (l ∷ ls) e = λ ws more is b.
     let c = same_head_and_tail header ws _ more b.all in
     none-some tt (sym e ∙ ap (λ (x : TextLine). first_by header_by (x ∷ ls)) (is ∙ ap whole (sym c.0)) ∙ header_again)
 
-stop_fill : WordLaws → (ls : List TextLine) → first_by fill_by ls ≡ None → NoneGoesOn (header ∷ []) ls
+stop_fill : WordLaws → (ls : List TextLine) → first_by fill_by ls ≡ None → NoSetupGoesOn (header ∷ []) ls
 stop_fill k [] e = λ b. nil_not_cons _ _ (sym (same_head_and_tail header header _ [] b.all).1)
 stop_fill k (l ∷ ls) e = λ ws more is b.
     let c = same_head_and_tail header header _ (ws ∷ more) b.all in
     let d = same_head_and_tail (filling b.setup.fill) ws _ more c.1 in
     none-some b.setup.fill (sym e ∙ ap (λ (x : TextLine). first_by fill_by (x ∷ ls)) (is ∙ ap whole (sym d.0)) ∙ fill_again k b.setup.fill b.fits.fill_is_byte)
 
-stop_sources : (fill : ℕ) (sources : List Source) (ls : List TextLine) → NoSource (most_sources - length sources) ls → NoneGoesOn (header ∷ filling fill ∷ map source_words sources) ls
+stop_sources : (fill : ℕ) (sources : List Source) (ls : List TextLine) → NoSource (most_sources - length sources) ls → NoSetupGoesOn (header ∷ filling fill ∷ map source_words sources) ls
 stop_sources fill sources [] none = λ b.
     let c = same_head_and_tail header header _ (filling fill ∷ (map source_words sources ++ [])) b.all in
     no_end sources b.setup.sources (same_head_and_tail (filling b.setup.fill) (filling fill) (source_lines b.setup.sources) (map source_words sources ++ []) c.1).1
@@ -203,7 +203,7 @@ stop_sources fill sources (l ∷ ls) none = λ ws more is b.
       | inr h ↦ none.0 h.source h.fits h.room (is ∙ ap whole h.words)
     ]
 
-stop_end : (setup : Setup) (l : TextLine) (ls : List TextLine) → NoneGoesOn (setup_lines setup) (l ∷ ls)
+stop_end : (setup : Setup) (l : TextLine) (ls : List TextLine) → NoSetupGoesOn (setup_lines setup) (l ∷ ls)
 stop_end setup l ls = λ ws more is b.
     let c = same_head_and_tail header header _ (filling setup.fill ∷ ((source_lines setup.sources ++ ws ∷ []) ++ more)) b.all in
     let d = same_head_and_tail (filling b.setup.fill) (filling setup.fill) (source_lines b.setup.sources) ((source_lines setup.sources ++ ws ∷ []) ++ more) c.1 in
@@ -214,8 +214,8 @@ record StuckAt (p q : Place) : Type 0 where
   pub before : List (List (List ℕ))
   pub passed : Passes p (map whole before) q
   pub more : List (List (List ℕ))
-  pub begins : Begins before more
-  pub stop : NoneGoesOn before q.rest
+  pub begins : BeginsSetup before more
+  pub stop : NoSetupGoesOn before q.rest
 
 header_stuck : (p q : Place) → line_by header_by p ≡ Err q → StuckAt p q
 header_stuck p q e =
@@ -258,7 +258,7 @@ end_stuck k p h f r q b ss top fill small e (l ∷ ls) is last =
     let sources = sources_take k most_sources f.at f.rest ss r e in
     let setup : Setup = record { fill = b; sources = ss } in
     let same : r ≡ q = let bad : ◌≡◌ {A = Result Setup Place} (Err r) (Err q) = last in cc in
-    let stop : NoneGoesOn (setup_lines setup) r.rest = let P : List TextLine → Type 0 = λ xs. NoneGoesOn (setup_lines setup) xs in subst P (sym is) (stop_end setup l ls) in
+    let stop : NoSetupGoesOn (setup_lines setup) r.rest = let P : List TextLine → Type 0 = λ xs. NoSetupGoesOn (setup_lines setup) xs in subst P (sym is) (stop_end setup l ls) in
     subst (StuckAt p) same (record {
       before = setup_lines setup;
       passed = passes_more p h r (whole header ∷ []) (whole (filling b) ∷ map whole (source_lines ss)) top
@@ -292,7 +292,7 @@ malformed_err : (d : Result Setup Place) (at : ℕ) → malformed d ≡ Err (Mal
 malformed_err (Ok s) at e = cc
 malformed_err (Err q) at e = (q, refl, let same : Malformed q.at ≡ Malformed at = cc in cc)
 
-pub refused_is_stuck : WordLaws → RefusedIsStuck
+pub refused_is_stuck : WordLaws → RefusedSetupIsStuck
 unfolding setup_in
 refused_is_stuck k text at e =
     let q = malformed_err (setup_at (start text)) at e in
@@ -301,10 +301,10 @@ refused_is_stuck k text at e =
 
 -- ---- the call that reads
 
-pub due : ReadIsSpelled → RefusedIsStuck → (text : List ℕ) (r : Result Setup DevicesFault) → Answers (λ d. d) Memory r (setup_in text) → IsDueUnlessMemory text r
+pub due : ReadSetupIsSpelled → RefusedSetupIsStuck → (text : List ℕ) (r : Result Setup DevicesFault) → Answers (λ d. d) Memory r (setup_in text) → IsSetupDueUnlessMemory text r
 due read refused text (Ok d) e = read text d e
 due read refused text (Err Memory) e = tt
 due read refused text (Err (Malformed at)) e = refused text at (e (λ bad. cc))
 
-pub answers_spelled : SpelledIsRead → (text : List ℕ) (r : Result Setup DevicesFault) (setup : Setup) → Answers (λ d. d) Memory r (setup_in text) → IsReading text setup → Answers (λ d. d) Memory r (Ok setup)
+pub answers_spelled : SpelledSetupIsRead → (text : List ℕ) (r : Result Setup DevicesFault) (setup : Setup) → Answers (λ d. d) Memory r (setup_in text) → IsSetupReading text setup → Answers (λ d. d) Memory r (Ok setup)
 answers_spelled law text r setup e h = let P : Result Setup DevicesFault → Type 0 = λ d. Answers (λ x. x) Memory r d in subst P (law text setup h) e

@@ -14,8 +14,8 @@ use Rattle.avr_model.specs.State.{State}
 use Rattle.avr_model.specs.Step.{Answer, Illegal, Undefined, Overflow, Flagged, Done, step, take, entering, may_take, result_of}
 use Rattle.avr_model.specs.Run.{HasBytes, IsRun, RunsOn}
 use Rattle.stimulus.specs.Driving.{choices_on}
-use Rattle.device_hooks.specs.declared.devices.Kind.{Kind}
-use Rattle.device_hooks.specs.declared.devices.Kind.TheVariants.{Timer, Bytes}
+use Rattle.device_hooks.specs.declared.devices.SourceKind.{SourceKind}
+use Rattle.device_hooks.specs.declared.devices.SourceKind.TheVariants.{Timer, Bytes}
 use Rattle.device_hooks.specs.declared.devices.Source.{Source}
 use Rattle.device_hooks.specs.Spelling.{Setup, IsKind, IsSource, IsSetup}
 use Rattle.device_hooks.specs.Due.{Progress, begun, is_of, is_due, is_ready_source, is_ready, first_ready, or_else, choice_at, choice_on, answered, next_on, passed_at, input_after, taken_of}
@@ -70,7 +70,7 @@ index_small [] n h = lit< tt
 index_small (b ∷ bs) zero h = h.0
 index_small (b ∷ bs) (suc n) h = index_small bs n h.1
 
-input_small : (kind : Kind) (n input : ℕ) → IsKind kind → input < 256 → input_after kind n input < 256
+input_small : (kind : SourceKind) (n input : ℕ) → IsKind kind → input < 256 → input_after kind n input < 256
 input_small Timer n input h small = small
 input_small (Bytes bytes) n input h small = index_small bytes n h.2
 

@@ -14,8 +14,8 @@ use Rattle.sb_base.specs.Lines.{TextLine, Place, size_of, words_of, spaced}
 use Rattle.line_reading.specs.Reading.{hex_at, dec_at, is_over, first_by}
 use Rattle.line_reading.specs.Words.{IsWord, whole, Passes, WordLaws}
 use Rattle.device_hooks.specs.declared.reading.Times.{Times}
-use Rattle.device_hooks.specs.declared.devices.Kind.{Kind}
-use Rattle.device_hooks.specs.declared.devices.Kind.TheVariants.{Timer, Bytes}
+use Rattle.device_hooks.specs.declared.devices.SourceKind.{SourceKind}
+use Rattle.device_hooks.specs.declared.devices.SourceKind.TheVariants.{Timer, Bytes}
 use Rattle.device_hooks.specs.declared.devices.Source.{Source}
 use Rattle.device_hooks.specs.Spelling.{most_bytes, most_steps, IsSource, source_words, ending}
 use Rattle.device_hooks.specs.Reading.{times_at, bytes_in, source_of, timer_in, receiver_by, receiver_in, source_in, source_by, part_by, with_front, with_part, sources_from}
@@ -163,10 +163,10 @@ source_takes k (w ∷ ws) s e = elim (chosen (bytes_eq w (codes "timer")) _ _ (S
   ]
 ]
 
-times_fit : (t : Times) (kind : Kind) → IsSource (source_of t kind) → IsTimes t
+times_fit : (t : Times) (kind : SourceKind) → IsSource (source_of t kind) → IsTimes t
 times_fit t kind h = record { vector_from = h.vector_from; vector_to = h.vector_to; first = h.first; period_from = h.period_from; period_to = h.period_to }
 
-kind_again : WordLaws → (t : Times) (kind : Kind) → IsSource (source_of t kind) → source_in (source_words (source_of t kind)) ≡ Some (source_of t kind)
+kind_again : WordLaws → (t : Times) (kind : SourceKind) → IsSource (source_of t kind) → source_in (source_words (source_of t kind)) ≡ Some (source_of t kind)
 unfolding source_in
 kind_again k t Timer h = let times = times_again k t [] (times_fit t Timer h) in rw times refl
 kind_again k t (Bytes bs) h =
@@ -179,7 +179,7 @@ kind_again k t (Bytes bs) h =
 pub source_again : WordLaws → (s : Source) → IsSource s → source_in (source_words s) ≡ Some s
 source_again k s h = kind_again k (record { vector = s.vector; first = s.first; period = s.period }) s.kind h
 
-kind_words : WordLaws → (t : Times) (kind : Kind) → IsSource (source_of t kind) → AllByRecursion IsWord (source_words (source_of t kind))
+kind_words : WordLaws → (t : Times) (kind : SourceKind) → IsSource (source_of t kind) → AllByRecursion IsWord (source_words (source_of t kind))
 kind_words k t Timer h = (
   ((refl, (refl, (refl, (refl, (refl, tt))))), (refl, (refl, (refl, (refl, (refl, tt)))))),
   (k.dec_word t.vector (omega (arith, h.vector_to)), (k.dec_word t.first (omega (arith, h.first)), (k.dec_word t.period (omega (arith, h.period_to)), tt))),
@@ -222,7 +222,7 @@ part_end left text e = elim (chosen (bytes_eq text (codes "end")) _ _ (Some None
 ]
 
 -- no source's line is the last one
-not_last : (kind : Kind) (rest : List (List ℕ)) (s : Source) → s.kind ≡ kind → bytes_eq (spaced (source_words s)) (codes "end") ≡ false
+not_last : (kind : SourceKind) (rest : List (List ℕ)) (s : Source) → s.kind ≡ kind → bytes_eq (spaced (source_words s)) (codes "end") ≡ false
 not_last Timer rest s e = rw e refl
 not_last (Bytes bs) rest s e = rw e refl
 

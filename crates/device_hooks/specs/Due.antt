@@ -2,13 +2,13 @@
 use Rattle.std.specs.Prelude.{ℕ, ◌+◌, ◌*◌, ◌&&◌, not, nat_le, nat_lt, zero, suc, Bool, true, false, if◌then◌else◌, List, length, replicate, Option, Some, None, slice_get, slice_index_or, slice_set}
 use Rattle.avr_model.specs.declared.choice.Choice.{Choice}
 use Rattle.avr_model.specs.declared.choice.Choice.TheVariants.{Go, Take}
-use Rattle.device_hooks.specs.declared.devices.Kind.{Kind}
-use Rattle.device_hooks.specs.declared.devices.Kind.TheVariants.{Timer, Bytes}
+use Rattle.device_hooks.specs.declared.devices.SourceKind.{SourceKind}
+use Rattle.device_hooks.specs.declared.devices.SourceKind.TheVariants.{Timer, Bytes}
 use Rattle.device_hooks.specs.declared.devices.Source.{Source}
 use Rattle.device_hooks.specs.Spelling.{Setup}
 
 -- a receiver has as many requests as bytes, a timer has no last one
-abbrev pub is_left : Kind → ℕ → Bool
+abbrev pub is_left : SourceKind → ℕ → Bool
 is_left Timer taken = true
 is_left (Bytes bytes) taken = nat_lt taken (length bytes)
 
@@ -16,12 +16,12 @@ is_left (Bytes bytes) taken = nat_lt taken (length bytes)
 abbrev pub is_due : Source → ℕ → ℕ → Bool
 is_due s taken step = nat_le (s.first + taken * s.period) step && is_left s.kind taken
 
-abbrev pub is_timer : Kind → Bool
+abbrev pub is_timer : SourceKind → Bool
 is_timer Timer = true
 is_timer (Bytes bytes) = false
 
 -- it is a timer, or else a receiver
-abbrev pub is_of : Bool → Kind → Bool
+abbrev pub is_of : Bool → SourceKind → Bool
 is_of timers Timer = timers
 is_of timers (Bytes bytes) = not timers
 
@@ -36,7 +36,7 @@ abbrev pub begun : Setup → Progress
 begun setup = record { step = 0; taken = replicate (length setup.sources) 0; input = 0 }
 
 -- The input byte behind take number n, counted from 0, of a source: a receiver gives its byte n, or 0 where it has none.
-abbrev pub input_after : Kind → ℕ → ℕ → ℕ
+abbrev pub input_after : SourceKind → ℕ → ℕ → ℕ
 input_after Timer n input = input
 input_after (Bytes bytes) n input = slice_index_or bytes n 0
 

@@ -7,14 +7,14 @@ use Rattle.avr_model.specs.State.{State}
 use Rattle.avr_model.specs.Run.{Machine, IsRun, stop_of}
 use Rattle.stimulus.specs.Driving.{machine_after}
 use Rattle.witness_replay.specs.Replay.{steps_of}
-use Rattle.device_hooks.specs.declared.walk.Walked.{Walked}
+use Rattle.device_hooks.specs.declared.walk.WalkedRun.{WalkedRun}
 use Rattle.device_hooks.specs.Spelling.{Setup}
 use Rattle.device_hooks.specs.Due.{Progress, begun, choice_on, next_on}
 use Rattle.device_hooks.specs.Hooks.{Answering}
 use Rattle.device_hooks.specs.Simulating.{Asked, Chooses}
 
 -- a count for each source, none of them above the steps
-pub record IsKnown (setup : Setup) (p : Progress) : Type 0 where
+pub record IsProgressKnown (setup : Setup) (p : Progress) : Type 0 where
   pub counts : length p.taken ≡ length setup.sources
   pub few : All (λ k. k ≤ p.step) p.taken
 
@@ -30,7 +30,7 @@ abbrev pub kept_on : Bool → List Choice → Choice → List Choice
 kept_on keeps choices choice = if keeps then choices ++ choice ∷ [] else choices
 
 -- a whole run: its choices, which are told if they are kept, its done steps and its stop
-pub record Walks (answers : Answering) (setup : Setup) (words : List ℕ) (A : List Entry) (n : ℕ) (keeps : Bool) (m : Machine) (walk : Walked) (end : Machine) : Type 0 where
+pub record Walks (answers : Answering) (setup : Setup) (words : List ℕ) (A : List Entry) (n : ℕ) (keeps : Bool) (m : Machine) (walk : WalkedRun) (end : Machine) : Type 0 where
   pub choices : List Choice
   pub kept : keeps ≡ true → walk.choices ≡ choices
   pub chooses : Chooses answers setup words A n (begun setup) m.state choices

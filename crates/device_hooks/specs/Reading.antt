@@ -7,8 +7,8 @@ use Rattle.witness_replay.specs.Reading.{fill_by}
 use Rattle.sb_base.specs.Lines.{TextLine, Place, size_of, lines_of, words_of}
 use Rattle.line_reading.specs.Reading.{◌>>=◌, hex_at, dec_at, is_over, then_at, first_by, this_by, line_by}
 use Rattle.device_hooks.specs.declared.reading.Times.{Times}
-use Rattle.device_hooks.specs.declared.devices.Kind.{Kind}
-use Rattle.device_hooks.specs.declared.devices.Kind.TheVariants.{Timer, Bytes}
+use Rattle.device_hooks.specs.declared.devices.SourceKind.{SourceKind}
+use Rattle.device_hooks.specs.declared.devices.SourceKind.TheVariants.{Timer, Bytes}
 use Rattle.device_hooks.specs.declared.devices.Source.{Source}
 use Rattle.device_hooks.specs.declared.devices.DevicesFault.{DevicesFault}
 use Rattle.device_hooks.specs.declared.devices.DevicesFault.TheVariants.{Malformed}
@@ -29,7 +29,7 @@ abbrev pub bytes_in : List (List ℕ) → Option (List ℕ)
 bytes_in [] = Some []
 bytes_in (w ∷ ws) = hex_at 2 (w ∷ ws) >>= λ b. option_map (λ bs. b.0 ∷ bs) (bytes_in ws)
 
-abbrev pub source_of : Times → Kind → Source
+abbrev pub source_of : Times → SourceKind → Source
 source_of t kind = record { vector = t.vector; first = t.first; period = t.period; kind = kind }
 
 -- behind `timer`

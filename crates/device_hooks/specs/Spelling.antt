@@ -5,8 +5,8 @@ use Rattle.std.specs.Fmt.{decimal}
 use Rattle.witness_replay.specs.Spelling.{filling}
 use Rattle.sb_base.specs.Digits.{hex_digits}
 use Rattle.sb_base.specs.Lines.{line}
-use Rattle.device_hooks.specs.declared.devices.Kind.{Kind}
-use Rattle.device_hooks.specs.declared.devices.Kind.TheVariants.{Timer, Bytes}
+use Rattle.device_hooks.specs.declared.devices.SourceKind.{SourceKind}
+use Rattle.device_hooks.specs.declared.devices.SourceKind.TheVariants.{Timer, Bytes}
 use Rattle.device_hooks.specs.declared.devices.Source.{Source}
 
 -- the byte that registers and SRAM hold at first, and the interrupt sources
@@ -27,7 +27,7 @@ most_steps = 16777216
 -- ---- which sources there may be
 
 -- a receiver has 1 to 64 bytes
-abbrev pub IsKind : Kind → Type 0
+abbrev pub IsKind : SourceKind → Type 0
 IsKind Timer = ⊤
 IsKind (Bytes bytes) = (1 ≤ length bytes) × (length bytes ≤ most_bytes) × AllByRecursion (λ b. b < 256) bytes
 
@@ -46,12 +46,12 @@ pub record IsSetup (setup : Setup) : Type 0 where
 
 -- ---- the text
 
-abbrev pub name_of : Kind → List ℕ
+abbrev pub name_of : SourceKind → List ℕ
 name_of Timer = codes "timer"
 name_of (Bytes bytes) = codes "bytes"
 
 -- each byte as a word of two digits
-abbrev pub byte_words : Kind → List (List ℕ)
+abbrev pub byte_words : SourceKind → List (List ℕ)
 byte_words Timer = []
 byte_words (Bytes bytes) = map (λ b. hex_digits b 2) bytes
 

@@ -1,12 +1,12 @@
 //! The devices that are connected to a machine.
 
-ghost use Rattle.std.specs.Prelude.{◌≡◌, ◌<◌, length, Some, slice_get, IfOk, Ok};
+ghost use Rattle.std.specs.Prelude.{◌≡◌, ◌<◌, length, Some, slice_get, Ok};
 ghost use Rattle.std.specs.Option.{option_map};
 ghost use Rattle.sb_base.specs.Answers.{Answers};
 ghost use Rattle.device_hooks.specs.declared.devices.DevicesFault.TheVariants as fault;
 ghost use Rattle.device_hooks.specs.Spelling.{Setup};
 ghost use Rattle.device_hooks.specs.Reading.{setup_in};
-ghost use Rattle.device_hooks.specs.Exact.{IsReading, IsDueUnlessMemory};
+ghost use Rattle.device_hooks.specs.Exact.{IsSetupReading, IsSetupDueUnlessMemory};
 ghost use Rattle.device_hooks.specs.Due.{is_timer, is_of, is_left, is_due, input_after};
 
 use crate::laws::reading_is_exact;
@@ -18,7 +18,7 @@ use std::marker::Model;
 
 /// What kind of source asks for interrupts.
 #[derive(Drop)]
-pub enum Kind {
+pub enum SourceKind {
     /// A timer, which asks again and again.
     Timer,
     /// A receiver, which asks once for each of its 1 to 64 bytes.
@@ -35,7 +35,7 @@ pub struct Source {
     /// How many steps lie between two requests, 1 to 16,777,216.
     pub period: u32,
     /// Timer or receiver.
-    pub kind: Kind,
+    pub kind: SourceKind,
 }
 
 impl Source {
@@ -44,39 +44,39 @@ impl Source {
         ensures { result ≡ is_timer self.now.kind }
     {
         match self.kind {
-            Kind::Timer => true,
-            Kind::Bytes(_) => false,
+            SourceKind::Timer => true,
+            SourceKind::Bytes(_) => false,
         }
     }
 
-    /// Whether it is a timer, or where `timers` says no, whether it is a receiver.
+    // Whether it is a timer, or where `timers` says no, whether it is a receiver.
     pub(crate) fn is_of(&self, timers: bool) -> bool
         ensures { result ≡ is_of timers self.now.kind }
     {
         match self.kind {
-            Kind::Timer => timers,
-            Kind::Bytes(_) => !timers,
+            SourceKind::Timer => timers,
+            SourceKind::Bytes(_) => !timers,
         }
     }
 
-    /// Whether requests are left after so many.
+    // Whether requests are left after so many.
     fn is_left(&self, taken: u32) -> bool
         ensures { result ≡ is_left self.now.kind taken }
     {
         match &self.kind {
-            Kind::Timer => true,
-            Kind::Bytes(bytes) => (taken as usize) < bytes.as_slice().len(),
+            SourceKind::Timer => true,
+            SourceKind::Bytes(bytes) => (taken as usize) < bytes.as_slice().len(),
         }
     }
 
-    /// The byte that instructions read after request number `n` was taken, where it was this one before: a receiver's byte `n`,
-    /// or 0 where it has none.
+    // The byte that instructions read after request number `n` was taken, where it was this one before: a receiver's byte `n`,
+    // or 0 where it has none.
     pub(crate) fn input_after(&self, n: u32, input: u8) -> u8
         ensures { result ≡ input_after self.now.kind n input }
     {
         match &self.kind {
-            Kind::Timer => input,
-            Kind::Bytes(bytes) => bytes.as_slice().get(n as usize).copied().unwrap_or(0),
+            SourceKind::Timer => input,
+            SourceKind::Bytes(bytes) => bytes.as_slice().get(n as usize).copied().unwrap_or(0),
         }
     }
 
@@ -149,8 +149,8 @@ impl Devices {
     /// with the text's length where a line is missing. Source: own.
     pub fn read(alloc: Global, text: &[u8]) -> Result<Devices, DevicesFault>
         ensures exact { Answers (λ d. d) fault.Memory result (setup_in text.now) }
-        ensures told { IsDueUnlessMemory text.now result }
-        ensures spelled { (setup : Setup) → IsReading text.now setup → Answers (λ d. d) fault.Memory result (Ok setup) }
+        ensures told { IsSetupDueUnlessMemory text.now result }
+        ensures spelled { (setup : Setup) → IsSetupReading text.now setup → Answers (λ d. d) fault.Memory result (Ok setup) }
     {
         reading_is_exact();
         read_setup(alloc, text)

@@ -1,6 +1,6 @@
 //! Hooks: closures that choose among interrupt sources.
 
-ghost use Rattle.std.specs.Prelude.{◌≡◌, ◌<◌, length, true, false};
+ghost use Rattle.std.specs.Prelude.{◌≡◌, ◌<◌, length, false};
 ghost use Rattle.device_hooks.specs.Spelling.{Setup};
 ghost use Rattle.device_hooks.specs.Hooks.{stands_in, MayAnswer, IsHook};
 ghost use Rattle.device_hooks.specs.Due.{is_ready, first_ready};
@@ -55,7 +55,7 @@ impl<'a, F: Fn(&Moment<'_>, &Menu) -> Option<usize>> Hook<'a, F> {
     }
 }
 
-/// Whether source `n` is a timer, or else a receiver, is due and has its interrupt in the menu.
+// Whether source `n` is a timer, or else a receiver, is due and has its interrupt in the menu.
 fn is_ready(devices: &Devices, timers: bool, moment: &Moment<'_>, menu: &Menu, n: usize) -> bool
     requires { n < length moment.now.taken.now }
     ensures { result ≡ is_ready devices.now (stands_in menu.now) timers moment.now.taken.now moment.now.step n }
@@ -69,7 +69,7 @@ fn is_ready(devices: &Devices, timers: bool, moment: &Moment<'_>, menu: &Menu, n
     }
 }
 
-/// The first source in the text's order that is a timer, or else a receiver, is due and has its interrupt in the menu.
+// The first source in the text's order that is a timer, or else a receiver, is due and has its interrupt in the menu.
 #[tactic(auto, using(crate::proofs::Ready::first_here, crate::proofs::Ready::first_later, crate::proofs::Ready::first_none))]
 pub(crate) fn first_due(
     devices: &Devices,

@@ -1,6 +1,6 @@
 //! Laws of devices' texts and of the runs that devices choose. Each function does nothing; its contract is the law.
 
-ghost use Rattle.device_hooks.specs.Exact.{ReadIsSpelled, SpelledIsRead, RefusedIsStuck, OneText};
+ghost use Rattle.device_hooks.specs.Exact.{ReadSetupIsSpelled, SpelledSetupIsRead, RefusedSetupIsStuck, SetupsHaveOneText};
 ghost use Rattle.device_hooks.specs.Laws.{SimulationsAreRuns, SimulationsAreBounded};
 
 use line_reading::laws::word_laws;
@@ -8,10 +8,10 @@ use line_reading::laws::word_laws;
 /// What is read of a text is spelled so, all that is spelled is read, and a text that is refused is stuck at the line that is
 /// told. No text is that of two setups.
 pub fn reading_is_exact()
-    ensures read { ReadIsSpelled }
-    ensures spelled { SpelledIsRead }
-    ensures refused { RefusedIsStuck }
-    ensures one { OneText }
+    ensures read { ReadSetupIsSpelled }
+    ensures spelled { SpelledSetupIsRead }
+    ensures refused { RefusedSetupIsStuck }
+    ensures one { SetupsHaveOneText }
 {
     word_laws();
 }

@@ -10,8 +10,8 @@ mod simulating;
 mod trace;
 mod walk;
 
-pub use devices::{Devices, DevicesFault, Kind, Source};
+pub use devices::{Devices, DevicesFault, Source, SourceKind};
 pub use hook::{Hook, Moment};
 pub use simulating::simulation;
-pub use trace::{Choices, Repeated, Trace};
+pub use trace::{Choices, DeviceTrace, Repeated};
 pub use walk::simulate;

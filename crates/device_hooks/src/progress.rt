@@ -1,6 +1,6 @@
 //! What is known of a run so far.
 
-ghost use Rattle.std.specs.Prelude.{◌≡◌, ◌≤◌, ◌<◌, ◌⊎◌, length, Some, IfOk, IfSome};
+ghost use Rattle.std.specs.Prelude.{◌≡◌, ◌≤◌, ◌<◌, length, Some, IfOk};
 ghost use Rattle.std.specs.List.{All};
 ghost use Rattle.device_hooks.specs.Spelling.{most_steps};
 ghost use Rattle.device_hooks.specs.Due.{begun, choice_on, next_on};
@@ -12,7 +12,7 @@ use avr_machine::{Choice, Menu};
 use std::alloc::{AllocError, Global};
 use std::marker::Model;
 
-/// How many steps a run has so far, how often each source was taken, and the byte that instructions read.
+// How many steps a run has so far, how often each source was taken, and the byte that instructions read.
 #[derive(Drop)]
 pub(crate) struct Progress {
     step: u32,
@@ -29,7 +29,7 @@ impl Model for Progress {
 }
 
 impl Progress {
-    /// Before any step.
+    // Before any step.
     pub(crate) fn begin(alloc: Global, devices: &Devices) -> Result<Progress, AllocError>
         ensures { IfOk result (λ p. p ≡ begun devices.now) }
     {
@@ -40,7 +40,7 @@ impl Progress {
         })
     }
 
-    /// What the first hook answers now, or where that is none the second one.
+    // What the first hook answers now, or where that is none the second one.
     pub(crate) fn answer<
         F: Fn(&Moment<'_>, &Menu) -> Option<usize>,
         G: Fn(&Moment<'_>, &Menu) -> Option<usize>,
@@ -61,7 +61,7 @@ impl Progress {
         }
     }
 
-    /// The choice that an answer stands for.
+    // The choice that an answer stands for.
     pub(crate) fn choice(&self, devices: &Devices, answer: Option<usize>) -> Choice
         ensures { result ≡ choice_on devices.now self.now answer }
     {
@@ -75,7 +75,7 @@ impl Progress {
         }
     }
 
-    /// One step later, with this answer.
+    // One step later, with this answer.
     pub(crate) fn pass(&mut self, devices: &Devices, answer: Option<usize>)
         requires room { self.old.step < most_steps }
         requires few { All (λ k. k ≤ self.old.step) self.old.taken }

@@ -9,23 +9,23 @@ ghost use Rattle.device_hooks.specs.declared.devices.DevicesFault.TheVariants as
 ghost use Rattle.device_hooks.specs.Spelling.{most_sources};
 ghost use Rattle.device_hooks.specs.Reading.{times_at, bytes_in, timer_in, receiver_by, receiver_in, source_in, part_by, sources_from, malformed, setup_at, setup_in};
 
-use crate::devices::{Devices, DevicesFault, Kind, Source};
+use crate::devices::{Devices, DevicesFault, Source, SourceKind};
 use avr_model::listed::Listed;
 use line_reading::{dec_word, is_over, peek_text, take_line, take_text};
 use sb_base::{LineReader, Words, read_hex};
 use std::alloc::{AllocError, Global};
 use witness_replay::read_fill;
 
-/// The most lines of sources.
+// The most lines of sources.
 const MOST_SOURCES: u32 = 32;
 
-/// The most bytes of a receiver.
+// The most bytes of a receiver.
 const MOST_BYTES: usize = 64;
 
-/// The greatest first step and the greatest period.
+// The greatest first step and the greatest period.
 const MOST_STEPS: u64 = 16_777_216;
 
-/// When a source asks: its vector, first step and period.
+// When a source asks: its vector, first step and period.
 #[derive(Clone, Copy)]
 struct Times {
     vector: u8,
@@ -33,7 +33,7 @@ struct Times {
     period: u32,
 }
 
-/// The three numbers behind a source's kind.
+// The three numbers behind a source's kind.
 #[tactic(auto, unfolding(crate::specs::Reading::times_at))]
 fn times_of(words: &mut Words<'_>) -> Option<Times>
     ensures { option_map (λ t. (t, words.new)) result ≡ times_at words.old }
@@ -52,7 +52,7 @@ fn times_of(words: &mut Words<'_>) -> Option<Times>
     }
 }
 
-/// The bytes of all words that are left, in two digits each. None where a word is no such byte.
+// The bytes of all words that are left, in two digits each. None where a word is no such byte.
 #[tactic(auto, using(crate::proofs::Bytes::bytes_more, crate::proofs::Bytes::no_byte, crate::proofs::Bytes::bytes_end))]
 fn bytes_of(alloc: Global, words: &mut Words<'_>) -> Result<Option<Vec<u8>>, AllocError>
     ensures { IfOk result (λ o. option_map (λ v. v.items) o ≡ bytes_in words.old) }
@@ -67,30 +67,30 @@ fn bytes_of(alloc: Global, words: &mut Words<'_>) -> Result<Option<Vec<u8>>, All
     Ok(Some(bytes))
 }
 
-/// The words behind `timer`.
+// The words behind `timer`.
 fn timer_of(words: &mut Words<'_>) -> Option<Source>
     ensures { result ≡ timer_in words.old }
 {
     let times = times_of(words)?;
     if is_over(words) {
-        Some(source(times, Kind::Timer))
+        Some(source(times, SourceKind::Timer))
     } else {
         None
     }
 }
 
-/// The source with these times and bytes, of which it has 1 to 64.
+// The source with these times and bytes, of which it has 1 to 64.
 fn receiver_by(times: Times, bytes: Vec<u8>) -> Option<Source>
     ensures { result ≡ receiver_by times bytes.items }
 {
     if bytes.is_empty() || bytes.len() > MOST_BYTES {
         None
     } else {
-        Some(source(times, Kind::Bytes(Listed::new(bytes))))
+        Some(source(times, SourceKind::Bytes(Listed::new(bytes))))
     }
 }
 
-fn source(times: Times, kind: Kind) -> Source
+fn source(times: Times, kind: SourceKind) -> Source
     ensures { result ≡ record { vector = times.vector; first = times.first; period = times.period; kind = kind } }
 {
     Source {
@@ -101,7 +101,7 @@ fn source(times: Times, kind: Kind) -> Source
     }
 }
 
-/// The words behind `bytes`.
+// The words behind `bytes`.
 fn receiver_of(alloc: Global, words: &mut Words<'_>) -> Result<Option<Source>, AllocError>
     ensures { IfOk result (λ o. o ≡ receiver_in words.old) }
 {
@@ -115,7 +115,7 @@ fn receiver_of(alloc: Global, words: &mut Words<'_>) -> Result<Option<Source>, A
     }
 }
 
-/// The source of a line.
+// The source of a line.
 #[tactic(auto, unfolding(crate::specs::Reading::source_in))]
 fn source_of(alloc: Global, text: &[u8]) -> Result<Option<Source>, AllocError>
     ensures { IfOk result (λ o. o ≡ source_in (words_of text.now)) }
@@ -133,7 +133,7 @@ fn source_of(alloc: Global, text: &[u8]) -> Result<Option<Source>, AllocError>
     }
 }
 
-/// The source of a line, or none where it is `end`. So many lines are left for sources.
+// The source of a line, or none where it is `end`. So many lines are left for sources.
 #[tactic(auto, unfolding(crate::specs::Reading::part_by))]
 fn part_of(alloc: Global, text: &[u8], left: u32) -> Result<Option<Option<Source>>, AllocError>
     ensures exact { IfOk result (λ o. o ≡ part_by left text.now) }
@@ -152,7 +152,7 @@ fn part_of(alloc: Global, text: &[u8], left: u32) -> Result<Option<Option<Source
     }
 }
 
-/// Reads a source, or none where the line is `end`.
+// Reads a source, or none where the line is `end`.
 #[tactic(auto, unfolding(line_reading::specs::Reading::line_by))]
 fn read_part(
     alloc: Global,
@@ -175,8 +175,8 @@ fn read_part(
     }
 }
 
-/// Reads the lines up to `end`, and puts their sources into an empty list. The list isn't owned here, so that no end of the
-/// function has to drop it.
+// Reads the lines up to `end`, and puts their sources into an empty list. The list isn't owned here, so that no end of the
+// function has to drop it.
 #[tactic(auto, using(crate::proofs::Loop::front_step, crate::proofs::Loop::front_end, crate::proofs::Loop::front_fault))]
 fn read_sources(
     alloc: Global,
@@ -196,7 +196,7 @@ fn read_sources(
     Ok(())
 }
 
-/// Reads the lines of a setup, behind which there has to be nothing.
+// Reads the lines of a setup, behind which there has to be nothing.
 #[tactic(auto, unfolding(crate::specs::Reading::setup_at))]
 fn read_lines(alloc: Global, reader: &mut LineReader<'_>) -> Result<Devices, DevicesFault>
     ensures { Answers (λ d. d) fault.Memory result (malformed (setup_at reader.old)) }
@@ -214,7 +214,7 @@ fn read_lines(alloc: Global, reader: &mut LineReader<'_>) -> Result<Devices, Dev
     told.and(Ok(Devices::new(fill, sources)))
 }
 
-/// Reads a text, all of it.
+// Reads a text, all of it.
 #[tactic(auto, unfolding(crate::specs::Reading::setup_in))]
 pub(crate) fn read_setup(alloc: Global, text: &[u8]) -> Result<Devices, DevicesFault>
     ensures { Answers (λ d. d) fault.Memory result (setup_in text.now) }

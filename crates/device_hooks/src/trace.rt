@@ -1,6 +1,6 @@
 //! What a run that hooks choose leaves.
 
-ghost use Rattle.std.specs.Prelude.{◌≡◌, ◌<◌, ◌^◌, ◌++◌, ◌∷◌, [], length, OnOk, OnErr, IsTrue, ◌↔◌};
+ghost use Rattle.std.specs.Prelude.{◌≡◌, ◌<◌, ◌++◌, ◌∷◌, [], length, OnOk, OnErr, IsTrue, ◌↔◌};
 ghost use Rattle.device_hooks.specs.Spelling.{most_steps};
 ghost use Rattle.device_hooks.specs.Repeating.{choices_of};
 
@@ -36,7 +36,7 @@ impl Model for Choices {
 
 /// The choices of a run, the machine's depth at its end, and how it ends.
 #[derive(Drop)]
-pub struct Trace {
+pub struct DeviceTrace {
     /// The choices in order. One that met a stop is the last.
     pub choices: Choices,
     /// The machine's greatest depth so far, in bytes.
@@ -45,7 +45,7 @@ pub struct Trace {
     pub stop: Stop,
 }
 
-/// Whether both are one choice.
+// Whether both are one choice.
 fn is_same(a: Choice, b: Choice) -> bool
     ensures { IsTrue result ↔ (a ≡ b) }
 {

@@ -9,30 +9,30 @@ ghost use Rattle.stimulus.specs.Driving.{stop_at};
 ghost use Rattle.device_hooks.specs.Spelling.{most_steps};
 ghost use Rattle.device_hooks.specs.Hooks.{MayAnswer, IsHook, Either};
 ghost use Rattle.device_hooks.specs.Traces.{IsTrace, Halts};
-ghost use Rattle.device_hooks.specs.Midway.{IsKnown, IsChosen, kept_on, Walks};
+ghost use Rattle.device_hooks.specs.Midway.{IsProgressKnown, IsChosen, kept_on, Walks};
 
 use crate::devices::Devices;
 use crate::hook::{Hook, Moment};
 use crate::progress::Progress;
-use crate::trace::{Choices, Trace};
+use crate::trace::{Choices, DeviceTrace};
 use avr_machine::{Choice, Machine, Menu, Stop};
 use avr_model::choice::StepResult;
 use flash_image::Flash;
 use std::alloc::{AllocError, Global};
 use vector_table::Assumptions;
 
-/// What is told of a run.
+// What is told of a run.
 #[derive(Drop)]
-pub(crate) struct Walked {
-    /// Its choices, or none where they weren't to be kept.
+pub(crate) struct WalkedRun {
+    // Its choices, or none where they weren't to be kept.
     pub(crate) choices: Choices,
-    /// Its done steps.
+    // Its done steps.
     pub(crate) steps: u32,
-    /// The stop that was met, or `End`.
+    // The stop that was met, or `End`.
     pub(crate) stop: Stop,
 }
 
-/// How the answer to a step ends a run, if it does.
+// How the answer to a step ends a run, if it does.
 fn stop_at(answer: StepResult) -> Option<Stop>
     ensures { result ≡ stop_at answer }
 {
@@ -44,7 +44,7 @@ fn stop_at(answer: StepResult) -> Option<Stop>
     }
 }
 
-/// The hooks' choice at this moment.
+// The hooks' choice at this moment.
 fn choose<F: Fn(&Moment<'_>, &Menu) -> Option<usize>, G: Fn(&Moment<'_>, &Menu) -> Option<usize>>(
     devices: &Devices,
     timers: &Hook<'_, F>,
@@ -56,9 +56,9 @@ fn choose<F: Fn(&Moment<'_>, &Menu) -> Option<usize>, G: Fn(&Moment<'_>, &Menu) 
     requires second { IsHook G.Fn receivers.now.0 receivers.now.1 }
     requires first_devices { timers.now.0 ≡ devices.now }
     requires second_devices { receivers.now.0 ≡ devices.now }
-    requires known { IsKnown devices.now progress.old }
+    requires known { IsProgressKnown devices.now progress.old }
     requires room { progress.old.step < most_steps }
-    ensures known { IsKnown devices.now progress.new }
+    ensures known { IsProgressKnown devices.now progress.new }
     ensures bytes { HasBytes result }
     ensures chosen { IsChosen (Either (MayAnswer F.Fn timers.now.1) (MayAnswer G.Fn receivers.now.1)) devices.now progress.old machine.now.state result progress.new }
     ensures legal { (words : _) (entries : _) → result_of (step words entries machine.now.state result) ≢ answer.Illegal }
@@ -69,7 +69,7 @@ fn choose<F: Fn(&Moment<'_>, &Menu) -> Option<usize>, G: Fn(&Moment<'_>, &Menu) 
     choice
 }
 
-/// Puts the choice behind the others, if they are to be kept.
+// Puts the choice behind the others, if they are to be kept.
 fn keep(choices: &mut Choices, keeps: bool, choice: Choice) -> Result<(), AllocError>
     requires few { keeps ≡ true → length choices.old < most_steps }
     ensures { OnOk result (choices.new ≡ kept_on keeps choices.old choice) }
@@ -80,7 +80,7 @@ fn keep(choices: &mut Choices, keeps: bool, choice: Choice) -> Result<(), AllocE
     Ok(())
 }
 
-/// Steps the machine by the hooks' choices up to the first stop, else so many times, and tells the choices if `keeps` says so.
+// Steps the machine by the hooks' choices up to the first stop, else so many times, and tells the choices if `keeps` says so.
 pub(crate) fn walk<
     F: Fn(&Moment<'_>, &Menu) -> Option<usize>,
     G: Fn(&Moment<'_>, &Menu) -> Option<usize>,
@@ -94,7 +94,7 @@ pub(crate) fn walk<
     assumptions: &Assumptions,
     steps: u32,
     keeps: bool,
-) -> Result<Walked, AllocError>
+) -> Result<WalkedRun, AllocError>
     requires first { IsHook F.Fn timers.now.0 timers.now.1 }
     requires second { IsHook G.Fn receivers.now.0 receivers.now.1 }
     requires first_devices { timers.now.0 ≡ devices.now }
@@ -110,14 +110,14 @@ pub(crate) fn walk<
         keep(&mut choices, keeps, choice)?;
         let answer = machine.step(flash, assumptions, choice);
         if let Some(stop) = stop_at(answer) {
-            return Ok(Walked {
+            return Ok(WalkedRun {
                 choices,
                 steps: step,
                 stop,
             });
         }
     }
-    Ok(Walked {
+    Ok(WalkedRun {
         choices,
         steps,
         stop: Stop::End,
@@ -141,7 +141,7 @@ pub fn simulate<
     flash: &Flash,
     assumptions: &Assumptions,
     steps: u32,
-) -> Result<Trace, AllocError>
+) -> Result<DeviceTrace, AllocError>
     requires first { IsHook F.Fn timers.now.0 timers.now.1 }
     requires second { IsHook G.Fn receivers.now.0 receivers.now.1 }
     requires first_devices { timers.now.0 ≡ devices.now }
@@ -162,7 +162,7 @@ pub fn simulate<
         steps,
         true,
     )?;
-    Ok(Trace {
+    Ok(DeviceTrace {
         choices: walk.choices,
         depth: machine.depth(),
         stop: walk.stop,

@@ -8,10 +8,10 @@ use Rattle.mask_states.specs.Order.{node_cmp}
 use Rattle.local_rules.specs.declared.local.Node.{Node}
 use Rattle.edge_rules.specs.Views.{AreShown}
 use Rattle.edge_rules.specs.Expansion.{Seeds, IsFilled}
-use Rattle.edge_laws.specs.Expansions.{AreAscending, FilledListsAreShown}
+use Rattle.edge_laws.specs.Expansions.{AreSeedsAscending, FilledListsAreShown}
 use Rattle.edge_laws.proofs.Steps.{filled_or_missing}
 
-shown : (words : List ℕ) (A : List Entry) (nodes : Seeds) (filled : List Node) → IsFilled words A nodes filled → AreAscending nodes → AreShown filled
+shown : (words : List ℕ) (A : List Entry) (nodes : Seeds) (filled : List Node) → IsFilled words A nodes filled → AreSeedsAscending nodes → AreShown filled
 shown words A nodes filled f ascending = record {
   followed = has_pairs A;
   ascending = subst (IsStrictlySortedBy node_cmp) (sym (filled_or_missing.keys words A nodes filled f)) ascending;

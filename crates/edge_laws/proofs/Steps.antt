@@ -15,19 +15,19 @@ use Rattle.local_rules.specs.Local.{local}
 use Rattle.edge_rules.specs.declared.seeded.NodeForm.{NodeForm}
 use Rattle.edge_rules.specs.declared.seeded.NodeForm.TheVariants.{State, From}
 use Rattle.edge_rules.specs.Expansion.{Seeds, IsExpansion, own, along, AreSeeds, states_at, IsFilled, IsMissing}
-use Rattle.edge_laws.specs.Carrying.{first_at, picked, carried, worked, IsWorked, SoFar}
+use Rattle.edge_laws.specs.Carrying.{first_at, picked, carried, worked, IsWorked, AreExpandedSoFar}
 use Rattle.edge_laws.specs.Expansions.{FilledOrMissing}
 use Rattle.edge_laws.proofs.Lists.{get_push, as_list, as_some, same_list, same_maps}
 use Rattle.edge_laws.proofs.Successors.{only_first}
 use Rattle.edge_laws.proofs.One.{same_seed, one, expansion_node}
 
 module _ (words : List ℕ) (A : List Entry) (nodes : Seeds) where
-  pub none_yet : SoFar words A nodes 0 []
+  pub none_yet : AreExpandedSoFar words A nodes 0 []
   none_yet = record { count = refl; each = λ i n e. absurd (none-some n e) }
 
   -- ---- what is worked out is the expansion
 
-  module _ (seeds : AreSeeds (has_pairs A) nodes) (at : ℕ) (done : List Node) (so : SoFar words A nodes at done) (k : NodeKey) where
+  module _ (seeds : AreSeeds (has_pairs A) nodes) (at : ℕ) (done : List Node) (so : AreExpandedSoFar words A nodes at done) (k : NodeKey) where
     picked_is : (m : ℕ) (s : AbsState) (n : Node) → slice_get nodes at ≡ Some (k, From m) → slice_get done m ≡ Some n → (r : Result Local NodeFault)
         → local words A n.key n.state ≡ r → picked k r ≡ Some s → IsExpansion words A nodes at s
     picked_is m s n e g (Ok l) is p =
@@ -47,7 +47,7 @@ module _ (words : List ℕ) (A : List Entry) (nodes : Seeds) where
 
   -- ---- and an expansion is worked out
 
-  worked_all : (at : ℕ) (done : List Node) → SoFar words A nodes at done → (k : NodeKey) (form : NodeForm) (s : AbsState) → slice_get nodes at ≡ Some (k, form)
+  worked_all : (at : ℕ) (done : List Node) → AreExpandedSoFar words A nodes at done → (k : NodeKey) (form : NodeForm) (s : AbsState) → slice_get nodes at ≡ Some (k, form)
       → IsExpansion words A nodes at s → worked words A done k form ≡ Some s
   worked_all _ done so k form _ e (own at j s f) = ap (worked words A done k) (same_seed (slice_get nodes at) k j form (State s) e f).1
   worked_all _ done so k form _ e (along at m j i form2 s t l f lt g d is only) =
@@ -63,8 +63,8 @@ module _ (words : List ℕ) (A : List Entry) (nodes : Seeds) where
 
   -- ---- one node more
 
-  pub one_more : AreSeeds (has_pairs A) nodes → (at : ℕ) (done : List Node) → SoFar words A nodes at done → (k : NodeKey) (form : NodeForm) (s : AbsState)
-      → slice_get nodes at ≡ Some (k, form) → worked words A done k form ≡ Some s → SoFar words A nodes (at + 1) (done ++ record { key = k; state = s } ∷ [])
+  pub one_more : AreSeeds (has_pairs A) nodes → (at : ℕ) (done : List Node) → AreExpandedSoFar words A nodes at done → (k : NodeKey) (form : NodeForm) (s : AbsState)
+      → slice_get nodes at ≡ Some (k, form) → worked words A done k form ≡ Some s → AreExpandedSoFar words A nodes (at + 1) (done ++ record { key = k; state = s } ∷ [])
   one_more seeds at done so k form s e p = record {
     count = omega (arith, length-append done (record { key = k; state = s } ∷ []), so.count);
     each = λ i n g. ⊎_elim (so.each i n) (λ last. subst (λ x. IsWorked words A nodes x n) (sym (last.0 ∙ so.count)) (subst (IsWorked words A nodes at) (sym last.1) new))
@@ -77,7 +77,7 @@ module _ (words : List ℕ) (A : List Entry) (nodes : Seeds) where
       new : IsWorked words A nodes at (record { key = k; state = s })
       new = record { key = (form, e); state = is; node = expansion_node words A nodes seeds at k form s e is }
 
-  pub missing : (at : ℕ) (done : List Node) → SoFar words A nodes at done → (k : NodeKey) (form : NodeForm)
+  pub missing : (at : ℕ) (done : List Node) → AreExpandedSoFar words A nodes at done → (k : NodeKey) (form : NodeForm)
       → slice_get nodes at ≡ Some (k, form) → worked words A done k form ≡ None → IsMissing words A nodes at
   missing at done so k form e p = record {
     inside = slice_get_within nodes at (k, form) e;
@@ -85,7 +85,7 @@ module _ (words : List ℕ) (A : List Entry) (nodes : Seeds) where
     before = λ i lt. let found = get_inside done i (omega (arith, lt, so.count)) in (found.0.state, (so.each i found.0 found.1).state);
   }
 
-  pub whole : (done : List Node) → SoFar words A nodes (length nodes) done → IsFilled words A nodes done
+  pub whole : (done : List Node) → AreExpandedSoFar words A nodes (length nodes) done → IsFilled words A nodes done
   whole done so = record {
     count = so.count;
     keys = λ i n g. (so.each i n g).key;
@@ -98,15 +98,15 @@ module _ (words : List ℕ) (A : List Entry) (nodes : Seeds) where
   abbrev Decided : Type 0
   Decided = ((filled : List Node) × IsFilled words A nodes filled) ⊎ ((at : ℕ) × IsMissing words A nodes at)
 
-  go : AreSeeds (has_pairs A) nodes → (left at : ℕ) (done : List Node) → at + left ≡ length nodes → SoFar words A nodes at done → Decided
-  go seeds zero at done e so = let full : at ≡ length nodes = omega (arith, e) in inl (done, whole done (subst (λ x. SoFar words A nodes x done) full so))
+  go : AreSeeds (has_pairs A) nodes → (left at : ℕ) (done : List Node) → at + left ≡ length nodes → AreExpandedSoFar words A nodes at done → Decided
+  go seeds zero at done e so = let full : at ≡ length nodes = omega (arith, e) in inl (done, whole done (subst (λ x. AreExpandedSoFar words A nodes x done) full so))
   go seeds (suc left) at done e so =
       by (λ new more. go seeds left (at + 1) new (omega (arith, e)) more) (worked words A done seed.0.0 seed.0.1) refl
     where
       seed : (x : NodeKey × NodeForm) × (slice_get nodes at ≡ Some x)
       seed = get_inside nodes at (omega (arith, e))
 
-      by : ((new : List Node) → SoFar words A nodes (at + 1) new → Decided) → (o : Option AbsState) → worked words A done seed.0.0 seed.0.1 ≡ o → Decided
+      by : ((new : List Node) → AreExpandedSoFar words A nodes (at + 1) new → Decided) → (o : Option AbsState) → worked words A done seed.0.0 seed.0.1 ≡ o → Decided
       by rest None p = inr (at, missing at done so seed.0.0 seed.0.1 seed.1 p)
       by rest (Some s) p = rest (done ++ record { key = seed.0.0; state = s } ∷ []) (one_more seeds at done so seed.0.0 seed.0.1 s seed.1 p)
 

@@ -23,16 +23,16 @@ use Rattle.edge_laws.proofs.Lists.{as_list}
 
 -- ---- in an ascending list
 
-abbrev IsBefore : NodeKey → List Node → Type 0
-IsBefore k ns = AllByRecursion (λ (y : NodeKey). node_cmp k y ≡ Less) (map (λ (n : Node). n.key) ns)
+abbrev IsKeyBefore : NodeKey → List Node → Type 0
+IsKeyBefore k ns = AllByRecursion (λ (y : NodeKey). node_cmp k y ≡ Less) (map (λ (n : Node). n.key) ns)
 
-abbrev Ascend : List Node → Type 0
-Ascend ns = IsStrictlySortedBy node_cmp (map (λ (n : Node). n.key) ns)
+abbrev AscendByKey : List Node → Type 0
+AscendByKey ns = IsStrictlySortedBy node_cmp (map (λ (n : Node). n.key) ns)
 
 pub not_below_itself : (k : NodeKey) → node_cmp k k ≡ Less → ⊥
 not_below_itself k e = let h : Less ≡ Equal = sym e ∙ (keys_are_ordered.equal_nodes k k).1 refl in cc
 
-none_before : (k : NodeKey) (ns : List Node) → IsBefore k ns → states_at k ns ≡ []
+none_before : (k : NodeKey) (ns : List Node) → IsKeyBefore k ns → states_at k ns ≡ []
 none_before k [] h = refl
 none_before k (n ∷ ns) h = by (none_before k ns h.1) (same_node n.key k) refl
   where
@@ -40,14 +40,14 @@ none_before k (n ∷ ns) h = by (none_before k ns h.1) (same_node n.key k) refl
     by rest true e = absurd (not_below_itself k (subst (λ x. node_cmp k x ≡ Less) ((keys_are_ordered.same_nodes n.key k).0 e) h.0))
     by rest false e = rest
 
-firsts : (k : NodeKey) (ns : List Node) → Ascend ns → states_at k ns ≡ as_list (first_at k ns)
+firsts : (k : NodeKey) (ns : List Node) → AscendByKey ns → states_at k ns ≡ as_list (first_at k ns)
 unfolding IsStrictlySortedBy
 firsts k [] h = refl
 firsts k (n ∷ ns) h = by (firsts k ns h.1) (same_node n.key k) refl
   where
     by : states_at k ns ≡ as_list (first_at k ns) → (b : Bool) → same_node n.key k ≡ b
         → (if b then n.state ∷ states_at k ns else states_at k ns) ≡ as_list (if b then Some n.state else first_at k ns)
-    by rest true e = ap (λ l. n.state ∷ l) (none_before k ns (subst (λ j. IsBefore j ns) ((keys_are_ordered.same_nodes n.key k).0 e) h.0))
+    by rest true e = ap (λ l. n.state ∷ l) (none_before k ns (subst (λ j. IsKeyBefore j ns) ((keys_are_ordered.same_nodes n.key k).0 e) h.0))
     by rest false e = rest
 
 picked_node : {followed : Bool} (k : NodeKey) (ns : List Node) (t : AbsState) → AreNodesIn followed ns → states_at k ns ≡ t ∷ [] → IsNodeIn followed k t
@@ -76,7 +76,7 @@ module _ (words : List ℕ) (A : List Entry) (j : NodeKey) (s : AbsState) (l : L
 
   -- the first successor of a key is the only one
   pub only_first : (k : NodeKey) → states_at k l.same ≡ as_list (first_at k l.same)
-  only_first k = firsts k l.same (subst Ascend (sym local_same.1) (joins_are_least.ascending (raw words A j s).moves))
+  only_first k = firsts k l.same (subst AscendByKey (sym local_same.1) (joins_are_least.ascending (raw words A j s).moves))
 
   pub successor_node : {followed : Bool} (k : NodeKey) (t : AbsState) → IsNodeIn followed j s → states_at k l.same ≡ t ∷ [] → IsNodeIn followed k t
   successor_node {followed = followed} k t node =

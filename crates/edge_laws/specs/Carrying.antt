@@ -39,6 +39,6 @@ pub record IsWorked (words : List ℕ) (A : List Entry) (nodes : Seeds) (at : �
   pub node : IsNodeIn (has_pairs A) n.key n.state
 
 -- the first nodes, with their expansions
-pub record SoFar (words : List ℕ) (A : List Entry) (nodes : Seeds) (at : ℕ) (done : List Node) : Type 0 where
+pub record AreExpandedSoFar (words : List ℕ) (A : List Entry) (nodes : Seeds) (at : ℕ) (done : List Node) : Type 0 where
   pub count : length done ≡ at
   pub each : (i : ℕ) (n : Node) → slice_get done i ≡ Some n → IsWorked words A nodes i n

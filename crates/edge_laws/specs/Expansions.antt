@@ -51,9 +51,9 @@ pub record FilledOrMissing : Type 0 where
   pub one : (words : List ℕ) (A : List Entry) (nodes : Seeds) (f g : List Node) → IsFilled words A nodes f → IsFilled words A nodes g → f ≡ g
 
 -- the keys of the given nodes ascend strictly
-abbrev pub AreAscending : Seeds → Type 0
-AreAscending nodes = IsStrictlySortedBy node_cmp (map (λ e. e.0) nodes)
+abbrev pub AreSeedsAscending : Seeds → Type 0
+AreSeedsAscending nodes = IsStrictlySortedBy node_cmp (map (λ e. e.0) nodes)
 
 -- Where the keys ascend, the filled list ascends by key too, and all its nodes are ones that the analysis works with.
 pub record FilledListsAreShown : Type 0 where
-  pub shown : (words : List ℕ) (A : List Entry) (nodes : Seeds) (filled : List Node) → IsFilled words A nodes filled → AreAscending nodes → AreShown filled
+  pub shown : (words : List ℕ) (A : List Entry) (nodes : Seeds) (filled : List Node) → IsFilled words A nodes filled → AreSeedsAscending nodes → AreShown filled

@@ -18,7 +18,7 @@ use Rattle.nesting_bound.specs.declared.graph.GraphInst.{GraphInst}
 use Rattle.nesting_bound.specs.declared.graph.Place.{Place}
 use Rattle.family_graph.specs.declared.entering.Entering.{Entering}
 use Rattle.family_graph.specs.Graphs.{AreWaysOf, IsPeopled}
-use Rattle.family_graph.specs.Numbers.{number_in, AreNumbers, entry_of, AddsAt, IsPlaceBetween, IsEntryBetween, IsInstOf}
+use Rattle.family_graph.specs.Numbers.{number_in, AreInstNumbers, entry_of, AddsAt, IsPlaceBetween, IsEntryBetween, IsInstOf}
 use Rattle.family_graph.proofs.Lists.{itself}
 use Rattle.family_graph.proofs.Insts.{number_is, number_there}
 use Rattle.family_graph.proofs.Ways.{entered_inst}
@@ -41,7 +41,7 @@ entry_is e at offset into a b c =
 
 -- ---- the edges of one node
 
-module _ (words : List ℕ) (A : List Entry) (nodes : List Node) (insts : List InstKey) (numbers : List ℕ) (are : AreNumbers nodes (length nodes) insts numbers)
+module _ (words : List ℕ) (A : List Entry) (nodes : List Node) (insts : List InstKey) (numbers : List ℕ) (are : AreInstNumbers nodes (length nodes) insts numbers)
     (peopled : IsPeopled words A nodes) (n : Node) (member : Contains nodes n) (at offset : ℕ) where
   -- an edge from the node, as one of the graph
   pub record IsEntryAt (e : Entered) : Type 0 where
@@ -112,7 +112,7 @@ module _ (words : List ℕ) (A : List Entry) (nodes : List Node) (insts : List I
   wider_entry e h =
       record { above = h.above; below = omega (arith, h.below); node = h.node; at = h.at; closed = h.closed; into = h.into; leads = h.leads; back = h.back; enters = h.enters }
 
-  module _ (numbers : List ℕ) (are : AreNumbers nodes (length nodes) insts numbers) (peopled : IsPeopled words A nodes) where
+  module _ (numbers : List ℕ) (are : AreInstNumbers nodes (length nodes) insts numbers) (peopled : IsPeopled words A nodes) where
     abbrev At : ℕ → Entered → Type 0
     At offset e = IsEntryAt words A nodes insts numbers are peopled n (contained_at nodes at n here) at offset e
 

@@ -90,13 +90,13 @@ module _ (words : List ℕ) (A : List Entry) (nodes : List Node) (gs hs : List G
   place_to : (i : ℕ) (p : Place) → graph.HasPlace gs i p → graph.HasPlace hs i p
   place_to i p has = (h.places i p).1 (subst (λ (ks : List InstKey). HasPlaceOf nodes ks i p) keys ((g.places i p).0 has))
 
-  entry_to : (i : ℕ) (e : Entered) → graph.Enters gs i e → graph.Enters hs i e
+  entry_to : (i : ℕ) (e : Entered) → graph.EntersAlong gs i e → graph.EntersAlong hs i e
   entry_to i e has = (h.entered i e).1 (subst (λ (ks : List InstKey). HasEntryOf words A nodes ks i e) keys ((g.entered i e).0 has))
 
   place_from : (i : ℕ) (p : Place) → graph.HasPlace hs i p → graph.HasPlace gs i p
   place_from i p has = (g.places i p).1 (subst (λ (ks : List InstKey). HasPlaceOf nodes ks i p) (sym keys) ((h.places i p).0 has))
 
-  entry_from : (i : ℕ) (e : Entered) → graph.Enters hs i e → graph.Enters gs i e
+  entry_from : (i : ℕ) (e : Entered) → graph.EntersAlong hs i e → graph.EntersAlong gs i e
   entry_from i e has = (g.entered i e).1 (subst (λ (ks : List InstKey). HasEntryOf words A nodes ks i e) (sym keys) ((h.entered i e).0 has))
 
   pub least_as : (ranks needs : List ℕ) → IsLeast hs ranks needs → IsLeast gs ranks needs

@@ -93,7 +93,7 @@ module _ (words : List ℕ) (A : List Entry) (c : Claim) (nodes : List Node) (me
     key_is : (i : ℕ) (inst : InstKey) → slice_get (insts_of gs) i ≡ Some inst → inst ≡ key_at i
     key_is i inst e = sym (ap (λ (x : Option InstKey). unwrap_or x root_inst) e)
 
-    pub ranked : graph.AreRanks gs (λ i. rank_in c.instances (key_at i))
+    pub ranked : graph.AreGraphRanks gs (λ i. rank_in c.instances (key_at i))
     ranked i e enters =
         let h = (is.entered i e).0 enters in
         let at : Contains nodes h.entry.node = member h.entry.node e.node h.entry.at in
@@ -101,7 +101,7 @@ module _ (words : List ℕ) (A : List Entry) (c : Claim) (nodes : List Node) (me
         (subst (λ (x : InstKey). rank_in c.instances h.into < rank_in c.instances x) (h.entry.same ∙ key_is i h.inst h.is)
         (meets.ranks h.entry.node e.kind h.into h.entry.back at h.entry.enters))
 
-    pub suffices : graph.AreNeeds gs (λ i. need_in c.instances (key_at i))
+    pub suffices : graph.AreGraphNeeds gs (λ i. need_in c.instances (key_at i))
     suffices =
         record {
           offsets = λ i p has.

@@ -19,7 +19,7 @@ use Rattle.nesting_bound.specs.declared.graph.GraphInst.{GraphInst}
 use Rattle.nesting_bound.specs.declared.graph.Place.{Place}
 use Rattle.nesting_bound.specs.Graph as graph
 use Rattle.family_graph.specs.Graphs.{insts_of, HasInst, HasPlaceOf, HasEntryOf, IsGraphOf}
-use Rattle.family_graph.specs.Numbers.{AreNumbers, IsInstOf, AreInsts}
+use Rattle.family_graph.specs.Numbers.{AreInstNumbers, IsInstOf, AreGraphInsts}
 use Rattle.family_graph.proofs.Lists.{get_left}
 
 pub keys_long : (gs : List GraphInst) → length (insts_of gs) ≡ length gs
@@ -38,7 +38,7 @@ lists_same (x ∷ xs) (y ∷ ys) e h =
 
 module _ (words : List ℕ) (A : List Entry) (nodes : List Node) (insts : List InstKey) where
   abbrev pub Made : ℕ → List GraphInst → Type 0
-  Made i gs = AreInsts words A nodes insts i gs
+  Made i gs = AreGraphInsts words A nodes insts i gs
 
   pub made_more : (i : ℕ) (gs : List GraphInst) (inst : InstKey) (g : GraphInst) → Made i gs → slice_get insts i ≡ Some inst → IsInstOf words A nodes insts inst g → Made (i + 1) (gs ++ g ∷ [])
   made_more i gs inst g made is of =
@@ -52,7 +52,7 @@ module _ (words : List ℕ) (A : List Entry) (nodes : List Node) (insts : List I
         ];
       }
 
-  module _ (numbers : List ℕ) (are : AreNumbers nodes (length nodes) insts numbers) (gs : List GraphInst) (made : Made (length insts) gs) where
+  module _ (numbers : List ℕ) (are : AreInstNumbers nodes (length nodes) insts numbers) (gs : List GraphInst) (made : Made (length insts) gs) where
     keys_are : insts_of gs ≡ insts
     keys_are =
         lists_same (insts_of gs) insts (keys_long gs ∙ made.count_is)
@@ -76,7 +76,7 @@ module _ (words : List ℕ) (A : List Entry) (nodes : List Node) (insts : List I
           record { inst = m.0; is = m.1; has = (m.2.places p).1 h.place },
     )
 
-    entry_of : (i : ℕ) (e : Entered) → graph.Enters gs i e ↔ HasEntryOf words A nodes insts i e
+    entry_of : (i : ℕ) (e : Entered) → graph.EntersAlong gs i e ↔ HasEntryOf words A nodes insts i e
     entry_of i e = (
       λ h.
           let k = at_key i h.inst h.is in
@@ -101,7 +101,7 @@ module _ (words : List ℕ) (A : List Entry) (nodes : List Node) (insts : List I
           ascending = subst (IsStrictlySortedBy inst_cmp) (sym keys_are) are.ascending;
           insts = λ inst. subst (λ (ks : List InstKey). Contains ks inst ↔ HasInst nodes inst) (sym keys_are) (inst_of inst);
           places = λ i p. subst (λ (ks : List InstKey). graph.HasPlace gs i p ↔ HasPlaceOf nodes ks i p) (sym keys_are) (place_of i p);
-          entered = λ i e. subst (λ (ks : List InstKey). graph.Enters gs i e ↔ HasEntryOf words A nodes ks i e) (sym keys_are) (entry_of i e);
+          entered = λ i e. subst (λ (ks : List InstKey). graph.EntersAlong gs i e ↔ HasEntryOf words A nodes ks i e) (sym keys_are) (entry_of i e);
         }
 
 -- ---- it is a graph

@@ -19,7 +19,7 @@ use Rattle.mask_states.proofs.AllLaws.{keys_are_ordered, nodes_go_by_instance}
 use Rattle.local_rules.specs.declared.local.Node.{Node}
 use Rattle.edge_rules.specs.Views.{AreShown, IsSpan, key_of}
 use Rattle.family_graph.specs.Graphs.{HasInst}
-use Rattle.family_graph.specs.Numbers.{number_in, EndsWith, Grows, stays, adds, AreNumbers}
+use Rattle.family_graph.specs.Numbers.{number_in, EndsWith, Grows, stays, adds, AreInstNumbers}
 use Rattle.family_graph.proofs.Lists.{get_left, index_left, index_behind, all_last}
 
 -- ---- an instance's number
@@ -64,7 +64,7 @@ unfolding IsStrictlySortedBy
 sorted_none = tt
 
 module _ (nodes : List Node) where
-  pub none_numbered : AreNumbers nodes 0 [] []
+  pub none_numbered : AreInstNumbers nodes 0 [] []
   none_numbered =
       record {
         all = refl;
@@ -77,7 +77,7 @@ module _ (nodes : List Node) where
 
   module _ (at : ℕ) (n : Node) (here : slice_get nodes at ≡ Some n) where
     -- the number of each node so far
-    named_more : (insts insts' : List InstKey) (numbers : List ℕ) (number : ℕ) → AreNumbers nodes at insts numbers
+    named_more : (insts insts' : List InstKey) (numbers : List ℕ) (number : ℕ) → AreInstNumbers nodes at insts numbers
         → ((i : ℕ) (k : InstKey) → slice_get insts i ≡ Some k → slice_get insts' i ≡ Some k) → slice_get insts' number ≡ Some n.key.inst
         → (j : ℕ) (m : Node) → j < at + 1 → slice_get nodes j ≡ Some m → slice_get insts' (slice_index (numbers ++ number ∷ []) j) ≡ Some m.key.inst
     named_more insts insts' numbers number are kept new j m lt is =
@@ -107,7 +107,7 @@ module _ (nodes : List Node) where
     short [] h = refl
     short (x ∷ xs) h = absurd (omega (arith, h))
 
-    ascends_at : (k : ℕ) → at ≡ k → AreShown nodes → (insts : List InstKey) (numbers : List ℕ) → AreNumbers nodes at insts numbers → (EndsWith insts n.key.inst → ⊥)
+    ascends_at : (k : ℕ) → at ≡ k → AreShown nodes → (insts : List InstKey) (numbers : List ℕ) → AreInstNumbers nodes at insts numbers → (EndsWith insts n.key.inst → ⊥)
         → IsStrictlySortedBy inst_cmp (insts ++ n.key.inst ∷ [])
     ascends_at zero is shown insts numbers are new =
         subst (λ (xs : List InstKey). IsStrictlySortedBy inst_cmp (xs ++ n.key.inst ∷ [])) (sym (short insts (omega (arith, are.few, is)))) (sorted_one n.key.inst)
@@ -121,8 +121,8 @@ module _ (nodes : List Node) where
           | inr same ↦ absurd (new (subst (EndsWith insts) same ends))
         ]
 
-    pub numbered_more : AreShown nodes → (insts : List InstKey) (numbers : List ℕ) (insts' : List InstKey) (number : ℕ) → AreNumbers nodes at insts numbers
-        → Grows insts n.key.inst insts' → number + 1 ≡ length insts' → AreNumbers nodes (at + 1) insts' (numbers ++ number ∷ [])
+    pub numbered_more : AreShown nodes → (insts : List InstKey) (numbers : List ℕ) (insts' : List InstKey) (number : ℕ) → AreInstNumbers nodes at insts numbers
+        → Grows insts n.key.inst insts' → number + 1 ≡ length insts' → AreInstNumbers nodes (at + 1) insts' (numbers ++ number ∷ [])
     numbered_more shown insts numbers insts' number are (stays ends) is =
         record {
           all = omega (arith, length-append numbers (number ∷ []), are.all);
@@ -148,7 +148,7 @@ module _ (nodes : List Node) where
         }
 
   -- the number at the first node of an instance is the instance's
-  pub number_at : (insts : List InstKey) (numbers : List ℕ) (inst : InstKey) (low high : ℕ) → AreNumbers nodes (length nodes) insts numbers → IsSpan nodes inst low high
+  pub number_at : (insts : List InstKey) (numbers : List ℕ) (inst : InstKey) (low high : ℕ) → AreInstNumbers nodes (length nodes) insts numbers → IsSpan nodes inst low high
       → HasInst nodes inst → (low < length numbers) × (slice_index numbers low ≡ number_in insts inst)
   number_at insts numbers inst low high are span has =
       let k = has.1.0 in
@@ -163,7 +163,7 @@ module _ (nodes : List Node) where
       )
 
 -- an instance that has a node stands at its number
-pub number_there : (nodes : List Node) (insts : List InstKey) (numbers : List ℕ) (inst : InstKey) → AreNumbers nodes (length nodes) insts numbers → HasInst nodes inst
+pub number_there : (nodes : List Node) (insts : List InstKey) (numbers : List ℕ) (inst : InstKey) → AreInstNumbers nodes (length nodes) insts numbers → HasInst nodes inst
     → slice_get insts (number_in insts inst) ≡ Some inst
 number_there nodes insts numbers inst are has =
     let k = has.1.0 in
@@ -179,16 +179,16 @@ node_of (Some n) k e = (n, refl, same_Some n.key k e)
 
 -- ---- the code's steps
 
-pub numbered_none : (nodes : List Node) (insts : List InstKey) (numbers : List ℕ) → insts ≡ [] → numbers ≡ [] → AreNumbers nodes 0 insts numbers
+pub numbered_none : (nodes : List Node) (insts : List InstKey) (numbers : List ℕ) → insts ≡ [] → numbers ≡ [] → AreInstNumbers nodes 0 insts numbers
 numbered_none nodes insts numbers a b =
-    subst (λ (xs : List InstKey). AreNumbers nodes 0 xs numbers) (sym a) (subst (AreNumbers nodes 0 []) (sym b) (none_numbered nodes))
+    subst (λ (xs : List InstKey). AreInstNumbers nodes 0 xs numbers) (sym a) (subst (AreInstNumbers nodes 0 []) (sym b) (none_numbered nodes))
 
 pub numbered_step : (nodes : List Node) (at : ℕ) (k : NodeKey) → option_map key_of (slice_get nodes at) ≡ Some k → AreShown nodes
-    → (insts : List InstKey) (numbers : List ℕ) (insts' : List InstKey) (number : ℕ) (numbers' : List ℕ) → AreNumbers nodes at insts numbers
-    → Grows insts k.inst insts' → number + 1 ≡ length insts' → numbers' ≡ numbers ++ number ∷ [] → AreNumbers nodes (at + 1) insts' numbers'
+    → (insts : List InstKey) (numbers : List ℕ) (insts' : List InstKey) (number : ℕ) (numbers' : List ℕ) → AreInstNumbers nodes at insts numbers
+    → Grows insts k.inst insts' → number + 1 ≡ length insts' → numbers' ≡ numbers ++ number ∷ [] → AreInstNumbers nodes (at + 1) insts' numbers'
 numbered_step nodes at k here shown insts numbers insts' number numbers' are grows is pushed =
     let n = node_of (slice_get nodes at) k here in
-    subst (AreNumbers nodes (at + 1) insts') (sym pushed)
+    subst (AreInstNumbers nodes (at + 1) insts') (sym pushed)
     (numbered_more nodes at n.0 n.1 shown insts numbers insts' number are (subst (λ (x : NodeKey). Grows insts x.inst insts') (sym n.2) grows) is)
 
 pub grows_kept : (insts insts' d : List InstKey) (inst : InstKey) (b : Bool) → d ≡ insts → (IsTrue b ↔ EndsWith d inst) → b ≡ true → insts' ≡ insts → Grows insts inst insts'

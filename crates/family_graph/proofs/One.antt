@@ -5,11 +5,11 @@ use Rattle.local_rules.specs.declared.local.Node.{Node}
 use Rattle.nesting_bound.specs.declared.graph.Link.{Link}
 use Rattle.nesting_bound.specs.Chain.{IsChain}
 use Rattle.nesting_bound.specs.Least.{IsLeast}
-use Rattle.nesting_bound.specs.Laws.{AnswersAreOne, ChainsAreOne}
+use Rattle.nesting_bound.specs.Laws.{LeastNeedsAreOne, ChainsAreOne}
 use Rattle.family_graph.specs.Chains.{IsDeepest}
 use Rattle.family_graph.specs.Laws.{GraphsAreAlike, DeepestChainsAreOne}
 
-module _ (alike : GraphsAreAlike) (answers : AnswersAreOne) (chains : ChainsAreOne) (words : List ℕ) (A : List Entry) (nodes : List Node) (need need' : ℕ) (links links' : List Link)
+module _ (alike : GraphsAreAlike) (answers : LeastNeedsAreOne) (chains : ChainsAreOne) (words : List ℕ) (A : List Entry) (nodes : List Node) (need need' : ℕ) (links links' : List Link)
     (x : IsDeepest words A nodes need links) (y : IsDeepest words A nodes need' links') where
   same_needs : y.needs ≡ x.needs
   same_needs =
@@ -24,7 +24,7 @@ module _ (alike : GraphsAreAlike) (answers : AnswersAreOne) (chains : ChainsAreO
       chains x.graph x.needs links links' x.chain
       (subst (λ (ns : List ℕ). IsChain x.graph ns links') same_needs (alike.chain words A nodes x.graph y.graph y.needs links' x.family y.family y.chain))
 
-pub deepest_chains_are_one : GraphsAreAlike → AnswersAreOne → ChainsAreOne → DeepestChainsAreOne
+pub deepest_chains_are_one : GraphsAreAlike → LeastNeedsAreOne → ChainsAreOne → DeepestChainsAreOne
 deepest_chains_are_one alike answers chains =
     record {
       need = λ words A nodes need need' links links' x y. same_need alike answers chains words A nodes need need' links links' x y;

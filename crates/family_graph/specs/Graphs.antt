@@ -42,7 +42,7 @@ abbrev pub AreWays : List ℕ → List Entry → List Node → List (List Enteri
 AreWays words A nodes all = AreWaysTo words A nodes (length nodes) all
 
 -- the place's node is one of this instance, with a whole stack pointer
-pub record IsPlaceOf (nodes : List Node) (inst : InstKey) (p : Place) : Type 0 where
+pub record IsGraphPlace (nodes : List Node) (inst : InstKey) (p : Place) : Type 0 where
   pub node : Node
   pub at : slice_get nodes p.node ≡ Some node
   pub same : node.key.inst ≡ inst
@@ -61,7 +61,7 @@ pub record IsEntryOf (words : List ℕ) (A : List Entry) (nodes : List Node) (in
 pub record HasPlaceOf (nodes : List Node) (insts : List InstKey) (i : ℕ) (p : Place) : Type 0 where
   pub inst : InstKey
   pub is : slice_get insts i ≡ Some inst
-  pub place : IsPlaceOf nodes inst p
+  pub place : IsGraphPlace nodes inst p
 
 -- the edge leads from the instance of this number to that of the edge's
 pub record HasEntryOf (words : List ℕ) (A : List Entry) (nodes : List Node) (insts : List InstKey) (i : ℕ) (e : Entered) : Type 0 where
@@ -77,4 +77,4 @@ pub record IsGraphOf (words : List ℕ) (A : List Entry) (nodes : List Node) (gs
   pub ascending : IsStrictlySortedBy inst_cmp (insts_of gs)
   pub insts : (inst : InstKey) → Contains (insts_of gs) inst ↔ HasInst nodes inst
   pub places : (i : ℕ) (p : Place) → graph.HasPlace gs i p ↔ HasPlaceOf nodes (insts_of gs) i p
-  pub entered : (i : ℕ) (e : Entered) → graph.Enters gs i e ↔ HasEntryOf words A nodes (insts_of gs) i e
+  pub entered : (i : ℕ) (e : Entered) → graph.EntersAlong gs i e ↔ HasEntryOf words A nodes (insts_of gs) i e

@@ -15,7 +15,7 @@ use Rattle.nesting_bound.specs.declared.graph.Entered.{Entered}
 use Rattle.nesting_bound.specs.declared.graph.GraphInst.{GraphInst}
 use Rattle.nesting_bound.specs.declared.graph.Place.{Place}
 use Rattle.family_graph.specs.declared.entering.Entering.{Entering}
-use Rattle.family_graph.specs.Graphs.{HasInst, IsPlaceOf, IsEntryOf}
+use Rattle.family_graph.specs.Graphs.{HasInst, IsGraphPlace, IsEntryOf}
 
 -- ---- numbers
 
@@ -35,7 +35,7 @@ pub data Grows (insts : List InstKey) (inst : InstKey) : List InstKey → Type 0
   adds : (EndsWith insts inst → ⊥) → Grows insts inst (insts ++ inst ∷ [])
 
 -- the first nodes have these numbers, which are those of these instances
-pub record AreNumbers (nodes : List Node) (count : ℕ) (insts : List InstKey) (numbers : List ℕ) : Type 0 where
+pub record AreInstNumbers (nodes : List Node) (count : ℕ) (insts : List InstKey) (numbers : List ℕ) : Type 0 where
   pub all : length numbers ≡ count
   pub few : length insts ≤ count
   pub ascending : IsStrictlySortedBy inst_cmp insts
@@ -95,10 +95,10 @@ pub record IsEntryFrom (words : List ℕ) (A : List Entry) (nodes : List Node) (
 -- the places and edges are those of this instance
 pub record IsInstOf (words : List ℕ) (A : List Entry) (nodes : List Node) (insts : List InstKey) (inst : InstKey) (g : GraphInst) : Type 0 where
   pub key : g.key ≡ inst
-  pub places : (p : Place) → Contains g.offsets p ↔ IsPlaceOf nodes inst p
+  pub places : (p : Place) → Contains g.offsets p ↔ IsGraphPlace nodes inst p
   pub entered : (e : Entered) → Contains g.entered e ↔ IsEntryFrom words A nodes insts inst e
 
 -- the first instances, in the order of their numbers
-pub record AreInsts (words : List ℕ) (A : List Entry) (nodes : List Node) (insts : List InstKey) (count : ℕ) (gs : List GraphInst) : Type 0 where
+pub record AreGraphInsts (words : List ℕ) (A : List Entry) (nodes : List Node) (insts : List InstKey) (count : ℕ) (gs : List GraphInst) : Type 0 where
   pub count_is : length gs ≡ count
   pub each : (i : ℕ) (inst : InstKey) → i < count → slice_get insts i ≡ Some inst → (g : GraphInst) × (slice_get gs i ≡ Some g) × IsInstOf words A nodes insts inst g

@@ -5,7 +5,7 @@ ghost use Rattle.local_rules.specs.declared.local.Node.{Node};
 ghost use Rattle.nesting_bound.specs.Graph.{IsGraph};
 ghost use Rattle.family_graph.specs.declared.entering.Entering as entering_type;
 ghost use Rattle.family_graph.specs.Graphs.{HasInst, AreWays, IsPeopled, IsGraphOf};
-ghost use Rattle.family_graph.specs.Numbers.{AreNumbers, entry_of, AddsAt, IsInstOf};
+ghost use Rattle.family_graph.specs.Numbers.{AreInstNumbers, entry_of, AddsAt, IsInstOf};
 
 use crate::entering::Entering;
 use crate::numbering::{Numbering, number_of, numbered};
@@ -30,7 +30,7 @@ fn add_entries(
     ways: &[Entering],
     entered: &mut Vec<Entered>,
 ) -> Result<(), AllocError>
-    requires numbers { AreNumbers nodes.now (length nodes.now) numbering.now.insts.items numbering.now.numbers.items }
+    requires numbers { AreInstNumbers nodes.now (length nodes.now) numbering.now.insts.items numbering.now.numbers.items }
     requires has { (w : entering_type.Entering) → Contains ways.now w → HasInst nodes.now w.inst }
     ensures { OnOk result (entered.new.items ≡ entered.old.items ++ map (entry_of numbering.now.insts.items place) ways.now) }
 {
@@ -57,7 +57,7 @@ fn add_node(
 ) -> Result<(), AllocError>
     requires place { at < length nodes.now }
     requires few { length nodes.now ≤ 65536 }
-    requires numbers { AreNumbers nodes.now (length nodes.now) numbering.now.insts.items numbering.now.numbers.items }
+    requires numbers { AreInstNumbers nodes.now (length nodes.now) numbering.now.insts.items numbering.now.numbers.items }
     requires has { (w : entering_type.Entering) → Contains ways.now w → HasInst nodes.now w.inst }
     ensures { (n : Node) → slice_get nodes.now at ≡ Some n → OnOk result (AddsAt numbering.now.insts.items at ways.now n.key.sp parts.old.offsets.items parts.old.entered.items parts.new.offsets.items parts.new.entered.items) }
 {
@@ -83,7 +83,7 @@ fn instance(
     requires place { i < length numbering.now.insts.items }
     requires few { length nodes.now ≤ 65536 }
     requires ways { AreWays task.now.flash.now task.now.assumptions.now nodes.now ways.now }
-    requires numbers { AreNumbers nodes.now (length nodes.now) numbering.now.insts.items numbering.now.numbers.items }
+    requires numbers { AreInstNumbers nodes.now (length nodes.now) numbering.now.insts.items numbering.now.numbers.items }
     requires peopled { IsPeopled task.now.flash.now task.now.assumptions.now nodes.now }
     ensures { (inst : _) → slice_get numbering.now.insts.items i ≡ Some inst → IfOk result (IsInstOf task.now.flash.now task.now.assumptions.now nodes.now numbering.now.insts.items inst) }
 {

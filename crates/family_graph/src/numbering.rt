@@ -1,9 +1,8 @@
 //! Numbers of instances.
 
 ghost use Rattle.std.specs.Prelude.{◌≡◌, ◌+◌, ◌<◌, ◌≤◌, ◌↔◌, length, IfOk, OnOk, IsTrue};
-ghost use Rattle.edge_rules.specs.Views.{AreShown};
 ghost use Rattle.family_graph.specs.Graphs.{HasInst};
-ghost use Rattle.family_graph.specs.Numbers.{EndsWith, Grows, AreNumbers, number_in};
+ghost use Rattle.family_graph.specs.Numbers.{EndsWith, Grows, AreInstNumbers, number_in};
 
 use call_graph::Filled;
 use mask_states::InstKey;
@@ -43,7 +42,7 @@ fn put(insts: &mut Vec<InstKey>, inst: &InstKey) -> Result<u32, AllocError>
 // The numbers of the instances of all nodes.
 pub(crate) fn numbered(alloc: Global, nodes: &Filled) -> Result<Numbering, AllocError>
     requires { length nodes.now ≤ 65536 }
-    ensures { IfOk result (λ n. AreNumbers nodes.now (length nodes.now) n.insts.items n.numbers.items) }
+    ensures { IfOk result (λ n. AreInstNumbers nodes.now (length nodes.now) n.insts.items n.numbers.items) }
 {
     let mut insts = Vec::new(alloc);
     let mut numbers = Vec::new(alloc);
@@ -56,7 +55,7 @@ pub(crate) fn numbered(alloc: Global, nodes: &Filled) -> Result<Numbering, Alloc
 
 // The number of an instance that has a node.
 pub(crate) fn number_of(nodes: &Filled, numbering: &Numbering, inst: &InstKey) -> u32
-    requires numbers { AreNumbers nodes.now (length nodes.now) numbering.now.insts.items numbering.now.numbers.items }
+    requires numbers { AreInstNumbers nodes.now (length nodes.now) numbering.now.insts.items numbering.now.numbers.items }
     requires has { HasInst nodes.now inst.now }
     ensures { result ≡ number_in numbering.now.insts.items inst.now }
 {

@@ -39,8 +39,8 @@ use Rattle.local_rules.specs.Cover.{IsNode}
 use Rattle.local_laws.proofs.AllLaws.{each_of}
 use Rattle.edge_rules.specs.declared.edge.Edge.{Edge}
 use Rattle.edge_rules.specs.Edges.{raw_of, IsFaultless, Enters, by_call, by_interrupt, IsEdge, moving, entering, returning, target}
-use Rattle.edge_rules.specs.Families.{IsCovered, IsSound}
-use Rattle.clear_laws.specs.Held.{MayHold, IsClosed, pushed, is_guarded_push}
+use Rattle.edge_rules.specs.Families.{IsCovered, IsSoundFamily}
+use Rattle.clear_laws.specs.Held.{MayHold, IsMapClosed, pushed, is_guarded_push}
 use Rattle.clear_laws.specs.declared.stores.Aim.{Aim}
 use Rattle.clear_laws.specs.declared.stores.Span.{Span}
 use Rattle.clear_laws.specs.declared.stores.Reach.TheVariants as reach
@@ -184,7 +184,7 @@ enters_nothing n h way inst back =
     (no_entry (at_depth 2 2) refl (at_depth 4 2) store_leads way inst back)
     (no_entry (at_depth 4 2) refl (at_depth 4 2) loop_leads way inst back) n h
 
-room_is_sound : IsSound over_room [] room_family
+room_is_sound : IsSoundFamily over_room [] room_family
 unfolding has_pairs
 room_is_sound =
     record {
@@ -217,7 +217,7 @@ nothing_pushed = four (λ (n : Node). is_guarded_push over_room n.key.pc ≡ fal
 nothing_held : (k : NodeKey) (d : ℕ) → MayHold over_room [] room_family.nodes k d → ⊥
 nothing_held k d may = absurd (let no : false ≡ true = held_slots_are_least.least over_room [] room_family.nodes (λ k d. false) k d closed may in cc)
   where
-    closed : IsClosed over_room [] room_family.nodes (λ k d. false)
+    closed : IsMapClosed over_room [] room_family.nodes (λ k d. false)
     closed =
         record {
           keeps = λ n e d member edge stays held lt. held;

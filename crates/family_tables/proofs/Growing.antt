@@ -20,7 +20,7 @@ use Rattle.local_rules.specs.Cover.{FormFitsKind, IsNode}
 use Rattle.edge_rules.specs.declared.seeded.NodeForm.{NodeForm}
 use Rattle.edge_rules.specs.declared.seeded.NodeForm.TheVariants.{State, From}
 use Rattle.edge_rules.specs.Expansion.{Seeds, AreSeeds}
-use Rattle.edge_laws.specs.Expansions.{AreAscending}
+use Rattle.edge_laws.specs.Expansions.{AreSeedsAscending}
 use Rattle.edge_laws.proofs.ExpansionLaws.{get_push}
 
 pub root_node : (k : NodeKey) → k.pc < WORDS → k.masks < 2 ^ 25 → k.sp ≡ Closed 0 → k.pick ≡ None → IsNode k root
@@ -56,8 +56,8 @@ all_push : (P : NodeKey → Type 0) (xs : Seeds) (k : NodeKey) (f : NodeForm) �
 all_push P [] k f h p = (p, tt)
 all_push P (x ∷ xs) k f h p = (h.0, all_push P xs k f h.1 p)
 
-pub pushed_ascending : (xs : Seeds) (k : NodeKey) (f : NodeForm) → AreAscending xs
-    → ((at : ℕ) (e : NodeKey × NodeForm) → slice_get xs at ≡ Some e → node_cmp e.0 k ≡ Less) → AreAscending (xs ++ (k, f) ∷ [])
+pub pushed_ascending : (xs : Seeds) (k : NodeKey) (f : NodeForm) → AreSeedsAscending xs
+    → ((at : ℕ) (e : NodeKey × NodeForm) → slice_get xs at ≡ Some e → node_cmp e.0 k ≡ Less) → AreSeedsAscending (xs ++ (k, f) ∷ [])
 unfolding IsStrictlySortedBy
 pushed_ascending [] k f h above = (tt, tt)
 pushed_ascending (x ∷ xs) k f h above =
@@ -81,7 +81,7 @@ with_from xs k m seeds few lt =
 no_seeds : AreSeeds false []
 no_seeds = record { few = omega arith; own = λ at k s e. absurd (none-some (k, State s) e); earlier = λ at m k e. absurd (none-some (k, From m) e) }
 
-pub none_given : AreSeeds false [] × AreAscending []
+pub none_given : AreSeeds false [] × AreSeedsAscending []
 unfolding IsStrictlySortedBy
 none_given = (no_seeds, tt)
 

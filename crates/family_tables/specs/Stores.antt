@@ -10,7 +10,7 @@ use Rattle.mask_states.specs.declared.keys.SpForm.TheVariants.{Closed}
 use Rattle.mask_states.specs.Keys.{root_inst, entry_key}
 use Rattle.local_rules.specs.declared.local.Node.{Node}
 use Rattle.edge_rules.specs.Examples.{top}
-use Rattle.edge_rules.specs.Families.{Family}
+use Rattle.edge_rules.specs.Families.{RankedFamily}
 use Rattle.clear_laws.specs.Held.{is_guarded_push}
 use Rattle.clear_laws.specs.Clear.{is_clear}
 
@@ -29,13 +29,13 @@ with_bytes n = record top { slots = replicate n Free }
 abbrev pub at_depth : ℕ → ℕ → Node
 at_depth pc n = record { key = record (entry_key root_inst) { pc = pc; sp = Closed n }; state = with_bytes n }
 
-abbrev pub family_of : List Node → Family
+abbrev pub family_of : List Node → RankedFamily
 family_of nodes = record { nodes = nodes; rank_of = λ inst. 0; need_of = λ inst. 2; bound = 2 }
 
-abbrev pub room_family : Family
+abbrev pub room_family : RankedFamily
 room_family = family_of (at_depth 0 0 ∷ at_depth 1 2 ∷ at_depth 2 2 ∷ at_depth 4 2 ∷ [])
 
-abbrev pub pushed_family : Family
+abbrev pub pushed_family : RankedFamily
 pushed_family = family_of (at_depth 0 0 ∷ at_depth 1 1 ∷ at_depth 2 2 ∷ at_depth 4 2 ∷ [])
 
 -- the store is clear where its slot may hold no live byte, and else it isn't

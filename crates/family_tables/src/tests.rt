@@ -11,20 +11,20 @@ mod verdicts;
 
 use std::alloc::Global;
 
-/// The first table and row that is wrong, once there is one.
+// The first table and row that is wrong, once there is one.
 struct Told {
     table: &'static str,
     row: usize,
     wrong: bool,
 }
 
-/// A row that was worked out apart from what it is about.
+// A row that was worked out apart from what it is about.
 trait Worked {
-    /// Whether what it is about is so. Want of memory is wrong too.
+    // Whether what it is about is so. Want of memory is wrong too.
     fn holds(&self, alloc: Global) -> bool;
 }
 
-/// The first row that doesn't hold.
+// The first row that doesn't hold.
 fn wrong_row<R: Worked>(alloc: Global, rows: &[R]) -> Option<usize> {
     for at in 0..rows.len() {
         if !rows[at].holds(alloc) {
@@ -34,7 +34,7 @@ fn wrong_row<R: Worked>(alloc: Global, rows: &[R]) -> Option<usize> {
     None
 }
 
-/// Tells the row of a table that is wrong, if one is.
+// Tells the row of a table that is wrong, if one is.
 fn tell_row(told: &mut Told, table: &'static str, wrong: Option<usize>) {
     if let Some(at) = wrong
         && !told.wrong
@@ -45,14 +45,14 @@ fn tell_row(told: &mut Told, table: &'static str, wrong: Option<usize>) {
     }
 }
 
-/// Tells the first row that doesn't hold of tables with their names.
+// Tells the first row that doesn't hold of tables with their names.
 fn tell<R: Worked>(told: &mut Told, alloc: Global, tables: &[(&'static str, &[R])]) {
     for (name, rows) in tables {
         tell_row(told, *name, wrong_row(alloc, rows));
     }
 }
 
-/// Nesting.
+// Nesting.
 fn tell_nesting(told: &mut Told, alloc: Global) {
     tell(told, alloc, &nesting::ROWS);
     tell(told, alloc, &notes::ROWS);
@@ -64,7 +64,7 @@ fn tell_nesting(told: &mut Told, alloc: Global) {
     tell_row(told, "chain", chain);
 }
 
-/// Families, verdicts and trials.
+// Families, verdicts and trials.
 fn tell_families(told: &mut Told, alloc: Global) {
     clearness::clearness_is_met();
     tell(told, alloc, &edges::ROWS);

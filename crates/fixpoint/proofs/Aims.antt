@@ -24,9 +24,9 @@ use Rattle.edge_rules.specs.Families.{IsCovered}
 use Rattle.edge_laws.proofs.AllLaws.{edges_lead_to_nodes}
 use Rattle.call_graph.specs.declared.ways.Way.{Way}
 use Rattle.call_graph.specs.Next.{returned_as}
-use Rattle.family_table.specs.declared.crossings.Crossing.{Crossing}
-use Rattle.family_table.specs.Crossings.{crossings_at, IsCrossing}
-use Rattle.round_rules.specs.Families.{Family, nodes_of, Has, Lands, AreFormed}
+use Rattle.round_table.specs.declared.crossings.Crossing.{Crossing}
+use Rattle.round_table.specs.Crossings.{crossings_at, IsCrossing}
+use Rattle.round_rules.specs.Families.{Family, nodes_of, FamilyHas, Lands, AreFormed}
 use Rattle.round_laws.specs.Steps.{IsRoundOf}
 use Rattle.round_laws.proofs.AllLaws.{families_are_their_nodes}
 use Rattle.round_steps.specs.declared.looking.Look.{Look}
@@ -46,18 +46,18 @@ module _ (words : List ℕ) (A : List Entry) where
   -- an edge of the family leads there
   pub record IsAim (f : Family) (to : Node) : Type 0 where
     pub from : Node
-    pub has : Has f from
+    pub has : FamilyHas f from
     pub edge : Edge
     pub is : IsEdge words A (nodes_of f) from edge
     pub at : target edge ≡ to
 
-  pub own_aim : (f : Family) (n to : Node) → Has f n → IsOwn words A n to → IsAim f to
+  pub own_aim : (f : Family) (n to : Node) → FamilyHas f n → IsOwn words A n to → IsAim f to
   own_aim f n _ has (own_move to clean i) =
       record { from = n; has = has; edge = record { kind = kind.Local; to = to.key; state = to.state }; is = moving to clean i; at = refl }
   own_aim f n _ has (own_entry way inst back e) =
       record { from = n; has = has; edge = record { kind = way; to = entry_key inst; state = entered n.state }; is = entering way inst back e; at = refl }
 
-  pub back_aim : (f : Family) (n m to : Node) → Has f n → Has f m → ComesBack words A n m to → IsAim f to
+  pub back_aim : (f : Family) (n m to : Node) → FamilyHas f n → FamilyHas f m → ComesBack words A n m to → IsAim f to
   back_aim f n m _ has there (comes_back way inst back x state e same clean exit is) =
       record {
         from = n;
@@ -70,7 +70,7 @@ module _ (words : List ℕ) (A : List Entry) where
   -- where an edge of the family leads: the node's own successor, or back by another
   pub record IsBack (f : Family) (n to : Node) : Type 0 where
     pub by : Node
-    pub has : Has f by
+    pub has : FamilyHas f by
     pub comes : ComesBack words A n by to
 
   pub edge_cases : (f : Family) (n : Node) (e : Edge) → IsEdge words A (nodes_of f) n e → IsOwn words A n (target e) ⊎ IsBack f n (target e)
@@ -187,7 +187,7 @@ module _ (words : List ℕ) (A : List Entry) where
         in_firsts (entry_node s w) (in_map (entry_node s) x.ways.items w ((look_way words A f x is w).1 e))
 
     -- the look's node is entered again from one that leaves
-    pub entered_met : (m to : Node) → Has f m → ComesBack words A n m to → Contains (targets_of f notes x) to
+    pub entered_met : (m to : Node) → FamilyHas f m → ComesBack words A n m to → Contains (targets_of f notes x) to
     entered_met m _ there (comes_back way inst back e state en same c exit r) =
         let w : Way = record { kind = way; inst = inst; back = back } in
         let p = leaver m.key e in
@@ -199,7 +199,7 @@ module _ (words : List ℕ) (A : List Entry) where
         (gathered_in (back_at f x.key s w) (crossings_at notes.leavers inst) p to crossing found))
 
     -- the look's node leaves
-    pub left_met : (c to : Node) → Has f c → ComesBack words A c n to → Contains (targets_of f notes x) to
+    pub left_met : (c to : Node) → FamilyHas f c → ComesBack words A c n to → Contains (targets_of f notes x) to
     left_met c _ there (comes_back way inst back e state en same d exit r) =
         let w : Way = record { kind = way; inst = inst; back = back } in
         let p = caller c.key w in
@@ -230,30 +230,30 @@ module _ (words : List ℕ) (A : List Entry) where
     covered : (to : Node) → Contains ns to → IsCovered ns to
     covered to i = record { state = to.state; present = i; above = states_are_ordered.same to.state }
 
-    own_in : (n to : Node) → Has f n → HasLook xs n.key → IsOwn words A n to → Contains ns to
+    own_in : (n to : Node) → FamilyHas f n → HasLook xs n.key → IsOwn words A n to → Contains ns to
     own_in n to has h own =
         let is = are.looks h.look h.member in
         in_round h.look to h.member (own_met f notes known h.look is to (subst (λ (m : Node). IsOwn words A m to) (sym (look_node words A f h.look is n has h.at)) own))
 
-    entered_in : (n m to : Node) → Has f n → Has f m → HasLook xs n.key → ComesBack words A n m to → Contains ns to
+    entered_in : (n m to : Node) → FamilyHas f n → FamilyHas f m → HasLook xs n.key → ComesBack words A n m to → Contains ns to
     entered_in n m to has there h comes =
         let is = are.looks h.look h.member in
         in_round h.look to h.member
         (entered_met f notes known h.look is m to there (subst (λ (k : Node). ComesBack words A k m to) (sym (look_node words A f h.look is n has h.at)) comes))
 
-    left_in : (n m to : Node) → Has f n → Has f m → HasLook xs m.key → ComesBack words A n m to → Contains ns to
+    left_in : (n m to : Node) → FamilyHas f n → FamilyHas f m → HasLook xs m.key → ComesBack words A n m to → Contains ns to
     left_in n m to has there h comes =
         let is = are.looks h.look h.member in
         in_round h.look to h.member
         (left_met f notes known h.look is n to has (subst (λ (k : Node). ComesBack words A n k to) (sym (look_node words A f h.look is m there h.at)) comes))
 
-    look_of : (n : Node) → Has f n → Contains work n.key → HasLook xs n.key
+    look_of : (n : Node) → FamilyHas f n → Contains work n.key → HasLook xs n.key
     look_of n has i = looked words A f work old seen turn are none n has i
 
-    own_lands : (n to : Node) → Has f n → IsOwn words A n to → Lands f to ⊎ IsCovered ns to
+    own_lands : (n to : Node) → FamilyHas f n → IsOwn words A n to → Lands f to ⊎ IsCovered ns to
     own_lands n to has own = ⊎_elim (λ i. inr (covered to (own_in n to has (look_of n has i) own))) (λ held. inl (held.own to own)) (turn.held n has)
 
-    back_lands : (n m to : Node) → Has f n → Has f m → ComesBack words A n m to → Lands f to ⊎ IsCovered ns to
+    back_lands : (n m to : Node) → FamilyHas f n → FamilyHas f m → ComesBack words A n m to → Lands f to ⊎ IsCovered ns to
     back_lands n m to has there comes =
         ⊎_elim (λ i. inr (covered to (entered_in n m to has there (look_of n has i) comes)))
         (λ r. ⊎_elim (λ i. inr (covered to (left_in n m to has there (look_of m there i) comes))) (λ l. inl l) r) (turn.backs n m to has there comes)

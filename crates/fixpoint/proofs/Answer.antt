@@ -8,16 +8,16 @@ use Rattle.round_rules.specs.declared.refusal.Refusal.TheVariants as refusal
 use Rattle.round_rules.specs.Families.{Family}
 use Rattle.round_rules.specs.Solutions.{IsShown, IsSolution, IsAnswer, IsRefusal, IsWhyNot}
 use Rattle.round_laws.proofs.AllLaws.{rounds_are_least, solutions_are_valid}
-use Rattle.fixpoint.specs.Progress.{IsFound}
+use Rattle.fixpoint.specs.Progress.{AreRoundsFound}
 
 module _ (words : List ℕ) (A : List Entry) where
-  pub is_answer : (steps : Option ℕ) (f : Family) (c : Claim) → IsFound words A steps f → IsSolution words A f c → IsAnswer words A steps c
+  pub is_answer : (steps : Option ℕ) (f : Family) (c : Claim) → AreRoundsFound words A steps f → IsSolution words A f c → IsAnswer words A steps c
   is_answer steps f c found solution = record { number = found.number; family = f; within = found.within; solved = found.solved; solution = solution }
 
-  pub is_valid : (steps : Option ℕ) (f : Family) (c : Claim) → IsFound words A steps f → IsClaim c → IsSolution words A f c → IsValid words A c
+  pub is_valid : (steps : Option ℕ) (f : Family) (c : Claim) → AreRoundsFound words A steps f → IsClaim c → IsSolution words A f c → IsValid words A c
   is_valid steps f c found claim solution = solutions_are_valid.valid words A found.number f c claim found.solved solution
 
-  pub is_least : (steps : Option ℕ) (f : Family) (c : Claim) → IsFound words A steps f → IsSolution words A f c → (other : Claim) → IsShown words A other → c.bound ≤ other.bound
+  pub is_least : (steps : Option ℕ) (f : Family) (c : Claim) → AreRoundsFound words A steps f → IsSolution words A f c → (other : Claim) → IsShown words A other → c.bound ≤ other.bound
   is_least steps f c found solution other shown = solutions_are_valid.least words A found.number f c other found.solved solution shown
 
   never_shown : (steps : Option ℕ) (r : Refusal) → IsRefusal words A steps r → (other : Claim) → IsShown words A other → ⊥

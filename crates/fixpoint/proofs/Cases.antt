@@ -14,8 +14,8 @@ use Rattle.local_laws.proofs.AllLaws.{each_in_map}
 use Rattle.edge_rules.specs.Edges.{raw_of, Enters, returned_key}
 use Rattle.call_graph.specs.declared.ways.Way.{Way}
 use Rattle.call_graph.specs.Next.{returned_as}
-use Rattle.family_table.specs.declared.crossings.Crossing.{Crossing}
-use Rattle.family_table.specs.Crossings.{crossings_at, IsCrossing}
+use Rattle.round_table.specs.declared.crossings.Crossing.{Crossing}
+use Rattle.round_table.specs.Crossings.{crossings_at, IsCrossing}
 use Rattle.round_rules.specs.Families.{Family}
 use Rattle.round_steps.specs.declared.looking.Look.{Look}
 use Rattle.round_steps.specs.declared.noting.Notes.{Notes}

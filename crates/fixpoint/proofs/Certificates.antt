@@ -14,8 +14,8 @@ use Rattle.certificate.specs.Claims.{Claim, IsClaim}
 use Rattle.round_rules.specs.Families.{Family, nodes_of}
 use Rattle.round_rules.specs.Refusals.{IsSolved}
 use Rattle.round_rules.specs.Solutions.{IsSolution}
-use Rattle.solution_laws.specs.Laws.{SolvedFamiliesAreShown, SolutionsAreMade}
-use Rattle.solution_laws.specs.Parts.{AreForms, AreParts, claim_of}
+use Rattle.round_solutions.specs.Laws.{SolvedFamiliesAreShown, SolutionsAreMade}
+use Rattle.round_solutions.specs.Parts.{AreForms, AreCertificateParts, claim_of}
 use Rattle.fixpoint.specs.Insts.{AreSolvedNodes, AreInstsOf}
 
 pub peopled : (words : List ℕ) (A : List Entry) (nodes : List Node) → AreSolvedNodes words A nodes → SolvedFamiliesAreShown → IsPeopled words A nodes
@@ -23,7 +23,7 @@ peopled words A nodes s law = subst (IsPeopled words A) (sym s.are) (law.peopled
 
 module _ (words : List ℕ) (A : List Entry) (f : Family) (nodes : List Node) (is : nodes ≡ nodes_of f) (solved : (n : ℕ) × IsSolved words A n f) (insts : List Inst)
     (seeds : Seeds) (h : AreInstsOf words A nodes insts) (forms : AreForms words A nodes seeds) (law : SolutionsAreMade) where
-  abbrev parts : AreParts words A f insts seeds
+  abbrev parts : AreCertificateParts words A f insts seeds
   parts = record {
     graph = h.graph;
     ranks = h.ranks;

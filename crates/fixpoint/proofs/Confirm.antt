@@ -14,9 +14,9 @@ use Rattle.edge_rules.specs.Edges.{IsFaultless, target}
 use Rattle.edge_laws.specs.Laws.{with_state}
 use Rattle.edge_laws.proofs.AllLaws.{edges_lead_to_nodes}
 use Rattle.call_graph.proofs.AllLaws.{each_gathered, gathered_in}
-use Rattle.instance_nesting.specs.Nestings.{AreOnce, TellsAll}
-use Rattle.instance_nesting.specs.declared.verdict.NestingVerdict.TheVariants as verdicts
-use Rattle.round_rules.specs.Families.{Family, nodes_of, Has, HasInst, FitsLimits, AreFormed}
+use Rattle.round_nesting.specs.Nestings.{AreOnce, TellsAll}
+use Rattle.round_nesting.specs.declared.verdict.NestingVerdict.TheVariants as verdicts
+use Rattle.round_rules.specs.Families.{Family, nodes_of, FamilyHas, FamilyHasInst, FitsLimits, AreFormed}
 use Rattle.round_laws.specs.Closed.{IsMade}
 use Rattle.round_laws.proofs.AllLaws.{never_both, formed_nodes, member_has}
 use Rattle.round_steps.specs.declared.looking.Look.{Look}
@@ -26,7 +26,7 @@ use Rattle.round_steps.specs.Looks.{IsLook, HasLook, AreSeen}
 use Rattle.round_steps.specs.Notings.{blank, AreNoted}
 use Rattle.round_steps.specs.Targets.{targets_of, all_targets}
 use Rattle.round_steps.specs.Gathers.{AreBeyond}
-use Rattle.fixpoint.specs.Progress.{IsOwn, ComesBack, AreKnown, IsFound}
+use Rattle.fixpoint.specs.Progress.{IsOwn, ComesBack, AreKnown, AreRoundsFound}
 use Rattle.fixpoint.specs.Confirm.{AreKnownAt, LandAt}
 use Rattle.fixpoint.proofs.Looked.{look_clean, look_node}
 use Rattle.fixpoint.proofs.Known.{look_known, still_known, notes_so}
@@ -41,7 +41,7 @@ module _ (words : List ℕ) (A : List Entry) (f : Family) where
   -- ---- notes
 
   -- where no fault was found, a node of these keys has a look
-  look_there : (keys : List NodeKey) (seen : Seen) → AreSeen words A f keys seen → seen.worst ≡ None → (n : Node) → Has f n → Contains keys n.key
+  look_there : (keys : List NodeKey) (seen : Seen) → AreSeen words A f keys seen → seen.worst ≡ None → (n : Node) → FamilyHas f n → Contains keys n.key
       → HasLook seen.looks.items n.key
   look_there keys seen are none n has i = ⊎_elim (λ h. h) (λ h. absurd (let never = sym none ∙ h.found in cc)) (are.each n.key n.state i has)
 
@@ -66,7 +66,7 @@ module _ (words : List ℕ) (A : List Entry) (f : Family) where
   pub more_known : (keys : List NodeKey) (k : NodeKey) (old new : Notes) (seen : Seen) → AreKnownAt words A f keys old → AreSeen words A f (k ∷ []) seen
       → seen.worst ≡ None → AreNoted old seen.looks.items new → AreKnownAt words A f (keys ++ k ∷ []) new
   more_known keys k old new seen known are none noting =
-      let there : (n : Node) → Has f n → k ≡ n.key → HasLook seen.looks.items n.key = λ n has e. look_there (k ∷ []) seen are none n has (this_one k n.key e) in
+      let there : (n : Node) → FamilyHas f n → k ≡ n.key → HasLook seen.looks.items n.key = λ n has e. look_there (k ∷ []) seen are none n has (this_one k n.key e) in
       record {
         faultless = λ n has i. ⊎_elim (known.faultless n has)
             (λ e. let h = there n has e in let is = are.looks h.look h.member in
@@ -78,7 +78,7 @@ module _ (words : List ℕ) (A : List Entry) (f : Family) where
         so = notes_so words A f old new seen.looks.items noting are.looks known.so;
       }
 
-  pub whole_known : (keys : List NodeKey) (notes : Notes) → ((n : Node) → Has f n → Contains keys n.key) → AreKnownAt words A f keys notes → AreKnown words A f notes
+  pub whole_known : (keys : List NodeKey) (notes : Notes) → ((n : Node) → FamilyHas f n → Contains keys n.key) → AreKnownAt words A f keys notes → AreKnown words A f notes
   whole_known keys notes all known =
       record { faultless = λ n has. known.faultless n has (all n has); each = λ n has. known.each n has (all n has); so = known.so }
 
@@ -116,7 +116,7 @@ module _ (words : List ℕ) (A : List Entry) (f : Family) where
 
   -- ---- the end
 
-  pub confirmed : (keys : List NodeKey) (notes : Notes) → IsMade words A f → HasInst f root_inst → FitsLimits f → ((n : Node) → Has f n → Contains keys n.key)
-      → AreKnown words A f notes → TellsAll (size_of (device_of words)) notes.nesting verdicts.Nests → LandAt words A f keys → IsFound words A None f
+  pub confirmed : (keys : List NodeKey) (notes : Notes) → IsMade words A f → FamilyHasInst f root_inst → FitsLimits f → ((n : Node) → FamilyHas f n → Contains keys n.key)
+      → AreKnown words A f notes → TellsAll (size_of (device_of words)) notes.nesting verdicts.Nests → LandAt words A f keys → AreRoundsFound words A None f
   confirmed keys notes made root fits all known nests land =
       orders_end.ends words A f made (λ n e has edge. land n e has (all n has) edge) (nests_passes words A f notes fits known root nests)

@@ -21,17 +21,17 @@ use Rattle.edge_laws.proofs.AllLaws.{edges_lead_to_nodes}
 use Rattle.certificate.specs.Claims.{cells_of}
 use Rattle.round_rules.specs.declared.refusal.Refusal.{Refusal}
 use Rattle.round_rules.specs.declared.refusal.Refusal.TheVariants as refusal
-use Rattle.round_rules.specs.Families.{Family, HasInst, AreFormed, IsClosed, cells}
+use Rattle.round_rules.specs.Families.{Family, FamilyHasInst, AreFormed, IsClosed, cells}
 use Rattle.round_rules.specs.Rounds.{first, IsNext, Comes}
 use Rattle.round_rules.specs.Refusals.{Test, over, faulty, re_entry, recursion, too_deep, refusal_of}
-use Rattle.round_rules.specs.Solutions.{IsWithin, IsWhyNot, IsRefusal}
-use Rattle.round_laws.specs.Steps.{joined_with, raised_all, AreApart, weight}
+use Rattle.round_rules.specs.Solutions.{IsWithinBudget, IsWhyNot, IsRefusal}
+use Rattle.round_laws.specs.Steps.{joined_with, raised_all, HaveOwnKeys, weight}
 use Rattle.round_laws.proofs.AllLaws.{rounds_are_joins, rounds_are_least, comes_root}
 use Rattle.round_steps.specs.declared.noting.Notes.{Notes}
 use Rattle.round_steps.specs.Notings.{blank}
 use Rattle.round_steps.specs.Joins.{AreNew, KeptBut}
-use Rattle.fixpoint.specs.Progress.{Turn, IsLeft, Progress, IsSpent, IsFound}
-use Rattle.fixpoint.specs.Tests.{IsStopped, IsReady}
+use Rattle.fixpoint.specs.Progress.{Turn, IsBudgetLeft, RoundsProgress, IsSpent, AreRoundsFound}
+use Rattle.fixpoint.specs.Tests.{AreRoundsStopped, IsReady}
 use Rattle.fixpoint.proofs.Next.{next_turn, first_turn, not_closed, unchanged, closed_then}
 
 -- ---- the first family
@@ -74,20 +74,20 @@ pub root_fresh : (f : Family) (ns : List Node) → f ≡ empty → AreNew f ns
 root_fresh f ns is n i l =
     absurd (let never = sym (get-empty {X = AbsState} node_cmp n.key) ∙ sym (ap (λ (g : Family). get g n.key) is) ∙ l.is in cc)
 
-pub root_apart : (A : List Entry) (ns : List Node) → ns ≡ root_node A ∷ [] → AreApart ns
-root_apart A ns is = subst AreApart (sym is) (λ m i. absurd (none_in m i), tt)
+pub root_apart : (A : List Entry) (ns : List Node) → ns ≡ root_node A ∷ [] → HaveOwnKeys ns
+root_apart A ns is = subst HaveOwnKeys (sym is) (λ m i. absurd (none_in m i), tt)
 
 pub first_is : (A : List Entry) (ns : List Node) → ns ≡ root_node A ∷ [] → raised_all empty ns ≡ first A
 first_is A ns is = ap (raised_all empty) is ∙ ap (λ o. insert empty (entry_key root_inst) (joined_with o (root_of A))) (get-empty {X = AbsState} node_cmp (entry_key root_inst))
 
 -- ---- the budget
 
-pub within_left : (steps left : Option ℕ) (n : ℕ) → IsLeft steps left n → IsWithin steps n
+pub within_left : (steps left : Option ℕ) (n : ℕ) → IsBudgetLeft steps left n → IsWithinBudget steps n
 within_left None left n h = tt
 within_left (Some steps) None n h = absurd h
 within_left (Some steps) (Some left) n h = omega (arith, h)
 
-all_left : (steps : Option ℕ) → IsLeft steps steps 0
+all_left : (steps : Option ℕ) → IsBudgetLeft steps steps 0
 all_left None = tt
 all_left (Some steps) = omega arith
 
@@ -109,8 +109,8 @@ module _ (words : List ℕ) (A : List Entry) where
   spent_no_memory : (n : ℕ) → refusal.Spent n ≡ refusal.Memory → ⊥
   spent_no_memory n e = cc
 
-  refused_by : (steps : Option ℕ) (n : ℕ) (f : Family) (r : Refusal) → IsWithin steps n → Comes words A n f → (r ≢ refusal.Memory → IsRefusal words A steps r)
-      → (r ≢ refusal.Memory → IsStopped words A f r) → IsWhyNot words A steps r
+  refused_by : (steps : Option ℕ) (n : ℕ) (f : Family) (r : Refusal) → IsWithinBudget steps n → Comes words A n f → (r ≢ refusal.Memory → IsRefusal words A steps r)
+      → (r ≢ refusal.Memory → AreRoundsStopped words A f r) → IsWhyNot words A steps r
   refused_by steps n f (refusal.Spent m) within comes refused stopped =
       let s = stopped (spent_no_memory m) in absurd (never_spent m s.test s.is)
   refused_by steps n f refusal.Memory within comes refused stopped = tt
@@ -123,11 +123,11 @@ module _ (words : List ℕ) (A : List Entry) where
   refused_by steps n f (refusal.TooLarge limit) within comes refused stopped = refused (λ e. let never = e in cc)
   refused_by steps n f (refusal.UnknownPointer pc) within comes refused stopped = refused (λ e. let never = e in cc)
 
-  module _ (steps left : Option ℕ) (f : Family) (count : ℕ) (work : List NodeKey) (notes : Notes) (p : Progress words A steps left f count work notes) where
-    within : IsWithin steps p.number
+  module _ (steps left : Option ℕ) (f : Family) (count : ℕ) (work : List NodeKey) (notes : Notes) (p : RoundsProgress words A steps left f count work notes) where
+    within : IsWithinBudget steps p.number
     within = within_left steps left p.number p.budget
 
-    pub why_stopped : (r : Refusal) → (r ≢ refusal.Memory → IsStopped words A f r) → IsWhyNot words A steps r
+    pub why_stopped : (r : Refusal) → (r ≢ refusal.Memory → AreRoundsStopped words A f r) → IsWhyNot words A steps r
     why_stopped r stopped =
         refused_by steps p.number f r within p.comes
         (λ real. let s = stopped real in
@@ -136,7 +136,7 @@ module _ (words : List ℕ) (A : List Entry) where
     pub formed : AreFormed (has_pairs A) f
     formed = rounds_are_least.formed words A p.number f p.comes
 
-    pub rooted : HasInst f root_inst
+    pub rooted : FamilyHasInst f root_inst
     rooted = let l = comes_root words A p.number f p.comes in (with_state (root_node A) l.at, l.is, refl)
 
     -- ---- a round
@@ -146,10 +146,10 @@ module _ (words : List ℕ) (A : List Entry) where
       next : IsNext words A f g
       next = subst (IsNext words A f) (sym joined) (rounds_are_joins.next words A f nodes formed ready.round)
 
-      pub is_found : changed ≡ [] → IsFound words A steps g
+      pub is_found : changed ≡ [] → AreRoundsFound words A steps g
       is_found none =
           let same = unchanged words A f g changed none kept in
-          subst (IsFound words A steps) (sym same)
+          subst (AreRoundsFound words A steps) (sym same)
           (record { number = p.number; within = within; solved = record { comes = p.comes; passes = ready.passes; closed = closed_then words A f g next same } })
 
       module _ (some : changed ≢ []) where
@@ -163,17 +163,17 @@ module _ (words : List ℕ) (A : List Entry) where
         still_open : IsClosed words A f → ⊥
         still_open = not_closed words A f g formed next rises
 
-        pub progress_more : (less : Option ℕ) (now : ℕ) → ((n : ℕ) → IsLeft steps left n → IsLeft steps less (n + 1)) → now ≡ cells g
-            → Progress words A steps less g now changed mid
+        pub progress_more : (less : Option ℕ) (now : ℕ) → ((n : ℕ) → IsBudgetLeft steps left n → IsBudgetLeft steps less (n + 1)) → now ≡ cells g
+            → RoundsProgress words A steps less g now changed mid
         progress_more less now spent counted = record {
           number = suc p.number;
           comes = (f, p.comes, ready.passes, still_open, next);
-          budget = subst (IsLeft steps less) (add-one p.number) (spent p.number p.budget);
+          budget = subst (IsBudgetLeft steps less) (add-one p.number) (spent p.number p.budget);
           turn = next_turn words A f g mid changed formed next ready.known ready.once kept;
           counted = counted;
         }
 
-        pub why_spent : (r : Refusal) → ((n : ℕ) → IsLeft steps left n → IsSpent steps n r) → IsWhyNot words A steps r
+        pub why_spent : (r : Refusal) → ((n : ℕ) → IsBudgetLeft steps left n → IsSpent steps n r) → IsWhyNot words A steps r
         why_spent r spent =
             let s = spent p.number p.budget in
             subst (IsWhyNot words A steps) (sym s.0) (s.1, record { family = f; comes = p.comes; passes = ready.passes; more = still_open })
@@ -186,7 +186,7 @@ module _ (words : List ℕ) (A : List Entry) where
             omega (arith, top, few, lt)
 
   pub progress_first : (steps : Option ℕ) (f : Family) (count : ℕ) (work : List NodeKey) (notes : Notes) → f ≡ first A → count ≡ cells f → KeptBut empty f work → notes ≡ blank
-      → Progress words A steps steps f count work notes
+      → RoundsProgress words A steps steps f count work notes
   progress_first steps f count work notes is counted kept no_notes = record {
     number = 0;
     comes = is;

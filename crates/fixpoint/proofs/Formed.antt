@@ -13,8 +13,8 @@ use Rattle.edge_rules.specs.declared.seeded.NodeForm.TheVariants.{State, From}
 use Rattle.edge_rules.specs.Edges.{IsEdge}
 use Rattle.edge_rules.specs.Expansion.{Seeds}
 use Rattle.round_rules.specs.Sparse.{IsOnlyFrom}
-use Rattle.solution_laws.specs.Parts.{IsForm, AreForms}
-use Rattle.solution_laws.proofs.AllLaws.{lone_edges_tell}
+use Rattle.round_solutions.specs.Parts.{IsForm, AreForms}
+use Rattle.round_solutions.proofs.AllLaws.{lone_edges_tell}
 use Rattle.fixpoint.specs.declared.leading.Lead.{Lead}
 use Rattle.fixpoint.specs.declared.leading.Lead.TheVariants.{Nothing, Only, More}
 use Rattle.fixpoint.specs.Leads.{lead_at, LeadsTo, IsLead, AreLeads, form_by, forms_from}

@@ -6,9 +6,9 @@ use Rattle.mask_states.specs.declared.keys.NodeKey.{NodeKey}
 use Rattle.mask_states.specs.Keys.{offset_of}
 use Rattle.local_rules.specs.declared.local.Node.{Node}
 use Rattle.call_graph.specs.declared.ways.Way.{Way}
-use Rattle.family_table.specs.declared.crossings.Crossing.{Crossing}
-use Rattle.instance_nesting.specs.Nestings.{Spot, Entrance, IsSpotOf, IsNestingOf}
-use Rattle.round_rules.specs.Families.{Family, Has, HasInst}
+use Rattle.round_table.specs.declared.crossings.Crossing.{Crossing}
+use Rattle.round_nesting.specs.Nestings.{Spot, Entrance, IsSpotOf, IsNestingOf}
+use Rattle.round_rules.specs.Families.{Family, FamilyHas, FamilyHasInst}
 use Rattle.round_rules.specs.Rounds.{Entering}
 use Rattle.round_steps.specs.declared.looking.Look.{Look}
 use Rattle.round_steps.specs.declared.looking.Seen.{Seen}
@@ -37,7 +37,7 @@ module _ (words : List ℕ) (A : List Entry) (f : Family) (old new : Notes) (xs 
         subst (λ (z : InstKey × Crossing). IsLeaver words A f z.0 z.1) (sym at)
         (record { node = seen_node words A f h.one is; has = is.has; at = refl; of = refl; exit = sym (look_exit words A f h.one is) ∙ h.has.0 })
 
-    inst_so : (i : InstKey) → AnyHas xs InstAt i → HasInst f i
+    inst_so : (i : InstKey) → AnyHas xs InstAt i → FamilyHasInst f i
     inst_so i h = let is = looks h.one h.member in (seen_node words A f h.one is, is.has, sym h.has)
 
     spot_so : (s : Spot) → AnyHas xs SpotAt s → IsSpotOf f s
@@ -63,7 +63,7 @@ module _ (words : List ℕ) (A : List Entry) (f : Family) (old new : Notes) (xs 
 
     -- ---- each node is known
 
-    pub look_known : (n : Node) → Has f n → HasLook xs n.key → IsKnown words A new n
+    pub look_known : (n : Node) → FamilyHas f n → HasLook xs n.key → IsKnown words A new n
     look_known n has h =
         let is = looks h.look h.member in
         subst (IsKnown words A new) (look_node words A f h.look is n has h.at)

@@ -18,7 +18,7 @@ use Rattle.edge_rules.specs.Places.{found_at}
 use Rattle.edge_rules.specs.Views.{AreShown, place_of}
 use Rattle.call_graph.specs.declared.landing.Landing.{Landing}
 use Rattle.call_graph.specs.Landings.{AreLandingsOf}
-use Rattle.solution_laws.proofs.AllLaws.{node_once}
+use Rattle.round_solutions.proofs.AllLaws.{node_once}
 use Rattle.fixpoint.specs.declared.leading.Lead.{Lead}
 use Rattle.fixpoint.specs.declared.leading.Lead.TheVariants.{Nothing, Only, More}
 use Rattle.fixpoint.specs.Leads.{moved, led, lead_at, noted, LeadsTo, IsLead, AreLeads}
@@ -138,7 +138,7 @@ second at m x xs lt all =
 -- ---- the edges of one node
 
 -- an edge of this kind leads from the node to the key
-record HasEdge (words : List ℕ) (A : List Entry) (nodes : List Node) (n : Node) (k : NodeKey) (x : EdgeKind) : Type 0 where
+record HasKindOfEdge (words : List ℕ) (A : List Entry) (nodes : List Node) (n : Node) (k : NodeKey) (x : EdgeKind) : Type 0 where
   edge : Edge
   is : IsEdge words A nodes n edge
   to : edge.to ≡ k
@@ -149,7 +149,7 @@ module _ (words : List ℕ) (A : List Entry) (nodes : List Node) (shown : AreSho
   abbrev k : NodeKey
   k = there.key
 
-  edge_of : (x : EdgeKind) → Contains (kinds_at p landings) x → HasEdge words A nodes n k x
+  edge_of : (x : EdgeKind) → Contains (kinds_at p landings) x → HasKindOfEdge words A nodes n k x
   edge_of x i =
       let h = of_kind p landings x i in
       let l = (exact h.landing).0 h.member in
@@ -158,7 +158,7 @@ module _ (words : List ℕ) (A : List Entry) (nodes : List Node) (shown : AreSho
       record { edge = l.edge; is = l.is; to = sym f.same ∙ ap (λ (m : Node). m.key) same; kind = sym l.kind ∙ h.kind }
 
   -- an edge from the node
-  own : (x : EdgeKind) (h : HasEdge words A nodes n k x) → LeadsTo words A nodes (at + 1) k at h.edge
+  own : (x : EdgeKind) (h : HasKindOfEdge words A nodes n k x) → LeadsTo words A nodes (at + 1) k at h.edge
   own x h = record { node = n; below = omega arith; at = is_at; is = h.is; leads = h.to }
 
   kind_of : (e : Edge) → LeadsTo words A nodes (at + 1) k at e → Contains (kinds_at p landings) e.kind

@@ -12,8 +12,8 @@ use Rattle.local_rules.specs.Local.{local, joined_onto}
 use Rattle.edge_rules.specs.Edges.{IsFaultless, raw_of, Enters}
 use Rattle.call_graph.specs.declared.ways.Way.{Way}
 use Rattle.call_graph.proofs.AllLaws.{local_parts_are_edges}
-use Rattle.round_rules.specs.Families.{Family, Has, HasNoFault}
-use Rattle.round_rules.specs.Refusals.{FaultAt, IsNoLater, IsLeastFault}
+use Rattle.round_rules.specs.Families.{Family, FamilyHas, HasNoFault}
+use Rattle.round_rules.specs.Refusals.{FaultAt, IsFaultNoLater, IsLeastFault}
 use Rattle.round_laws.proofs.AllLaws.{never_both}
 use Rattle.round_steps.specs.declared.looking.Look.{Look}
 use Rattle.round_steps.specs.declared.looking.Seen.{Seen}
@@ -42,14 +42,14 @@ module _ (words : List ℕ) (A : List Entry) where
         (λ i. law.0 (subst (λ (l : List Way). Contains l w) is.entered i), λ e. subst (λ (l : List Way). Contains l w) (sym is.entered) (law.1 e))
 
     -- a node of the look's key is the look's
-    pub look_node : (n : Node) → Has f n → x.key ≡ n.key → seen_node ≡ n
+    pub look_node : (n : Node) → FamilyHas f n → x.key ≡ n.key → seen_node ≡ n
     look_node n has at =
         let state : is.state ≡ n.state = same_Some is.state n.state (sym is.has ∙ ap (get f) at ∙ has) in
         λ i. record { key = at i; state = state i }
 
   -- a node of the list was looked at, or has a fault
   module _ (f : Family) (work : List NodeKey) (notes : Notes) (seen : Seen) (turn : Turn words A f work notes) (are : AreSeen words A f work seen) where
-    look_at_clean : (n : Node) → Has f n → HasLook seen.looks.items n.key → IsFaultless words A n
+    look_at_clean : (n : Node) → FamilyHas f n → HasLook seen.looks.items n.key → IsFaultless words A n
     look_at_clean n has h =
         let is = are.looks h.look h.member in
         subst (IsFaultless words A) (look_node f h.look is n has h.at) (look_clean f h.look is)
@@ -61,7 +61,7 @@ module _ (words : List ℕ) (A : List Entry) where
     pub least_fault : (b : NodeFault) → seen.worst ≡ Some b → IsLeastFault words A f b
     least_fault b worst = (are.fault b worst, λ y at. later y at)
       where
-        later : (y : NodeFault) → FaultAt words A f y → IsNoLater b y
+        later : (y : NodeFault) → FaultAt words A f y → IsFaultNoLater b y
         later y at =
             let n = at.node in
             ⊎_elim
@@ -70,7 +70,7 @@ module _ (words : List ℕ) (A : List Entry) where
             (λ h.
             let first : h.first ≡ b = some_fault h.first b seen.worst h.found worst in
             let fault : h.fault ≡ y = err_is h.fault y n h.is at.is in
-            subst (λ (z : NodeFault). IsNoLater z y) first (subst (IsNoLater h.first) fault h.no_later))
+            subst (λ (z : NodeFault). IsFaultNoLater z y) first (subst (IsFaultNoLater h.first) fault h.no_later))
             (are.each n.key n.state i at.has))
             (λ held. absurd (never_both words A n.key n.state y held.faultless at.is)) (turn.held n at.has)
           where
@@ -78,5 +78,5 @@ module _ (words : List ℕ) (A : List Entry) where
             err_is a c n d e = let both = sym d ∙ e in cc
 
     -- a node of the list has a look, where no fault was found
-    pub looked : seen.worst ≡ None → (n : Node) → Has f n → Contains work n.key → HasLook seen.looks.items n.key
+    pub looked : seen.worst ≡ None → (n : Node) → FamilyHas f n → Contains work n.key → HasLook seen.looks.items n.key
     looked none n has i = ⊎_elim (λ h. h) (λ h. absurd (let never = sym none ∙ h.found in cc)) (are.each n.key n.state i has)

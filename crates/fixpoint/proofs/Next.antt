@@ -15,9 +15,9 @@ use Rattle.local_rules.specs.declared.local.Node.{Node}
 use Rattle.local_laws.proofs.AllLaws.{local_parts_are_monotone}
 use Rattle.edge_laws.specs.Laws.{with_state}
 use Rattle.edge_laws.proofs.AllLaws.{edges_grow}
-use Rattle.family_table.specs.declared.crossings.Crossing.{Crossing}
-use Rattle.instance_nesting.specs.Nestings.{AreOnce}
-use Rattle.round_rules.specs.Families.{Family, Has, Lands, Below, AreFormed, HasNoFault, IsClosed}
+use Rattle.round_table.specs.declared.crossings.Crossing.{Crossing}
+use Rattle.round_nesting.specs.Nestings.{AreOnce}
+use Rattle.round_rules.specs.Families.{Family, FamilyHas, Lands, Below, AreFormed, HasNoFault, IsClosed}
 use Rattle.round_rules.specs.Rounds.{Entering, IsNext}
 use Rattle.round_laws.specs.Steps.{weight}
 use Rattle.round_laws.proofs.AllLaws.{families_are_their_nodes, node_exact}
@@ -40,7 +40,7 @@ module _ (words : List ℕ) (A : List Entry) where
   -- ---- what is noted stays so in a greater family without faults
 
   module _ (f g : Family) (low : AreFormed (has_pairs A) f) (high : AreFormed (has_pairs A) g) (below : Below f g) (clean : HasNoFault words A g) where
-    abbrev up : (n : Node) → Has f n → Node
+    abbrev up : (n : Node) → FamilyHas f n → Node
     up n has = with_state n (below n has).at
 
     caller_up : (inst : InstKey) (p : Crossing) → IsCaller words A f inst p → IsCaller words A g inst p
@@ -90,7 +90,7 @@ module _ (words : List ℕ) (A : List Entry) where
       → KeptBut f g changed → Turn words A g changed notes
   next_turn f g notes changed formed next known once kept = record {
     held = λ n has. ⊎_elim (λ i. inl i)
-        (λ no. let was : Has f n = sym (kept n.key no) ∙ has in
+        (λ no. let was : FamilyHas f n = sym (kept n.key no) ∙ has in
         inr (record {
           faultless = known.faultless n was;
           known = known.each n was;
@@ -100,8 +100,8 @@ module _ (words : List ℕ) (A : List Entry) where
     backs = λ n m to has there comes. ⊎_elim (λ i. inl i)
         (λ no. ⊎_elim (λ i. inr (inl i))
         (λ neither.
-        let was : Has f n = sym (kept n.key no) ∙ has in
-        let were : Has f m = sym (kept m.key neither) ∙ there in
+        let was : FamilyHas f n = sym (kept n.key no) ∙ has in
+        let were : FamilyHas f m = sym (kept m.key neither) ∙ there in
         let a = back_aim words A f n m to was were comes in
         inr (inr (subst (Lands g) a.at (next.edges a.from a.edge a.has a.is))))
         (there_or_not changed m.key))
@@ -114,7 +114,7 @@ module _ (words : List ℕ) (A : List Entry) where
 
   pub first_turn : (f : Family) (work : List NodeKey) → KeptBut empty f work → Turn words A f work blank
   first_turn f work kept =
-      let there : (n : Node) → Has f n → Contains work n.key = λ n has.
+      let there : (n : Node) → FamilyHas f n → Contains work n.key = λ n has.
       ⊎_elim (λ i. i) (λ no. absurd (let never = sym (get-empty {X = AbsState} node_cmp n.key) ∙ sym (kept n.key no) ∙ has in cc)) (there_or_not work n.key) in
       record {
         held = λ n has. inl (there n has);

@@ -29,10 +29,10 @@ use Rattle.edge_rules.specs.Edges.{Enters, by_call, by_interrupt, pick_back, ret
 use Rattle.edge_rules.specs.Roots.{root_of}
 use Rattle.edge_laws.specs.Laws.{with_state}
 use Rattle.edge_laws.proofs.AllLaws.{edges_lead_to_nodes, edges_grow}
-use Rattle.family_table.specs.declared.crossings.Crossing.{Crossing}
-use Rattle.instance_nesting.specs.Nestings.{Noted, AreOnce}
-use Rattle.round_rules.specs.Families.{Family, nodes_of, Has, HasInst, FitsLimits, Lands, Below, AreFormed, HasNoFault, IsClosed, cells}
-use Rattle.round_rules.specs.Rounds.{first, Passes}
+use Rattle.round_table.specs.declared.crossings.Crossing.{Crossing}
+use Rattle.round_nesting.specs.Nestings.{Noted, AreOnce}
+use Rattle.round_rules.specs.Families.{Family, nodes_of, FamilyHas, FamilyHasInst, FitsLimits, Lands, Below, AreFormed, HasNoFault, IsClosed, cells}
+use Rattle.round_rules.specs.Rounds.{first, PassesTests}
 use Rattle.round_laws.specs.Steps.{raised_all, weight}
 use Rattle.round_laws.proofs.AllLaws.{lands_up, formed_nodes, member_has, rounds_are_joins, get_same}
 use Rattle.round_steps.specs.declared.looking.Look.{Look}
@@ -44,12 +44,12 @@ use Rattle.round_steps.specs.Gathers.{AreBeyond}
 use Rattle.round_laws.specs.Closed.{LandWithEdges, IsMade}
 use Rattle.fixpoint.specs.Order.{HasEntered, HasLeft, WereTrue, IsUnderWay}
 use Rattle.fixpoint.specs.OrderLaws.{OrdersEnd}
-use Rattle.fixpoint.specs.Progress.{comes_back, IsFound}
+use Rattle.fixpoint.specs.Progress.{comes_back, AreRoundsFound}
 use Rattle.fixpoint.proofs.Looked.{seen_node, look_clean, look_exit, look_way}
 use Rattle.fixpoint.proofs.Aims.{IsAim, own_aim, back_aim}
 use Rattle.fixpoint.proofs.Cases.{look_cases}
 use Rattle.round_laws.proofs.CloseLaws.{closed_families_end_rounds}
-use Rattle.solution_laws.proofs.CloseLaws.{closed_families_are_solved}
+use Rattle.round_solutions.proofs.CloseLaws.{closed_families_are_solved}
 
 -- where the test says so, there is none
 pub none_left : (l : List Node) (b : Bool) (n : ℕ) → b ≡ (n == 0) → n ≡ length l → b ≡ true → l ≡ []
@@ -108,7 +108,7 @@ module _ (words : List ℕ) (A : List Entry) where
   were_up f g notes below were =
       record { callers = λ inst p i. entered_up f g below inst p (were.callers inst p i); leavers = λ inst p i. left_up f g below inst p (were.leavers inst p i) }
 
-  there : (f : Family) (n : Node) → Has f n → Lands f n
+  there : (f : Family) (n : Node) → FamilyHas f n → Lands f n
   there f n has = record { at = n.state; is = has; above = states_are_ordered.same n.state }
 
   module _ (f : Family) (formed : AreFormed (has_pairs A) f) (xs : List Look) (looks : (x : Look) → Contains xs x → IsLook words A f x) where
@@ -220,7 +220,7 @@ module _ (words : List ℕ) (A : List Entry) where
     once = λ i j inst a b. absurd (let never = a in cc);
   }
 
-  ends : (f : Family) → IsMade words A f → IsClosed words A f → Passes words A f → IsFound words A None f
+  ends : (f : Family) → IsMade words A f → IsClosed words A f → PassesTests words A f → AreRoundsFound words A None f
   ends f made closed passes = let s = closed_families_are_solved.solved words A f made closed passes in record { number = s.0; within = tt; solved = s.1 }
 
   -- ---- in the words of the code
@@ -240,7 +240,7 @@ module _ (words : List ℕ) (A : List Entry) where
     once = once;
   }
 
-  pub made_root : (f : Family) → IsMade words A f → HasInst f root_inst
+  pub made_root : (f : Family) → IsMade words A f → FamilyHasInst f root_inst
   made_root f made =
       let n : Node = record { key = entry_key root_inst; state = root_of A } in
       let l = made.above n (get_same empty (entry_key root_inst) (root_of A)) in

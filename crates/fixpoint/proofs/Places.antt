@@ -13,7 +13,7 @@ use Rattle.local_rules.specs.declared.local.Node.{Node}
 use Rattle.edge_rules.specs.Places.{found_at, none_from}
 use Rattle.edge_rules.specs.Views.{AreShown, place_of}
 use Rattle.call_graph.specs.declared.landing.Landing.{Landing}
-use Rattle.solution_laws.proofs.AllLaws.{node_before}
+use Rattle.round_solutions.proofs.AllLaws.{node_before}
 use Rattle.fixpoint.specs.declared.leading.Lead.{Lead}
 use Rattle.fixpoint.specs.declared.leading.Lead.TheVariants.{Nothing}
 use Rattle.fixpoint.specs.Leads.{led, lead_at, noted}

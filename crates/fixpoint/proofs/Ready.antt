@@ -9,14 +9,14 @@ use Rattle.mask_states.specs.Keys.{root_inst, offset_of}
 use Rattle.local_rules.specs.declared.local.Node.{Node}
 use Rattle.local_rules.specs.declared.local.NodeFault.{NodeFault}
 use Rattle.local_laws.specs.Laws.{AreNodesIn}
-use Rattle.instance_nesting.specs.Nestings.{Noted, AreOnce, AreAlike, TellsAll, Tells}
-use Rattle.instance_nesting.specs.declared.verdict.NestingVerdict.{NestingVerdict}
-use Rattle.instance_nesting.specs.declared.verdict.NestingVerdict.TheVariants as verdicts
-use Rattle.instance_nesting.proofs.AllLaws.{nestings_are_small}
+use Rattle.round_nesting.specs.Nestings.{Noted, AreOnce, AreAlike, TellsAll, VerdictTells}
+use Rattle.round_nesting.specs.declared.verdict.NestingVerdict.{NestingVerdict}
+use Rattle.round_nesting.specs.declared.verdict.NestingVerdict.TheVariants as verdicts
+use Rattle.round_nesting.proofs.AllLaws.{nestings_are_small}
 use Rattle.round_rules.specs.declared.refusal.Refusal.{Refusal}
 use Rattle.round_rules.specs.declared.refusal.Refusal.TheVariants.{Memory}
-use Rattle.round_rules.specs.Families.{Family, HasInst, AreFormed, FitsLimits}
-use Rattle.round_rules.specs.Rounds.{Passes}
+use Rattle.round_rules.specs.Families.{Family, FamilyHasInst, AreFormed, FitsLimits}
+use Rattle.round_rules.specs.Rounds.{PassesTests}
 use Rattle.round_rules.specs.Refusals.{over, faulty, re_entry, recursion, too_deep, fault_refusal}
 use Rattle.round_steps.specs.declared.looking.Look.{Look}
 use Rattle.round_steps.specs.declared.looking.Seen.{Seen}
@@ -25,7 +25,7 @@ use Rattle.round_steps.specs.Looks.{AreSeen}
 use Rattle.round_steps.specs.Targets.{all_targets}
 use Rattle.round_steps.specs.Gathers.{AreBeyond}
 use Rattle.fixpoint.specs.Progress.{AreKnown, Turn}
-use Rattle.fixpoint.specs.Tests.{IsTooLarge, nesting_refusal, IsTold, IsStopped, IsReady}
+use Rattle.fixpoint.specs.Tests.{IsTooLarge, nesting_refusal, IsVerdictTold, AreRoundsStopped, IsReady}
 use Rattle.fixpoint.proofs.Looked.{seen_node, least_fault}
 use Rattle.fixpoint.proofs.Known.{nesting_is}
 use Rattle.fixpoint.proofs.Aims.{round_is}
@@ -46,11 +46,11 @@ refused_if (Ok a) x r P is h = subst (λ s. IfErr s P) (sym is) tt
 refused_if (Err e) x r P is h = subst (λ s. IfErr s P) (sym is) h
 
 module _ (words : List ℕ) (A : List Entry) where
-  pub too_large : (f : Family) (r : Refusal) → IsTooLarge f r → IsStopped words A f r
+  pub too_large : (f : Family) (r : Refusal) → IsTooLarge f r → AreRoundsStopped words A f r
   too_large f r h = record { test = over h.limit; holds = h.over; is = h.is }
 
   pub has_fault : (f : Family) (work : List NodeKey) (notes : Notes) (seen : Seen) (b : NodeFault) (r : Refusal) → FitsLimits f → Turn words A f work notes
-      → AreSeen words A f work seen → seen.worst ≡ Some b → r ≡ fault_refusal b → IsStopped words A f r
+      → AreSeen words A f work seen → seen.worst ≡ Some b → r ≡ fault_refusal b → AreRoundsStopped words A f r
   has_fault f work notes seen b r fits turn are worst is = record { test = faulty b; holds = (fits, least_fault words A f work notes seen turn are b worst); is = is }
 
   -- all looks are at offsets that nodes have
@@ -64,16 +64,16 @@ module _ (words : List ℕ) (A : List Entry) where
     pub few_insts : AreOnce notes.nesting.insts → length notes.nesting.insts ≤ 65536
     few_insts once = omega (arith, nestings_are_small words A f notes.nesting (nesting_is words A f notes known) once, fits.few_nodes)
 
-    told_by : (w : NestingVerdict) (r : Refusal) → Tells words A f w → r ≡ nesting_refusal w → r ≢ Memory → IsStopped words A f r
+    told_by : (w : NestingVerdict) (r : Refusal) → VerdictTells words A f w → r ≡ nesting_refusal w → r ≢ Memory → AreRoundsStopped words A f r
     told_by verdicts.Nests r t is real = absurd (real is)
     told_by (verdicts.ReEntry v word) r t is real = record { test = re_entry v word; holds = (fits, known.faultless, t); is = is }
     told_by (verdicts.Recursion word) r t is real = record { test = recursion word; holds = (fits, known.faultless, t); is = is }
     told_by (verdicts.TooDeep d) r t is real = record { test = too_deep d; holds = (fits, known.faultless, t.0, t.1, t.2); is = is }
 
-    pub told_stops : (r : Refusal) → HasInst f root_inst → (r ≢ Memory → IsTold (size_of (device_of words)) notes.nesting r) → r ≢ Memory → IsStopped words A f r
+    pub told_stops : (r : Refusal) → FamilyHasInst f root_inst → (r ≢ Memory → IsVerdictTold (size_of (device_of words)) notes.nesting r) → r ≢ Memory → AreRoundsStopped words A f r
     told_stops r root told real = let t = told real in told_by t.verdict r (t.tells words A f refl root (nesting_is words A f notes known)) t.is real
 
-    pub nests_passes : HasInst f root_inst → TellsAll (size_of (device_of words)) notes.nesting verdicts.Nests → Passes words A f
+    pub nests_passes : FamilyHasInst f root_inst → TellsAll (size_of (device_of words)) notes.nesting verdicts.Nests → PassesTests words A f
     nests_passes root nests =
         let t = nests words A f refl root (nesting_is words A f notes known) in
         record { fits = fits; faultless = known.faultless; acyclic = t.0; shallow = t.1 }
@@ -106,7 +106,7 @@ module _ (words : List ℕ) (A : List Entry) where
       (round_is words A f formed work old notes seen turn are none (alike_known f mid fits known nesting alike)).formed
 
   -- the nodes that come next
-  pub is_ready : (f : Family) (work : List NodeKey) (old mid : Notes) (nesting : Noted) (seen : Seen) (nodes : List Node) → AreFormed (has_pairs A) f → HasInst f root_inst → FitsLimits f
+  pub is_ready : (f : Family) (work : List NodeKey) (old mid : Notes) (nesting : Noted) (seen : Seen) (nodes : List Node) → AreFormed (has_pairs A) f → FamilyHasInst f root_inst → FitsLimits f
       → Turn words A f work old → AreSeen words A f work seen → seen.worst ≡ None → AreKnown words A f mid → TellsAll (size_of (device_of words)) mid.nesting verdicts.Nests
       → AreAlike mid.nesting nesting → AreOnce nesting.insts
       → AreBeyond (has_pairs A) f (all_targets f (record { callers = mid.callers; leavers = mid.leavers; nesting = nesting }) seen.looks.items) nodes

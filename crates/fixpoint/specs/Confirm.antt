@@ -5,16 +5,16 @@ use Rattle.mask_states.specs.declared.keys.NodeKey.{NodeKey}
 use Rattle.local_rules.specs.declared.local.Node.{Node}
 use Rattle.edge_rules.specs.declared.edge.Edge.{Edge}
 use Rattle.edge_rules.specs.Edges.{IsFaultless, IsEdge, target}
-use Rattle.round_rules.specs.Families.{Family, nodes_of, Has, Lands}
+use Rattle.round_rules.specs.Families.{Family, nodes_of, FamilyHas, Lands}
 use Rattle.round_steps.specs.declared.noting.Notes.{Notes}
 use Rattle.fixpoint.specs.Progress.{AreTrue, IsKnown}
 
 -- the nodes of these keys have no fault and are known, and all that is noted is so
 pub record AreKnownAt (words : List ℕ) (A : List Entry) (f : Family) (keys : List NodeKey) (notes : Notes) : Type 0 where
-  pub faultless : (n : Node) → Has f n → Contains keys n.key → IsFaultless words A n
-  pub each : (n : Node) → Has f n → Contains keys n.key → IsKnown words A notes n
+  pub faultless : (n : Node) → FamilyHas f n → Contains keys n.key → IsFaultless words A n
+  pub each : (n : Node) → FamilyHas f n → Contains keys n.key → IsKnown words A notes n
   pub so : AreTrue words A f notes
 
 -- the edges of the nodes of these keys lead to nodes that are there
 abbrev pub LandAt : List ℕ → List Entry → Family → List NodeKey → Type 0
-LandAt words A f keys = (n : Node) (e : Edge) → Has f n → Contains keys n.key → IsEdge words A (nodes_of f) n e → Lands f (target e)
+LandAt words A f keys = (n : Node) (e : Edge) → FamilyHas f n → Contains keys n.key → IsEdge words A (nodes_of f) n e → Lands f (target e)

@@ -9,7 +9,7 @@ use Rattle.family_graph.specs.Graphs.{IsGraphOf}
 use Rattle.certificate.specs.declared.instance.Inst.{Inst}
 use Rattle.round_rules.specs.Families.{Family, nodes_of}
 use Rattle.round_rules.specs.Refusals.{IsSolved}
-use Rattle.solution_laws.specs.Parts.{AreInsts}
+use Rattle.round_solutions.specs.Parts.{AreInsts}
 
 -- the first of a graph's instances, each with its rank and its need
 pub record AreInstsBelow (gs : List GraphInst) (ranks needs : List ℕ) (count : ℕ) (insts : List Inst) : Type 0 where

@@ -5,8 +5,8 @@ use Rattle.avr_model.specs.Assumptions.{has_pairs}
 use Rattle.local_rules.specs.declared.local.Node.{Node}
 use Rattle.local_laws.specs.Laws.{AreNodesIn}
 use Rattle.round_rules.specs.Families.{Family, AreFormed, IsClosed, cells}
-use Rattle.round_rules.specs.Rounds.{first, Passes}
-use Rattle.instance_nesting.specs.Nestings.{AreOnce}
+use Rattle.round_rules.specs.Rounds.{first, PassesTests}
+use Rattle.round_nesting.specs.Nestings.{AreOnce}
 use Rattle.round_laws.specs.Steps.{raised_all}
 use Rattle.round_steps.specs.declared.looking.Look.{Look}
 use Rattle.round_steps.specs.declared.noting.Notes.{Notes}
@@ -14,7 +14,7 @@ use Rattle.round_steps.specs.Looks.{IsLook}
 use Rattle.round_steps.specs.Notings.{blank, AreNoted}
 use Rattle.round_steps.specs.Targets.{all_targets}
 use Rattle.round_steps.specs.Gathers.{AreBeyond}
-use Rattle.fixpoint.specs.Progress.{IsFound}
+use Rattle.fixpoint.specs.Progress.{AreRoundsFound}
 use Rattle.round_laws.specs.Closed.{IsMade}
 use Rattle.fixpoint.specs.Order.{WereTrue, IsUnderWay}
 
@@ -31,4 +31,4 @@ pub record OrdersEnd : Type 0 where
       → WereTrue words A f notes → AreOnce notes.nesting.insts → ((x : Look) → Contains xs x → IsLook words A f x) → AreBeyond (has_pairs A) f (all_targets f notes xs) items
       → count ≡ cells (raised_all f items) → IsUnderWay words A (raised_all f items) count notes
   -- where such a family is closed and no test holds of it, the rounds end there
-  pub ends : (words : List ℕ) (A : List Entry) (f : Family) → IsMade words A f → IsClosed words A f → Passes words A f → IsFound words A None f
+  pub ends : (words : List ℕ) (A : List Entry) (f : Family) → IsMade words A f → IsClosed words A f → PassesTests words A f → AreRoundsFound words A None f

@@ -13,15 +13,15 @@ use Rattle.local_rules.specs.declared.local.Exit.{Exit}
 use Rattle.local_rules.specs.declared.local.Node.{Node}
 use Rattle.local_rules.specs.Local.{joined_onto}
 use Rattle.edge_rules.specs.Edges.{IsFaultless, raw_of, Enters, returned_key}
-use Rattle.family_table.specs.declared.crossings.Crossing.{Crossing}
-use Rattle.family_table.specs.Crossings.{IsCrossing}
-use Rattle.instance_nesting.specs.Nestings.{Spot, Entrance, AreOnce, IsSpotOf}
-use Rattle.round_rules.specs.Families.{Family, Has, HasInst, Lands, HasNoFault, cells}
+use Rattle.round_table.specs.declared.crossings.Crossing.{Crossing}
+use Rattle.round_table.specs.Crossings.{IsCrossing}
+use Rattle.round_nesting.specs.Nestings.{Spot, Entrance, AreOnce, IsSpotOf}
+use Rattle.round_rules.specs.Families.{Family, FamilyHas, FamilyHasInst, Lands, HasNoFault, cells}
 use Rattle.round_rules.specs.Rounds.{Entering, Comes}
 use Rattle.round_rules.specs.declared.refusal.Refusal.{Refusal}
 use Rattle.round_rules.specs.declared.refusal.Refusal.TheVariants.{Spent}
 use Rattle.round_rules.specs.Refusals.{IsSolved}
-use Rattle.round_rules.specs.Solutions.{IsWithin}
+use Rattle.round_rules.specs.Solutions.{IsWithinBudget}
 use Rattle.round_steps.specs.declared.noting.Notes.{Notes}
 use Rattle.round_steps.specs.Notings.{caller, leaver}
 
@@ -40,14 +40,14 @@ pub data ComesBack (words : List ℕ) (A : List Entry) (n m : Node) : Node → T
 -- a node of the family enters the instance, as the crossing says
 pub record IsCaller (words : List ℕ) (A : List Entry) (f : Family) (inst : InstKey) (p : Crossing) : Type 0 where
   pub node : Node
-  pub has : Has f node
+  pub has : FamilyHas f node
   pub at : node.key ≡ p.node
   pub enters : Enters words A node p.kind inst p.back
 
 -- a node of the family leaves its instance, as the crossing says
 pub record IsLeaver (words : List ℕ) (A : List Entry) (f : Family) (inst : InstKey) (p : Crossing) : Type 0 where
   pub node : Node
-  pub has : Has f node
+  pub has : FamilyHas f node
   pub at : node.key ≡ p.node
   pub of : node.key.inst ≡ inst
   pub exit : (raw_of words A node).exit ≡ Some p.exit
@@ -56,7 +56,7 @@ pub record IsLeaver (words : List ℕ) (A : List Entry) (f : Family) (inst : Ins
 pub record AreTrue (words : List ℕ) (A : List Entry) (f : Family) (notes : Notes) : Type 0 where
   pub callers : (inst : InstKey) (p : Crossing) → IsCrossing notes.callers inst p → IsCaller words A f inst p
   pub leavers : (inst : InstKey) (p : Crossing) → IsCrossing notes.leavers inst p → IsLeaver words A f inst p
-  pub insts : (inst : InstKey) → Contains notes.nesting.insts inst → HasInst f inst
+  pub insts : (inst : InstKey) → Contains notes.nesting.insts inst → FamilyHasInst f inst
   pub spots : (s : Spot) → Contains notes.nesting.spots s → IsSpotOf f s
   pub entrances : (e : Entrance) → Contains notes.nesting.entrances e → Entering words A f e.from e.into e.offset
 
@@ -73,7 +73,7 @@ pub record IsKnown (words : List ℕ) (A : List Entry) (notes : Notes) (n : Node
 -- all nodes of a family without faults are known, and all that is noted is so
 pub record AreKnown (words : List ℕ) (A : List Entry) (f : Family) (notes : Notes) : Type 0 where
   pub faultless : HasNoFault words A f
-  pub each : (n : Node) → Has f n → IsKnown words A notes n
+  pub each : (n : Node) → FamilyHas f n → IsKnown words A notes n
   pub so : AreTrue words A f notes
 
 -- ---- before a round
@@ -87,25 +87,25 @@ pub record IsHeld (words : List ℕ) (A : List Entry) (f : Family) (notes : Note
 -- Each node that is not in the list needs no look, and where neither of two is, the one comes back by the other to a node that is there.
 -- Where no node has a fault, all that is noted is so.
 pub record Turn (words : List ℕ) (A : List Entry) (f : Family) (work : List NodeKey) (notes : Notes) : Type 0 where
-  pub held : (n : Node) → Has f n → Contains work n.key ⊎ IsHeld words A f notes n
-  pub backs : (n m to : Node) → Has f n → Has f m → ComesBack words A n m to → Contains work n.key ⊎ (Contains work m.key ⊎ Lands f to)
+  pub held : (n : Node) → FamilyHas f n → Contains work n.key ⊎ IsHeld words A f notes n
+  pub backs : (n m to : Node) → FamilyHas f n → FamilyHas f m → ComesBack words A n m to → Contains work n.key ⊎ (Contains work m.key ⊎ Lands f to)
   pub so : HasNoFault words A f → AreTrue words A f notes
   pub once : AreOnce notes.nesting.insts
 
 -- ---- the budget
 
 -- what is left of the budget after n rounds
-abbrev pub IsLeft : Option ℕ → Option ℕ → ℕ → Type 0
-IsLeft None None n = ⊤
-IsLeft None (Some left) n = ⊥
-IsLeft (Some steps) None n = ⊥
-IsLeft (Some steps) (Some left) n = left + n ≡ steps
+abbrev pub IsBudgetLeft : Option ℕ → Option ℕ → ℕ → Type 0
+IsBudgetLeft None None n = ⊤
+IsBudgetLeft None (Some left) n = ⊥
+IsBudgetLeft (Some steps) None n = ⊥
+IsBudgetLeft (Some steps) (Some left) n = left + n ≡ steps
 
 -- the rounds so far
-pub record Progress (words : List ℕ) (A : List Entry) (steps left : Option ℕ) (f : Family) (count : ℕ) (work : List NodeKey) (notes : Notes) : Type 0 where
+pub record RoundsProgress (words : List ℕ) (A : List Entry) (steps left : Option ℕ) (f : Family) (count : ℕ) (work : List NodeKey) (notes : Notes) : Type 0 where
   pub number : ℕ
   pub comes : Comes words A number f
-  pub budget : IsLeft steps left number
+  pub budget : IsBudgetLeft steps left number
   pub turn : Turn words A f work notes
   pub counted : count ≡ cells f
 
@@ -114,7 +114,7 @@ abbrev pub IsSpent : Option ℕ → ℕ → Refusal → Type 0
 IsSpent steps n r = (r ≡ Spent n) × (steps ≡ Some n)
 
 -- the rounds end within the budget at this family
-pub record IsFound (words : List ℕ) (A : List Entry) (steps : Option ℕ) (f : Family) : Type 0 where
+pub record AreRoundsFound (words : List ℕ) (A : List Entry) (steps : Option ℕ) (f : Family) : Type 0 where
   pub number : ℕ
-  pub within : IsWithin steps number
+  pub within : IsWithinBudget steps number
   pub solved : IsSolved words A number f

@@ -4,15 +4,15 @@ use Rattle.avr_model.specs.declared.assumption.Entry.{Entry}
 use Rattle.certificate.specs.declared.limit.Limit.{Limit}
 use Rattle.local_rules.specs.declared.local.Node.{Node}
 use Rattle.local_rules.specs.declared.local.NodeFault.{NodeFault}
-use Rattle.instance_nesting.specs.Nestings.{Noted, AreOnce, TellsAll}
-use Rattle.instance_nesting.specs.declared.verdict.NestingVerdict.{NestingVerdict}
-use Rattle.instance_nesting.specs.declared.verdict.NestingVerdict.TheVariants as verdicts
+use Rattle.round_nesting.specs.Nestings.{Noted, AreOnce, TellsAll}
+use Rattle.round_nesting.specs.declared.verdict.NestingVerdict.{NestingVerdict}
+use Rattle.round_nesting.specs.declared.verdict.NestingVerdict.TheVariants as verdicts
 use Rattle.round_rules.specs.declared.refusal.Refusal.{Refusal}
 use Rattle.round_rules.specs.declared.refusal.Refusal.TheVariants.{TooLarge, ReEntry, Recursion, TooDeep, Memory}
 use Rattle.round_rules.specs.Families.{Family}
-use Rattle.round_rules.specs.Rounds.{Passes}
-use Rattle.round_rules.specs.Refusals.{Test, IsOver, FirstHolds, refusal_of, fault_refusal}
-use Rattle.round_laws.specs.Steps.{IsRoundOf, AreApart}
+use Rattle.round_rules.specs.Rounds.{PassesTests}
+use Rattle.round_rules.specs.Refusals.{Test, IsOverSize, FirstHolds, refusal_of, fault_refusal}
+use Rattle.round_laws.specs.Steps.{IsRoundOf, HaveOwnKeys}
 use Rattle.round_steps.specs.declared.noting.Notes.{Notes}
 use Rattle.round_steps.specs.Joins.{AreNew}
 use Rattle.fixpoint.specs.Progress.{AreKnown}
@@ -20,7 +20,7 @@ use Rattle.fixpoint.specs.Progress.{AreKnown}
 -- the refusal says which limit the family is above
 pub record IsTooLarge (f : Family) (r : Refusal) : Type 0 where
   pub limit : Limit
-  pub over : IsOver f limit
+  pub over : IsOverSize f limit
   pub is : r ≡ TooLarge limit
 
 -- the refusal is of the fault that counts
@@ -36,22 +36,22 @@ nesting_refusal (verdicts.Recursion word) = Recursion word
 nesting_refusal (verdicts.TooDeep need) = TooDeep 0 need
 
 -- the refusal says what the nesting tells of a device whose SRAM has so many bytes
-pub record IsTold (size : ℕ) (n : Noted) (r : Refusal) : Type 0 where
+pub record IsVerdictTold (size : ℕ) (n : Noted) (r : Refusal) : Type 0 where
   pub verdict : NestingVerdict
   pub tells : TellsAll size n verdict
   pub is : r ≡ nesting_refusal verdict
 
 -- the refusal is of the first test that holds
-pub record IsStopped (words : List ℕ) (A : List Entry) (f : Family) (r : Refusal) : Type 0 where
+pub record AreRoundsStopped (words : List ℕ) (A : List Entry) (f : Family) (r : Refusal) : Type 0 where
   pub test : Test
   pub holds : FirstHolds words A f test
   pub is : r ≡ refusal_of test
 
 -- No test holds; the nodes are a round of the family, none of them lands in it, and no two have the same key; and its nodes are known.
 pub record IsReady (words : List ℕ) (A : List Entry) (f : Family) (notes : Notes) (nodes : List Node) : Type 0 where
-  pub passes : Passes words A f
+  pub passes : PassesTests words A f
   pub round : IsRoundOf words A f nodes
   pub fresh : AreNew f nodes
-  pub apart : AreApart nodes
+  pub apart : HaveOwnKeys nodes
   pub known : AreKnown words A f notes
   pub once : AreOnce notes.nesting.insts

@@ -5,21 +5,21 @@ ghost use Rattle.std.specs.FinMap.{get};
 ghost use Rattle.avr_model.specs.Assumptions.{has_pairs};
 ghost use Rattle.abs_state.specs.declared.state.AbsState as state_type;
 ghost use Rattle.mask_states.specs.declared.keys.NodeKey as key_type;
-ghost use Rattle.instance_nesting.specs.Nestings.{AreOnce};
+ghost use Rattle.round_nesting.specs.Nestings.{AreOnce};
 ghost use Rattle.round_rules.specs.Families.{AreFormed, cells};
 ghost use Rattle.round_laws.specs.Closed.{IsMade};
 ghost use Rattle.round_steps.specs.Looks.{AreSeen};
 ghost use Rattle.round_steps.specs.Notings.{blank};
-ghost use Rattle.fixpoint.specs.Progress.{AreKnown, IsFound};
+ghost use Rattle.fixpoint.specs.Progress.{AreKnown, AreRoundsFound};
 ghost use Rattle.fixpoint.specs.Confirm.{AreKnownAt, LandAt};
 
 use crate::testing::{check_nesting, check_size, note_seen};
 use call_graph::Task;
-use family_table::Table;
 use mask_states::NodeKey;
 use round_rules::Refusal;
 use round_steps::targets::targets;
 use round_steps::{Notes, Seen, look_all};
+use round_table::Table;
 use std::alloc::AllocError;
 
 // What is found at one node.
@@ -75,7 +75,7 @@ fn check_all_edges(
     Ok(())
 }
 
-// The family, all nodes of which have these keys, is closed and no test holds of it, on notes that are empty.
+/// The family, all nodes of which have these keys, is closed and no test holds of it, on notes that are empty.
 pub fn confirm(
     task: &Task<'_>,
     table: &Table,
@@ -87,7 +87,7 @@ pub fn confirm(
     requires count { counted ≡ cells table.now }
     requires no_notes { notes.old ≡ blank }
     requires all { (k : key_type.NodeKey) (s : state_type.AbsState) → get table.now k ≡ Some s → Contains keys.now k }
-    ensures { OnOk result (IsFound task.now.flash.now task.now.assumptions.now None table.now) }
+    ensures { OnOk result (AreRoundsFound task.now.flash.now task.now.assumptions.now None table.now) }
 {
     check_size(table, counted)?;
     note_each(task, table, notes, keys)?;

@@ -2,7 +2,7 @@
 
 ghost use Rattle.std.specs.Prelude.{◌≡◌, ◌≤◌, ◌<◌, length, IfOk};
 ghost use Rattle.call_graph.specs.Landings.{AreLandings};
-ghost use Rattle.solution_laws.specs.Parts.{AreForms};
+ghost use Rattle.round_solutions.specs.Parts.{AreForms};
 ghost use Rattle.fixpoint.specs.Leads.{lead_at, form_by, forms_from};
 
 use crate::leading::{Lead, leads};

@@ -3,13 +3,13 @@
 ghost use Rattle.std.specs.Prelude.{◌+◌, ◌≡◌, ◌<◌, ◌≤◌, length, None, IfOk, IfErr, OnOk, OnSome, true};
 ghost use Rattle.std.specs.FinMap.{empty};
 ghost use Rattle.std.specs.BinaryHeap.{heap_len};
-ghost use Rattle.instance_nesting.specs.Nestings.{AreOnce};
+ghost use Rattle.round_nesting.specs.Nestings.{AreOnce};
 ghost use Rattle.round_rules.specs.Families.{cells};
 ghost use Rattle.round_laws.specs.Closed.{IsMade};
 ghost use Rattle.round_rules.specs.Solutions.{IsWhyNot};
 ghost use Rattle.round_laws.specs.Steps.{weight};
 ghost use Rattle.round_steps.specs.Notings.{blank};
-ghost use Rattle.fixpoint.specs.Progress.{IsFound};
+ghost use Rattle.fixpoint.specs.Progress.{AreRoundsFound};
 ghost use Rattle.fixpoint.specs.Order.{IsUnderWay};
 ghost use Rattle.fixpoint.specs.OrderLaws.{OrdersEnd};
 
@@ -17,13 +17,13 @@ use crate::confirming::confirm;
 use crate::rounds::{least_family, start};
 use crate::testing::{check_nesting, check_size, note_seen};
 use call_graph::Task;
-use family_table::Table;
 use flash_image::Flash;
-use instance_nesting::Nesting;
 use mask_states::NodeKey;
+use round_nesting::Nesting;
 use round_rules::Refusal;
 use round_steps::targets::targets;
 use round_steps::{Notes, join_all, look_all};
+use round_table::Table;
 use std::alloc::AllocError;
 use std::cmp::Reverse;
 use std::collections::BinaryHeap;
@@ -143,7 +143,7 @@ fn walk(
 fn is_end(task: &Task<'_>, table: &Table, counted: u64) -> Result<(), Refusal>
     requires made { IsMade task.now.flash.now task.now.assumptions.now table.now }
     requires count { counted ≡ cells table.now }
-    ensures { OnOk result (IsFound task.now.flash.now task.now.assumptions.now None table.now) }
+    ensures { OnOk result (AreRoundsFound task.now.flash.now task.now.assumptions.now None table.now) }
 {
     let keys = table.keys(task.alloc)?;
     let mut notes = Notes::new(task.alloc);
@@ -174,7 +174,7 @@ fn walked(task: &Task<'_>, table: &mut Table) -> Result<u64, Refusal>
 // The walk from an empty family to one at which the rounds end.
 fn walk_to_end(task: &Task<'_>, table: &mut Table) -> Result<(), Refusal>
     requires { table.old ≡ empty }
-    ensures { OnOk result (IsFound task.now.flash.now task.now.assumptions.now None table.new) }
+    ensures { OnOk result (AreRoundsFound task.now.flash.now task.now.assumptions.now None table.new) }
 {
     let counted = walked(task, table)?;
     is_end(task, table, counted)?;
@@ -183,7 +183,7 @@ fn walk_to_end(task: &Task<'_>, table: &mut Table) -> Result<(), Refusal>
 
 /// The family at which the rounds end, found in another order. An error says nothing of it.
 pub fn ordered_family(task: &Task<'_>) -> Result<Table, Refusal>
-    ensures { IfOk result (λ f. IsFound task.now.flash.now task.now.assumptions.now None f) }
+    ensures { IfOk result (λ f. AreRoundsFound task.now.flash.now task.now.assumptions.now None f) }
 {
     let mut table = Table::new(task.alloc);
     walk_to_end(task, &mut table).and(Ok(table))
@@ -192,7 +192,7 @@ pub fn ordered_family(task: &Task<'_>) -> Result<Table, Refusal>
 /// The family at which the rounds end, or why they end at none within the budget. With a budget the rounds alone tell this. Without one they
 /// begin in a hurry; where they are left, the other order is tried, and where that gives nothing, they go to their end.
 pub fn found_family(task: &Task<'_>, steps: Option<u64>) -> Result<Table, Refusal>
-    ensures found { IfOk result (λ f. IsFound task.now.flash.now task.now.assumptions.now steps f) }
+    ensures found { IfOk result (λ f. AreRoundsFound task.now.flash.now task.now.assumptions.now steps f) }
     ensures why_not { IfErr result (λ r. IsWhyNot task.now.flash.now task.now.assumptions.now steps r) }
 {
     if steps.is_some() {

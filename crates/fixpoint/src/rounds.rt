@@ -5,22 +5,22 @@ ghost use Rattle.std.specs.FinMap.{empty};
 ghost use Rattle.avr_model.specs.Assumptions.{has_pairs};
 ghost use Rattle.mask_states.specs.Keys.{root_inst};
 ghost use Rattle.round_rules.specs.declared.refusal.Refusal.TheVariants.{Memory};
-ghost use Rattle.round_rules.specs.Families.{AreFormed, HasInst, cells};
+ghost use Rattle.round_rules.specs.Families.{AreFormed, FamilyHasInst, cells};
 ghost use Rattle.round_rules.specs.Rounds.{first};
 ghost use Rattle.round_rules.specs.Solutions.{IsWhyNot};
 ghost use Rattle.round_steps.specs.Joins.{KeptBut};
 ghost use Rattle.round_steps.specs.Notings.{blank};
-ghost use Rattle.fixpoint.specs.Progress.{Turn, IsLeft, IsSpent, IsFound};
-ghost use Rattle.fixpoint.specs.Tests.{IsStopped, IsReady};
+ghost use Rattle.fixpoint.specs.Progress.{Turn, IsBudgetLeft, IsSpent, AreRoundsFound};
+ghost use Rattle.fixpoint.specs.Tests.{AreRoundsStopped, IsReady};
 
 use crate::testing::{check_nesting, check_size, note_seen};
 use call_graph::{Task, root_of};
-use family_table::Table;
 use local_rules::Node;
 use mask_states::{InstKey, NodeKey};
 use round_rules::Refusal;
 use round_steps::targets::targets;
 use round_steps::{Notes, join_all, look_all};
+use round_table::Table;
 use std::alloc::AllocError;
 
 // The tests of a round, in their order, and the nodes to be joined into the family where none holds.
@@ -33,10 +33,10 @@ fn next_nodes(
 ) -> Result<Vec<Node>, Refusal>
     requires count { counted ≡ cells table.now }
     requires formed { AreFormed (has_pairs task.now.assumptions.now) table.now }
-    requires root { HasInst table.now root_inst }
+    requires root { FamilyHasInst table.now root_inst }
     requires turn { Turn task.now.flash.now task.now.assumptions.now table.now work.now notes.old }
     ensures ready { IfOk result (λ nodes. IsReady task.now.flash.now task.now.assumptions.now table.now notes.new nodes.items) }
-    ensures stopped { IfErr result (λ r. r ≢ Memory → IsStopped task.now.flash.now task.now.assumptions.now table.now r) }
+    ensures stopped { IfErr result (λ r. r ≢ Memory → AreRoundsStopped task.now.flash.now task.now.assumptions.now table.now r) }
 {
     check_size(table, counted)?;
     let seen = look_all(task, table, work)?;
@@ -76,8 +76,8 @@ pub(crate) fn start(
 
 // One step of the budget.
 fn spend(steps: Option<u64>, left: Option<u64>) -> Result<Option<u64>, Refusal>
-    ensures ok { IfOk result (λ l. (n : ℕ) → IsLeft steps left n → IsLeft steps l (n + 1)) }
-    ensures err { IfErr result (λ e. (n : ℕ) → IsLeft steps left n → IsSpent steps n e) }
+    ensures ok { IfOk result (λ l. (n : ℕ) → IsBudgetLeft steps left n → IsBudgetLeft steps l (n + 1)) }
+    ensures err { IfErr result (λ e. (n : ℕ) → IsBudgetLeft steps left n → IsSpent steps n e) }
 {
     match (steps, left) {
         (Some(all), Some(0)) => Err(Refusal::Spent(all)),
@@ -103,7 +103,7 @@ fn go_on(
 ) -> Result<(), Refusal>
     requires no_nodes { table.old ≡ empty }
     requires no_notes { notes.old ≡ blank }
-    ensures found { OnOk result (IsFound task.now.flash.now task.now.assumptions.now steps table.new) }
+    ensures found { OnOk result (AreRoundsFound task.now.flash.now task.now.assumptions.now steps table.new) }
     ensures why_not { IfErr result (λ r. IsWhyNot task.now.flash.now task.now.assumptions.now steps r) }
 {
     let mut counted = 0;
@@ -128,7 +128,7 @@ fn go_on(
 /// The family at which the rounds end, or why they end at none within the budget. In a hurry the rounds are left, as for want of memory, once
 /// they look at nodes again and again.
 pub fn least_family(task: &Task<'_>, steps: Option<u64>, hurry: bool) -> Result<Table, Refusal>
-    ensures found { IfOk result (λ f. IsFound task.now.flash.now task.now.assumptions.now steps f) }
+    ensures found { IfOk result (λ f. AreRoundsFound task.now.flash.now task.now.assumptions.now steps f) }
     ensures why_not { IfErr result (λ r. IsWhyNot task.now.flash.now task.now.assumptions.now steps r) }
 {
     let mut table = Table::new(task.alloc);

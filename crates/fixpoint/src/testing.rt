@@ -1,27 +1,27 @@
 //! The tests of a round.
 
-ghost use Rattle.std.specs.Prelude.{◌≡◌, ◌≢◌, ◌≤◌, length, Contains, None, IfOk, IfErr, OnOk};
+ghost use Rattle.std.specs.Prelude.{◌≡◌, ◌≢◌, ◌≤◌, length, Contains, None, IfErr, OnOk};
 ghost use Rattle.std.specs.FinMap.{len};
 ghost use Rattle.avr_model.specs.Devices.{device_of, size_of};
 ghost use Rattle.avr_model.specs.State.{SIZE};
 ghost use Rattle.mask_states.specs.Keys.{offset_of};
 ghost use Rattle.certificate.specs.Claims.{most_nodes};
-ghost use Rattle.instance_nesting.specs.Nestings.{AreAlike, AreOnce, TellsAll};
-ghost use Rattle.instance_nesting.specs.declared.verdict.NestingVerdict.TheVariants.{Nests};
+ghost use Rattle.round_nesting.specs.Nestings.{AreAlike, AreOnce, TellsAll};
+ghost use Rattle.round_nesting.specs.declared.verdict.NestingVerdict.TheVariants.{Nests};
 ghost use Rattle.round_rules.specs.declared.refusal.Refusal.TheVariants.{Memory};
 ghost use Rattle.round_rules.specs.Families.{cells, FitsLimits};
 ghost use Rattle.round_rules.specs.Refusals.{fault_refusal};
 ghost use Rattle.round_steps.specs.declared.looking.Look as look_type;
 ghost use Rattle.round_steps.specs.Notings.{AreNoted};
-ghost use Rattle.fixpoint.specs.Tests.{IsTooLarge, IsFaulty, IsTold};
+ghost use Rattle.fixpoint.specs.Tests.{IsTooLarge, IsFaulty, IsVerdictTold};
 
 use certificate::Limit;
-use family_table::Table;
 use flash_image::Flash;
-use instance_nesting::{Nesting, NestingVerdict};
 use local_rules::NodeFault;
+use round_nesting::{Nesting, NestingVerdict};
 use round_rules::Refusal;
 use round_steps::{Notes, Seen};
+use round_table::Table;
 use std::alloc::Global;
 
 // How many nodes and how many cells a certificate may have.
@@ -29,7 +29,7 @@ const MOST_NODES: usize = 65_536;
 
 const MOST_CELLS: u64 = 8_388_608;
 
-// The nodes, then the cells, are within the limits.
+/// The nodes, then the cells, are within the limits.
 pub fn check_size(table: &Table, counted: u64) -> Result<(), Refusal>
     requires { counted ≡ cells table.now }
     ensures fits { OnOk result (FitsLimits table.now) }
@@ -58,7 +58,7 @@ fn refusal_of(fault: NodeFault) -> Refusal
     }
 }
 
-// Notes what was found at nodes, unless one of them has a fault.
+/// Notes what was found at nodes, unless one of them has a fault.
 pub fn note_seen(alloc: Global, notes: &mut Notes, seen: &Seen) -> Result<(), Refusal>
     requires small { (x : look_type.Look) → Contains seen.now.looks.items x → offset_of x.key.sp ≤ SIZE }
     requires once { AreOnce notes.old.nesting.insts }
@@ -74,11 +74,11 @@ pub fn note_seen(alloc: Global, notes: &mut Notes, seen: &Seen) -> Result<(), Re
     Ok(())
 }
 
-// No instance reaches itself, and the root needs no more bytes than the device's SRAM has.
+/// No instance reaches itself, and the root needs no more bytes than the device's SRAM has.
 pub fn check_nesting(flash: &Flash, nesting: &mut Nesting) -> Result<(), Refusal>
     requires { length nesting.old.insts ≤ most_nodes }
     ensures nests { OnOk result (TellsAll (size_of (device_of flash.now)) nesting.old Nests) }
-    ensures told { IfErr result (λ r. r ≢ Memory → IsTold (size_of (device_of flash.now)) nesting.old r) }
+    ensures told { IfErr result (λ r. r ≢ Memory → IsVerdictTold (size_of (device_of flash.now)) nesting.old r) }
     ensures same { AreAlike nesting.old nesting.new }
     ensures once { AreOnce nesting.new.insts }
 {

@@ -4,16 +4,16 @@ ghost use Rattle.std.specs.Prelude.{ℕ, ◌≡◌, length, IfOk};
 ghost use Rattle.call_graph.specs.Landings.{AreLandings};
 ghost use Rattle.round_rules.specs.Refusals.{IsSolved};
 ghost use Rattle.round_rules.specs.Solutions.{IsSolution};
-ghost use Rattle.solution_laws.specs.Parts.{AreInsts};
+ghost use Rattle.round_solutions.specs.Parts.{AreInsts};
 ghost use Rattle.fixpoint.specs.Insts.{AreSolvedNodes, AreInstsOf};
 
 use crate::forming::forms;
 use call_graph::{Filled, Task, Worked};
 use certificate::{Certificate, Inst};
 use family_graph::{entered_by, graph_of};
-use family_table::Table;
 use nesting_bound::{Composed, Graph, compose_acyclic};
-use solution_laws::laws::solved_families_are_shown;
+use round_solutions::laws::solved_families_are_shown;
+use round_table::Table;
 use std::alloc::{AllocError, Global};
 use vector_table::Assumptions;
 

@@ -55,12 +55,12 @@ all_marked words start now n flash le erased is =
 -- ---- noting what is loaded
 
 -- a whole table, which tells what the first n words load
-pub record IsNoted (words : List ℕ) (n : ℕ) (table : List Bool) : Type 0 where
+pub record AreLoadsNoted (words : List ℕ) (n : ℕ) (table : List Bool) : Type 0 where
   pub size : length table ≡ 8192
   pub tells : AreLoadsBelow n words table
 
 -- before the first
-pub noted_none : (words : List ℕ) (table : List Bool) → table ≡ replicate 8192 false → IsNoted words 0 table
+pub noted_none : (words : List ℕ) (table : List Bool) → table ≡ replicate 8192 false → AreLoadsNoted words 0 table
 noted_none words table is = record {
   size = ap length is ∙ length-replicate 8192 false;
   tells = λ p b p_lt b_lt.
@@ -102,8 +102,8 @@ note_long true table m = length-set table m true
 note_long false table m = refl
 
 -- one more word, which is one of a register and a byte
-pub noted_more : (words : List ℕ) (n : ℕ) (table next : List Bool) (x : ImmediateInstr) → IsNoted words n table → x.byte < 256 → Some x ≡ immediate_at words n
-    → next ≡ noted table (Some x) → IsNoted words (n + 1) next
+pub noted_more : (words : List ℕ) (n : ℕ) (table next : List Bool) (x : ImmediateInstr) → AreLoadsNoted words n table → x.byte < 256 → Some x ≡ immediate_at words n
+    → next ≡ noted table (Some x) → AreLoadsNoted words (n + 1) next
 noted_more words n table next x so_far byte at is = record {
   size = ap length is ∙ note_long (loads x.op) table (256 * x.register + x.byte) ∙ so_far.size;
   tells = λ p b p_lt b_lt.
@@ -118,7 +118,7 @@ none_found None at never is = is
 none_found (Some x) at never is = absurd (never x refl)
 
 -- or isn't
-pub noted_no_more : (words : List ℕ) (n : ℕ) (table next : List Bool) → IsNoted words n table → None ≡ immediate_at words n → next ≡ table → IsNoted words (n + 1) next
+pub noted_no_more : (words : List ℕ) (n : ℕ) (table next : List Bool) → AreLoadsNoted words n table → None ≡ immediate_at words n → next ≡ table → AreLoadsNoted words (n + 1) next
 noted_no_more words n table next so_far at is = record {
   size = ap length is ∙ so_far.size;
   tells = λ p b p_lt b_lt.

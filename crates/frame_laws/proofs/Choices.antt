@@ -32,9 +32,9 @@ use Rattle.local_rules.specs.Machine.{IsMachine, AreWords}
 use Rattle.local_laws.proofs.AllLaws.{local_parts_fit, open_pairs_hang}
 use Rattle.local_laws.specs.Laws.{LocalPartsCover, MachinesStay, LiveBytesStay}
 use Rattle.edge_rules.specs.Edges.{raw_of, IsFaultless, Enters, by_call, by_interrupt, called_inst, vector_inst}
-use Rattle.edge_rules.specs.Families.{Family, IsSound}
+use Rattle.edge_rules.specs.Families.{RankedFamily, IsSoundFamily}
 use Rattle.edge_rules.specs.Frames.{Frame, Runs, called, interrupted, IsFine}
-use Rattle.frame_laws.proofs.Answers.{IsFineFor, GoesOn, answer_fine, protected_is_store, store_pushes_nothing}
+use Rattle.frame_laws.proofs.Answers.{IsFineFor, StepGoesOn, answer_fine, protected_is_store, store_pushes_nothing}
 use Rattle.frame_laws.proofs.Steps.{Follow, frames_local, frames_enter, frames_return}
 
 -- ---- where an interrupt may come
@@ -80,7 +80,7 @@ flag_cleared : (sreg : ℕ) → flag (sreg % 128) 7 ≡ false
 flag_cleared sreg = grind (arith, nat_tests)
 
 -- what is owed of an answer, where the state is a machine's
-fine_if : (words : List ℕ) (A : List Entry) (f : Family) (c : Choice) (g : Frame) (gs : List Frame) (a : Answer) → ((n : State) → a ≡ Done n → IsMachine n)
+fine_if : (words : List ℕ) (A : List Entry) (f : RankedFamily) (c : Choice) (g : Frame) (gs : List Frame) (a : Answer) → ((n : State) → a ≡ Done n → IsMachine n)
     → IsFineFor (Follow words A f c g gs) a → IsFine words A f c g gs a
 fine_if words A f c g gs Illegal machine h = tt
 fine_if words A f c g gs (Undefined pc) machine h = h
@@ -88,7 +88,7 @@ fine_if words A f c g gs (Overflow pc) machine h = h
 fine_if words A f c g gs (Flagged flag) machine h = tt
 fine_if words A f c g gs (Done n) machine h = h (machine n refl)
 
-module _ (cover : LocalPartsCover) (machines : MachinesStay) (live : LiveBytesStay) (words : List ℕ) (A : List Entry) (f : Family) (sized : AreWords words) (sound : IsSound words A f) where
+module _ (cover : LocalPartsCover) (machines : MachinesStay) (live : LiveBytesStay) (words : List ℕ) (A : List Entry) (f : RankedFamily) (sized : AreWords words) (sound : IsSoundFamily words A f) where
   module _ (m : State) (g : Frame) (gs : List Frame) (runs : Runs words A f m g gs) where
     faultless : IsFaultless words A g.node
     faultless = sound.faultless g.node runs.present
@@ -100,12 +100,12 @@ module _ (cover : LocalPartsCover) (machines : MachinesStay) (live : LiveBytesSt
           devices_are_alike.same m.device site.entry
           (subst (λ device. site.entry < words_of device) (sym runs.device) ((local_parts_fit.fit words A g.node.key g.node.state).calls site member).0)
 
-      follows_on : (guarded : Bool) (e : Effect) → Follows m g.origin g.node.key guarded b1 b2 e (raw_of words A g.node) → GoesOn (Follow words A f (Go b1 b2) g gs) m guarded e
+      follows_on : (guarded : Bool) (e : Effect) → Follows m g.origin g.node.key guarded b1 b2 e (raw_of words A g.node) → StepGoesOn (Follow words A f (Go b1 b2) g gs) m guarded e
       follows_on guarded e (stays to member inst lands) = frames_local live words A f sound m g gs runs b1 b2 guarded e to faultless member inst lands
       follows_on guarded e (calls offset site member form on same) =
           let k = g.node.key in
-          subst (λ b. GoesOn (Follow words A f (Go b1 b2) g gs) m b e) (sym on)
-          (subst (GoesOn (Follow words A f (Go b1 b2) g gs) m true) (sym same)
+          subst (λ b. StepGoesOn (Follow words A f (Go b1 b2) g gs) m b e) (sym on)
+          (subst (StepGoesOn (Follow words A f (Go b1 b2) g gs) m true) (sym same)
           (frames_enter live words A f sound m g gs runs kind.Call (called_inst k site.entry) site.back offset form (by_call offset site faultless form member)
           site.entry m.sreg m.enables (calls_inside site member) refl runs.running.place.i runs.running.place.enables
           (Go b1 b2) (λ state above. called b1 b2 site state _ faultless member above)))
@@ -116,7 +116,7 @@ module _ (cover : LocalPartsCover) (machines : MachinesStay) (live : LiveBytesSt
       answers instr covered =
           let e = effect_of words m instr b1 b2 in
           let guarded = not (is_scratch words m.pc) in
-          let on : protected_write words A m.pc instr e ≡ None → unlisted_transfer A m.pc instr e ≡ None → GoesOn (Follow words A f (Go b1 b2) g gs) m guarded e =
+          let on : protected_write words A m.pc instr e ≡ None → unlisted_transfer A m.pc instr e ≡ None → StepGoesOn (Follow words A f (Go b1 b2) g gs) m guarded e =
           λ protected listed. follows_on guarded e (covered faultless (record { protected = protected; listed = listed })) in
           answer_fine (Follow words A f (Go b1 b2) g gs) m.pc (after m guarded e) (all_inside m.device e.pushes) (live_write m.memory (e.stores ++ e.pushes)) (protected_write words A m.pc instr e) (unlisted_transfer A m.pc instr e)
           (λ listed. inside_by (protected_write words A m.pc instr e) refl
@@ -140,12 +140,12 @@ module _ (cover : LocalPartsCover) (machines : MachinesStay) (live : LiveBytesSt
     -- the entry of an interrupt that may come
     entered_by : (v : ℕ) (clears : Bool) → (offset : ℕ) × (g.node.key.sp ≡ Closed offset) → g.node.key.i ≡ true → g.node.key.delay ≡ false → is_enabled g.node.key.masks v ≡ true
         → is_never A (vector_word (device_of words) v) ≡ false → (not clears || (v == WATCHDOG)) ≡ true → is_enabled m.enables v ≡ true
-        → GoesOn (Follow words A f (Take v clears) g gs) m true (entering m v clears)
+        → StepGoesOn (Follow words A f (Take v clears) g gs) m true (entering m v clears)
     entered_by v clears closed i delay enabled allowed clearable on =
         let k = g.node.key in
         let place = runs.running.place in
         let enters : Enters words A g.node (kind.Interrupt v clears) (vector_inst words k v clears) k.pc = by_interrupt closed.0 v clears faultless closed.1 i delay enabled allowed clearable in
-        subst (λ pc. GoesOn (Follow words A f (Take v clears) g gs) m true (record (entering m v clears) { pushes = way_back m.sp pc })) (sym place.pc)
+        subst (λ pc. StepGoesOn (Follow words A f (Take v clears) g gs) m true (record (entering m v clears) { pushes = way_back m.sp pc })) (sym place.pc)
         (frames_enter live words A f sound m g gs runs (kind.Interrupt v clears) (vector_inst words k v clears) k.pc closed.0 closed.1 enters
         (vector_word m.device v) (m.sreg % 128) (enables_taken m.enables clears) (vector_is v on) (omega arith) (flag_cleared m.sreg) (ap (λ masks. enables_taken masks clears) place.enables)
         (Take v clears) (λ state above. interrupted v clears state _ enters above))
@@ -162,7 +162,7 @@ module _ (cover : LocalPartsCover) (machines : MachinesStay) (live : LiveBytesSt
         let e = entering m v clears in
         let unlined : never_target A e.pc ≡ None → is_never A (vector_word (device_of words) v) ≡ false =
         λ none. subst (λ (word : ℕ). is_never A word ≡ false) (vector_is v all.0) (not_never A e.pc none) in
-        let on : is_never A (vector_word (device_of words) v) ≡ false → GoesOn (Follow words A f (Take v clears) g gs) m true e =
+        let on : is_never A (vector_word (device_of words) v) ≡ false → StepGoesOn (Follow words A f (Take v clears) g gs) m true e =
         λ allowed. entered_by v clears (closed_where_taken (device_of words) A k v k.sp refl i delay enabled allowed (faultless_not_hung words A k g.node.state faultless)) i delay enabled allowed all.3 all.0 in
         answer_fine (Follow words A f (Take v clears) g gs) m.pc (after m true e) (all_inside m.device e.pushes) (live_write m.memory e.pushes) None (never_target A e.pc)
         (λ none. (on (unlined none)).inside) (λ missed _ none. (on (unlined none)).done missed)

@@ -12,20 +12,20 @@ use Rattle.mask_states.specs.declared.keys.Kind.TheVariants.{Root}
 use Rattle.mask_states.specs.Keys.{offset_of}
 use Rattle.local_rules.specs.declared.local.Node.{Node}
 use Rattle.edge_rules.specs.Edges.{Enters, by_call, by_interrupt}
-use Rattle.edge_rules.specs.Families.{Family, IsSound}
+use Rattle.edge_rules.specs.Families.{RankedFamily, IsSoundFamily}
 use Rattle.edge_rules.specs.Frames.{Frame, IsLeft, AreLeft}
 
 pub not_root : {words : List ℕ} {A : List Entry} {n : Node} {way : EdgeKind} {inst : InstKey} {back : ℕ} → Enters words A n way inst back → inst.kind ≢ Root
 not_root (by_call offset site faultless form member) = λ e. cc
 not_root (by_interrupt offset v clears faultless form i delay enabled allowed clearable) = λ e. cc
 
-module _ (words : List ℕ) (A : List Entry) (f : Family) where
+module _ (words : List ℕ) (A : List Entry) (f : RankedFamily) where
   -- the root's frame is the last
   pub root_base : (memory : Memory) (gs : List Frame) (inst : InstKey) (o : Origin) → AreLeft words A f memory gs inst o → inst.kind ≡ Root → o.base ≡ ramend (device_of words)
   root_base memory [] inst o l e = l.1
   root_base memory (g ∷ gs) inst o l e = absurd (not_root l.0.enters e)
 
-  module _ (sound : IsSound words A f) where
+  module _ (sound : IsSoundFamily words A f) where
     -- what the frames above a base take, and what its instance needs, is within the bound
     pub within : (memory : Memory) (gs : List Frame) (inst : InstKey) (o : Origin) → AreLeft words A f memory gs inst o → ramend (device_of words) + f.need_of inst ≤ o.base + f.bound
     within memory [] inst o l = omega (arith, ap f.need_of l.0, l.1, sound.bounded)

@@ -30,7 +30,7 @@ use Rattle.local_rules.specs.Local.{placed, joined_onto}
 use Rattle.local_rules.specs.Cover.{IsNodeIn}
 use Rattle.edge_rules.specs.declared.edge.Edge.{Edge}
 use Rattle.edge_rules.specs.Edges.{raw_of, IsFaultless, Enters, by_call, by_interrupt, IsEdge, moving, entering, returning, target, called_inst, pick_back, returned_key}
-use Rattle.edge_rules.specs.Families.{IsCovered, IsSound}
+use Rattle.edge_rules.specs.Families.{IsCovered, IsSoundFamily}
 use Rattle.edge_rules.specs.Roots.{root_by}
 use Rattle.edge_rules.specs.Examples.{sample, callee, top, at_call, at_loop, at_return, family, plain_exit, call_leads, loop_leads, return_leads}
 
@@ -167,7 +167,7 @@ sample_small : 2 ≤ size_of (device_of sample)
 unfolding device_of
 sample_small = omega arith
 
-pub the_sample_is_sound : IsSound sample [] family
+pub the_sample_is_sound : IsSoundFamily sample [] family
 the_sample_is_sound = record {
   formed = each (λ n. IsNodeIn (has_pairs []) n.key n.state)
       record { word = omega arith; small = omega arith; masks = omega arith; fits = tt; pick = tt; formed = top_formed; tags = tags_stay_fit.less root top (top_above root reset_stands.formed) tags_stay_fit.at_reset; carry_bytes = tt; untagged = λ k. top_untagged; mode = sym no_pairs; hulls = tt }

@@ -34,11 +34,11 @@ use Rattle.local_rules.specs.Machine.{IsMachine, floor_of}
 use Rattle.local_laws.specs.Laws.{LiveBytesStay}
 use Rattle.local_laws.proofs.AllLaws.{joins_are_least, local_parts_are_nodes, local_parts_fit}
 use Rattle.edge_rules.specs.Edges.{raw_of, IsFaultless, Enters, by_call, by_interrupt, returned_key, moving, entering, returning}
-use Rattle.edge_rules.specs.Families.{Family, IsCovered, IsSound}
+use Rattle.edge_rules.specs.Families.{RankedFamily, IsCovered, IsSoundFamily}
 use Rattle.edge_rules.specs.Frames.{Frame, AreLeft, Runs, Change, moved, returned_to, HasNext}
 use Rattle.frame_laws.proofs.Left.{not_root, root_base, within, base_inside, left_kept}
 use Rattle.frame_laws.proofs.Way.{WayBack, two_inside, way_pushed, way_read}
-use Rattle.frame_laws.proofs.Answers.{GoesOn}
+use Rattle.frame_laws.proofs.Answers.{StepGoesOn}
 
 -- an entry: the way back is pushed, and registers stay
 abbrev pub entry_effect : State → ℕ → ℕ → ℕ → ℕ → Effect
@@ -56,7 +56,7 @@ pub facts_less : (s t : AbsState) (m : State) → IsStateWithin s t → HoldsAt 
 facts_less s t m le h = known_is_ordered.less s.facts t.facts m.registers (flag m.sreg 0) (flag m.sreg 1) (flag m.sreg 4) le.facts h
 
 -- the machine has frames after this choice, if its state is a machine's
-abbrev pub Follow : List ℕ → List Entry → Family → Choice → Frame → List Frame → State → Type 0
+abbrev pub Follow : List ℕ → List Entry → RankedFamily → Choice → Frame → List Frame → State → Type 0
 Follow words A f c g gs n = IsMachine n → HasNext words A f c g gs n
 
 -- the word that an entry pushes is one of the device's
@@ -64,7 +64,7 @@ back_inside : {words : List ℕ} {A : List Entry} {n : Node} {way : EdgeKind} {i
 back_inside {words = words} {A = A} {n = n} (by_call offset site faultless form member) = ((local_parts_fit.fit words A n.key n.state).calls site member).1
 back_inside {words = words} {A = A} {n = n} (by_interrupt offset v clears faultless form i delay enabled allowed clearable) = (local_parts_fit.inside words A n.key n.state faultless).0
 
-module _ (live : LiveBytesStay) (words : List ℕ) (A : List Entry) (f : Family) (sound : IsSound words A f) where
+module _ (live : LiveBytesStay) (words : List ℕ) (A : List Entry) (f : RankedFamily) (sound : IsSoundFamily words A f) where
   module _ (m : State) (g : Frame) (gs : List Frame) (runs : Runs words A f m g gs) where
     -- what holds of the device of the words holds of the machine's
     on_machine : (P : Device → Type 0) → P (device_of words) → P m.device
@@ -102,7 +102,7 @@ module _ (live : LiveBytesStay) (words : List ℕ) (A : List Entry) (f : Family)
 
     module _ (b1 b2 : ℕ) (guarded : Bool) (e : Effect) where
       pub frames_local : (to : Node) → IsFaultless words A g.node → Contains (raw_of words A g.node).moves to → to.key.inst ≡ g.node.key.inst → ArrivesAt m g.origin guarded e to
-          → GoesOn (Follow words A f (Go b1 b2) g gs) m guarded e
+          → StepGoesOn (Follow words A f (Go b1 b2) g gs) m guarded e
       frames_local to faultless member inst lands =
           let moves = (raw_of words A g.node).moves in
           let joined = joins_are_least.above moves to (λ x i. (local_parts_are_nodes.nodes words A g.node.key g.node.state x runs.running.node faultless i).1) member in
@@ -193,7 +193,7 @@ module _ (live : LiveBytesStay) (words : List ℕ) (A : List Entry) (f : Family)
       module _ (target sreg enables : ℕ) (to : wrapped m.device target ≡ inst.entry) (flags : sreg % 128 ≡ m.sreg % 128) (i : flag sreg 7 ≡ inst.i) (masks : enables ≡ inst.masks) where
         pub frames_enter : (c : Choice)
             → ((state : AbsState) → IsStateWithin (entered g.node.state) state → Change words A g gs c (record { node = record { key = entry_key inst; state = state }; origin = entry_origin }) (g ∷ gs))
-            → GoesOn (Follow words A f c g gs) m true (entry_effect m target sreg enables back)
+            → StepGoesOn (Follow words A f c g gs) m true (entry_effect m target sreg enables back)
         frames_enter c change =
             let n = after m true (entry_effect m target sreg enables back) in
             let formed = runs.running.node.formed in
@@ -300,7 +300,7 @@ module _ (live : LiveBytesStay) (words : List ℕ) (A : List Entry) (f : Family)
             returned_to b1 b2 h hs was.way was.back x back.0 cov.state frames was.enters faultless exit back.1 cov.above,
           )
 
-      pub frames_return : g.node.key.inst.kind ≢ Root → GoesOn (Follow words A f (Go b1 b2) g gs) m guarded e
+      pub frames_return : g.node.key.inst.kind ≢ Root → StepGoesOn (Follow words A f (Go b1 b2) g gs) m guarded e
       frames_return kind =
           record {
             inside = ap (all_inside m.device) is.pushes;

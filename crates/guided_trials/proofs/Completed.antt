@@ -7,7 +7,7 @@ use Rattle.witness_replay.specs.Spelling.{Plan}
 use Rattle.certificate.specs.Claims.{Claim, IsClaim}
 use Rattle.certificate.specs.Valid.{IsSound, Attains, IsAttained, IsValid}
 use Rattle.guided_trials.specs.Guides.{guide_of}
-use Rattle.guided_trials.specs.Trials.{IsFound}
+use Rattle.guided_trials.specs.Trials.{IsGuidedFound}
 use Rattle.guided_trials.specs.Attaining.{IsScheduled, IsCompleted, SomeSucceeds, AttainedWhere}
 
 -- ---- the same certificate with another schedule
@@ -62,7 +62,7 @@ module _ (words : List ℕ) (A : List Entry) (n : ℕ) (c : Claim) where
   its_own None e = absurd (let wrong = e in cc)
   its_own (Some p) e = refl
 
-  pub with_found : (d : Claim) (found : Option Plan) → c.witness ≡ None → IsFound words A (guide_of words A c) n found → d ≡ record c { witness = found } → IsCompleted words A n c d
+  pub with_found : (d : Claim) (found : Option Plan) → c.witness ≡ None → IsGuidedFound words A (guide_of words A c) n found → d ≡ record c { witness = found } → IsCompleted words A n c d
   with_found d found none h is =
       subst (IsCompleted words A n c) (sym is)
       (record { same = refl; schedule = subst (λ (w : Option Plan). IsScheduled words A n c w found) (sym none) h })

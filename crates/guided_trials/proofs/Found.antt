@@ -14,7 +14,7 @@ use Rattle.certificate.specs.Valid.{Attains}
 use Rattle.guided_trials.specs.declared.guide.Guide.{Guide}
 use Rattle.guided_trials.specs.Choosing.{pick, left}
 use Rattle.trial_runs.specs.Length.{most_choices}
-use Rattle.guided_trials.specs.Trials.{fill_of, start_of, trial_by, trial_of, Succeeds, NoneSucceeds, IsTried, IsFound}
+use Rattle.guided_trials.specs.Trials.{fill_of, start_of, trial_by, trial_of, GuidedSucceeds, NoGuidedSucceeds, IsGuidedTried, IsGuidedFound}
 use Rattle.trial_runs.proofs.AllLaws.{few, ends_well, run_legal}
 
 choices_are : most_choices ≡ 200000
@@ -75,11 +75,11 @@ module _ (words : List ℕ) (A : List Entry) (g : Guide) (t : ℕ) where
       → g.bound ≤ depth → g.bound ≤ depth_of words A cs reset
   deep steps cs depth is seen high = omega (arith, seen, high, ap (λ (xs : List Choice). depth_of words A xs reset) is)
 
-  pub fails : (depth : ℕ) → depth ≡ depth_of words A (trial_of words A g t) reset → depth < g.bound → Succeeds words A g t → ⊥
+  pub fails : (depth : ℕ) → depth ≡ depth_of words A (trial_of words A g t) reset → depth < g.bound → GuidedSucceeds words A g t → ⊥
   fails depth is low h = omega (arith, is, low, h)
 
   pub tried : (steps : ℕ) (cs : List Choice) (depth : ℕ) (plan : Plan) → steps ≡ most_choices → cs ≡ trial_by steps words A g t → depth ≡ depth_of words A (trial_of words A g t) reset
-      → g.bound ≤ depth → plan.fill ≡ fill_of g t → choices_of plan.runs ≡ cs → IsSchedule plan → IsTried words A g t (Some plan)
+      → g.bound ≤ depth → plan.fill ≡ fill_of g t → choices_of plan.runs ≡ cs → IsSchedule plan → IsGuidedTried words A g t (Some plan)
   tried steps cs depth plan most is deep high filling choices fits = (
     omega (arith, deep, high),
     record { fits = fits; fill = filling; choices = choices ∙ is ∙ whole steps most },
@@ -88,14 +88,14 @@ module _ (words : List ℕ) (A : List Entry) (g : Guide) (t : ℕ) where
 -- ---- one trial after another
 
 module _ (words : List ℕ) (A : List Entry) (g : Guide) where
-  pub none_yet : NoneSucceeds words A g 0
+  pub none_yet : NoGuidedSucceeds words A g 0
   none_yet t lt = absurd (omega (arith, lt))
 
   last_or_before : (t n : ℕ) → t < n + 1 → (t < n) ⊎ (t ≡ n)
   last_or_before t n lt = grind (arith, lt)
 
-  pub none_more : (n : ℕ) → NoneSucceeds words A g n → (Succeeds words A g n → ⊥) → NoneSucceeds words A g (n + 1)
-  none_more n none failed t lt h = elim (last_or_before t n lt) [ inl old ↦ none t old h | inr new ↦ failed (subst (Succeeds words A g) new h) ]
+  pub none_more : (n : ℕ) → NoGuidedSucceeds words A g n → (GuidedSucceeds words A g n → ⊥) → NoGuidedSucceeds words A g (n + 1)
+  none_more n none failed t lt h = elim (last_or_before t n lt) [ inl old ↦ none t old h | inr new ↦ failed (subst (GuidedSucceeds words A g) new h) ]
 
-  pub found : (n t : ℕ) (plan : Plan) → t < n → NoneSucceeds words A g t → IsTried words A g t (Some plan) → IsFound words A g n (Some plan)
+  pub found : (n t : ℕ) (plan : Plan) → t < n → NoGuidedSucceeds words A g t → IsGuidedTried words A g t (Some plan) → IsGuidedFound words A g n (Some plan)
   found n t plan lt none h = record { trial = t; among = lt; failed = none; succeeds = h.0; schedule = h.1 }

@@ -23,14 +23,14 @@ use Rattle.certificate.specs.declared.instance.Inst.{Inst}
 use Rattle.certificate.specs.Claims.{Claim}
 use Rattle.guided_trials.specs.declared.guide.Candidate.{Candidate}
 use Rattle.guided_trials.specs.declared.guide.Guide.{Guide}
-use Rattle.guided_trials.specs.declared.guide.Moment.{Moment}
+use Rattle.guided_trials.specs.declared.guide.TrialMoment.{TrialMoment}
 use Rattle.guided_trials.specs.Numbers.{next, high, middle, low}
 use Rattle.guided_trials.specs.Telling.{fills, told_if, is_told, is_telling, passing, telling}
 use Rattle.guided_trials.specs.Guides.{need_of, takes_of, takes_at, first_takes, guide_of}
 use Rattle.guided_trials.specs.Choosing.{hold, rate, reads, member, fallen, is_wanted, is_there, taken, taken_or, by_chance, may_be, after, left, pick}
-use Rattle.guided_trials.specs.Laws.{IsTold, TrialsAreLed}
+use Rattle.guided_trials.specs.Laws.{IsByteTold, TrialsAreLed}
 use Rattle.guided_trials.proofs.Found.{short}
-use Rattle.guided_trials.proofs.Points.{Passes, passes_if, picked_stands, picked_is}
+use Rattle.guided_trials.proofs.Points.{PassesIfAny, passes_if, picked_stands, picked_is}
 
 -- ---- numbers that pass
 
@@ -118,11 +118,11 @@ module _ (words : List ℕ) (byte : ℕ) where
   unfolding is_told
   by_told n at lt h = below_some tells n at lt (listed_in byte (told_if (instruction_at words at)) h)
 
-  telling_told : is_telling words byte ≡ true → IsTold words byte
+  telling_told : is_telling words byte ≡ true → IsByteTold words byte
   telling_told h =
       ⊎_elim (λ always. inl (in_listed byte fills always)) (λ told. inr (told_by (words_of (device_of words)) told)) (or_cases (lists fills byte) (is_told words (words_of (device_of words)) byte) h)
 
-  told_telling : IsTold words byte → is_telling words byte ≡ true
+  told_telling : IsByteTold words byte → is_telling words byte ≡ true
   told_telling (inl h) = ap (λ (b : Bool). b || is_told words (words_of (device_of words)) byte) (listed_in byte fills h)
   told_telling (inr h) = ap (λ (b : Bool). lists fills byte || b) (by_told (words_of (device_of words)) h.0 h.1 h.2) ∙ or_with_true (lists fills byte)
 
@@ -130,11 +130,11 @@ telling_ascends : (words : List ℕ) → Ascends (telling words)
 unfolding telling
 telling_ascends words = passing_ascends (is_telling words) 256
 
-in_telling : (words : List ℕ) (byte : ℕ) → Contains (telling words) byte → (byte < 256) × IsTold words byte
+in_telling : (words : List ℕ) (byte : ℕ) → Contains (telling words) byte → (byte < 256) × IsByteTold words byte
 unfolding telling
 in_telling words byte h = let r = passing_below (is_telling words) 256 byte h in (r.0, telling_told words byte r.1)
 
-telling_in : (words : List ℕ) (byte : ℕ) → (byte < 256) × IsTold words byte → Contains (telling words) byte
+telling_in : (words : List ℕ) (byte : ℕ) → (byte < 256) × IsByteTold words byte → Contains (telling words) byte
 unfolding telling
 telling_in words byte h = passing_has (is_telling words) 256 byte h.0 (told_telling words byte h.1)
 
@@ -157,10 +157,10 @@ byte_changed : (b : Bool) (bytes : List ℕ) (x y : ℕ) → Contains bytes x �
 byte_changed true bytes x y h = inr h
 byte_changed false bytes x y h = inl refl
 
-kept : (words : List ℕ) (g : Guide) (t pc : ℕ) (l : Moment) → reads words pc ≡ false → (after words g t l pc).byte ≡ l.byte
+kept : (words : List ℕ) (g : Guide) (t pc : ℕ) (l : TrialMoment) → reads words pc ≡ false → (after words g t l pc).byte ≡ l.byte
 kept words g t pc l e = byte_kept (low (next l.number) % hold t == 0) (reads words pc) (member g.bytes (middle (next l.number))) l.byte e
 
-changed : (words : List ℕ) (A : List Entry) (c : Claim) (t pc : ℕ) (l : Moment)
+changed : (words : List ℕ) (A : List Entry) (c : Claim) (t pc : ℕ) (l : TrialMoment)
     → ((after words (guide_of words A c) t l pc).byte ≡ l.byte) ⊎ Contains (telling words) (after words (guide_of words A c) t l pc).byte
 changed words A c t pc l =
     byte_changed ((low (next l.number) % hold t == 0) && reads words pc) (telling words) (member (telling words) (middle (next l.number))) l.byte
@@ -176,11 +176,11 @@ module _ {X : Type 0} (q : X → Bool) where
   every_append [] ys h k = k
   every_append (x ∷ xs) ys h k = (h.0, every_append xs ys h.1 k)
 
-  found_if : (x : X) (o : Option X) (b : Bool) → q x ≡ true → Passes q o → Passes q (if b then Some x else o)
+  found_if : (x : X) (o : Option X) (b : Bool) → q x ≡ true → PassesIfAny q o → PassesIfAny q (if b then Some x else o)
   found_if x o true h k = h
   found_if x o false h k = k
 
-  found_every : (p : X → Bool) (xs : List X) → Every xs → Passes q (find p xs)
+  found_every : (p : X → Bool) (xs : List X) → Every xs → PassesIfAny q (find p xs)
   found_every p [] h = tt
   found_every p (x ∷ xs) h = found_if x (find p xs) (p x) h.0 (found_every p xs h.1)
 
@@ -192,7 +192,7 @@ module _ {X : Type 0} (q : X → Bool) where
   kept_every p [] h = tt
   kept_every p (x ∷ xs) h = kept_if x (filter p xs) (p x) h.0 (kept_every p xs h.1)
 
-  got_every : (xs : List X) (n : ℕ) → Every xs → Passes q (slice_get xs n)
+  got_every : (xs : List X) (n : ℕ) → Every xs → PassesIfAny q (slice_get xs n)
   got_every [] n h = tt
   got_every (x ∷ xs) zero h = h.0
   got_every (x ∷ xs) (suc n) h = got_every xs n h.1
@@ -217,7 +217,7 @@ module _ (words : List ℕ) (A : List Entry) where
   every_take insts (suc n) =
       every_append may_come (first_takes words A insts n) (takes_at words A insts (n + 2)) (every_take insts n) (at_if (n + 2) (need_of insts (n + 2)) (is_never A (vector_word (device_of words) (n + 2))) refl)
 
-  taken_every : (t x depth : ℕ) (g : Guide) (p : Candidate → Bool) → Every may_come g.takes → Passes may_come (taken t x (filter p g.takes) (find (λ k. p k && is_wanted g depth k) g.takes))
+  taken_every : (t x depth : ℕ) (g : Guide) (p : Candidate → Bool) → Every may_come g.takes → PassesIfAny may_come (taken t x (filter p g.takes) (find (λ k. p k && is_wanted g depth k) g.takes))
   taken_every t x depth g p h =
       let wanted : Option Candidate = find (λ k. p k && is_wanted g depth k) g.takes in
       passes_if may_come wanted (by_chance t x (filter p g.takes)) (is_there wanted && not (high x % 4 == 0))
@@ -228,12 +228,12 @@ module _ (words : List ℕ) (A : List Entry) where
   same_vector : (v w : ℕ) (a b : Bool) → Take v a ≡ Take w b → v ≡ w
   same_vector v w a b e = cc
 
-  only_taken : (o : Option Candidate) (byte v : ℕ) (clears : Bool) → Passes may_come o → taken_or (Go byte byte) o ≡ Take v clears → is_never A (vector_word (device_of words) v) ≡ false
+  only_taken : (o : Option Candidate) (byte v : ℕ) (clears : Bool) → PassesIfAny may_come o → taken_or (Go byte byte) o ≡ Take v clears → is_never A (vector_word (device_of words) v) ≡ false
   only_taken None byte v clears h e = absurd cc
   only_taken (Some k) byte v clears h e =
       subst (λ (w : ℕ). is_never A (vector_word (device_of words) w) ≡ false) (same_vector k.vector v k.clears clears e) (not-true (is_never A (vector_word (device_of words) k.vector)) h)
 
-never : (words : List ℕ) (A : List Entry) (c : Claim) (t : ℕ) (l : Moment) (m : State) (v : ℕ) (clears : Bool)
+never : (words : List ℕ) (A : List Entry) (c : Claim) (t : ℕ) (l : TrialMoment) (m : State) (v : ℕ) (clears : Bool)
     → pick words (guide_of words A c) t l m ≡ Take v clears → is_never A (vector_word (device_of words) v) ≡ false
 never words A c t l m v clears e =
     let g : Guide = guide_of words A c in

@@ -9,7 +9,7 @@ use Rattle.avr_machine.specs.Menu.{has_choice}
 use Rattle.stimulus.specs.Driving.{IsMenuOf}
 use Rattle.guided_trials.specs.declared.guide.Candidate.{Candidate}
 use Rattle.guided_trials.specs.declared.guide.Guide.{Guide}
-use Rattle.guided_trials.specs.declared.guide.Moment.{Moment}
+use Rattle.guided_trials.specs.declared.guide.TrialMoment.{TrialMoment}
 use Rattle.guided_trials.specs.Numbers.{next, high, middle}
 use Rattle.guided_trials.specs.Choosing.{is_there, is_wanted, fallen, taken, taken_or, by_chance, rate, choice_by, may_be, stands, after, left, left_by, pick, picked}
 
@@ -26,25 +26,25 @@ module _ {X : Type 0} (p q : X → Bool) (same : (x : X) → p x ≡ q x) where
 
 -- ---- what is found passes
 
-abbrev pub Passes : {X : Type 0} → (X → Bool) → Option X → Type 0
-Passes p None = Unit {0}
-Passes p (Some x) = p x ≡ true
+abbrev pub PassesIfAny : {X : Type 0} → (X → Bool) → Option X → Type 0
+PassesIfAny p None = Unit {0}
+PassesIfAny p (Some x) = p x ≡ true
 
 module _ {X : Type 0} (p : X → Bool) where
-  found_if : (x : X) (rest : Option X) (b : Bool) → p x ≡ b → Passes p rest → Passes p (if b then Some x else rest)
+  found_if : (x : X) (rest : Option X) (b : Bool) → p x ≡ b → PassesIfAny p rest → PassesIfAny p (if b then Some x else rest)
   found_if x rest true is h = is
   found_if x rest false is h = h
 
-  pub find_passes : (xs : List X) → Passes p (find p xs)
+  pub find_passes : (xs : List X) → PassesIfAny p (find p xs)
   find_passes [] = tt
   find_passes (x ∷ xs) = found_if x (find p xs) (p x) refl (find_passes xs)
 
-  got_if : (x : X) (rest : List X) (b : Bool) → p x ≡ b → ((n : ℕ) → Passes p (slice_get rest n)) → (n : ℕ) → Passes p (slice_get (if b then x ∷ rest else rest) n)
+  got_if : (x : X) (rest : List X) (b : Bool) → p x ≡ b → ((n : ℕ) → PassesIfAny p (slice_get rest n)) → (n : ℕ) → PassesIfAny p (slice_get (if b then x ∷ rest else rest) n)
   got_if x rest true is h zero = is
   got_if x rest true is h (suc n) = h n
   got_if x rest false is h n = h n
 
-  pub get_passes : (xs : List X) (n : ℕ) → Passes p (slice_get (filter p xs) n)
+  pub get_passes : (xs : List X) (n : ℕ) → PassesIfAny p (slice_get (filter p xs) n)
   get_passes [] n = tt
   get_passes (x ∷ xs) n = got_if x (filter p xs) (p x) refl (get_passes xs) n
 
@@ -52,18 +52,18 @@ first_holds : (a b : Bool) → (a && b) ≡ true → a ≡ true
 first_holds true b h = refl
 first_holds false b h = cc
 
-weaker : {X : Type 0} (p q : X → Bool) (o : Option X) → Passes (λ x. p x && q x) o → Passes p o
+weaker : {X : Type 0} (p q : X → Bool) (o : Option X) → PassesIfAny (λ x. p x && q x) o → PassesIfAny p o
 weaker p q None h = tt
 weaker p q (Some x) h = first_holds (p x) (q x) h
 
-pub passes_if : {X : Type 0} (p : X → Bool) (a b : Option X) (c : Bool) → Passes p a → Passes p b → Passes p (if c then a else b)
+pub passes_if : {X : Type 0} (p : X → Bool) (a b : Option X) (c : Bool) → PassesIfAny p a → PassesIfAny p b → PassesIfAny p (if c then a else b)
 passes_if p a b true h k = h
 passes_if p a b false h k = k
 
 -- ---- a choice stands in its menu
 
 module _ (menu : Menu) (words : List ℕ) (g : Guide) (t x : ℕ) where
-  taken_passes : (depth : ℕ) → Passes (stands menu) (taken t x (filter (stands menu) g.takes) (find (λ k. stands menu k && is_wanted g depth k) g.takes))
+  taken_passes : (depth : ℕ) → PassesIfAny (stands menu) (taken t x (filter (stands menu) g.takes) (find (λ k. stands menu k && is_wanted g depth k) g.takes))
   taken_passes depth =
       passes_if (stands menu) (find (λ k. stands menu k && is_wanted g depth k) g.takes) (by_chance t x (filter (stands menu) g.takes))
       (is_there (find (λ k. stands menu k && is_wanted g depth k) g.takes) && not (high x % 4 == 0))
@@ -71,11 +71,11 @@ module _ (menu : Menu) (words : List ℕ) (g : Guide) (t x : ℕ) where
       (passes_if (stands menu) (slice_get (filter (stands menu) g.takes) (middle x % length (filter (stands menu) g.takes))) None (high x / 4 % rate t == 0)
       (get_passes (stands menu) g.takes (middle x % length (filter (stands menu) g.takes))) tt)
 
-  choice_stands : (byte : ℕ) (o : Option Candidate) → Passes (stands menu) o → IsTrue (has_choice menu (taken_or (Go byte byte) o))
+  choice_stands : (byte : ℕ) (o : Option Candidate) → PassesIfAny (stands menu) o → IsTrue (has_choice menu (taken_or (Go byte byte) o))
   choice_stands byte None h = refl
   choice_stands byte (Some k) h = h
 
-pub picked_stands : (words : List ℕ) (g : Guide) (t : ℕ) (l : Moment) (menu : Menu) → IsTrue (has_choice menu (picked words g t l menu))
+pub picked_stands : (words : List ℕ) (g : Guide) (t : ℕ) (l : TrialMoment) (menu : Menu) → IsTrue (has_choice menu (picked words g t l menu))
 picked_stands words g t l menu =
     choice_stands menu words g t (next l.number) (left_by words g t l menu).byte _ (taken_passes menu words g t (next l.number) (fallen words menu.sp))
 
@@ -91,7 +91,7 @@ legal_as : (menu : Menu) (m : State) → IsMenuOf menu m → (k : Candidate) →
 legal_as menu m is k =
     ap (λ (b : Bool). b && (not k.clears || (k.vector == WATCHDOG))) (is.takes k.vector) ∙ regrouped (is_enabled m.enables k.vector) (i_flag m) m.delay k.clears (k.vector == WATCHDOG)
 
-pub left_is : (words : List ℕ) (g : Guide) (t : ℕ) (l : Moment) (menu : Menu) (m : State) → IsMenuOf menu m → left_by words g t l menu ≡ left words g t l m
+pub left_is : (words : List ℕ) (g : Guide) (t : ℕ) (l : TrialMoment) (menu : Menu) (m : State) → IsMenuOf menu m → left_by words g t l menu ≡ left words g t l m
 left_is words g t l menu m is = ap (after words g t l) is.pc
 
 module _ (words : List ℕ) (g : Guide) (t x byte sp : ℕ) where
@@ -101,8 +101,8 @@ module _ (words : List ℕ) (g : Guide) (t x byte sp : ℕ) where
       ∙ ap (λ (o : Option Candidate). taken_or (Go byte byte) (taken t x (filter q g.takes) o))
       (find_as (λ k. p k && is_wanted g (fallen words sp) k) (λ k. q k && is_wanted g (fallen words sp) k) (λ k. ap (λ (b : Bool). b && is_wanted g (fallen words sp) k) (same k)) g.takes)
 
-pub picked_is : (words : List ℕ) (g : Guide) (t : ℕ) (l : Moment) (menu : Menu) (m : State) → IsMenuOf menu m → picked words g t l menu ≡ pick words g t l m
+pub picked_is : (words : List ℕ) (g : Guide) (t : ℕ) (l : TrialMoment) (menu : Menu) (m : State) → IsMenuOf menu m → picked words g t l menu ≡ pick words g t l m
 picked_is words g t l menu m is =
     choice_as words g t (next l.number) (left_by words g t l menu).byte menu.sp (stands menu) (may_be m) (legal_as menu m is)
-    ∙ ap (λ (after : Moment). choice_by words g t (next l.number) after.byte menu.sp (may_be m)) (left_is words g t l menu m is)
+    ∙ ap (λ (after : TrialMoment). choice_by words g t (next l.number) after.byte menu.sp (may_be m)) (left_is words g t l menu m is)
     ∙ ap (λ (sp : ℕ). choice_by words g t (next l.number) (left words g t l m).byte sp (may_be m)) is.sp

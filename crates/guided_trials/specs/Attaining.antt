@@ -5,11 +5,11 @@ use Rattle.avr_model.specs.declared.assumption.Entry.{Entry}
 use Rattle.witness_replay.specs.Spelling.{Plan}
 use Rattle.certificate.specs.Claims.{Claim}
 use Rattle.guided_trials.specs.Guides.{guide_of}
-use Rattle.guided_trials.specs.Trials.{Succeeds, IsFound}
+use Rattle.guided_trials.specs.Trials.{GuidedSucceeds, IsGuidedFound}
 
 -- the schedule that a certificate has, or what the first n trials find where it has none
 abbrev pub IsScheduled : List ℕ → List Entry → ℕ → Claim → Option Plan → Option Plan → Type 0
-IsScheduled words A n c None found = IsFound words A (guide_of words A c) n found
+IsScheduled words A n c None found = IsGuidedFound words A (guide_of words A c) n found
 IsScheduled words A n c (Some plan) found = found ≡ Some plan
 
 -- The certificate d is c but for its schedule, which is that of c, or that of the least of the first n trials whose depth is the bound or more.
@@ -19,7 +19,7 @@ pub record IsCompleted (words : List ℕ) (A : List Entry) (n : ℕ) (c d : Clai
 
 -- one of the first n trials succeeds
 abbrev pub SomeSucceeds : List ℕ → List Entry → ℕ → Claim → Type 0
-SomeSucceeds words A n c = (t : ℕ) × (t < n) × Succeeds words A (guide_of words A c) t
+SomeSucceeds words A n c = (t : ℕ) × (t < n) × GuidedSucceeds words A (guide_of words A c) t
 
 -- the certificate is attained exactly where c is or some trial succeeds
 abbrev pub AttainedWhere : List ℕ → List Entry → ℕ → Claim → Claim → Type 0

@@ -14,29 +14,29 @@ use Rattle.avr_machine.specs.Menu.{has_choice}
 use Rattle.stimulus.specs.Driving.{IsMenuOf}
 use Rattle.certificate.specs.Claims.{Claim}
 use Rattle.guided_trials.specs.declared.guide.Guide.{Guide}
-use Rattle.guided_trials.specs.declared.guide.Moment.{Moment}
+use Rattle.guided_trials.specs.declared.guide.TrialMoment.{TrialMoment}
 use Rattle.guided_trials.specs.Telling.{fills, told_if, telling}
 use Rattle.guided_trials.specs.Guides.{guide_of}
 use Rattle.guided_trials.specs.Choosing.{reads, after, pick, picked}
 use Rattle.guided_trials.specs.Trials.{trial_of}
 
 -- the byte is one that is always tried, or the instruction at some word of flash tells it apart
-abbrev pub IsTold : List ℕ → ℕ → Type 0
-IsTold words byte = Contains fills byte ⊎ ((at : ℕ) × (at < words_of (device_of words)) × Contains (told_if (instruction_at words at)) byte)
+abbrev pub IsByteTold : List ℕ → ℕ → Type 0
+IsByteTold words byte = Contains fills byte ⊎ ((at : ℕ) × (at < words_of (device_of words)) × Contains (told_if (instruction_at words at)) byte)
 
 pub record TrialsAreLed : Type 0 where
   -- the bytes that are tried ascend, and are those that the firmware tells apart
   pub ascend : (words : List ℕ) → IsStrictlySortedBy nat_cmp (telling words)
-  pub told : (words : List ℕ) (byte : ℕ) → Contains (telling words) byte ↔ ((byte < 256) × IsTold words byte)
+  pub told : (words : List ℕ) (byte : ℕ) → Contains (telling words) byte ↔ ((byte < 256) × IsByteTold words byte)
   -- the byte stays, but at an instruction that may read an input it may become one of them
-  pub kept : (words : List ℕ) (g : Guide) (t pc : ℕ) (l : Moment) → reads words pc ≡ false → (after words g t l pc).byte ≡ l.byte
-  pub changed : (words : List ℕ) (A : List Entry) (c : Claim) (t pc : ℕ) (l : Moment)
+  pub kept : (words : List ℕ) (g : Guide) (t pc : ℕ) (l : TrialMoment) → reads words pc ≡ false → (after words g t l pc).byte ≡ l.byte
+  pub changed : (words : List ℕ) (A : List Entry) (c : Claim) (t pc : ℕ) (l : TrialMoment)
       → ((after words (guide_of words A c) t l pc).byte ≡ l.byte) ⊎ Contains (telling words) (after words (guide_of words A c) t l pc).byte
   -- each choice stands in the menu of its moment, and is that which is picked by the state
-  pub legal : (words : List ℕ) (g : Guide) (t : ℕ) (l : Moment) (menu : Menu) → IsTrue (has_choice menu (picked words g t l menu))
-  pub alike : (words : List ℕ) (g : Guide) (t : ℕ) (l : Moment) (menu : Menu) (m : State) → IsMenuOf menu m → picked words g t l menu ≡ pick words g t l m
+  pub legal : (words : List ℕ) (g : Guide) (t : ℕ) (l : TrialMoment) (menu : Menu) → IsTrue (has_choice menu (picked words g t l menu))
+  pub alike : (words : List ℕ) (g : Guide) (t : ℕ) (l : TrialMoment) (menu : Menu) (m : State) → IsMenuOf menu m → picked words g t l menu ≡ pick words g t l m
   -- no vector with a `never` line is taken
-  pub never : (words : List ℕ) (A : List Entry) (c : Claim) (t : ℕ) (l : Moment) (m : State) (v : ℕ) (clears : Bool)
+  pub never : (words : List ℕ) (A : List Entry) (c : Claim) (t : ℕ) (l : TrialMoment) (m : State) (v : ℕ) (clears : Bool)
       → pick words (guide_of words A c) t l m ≡ Take v clears → is_never A (vector_word (device_of words) v) ≡ false
   -- a trial has at most 200,000 choices
   pub short : (words : List ℕ) (A : List Entry) (g : Guide) (t : ℕ) → length (trial_of words A g t) ≤ 200000

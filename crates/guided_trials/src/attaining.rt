@@ -1,11 +1,11 @@
 //! The guided trials of a certificate.
 
-ghost use Rattle.std.specs.Prelude.{◌≡◌, ◌≤◌, ◌<◌, ◌+◌, ◌++◌, ℕ, IfOk, IfSome, OnOk};
+ghost use Rattle.std.specs.Prelude.{◌≡◌, ◌≤◌, ◌<◌, ◌+◌, ◌++◌, IfOk, IfSome, OnOk};
 ghost use Rattle.avr_model.specs.Run.{Bounded};
 ghost use Rattle.certificate.specs.Valid.{Attains, IsValid};
 ghost use Rattle.guided_trials.specs.Attaining.{IsCompleted, AttainedWhere};
 ghost use Rattle.guided_trials.specs.Guides as guides;
-ghost use Rattle.guided_trials.specs.Trials.{IsFound};
+ghost use Rattle.guided_trials.specs.Trials.{IsGuidedFound};
 
 use crate::guide::{Candidate, Candidates, Guide};
 use crate::telling::telling;
@@ -111,7 +111,7 @@ fn found(
     certificate: &Certificate,
     trials: u32,
 ) -> Result<Option<Schedule>, AllocError>
-    ensures first { IfOk result (IsFound flash.now assumptions.now (guides.guide_of flash.now assumptions.now certificate.now) trials) }
+    ensures first { IfOk result (IsGuidedFound flash.now assumptions.now (guides.guide_of flash.now assumptions.now certificate.now) trials) }
     ensures attained { IfOk result (λ found. IfSome found (λ plan. Bounded flash.now assumptions.now certificate.now.bound → Attains flash.now assumptions.now certificate.now.bound plan)) }
 {
     let guide = guide_of(alloc, flash, assumptions, certificate)?;

@@ -1,11 +1,11 @@
 //! What a trial chooses at a moment.
 
-ghost use Rattle.std.specs.Prelude.{ℕ, ◌≡◌, ◌+◌, ◌-◌, ◌%◌, ◌/◌, ◌==◌, ◌&&◌, length, slice_get};
+ghost use Rattle.std.specs.Prelude.{◌≡◌, ◌+◌, ◌-◌, ◌%◌, ◌/◌, ◌==◌, ◌&&◌, length, slice_get};
 ghost use Rattle.std.specs.List.{filter, find};
 ghost use Rattle.guided_trials.specs.Numbers as numbers;
 ghost use Rattle.guided_trials.specs.Choosing as choosing;
 
-use crate::guide::{Candidate, Guide, Moment};
+use crate::guide::{Candidate, Guide, TrialMoment};
 use crate::numbers::{high, low, middle, next};
 use avr_decode::Instr;
 use avr_machine::{Choice, Menu};
@@ -66,7 +66,7 @@ fn reads(flash: &Flash, pc: u16) -> bool
 
 /// The moment after this one, at a word address.
 #[inline(always)]
-pub fn after(flash: &Flash, guide: &Guide, t: u32, moment: Moment, pc: u16) -> Moment
+pub fn after(flash: &Flash, guide: &Guide, t: u32, moment: TrialMoment, pc: u16) -> TrialMoment
     ensures { result ≡ choosing.after flash.now guide.now t moment pc }
 {
     let number = next(moment.number);
@@ -75,7 +75,7 @@ pub fn after(flash: &Flash, guide: &Guide, t: u32, moment: Moment, pc: u16) -> M
     } else {
         moment.byte
     };
-    Moment { number, byte }
+    TrialMoment { number, byte }
 }
 
 // By how much the stack pointer has fallen below its place at reset.
@@ -178,7 +178,7 @@ fn taken(flash: &Flash, guide: &Guide, t: u32, number: u64, menu: &Menu) -> Opti
 
 /// The choice from a menu; `now` is the moment that follows.
 #[inline(always)]
-pub fn chosen(flash: &Flash, guide: &Guide, t: u32, now: Moment, menu: &Menu) -> Choice
+pub fn chosen(flash: &Flash, guide: &Guide, t: u32, now: TrialMoment, menu: &Menu) -> Choice
     ensures { result ≡ choosing.choice_by flash.now guide.now t now.number now.byte menu.now.sp (choosing.stands menu.now) }
 {
     match taken(flash, guide, t, now.number, menu) {

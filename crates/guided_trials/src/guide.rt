@@ -122,7 +122,7 @@ pub struct Guide {
 
 /// Where a trial stands: its last number, and the byte that is its input.
 #[derive(Clone, Copy)]
-pub struct Moment {
+pub struct TrialMoment {
     /// The number.
     pub number: u64,
     /// The byte.

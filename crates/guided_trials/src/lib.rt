@@ -11,4 +11,4 @@ mod telling;
 mod trial;
 
 pub use attaining::attain;
-pub use guide::{Candidate, Candidates, Guide, Moment, ToldBytes};
+pub use guide::{Candidate, Candidates, Guide, ToldBytes, TrialMoment};

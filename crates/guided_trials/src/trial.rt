@@ -1,16 +1,16 @@
 //! Guided trials.
 
-ghost use Rattle.std.specs.Prelude.{◌≡◌, ◌≤◌, IfOk, IfSome};
+ghost use Rattle.std.specs.Prelude.{◌≡◌, IfOk, IfSome};
 ghost use Rattle.avr_model.specs.Devices.{device_of};
 ghost use Rattle.avr_model.specs.State.{IsReset, filled};
 ghost use Rattle.avr_model.specs.Run.{IsRun, Bounded, depth_of};
 ghost use Rattle.certificate.specs.Valid.{Attains};
 ghost use Rattle.trial_runs.specs.Length.{most_choices};
 ghost use Rattle.guided_trials.specs.Choosing as choosing;
-ghost use Rattle.guided_trials.specs.Trials.{fill_of, trial_by, IsTried, IsFound};
+ghost use Rattle.guided_trials.specs.Trials.{fill_of, trial_by, IsGuidedTried, IsGuidedFound};
 
 use crate::choosing::{after, chosen};
-use crate::guide::{Guide, Moment};
+use crate::guide::{Guide, TrialMoment};
 use crate::numbers::first;
 use avr_machine::{Choice, Machine, Menu};
 use flash_image::Flash;
@@ -42,7 +42,7 @@ fn depth_of_trial(
 {
     depth_is_kept();
     let fill = fill_of(guide, t);
-    let mut moment = Moment {
+    let mut moment = TrialMoment {
         number: first(t),
         byte: fill,
     };
@@ -75,7 +75,7 @@ fn attempt(
 {
     depth_is_kept();
     let fill = fill_of(guide, t);
-    let mut moment = Moment {
+    let mut moment = TrialMoment {
         number: first(t),
         byte: fill,
     };
@@ -101,7 +101,7 @@ fn try_number(
     guide: &Guide,
     t: u32,
 ) -> Result<Option<Schedule>, AllocError>
-    ensures tried { IfOk result (IsTried flash.now assumptions.now guide.now t) }
+    ensures tried { IfOk result (IsGuidedTried flash.now assumptions.now guide.now t) }
     ensures attained { IfOk result (λ found. IfSome found (λ plan. Bounded flash.now assumptions.now guide.now.bound → Attains flash.now assumptions.now guide.now.bound plan)) }
 {
     depth_is_kept();
@@ -125,7 +125,7 @@ pub fn first_trial(
     guide: &Guide,
     trials: u32,
 ) -> Result<Option<Schedule>, AllocError>
-    ensures first { IfOk result (IsFound flash.now assumptions.now guide.now trials) }
+    ensures first { IfOk result (IsGuidedFound flash.now assumptions.now guide.now trials) }
     ensures attained { IfOk result (λ found. IfSome found (λ plan. Bounded flash.now assumptions.now guide.now.bound → Attains flash.now assumptions.now guide.now.bound plan)) }
 {
     for t in 0..trials {

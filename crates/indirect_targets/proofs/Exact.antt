@@ -15,11 +15,11 @@ use Rattle.line_reading.specs.Words.{WordLaws, whole}
 use Rattle.vector_table.specs.Entries.{AreEntries, is_entry, is_above_last, most_entries}
 use Rattle.indirect_targets.specs.declared.fault.AssumeText.{AssumeText}
 use Rattle.indirect_targets.specs.declared.fault.AssumeText.TheVariants.{Malformed, Order, Memory}
-use Rattle.indirect_targets.specs.Exact.{StandsAt, BeginsWithNone, IsDue, IsDueUnlessMemory, ReadIsDue, DueIsRead, RefusedIsStuck, OneText}
+use Rattle.indirect_targets.specs.Exact.{StandsAt, BeginsWithNone, IsListDue, IsListDueUnlessMemory, ReadListIsDue, DueIsRead, RefusedListIsStuck, ListsHaveOneText}
 use Rattle.indirect_targets.specs.Reading.{entry_in, entry_by, next_by, placed, with_line, entries_from, entries_in}
 use Rattle.indirect_targets.specs.Spelling.{entry_words, line_of, text_of}
 use Rattle.indirect_targets.proofs.Entries.{entry_laws, entry_is_words}
-use Rattle.indirect_targets.proofs.Lists.{Follows, follows, pushed, none_are_entries}
+use Rattle.indirect_targets.proofs.Lists.{FollowsPart, follows, pushed, none_are_entries}
 
 -- ---- one line
 
@@ -113,16 +113,16 @@ rest_lines k here l ls e lines is =
 
 -- reading on through these lines gives what is due
 abbrev ReadsFrom : List TextLine → Type 0
-ReadsFrom ls = (es : List Entry) (here : List ℕ) → lines_of here ≡ ls → AreEntries es → IsDue (text_of es ++ here) (entries_from es ls)
+ReadsFrom ls = (es : List Entry) (here : List ℕ) → lines_of here ≡ ls → AreEntries es → IsListDue (text_of es ++ here) (entries_from es ls)
 
 read_entry : WordLaws → (l : TextLine) (ls : List TextLine) → ReadsFrom ls → (es : List Entry) (here : List ℕ) (e : Entry) → lines_of here ≡ l ∷ ls → AreEntries es → next_by (length es) l ≡ Some e
     → (b : Bool) → is_above_last es e ≡ b
-    → IsDue (text_of es ++ here) (then_at (cond b (Ok (es ++ e ∷ [])) (Err (Order (length es + 1)))) (λ more. entries_from more ls))
+    → IsListDue (text_of es ++ here) (then_at (cond b (Ok (es ++ e ∷ [])) (Err (Order (length es + 1)))) (λ more. entries_from more ls))
 read_entry k l ls on es here e lines fits is true up =
     let found = next_some (length es) l e is in
     let text = begins k here l ls e lines found.1 in
     let more = pushed es e fits (record { room = found.0; formed = (line_takes k l e found.1).1; above = up }) in
-    subst (λ (t : List ℕ). IsDue t (entries_from (es ++ e ∷ []) ls)) (text_pushed es e (joined ls) ∙ ap (λ (xs : List ℕ). text_of es ++ xs) (sym text))
+    subst (λ (t : List ℕ). IsListDue t (entries_from (es ++ e ∷ []) ls)) (text_pushed es e (joined ls) ∙ ap (λ (xs : List ℕ). text_of es ++ xs) (sym text))
     (on (es ++ e ∷ []) (joined ls) (rest_lines k here l ls e lines found.1) more)
 read_entry k l ls on es here e lines fits is false low =
     let found = next_some (length es) l e is in
@@ -137,7 +137,7 @@ read_entry k l ls on es here e lines fits is false low =
     }
 
 read_next : WordLaws → (l : TextLine) (ls : List TextLine) → ReadsFrom ls → (es : List Entry) (here : List ℕ) → lines_of here ≡ l ∷ ls → AreEntries es → (o : Option Entry) → next_by (length es) l ≡ o
-    → IsDue (text_of es ++ here) (then_at (placed es o) (λ more. entries_from more ls))
+    → IsListDue (text_of es ++ here) (then_at (placed es o) (λ more. entries_from more ls))
 read_next k l ls on es here lines fits None is = record {
   before = es;
   here = here;
@@ -152,12 +152,12 @@ unfolding entries_from with_line
 read_from k [] = λ es here lines fits. record { fits = fits; bytes = ap (λ (xs : List ℕ). text_of es ++ xs) (sym (joined_lines here) ∙ ap joined lines) ∙ append-nil (text_of es) }
 read_from k (l ∷ ls) = λ es here lines fits. read_next k l ls (read_from k ls) es here lines fits (next_by (length es) l) refl
 
-pub read_is_due : WordLaws → ReadIsDue
+pub read_is_due : WordLaws → ReadListIsDue
 read_is_due k text = read_from k (lines_of text) [] text refl none_are_entries
 
 -- ---- what is due is read
 
-one_read : WordLaws → (es : List Entry) (e : Entry) (rest : List ℕ) → Follows es e → entries_from es (lines_of (line_of e ++ rest)) ≡ entries_from (es ++ e ∷ []) (lines_of rest)
+one_read : WordLaws → (es : List Entry) (e : Entry) (rest : List ℕ) → FollowsPart es e → entries_from es (lines_of (line_of e ++ rest)) ≡ entries_from (es ++ e ∷ []) (lines_of rest)
 unfolding entries_from with_line
 one_read k es e rest f =
     let next = next_with_room (length es) (whole (entry_words e)) f.room ∙ line_taken k e f.formed in
@@ -228,7 +228,7 @@ low_and_above before a b low up e = let bad : true ≡ false = sym up ∙ ap (is
 begins_some : (e : Entry) (rest : List ℕ) → line_of e ++ rest ≢ []
 begins_some e rest = λ none. let n = ap length none in let a = length-append (line_of e) rest in let b = length-append (spaced (entry_words e)) (10 ∷ []) in omega arith
 
-pub refused_is_stuck : WordLaws → RefusedIsStuck
+pub refused_is_stuck : WordLaws → RefusedListIsStuck
 refused_is_stuck k = record {
   malformed = λ text number h. record { before = h.before; here = h.here; at = h.at; some = h.some; stop = full_or_none h.before h.here h.stop };
   out_of_order = λ text number h. record {
@@ -245,17 +245,17 @@ refused_is_stuck k = record {
 ok_is : (a b : List Entry) → ◌≡◌ {A = Result (List Entry) AssumeText} (Ok a) (Ok b) → a ≡ b
 ok_is a b e = cc
 
-pub one_text : WordLaws → OneText
+pub one_text : WordLaws → ListsHaveOneText
 one_text k a b fa fb e =
     ok_is a b (sym (due_is_read k (text_of a) (Ok a) (record { fits = fa; bytes = refl })) ∙ due_is_read k (text_of a) (Ok b) (record { fits = fb; bytes = e }))
 
 -- ---- the call that reads
 
-pub told : ReadIsDue → (text : List ℕ) (r : Result (List Entry) AssumeText) → Answers (λ a. a) Memory r (entries_in text) → IsDueUnlessMemory text r
-told law text (Ok a) e = subst (λ (d : Result (List Entry) AssumeText). IsDue text d) e (law text)
+pub told : ReadListIsDue → (text : List ℕ) (r : Result (List Entry) AssumeText) → Answers (λ a. a) Memory r (entries_in text) → IsListDueUnlessMemory text r
+told law text (Ok a) e = subst (λ (d : Result (List Entry) AssumeText). IsListDue text d) e (law text)
 told law text (Err Memory) e = tt
-told law text (Err (Malformed n)) e = subst (λ (d : Result (List Entry) AssumeText). IsDue text d) (e (λ same. cc)) (law text)
-told law text (Err (Order n)) e = subst (λ (d : Result (List Entry) AssumeText). IsDue text d) (e (λ same. cc)) (law text)
+told law text (Err (Malformed n)) e = subst (λ (d : Result (List Entry) AssumeText). IsListDue text d) (e (λ same. cc)) (law text)
+told law text (Err (Order n)) e = subst (λ (d : Result (List Entry) AssumeText). IsListDue text d) (e (λ same. cc)) (law text)
 
-pub due : DueIsRead → (text : List ℕ) (r due : Result (List Entry) AssumeText) → Answers (λ a. a) Memory r (entries_in text) → IsDue text due → Answers (λ a. a) Memory r due
+pub due : DueIsRead → (text : List ℕ) (r due : Result (List Entry) AssumeText) → Answers (λ a. a) Memory r (entries_in text) → IsListDue text due → Answers (λ a. a) Memory r due
 due law text r d e h = subst (λ (x : Result (List Entry) AssumeText). Answers (λ a. a) Memory r x) (law text d h) e

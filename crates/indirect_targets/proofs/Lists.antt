@@ -17,12 +17,12 @@ ordered_to (x ∷ next ∷ rest) e more h =
     ordered_to (next ∷ rest) e more (and_parts (is_before x next) (are_in_order (next ∷ rest ++ e ∷ more)) h).1
 
 -- what a longer list says of the entry behind a first part
-pub record Follows (es : List Entry) (e : Entry) : Type 0 where
+pub record FollowsPart (es : List Entry) (e : Entry) : Type 0 where
   pub room : length es < most_entries
   pub formed : is_entry e ≡ true
   pub above : is_above_last es e ≡ true
 
-pub follows : (es : List Entry) (e : Entry) (more : List Entry) → AreEntries (es ++ e ∷ more) → Follows es e
+pub follows : (es : List Entry) (e : Entry) (more : List Entry) → AreEntries (es ++ e ∷ more) → FollowsPart es e
 follows es e more h =
     let n = length-append es (e ∷ more) in
     let few = h.few in
@@ -32,7 +32,7 @@ follows es e more h =
       above = ordered_to es e more h.in_order;
     }
 
-pub pushed : (es : List Entry) (e : Entry) → AreEntries es → Follows es e → AreEntries (es ++ e ∷ [])
+pub pushed : (es : List Entry) (e : Entry) → AreEntries es → FollowsPart es e → AreEntries (es ++ e ∷ [])
 pushed es e h f =
     let n = length-append es (e ∷ []) in
     let room = f.room in

@@ -15,7 +15,7 @@ use Rattle.bit_domain.specs.Tri.{Permits}
 use Rattle.bit_domain.specs.TriByte.{tri_at, IsWithin}
 use Rattle.bit_domain.specs.Numbers.{with_top, numbers_of, pointer_bit, IsPermitted}
 use Rattle.bit_domain.specs.Laws.{BytesAreSets, NumbersArePermitted}
-use Rattle.indirect_targets.specs.Targets.{most_targets, Keeps, IsGiven, TargetsAreThoseOfMembers}
+use Rattle.indirect_targets.specs.Targets.{most_targets, KeepsTargets, IsGiven, TargetsAreThoseOfMembers}
 
 -- ---- bits of a pointer
 
@@ -160,11 +160,11 @@ stays_many f i width ns lt e many = let more = grows f (i + 1) width (omega arit
 pub stays_few : (f : ℕ → Tri) (width : ℕ) → width ≤ 14 → length (numbers_of f 14) ≤ most_targets → length (numbers_of f width) ≤ most_targets
 stays_few f width le few = omega (arith, grows f width 14 le)
 
-pub keeps_err : {E : Type 0} (r : Result (List ℕ) E) (due : List ℕ) → IsErr r → most_targets < length due → Keeps r due
+pub keeps_err : {E : Type 0} (r : Result (List ℕ) E) (due : List ℕ) → IsErr r → most_targets < length due → KeepsTargets r due
 keeps_err (Ok t) due err many = absurd (false≢true err)
 keeps_err (Err e) due err many = many
 
-pub few_are_kept : {E : Type 0} (r : Result (List ℕ) E) (due : List ℕ) → Keeps r due → length due ≤ most_targets → IsOk r
+pub few_are_kept : {E : Type 0} (r : Result (List ℕ) E) (due : List ℕ) → KeepsTargets r due → length due ≤ most_targets → IsOk r
 few_are_kept (Ok t) due kept few = refl
 few_are_kept (Err e) due many few = absurd (omega (arith, many, few))
 

@@ -8,7 +8,7 @@ use Rattle.indirect_targets.specs.Spelling.{entry_words, line_of, text_of}
 use Rattle.indirect_targets.specs.Reading.{entry_in, entries_in}
 
 -- The text is that of this list.
-pub record IsReading (text : List ℕ) (entries : List Entry) : Type 0 where
+pub record IsListReading (text : List ℕ) (entries : List Entry) : Type 0 where
   pub fits : AreEntries entries
   pub bytes : text ≡ text_of entries
 
@@ -23,7 +23,7 @@ abbrev pub BeginsWithNone : List ℕ → Type 0
 BeginsWithNone here = (e : Entry) (rest : List ℕ) → is_entry e ≡ true → here ≢ line_of e ++ rest
 
 -- Something stands behind the lines of a list, and it begins with the line of no entry, or the list has room for none.
-pub record IsMalformed (text : List ℕ) (line : ℕ) : Type 0 where
+pub record IsListMalformed (text : List ℕ) (line : ℕ) : Type 0 where
   pub before : List Entry
   pub here : List ℕ
   pub at : StandsAt text line before here
@@ -31,7 +31,7 @@ pub record IsMalformed (text : List ℕ) (line : ℕ) : Type 0 where
   pub stop : (length before ≡ most_entries) ⊎ BeginsWithNone here
 
 -- Behind the lines of a list with room for another entry stands the line of one that isn't above the last.
-pub record IsOutOfOrder (text : List ℕ) (line : ℕ) : Type 0 where
+pub record IsListOutOfOrder (text : List ℕ) (line : ℕ) : Type 0 where
   pub before : List Entry
   pub entry : Entry
   pub rest : List ℕ
@@ -41,19 +41,19 @@ pub record IsOutOfOrder (text : List ℕ) (line : ℕ) : Type 0 where
   pub low : is_above_last before entry ≡ false
 
 -- the answer that is due for a text
-abbrev pub IsDue : List ℕ → Result (List Entry) AssumeText → Type 0
-IsDue text (Ok entries) = IsReading text entries
-IsDue text (Err (Malformed line)) = IsMalformed text line
-IsDue text (Err (Order line)) = IsOutOfOrder text line
-IsDue text (Err Memory) = ⊥
+abbrev pub IsListDue : List ℕ → Result (List Entry) AssumeText → Type 0
+IsListDue text (Ok entries) = IsListReading text entries
+IsListDue text (Err (Malformed line)) = IsListMalformed text line
+IsListDue text (Err (Order line)) = IsListOutOfOrder text line
+IsListDue text (Err Memory) = ⊥
 
 -- what was answered is due, unless memory was wanting
-abbrev pub IsDueUnlessMemory : List ℕ → Result (List Entry) AssumeText → Type 0
-IsDueUnlessMemory text (Err Memory) = ⊤
-IsDueUnlessMemory text answer = IsDue text answer
+abbrev pub IsListDueUnlessMemory : List ℕ → Result (List Entry) AssumeText → Type 0
+IsListDueUnlessMemory text (Err Memory) = ⊤
+IsListDueUnlessMemory text answer = IsListDue text answer
 
 -- The lines before this one are those of a list, another line stands behind them, and no list has it behind theirs.
-pub record IsStuck (text : List ℕ) (line : ℕ) : Type 0 where
+pub record IsListStuck (text : List ℕ) (line : ℕ) : Type 0 where
   pub before : List Entry
   pub here : List ℕ
   pub at : StandsAt text line before here
@@ -63,25 +63,25 @@ pub record IsStuck (text : List ℕ) (line : ℕ) : Type 0 where
 -- ---- laws
 
 -- what is read of a text is due
-abbrev pub ReadIsDue : Type 0
-ReadIsDue = (text : List ℕ) → IsDue text (entries_in text)
+abbrev pub ReadListIsDue : Type 0
+ReadListIsDue = (text : List ℕ) → IsListDue text (entries_in text)
 
 -- what is due is read, so one answer alone is due
 abbrev pub DueIsRead : Type 0
-DueIsRead = (text : List ℕ) (due : Result (List Entry) AssumeText) → IsDue text due → entries_in text ≡ due
+DueIsRead = (text : List ℕ) (due : Result (List Entry) AssumeText) → IsListDue text due → entries_in text ≡ due
 
 pub record ReadingIsExact : Type 0 where
-  pub read : ReadIsDue
+  pub read : ReadListIsDue
   pub due : DueIsRead
 
 -- a line that is told is the first one at which no list can go on
-pub record RefusedIsStuck : Type 0 where
-  pub malformed : (text : List ℕ) (line : ℕ) → IsMalformed text line → IsStuck text line
-  pub out_of_order : (text : List ℕ) (line : ℕ) → IsOutOfOrder text line → IsStuck text line
+pub record RefusedListIsStuck : Type 0 where
+  pub malformed : (text : List ℕ) (line : ℕ) → IsListMalformed text line → IsListStuck text line
+  pub out_of_order : (text : List ℕ) (line : ℕ) → IsListOutOfOrder text line → IsListStuck text line
 
 -- no text is that of two lists
-abbrev pub OneText : Type 0
-OneText = (a b : List Entry) → AreEntries a → AreEntries b → text_of a ≡ text_of b → a ≡ b
+abbrev pub ListsHaveOneText : Type 0
+ListsHaveOneText = (a b : List Entry) → AreEntries a → AreEntries b → text_of a ≡ text_of b → a ≡ b
 
 -- the words of an entry are read as it, and words that are read are those of the entry
 pub record EntryWords : Type 0 where

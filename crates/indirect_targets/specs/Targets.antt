@@ -11,9 +11,9 @@ abbrev pub most_targets : ℕ
 most_targets = 64
 
 -- what was answered is this list, or that it has more than 64 words
-abbrev pub Keeps : {E : Type 0} → Result (List ℕ) E → List ℕ → Type 0
-Keeps (Ok words) due = (words ≡ due) × (length due ≤ most_targets)
-Keeps (Err e) due = most_targets < length due
+abbrev pub KeepsTargets : {E : Type 0} → Result (List ℕ) E → List ℕ → Type 0
+KeepsTargets (Ok words) due = (words ≡ due) × (length due ≤ most_targets)
+KeepsTargets (Err e) due = most_targets < length due
 
 -- ---- laws
 

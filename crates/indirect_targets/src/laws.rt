@@ -1,6 +1,6 @@
 //! Laws of the texts of assumption lists, and of targets. Each function does nothing; its contract is the laws.
 
-ghost use Rattle.indirect_targets.specs.Exact.{ReadingIsExact, RefusedIsStuck, OneText, EntryWords};
+ghost use Rattle.indirect_targets.specs.Exact.{ReadingIsExact, RefusedListIsStuck, ListsHaveOneText, EntryWords};
 ghost use Rattle.indirect_targets.specs.Targets.{TargetsAreThoseOfMembers};
 
 use line_reading::laws::word_laws;
@@ -9,8 +9,8 @@ use line_reading::laws::word_laws;
 /// that is told is the first one at which no list can go on.
 pub fn list_texts()
     ensures words { EntryWords }
-    ensures one { OneText }
-    ensures stuck { RefusedIsStuck }
+    ensures one { ListsHaveOneText }
+    ensures stuck { RefusedListIsStuck }
 {
     word_laws();
 }

@@ -12,7 +12,7 @@ ghost use Rattle.vector_table.specs.Entries as entries;
 ghost use Rattle.vector_table.specs.Entries.{ascends, is_word};
 ghost use Rattle.indirect_targets.specs.declared.fault.AssumeText.{AssumeText};
 ghost use Rattle.indirect_targets.specs.declared.fault.AssumeText.TheVariants as fault;
-ghost use Rattle.indirect_targets.specs.Exact.{IsDue, IsDueUnlessMemory};
+ghost use Rattle.indirect_targets.specs.Exact.{IsListDue, IsListDueUnlessMemory};
 ghost use Rattle.indirect_targets.specs.Reading.{numbers_in, listed_in, alone_by, numbered_in, entry_in, with_line, entries_in};
 
 use crate::fault::AssumeText;
@@ -223,8 +223,8 @@ fn read_lines(alloc: Global, text: &[u8]) -> Result<Assumptions, AssumeText>
 /// isn't of its form or is line 4,097, else `Order`. Source: own.
 pub fn read(alloc: Global, text: &[u8]) -> Result<Assumptions, AssumeText>
     ensures exact { Answers (λ a. a) fault.Memory result (entries_in text.now) }
-    ensures told { IsDueUnlessMemory text.now result }
-    ensures due { (due : Result (List Entry) AssumeText) → IsDue text.now due → Answers (λ a. a) fault.Memory result due }
+    ensures told { IsListDueUnlessMemory text.now result }
+    ensures due { (due : Result (List Entry) AssumeText) → IsListDue text.now due → Answers (λ a. a) fault.Memory result due }
 {
     reading_is_exact();
     read_lines(alloc, text)

@@ -3,7 +3,7 @@
 ghost use Rattle.std.specs.Prelude.{◌≡◌, ◌≤◌, ◌<◌, ◌+◌, ◌^◌, ◌++◌, ℕ, [], ◌∷◌, map, length};
 ghost use Rattle.std.specs.List.{All};
 ghost use Rattle.bit_domain.specs.Numbers.{with_top};
-ghost use Rattle.indirect_targets.specs.Targets.{Keeps, most_targets};
+ghost use Rattle.indirect_targets.specs.Targets.{KeepsTargets, most_targets};
 
 use bit_domain::Tri;
 use std::marker::Model;
@@ -93,7 +93,7 @@ impl Targets {
     // These words without a further bit of this weight, with it, or both.
     pub(crate) fn with_bit(mut self, bit: Tri, weight: u16) -> Result<Targets, TooMany>
         requires { All (λ n. weight + n < 2 ^ 16) self }
-        ensures { Keeps result (with_top bit weight self) }
+        ensures { KeepsTargets result (with_top bit weight self) }
     {
         match bit {
             Tri::Zero => Ok(self),

@@ -3,7 +3,7 @@
 ghost use Rattle.std.specs.Prelude.{◌≡◌, ◌≤◌, ◌<◌, ◌↔◌, length, IfOk, IsOk, IsErr};
 ghost use Rattle.bit_domain.specs.Numbers as numbers;
 ghost use Rattle.bit_domain.specs.Numbers.{numbers_of, targets_of};
-ghost use Rattle.indirect_targets.specs.Targets.{most_targets, Keeps};
+ghost use Rattle.indirect_targets.specs.Targets.{most_targets, KeepsTargets};
 
 use crate::target_list::{Targets, TooMany};
 use bit_domain::laws::bytes_are_sets;
@@ -20,7 +20,7 @@ fn pointer_bit(lo: &TriByte, hi: &TriByte, i: u8) -> Tri
 // The words of so many bits, or that they are too many.
 fn words_of(lo: &TriByte, hi: &TriByte, width: u8) -> Result<Targets, TooMany>
     requires { width ≤ 14 }
-    ensures { Keeps result (numbers_of (numbers.pointer_bit lo.now hi.now) width) }
+    ensures { KeepsTargets result (numbers_of (numbers.pointer_bit lo.now hi.now) width) }
 {
     bytes_are_sets();
     let mut words = Targets::zero();

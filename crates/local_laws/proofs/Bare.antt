@@ -3,7 +3,7 @@ use Rattle.std.proofs.Common.{◌≡◌, ◌^◌, ◌<◌, ◌≤◌, Bool}
 use Rattle.avr_model.specs.Devices.{ramend}
 use Rattle.avr_model.specs.Image.{WORDS}
 use Rattle.avr_model.specs.State.{State, SIZE}
-use Rattle.sp_domain.specs.Tags.{Origin, HasBytes}
+use Rattle.sp_domain.specs.Tags.{Origin, HasByteNumbers}
 use Rattle.pair_domain.specs.Facts.{is_followed}
 use Rattle.abs_state.specs.declared.state.AbsState.{AbsState}
 use Rattle.abs_state.specs.Formed.{IsFormed, IsUntagged, TagsFit}
@@ -25,7 +25,7 @@ pub record IsBare (k : NodeKey) (s : AbsState) : Type 0 where
   pub pick : PickFits k.pick
   pub formed : IsFormed s (offset_of k.sp)
   pub tags : TagsFit s
-  pub carry_bytes : HasBytes s.flags.carry
+  pub carry_bytes : HasByteNumbers s.flags.carry
   pub untagged : k.inst.kind ≡ Root → IsUntagged s
 
 pub record InBareFrame (m : State) (o : Origin) (k : NodeKey) (s : AbsState) : Type 0 where

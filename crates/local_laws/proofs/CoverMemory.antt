@@ -39,7 +39,7 @@ use Rattle.local_rules.specs.Writes.{written_at, pointer_write}
 use Rattle.local_rules.specs.Local.{step_before, pointer_moved, loading, load_row, bit_row}
 use Rattle.local_rules.specs.Cover.{stays}
 use Rattle.local_laws.proofs.Bare.{InBareFrame}
-use Rattle.local_laws.proofs.Landing.{Follows}
+use Rattle.local_laws.proofs.Landing.{FollowsWhere}
 use Rattle.local_rules.specs.Machine.{AreWords}
 use Rattle.local_laws.proofs.Alu.{register_byte}
 use Rattle.local_laws.proofs.EffectSizes.{byte_at_small, flash_small}
@@ -50,8 +50,8 @@ use Rattle.local_laws.proofs.FlowRows.{not_may, further_is, goes_further, skip_c
 use Rattle.local_laws.proofs.CoverRows.{NamesAddress, RowIsCovered}
 use Rattle.local_laws.proofs.ReadValues.{known_stands, read_stands}
 use Rattle.local_laws.proofs.PointerReads.{IsRead, pair_small, pair_constant_is, pointed_stands, pointer_stands, z_moved}
-use Rattle.local_laws.proofs.SplitMembers.{AreWritten}
-use Rattle.local_laws.proofs.WriteValues.{stored, Reaches, written}
+use Rattle.local_laws.proofs.SplitMembers.{AreSplitsWritten}
+use Rattle.local_laws.proofs.WriteValues.{stored, ReachesNode, written}
 use Rattle.local_laws.proofs.PointerWrites.{pointer_written}
 
 -- ---- registers that are set
@@ -131,7 +131,7 @@ module _ (words : List ℕ) (A : List Entry) (m : State) (o : Origin) (k : NodeK
 
   setting_covered : (writes : List Write) (registers : List AbsByte) → RegistersStand o registers (with_registers m.registers writes)
       → LessHolds (with_registers m.registers writes) s.flags.carry (flag m.sreg 0)
-      → Follows m o s.facts k (not scratch) b1 b2 (setting m writes m.sreg) (node_setting m.device k s registers s.flags)
+      → FollowsWhere m o s.facts k (not scratch) b1 b2 (setting m writes m.sreg) (node_setting m.device k s registers s.flags)
   setting_covered writes registers stand less = sets m o k s at (not scratch) b1 b2 writes m.sreg registers s.flags refl stand at.stands.flags less
 
   -- a register is set after others
@@ -144,18 +144,18 @@ module _ (words : List ℕ) (A : List Entry) (m : State) (o : Origin) (k : NodeK
   loading_covered : (writes : List Write) (registers : List AbsByte) (d x : ℕ) (v : Option AbsByte) → length registers ≡ 32
       → RegistersStand o registers (with_registers m.registers writes) → LessHolds (with_registers m.registers writes) s.flags.carry (flag m.sreg 0)
       → Spares s.flags.carry d → IsRead o v x
-      → Follows m o s.facts k (not scratch) b1 b2 (setting m (writes ++ set d x) m.sreg) (loading m.device k s registers d v)
+      → FollowsWhere m o s.facts k (not scratch) b1 b2 (setting m (writes ++ set d x) m.sreg) (loading m.device k s registers d v)
   loading_covered writes registers d x None count stand less spare h = absurd h
   loading_covered writes registers d x (Some v) count stand less spare h =
       setting_covered (writes ++ set d x) (slice_set registers d v) (after_set writes registers d x v count stand h)
       (subst (λ (xs : List ℕ). LessHolds xs s.flags.carry (flag m.sreg 0)) (added m.registers writes d x)
       (less_set (with_registers m.registers writes) s.flags.carry (flag m.sreg 0) d x spare less))
 
-  one_covered : (d x : ℕ) (v : AbsByte) → ByteStands o v x → Spares s.flags.carry d → Follows m o s.facts k (not scratch) b1 b2 (setting m (set d x) m.sreg) (node_setting m.device k s (node_set s d v) s.flags)
+  one_covered : (d x : ℕ) (v : AbsByte) → ByteStands o v x → Spares s.flags.carry d → FollowsWhere m o s.facts k (not scratch) b1 b2 (setting m (set d x) m.sreg) (node_setting m.device k s (node_set s d v) s.flags)
   one_covered d x v h spare =
       setting_covered (set d x) (node_set s d v) (set_one m o k s at d v x h) (less_set m.registers s.flags.carry (flag m.sreg 0) d x spare at.stands.less)
 
-  lds_covered : (d a : ℕ) → b1 < 256 → Spares s.flags.carry d → Follows m o s.facts k (not scratch) b1 b2 (record (setting m (set d (read m a b1)) m.sreg) { pc = further m 2 })
+  lds_covered : (d a : ℕ) → b1 < 256 → Spares s.flags.carry d → FollowsWhere m o s.facts k (not scratch) b1 b2 (record (setting m (set d (read m a b1)) m.sreg) { pc = further m 2 })
       (node_going_to k (record s { registers = node_set s d (read_at m.device k s a) }) (node_further m.device k 2))
   lds_covered d a small spare =
       only m o k s at (not scratch) b1 b2 (record (setting m (set d (read m a b1)) m.sreg) { pc = further m 2 })
@@ -166,7 +166,7 @@ module _ (words : List ℕ) (A : List Entry) (m : State) (o : Origin) (k : NodeK
       (less_set m.registers s.flags.carry (flag m.sreg 0) d (read m a b1) spare at.stands.less) (λ held. held))
 
   load_covered : (d : ℕ) (p : Pointer) → b1 < 256 → SparesAll s.flags.carry (d ∷ moved_pair p)
-      → Follows m o s.facts k (not scratch) b1 b2
+      → FollowsWhere m o s.facts k (not scratch) b1 b2
       (setting m (moved p (pair m (pointer_register p)) ++ set d (read m (address_of p (pair m (pointer_register p))) b1)) m.sreg) (load_row m.device k s d p)
   load_covered d p small spares =
       loading_covered (moved p (pair m (pointer_register p))) (pointer_moved p s) d (read m (address_of p (pair m (pointer_register p))) b1)
@@ -185,24 +185,24 @@ module _ (words : List ℕ) (A : List Entry) (m : State) (o : Origin) (k : NodeK
   abbrev on_next : ℕ
   on_next = wrapped m.device (further m 1)
 
-  follows : (e : Effect) (r : Raw) → Reaches m o s.facts k (not scratch) e r → Follows m o s.facts k (not scratch) b1 b2 e r
+  follows : (e : Effect) (r : Raw) → ReachesNode m o s.facts k (not scratch) e r → FollowsWhere m o s.facts k (not scratch) b1 b2 e r
   follows e r h = record { leads = λ held. stays h.to h.present h.inst (h.at_node.lands held) }
 
-  module _ (members : AreWritten) where
+  module _ (members : AreSplitsWritten) where
     known_covered : (pc n : ℕ) → pc ≡ node_further m.device k n → (is_out : Bool) (a byte : ℕ) (v : AbsByte) → byte < 256 → ByteStands o v byte
         → (written_at m.device k.pc (at_word k (node_further m.device k n)) s is_out a v).faults ≡ []
-        → Follows m o s.facts k (not scratch) b1 b2 (stored m pc [] is_out a byte) (written_at m.device k.pc (at_word k (node_further m.device k n)) s is_out a v)
+        → FollowsWhere m o s.facts k (not scratch) b1 b2 (stored m pc [] is_out a byte) (written_at m.device k.pc (at_word k (node_further m.device k n)) s is_out a v)
     known_covered pc n pc_is is_out a byte v small stands clean =
         follows (stored m pc [] is_out a byte) (written_at m.device k.pc (at_word k (node_further m.device k n)) s is_out a v)
         (written m o k s at (not scratch) pc (node_further m.device k n) pc_is [] s.registers at.stands.registers at.stands.less s.facts at.node.formed.facts is_out byte small v stands
         at.node.formed.count_registers at.machine.count_registers members a clean)
 
     register_covered : (pc n : ℕ) → pc ≡ node_further m.device k n → (is_out : Bool) (a r : ℕ) → (written_at m.device k.pc (at_word k (node_further m.device k n)) s is_out a (value s r)).faults ≡ []
-        → Follows m o s.facts k (not scratch) b1 b2 (stored m pc [] is_out a (register m r)) (written_at m.device k.pc (at_word k (node_further m.device k n)) s is_out a (value s r))
+        → FollowsWhere m o s.facts k (not scratch) b1 b2 (stored m pc [] is_out a (register m r)) (written_at m.device k.pc (at_word k (node_further m.device k n)) s is_out a (value s r))
     register_covered pc n pc_is is_out a r clean = known_covered pc n pc_is is_out a (register m r) (value s r) (register_byte m o k s at r) (register_stands m o k s at r) clean
 
     bit_covered : (a b : ℕ) (on : Bool) → (bit_row m.device k s a b on).faults ≡ []
-        → Follows m o s.facts k (not scratch) b1 b2 (stored m on_next [] false a (with_bit (read m a 0) b on)) (bit_row m.device k s a b on)
+        → FollowsWhere m o s.facts k (not scratch) b1 b2 (stored m on_next [] false a (with_bit (read m a 0) b on)) (bit_row m.device k s a b on)
     bit_covered a b on clean =
         known_covered on_next 1 (goes_further m o k s at (not scratch) b1 b2 1) false a (with_bit (read m a 0) b on) (untagged (byte_with (read_at m.device k s a).bits b (if on then One else Zero))) (with_bit_small (read m a 0) b on)
         (bits_make_values.stands o tag.None (byte_with (read_at m.device k s a).bits b (if on then One else Zero)) (with_bit (read m a 0) b on) (with_bit_small (read m a 0) b on) tt
@@ -211,7 +211,7 @@ module _ (words : List ℕ) (A : List Entry) (m : State) (o : Origin) (k : NodeK
     std_covered : (r up t : ℕ)
         → (is_fixed_site words A k.pc ≡ false → unlisted (store_line A k.pc) (set (plus16 (pair m r) up) (register m t)) ≡ None)
         → (pointer_write m.device words A s r up (pointed s r up) k.pc (next m.device k) s (value s t)).faults ≡ []
-        → Follows m o s.facts k (not scratch) b1 b2 (stored m on_next [] false (plus16 (pair m r) up) (register m t))
+        → FollowsWhere m o s.facts k (not scratch) b1 b2 (stored m on_next [] false (plus16 (pair m r) up) (register m t))
         (pointer_write m.device words A s r up (pointed s r up) k.pc (next m.device k) s (value s t))
     std_covered r up t unflagged clean =
         follows (stored m on_next [] false (plus16 (pair m r) up) (register m t)) (pointer_write m.device words A s r up (pointed s r up) k.pc (next m.device k) s (value s t))
@@ -224,7 +224,7 @@ module _ (words : List ℕ) (A : List Entry) (m : State) (o : Origin) (k : NodeK
         → protected_write words A m.pc (i.St p t) (effect_of words m (i.St p t) b1 b2) ≡ None
         → (pointer_write m.device words A s (pointer_register p) (step_before p) (pointed s (pointer_register p) (step_before p)) k.pc (next m.device k)
         (record s { registers = registers; facts = told }) (value s t)).faults ≡ []
-        → Follows m o told k (not scratch) b1 b2 (effect_of words m (i.St p t) b1 b2)
+        → FollowsWhere m o told k (not scratch) b1 b2 (effect_of words m (i.St p t) b1 b2)
         (pointer_write m.device words A s (pointer_register p) (step_before p) (pointed s (pointer_register p) (step_before p)) k.pc (next m.device k)
         (record s { registers = registers; facts = told }) (value s t))
     st_covered p t registers told spares count fits stand unflagged clean =
@@ -235,12 +235,12 @@ module _ (words : List ℕ) (A : List Entry) (m : State) (o : Origin) (k : NodeK
         let is = address_is p (pair m (pointer_register p)) (pair_small m o k s at (pointer_register p)) in
         let free = site_unflagged words A (set (address_of p (pair m (pointer_register p))) (register m t)) m.pc k.pc at.place.pc
         (st_unflagged words A m.pc p t (effect_of words m (i.St p t) b1 b2) unflagged) in
-        let reaches : Reaches m o told k (not scratch) (stored m on_next writes false (plus16 (pair m (pointer_register p)) (step_before p)) (register m t)) row =
+        let reaches : ReachesNode m o told k (not scratch) (stored m on_next writes false (plus16 (pair m (pointer_register p)) (step_before p)) (register m t)) row =
         pointer_written m o k s at (not scratch) on_next (node_further m.device k 1) (goes_further m o k s at (not scratch) b1 b2 1) writes registers stand
         (less_moved m.registers s.flags.carry (flag m.sreg 0) p (pair m (pointer_register p)) spares at.stands.less) told fits (register m t) (register_byte m o k s at t) (value s t)
         (register_stands m o k s at t) count (count_set m.registers writes ∙ at.machine.count_registers) members words A (pointer_register p) (step_before p)
         (subst (λ a. is_fixed_site words A k.pc ≡ false → unlisted (store_line A k.pc) (set a (register m t)) ≡ None) (sym is) free) clean in
-        subst (λ a. Follows m o told k (not scratch) b1 b2 (stored m on_next writes false a (register m t)) row) is
+        subst (λ a. FollowsWhere m o told k (not scratch) b1 b2 (stored m on_next writes false a (register m t)) row) is
         (record { leads = λ held. stays reaches.to reaches.present reaches.inst (reaches.at_node.lands held) })
 
   -- ---- the rows
@@ -249,7 +249,7 @@ module _ (words : List ℕ) (A : List Entry) (m : State) (o : Origin) (k : NodeK
   bit_may small a b = permits_flag (read_at m.device k s a).bits (read m a b1) b (read_stands m o k s at a b1 small).bits
 
   -- each row that names an address is covered
-  pub addressed_covered : AreWritten → AreWords words → b1 < 256 → (instr : Instr) → SparesAll s.flags.carry (registers_of instr) → NamesAddress instr → RowIsCovered m o k s at b1 b2 words A scratch instr
+  pub addressed_covered : AreSplitsWritten → AreWords words → b1 < 256 → (instr : Instr) → SparesAll s.flags.carry (registers_of instr) → NamesAddress instr → RowIsCovered m o k s at b1 b2 words A scratch instr
   addressed_covered members are small (i.Ldd d b q) spares is clean unflagged =
       loading_covered [] s.registers d _ _ at.node.formed.count_registers at.stands.registers at.stands.less spares.0 (pointed_stands m o k s at (base_register b) q b1 small)
   addressed_covered members are small (i.Std b q r) spares is clean unflagged = std_covered members (base_register b) q r

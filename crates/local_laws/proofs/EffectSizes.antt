@@ -31,7 +31,7 @@ use Rattle.local_rules.specs.Machine.{IsMachine, AreWords}
 use Rattle.local_laws.proofs.Bytes.{below_in_list, byte_in_list}
 use Rattle.local_laws.proofs.Bits.{with_bit_small, with_flags_small, with_carry_and_zero_small}
 use Rattle.local_laws.proofs.Memory.{AreByteWrites}
-use Rattle.local_laws.proofs.Sized.{IsSized}
+use Rattle.local_laws.proofs.Sized.{IsInstrSized}
 use Rattle.local_laws.proofs.Machine.{IsEffect, read_small}
 
 -- ---- numbers
@@ -162,7 +162,7 @@ module _ (m : State) (h : IsMachine m) where
 
   module _ (words : List ℕ) (are : AreWords words) (b1 b2 : ℕ) (small1 : b1 < 256) (small2 : b2 < 256) where
     -- every row's effect fits
-    pub row_fits : (instr : Instr) → IsSized instr → IsEffect m.device (effect_of words m instr b1 b2)
+    pub row_fits : (instr : Instr) → IsInstrSized instr → IsEffect m.device (effect_of words m instr b1 b2)
     row_fits i.Nop sized = goes _
     row_fits (i.Movw d r) sized = sets _ _ (pair_writes (2 * d) (pair m (2 * r)) (omega (arith, byte (2 * r), byte (2 * r + 1)))) h.sreg_byte
     row_fits (i.Muls d r) sized = multiplies product.Muls (register m d) (register m r) (byte d) (byte r)

@@ -76,11 +76,11 @@ further_small : (device : Device) (k : NodeKey) (n : ℕ) → further device k n
 further_small device k n = devices_are_alike.inside device (k.pc + n)
 
 -- words of flash, which ascend with an assumption list that may be one
-record AreTargets (device : Device) (A : List Entry) (targets : List ℕ) : Type 0 where
+record AreTargetWords (device : Device) (A : List Entry) (targets : List ℕ) : Type 0 where
   small : (z : ℕ) → Contains targets z → z < words_of device
   ascending : AreEntries A → Ascends targets
 
-calls_fit : (device : Device) (A : List Entry) (k : NodeKey) (back : ℕ) (targets : List ℕ) → back < words_of device → AreTargets device A targets → IsFit device A k (calling k back targets)
+calls_fit : (device : Device) (A : List Entry) (k : NodeKey) (back : ℕ) (targets : List ℕ) → back < words_of device → AreTargetWords device A targets → IsFit device A k (calling k back targets)
 calls_fit device A k back targets low are =
     untracked_fits A k (is_half_written k.sp) k.pc (enters (map (λ t. site t back) targets)) record {
       words = record {
@@ -96,7 +96,7 @@ one_call device A k back target low small = calls_fit device A k back (target �
   ascending = λ entries. one_ascends target;
 }
 
-indirect_fits : (device : Device) (A : List Entry) (k : NodeKey) (o : Option (List ℕ)) → ((targets : List ℕ) → o ≡ Some targets → AreTargets device A targets) → IsFit device A k (indirect_call device o k)
+indirect_fits : (device : Device) (A : List Entry) (k : NodeKey) (o : Option (List ℕ)) → ((targets : List ℕ) → o ≡ Some targets → AreTargetWords device A targets) → IsFit device A k (indirect_call device o k)
 indirect_fits device A k None are = untracked_fits A k (is_half_written k.sp) k.pc (fails (UnresolvedJump k.pc)) (quiet_fits A k (fails (UnresolvedJump k.pc)) (refl, refl))
 indirect_fits device A k (Some targets) are = calls_fit device A k (further device k 1) targets (further_small device k 1) (are targets refl)
 
@@ -128,7 +128,7 @@ return_fits device A k x masks = at k.sp refl
 -- ---- the table
 
 module _ (device : Device) (words : List ℕ) (A : List Entry) (k : NodeKey) (s : AbsState) where
-  all_words : (targets : List ℕ) → targets_at device A k s ≡ Some targets → AreTargets device A targets
+  all_words : (targets : List ℕ) → targets_at device A k s ≡ Some targets → AreTargetWords device A targets
   all_words targets e =
       let f = pointer_bit (bits s 30) (bits s 31) in
       record {

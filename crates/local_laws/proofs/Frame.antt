@@ -36,7 +36,7 @@ use Rattle.local_rules.specs.Registers.{value}
 use Rattle.local_rules.specs.Machine.{floor_of}
 use Rattle.local_rules.specs.Cover.{stays}
 use Rattle.local_laws.proofs.Bare.{InBareFrame}
-use Rattle.local_laws.proofs.Landing.{Held, ArrivesAt, Follows}
+use Rattle.local_laws.proofs.Landing.{HeldAt, ArrivesWhere, FollowsWhere}
 use Rattle.local_laws.proofs.Bytes.{byte_in_list}
 
 pub second : {A : Type 0} (x y : A) (xs : List A) → Contains (x ∷ y ∷ xs) y
@@ -111,8 +111,8 @@ module _ (m : State) (o : Origin) (k : NodeKey) (s : AbsState) (at : InBareFrame
       → RegistersStand o to.state.registers (registers_after (with_registers m.registers e.registers) e.stores)
       → FlagsStand o to.state.flags (sreg_after e.sreg e.stores)
       → LessHolds (registers_after (with_registers m.registers e.registers) e.stores) to.state.flags.carry (flag (sreg_after e.sreg e.stores) 0)
-      → (Held m told e → HoldsAt to.state.facts (registers_after (with_registers m.registers e.registers) e.stores) (sreg_after e.sreg e.stores))
-      → ArrivesAt m o told guarded e to
+      → (HeldAt m told e → HoldsAt to.state.facts (registers_after (with_registers m.registers e.registers) e.stores) (sreg_after e.sreg e.stores))
+      → ArrivesWhere m o told guarded e to
   frame_kept told guarded e to pushes sp slots sp_is open_is pc enables i delay registers flags less facts =
       record {
         lands = λ held. record {
@@ -140,37 +140,37 @@ module _ (m : State) (o : Origin) (k : NodeKey) (s : AbsState) (at : InBareFrame
       → RegistersStand o to.state.registers (registers_after (with_registers m.registers e.registers) e.stores)
       → FlagsStand o to.state.flags (sreg_after e.sreg e.stores)
       → LessHolds (registers_after (with_registers m.registers e.registers) e.stores) to.state.flags.carry (flag (sreg_after e.sreg e.stores) 0)
-      → (Held m s.facts e → HoldsAt to.state.facts (registers_after (with_registers m.registers e.registers) e.stores) (sreg_after e.sreg e.stores))
-      → ArrivesAt m o s.facts guarded e to
+      → (HeldAt m s.facts e → HoldsAt to.state.facts (registers_after (with_registers m.registers e.registers) e.stores) (sreg_after e.sreg e.stores))
+      → ArrivesWhere m o s.facts guarded e to
   same_frame = frame_kept s.facts
 
   -- the only successor
-  pub only : (guarded : Bool) (b1 b2 : ℕ) (e : Effect) (to : Node) → to.key.inst ≡ k.inst → ArrivesAt m o s.facts guarded e to
-      → Follows m o s.facts k guarded b1 b2 e (moves_to (to ∷ []))
+  pub only : (guarded : Bool) (b1 b2 : ℕ) (e : Effect) (to : Node) → to.key.inst ≡ k.inst → ArrivesWhere m o s.facts guarded e to
+      → FollowsWhere m o s.facts k guarded b1 b2 e (moves_to (to ∷ []))
   only guarded b1 b2 e to inst at_node = record { leads = λ held. stays to (first_in to []) inst (at_node.lands held) }
 
   -- a row that sets registers and flags and goes on
   pub sets : (guarded : Bool) (b1 b2 : ℕ) (writes : List Write) (sreg : ℕ) (registers : List AbsByte) (flags : AbsFlags) → flag sreg 7 ≡ flag m.sreg 7
       → RegistersStand o registers (with_registers m.registers writes) → FlagsStand o flags sreg
       → LessHolds (with_registers m.registers writes) flags.carry (flag sreg 0)
-      → Follows m o s.facts k guarded b1 b2 (setting m writes sreg) (node_setting m.device k s registers flags)
+      → FollowsWhere m o s.facts k guarded b1 b2 (setting m writes sreg) (node_setting m.device k s registers flags)
   sets guarded b1 b2 writes sreg registers flags i h g less =
       only guarded b1 b2 _ _ refl
       (same_frame guarded (setting m writes sreg) (record { key = next m.device k; state = record s { registers = registers; flags = flags } }) refl refl refl refl refl next_is at.place.enables (i ∙ at.place.i) refl h g less (λ held. held))
 
   -- a row that goes to a word, modulo the number of words, and changes nothing else
-  pub goes_to : (guarded : Bool) (pc pc' : ℕ) → wrapped m.device pc ≡ pc' → ArrivesAt m o s.facts guarded (going_to m pc) (record { key = at_word k pc'; state = s })
+  pub goes_to : (guarded : Bool) (pc pc' : ℕ) → wrapped m.device pc ≡ pc' → ArrivesWhere m o s.facts guarded (going_to m pc) (record { key = at_word k pc'; state = s })
   goes_to guarded pc pc' is =
       same_frame guarded (going_to m pc) (record { key = at_word k pc'; state = s }) refl refl refl refl refl is at.place.enables at.place.i refl at.stands.registers at.stands.flags at.stands.less (λ held. held)
 
   -- the same off a jump table
-  pub turns_to : (guarded : Bool) (pc pc' : ℕ) → wrapped m.device pc ≡ pc' → ArrivesAt m o s.facts guarded (going_to m pc) (record { key = off_table k pc'; state = s })
+  pub turns_to : (guarded : Bool) (pc pc' : ℕ) → wrapped m.device pc ≡ pc' → ArrivesWhere m o s.facts guarded (going_to m pc) (record { key = off_table k pc'; state = s })
   turns_to guarded pc pc' is =
       same_frame guarded (going_to m pc) (record { key = off_table k pc'; state = s }) refl refl refl refl refl is at.place.enables at.place.i refl at.stands.registers at.stands.flags at.stands.less (λ held. held)
 
   -- the same where some registers' ranges are cut
   pub goes_cut : (guarded : Bool) (pc pc' : ℕ) (values : List AbsByte) → wrapped m.device pc ≡ pc' → RegistersStand o values m.registers
-      → ArrivesAt m o s.facts guarded (going_to m pc) (record { key = off_table k pc'; state = record s { registers = values } })
+      → ArrivesWhere m o s.facts guarded (going_to m pc) (record { key = off_table k pc'; state = record s { registers = values } })
   goes_cut guarded pc pc' values is stand =
       same_frame guarded (going_to m pc) (record { key = off_table k pc'; state = record s { registers = values } }) refl refl refl refl refl is at.place.enables at.place.i refl stand
       at.stands.flags at.stands.less (λ held. held)

@@ -20,7 +20,7 @@ use Rattle.mask_states.specs.Keys.{offset_of}
 use Rattle.local_rules.specs.Registers.{value, bits, carry_bit, borrow_tag, going_with}
 use Rattle.local_rules.specs.FrameLines.{followed, added, more_tag, sum_tag, high_more_tag, less_tag, tag_followed, number_added, framed_add, framed_adc, framed_sub, framed_step}
 use Rattle.local_rules.specs.Local.{immediate_row, unary_row}
-use Rattle.local_laws.proofs.MonotoneValues.{IsStateLess, Tells, any_bit_within, constant_is, constant_tells}
+use Rattle.local_laws.proofs.MonotoneValues.{IsStateLess, IsSameWhere, any_bit_within, constant_is, constant_tells}
 use Rattle.local_laws.proofs.MonotoneRaw.{LeadsLess}
 use Rattle.local_laws.proofs.MonotoneAlu.{reg, reg_bits, flag_bits, borrow_bytes, no_borrow, borrow_names, borrow_within, number_tells, number_small, sum_tagged_less, difference_less, step_tagged_less, immediate_less, unary_less}
 use Rattle.local_laws.proofs.FrameTags.{high_moved_of, more_of, less_of, high_of_sum, sum_bytes, no_sum, sum_names, more_within, less_within, sum_within, high_within}
@@ -29,7 +29,7 @@ module _ (device : Device) (k : NodeKey) (at : IsKey k) (s t : AbsState) (le : I
   abbrev kind : Kind
   kind = k.inst.kind
 
-  added_tells : (d r : ℕ) → Tells (number_added s d r) (number_added t d r)
+  added_tells : (d r : ℕ) → IsSameWhere (number_added s d r) (number_added t d r)
   added_tells d r = constant_tells (bits s (added d r)) (bits t (added d r)) (reg_bits device k at s t le (added d r))
 
   pub add_less : (d r : ℕ) → LeadsLess k.inst (going_with device k s (framed_add s d r)) (going_with device k t (framed_add t d r))
@@ -56,7 +56,7 @@ module _ (device : Device) (k : NodeKey) (at : IsKey k) (s t : AbsState) (le : I
       (high_within (tag_followed s d r) (tag_followed t d r) (number_added s d r) (number_added t d r) s.flags.carry t.flags.carry v.within.tag (added_tells d r) le.flags.within.carry)
       tt tt (λ root. tt) tt
 
-  pub framed_sub_less : (d : ℕ) (b b' : TriByte) (f g : Option ℕ) → IsWithin b b' → Tells f g → ((n : ℕ) → f ≡ Some n → n < 256)
+  pub framed_sub_less : (d : ℕ) (b b' : TriByte) (f g : Option ℕ) → IsWithin b b' → IsSameWhere f g → ((n : ℕ) → f ≡ Some n → n < 256)
       → LeadsLess k.inst (going_with device k s (framed_sub s d b f)) (going_with device k t (framed_sub t d b' g))
   framed_sub_less d b b' f g under tells small =
       let v = reg device k at s t le d in

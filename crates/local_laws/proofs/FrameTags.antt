@@ -4,12 +4,12 @@ use Rattle.sp_domain.specs.declared.tags.Tag.{Tag}
 use Rattle.sp_domain.specs.declared.tags.Tag.TheVariants as tag
 use Rattle.sp_domain.specs.declared.tags.CarryTag.{CarryTag}
 use Rattle.sp_domain.specs.declared.tags.CarryTag.TheVariants as carry
-use Rattle.sp_domain.specs.Tags.{HasBytes, IsTagWithin, IsCarryWithin, high_of, high_moved, byte_more, byte_less, carry_of, high_more}
+use Rattle.sp_domain.specs.Tags.{HasByteNumbers, IsTagWithin, IsCarryWithin, high_of, high_moved, byte_more, byte_less, carry_of, high_more}
 use Rattle.sp_domain.proofs.AllLaws.{tag_arithmetic_is_monotone}
 use Rattle.abs_state.specs.Formed.{CarryNamesRegister, CarryIsUntagged}
 use Rattle.mask_states.specs.declared.keys.Kind.{Kind}
 use Rattle.local_rules.specs.FrameLines.{more_tag, sum_tag, high_more_tag, less_tag}
-use Rattle.local_laws.proofs.MonotoneValues.{IsTagOf, Tells, none_of, if_tag_of}
+use Rattle.local_laws.proofs.MonotoneValues.{IsTagOf, IsSameWhere, none_of, if_tag_of}
 
 -- ---- of a node
 
@@ -59,7 +59,7 @@ pub high_of_sum : (kind : Kind) (t : Tag) (f : Option ℕ) (c : CarryTag) → Is
 high_of_sum kind t None c g = none_of kind
 high_of_sum kind t (Some n) c g = high_more_of kind t n c g
 
-pub sum_bytes : (kind : Kind) (t : Tag) (f : Option ℕ) → IsTagOf kind t → ((n : ℕ) → f ≡ Some n → n < 256) → HasBytes (sum_tag t f)
+pub sum_bytes : (kind : Kind) (t : Tag) (f : Option ℕ) → IsTagOf kind t → ((n : ℕ) → f ≡ Some n → n < 256) → HasByteNumbers (sum_tag t f)
 sum_bytes kind t None g small = tt
 sum_bytes kind tag.None (Some l) g small = tt
 sum_bytes kind (tag.Entry r) (Some l) g small = tt
@@ -81,22 +81,22 @@ sum_names (tag.SpHi k) (Some l) = tt
 
 -- ---- a greater state says less
 
-pub more_within : (t u : Tag) (f g : Option ℕ) → IsTagWithin t u → Tells f g → IsTagWithin (more_tag t f) (more_tag u g)
+pub more_within : (t u : Tag) (f g : Option ℕ) → IsTagWithin t u → IsSameWhere f g → IsTagWithin (more_tag t f) (more_tag u g)
 more_within t u f None le tells = tt
 more_within t u f (Some n) le tells =
     subst (λ (x : Option ℕ). IsTagWithin (more_tag t x) (more_tag u (Some n))) (sym (tells n refl)) (tag_arithmetic_is_monotone.byte_more t u n le)
 
-pub less_within : (t u : Tag) (f g : Option ℕ) → IsTagWithin t u → Tells f g → IsTagWithin (less_tag t f) (less_tag u g)
+pub less_within : (t u : Tag) (f g : Option ℕ) → IsTagWithin t u → IsSameWhere f g → IsTagWithin (less_tag t f) (less_tag u g)
 less_within t u f None le tells = tt
 less_within t u f (Some n) le tells =
     subst (λ (x : Option ℕ). IsTagWithin (less_tag t x) (less_tag u (Some n))) (sym (tells n refl)) (tag_arithmetic_is_monotone.byte_less t u n le)
 
-pub sum_within : (t u : Tag) (f g : Option ℕ) → IsTagWithin t u → Tells f g → IsCarryWithin (sum_tag t f) (sum_tag u g)
+pub sum_within : (t u : Tag) (f g : Option ℕ) → IsTagWithin t u → IsSameWhere f g → IsCarryWithin (sum_tag t f) (sum_tag u g)
 sum_within t u f None le tells = tt
 sum_within t u f (Some n) le tells =
     subst (λ (x : Option ℕ). IsCarryWithin (sum_tag t x) (sum_tag u (Some n))) (sym (tells n refl)) (tag_arithmetic_is_monotone.carry t u n le)
 
-pub high_within : (t u : Tag) (f g : Option ℕ) (c d : CarryTag) → IsTagWithin t u → Tells f g → IsCarryWithin c d → IsTagWithin (high_more_tag t f c) (high_more_tag u g d)
+pub high_within : (t u : Tag) (f g : Option ℕ) (c d : CarryTag) → IsTagWithin t u → IsSameWhere f g → IsCarryWithin c d → IsTagWithin (high_more_tag t f c) (high_more_tag u g d)
 high_within t u f None c d le tells over = tt
 high_within t u f (Some n) c d le tells over =
     subst (λ (x : Option ℕ). IsTagWithin (high_more_tag t x c) (high_more_tag u (Some n) d)) (sym (tells n refl)) (tag_arithmetic_is_monotone.high_more t u n c d le over)

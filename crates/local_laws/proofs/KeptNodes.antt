@@ -41,12 +41,12 @@ use Rattle.local_laws.proofs.Members.{each_of, each_in_map}
 use Rattle.local_laws.proofs.MonotoneValues.{set_other}
 
 -- it follows pairs or doesn't, and its intervals lie in their hulls
-pub record IsKept (followed : Bool) (t : AbsState) : Type 0 where
+pub record IsModeKept (followed : Bool) (t : AbsState) : Type 0 where
   pub mode : is_followed t.facts ≡ followed
   pub hulls : IsInHulls t
 
 -- without facts there is nothing to say
-pub none_kept : (t : AbsState) → t.facts ≡ None → IsKept false t
+pub none_kept : (t : AbsState) → t.facts ≡ None → IsModeKept false t
 none_kept t e = record { mode = ap is_followed e; hulls = subst (AreInHulls t.registers) (sym e) tt }
 
 -- ---- writes
@@ -59,14 +59,14 @@ ended_in written flags carry registers none (Some f) h = λ n lt.
     (sym (ended_at written f.intervals n ∙ ap (λ (b : Bool). if b then whole else interval_at f.intervals n) (none (2 * n)))) (h n lt)
 
 module _ (followed : Bool) where
-  pub forgetting_kept : (flags carry : Bool) (s : AbsState) → IsKept followed s → IsKept followed (forgetting [] flags carry s)
+  pub forgetting_kept : (flags carry : Bool) (s : AbsState) → IsModeKept followed s → IsModeKept followed (forgetting [] flags carry s)
   forgetting_kept flags carry s h =
       record {
         mode = writes_end_facts.followed (is_one_of []) flags carry s.facts ∙ h.mode;
         hulls = ended_in (is_one_of []) flags carry s.registers (λ n. refl) s.facts h.hulls;
       }
 
-  flags_kept : (s : AbsState) (f : AbsFlags) → IsKept followed s → IsKept followed (put_flags s f)
+  flags_kept : (s : AbsState) (f : AbsFlags) → IsModeKept followed s → IsModeKept followed (put_flags s f)
   flags_kept s f h =
       record {
         mode = writes_end_facts.followed (λ r. false) true true s.facts ∙ h.mode;
@@ -112,7 +112,7 @@ module _ (followed : Bool) where
           ap₂ (λ (v u : AbsByte). hull (set_of v) (set_of u)) (sym lo) (sym hi) in
           subst₂ IsIntervalWithin (sym (elsewhere n ne ∙ was)) same (h n lt)
 
-  register_kept : (s : AbsState) (a : ℕ) (v : AbsByte) → a < 32 → HasSixteen s.facts → IsKept followed s → IsKept followed (register_written s a v)
+  register_kept : (s : AbsState) (a : ℕ) (v : AbsByte) → a < 32 → HasSixteen s.facts → IsModeKept followed s → IsModeKept followed (register_written s a v)
   register_kept s a v small sixteen h =
       record {
         mode =
@@ -125,16 +125,16 @@ module _ (followed : Bool) where
   -- ---- moves
 
   abbrev pub AllKept : Raw → Type 0
-  AllKept r = (to : Node) → Contains r.moves to → IsKept followed to.state
+  AllKept r = (to : Node) → Contains r.moves to → IsModeKept followed to.state
 
   pub kept_none : AllKept nowhere
   kept_none to h = absurd (none_in to h)
 
-  pub kept_one : (k : NodeKey) (s : AbsState) → IsKept followed s → AllKept (one k s)
-  kept_one k s h = each_of (λ (n : Node). IsKept followed n.state) (record { key = k; state = s }) [] h (λ n j. absurd (none_in n j))
+  pub kept_one : (k : NodeKey) (s : AbsState) → IsModeKept followed s → AllKept (one k s)
+  kept_one k s h = each_of (λ (n : Node). IsModeKept followed n.state) (record { key = k; state = s }) [] h (λ n j. absurd (none_in n j))
 
-  kept_two : (j k : NodeKey) (s : AbsState) → IsKept followed s → (to : Node) → Contains (record { key = j; state = s } ∷ record { key = k; state = s } ∷ []) to → IsKept followed to.state
-  kept_two j k s h = each_of (λ (n : Node). IsKept followed n.state) (record { key = j; state = s }) (record { key = k; state = s } ∷ []) h (kept_one k s h)
+  kept_two : (j k : NodeKey) (s : AbsState) → IsModeKept followed s → (to : Node) → Contains (record { key = j; state = s } ∷ record { key = k; state = s } ∷ []) to → IsModeKept followed to.state
+  kept_two j k s h = each_of (λ (n : Node). IsModeKept followed n.state) (record { key = j; state = s }) (record { key = k; state = s } ∷ []) h (kept_one k s h)
 
   pub kept_if : (b : Bool) (p q : Raw) → (b ≡ true → AllKept p) → (b ≡ false → AllKept q) → AllKept (if b then p else q)
   kept_if true p q h g = h refl
@@ -148,31 +148,31 @@ module _ (followed : Bool) where
   kept_all f [] h to j = kept_none to j
   kept_all f (x ∷ xs) h to j = ⊎_elim (h x to) (kept_all f xs h to) (Contains-append_cases (f x).moves (all_of (map f xs)).moves to j)
 
-  pub kept_branch : (t : Tri) (k : NodeKey) (s : AbsState) (taken other : ℕ) → IsKept followed s → AllKept (branch t k s taken other)
+  pub kept_branch : (t : Tri) (k : NodeKey) (s : AbsState) (taken other : ℕ) → IsModeKept followed s → AllKept (branch t k s taken other)
   kept_branch One k s taken other h = kept_one (off_table k taken) s h
   kept_branch Zero k s taken other h = kept_one (off_table k other) s h
   kept_branch Any k s taken other h = kept_two (off_table k other) (off_table k taken) s h
 
-  pub kept_where : (k : NodeKey) (x : Option AbsState) (pc : ℕ) → ((u : AbsState) → x ≡ Some u → IsKept followed u) → AllKept (going_where k x pc)
+  pub kept_where : (k : NodeKey) (x : Option AbsState) (pc : ℕ) → ((u : AbsState) → x ≡ Some u → IsModeKept followed u) → AllKept (going_where k x pc)
   kept_where k None pc h = kept_none
   kept_where k (Some u) pc h = kept_one (off_table k pc) u (h u refl)
 
   -- ---- stores
 
-  kept_closing : (device : Device) (n : Option ℕ) (k : NodeKey) (s : AbsState) (pc : ℕ) → IsKept followed s → AllKept (closing device n k s pc)
+  kept_closing : (device : Device) (n : Option ℕ) (k : NodeKey) (s : AbsState) (pc : ℕ) → IsModeKept followed s → AllKept (closing device n k s pc)
   kept_closing device None k s pc h = kept_none
   kept_closing device (Some n) k s pc h = kept_if (nat_le n (size_of device)) _ _ (λ e. kept_one _ _ (record { mode = h.mode; hulls = h.hulls })) (λ e. kept_none)
 
-  kept_opening : (high : Option High) (k : NodeKey) (s : AbsState) (pc : ℕ) → IsKept followed s → AllKept (opening high k s pc)
+  kept_opening : (high : Option High) (k : NodeKey) (s : AbsState) (pc : ℕ) → IsModeKept followed s → AllKept (opening high k s pc)
   kept_opening None k s pc h = kept_none
   kept_opening (Some high) k s pc h = kept_one _ s h
 
-  kept_sreg : (t : Tri) (k : NodeKey) (s : AbsState) (is_out : Bool) → IsKept followed s → AllKept (sreg_written t k s is_out)
+  kept_sreg : (t : Tri) (k : NodeKey) (s : AbsState) (is_out : Bool) → IsModeKept followed s → AllKept (sreg_written t k s is_out)
   kept_sreg Zero k s is_out h = kept_one _ s h
   kept_sreg One k s is_out h = kept_one _ s h
   kept_sreg Any k s is_out h = kept_two _ _ s h
 
-  pub kept_written : (device : Device) (pc : ℕ) (k : NodeKey) (s : AbsState) (is_out : Bool) (a : ℕ) (v : AbsByte) → HasSixteen s.facts → IsKept followed s
+  pub kept_written : (device : Device) (pc : ℕ) (k : NodeKey) (s : AbsState) (is_out : Bool) (a : ℕ) (v : AbsByte) → HasSixteen s.facts → IsModeKept followed s
       → AllKept (written_at device pc k s is_out a v)
   unfolding written_at
   kept_written device pc k s is_out a v sixteen h =
@@ -180,14 +180,14 @@ module _ (followed : Bool) where
       kept_if (a == SPL) _ _ (λ e. kept_closing device (closing_offset device k.inst.kind k.sp v) k s pc h) (λ e.
       kept_if (a == SPH) _ _ (λ e. kept_opening (high_part k.inst.kind v) k s pc h) (λ e.
       kept_if (a == SREG) _ _ (λ e. kept_sreg (tri_at v.bits 7) k (put_flags s (flags_written v)) is_out (flags_kept s (flags_written v) h)) (λ e.
-      each_in_map (λ m. record { key = record k { masks = m }; state = s }) (λ (n : Node). IsKept followed n.state) (splits k.masks a v.bits) (λ m j. h)))))
+      each_in_map (λ m. record { key = record k { masks = m }; state = s }) (λ (n : Node). IsModeKept followed n.state) (splits k.masks a v.bits) (λ m j. h)))))
 
-  kept_fixed : (device : Device) (a : Option ℕ) (pc : ℕ) (k : NodeKey) (s : AbsState) (v : AbsByte) → HasSixteen s.facts → IsKept followed s → AllKept (fixed_write device a pc k s v)
+  kept_fixed : (device : Device) (a : Option ℕ) (pc : ℕ) (k : NodeKey) (s : AbsState) (v : AbsByte) → HasSixteen s.facts → IsModeKept followed s → AllKept (fixed_write device a pc k s v)
   kept_fixed device None pc k s v sixteen h = kept_none
   kept_fixed device (Some a) pc k s v sixteen h = kept_written device pc k s false a v sixteen h
 
   pub kept_pointer : (device : Device) (words : List ℕ) (A : List Entry) (was : AbsState) (r up : ℕ) (p : Pointed) (pc : ℕ) (k : NodeKey) (s : AbsState) (v : AbsByte)
-      → HasSixteen s.facts → IsKept followed s → AllKept (pointer_write device words A was r up p pc k s v)
+      → HasSixteen s.facts → IsModeKept followed s → AllKept (pointer_write device words A was r up p pc k s v)
   kept_pointer device words A was r up p pc k s v sixteen h =
       kept_if (is_fixed_site words A pc) _ _ (λ e. kept_fixed device p.constant pc k s v sixteen h) (λ e to j.
       ⊎_elim (kept_one k s h to) (kept_all (λ a. written_at device pc k s false a v) (filter (λ a. reaches was r up a) (store_line A pc)) (λ a. kept_written device pc k s false a v sixteen h) to)

@@ -47,7 +47,7 @@ use Rattle.local_rules.specs.Flow.{going_where, flag_at, skipping}
 use Rattle.local_rules.specs.Local.{step_before, pointer_moved, plain_row, paired_row, row_by, row_at, row_in, refining, storing, is_hung, fetched, may_be, below, picks, picking, picked_row, split_site, splitting, raw}
 use Rattle.local_rules.specs.Cover.{IsNodeIn}
 use Rattle.local_laws.proofs.Bare.{IsBare, bare, bare_key}
-use Rattle.local_laws.proofs.KeptNodes.{IsKept, none_kept, forgetting_kept, AllKept, kept_none, kept_if, kept_both, kept_branch, kept_where, kept_written, kept_pointer, flag_branch_none}
+use Rattle.local_laws.proofs.KeptNodes.{IsModeKept, none_kept, forgetting_kept, AllKept, kept_none, kept_if, kept_both, kept_branch, kept_where, kept_written, kept_pointer, flag_branch_none}
 use Rattle.local_laws.proofs.Members.{filter_within}
 use Rattle.local_laws.proofs.MonotoneFields.{InstrFits, fetched_fits}
 use Rattle.local_laws.proofs.MonotoneRows.{row_less}
@@ -57,7 +57,7 @@ use Rattle.local_laws.proofs.PairedMonotone.{from_refined, moved_bare}
 use Rattle.local_laws.proofs.PairedPlain.{row_plain}
 use Rattle.local_laws.proofs.PairedStep.{IsStored, stored_same}
 use Rattle.local_laws.proofs.Picks.{below_small}
-use Rattle.local_laws.proofs.PlainRows.{IsRefined, row_leaves, pointer_set}
+use Rattle.local_laws.proofs.PlainRows.{IsRefinedInstr, row_leaves, pointer_set}
 
 -- ---- where pairs aren't followed
 
@@ -68,13 +68,13 @@ module _ (device : Device) (words : List ℕ) (A : List Entry) (scratch : Bool) 
   none_before : (instr : Instr) → (before instr s).facts ≡ None
   none_before instr = ap (ended (is_one_of (written instr)) (sets_flags instr) (sets_carry instr)) none
 
-  kept_before : (instr : Instr) → IsKept false (before instr s)
+  kept_before : (instr : Instr) → IsModeKept false (before instr s)
   kept_before instr = none_kept (before instr s) (none_before instr)
 
   sixteen : (instr : Instr) → HasSixteen (before instr s).facts
   sixteen instr = subst HasSixteen (sym (none_before instr)) tt
 
-  refined_none : (instr : Instr) → IsRefined instr → AllKept false (plain instr)
+  refined_none : (instr : Instr) → IsRefinedInstr instr → AllKept false (plain instr)
   refined_none instr is to j = none_kept to.state ((row_leaves device words A scratch k (before instr s) instr is to j).facts ∙ none_before instr)
 
   -- `cpse` computes nothing, with a line or without
@@ -123,10 +123,10 @@ module _ (device : Device) (words : List ℕ) (A : List Entry) (scratch : Bool) 
   low : IsBare k s
   low = bare k s h
 
-  is_kept : IsKept true s
+  is_kept : IsModeKept true s
   is_kept = record { mode = h.mode; hulls = h.hulls }
 
-  still : (flags carry : Bool) → IsKept true (forgetting [] flags carry s)
+  still : (flags carry : Bool) → IsModeKept true (forgetting [] flags carry s)
   still flags carry = forgetting_kept true flags carry s is_kept
 
   count : (instr : Instr) → HasSixteen (before instr s).facts
@@ -135,7 +135,7 @@ module _ (device : Device) (words : List ℕ) (A : List Entry) (scratch : Bool) 
   -- a refined state says no less than the plain one, which follows pairs
   refined_kept : (instr : Instr) (n : ℕ) (t u : AbsState) → HasRegisters instr → IsFormed t n → IsPlain words instr s t
       → ((r : ℕ) → r < 32 → is_one_of (written instr) r ≡ false → set_of (value_at t.registers r) ≡ set_of (value_at s.registers r))
-      → refined (marks words) words instr s t ≡ Some u → IsKept true u
+      → refined (marks words) words instr s t ≡ Some u → IsModeKept true u
   refined_kept instr n t u has formed plain others e =
       let under = refined_is_ordered.under (marks words) words instr (offset_of k.sp) n s t u has h.formed formed plain e in
       let mode : is_followed t.facts ≡ true = ap is_followed plain.facts ∙ writes_end_facts.followed (is_one_of (written instr)) (sets_flags instr) (sets_carry instr) s.facts ∙ h.mode in
@@ -144,7 +144,7 @@ module _ (device : Device) (words : List ℕ) (A : List Entry) (scratch : Bool) 
         hulls = refined_is_ordered.hulls (marks words) words instr (offset_of k.sp) n s t u has h.formed formed plain.facts others h.hulls e;
       }
 
-  refining_kept : (instr : Instr) → InstrFits instr → HasRegisters instr → IsRefined instr → (row instr).faults ≡ [] → AllKept true (refining words instr s (row instr))
+  refining_kept : (instr : Instr) → InstrFits instr → HasRegisters instr → IsRefinedInstr instr → (row instr).faults ≡ [] → AllKept true (refining words instr s (row instr))
   refining_kept instr fits has is clean x j =
       let of = from_refined words instr s (row instr).moves (row instr).moves (λ n m. m) x j in
       let le : IsStateLess k.inst.kind (offset_of k.sp) (before instr s) (before instr s) =
@@ -159,7 +159,7 @@ module _ (device : Device) (words : List ℕ) (A : List Entry) (scratch : Bool) 
 
   -- ---- cuts
 
-  left_kept : (u : AbsState) → IsLeftOf s u (offset_of k.sp) → IsKept true u
+  left_kept : (u : AbsState) → IsLeftOf s u (offset_of k.sp) → IsModeKept true u
   left_kept u left = record { mode = mode_within u.facts s.facts left.within.facts h.mode; hulls = left.hulls h.hulls }
 
   cut_kept : (n : ℕ) (b : Bool) → n < 7 → (pc : ℕ) → AllKept true (going_where k (flag_cut n b s) pc)

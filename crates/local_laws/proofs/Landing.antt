@@ -12,11 +12,11 @@ use Rattle.local_rules.specs.Raw.{Raw}
 use Rattle.local_rules.specs.Cover as cover
 
 -- what is known of pairs holds before a byte is stored
-abbrev pub Held : State → Option PairFacts → Effect → Type 0
-Held m x e = HoldsAt x (with_registers m.registers e.registers) e.sreg
+abbrev pub HeldAt : State → Option PairFacts → Effect → Type 0
+HeldAt m x e = HoldsAt x (with_registers m.registers e.registers) e.sreg
 
-pub record ArrivesAt (m : State) (o : Origin) (x : Option PairFacts) (guarded : Bool) (e : Effect) (to : Node) : Type 0 where
-  pub lands : Held m x e → cover.ArrivesAt m o guarded e to
+pub record ArrivesWhere (m : State) (o : Origin) (x : Option PairFacts) (guarded : Bool) (e : Effect) (to : Node) : Type 0 where
+  pub lands : HeldAt m x e → cover.ArrivesAt m o guarded e to
 
-pub record Follows (m : State) (o : Origin) (x : Option PairFacts) (k : NodeKey) (guarded : Bool) (b1 b2 : ℕ) (e : Effect) (r : Raw) : Type 0 where
-  pub leads : Held m x e → cover.Follows m o k guarded b1 b2 e r
+pub record FollowsWhere (m : State) (o : Origin) (x : Option PairFacts) (k : NodeKey) (guarded : Bool) (b1 b2 : ℕ) (e : Effect) (r : Raw) : Type 0 where
+  pub leads : HeldAt m x e → cover.Follows m o k guarded b1 b2 e r

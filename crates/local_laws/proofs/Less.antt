@@ -17,7 +17,7 @@ use Rattle.sp_domain.specs.declared.tags.Tag.{Tag}
 use Rattle.sp_domain.specs.declared.tags.Tag.TheVariants as tag
 use Rattle.sp_domain.specs.declared.tags.CarryTag.{CarryTag}
 use Rattle.sp_domain.specs.declared.tags.CarryTag.TheVariants as carry
-use Rattle.sp_domain.specs.Tags.{Origin, CarryHolds, LessHolds, HasBytes, IsCarryWithin}
+use Rattle.sp_domain.specs.Tags.{Origin, CarryHolds, LessHolds, HasByteNumbers, IsCarryWithin}
 use Rattle.sp_domain.proofs.AllLaws.{carries_are_ordered}
 use Rattle.pair_domain.specs.Rank.{KnownFits}
 use Rattle.pair_domain.proofs.AllLaws.{known_is_ordered}
@@ -158,7 +158,7 @@ forgetting_at m o k s written flags carry at =
           facts = writes_end_facts.fits (is_one_of written) flags carry s.facts at.node.formed.facts;
         };
         tags = record { registers = at.node.tags.registers; slots = at.node.tags.slots };
-        carry_bytes = forgotten_is HasBytes written s.flags.carry at.node.carry_bytes tt;
+        carry_bytes = forgotten_is HasByteNumbers written s.flags.carry at.node.carry_bytes tt;
         untagged = λ root. record {
           registers = (at.node.untagged root).registers;
           entry = (at.node.untagged root).entry;

@@ -22,7 +22,7 @@ use Rattle.sp_domain.specs.declared.tags.Tag.{Tag}
 use Rattle.sp_domain.specs.declared.tags.Tag.TheVariants as tag
 use Rattle.sp_domain.specs.declared.tags.CarryTag.{CarryTag}
 use Rattle.sp_domain.specs.declared.tags.CarryTag.TheVariants as carry
-use Rattle.sp_domain.specs.Tags.{HasBytes, IsTagWithin, IsCarryWithin, frame_of, high_of, low_below, high_below, low_less, borrow_of, high_less}
+use Rattle.sp_domain.specs.Tags.{HasByteNumbers, IsTagWithin, IsCarryWithin, frame_of, high_of, low_below, high_below, low_less, borrow_of, high_less}
 use Rattle.sp_domain.proofs.AllLaws.{tag_arithmetic_is_monotone}
 use Rattle.abs_alu.specs.Flags.{tri_flags, flag_bit}
 use Rattle.abs_alu.specs.Product.{product_of_constants}
@@ -40,7 +40,7 @@ use Rattle.mask_states.specs.Keys.{offset_of}
 use Rattle.local_rules.specs.Raw.{setting, next}
 use Rattle.local_rules.specs.Registers.{value, bits, carry_bit, set, set_pair, with_carry, but_carry, low_tag, borrow_tag, high_tag, or_nothing, less_than, less_alone, less_kept, swapped, product_row, down_by, pair_moved, wide_row, interrupts_row, tri_of_bool, carry_tag_at, flag_row, going_with, sum_tagged, sum_after, compare_after, difference_after, sub_after, sbc_after, logic_after, step_tagged, step_after, shift_after, com_after}
 use Rattle.local_rules.specs.Local.{immediate_row, unary_row}
-use Rattle.local_laws.proofs.MonotoneValues.{IsTagOf, IsLess, AreFlagsLess, AreRegistersLess, IsStateLess, Tells, none_of, if_tag_of, bit_within, bits_less, if_less, untagged_less, known_same, registers_set}
+use Rattle.local_laws.proofs.MonotoneValues.{IsTagOf, IsLess, AreFlagsLess, AreRegistersLess, IsStateLess, IsSameWhere, none_of, if_tag_of, bit_within, bits_less, if_less, untagged_less, known_same, registers_set}
 use Rattle.local_laws.proofs.Less.{kept_is}
 use Rattle.local_laws.proofs.MonotoneRaw.{LeadsLess, one_less, setting_less, further_small}
 
@@ -57,12 +57,12 @@ low_tag_of : (kind : Kind) (t : Tag) (f : Option ℕ) → IsTagOf kind t → IsT
 low_tag_of kind t None h = none_of kind
 low_tag_of kind t (Some l) h = low_less_of kind t l h
 
-low_tag_within : (t u : Tag) (f g : Option ℕ) → IsTagWithin t u → Tells f g → IsTagWithin (low_tag t f) (low_tag u g)
+low_tag_within : (t u : Tag) (f g : Option ℕ) → IsTagWithin t u → IsSameWhere f g → IsTagWithin (low_tag t f) (low_tag u g)
 low_tag_within t u f None le tells = tt
 low_tag_within t u f (Some l) le tells =
     subst (λ (x : Option ℕ). IsTagWithin (low_tag t x) (low_tag u (Some l))) (sym (tells l refl)) (tag_arithmetic_is_monotone.low_less t u l le)
 
-pub borrow_bytes : (kind : Kind) (t : Tag) (f : Option ℕ) → IsTagOf kind t → ((n : ℕ) → f ≡ Some n → n < 256) → HasBytes (borrow_tag t f)
+pub borrow_bytes : (kind : Kind) (t : Tag) (f : Option ℕ) → IsTagOf kind t → ((n : ℕ) → f ≡ Some n → n < 256) → HasByteNumbers (borrow_tag t f)
 borrow_bytes kind t None h small = tt
 borrow_bytes kind tag.None (Some l) h small = tt
 borrow_bytes kind (tag.Entry r) (Some l) h small = tt
@@ -86,7 +86,7 @@ borrow_names (tag.SpHi k) (Some l) = tt
 
 -- a carry tag of a register of the 32, and nothing else
 pub record IsOfRegister (c : CarryTag) : Type 0 where
-  pub bytes : HasBytes c
+  pub bytes : HasByteNumbers c
   pub names : CarryNamesRegister c
   pub free : CarryIsUntagged c
 
@@ -100,17 +100,17 @@ pub than_of : (d : ℕ) (f : Option ℕ) → d < 32 → ((n : ℕ) → f ≡ Som
 than_of d None lt small = no_tag
 than_of d (Some n) lt small = less_of d n lt (small n refl)
 
-pub than_within : (d : ℕ) (f g : Option ℕ) → Tells f g → IsCarryWithin (less_than d f) (less_than d g)
+pub than_within : (d : ℕ) (f g : Option ℕ) → IsSameWhere f g → IsCarryWithin (less_than d f) (less_than d g)
 than_within d f None tells = tt
 than_within d f (Some n) tells = ap (less_than d) (tells n refl)
 
-alone_of : (c : CarryTag) → HasBytes c → CarryNamesRegister c → IsOfRegister (less_alone c)
+alone_of : (c : CarryTag) → HasByteNumbers c → CarryNamesRegister c → IsOfRegister (less_alone c)
 alone_of carry.None bytes names = no_tag
 alone_of (carry.Borrow j l) bytes names = no_tag
 alone_of (carry.Sum j l) bytes names = no_tag
 alone_of (carry.Less r n) bytes names = record { bytes = bytes; names = names; free = tt }
 
-pub kept_of : (f g : Option ℕ) (c : CarryTag) → HasBytes c → CarryNamesRegister c → IsOfRegister (less_kept f g c)
+pub kept_of : (f g : Option ℕ) (c : CarryTag) → HasByteNumbers c → CarryNamesRegister c → IsOfRegister (less_kept f g c)
 kept_of f g c bytes names = kept_is IsOfRegister f g c (alone_of c bytes names) no_tag
 
 alone_within : (c d : CarryTag) → IsCarryWithin c d → IsCarryWithin (less_alone c) (less_alone d)
@@ -126,13 +126,13 @@ kept_same x y c d le = by (x == y)
     by true = alone_within c d le
     by false = tt
 
-pub kept_within : (f g f' g' : Option ℕ) (c d : CarryTag) → Tells f f' → Tells g g' → IsCarryWithin c d → IsCarryWithin (less_kept f g c) (less_kept f' g' d)
+pub kept_within : (f g f' g' : Option ℕ) (c d : CarryTag) → IsSameWhere f f' → IsSameWhere g g' → IsCarryWithin c d → IsCarryWithin (less_kept f g c) (less_kept f' g' d)
 kept_within f g None g' c d h k le = tt
 kept_within f g (Some x) None c d h k le = tt
 kept_within f g (Some x) (Some y) c d h k le =
     subst₂ (λ (a b : Option ℕ). IsCarryWithin (less_kept a b c) (less_kept (Some x) (Some y) d)) (sym (h x refl)) (sym (k y refl)) (kept_same x y c d le)
 
-pub borrow_within : (t u : Tag) (f g : Option ℕ) → IsTagWithin t u → Tells f g → IsCarryWithin (borrow_tag t f) (borrow_tag u g)
+pub borrow_within : (t u : Tag) (f g : Option ℕ) → IsTagWithin t u → IsSameWhere f g → IsCarryWithin (borrow_tag t f) (borrow_tag u g)
 borrow_within t u f None le tells = tt
 borrow_within t u f (Some l) le tells =
     subst (λ (x : Option ℕ). IsCarryWithin (borrow_tag t x) (borrow_tag u (Some l))) (sym (tells l refl)) (tag_arithmetic_is_monotone.borrow t u l le)
@@ -153,7 +153,7 @@ high_tag_of : (kind : Kind) (t : Tag) (f : Option ℕ) (c : CarryTag) → IsTagO
 high_tag_of kind t None c h = none_of kind
 high_tag_of kind t (Some m) c h = high_less_of kind t m c h
 
-high_tag_within : (t u : Tag) (f g : Option ℕ) (c d : CarryTag) → IsTagWithin t u → Tells f g → IsCarryWithin c d → IsTagWithin (high_tag t f c) (high_tag u g d)
+high_tag_within : (t u : Tag) (f g : Option ℕ) (c d : CarryTag) → IsTagWithin t u → IsSameWhere f g → IsCarryWithin c d → IsTagWithin (high_tag t f c) (high_tag u g d)
 high_tag_within t u f None c d le tells over = tt
 high_tag_within t u f (Some m) c d le tells over =
     subst (λ (x : Option ℕ). IsTagWithin (high_tag t x c) (high_tag u (Some m) d)) (sym (tells m refl)) (tag_arithmetic_is_monotone.high_less t u m c d le over)
@@ -220,7 +220,7 @@ module _ (device : Device) (k : NodeKey) (at : IsKey k) (s t : AbsState) (le : I
 
   -- ---- what is written
 
-  written_flags : (b c : TriByte) (x y : CarryTag) → IsWithin b c → tri_at b 7 ≡ Any → HasBytes x → CarryNamesRegister x → (kind ≡ Root → CarryIsUntagged x) → IsCarryWithin x y
+  written_flags : (b c : TriByte) (x y : CarryTag) → IsWithin b c → tri_at b 7 ≡ Any → HasByteNumbers x → CarryNamesRegister x → (kind ≡ Root → CarryIsUntagged x) → IsCarryWithin x y
       → AreFlagsLess kind (with_carry b x) (with_carry c y)
   written_flags b c x y over top bytes names none under =
       record {
@@ -252,7 +252,7 @@ module _ (device : Device) (k : NodeKey) (at : IsKey k) (s t : AbsState) (le : I
   -- ---- sums and differences
 
   pub sum_tagged_less : (d : ℕ) (b b' : TriByte) (c c' : Tri) (x x' : Tag) (w w' : CarryTag) → IsWithin b b' → IsTriWithin c c'
-      → IsTagOf kind x → IsTagWithin x x' → HasBytes w → CarryNamesRegister w → (kind ≡ Root → CarryIsUntagged w) → IsCarryWithin w w'
+      → IsTagOf kind x → IsTagWithin x x' → HasByteNumbers w → CarryNamesRegister w → (kind ≡ Root → CarryIsUntagged w) → IsCarryWithin w w'
       → LeadsLess k.inst (going_with device k s (sum_tagged s d b c x w)) (going_with device k t (sum_tagged t d b' c' x' w'))
   sum_tagged_less d b b' c c' x x' w w' over carries good tags bytes names none less =
       let r = all_are_monotone.sums (bits s d) b s.flags.bits (bits t d) b' t.flags.bits c c' (reg_bits d) over flag_bits carries in
@@ -270,14 +270,14 @@ module _ (device : Device) (k : NodeKey) (at : IsKey k) (s t : AbsState) (le : I
       setting_flags _ _ (written_flags _ _ c c' r.1 (flags_7 _ _ _ _ _ s.flags.bits le.flags.bit_7) says.bytes says.names (λ root. says.free) less)
 
   pub difference_less : (d : ℕ) (a a' b b' : TriByte) (w w' : Tri) (keep_zero : Bool) (x x' : Tag) (c c' : CarryTag) → IsWithin a a' → IsWithin b b' → IsTriWithin w w'
-      → IsTagOf kind x → IsTagWithin x x' → HasBytes c → CarryNamesRegister c → (kind ≡ Root → CarryIsUntagged c) → IsCarryWithin c c'
+      → IsTagOf kind x → IsTagWithin x x' → HasByteNumbers c → CarryNamesRegister c → (kind ≡ Root → CarryIsUntagged c) → IsCarryWithin c c'
       → LeadsLess k.inst (going_with device k s (difference_after s d a b w keep_zero x c)) (going_with device k t (difference_after t d a' b' w' keep_zero x' c'))
   difference_less d a a' b b' w w' keep_zero x x' c c' over under borrow good tags bytes names none carries =
       let r = all_are_monotone.differences a b s.flags.bits a' b' t.flags.bits w w' keep_zero over under flag_bits borrow in
       setting_one d _ _ _ _ (bits_less kind x x' _ _ good tags r.0)
       (written_flags _ _ c c' r.1 (flags_7 _ _ _ _ _ s.flags.bits le.flags.bit_7) bytes names none carries)
 
-  pub sub_less : (d : ℕ) (a a' b b' : TriByte) (f g : Option ℕ) → IsWithin a a' → IsWithin b b' → Tells f g → ((n : ℕ) → f ≡ Some n → n < 256)
+  pub sub_less : (d : ℕ) (a a' b b' : TriByte) (f g : Option ℕ) → IsWithin a a' → IsWithin b b' → IsSameWhere f g → ((n : ℕ) → f ≡ Some n → n < 256)
       → LeadsLess k.inst (going_with device k s (sub_after s d a b f)) (going_with device k t (sub_after t d a' b' g))
   sub_less d a a' b b' f g over under tells small =
       let v = reg d in
@@ -286,7 +286,7 @@ module _ (device : Device) (k : NodeKey) (at : IsKey k) (s t : AbsState) (le : I
       (borrow_bytes kind (value s d).tag f v.good small) (borrow_names (value s d).tag f) (λ root. no_borrow (value s d).tag f (v.good.none root))
       (borrow_within (value s d).tag (value t d).tag f g v.within.tag tells)
 
-  pub sbc_less : (d : ℕ) (b b' : TriByte) (f g : Option ℕ) → IsWithin b b' → Tells f g → LeadsLess k.inst (going_with device k s (sbc_after s d b f)) (going_with device k t (sbc_after t d b' g))
+  pub sbc_less : (d : ℕ) (b b' : TriByte) (f g : Option ℕ) → IsWithin b b' → IsSameWhere f g → LeadsLess k.inst (going_with device k s (sbc_after s d b f)) (going_with device k t (sbc_after t d b' g))
   sbc_less d b b' f g under tells =
       let v = reg d in
       difference_less d (bits s d) (bits t d) b b' (carry_bit s) (carry_bit t) true
@@ -376,7 +376,7 @@ module _ (device : Device) (k : NodeKey) (at : IsKey k) (s t : AbsState) (le : I
       setting_flags _ _ (written_flags _ _ (carry_tag_at s n) (carry_tag_at t n)
       (writes_cover.more s.flags.bits t.flags.bits n (tri_of_bool on) (tri_of_bool on) flag_bits (λ m p. p))
       (with_7 s.flags.bits n (tri_of_bool on) (ne refl) le.flags.bit_7)
-      (flag_carry_is HasBytes (n == 0) s.flags.carry le.flags.bytes tt) (flag_carry_is CarryNamesRegister (n == 0) s.flags.carry le.flags.names tt)
+      (flag_carry_is HasByteNumbers (n == 0) s.flags.carry le.flags.bytes tt) (flag_carry_is CarryNamesRegister (n == 0) s.flags.carry le.flags.names tt)
       (λ root. flag_carry_is CarryIsUntagged (n == 0) s.flags.carry (le.flags.no_carry root) tt)
       (flag_carry_within (n == 0) s.flags.carry t.flags.carry le.flags.within.carry))
 
@@ -385,7 +385,7 @@ module _ (device : Device) (k : NodeKey) (at : IsKey k) (s t : AbsState) (le : I
 
   -- ---- by the operation
 
-  pub number_tells : (n : ℕ) → Tells (Some n) (Some n)
+  pub number_tells : (n : ℕ) → IsSameWhere (Some n) (Some n)
   number_tells n x e = e
 
   pub number_small : (n : ℕ) → n < 256 → (x : ℕ) → Some n ≡ Some x → x < 256

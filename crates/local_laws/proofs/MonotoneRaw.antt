@@ -30,20 +30,20 @@ use Rattle.local_laws.proofs.MonotoneValues.{AreFlagsLess, AreRegistersLess, IsS
 -- ---- definitions
 
 -- the node is one that the analysis works with, in this instance, and one of these is above it
-pub record IsMet (inst : InstKey) (nodes : List Node) (to : Node) : Type 0 where
+pub record IsMetAbove (inst : InstKey) (nodes : List Node) (to : Node) : Type 0 where
   pub same : to.key.inst ≡ inst
   pub node : IsBare to.key to.state
   pub below : IsBelowOne nodes to
 
-pub record Leads (inst : InstKey) (a b : Raw) : Type 0 where
+pub record LeadsUpTo (inst : InstKey) (a b : Raw) : Type 0 where
   pub faultless : a.faults ≡ []
-  pub moves : (to : Node) → Contains a.moves to → IsMet inst b.moves to
+  pub moves : (to : Node) → Contains a.moves to → IsMetAbove inst b.moves to
   pub calls : (site : CallSite) → Contains a.calls site → Contains b.calls site
   pub exit : a.exit ≡ b.exit
 
 -- where the greater has no fault, the lesser has none, and leads to no more
 abbrev pub LeadsLess : InstKey → Raw → Raw → Type 0
-LeadsLess inst a b = b.faults ≡ [] → Leads inst a b
+LeadsLess inst a b = b.faults ≡ [] → LeadsUpTo inst a b
 
 -- ---- faults
 
@@ -68,23 +68,23 @@ abbrev pub nodes_at : {A : Type 0} → (A → NodeKey) → AbsState → List A �
 nodes_at f s xs = map (λ x. record { key = f x; state = s }) xs
 
 -- a key of this instance, with this offset
-pub record IsPlace (inst : InstKey) (offset : ℕ) (k : NodeKey) : Type 0 where
+pub record IsKeyPlace (inst : InstKey) (offset : ℕ) (k : NodeKey) : Type 0 where
   pub key : IsKey k
   pub same : k.inst ≡ inst
   pub at : offset_of k.sp ≡ offset
 
-place_node : (inst : InstKey) (offset : ℕ) (k : NodeKey) (s t : AbsState) → IsPlace inst offset k → IsStateLess inst.kind offset s t → IsBare k s
+place_node : (inst : InstKey) (offset : ℕ) (k : NodeKey) (s t : AbsState) → IsKeyPlace inst offset k → IsStateLess inst.kind offset s t → IsBare k s
 place_node inst offset k s t at le =
     let same : IsStateLess k.inst.kind offset s t = subst (λ (i : InstKey). IsStateLess i.kind offset s t) (sym at.same) le in
     less_node k s t at.key.word at.key.small at.key.masks at.key.fits at.key.pick (subst (λ (n : ℕ). IsStateLess k.inst.kind n s t) (sym at.at) same)
 
 pub several_less : {A : Type 0} (inst : InstKey) (offset : ℕ) (f : A → NodeKey) (s t : AbsState) (xs ys : List A)
-    → ((x : A) → Contains xs x → Contains ys x) → ((x : A) → Contains ys x → IsPlace inst offset (f x)) → IsStateLess inst.kind offset s t
+    → ((x : A) → Contains xs x → Contains ys x) → ((x : A) → Contains ys x → IsKeyPlace inst offset (f x)) → IsStateLess inst.kind offset s t
     → LeadsLess inst (moves_to (nodes_at f s xs)) (moves_to (nodes_at f t ys))
 several_less {A = A} inst offset f s t xs ys more places le e =
     record {
       faultless = refl;
-      moves = each_in_map (λ (x : A). record { key = f x; state = s }) (IsMet inst (nodes_at f t ys)) xs (λ x i. record {
+      moves = each_in_map (λ (x : A). record { key = f x; state = s }) (IsMetAbove inst (nodes_at f t ys)) xs (λ x i. record {
         same = (places x (more x i)).same;
         node = place_node inst offset (f x) s t (places x (more x i)) le;
         below = record {
@@ -101,7 +101,7 @@ several_less {A = A} inst offset f s t xs ys more places le e =
 pub one_less : (k : NodeKey) (s t : AbsState) → IsKey k → IsStateLess k.inst.kind (offset_of k.sp) s t → LeadsLess k.inst (one k s) (one k t)
 one_less k s t at le =
     several_less k.inst (offset_of k.sp) (λ (x : NodeKey). x) s t (k ∷ []) (k ∷ []) (λ x i. i)
-    (each_of (IsPlace k.inst (offset_of k.sp)) k [] (record { key = at; same = refl; at = refl }) (λ x i. absurd (none_in x i))) le
+    (each_of (IsKeyPlace k.inst (offset_of k.sp)) k [] (record { key = at; same = refl; at = refl }) (λ x i. absurd (none_in x i))) le
 
 -- the second, the first, or both
 abbrev pub choose : {A : Type 0} → Tri → A → A → List A
@@ -139,7 +139,7 @@ leaves_less inst x e = record { faultless = refl; moves = λ to i. absurd (none_
 
 -- ---- the moves and faults of several
 
-met_left : (inst : InstKey) (xs ys : List Node) (to : Node) → IsMet inst xs to → IsMet inst (xs ++ ys) to
+met_left : (inst : InstKey) (xs ys : List Node) (to : Node) → IsMetAbove inst xs to → IsMetAbove inst (xs ++ ys) to
 met_left inst xs ys to h =
     record {
       same = h.same;
@@ -147,7 +147,7 @@ met_left inst xs ys to h =
       below = record { state = h.below.state; present = Contains-append_left xs ys (record { key = to.key; state = h.below.state }) h.below.present; above = h.below.above };
     }
 
-met_right : (inst : InstKey) (xs ys : List Node) (to : Node) → IsMet inst ys to → IsMet inst (xs ++ ys) to
+met_right : (inst : InstKey) (xs ys : List Node) (to : Node) → IsMetAbove inst ys to → IsMetAbove inst (xs ++ ys) to
 met_right inst xs ys to h =
     record {
       same = h.same;

@@ -33,7 +33,7 @@ use Rattle.mask_states.specs.Keys.{offset_of}
 use Rattle.local_rules.specs.Registers.{value, bits, with_bits}
 use Rattle.local_rules.specs.Reads.{closed_low, closed_high, sp_low, sp_high, flags_tag, sreg_value, io_bits, value_of, slot_read, read_at, word_of, pair_constant, raised, lowered, pointed, read_number, read_constant, read_both, read_frame, read_pointed, flash_value}
 use Rattle.local_rules.specs.Local.{loading}
-use Rattle.local_laws.proofs.MonotoneValues.{IsTagOf, IsLess, AreFlagsLess, AreRegistersLess, IsSlotLess, IsStateLess, Tells, tells_by, none_of, below_any, constant_tells, value_same, bits_less, untagged_less, unknown_same, range_less, known_same, below_unknown, if_less, registers_set}
+use Rattle.local_laws.proofs.MonotoneValues.{IsTagOf, IsLess, AreFlagsLess, AreRegistersLess, IsSlotLess, IsStateLess, IsSameWhere, tells_by, none_of, below_any, constant_tells, value_same, bits_less, untagged_less, unknown_same, range_less, known_same, below_unknown, if_less, registers_set}
 use Rattle.local_laws.proofs.MonotoneRaw.{LeadsLess, nowhere_less, setting_less}
 use Rattle.local_laws.proofs.MonotoneAlu.{reg, reg_bits}
 
@@ -86,7 +86,7 @@ slot_less device (Vector v) s t a h = unknown_same (Vector v)
 
 -- ---- options
 
-pub pair_tells : (f g f' g' : Option ℕ) → Tells f g → Tells f' g' → Tells (word_of f f') (word_of g g')
+pub pair_tells : (f g f' g' : Option ℕ) → IsSameWhere f g → IsSameWhere f' g' → IsSameWhere (word_of f f') (word_of g g')
 pair_tells f None f' g' h k n e = cc
 pair_tells f (Some x) f' None h k n e = cc
 pair_tells f (Some x) f' (Some y) h k n e =
@@ -165,7 +165,7 @@ flash_fits words (Some z) = by (nat_lt z (2 * words_of (device_of words)))
 none_tag_of : (kind : Kind) (t : Tag) → t ≡ tag.None → IsTagOf kind t
 none_tag_of kind t e = subst (IsTagOf kind) (sym e) (none_of kind)
 
-pub flash_less : (kind : Kind) (words : List ℕ) (f g : Option ℕ) → Tells f g → IsLess kind (flash_value words f) (flash_value words g)
+pub flash_less : (kind : Kind) (words : List ℕ) (f g : Option ℕ) → IsSameWhere f g → IsLess kind (flash_value words f) (flash_value words g)
 flash_less kind words f None h = below_unknown kind (flash_value words f) (none_tag_of kind _ (flash_tag words f)) (flash_fits words f)
 flash_less kind words f (Some z) h =
     subst (λ (x : Option ℕ). IsLess kind (flash_value words x) (flash_value words (Some z))) (sym (h z refl))
@@ -188,20 +188,20 @@ module _ (device : Device) (k : NodeKey) (at : IsKey k) (s t : AbsState) (le : I
       (if_less kind (nat_le a BELOW) _ _ _ _ (untagged_less kind (io_bits k.masks a) (io_bits k.masks a) (same_within (io_bits k.masks a)))
       (slot_less device kind s t a slot)))))
 
-  pub constants : (r : ℕ) → Tells (pair_constant s r) (pair_constant t r)
+  pub constants : (r : ℕ) → IsSameWhere (pair_constant s r) (pair_constant t r)
   constants r =
       pair_tells (byte_constant (bits s r)) (byte_constant (bits t r)) (byte_constant (bits s (r + 1))) (byte_constant (bits t (r + 1)))
       (constant_tells (bits s r) (bits t r) (reg_bits device k at s t le r)) (constant_tells (bits s (r + 1)) (bits t (r + 1)) (reg_bits device k at s t le (r + 1)))
 
-  frames : (r : ℕ) → Tells (frame_of (value s r).tag (value s (r + 1)).tag) (frame_of (value t r).tag (value t (r + 1)).tag)
+  frames : (r : ℕ) → IsSameWhere (frame_of (value s r).tag (value s (r + 1)).tag) (frame_of (value t r).tag (value t (r + 1)).tag)
   frames r n e =
       tag_arithmetic_is_monotone.frame (value s r).tag (value s (r + 1)).tag (value t r).tag (value t (r + 1)).tag n
       (reg device k at s t le r).within.tag (reg device k at s t le (r + 1)).within.tag e
 
-  pub pointed_constants : (r up : ℕ) → Tells (pointed s r up).constant (pointed t r up).constant
+  pub pointed_constants : (r up : ℕ) → IsSameWhere (pointed s r up).constant (pointed t r up).constant
   pointed_constants r up = tells_by (raised up) refl (pair_constant s r) (pair_constant t r) (constants r)
 
-  pointed_frames : (r up : ℕ) → Tells (pointed s r up).frame (pointed t r up).frame
+  pointed_frames : (r up : ℕ) → IsSameWhere (pointed s r up).frame (pointed t r up).frame
   pointed_frames r up = tells_by (lowered up) refl (frame_of (value s r).tag (value s (r + 1)).tag) (frame_of (value t r).tag (value t (r + 1)).tag) (frames r)
 
   -- by the number alone
@@ -209,12 +209,12 @@ module _ (device : Device) (k : NodeKey) (at : IsKey k) (s t : AbsState) (le : I
   number_less a =
       if_less kind (nat_le a BELOW) _ _ _ _ (untagged_less kind (read_at device k s a).bits (read_at device k t a).bits (read_less a).within.bits) (range_less kind (read_at device k s a) (read_at device k t a) (read_less a))
 
-  constant_less : (f g : Option ℕ) → Tells f g → IsLess kind (read_constant device k s f) (read_constant device k t g)
+  constant_less : (f g : Option ℕ) → IsSameWhere f g → IsLess kind (read_constant device k s f) (read_constant device k t g)
   constant_less None None h = unknown_same kind
   constant_less (Some a) None h = below_unknown kind (read_number device k s a) (number_less a).good (number_less a).ranged
   constant_less f (Some a) h = subst (λ (x : Option ℕ). IsLess kind (read_constant device k s x) (read_constant device k t (Some a))) (sym (h a refl)) (number_less a)
 
-  both_less : (f g : Option ℕ) (v w : AbsByte) → Tells f g → IsLess kind v w → IsReadLess kind (read_both device k s f v) (read_both device k t g w)
+  both_less : (f g : Option ℕ) (v w : AbsByte) → IsSameWhere f g → IsLess kind v w → IsReadLess kind (read_both device k s f v) (read_both device k t g w)
   both_less None None v w h le = read_some kind v w le
   both_less (Some a) None v w h le =
       meet_under kind (read_number device k s a) v w le.good le.within.tag
@@ -231,7 +231,7 @@ module _ (device : Device) (k : NodeKey) (at : IsKey k) (s t : AbsState) (le : I
       by false = refl
 
   -- the lesser reads a slot, and the greater by the number alone
-  slot_under : (f g : Option ℕ) (v : AbsByte) → Tells f g → IsTagOf kind v.tag → ByteFits v → IsReadLess kind (read_both device k s f v) (Some (read_constant device k t g))
+  slot_under : (f g : Option ℕ) (v : AbsByte) → IsSameWhere f g → IsTagOf kind v.tag → ByteFits v → IsReadLess kind (read_both device k s f v) (Some (read_constant device k t g))
   slot_under None None v h good fit = read_some kind v unknown (below_unknown kind v good fit)
   slot_under (Some a) None v h good fit = meet_under kind (read_number device k s a) v unknown good tt (under_any (read_number device k s a) v)
   slot_under f (Some a) v h good fit =
@@ -248,7 +248,7 @@ module _ (device : Device) (k : NodeKey) (at : IsKey k) (s t : AbsState) (le : I
   if_under true x x' y h k = h
   if_under false x x' y h k = k
 
-  frame_less : (f g : Option ℕ) (p q : Option ℕ) → Tells f g → Tells p q → IsReadLess kind (read_frame device k s f p) (read_frame device k t g q)
+  frame_less : (f g : Option ℕ) (p q : Option ℕ) → IsSameWhere f g → IsSameWhere p q → IsReadLess kind (read_frame device k s f p) (read_frame device k t g q)
   frame_less f g None None h l = read_some kind _ _ (constant_less f g h)
   frame_less f g (Some d) None h l =
       if_under (nat_lt d (length s.slots)) (read_both device k s f (value_of (slot_at s.slots d))) (Some (read_constant device k s f)) (Some (read_constant device k t g))

@@ -19,7 +19,7 @@ use Rattle.sp_domain.specs.declared.tags.Tag.TheVariants as tag
 use Rattle.sp_domain.specs.declared.slots.Slot.{Slot}
 use Rattle.sp_domain.specs.declared.slots.Slot.TheVariants.{Free, Guarded}
 use Rattle.sp_domain.specs.Slots.{slot_at}
-use Rattle.sp_domain.specs.Tags.{HasBytes, IsTagWithin}
+use Rattle.sp_domain.specs.Tags.{HasByteNumbers, IsTagWithin}
 use Rattle.pair_domain.specs.declared.facts.PairFacts.{PairFacts}
 use Rattle.pair_domain.specs.Facts.{IsKnownWithin, HasSixteen}
 use Rattle.pair_domain.proofs.AllLaws.{known_is_ordered}
@@ -60,7 +60,7 @@ pub record IsLess (kind : Kind) (v w : AbsByte) : Type 0 where
 pub record AreFlagsLess (kind : Kind) (f g : AbsFlags) : Type 0 where
   pub within : IsFlagsWithin f g
   pub bit_7 : tri_at f.bits 7 ≡ Any
-  pub bytes : HasBytes f.carry
+  pub bytes : HasByteNumbers f.carry
   pub no_entry : kind ≡ Root → f.entry ≡ false
   pub names : CarryNamesRegister f.carry
   pub no_carry : kind ≡ Root → CarryIsUntagged f.carry
@@ -96,18 +96,18 @@ pub record IsStateLess (kind : Kind) (offset : ℕ) (s t : AbsState) : Type 0 wh
   pub facts : AreFactsLess s.facts t.facts
 
 -- where the second is there, the first is the same
-abbrev pub Tells : {A : Type 0} → Option A → Option A → Type 0
-Tells f g = (x : _) → g ≡ Some x → f ≡ Some x
+abbrev pub IsSameWhere : {A : Type 0} → Option A → Option A → Type 0
+IsSameWhere f g = (x : _) → g ≡ Some x → f ≡ Some x
 
 -- a function of what is there tells as much
-pub tells_by : {A B : Type 0} (f : Option A → Option B) → f None ≡ None → (x y : Option A) → Tells x y → Tells (f x) (f y)
+pub tells_by : {A B : Type 0} (f : Option A → Option B) → f None ≡ None → (x y : Option A) → IsSameWhere x y → IsSameWhere (f x) (f y)
 tells_by f none x None h b e = cc
 tells_by f none x (Some a) h b e = ap f (h a refl) ∙ e
 
 -- ---- tags
 
 -- and so does one of tags
-pub tag_tells : {B : Type 0} (f : Tag → Option B) → f tag.None ≡ None → (t u : Tag) → IsTagWithin t u → Tells (f t) (f u)
+pub tag_tells : {B : Type 0} (f : Tag → Option B) → f tag.None ≡ None → (t u : Tag) → IsTagWithin t u → IsSameWhere (f t) (f u)
 tag_tells f none t tag.None le b e = cc
 tag_tells f none t (tag.Entry r) le b e = ap f le ∙ e
 tag_tells f none t tag.EntryFlags le b e = ap f le ∙ e
@@ -156,7 +156,7 @@ constant_of t false n full e = cc
 pub constant_is : (t : TriByte) (n : ℕ) → byte_constant t ≡ Some n → (t ≡ byte_known n) × (n < 256)
 constant_is t n e = constant_of t (t.known == 255) n (λ h. grind (arith, nat_tests)) e
 
-pub constant_tells : (b c : TriByte) → IsWithin b c → Tells (byte_constant b) (byte_constant c)
+pub constant_tells : (b c : TriByte) → IsWithin b c → IsSameWhere (byte_constant b) (byte_constant c)
 constant_tells b c le n e =
     let at = constant_is c n e in
     ap byte_constant (known_is b c n at.1 at.0 le ∙ sym at.0) ∙ e
@@ -354,7 +354,7 @@ forgetting_both kind offset written flags carry s t h =
           carry = forgotten_more written s.flags.carry t.flags.carry h.flags.within.carry;
         };
         bit_7 = h.flags.bit_7;
-        bytes = forgotten_is HasBytes written s.flags.carry h.flags.bytes tt;
+        bytes = forgotten_is HasByteNumbers written s.flags.carry h.flags.bytes tt;
         no_entry = h.flags.no_entry;
         names = forgotten_is CarryNamesRegister written s.flags.carry h.flags.names tt;
         no_carry = λ root. forgotten_is CarryIsUntagged written s.flags.carry (h.flags.no_carry root) tt;

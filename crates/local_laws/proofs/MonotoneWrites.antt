@@ -44,12 +44,12 @@ use Rattle.local_rules.specs.declared.pointers.Pointed.{Pointed}
 use Rattle.local_rules.specs.Writes.{known_high, tagged_high, high_part, opening, root_closing, frame_closing, closing_offset, closing, is_entry_flags, flags_written, with_i, sreg_written, masks_written, hulled, register_written, put_flags, written_at, reaches, fixed_write, listed_writes, pointer_write}
 use Rattle.abs_state.specs.Formed.{TagFits}
 use Rattle.local_rules.specs.Cover.{HighFitsKind, IsKey}
-use Rattle.local_laws.proofs.MonotoneValues.{IsTagOf, IsLess, AreFlagsLess, AreSlotsLess, IsSlotLess, IsStateLess, Tells, tells_by, tag_tells, free_less, constant_is, constant_tells, bit_within, bits_less, registers_set, ended_both, forgetting_both}
-use Rattle.local_laws.proofs.MonotoneRaw.{IsPlace, LeadsLess, nodes_at, fails_less, if_leads, several_less, one_less, choose, choose_more, both_less, filtered_less}
+use Rattle.local_laws.proofs.MonotoneValues.{IsTagOf, IsLess, AreFlagsLess, AreSlotsLess, IsSlotLess, IsStateLess, IsSameWhere, tells_by, tag_tells, free_less, constant_is, constant_tells, bit_within, bits_less, registers_set, ended_both, forgetting_both}
+use Rattle.local_laws.proofs.MonotoneRaw.{IsKeyPlace, LeadsLess, nodes_at, fails_less, if_leads, several_less, one_less, choose, choose_more, both_less, filtered_less}
 
 -- ---- the high byte of the stack pointer
 
-high_tells : (kind : Kind) (v w : AbsByte) → IsLess kind v w → Tells (high_part kind v) (high_part kind w)
+high_tells : (kind : Kind) (v w : AbsByte) → IsLess kind v w → IsSameWhere (high_part kind v) (high_part kind w)
 high_tells Root v w le = tells_by known_high refl (byte_constant v.bits) (byte_constant w.bits) (constant_tells v.bits w.bits le.within.bits)
 high_tells Call v w le = tag_tells tagged_high refl v.tag w.tag le.within.tag
 high_tells (Vector n) v w le = tag_tells tagged_high refl v.tag w.tag le.within.tag
@@ -71,7 +71,7 @@ high_fits Call v h good e = tag_fits Call v.tag h (λ k lt. lt) good.fits e
 high_fits (Vector n) v h good e = tag_fits (Vector n) v.tag h (λ k lt. lt) good.fits e
 
 opening_less : (k : NodeKey) (at : IsKey k) (s t : AbsState) (le : IsStateLess k.inst.kind (offset_of k.sp) s t) (pc : ℕ) (f g : Option High)
-    → Tells f g → ((h : High) → f ≡ Some h → HighFitsKind k.inst.kind h) → LeadsLess k.inst (opening f k s pc) (opening g k t pc)
+    → IsSameWhere f g → ((h : High) → f ≡ Some h → HighFitsKind k.inst.kind h) → LeadsLess k.inst (opening f k s pc) (opening g k t pc)
 opening_less k at s t le pc f None tells fits = fails_less k.inst (opening f k s pc) (UntrackedSp pc)
 opening_less k at s t le pc f (Some h) tells fits =
     subst (λ (x : Option High). LeadsLess k.inst (opening x k s pc) (opening (Some h) k t pc)) (sym (tells h refl))
@@ -89,7 +89,7 @@ no_frame (Closed offset) = refl
 no_frame (Open offset (Known h)) = refl
 no_frame (Open offset (Tagged k)) = refl
 
-closing_tells : (device : Device) (kind : Kind) (sp : SpForm) (v w : AbsByte) → IsLess kind v w → Tells (closing_offset device kind sp v) (closing_offset device kind sp w)
+closing_tells : (device : Device) (kind : Kind) (sp : SpForm) (v w : AbsByte) → IsLess kind v w → IsSameWhere (closing_offset device kind sp v) (closing_offset device kind sp w)
 closing_tells device Root sp v w le = tells_by (root_closing device sp) (no_root device sp) (byte_constant v.bits) (byte_constant w.bits) (constant_tells v.bits w.bits le.within.bits)
 closing_tells device Call sp v w le = tag_tells (frame_closing sp) (no_frame sp) v.tag w.tag le.within.tag
 closing_tells device (Vector n) sp v w le = tag_tells (frame_closing sp) (no_frame sp) v.tag w.tag le.within.tag
@@ -118,7 +118,7 @@ module _ (device : Device) (k : NodeKey) (at : IsKey k) (s t : AbsState) (le : I
       (record { registers = le.registers; flags = le.flags; slots = resized_less k.inst.kind (offset_of k.sp) s.slots t.slots le.slots n; facts = le.facts })
   closing_by false n small = fails_less k.inst (fails (TooDeep pc n)) (TooDeep pc n)
 
-  closing_less : (f g : Option ℕ) → Tells f g → LeadsLess k.inst (closing device f k s pc) (closing device g k t pc)
+  closing_less : (f g : Option ℕ) → IsSameWhere f g → LeadsLess k.inst (closing device f k s pc) (closing device g k t pc)
   closing_less f None tells = fails_less k.inst (closing device f k s pc) (UntrackedSp pc)
   closing_less f (Some n) tells =
       subst (λ (x : Option ℕ). LeadsLess k.inst (closing device x k s pc) (closing device (Some n) k t pc)) (sym (tells n refl))
@@ -153,7 +153,7 @@ sreg_nodes Zero k s is_out = refl
 sreg_nodes One k s is_out = refl
 sreg_nodes Any k s is_out = refl
 
-i_place : (k : NodeKey) (is_out on : Bool) → IsKey k → IsPlace k.inst (offset_of k.sp) (with_i k is_out on)
+i_place : (k : NodeKey) (is_out on : Bool) → IsKey k → IsKeyPlace k.inst (offset_of k.sp) (with_i k is_out on)
 i_place k is_out on at = record { key = record { word = at.word; small = at.small; masks = at.masks; fits = at.fits; pick = at.pick }; same = refl; at = refl }
 
 sreg_less : (k : NodeKey) (at : IsKey k) (s t : AbsState) (le : IsStateLess k.inst.kind (offset_of k.sp) s t) (is_out : Bool) (x y : Tri) → IsTriWithin x y
@@ -230,7 +230,7 @@ reaches_more s t r up a lo hi =
     (has_more (bits s r) (bits t r) (low (minus16 a up)) lo) (has_more (bits s (r + 1)) (bits t (r + 1)) (high (minus16 a up)) hi)
 
 module _ (device : Device) (k : NodeKey) (at : IsKey k) (s t : AbsState) (le : IsStateLess k.inst.kind (offset_of k.sp) s t) (pc : ℕ) (v w : AbsByte) (h : IsLess k.inst.kind v w) where
-  fixed_less : (f g : Option ℕ) → Tells f g → LeadsLess k.inst (fixed_write device f pc k s v) (fixed_write device g pc k t w)
+  fixed_less : (f g : Option ℕ) → IsSameWhere f g → LeadsLess k.inst (fixed_write device f pc k s v) (fixed_write device g pc k t w)
   fixed_less f None tells = fails_less k.inst (fixed_write device f pc k s v) (UnknownPointer pc)
   fixed_less f (Some a) tells =
       subst (λ (x : Option ℕ). LeadsLess k.inst (fixed_write device x pc k s v) (fixed_write device (Some a) pc k t w)) (sym (tells a refl)) (write_less device k at s t le pc false a v w h)
@@ -243,7 +243,7 @@ module _ (device : Device) (k : NodeKey) (at : IsKey k) (s t : AbsState) (le : I
       (filtered_less k.inst (λ (a : ℕ). written_at device pc k s false a v) (λ (a : ℕ). written_at device pc k t false a w) p q addresses (λ a i. write_less device k at s t le pc false a v w h) (λ a i. more a))
 
   -- the pointer as it was in these states
-  pub pointer_less : (words : List ℕ) (A : List Entry) (was_s was_t : AbsState) (r up : ℕ) (p q : Pointed) → Tells p.constant q.constant
+  pub pointer_less : (words : List ℕ) (A : List Entry) (was_s was_t : AbsState) (r up : ℕ) (p q : Pointed) → IsSameWhere p.constant q.constant
       → IsWithin (bits was_s r) (bits was_t r) → IsWithin (bits was_s (r + 1)) (bits was_t (r + 1))
       → LeadsLess k.inst (pointer_write device words A was_s r up p pc k s v) (pointer_write device words A was_t r up q pc k t w)
   pointer_less words A was_s was_t r up p q tells lo hi =

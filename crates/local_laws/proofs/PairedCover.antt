@@ -17,7 +17,7 @@ use Rattle.avr_model.specs.Effects.{effect_of, binary_effect, immediate_effect, 
 use Rattle.avr_model.specs.State.{State}
 use Rattle.avr_model.specs.Sreg.{flag}
 use Rattle.avr_model.specs.Step.{after, registers_after, sreg_after, with_registers}
-use Rattle.sp_domain.specs.Tags.{Origin, HasBytes, LessHolds}
+use Rattle.sp_domain.specs.Tags.{Origin, HasByteNumbers, LessHolds}
 use Rattle.abs_state.specs.declared.state.AbsState.{AbsState}
 use Rattle.abs_state.specs.Laws.{HoldsAt}
 use Rattle.abs_state.specs.Formed.{IsFormed}
@@ -38,7 +38,7 @@ use Rattle.local_rules.specs.Cover.{ArrivesAt, Follows, stays, calls, leaves}
 use Rattle.local_laws.proofs.Bare.{IsBare, InBareFrame}
 use Rattle.local_laws.proofs.Bytes.{byte_in_list}
 use Rattle.local_laws.proofs.Frame.{turns_to}
-use Rattle.local_laws.proofs.PlainRows.{IsRefined}
+use Rattle.local_laws.proofs.PlainRows.{IsRefinedInstr}
 
 -- ---- refined nodes
 
@@ -90,7 +90,7 @@ module _ (words : List ℕ) (m : State) (b1 b2 : ℕ) where
   unary_stores unary.Ror d = refl
   unary_stores unary.Dec d = refl
 
-  no_stores : (instr : Instr) → IsRefined instr → (effect_of words m instr b1 b2).stores ≡ []
+  no_stores : (instr : Instr) → IsRefinedInstr instr → (effect_of words m instr b1 b2).stores ≡ []
   no_stores (i.Binary op d r) is = binary_stores op d r
   no_stores (i.Immediate op d n) is = immediate_stores op d n
   no_stores (i.Unary op d) is = unary_stores op d
@@ -118,7 +118,7 @@ module _ (words : List ℕ) (are : AreWords words) (m : State) (o : Origin) (k :
     facts = at.facts;
   }
 
-  module _ (is : IsRefined instr) where
+  module _ (is : IsRefinedInstr instr) where
     abbrev Reached : List ℕ → ℕ → Type 0
     Reached registers sreg = (registers ≡ (after m guarded effect).registers) × (sreg ≡ (after m guarded effect).sreg)
 
@@ -171,7 +171,7 @@ left_bare k s t h left =
       pick = h.pick;
       formed = left.formed;
       tags = left.fit h.tags;
-      carry_bytes = subst HasBytes (sym left.carry) h.carry_bytes;
+      carry_bytes = subst HasByteNumbers (sym left.carry) h.carry_bytes;
       untagged = λ root. left.untagged (h.untagged root);
     }
 

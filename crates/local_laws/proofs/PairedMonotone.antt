@@ -16,7 +16,7 @@ use Rattle.avr_model.specs.declared.instruction.BinaryOp.TheVariants as binary
 use Rattle.avr_model.specs.declared.instruction.Pointer.{Pointer}
 use Rattle.avr_model.specs.Sites.{pointer_register}
 use Rattle.avr_model.specs.Written.{written}
-use Rattle.sp_domain.specs.Tags.{HasBytes}
+use Rattle.sp_domain.specs.Tags.{HasByteNumbers}
 use Rattle.pair_domain.specs.declared.facts.PairFacts.{PairFacts}
 use Rattle.abs_state.specs.declared.state.AbsState.{AbsState}
 use Rattle.abs_state.specs.Order.{IsStateWithin}
@@ -42,7 +42,7 @@ use Rattle.local_laws.proofs.Bare.{IsBare, bare_key}
 use Rattle.local_laws.proofs.Members.{each_of}
 use Rattle.local_laws.proofs.MonotoneAlu.{reg, reg_bits}
 use Rattle.local_laws.proofs.MonotoneFields.{InstrFits}
-use Rattle.local_laws.proofs.MonotoneRaw.{IsMet, LeadsLess, nowhere_less, none_less, both_less, further_small, next_key}
+use Rattle.local_laws.proofs.MonotoneRaw.{IsMetAbove, LeadsLess, nowhere_less, none_less, both_less, further_small, next_key}
 use Rattle.local_laws.proofs.MonotoneReads.{pointed_constants}
 use Rattle.local_laws.proofs.MonotoneRows.{row_less, moved_less}
 use Rattle.local_laws.proofs.MonotoneValues.{IsStateLess, AreRegistersLess, node_less, less_node, less_within, forgetting_both}
@@ -50,7 +50,7 @@ use Rattle.local_laws.proofs.MonotoneWrites.{pointer_less}
 use Rattle.local_laws.proofs.PairedCover.{in_refined, left_bare}
 use Rattle.local_laws.proofs.PairedPlain.{row_plain}
 use Rattle.local_laws.proofs.PairedStep.{IsStored, stored_same, same_moved}
-use Rattle.local_laws.proofs.PlainRows.{IsRefined}
+use Rattle.local_laws.proofs.PlainRows.{IsRefinedInstr}
 use Rattle.local_laws.proofs.Quiet.{Quiet, pointer_quiet}
 
 -- ---- refined nodes
@@ -89,7 +89,7 @@ refined_bare words instr n s k t u has formed h e =
       pick = h.pick;
       formed = refined_is_ordered.formed (marks words) words instr n (offset_of k.sp) s t u has formed h.formed e;
       tags = refined_is_ordered.tags (marks words) words instr n (offset_of k.sp) s t u has formed h.formed h.tags e;
-      carry_bytes = subst (λ f. HasBytes f.carry) (sym like.flags) h.carry_bytes;
+      carry_bytes = subst (λ f. HasByteNumbers f.carry) (sym like.flags) h.carry_bytes;
       untagged = λ root. refined_is_ordered.untagged (marks words) words instr n (offset_of k.sp) s t u has formed h.formed (h.untagged root) e;
     }
 
@@ -125,7 +125,7 @@ where_less k (Some u) y pc lt h =
     (λ e. record {
       faultless = refl;
       moves =
-          each_of (IsMet k.inst (record { key = off_table k pc; state = v } ∷ [])) (record { key = off_table k pc; state = u }) []
+          each_of (IsMetAbove k.inst (record { key = off_table k pc; state = v } ∷ [])) (record { key = off_table k pc; state = u }) []
           (record {
             same = refl;
             node = turned_bare k u pc lt left.0;
@@ -168,7 +168,7 @@ module _ (device : Device) (words : List ℕ) (A : List Entry) (k : NodeKey) (s 
   plain_nodes scratch instr fits =
       row_less device words A k at (before instr t) (before instr t) (forgetting_both k.inst.kind (offset_of k.sp) (written instr) (sets_flags instr) (sets_carry instr) t t same_less) scratch instr fits
 
-  refining_less : (scratch : Bool) (instr : Instr) → InstrFits instr → HasRegisters instr → IsRefined instr
+  refining_less : (scratch : Bool) (instr : Instr) → InstrFits instr → HasRegisters instr → IsRefinedInstr instr
       → Less (refining words instr s (plain_row device words A scratch k s instr)) (refining words instr t (plain_row device words A scratch k t instr))
   refining_less scratch instr fits has is clean =
       let below = plain_less scratch instr fits clean in
@@ -184,7 +184,7 @@ module _ (device : Device) (words : List ℕ) (A : List Entry) (k : NodeKey) (s 
             refined_is_ordered.more (marks words) words instr (offset_of k.sp) (offset_of of.to.key.sp) s t of.to.state met.below.state x.state has low.formed high.formed met.node.formed node.formed
             (row_plain device words A scratch k s low.formed.count_registers instr is has of.to of.member)
             (row_plain device words A scratch k t high.formed.count_registers instr is has top met.below.present) within met.below.above of.left in
-            let is_met : IsMet k.inst (refining words instr t (plain_row device words A scratch k t instr)).moves (record { key = of.to.key; state = x.state }) = record {
+            let is_met : IsMetAbove k.inst (refining words instr t (plain_row device words A scratch k t instr)).moves (record { key = of.to.key; state = x.state }) = record {
               same = met.same;
               node = refined_bare words instr (offset_of k.sp) s of.to.key of.to.state x.state has low.formed met.node of.left;
               below = record {
@@ -193,7 +193,7 @@ module _ (device : Device) (words : List ℕ) (A : List Entry) (k : NodeKey) (s 
                 above = more.2;
               };
             } in
-            subst (λ (key : NodeKey). IsMet k.inst (refining words instr t (plain_row device words A scratch k t instr)).moves (record { key = key; state = x.state })) (sym of.same) is_met;
+            subst (λ (key : NodeKey). IsMetAbove k.inst (refining words instr t (plain_row device words A scratch k t instr)).moves (record { key = key; state = x.state })) (sym of.same) is_met;
         calls = below.calls;
         exit = below.exit;
       }

@@ -32,7 +32,7 @@ use Rattle.local_rules.specs.Reads.{flash_value, word_of, pair_constant}
 use Rattle.local_rules.specs.Local.{plain_row}
 use Rattle.local_laws.proofs.Members.{each_of}
 use Rattle.local_laws.proofs.MonotoneValues.{set_same}
-use Rattle.local_laws.proofs.PlainRows.{IsRefined, row_leaves}
+use Rattle.local_laws.proofs.PlainRows.{IsRefinedInstr, row_leaves}
 
 only_one : (P : Node → Type 0) (k : NodeKey) (s : AbsState) → P (record { key = k; state = s }) → (to : Node) → Contains (one k s).moves to → P to
 only_one P k s h = each_of P (record { key = k; state = s }) [] h (λ n i. absurd (none_in n i))
@@ -87,7 +87,7 @@ module _ (device : Device) (words : List ℕ) (A : List Entry) (scratch : Bool) 
 
   -- ---- the row
 
-  told_covered : (instr : Instr) → IsRefined instr → HasRegisters instr → (to : Node) → Contains (plain_row device words A scratch k s instr).moves to → CoversTold words s instr to.state
+  told_covered : (instr : Instr) → IsRefinedInstr instr → HasRegisters instr → (to : Node) → Contains (plain_row device words A scratch k s instr).moves to → CoversTold words s instr to.state
   told_covered (i.Binary op d r) is has to member = λ same.
       subst (λ (x : ℕ). Contains (plain_row device words A scratch k s (i.Binary op d x)).moves to → CoversDoubled s op d (value_at to.state.registers d)) same (same_doubled op d has.0 to) member
   told_covered (i.LpmZ d) is has to member = only_one (λ (n : Node). (f : PairFacts) → CoversFlash words (z_of s f) (value_at n.state.registers d)) _ _ (flash_set s.registers d (omega (arith, has, count))) to member
@@ -100,5 +100,5 @@ module _ (device : Device) (words : List ℕ) (A : List Entry) (scratch : Bool) 
   told_covered i.Lpm is has to member = only_one (λ (n : Node). (f : PairFacts) → CoversFlash words (z_of s f) (value_at n.state.registers 0)) _ _ (flash_set s.registers 0 (omega (arith, count))) to member
   told_covered instr is has to member = tt
 
-  pub row_plain : (instr : Instr) → IsRefined instr → HasRegisters instr → (to : Node) → Contains (plain_row device words A scratch k s instr).moves to → IsPlain words instr s to.state
+  pub row_plain : (instr : Instr) → IsRefinedInstr instr → HasRegisters instr → (to : Node) → Contains (plain_row device words A scratch k s instr).moves to → IsPlain words instr s to.state
   row_plain instr is has to member = record { facts = (row_leaves device words A scratch k (before instr s) instr is to member).facts; value = told_covered instr is has to member }

@@ -53,7 +53,7 @@ use Rattle.local_laws.proofs.MonotoneFields.{instruction_fits}
 use Rattle.local_laws.proofs.MonotoneRows.{moved_less, row_less}
 use Rattle.local_laws.proofs.MonotoneValues.{AreRegistersLess, IsStateLess, node_less, less_node}
 use Rattle.local_laws.proofs.PairedCover.{is_before, refining_follows, two_ways}
-use Rattle.local_laws.proofs.PlainRows.{IsRefined}
+use Rattle.local_laws.proofs.PlainRows.{IsRefinedInstr}
 use Rattle.local_laws.proofs.PointerReads.{pointer_stands}
 use Rattle.local_laws.proofs.Sized.{sized_at}
 use Rattle.local_laws.proofs.SplitMembers.{are_written}
@@ -239,7 +239,7 @@ module _ (words : List ℕ) (A : List Entry) (m : State) (o : Origin) (k : NodeK
 
   -- ---- all rows
 
-  refined_covered : (instr : Instr) → instruction_at words m.pc ≡ Some instr → IsRefined instr → Covered instr (plain_row m.device words A scratch k s instr)
+  refined_covered : (instr : Instr) → instruction_at words m.pc ≡ Some instr → IsRefinedInstr instr → Covered instr (plain_row m.device words A scratch k s instr)
       → Covered instr (refining words instr s (plain_row m.device words A scratch k s instr))
   refined_covered instr e is h clean unflagged =
       let there = forgetting_at m o k s (written instr) (sets_flags instr) (sets_carry instr) at in

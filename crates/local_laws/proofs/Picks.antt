@@ -37,7 +37,7 @@ use Rattle.pair_cut_laws.proofs.AllLaws.{picks_are_cut}
 use Rattle.pair_domain.specs.declared.facts.PairFacts.{PairFacts}
 use Rattle.local_laws.proofs.Bytes.{byte_in_list}
 use Rattle.local_laws.proofs.Targets.{in_filter}
-use Rattle.local_laws.proofs.WriteValues.{Reaches}
+use Rattle.local_laws.proofs.WriteValues.{ReachesNode}
 use Rattle.local_laws.proofs.PointerWrites.{by_first, by_rest}
 use Rattle.local_laws.proofs.MonotoneValues.{IsLess, IsStateLess, registers_set, bits_less, node_less, less_node}
 use Rattle.local_laws.proofs.Quiet.{Quiet}
@@ -212,16 +212,16 @@ faultless_in f (y ∷ ys) x h clean =
     ⊎_elim (λ e. subst (λ (z : ℕ). (f z).faults ≡ []) (sym e) none.0) (λ rest. faultless_in f ys x rest none.1) (first_or_further y x ys h)
 
 module _ (m : State) (o : Origin) (k : NodeKey) (guarded : Bool) (e : Effect) where
-  reached_in : (f : ℕ → Raw) (xs : List ℕ) (x : ℕ) → Contains xs x → Reaches m o None k guarded e (f x) → Reaches m o None k guarded e (all_of (map f xs))
+  reached_in : (f : ℕ → Raw) (xs : List ℕ) (x : ℕ) → Contains xs x → ReachesNode m o None k guarded e (f x) → ReachesNode m o None k guarded e (all_of (map f xs))
   reached_in f [] x h reached = absurd (none_in x h)
   reached_in f (y ∷ ys) x h reached =
       ⊎_elim
-      (λ same. by_first m o None k guarded e (f y) (map f ys) (subst (λ (z : ℕ). Reaches m o None k guarded e (f z)) same reached))
+      (λ same. by_first m o None k guarded e (f y) (map f ys) (subst (λ (z : ℕ). ReachesNode m o None k guarded e (f z)) same reached))
       (λ rest. by_rest m o None k guarded e (f y) (map f ys) (reached_in f ys x rest reached))
       (first_or_further y x ys h)
 
   -- where nothing is called or left, what follows is reached
-  reached_by : (byte b1 b2 : ℕ) (r : Raw) → Quiet r → Follows m o (picking k byte) guarded b1 b2 e r → Reaches m o None k guarded e r
+  reached_by : (byte b1 b2 : ℕ) (r : Raw) → Quiet r → Follows m o (picking k byte) guarded b1 b2 e r → ReachesNode m o None k guarded e r
   reached_by byte b1 b2 r quiet (stays to present inst lands) = record { to = to; present = present; inst = inst; at_node = record { lands = λ held. lands } }
   reached_by byte b1 b2 r quiet (calls offset site present closed is made) = absurd (none_in site (subst (λ xs. Contains xs site) quiet.0 present))
   reached_by byte b1 b2 r quiet (leaves x is kind closed return) = absurd (let e = sym quiet.1 in let no = is in cc)

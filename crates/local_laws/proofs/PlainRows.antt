@@ -84,7 +84,7 @@ pointer_set pointer.MinusX s = two_set s.registers 26 27 _ _
 
 -- ---- states
 
-pub record IsWritten (written : List ℕ) (s t : AbsState) : Type 0 where
+pub record AreOthersKept (written : List ℕ) (s t : AbsState) : Type 0 where
   pub facts : t.facts ≡ s.facts
   pub others : KeepOthers written s.registers t.registers
 
@@ -95,16 +95,16 @@ module _ (rs : List ℕ) (s : AbsState) where
   ComputedKeeps (Some c) = KeepOthers rs s.registers c.registers
 
   abbrev pub Leaves : Raw → Type 0
-  Leaves r = (to : Node) → Contains r.moves to → IsWritten rs s to.state
+  Leaves r = (to : Node) → Contains r.moves to → AreOthersKept rs s to.state
 
-  same_state : IsWritten rs s s
+  same_state : AreOthersKept rs s s
   same_state = record { facts = refl; others = none_set rs s.registers }
 
   leaves_none : Leaves nowhere
   leaves_none to h = absurd (none_in to h)
 
-  leaves_one : (k : NodeKey) (t : AbsState) → IsWritten rs s t → Leaves (one k t)
-  leaves_one k t h = each_of (λ (n : Node). IsWritten rs s n.state) (record { key = k; state = t }) [] h (λ n h. absurd (none_in n h))
+  leaves_one : (k : NodeKey) (t : AbsState) → AreOthersKept rs s t → Leaves (one k t)
+  leaves_one k t h = each_of (λ (n : Node). AreOthersKept rs s n.state) (record { key = k; state = t }) [] h (λ n h. absurd (none_in n h))
 
   leaves_same : (k : NodeKey) → Leaves (one k s)
   leaves_same k = leaves_one k s same_state
@@ -117,7 +117,7 @@ module _ (rs : List ℕ) (s : AbsState) where
   leaves_branch One k taken other = leaves_same (off_table k taken)
   leaves_branch Zero k taken other = leaves_same (off_table k other)
   leaves_branch Any k taken other =
-      each_of (λ (n : Node). IsWritten rs s n.state) (record { key = off_table k other; state = s }) (record { key = off_table k taken; state = s } ∷ []) same_state (leaves_same (off_table k taken))
+      each_of (λ (n : Node). AreOthersKept rs s n.state) (record { key = off_table k other; state = s }) (record { key = off_table k taken; state = s } ∷ []) same_state (leaves_same (off_table k taken))
 
   leaves_by : (device : Device) (k : NodeKey) (c : Option Computed) (r : Raw) → ComputedKeeps c → Leaves r → Leaves (going_by device k s c r)
   leaves_by device k None r h g = g
@@ -140,7 +140,7 @@ module _ (rs : List ℕ) (s : AbsState) where
 
   leaves_jumping : (targets : Option (List ℕ)) (k : NodeKey) → Leaves (jumping targets k s)
   leaves_jumping None k = leaves_none
-  leaves_jumping (Some targets) k = each_in_map (λ t. record { key = off_table k t; state = s }) (λ (n : Node). IsWritten rs s n.state) targets (λ t h. same_state)
+  leaves_jumping (Some targets) k = each_in_map (λ t. record { key = off_table k t; state = s }) (λ (n : Node). AreOthersKept rs s n.state) targets (λ t h. same_state)
 
   leaves_closed : (sp : SpForm) (pc : ℕ) (f : ℕ → Raw) → ((offset : ℕ) → Leaves (f offset)) → Leaves (at_closed sp pc f)
   leaves_closed (Closed offset) pc f h = h offset
@@ -255,22 +255,22 @@ abbrev pub IsRefinedBinary : BinaryOp → Type 0
 IsRefinedBinary binary.Cpse = ⊥
 IsRefinedBinary _ = ⊤
 
-abbrev pub IsRefined : Instr → Type 0
-IsRefined (i.Binary op d r) = IsRefinedBinary op
-IsRefined (i.Std b q r) = ⊥
-IsRefined (i.Sts a r) = ⊥
-IsRefined (i.St p r) = ⊥
-IsRefined (i.Out a r) = ⊥
-IsRefined (i.Cbi a b) = ⊥
-IsRefined (i.Sbi a b) = ⊥
-IsRefined (i.Brbs n t) = ⊥
-IsRefined (i.Brbc n t) = ⊥
-IsRefined (i.Sbrc r b) = ⊥
-IsRefined (i.Sbrs r b) = ⊥
-IsRefined _ = ⊤
+abbrev pub IsRefinedInstr : Instr → Type 0
+IsRefinedInstr (i.Binary op d r) = IsRefinedBinary op
+IsRefinedInstr (i.Std b q r) = ⊥
+IsRefinedInstr (i.Sts a r) = ⊥
+IsRefinedInstr (i.St p r) = ⊥
+IsRefinedInstr (i.Out a r) = ⊥
+IsRefinedInstr (i.Cbi a b) = ⊥
+IsRefinedInstr (i.Sbi a b) = ⊥
+IsRefinedInstr (i.Brbs n t) = ⊥
+IsRefinedInstr (i.Brbc n t) = ⊥
+IsRefinedInstr (i.Sbrc r b) = ⊥
+IsRefinedInstr (i.Sbrs r b) = ⊥
+IsRefinedInstr _ = ⊤
 
 module _ (device : Device) (words : List ℕ) (A : List Entry) (scratch : Bool) (k : NodeKey) (s : AbsState) where
-  pub row_leaves : (instr : Instr) → IsRefined instr → Leaves (written instr) s (row_of device words A scratch k s instr)
+  pub row_leaves : (instr : Instr) → IsRefinedInstr instr → Leaves (written instr) s (row_of device words A scratch k s instr)
   row_leaves (i.Movw d r) is = leaves_set _ s device _ _ refl (two_set s.registers (2 * d) (2 * d + 1) _ _)
   row_leaves (i.Muls d r) is = leaves_set _ s device _ _ refl (two_set s.registers 0 1 _ _)
   row_leaves (i.Mulsu d r) is = leaves_set _ s device _ _ refl (two_set s.registers 0 1 _ _)

@@ -31,8 +31,8 @@ use Rattle.local_rules.specs.Writes.{written_at, reaches, fixed_write, listed_wr
 use Rattle.local_laws.proofs.Bare.{InBareFrame}
 use Rattle.local_laws.proofs.Frame.{register_stands}
 use Rattle.local_laws.proofs.PointerReads.{pair_small, low_is, high_is, number_is}
-use Rattle.local_laws.proofs.SplitMembers.{AreWritten}
-use Rattle.local_laws.proofs.WriteValues.{stored, Reaches, enables_kept, chosen, only, elsewhere, changes_none, less_still, facts_still, written}
+use Rattle.local_laws.proofs.SplitMembers.{AreSplitsWritten}
+use Rattle.local_laws.proofs.WriteValues.{stored, ReachesNode, enables_kept, chosen, only, elsewhere, changes_none, less_still, facts_still, written}
 
 back_to : (w up : ℕ) → w < 65536 → w ≡ minus16 (plus16 w up) up
 back_to w up lt = omega arith
@@ -59,20 +59,20 @@ elsewhere_is a h =
 -- ---- all of several
 
 module _ (m : State) (o : Origin) (known : Option PairFacts) (k : NodeKey) (guarded : Bool) (e : Effect) where
-  pub by_first : (r : Raw) (rs : List Raw) → Reaches m o known k guarded e r → Reaches m o known k guarded e (all_of (r ∷ rs))
+  pub by_first : (r : Raw) (rs : List Raw) → ReachesNode m o known k guarded e r → ReachesNode m o known k guarded e (all_of (r ∷ rs))
   by_first r rs h = record { to = h.to; present = Contains-append_left r.moves (all_of rs).moves h.to h.present; inst = h.inst; at_node = h.at_node }
 
-  pub by_rest : (r : Raw) (rs : List Raw) → Reaches m o known k guarded e (all_of rs) → Reaches m o known k guarded e (all_of (r ∷ rs))
+  pub by_rest : (r : Raw) (rs : List Raw) → ReachesNode m o known k guarded e (all_of rs) → ReachesNode m o known k guarded e (all_of (r ∷ rs))
   by_rest r rs h = record { to = h.to; present = Contains-append_right r.moves (all_of rs).moves h.to h.present; inst = h.inst; at_node = h.at_node }
 
   -- one more item, which is kept or not, and is the address or not
   by_item : (f : ℕ → Raw) (p : ℕ → Bool) (a x : ℕ) (kept : List ℕ) (listed b c : Bool) → p x ≡ b → (x == a) ≡ c → (c || listed) ≡ true → p a ≡ true
-      → ((f a).faults ≡ [] → Reaches m o known k guarded e (f a))
-      → (listed ≡ true → (all_of (map f kept)).faults ≡ [] → Reaches m o known k guarded e (all_of (map f kept)))
-      → (all_of (map f (if b then x ∷ kept else kept))).faults ≡ [] → Reaches m o known k guarded e (all_of (map f (if b then x ∷ kept else kept)))
+      → ((f a).faults ≡ [] → ReachesNode m o known k guarded e (f a))
+      → (listed ≡ true → (all_of (map f kept)).faults ≡ [] → ReachesNode m o known k guarded e (all_of (map f kept)))
+      → (all_of (map f (if b then x ∷ kept else kept))).faults ≡ [] → ReachesNode m o known k guarded e (all_of (map f (if b then x ∷ kept else kept)))
   by_item f p a x kept listed true true met same found may h rest clean =
       let empty = both_empty (f x).faults (all_of (map f kept)).faults clean in
-      by_first (f x) (map f kept) (subst (λ y. (f y).faults ≡ [] → Reaches m o known k guarded e (f y)) (sym (eqb-true x a same)) h empty.0)
+      by_first (f x) (map f kept) (subst (λ y. (f y).faults ≡ [] → ReachesNode m o known k guarded e (f y)) (sym (eqb-true x a same)) h empty.0)
   by_item f p a x kept listed true false met other found may h rest clean =
       let empty = both_empty (f x).faults (all_of (map f kept)).faults clean in
       by_rest (f x) (map f kept) (rest found empty.1)
@@ -82,8 +82,8 @@ module _ (m : State) (o : Origin) (known : Option PairFacts) (k : NodeKey) (guar
   by_item f p a x kept listed false false unmet other found may h rest clean = rest found clean
 
   -- a listed address that can be met
-  by_listed : (f : ℕ → Raw) (p : ℕ → Bool) (a : ℕ) (xs : List ℕ) → lists xs a ≡ true → p a ≡ true → ((f a).faults ≡ [] → Reaches m o known k guarded e (f a))
-      → (all_of (map f (filter p xs))).faults ≡ [] → Reaches m o known k guarded e (all_of (map f (filter p xs)))
+  by_listed : (f : ℕ → Raw) (p : ℕ → Bool) (a : ℕ) (xs : List ℕ) → lists xs a ≡ true → p a ≡ true → ((f a).faults ≡ [] → ReachesNode m o known k guarded e (f a))
+      → (all_of (map f (filter p xs))).faults ≡ [] → ReachesNode m o known k guarded e (all_of (map f (filter p xs)))
   by_listed f p a [] listed may h clean = absurd (cc)
   by_listed f p a (x ∷ xs) listed may h clean =
       by_item f p a x (filter p xs) (lists xs a) (p x) (x == a) refl refl listed may h (λ found. by_listed f p a xs found may h) clean
@@ -98,7 +98,7 @@ module _ (m : State) (o : Origin) (k : NodeKey) (s : AbsState) (at : InBareFrame
     (registers : List AbsByte) (stand : RegistersStand o registers (with_registers m.registers writes))
     (less : LessHolds (with_registers m.registers writes) s.flags.carry (flag m.sreg 0)) (told : Option PairFacts) (told_fits : KnownFits told)
     (byte : ℕ) (small : byte < 256) (v : AbsByte) (stands : ByteStands o v byte) (count_values : length registers ≡ 32)
-    (count : length (with_registers m.registers writes) ≡ 32) (members : AreWritten) where
+    (count : length (with_registers m.registers writes) ≡ 32) (members : AreSplitsWritten) where
   abbrev key : NodeKey
   key = at_word k pc'
 
@@ -108,15 +108,15 @@ module _ (m : State) (o : Origin) (k : NodeKey) (s : AbsState) (at : InBareFrame
   abbrev effect : ℕ → Effect
   effect a = stored m pc writes false a byte
 
-  known_written : (a : ℕ) → (written_at m.device k.pc key state false a v).faults ≡ [] → Reaches m o told k guarded (effect a) (written_at m.device k.pc key state false a v)
+  known_written : (a : ℕ) → (written_at m.device k.pc key state false a v).faults ≡ [] → ReachesNode m o told k guarded (effect a) (written_at m.device k.pc key state false a v)
   known_written = written m o k s at guarded pc pc' pc_is writes registers stand less told told_fits false byte small v stands count_values count members
 
   fixed_written : (a : ℕ) (c : Option ℕ) → ((x : ℕ) → c ≡ Some x → a ≡ x) → (fixed_write m.device c k.pc key state v).faults ≡ []
-      → Reaches m o told k guarded (effect a) (fixed_write m.device c k.pc key state v)
+      → ReachesNode m o told k guarded (effect a) (fixed_write m.device c k.pc key state v)
   fixed_written a None is clean = absurd (cc)
-  fixed_written a (Some x) is clean = subst (λ b. Reaches m o told k guarded (effect b) (fixed_write m.device (Some x) k.pc key state v)) (sym (is x refl)) (known_written x clean)
+  fixed_written a (Some x) is clean = subst (λ b. ReachesNode m o told k guarded (effect b) (fixed_write m.device (Some x) k.pc key state v)) (sym (is x refl)) (known_written x clean)
 
-  nothing_written : (a : ℕ) → is_protected a ≡ false → Reaches m o told k guarded (effect a) (one key state)
+  nothing_written : (a : ℕ) → is_protected a ≡ false → ReachesNode m o told k guarded (effect a) (one key state)
   nothing_written a free =
       let is = elsewhere_is a free in
       only m o k s at guarded pc pc' pc_is writes registers stand less told told_fits false (effect a) (record { key = key; state = state }) refl
@@ -139,7 +139,7 @@ module _ (m : State) (o : Origin) (k : NodeKey) (s : AbsState) (at : InBareFrame
 
   listed_by : (r up : ℕ) (listed : List ℕ) (b : Bool) → is_protected (plus16 (pair m r) up) ≡ b → unlisted listed (set (plus16 (pair m r) up) byte) ≡ None
       → (listed_writes m.device k.pc key state (filter (λ a. reaches s r up a) listed) v).faults ≡ []
-      → Reaches m o told k guarded (effect (plus16 (pair m r) up)) (listed_writes m.device k.pc key state (filter (λ a. reaches s r up a) listed) v)
+      → ReachesNode m o told k guarded (effect (plus16 (pair m r) up)) (listed_writes m.device k.pc key state (filter (λ a. reaches s r up a) listed) v)
   listed_by r up listed false is unflagged clean = by_first m o told k guarded (effect (plus16 (pair m r) up)) (one key state) (listed_ones r up listed) (nothing_written (plus16 (pair m r) up) is)
   listed_by r up listed true is unflagged clean =
       let a : ℕ = plus16 (pair m r) up in
@@ -151,7 +151,7 @@ module _ (m : State) (o : Origin) (k : NodeKey) (s : AbsState) (at : InBareFrame
   pub pointer_written : (words : List ℕ) (A : List Entry) (r up : ℕ)
       → (is_fixed_site words A k.pc ≡ false → unlisted (store_line A k.pc) (set (plus16 (pair m r) up) byte) ≡ None)
       → (pointer_write m.device words A s r up (pointed s r up) k.pc key state v).faults ≡ []
-      → Reaches m o told k guarded (effect (plus16 (pair m r) up)) (pointer_write m.device words A s r up (pointed s r up) k.pc key state v)
+      → ReachesNode m o told k guarded (effect (plus16 (pair m r) up)) (pointer_write m.device words A s r up (pointed s r up) k.pc key state v)
   pointer_written words A r up unflagged clean =
       let a : ℕ = plus16 (pair m r) up in
       chosen m o k s at guarded pc pc' pc_is writes registers stand less told told_fits false (effect a) (is_fixed_site words A k.pc)

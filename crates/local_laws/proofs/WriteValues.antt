@@ -48,13 +48,13 @@ use Rattle.local_rules.specs.declared.local.NodeFault.TheVariants.{TooDeep}
 use Rattle.local_rules.specs.Raw.{Raw, at_word, one, fails}
 use Rattle.local_rules.specs.Writes.{high_part, opening, closing_offset, closing, is_entry_flags, flags_written, with_i, sreg_written, masks_written, register_written as node_written, put_flags, written_at}
 use Rattle.local_laws.proofs.Bare.{InBareFrame}
-use Rattle.local_laws.proofs.Landing.{ArrivesAt}
+use Rattle.local_laws.proofs.Landing.{ArrivesWhere}
 use Rattle.local_laws.proofs.Frame.{second, set_stands, slot_kept, above_floor, frame_kept}
 use Rattle.local_rules.specs.Registers.{with_bits, forgotten}
 use Rattle.local_laws.proofs.Less.{less_set, forgotten_less, forgotten_spares}
 use Rattle.local_laws.proofs.Targets.{in_map}
 use Rattle.local_laws.proofs.SpWrites.{opened, closes}
-use Rattle.local_laws.proofs.SplitMembers.{AreWritten}
+use Rattle.local_laws.proofs.SplitMembers.{AreSplitsWritten}
 
 -- The instruction goes to a word, sets registers, and stores a byte; `out` may give a delay.
 abbrev pub stored : State → ℕ → List Write → Bool → ℕ → ℕ → Effect
@@ -72,11 +72,11 @@ stored m pc writes is_out a byte =
     }
 
 -- the effect leads to one of these nodes, in the same instance
-pub record Reaches (m : State) (o : Origin) (x : Option PairFacts) (k : NodeKey) (guarded : Bool) (e : Effect) (r : Raw) : Type 0 where
+pub record ReachesNode (m : State) (o : Origin) (x : Option PairFacts) (k : NodeKey) (guarded : Bool) (e : Effect) (r : Raw) : Type 0 where
   pub to : Node
   pub present : Contains r.moves to
   pub inst : to.key.inst ≡ k.inst
-  pub at_node : ArrivesAt m o x guarded e to
+  pub at_node : ArrivesWhere m o x guarded e to
 
 -- ---- enable bits
 
@@ -177,11 +177,11 @@ module _ (m : State) (o : Origin) (k : NodeKey) (s : AbsState) (at : InBareFrame
   abbrev state : AbsState
   state = record s { registers = registers; facts = told }
 
-  pub only : (e : Effect) (to : Node) → to.key.inst ≡ k.inst → ArrivesAt m o told guarded e to → Reaches m o told k guarded e (record { moves = to ∷ []; calls = []; exit = None; faults = [] })
+  pub only : (e : Effect) (to : Node) → to.key.inst ≡ k.inst → ArrivesWhere m o told guarded e to → ReachesNode m o told k guarded e (record { moves = to ∷ []; calls = []; exit = None; faults = [] })
   only e to inst lands = record { to = to; present = first_in to []; inst = inst; at_node = lands }
 
-  pub chosen : (e : Effect) (b : Bool) (r q : Raw) → (b ≡ true → r.faults ≡ [] → Reaches m o told k guarded e r) → (b ≡ false → q.faults ≡ [] → Reaches m o told k guarded e q)
-      → (if b then r else q).faults ≡ [] → Reaches m o told k guarded e (if b then r else q)
+  pub chosen : (e : Effect) (b : Bool) (r q : Raw) → (b ≡ true → r.faults ≡ [] → ReachesNode m o told k guarded e r) → (b ≡ false → q.faults ≡ [] → ReachesNode m o told k guarded e q)
+      → (if b then r else q).faults ≡ [] → ReachesNode m o told k guarded e (if b then r else q)
   chosen e true r q h g clean = h refl clean
   chosen e false r q h g clean = g refl clean
 
@@ -191,7 +191,7 @@ module _ (m : State) (o : Origin) (k : NodeKey) (s : AbsState) (at : InBareFrame
       → RegistersStand o values (registers_after (with_registers m.registers writes) (set a byte))
       → LessHolds (registers_after (with_registers m.registers writes) (set a byte)) c (flag m.sreg 0)
       → (HoldsAt told (with_registers m.registers writes) m.sreg → HoldsAt x (registers_after (with_registers m.registers writes) (set a byte)) (sreg_after m.sreg (set a byte)))
-      → ArrivesAt m o told guarded (stored m pc writes is_out a byte)
+      → ArrivesWhere m o told guarded (stored m pc writes is_out a byte)
       (record { key = record key { masks = masks }; state = record s { registers = values; flags = record s.flags { carry = c }; facts = x } })
   elsewhere a byte masks values c x over not_low not_high not_sreg enables values_stand still known =
       let flags = values_say_less.flags o s.flags (record s.flags { carry = c }) m.sreg (record { entry = λ e. e; bits = λ x small has. has; carry = over }) at.stands.flags in
@@ -222,7 +222,7 @@ module _ (m : State) (o : Origin) (k : NodeKey) (s : AbsState) (at : InBareFrame
   module _ (byte : ℕ) (small : byte < 256) (v : AbsByte) (stands : ByteStands o v byte) (count_values : length registers ≡ 32)
       (count : length (with_registers m.registers writes) ≡ 32) where
     register_written : (a : ℕ) → nat_lt a 0x20 ≡ true → (a == SPL) ≡ false → (a == SPH) ≡ false → (a == SREG) ≡ false
-        → ArrivesAt m o told guarded (stored m pc writes is_out a byte) (record { key = key; state = node_written state a v })
+        → ArrivesWhere m o told guarded (stored m pc writes is_out a byte) (record { key = key; state = node_written state a v })
     register_written a here not_low not_high not_sreg =
         let lt : a < 0x20 = ltb-true a 0x20 here in
         let w : AbsByte = with_bits v.tag v.bits in
@@ -248,7 +248,7 @@ module _ (m : State) (o : Origin) (k : NodeKey) (s : AbsState) (at : InBareFrame
     -- ---- SPL
 
     closed_lands : (n : ℕ) → closing_offset m.device k.inst.kind k.sp v ≡ Some n
-        → ArrivesAt m o told guarded (stored m pc writes is_out SPL byte) (record { key = record key { sp = Closed n }; state = record state { slots = resized n s.slots } })
+        → ArrivesWhere m o told guarded (stored m pc writes is_out SPL byte) (record { key = record key { sp = Closed n }; state = record state { slots = resized n s.slots } })
     closed_lands n e =
         let at_base : n ≤ o.base → 256 * high m.sp + byte + n ≡ o.base = closes m.device o at.base_word m.is_open m.sp byte n small v stands k.inst.kind k.sp e at.place.sp at.root in
         record {
@@ -274,7 +274,7 @@ module _ (m : State) (o : Origin) (k : NodeKey) (s : AbsState) (at : InBareFrame
         }
 
     closed_written : (n : Option ℕ) → closing_offset m.device k.inst.kind k.sp v ≡ n → (closing m.device n key state k.pc).faults ≡ []
-        → Reaches m o told k guarded (stored m pc writes is_out SPL byte) (closing m.device n key state k.pc)
+        → ReachesNode m o told k guarded (stored m pc writes is_out SPL byte) (closing m.device n key state k.pc)
     closed_written None e clean = absurd (cc)
     closed_written (Some n) e clean =
         chosen (stored m pc writes is_out SPL byte) (nat_le n (size_of m.device)) (one (record key { sp = Closed n }) (record state { slots = resized n s.slots })) (fails (TooDeep k.pc n))
@@ -283,7 +283,7 @@ module _ (m : State) (o : Origin) (k : NodeKey) (s : AbsState) (at : InBareFrame
     -- ---- SPH
 
     opened_lands : (h : High) → high_part k.inst.kind v ≡ Some h
-        → ArrivesAt m o told guarded (stored m pc writes is_out SPH byte) (record { key = record key { sp = Open (offset_of k.sp) h }; state = state })
+        → ArrivesWhere m o told guarded (stored m pc writes is_out SPH byte) (record { key = record key { sp = Open (offset_of k.sp) h }; state = state })
     opened_lands h e =
         let place = opened o k.inst.kind v byte h m.is_open m.sp k.sp at.base_word small e stands at.place.sp in
         record {
@@ -308,7 +308,7 @@ module _ (m : State) (o : Origin) (k : NodeKey) (s : AbsState) (at : InBareFrame
         }
 
     opened_written : (h : Option High) → high_part k.inst.kind v ≡ h → (opening h key state k.pc).faults ≡ []
-        → Reaches m o told k guarded (stored m pc writes is_out SPH byte) (opening h key state k.pc)
+        → ReachesNode m o told k guarded (stored m pc writes is_out SPH byte) (opening h key state k.pc)
     opened_written None e clean = absurd (cc)
     opened_written (Some h) e clean = only (stored m pc writes is_out SPH byte) _ refl (opened_lands h e)
 
@@ -317,7 +317,7 @@ module _ (m : State) (o : Origin) (k : NodeKey) (s : AbsState) (at : InBareFrame
     abbrev flagged : AbsState
     flagged = put_flags state (flags_written v)
 
-    sreg_lands : (on : Bool) → flag byte 7 ≡ on → ArrivesAt m o told guarded (stored m pc writes is_out SREG byte) (record { key = with_i key is_out on; state = flagged })
+    sreg_lands : (on : Bool) → flag byte 7 ≡ on → ArrivesWhere m o told guarded (stored m pc writes is_out SREG byte) (record { key = with_i key is_out on; state = flagged })
     sreg_lands on is =
         frame_kept m o k s at told guarded (stored m pc writes is_out SREG byte) (record { key = with_i key is_out on; state = flagged }) refl refl refl refl refl pc_is
         (enables_kept m.enables SREG byte at.machine.enable_bits sreg_holds_none ∙ at.place.enables) is
@@ -331,12 +331,12 @@ module _ (m : State) (o : Origin) (k : NodeKey) (s : AbsState) (at : InBareFrame
     flag_one : bit_at byte 7 ≡ 1 → flag byte 7 ≡ true
     flag_one e = ap (λ x. x == 1) e
 
-    sreg_by : (t : Tri) → Permits t (bit_at byte 7) → Reaches m o told k guarded (stored m pc writes is_out SREG byte) (sreg_written t key flagged is_out)
+    sreg_by : (t : Tri) → Permits t (bit_at byte 7) → ReachesNode m o told k guarded (stored m pc writes is_out SREG byte) (sreg_written t key flagged is_out)
     sreg_by Zero may = only (stored m pc writes is_out SREG byte) _ refl (sreg_lands false (flag_zero may))
     sreg_by One may = only (stored m pc writes is_out SREG byte) _ refl (sreg_lands true (flag_one may))
     sreg_by Any may = either (flag byte 7) refl
       where
-        either : (on : Bool) → flag byte 7 ≡ on → Reaches m o told k guarded (stored m pc writes is_out SREG byte) (sreg_written Any key flagged is_out)
+        either : (on : Bool) → flag byte 7 ≡ on → ReachesNode m o told k guarded (stored m pc writes is_out SREG byte) (sreg_written Any key flagged is_out)
         either true is =
             record {
               to = record { key = with_i key is_out true; state = flagged };
@@ -354,8 +354,8 @@ module _ (m : State) (o : Origin) (k : NodeKey) (s : AbsState) (at : InBareFrame
 
     -- ---- enable bits, and all other addresses
 
-    masks_lands : AreWritten → (a : ℕ) → nat_lt a 0x20 ≡ false → (a == SPL) ≡ false → (a == SPH) ≡ false → (a == SREG) ≡ false
-        → Reaches m o told k guarded (stored m pc writes is_out a byte) (masks_written key state a v)
+    masks_lands : AreSplitsWritten → (a : ℕ) → nat_lt a 0x20 ≡ false → (a == SPL) ≡ false → (a == SPH) ≡ false → (a == SREG) ≡ false
+        → ReachesNode m o told k guarded (stored m pc writes is_out a byte) (masks_written key state a v)
     masks_lands members a beyond not_low not_high not_sreg =
         let left : ℕ = written_enables k.masks a byte in
         record {
@@ -367,13 +367,13 @@ module _ (m : State) (o : Origin) (k : NodeKey) (s : AbsState) (at : InBareFrame
               (changes_none a byte beyond) (less_still a byte beyond) (facts_still a byte beyond not_sreg);
         }
 
-    at_address : (a b : ℕ) (r : Raw) → (a == b) ≡ true → Reaches m o told k guarded (stored m pc writes is_out b byte) r
-        → Reaches m o told k guarded (stored m pc writes is_out a byte) r
-    at_address a b r e h = subst (λ x. Reaches m o told k guarded (stored m pc writes is_out x byte) r) (sym (eqb-true a b e)) h
+    at_address : (a b : ℕ) (r : Raw) → (a == b) ≡ true → ReachesNode m o told k guarded (stored m pc writes is_out b byte) r
+        → ReachesNode m o told k guarded (stored m pc writes is_out a byte) r
+    at_address a b r e h = subst (λ x. ReachesNode m o told k guarded (stored m pc writes is_out x byte) r) (sym (eqb-true a b e)) h
 
     -- a byte that is written to a known address
-    pub written : AreWritten → (a : ℕ) → (written_at m.device k.pc key state is_out a v).faults ≡ []
-        → Reaches m o told k guarded (stored m pc writes is_out a byte) (written_at m.device k.pc key state is_out a v)
+    pub written : AreSplitsWritten → (a : ℕ) → (written_at m.device k.pc key state is_out a v).faults ≡ []
+        → ReachesNode m o told k guarded (stored m pc writes is_out a byte) (written_at m.device k.pc key state is_out a v)
     unfolding written_at
     written members a clean =
         let e = stored m pc writes is_out a byte in

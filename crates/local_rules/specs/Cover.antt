@@ -11,7 +11,7 @@ use Rattle.avr_model.specs.Sites.{is_scratch}
 use Rattle.avr_model.specs.State.{State, SIZE, plus16}
 use Rattle.avr_model.specs.Effects.{effect_of, calling, popped_word}
 use Rattle.avr_model.specs.Step.{after, all_inside, protected_write, unlisted_transfer}
-use Rattle.sp_domain.specs.Tags.{Origin, LessHolds, HasBytes}
+use Rattle.sp_domain.specs.Tags.{Origin, LessHolds, HasByteNumbers}
 use Rattle.pair_domain.specs.Facts.{is_followed}
 use Rattle.abs_state.specs.declared.state.AbsState.{AbsState}
 use Rattle.abs_state.specs.Stands.{RegistersStand, FlagsStand, SlotsStand, Stands}
@@ -73,7 +73,7 @@ pub record IsNodeIn (followed : Bool) (k : NodeKey) (s : AbsState) : Type 0 wher
   pub pick : PickFits k.pick
   pub formed : IsFormed s (offset_of k.sp)
   pub tags : TagsFit s
-  pub carry_bytes : HasBytes s.flags.carry
+  pub carry_bytes : HasByteNumbers s.flags.carry
   pub untagged : k.inst.kind ≡ Root → IsUntagged s
   pub mode : is_followed s.facts ≡ followed
   pub hulls : IsInHulls s

@@ -7,15 +7,15 @@ use Rattle.nesting_bound.specs.declared.graph.Link.{Link}
 use Rattle.nesting_bound.specs.declared.graph.Place.{Place}
 use Rattle.nesting_bound.specs.Chain.{IsChainFrom, ends, goes, IsFirst, IsDeepPlace, IsDeepEdge, IsPlaceUpTo, IsEdgeUpTo}
 use Rattle.nesting_bound.specs.Cycle.{IsNamed, group_of, number_of}
-use Rattle.nesting_bound.specs.Graph.{Reaches, once, more, AreNeeds}
-use Rattle.nesting_bound.specs.Laws.{Nests, here, deeper, RanksRuleOutCycles, NeedsBoundNesting, AnswersAreOne, EndsAt, ChainsReachTheNeed, ChainsAreOne}
+use Rattle.nesting_bound.specs.Graph.{ReachesBy, once, more, AreGraphNeeds}
+use Rattle.nesting_bound.specs.Laws.{Nests, here, deeper, RanksRuleOutCycles, NeedsBoundNesting, LeastNeedsAreOne, EndsAt, ChainsReachTheNeed, ChainsAreOne}
 use Rattle.nesting_bound.proofs.SameEdges.{edges_same}
 use Rattle.nesting_bound.proofs.Walk.{no_cycle}
 
 pub ranks_rule_out_cycles : RanksRuleOutCycles
 ranks_rule_out_cycles = no_cycle
 
-bounded : (gs : List GraphInst) (need : ℕ → ℕ) → AreNeeds gs need → (i depth : ℕ) → Nests gs i depth → depth ≤ need i
+bounded : (gs : List GraphInst) (need : ℕ → ℕ) → AreGraphNeeds gs need → (i depth : ℕ) → Nests gs i depth → depth ≤ need i
 bounded gs need needs i depth (here _ p h) = needs.offsets i p h
 bounded gs need needs i depth (deeper _ below e h rest) =
     let a = needs.entered i e h in
@@ -26,7 +26,7 @@ pub needs_bound_nesting : NeedsBoundNesting
 needs_bound_nesting = bounded
 
 -- ---- one answer
-reaching : (gs : List GraphInst) (i j : ℕ) → Reaches gs i j → (inst : GraphInst) × (slice_get gs i ≡ Some inst)
+reaching : (gs : List GraphInst) (i j : ℕ) → ReachesBy gs i j → (inst : GraphInst) × (slice_get gs i ≡ Some inst)
 reaching gs i j (once _ e enters) = (enters.inst, enters.is)
 reaching gs i j (more _ _ e enters rest) = (enters.inst, enters.is)
 
@@ -40,7 +40,7 @@ named_one gs a b na nb =
     both_first (group_of ia.0.key.kind) (group_of ib.0.key.kind) (number_of ia.0.key.kind ia.0.key.entry) (number_of ib.0.key.kind ib.0.key.entry) a b
     (na.first b ia.0 ib.0 nb.reaches ia.1 ib.1) (nb.first a ib.0 ia.0 na.reaches ib.1 ia.1)
 
-pub answers_are_one : AnswersAreOne
+pub answers_are_one : LeastNeedsAreOne
 answers_are_one = record {
   ranks = λ gs ranks needs ranks' needs' l l'. same_number_lists ranks ranks' (l.ranks_length ∙ sym l'.ranks_length) (λ k lt.
       let a = l.least_ranks (slice_index ranks') l'.are_ranks k (omega (arith, l.ranks_length)) in

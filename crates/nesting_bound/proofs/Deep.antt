@@ -6,7 +6,7 @@ use Rattle.std.proofs.lemmas.Bool.Decides.{nat_tests}
 use Rattle.nesting_bound.specs.declared.graph.Entered.{Entered}
 use Rattle.nesting_bound.specs.declared.graph.GraphInst.{GraphInst}
 use Rattle.nesting_bound.specs.declared.graph.Place.{Place}
-use Rattle.nesting_bound.specs.Graph.{Enters, HasPlace, AreNeeds}
+use Rattle.nesting_bound.specs.Graph.{EntersAlong, HasPlace, AreGraphNeeds}
 use Rattle.nesting_bound.specs.Chain.{IsFirst, IsPlaceUpTo, IsEdgeUpTo, IsDeepPlace, IsDeepEdge, HasSome}
 use Rattle.nesting_bound.specs.Turn.{AreLeastNeeds, IsBestPlace, IsBestEdge}
 
@@ -37,7 +37,7 @@ module _ (gs : List GraphInst) (needs : List ℕ) (least : AreLeastNeeds gs need
       let le = least.are.offsets i p h in
       ⊎_elim (λ same. absurd (no_place p (h, same))) (λ other. omega (arith, le, other)) (cases_eq p.offset (need i))
 
-  edge_below : (e : Entered) → Enters gs i e → e.offset + 2 + need e.into < need i
+  edge_below : (e : Entered) → EntersAlong gs i e → e.offset + 2 + need e.into < need i
   edge_below e h =
       let le = least.are.entered i e h in
       ⊎_elim (λ same. absurd (no_edge e (h, same))) (λ other. omega (arith, le, other)) (cases_eq (e.offset + 2 + need e.into) (need i))
@@ -49,14 +49,14 @@ module _ (gs : List GraphInst) (needs : List ℕ) (least : AreLeastNeeds gs need
       by true lt = omega (arith, lt refl)
       by false lt = le
 
-  lowered_needs : AreNeeds gs (lowered i need)
+  lowered_needs : AreGraphNeeds gs (lowered i need)
   lowered_needs = record {
     offsets = λ j p h. lower_at j p.offset (least.are.offsets j p h) (λ same. subst (λ k. p.offset < need k) (sym same) (place_below p (subst (λ k. HasPlace gs k p) same h)));
     entered = λ j e h.
         let le = least.are.entered j e h in
         let into = at_most e.into in
         lower_at j (e.offset + 2 + lowered i need e.into) (omega arith) (λ same.
-        let lt : e.offset + 2 + need e.into < need j = subst (λ k. e.offset + 2 + need e.into < need k) (sym same) (edge_below e (subst (λ k. Enters gs k e) same h)) in
+        let lt : e.offset + 2 + need e.into < need j = subst (λ k. e.offset + 2 + need e.into < need k) (sym same) (edge_below e (subst (λ k. EntersAlong gs k e) same h)) in
         omega arith);
   }
 
@@ -78,7 +78,7 @@ module _ (gs : List GraphInst) (needs : List ℕ) (i : ℕ) (here : GraphInst) (
   in_places : (p : Place) → HasPlace gs i p → Contains here.offsets p
   in_places p h = let same : h.inst ≡ here = let a = h.is in cc in subst (λ x. Contains x.offsets p) same h.has
 
-  in_edges : (e : Entered) → Enters gs i e → Contains here.entered e
+  in_edges : (e : Entered) → EntersAlong gs i e → Contains here.entered e
   in_edges e h = let same : h.inst ≡ here = let a = h.is in cc in subst (λ x. Contains x.entered e) same h.has
 
   pub no_deep_place : (ps : List Place) (best : Option Place) → ps ≡ here.offsets → best ≡ None → IsBestPlace (slice_index needs i) ps best → (p : Place) → IsDeepPlace gs needs i p → ⊥

@@ -5,8 +5,8 @@ use Rattle.std.proofs.lemmas.Option.{slice_get_within}
 use Rattle.basics.specs.Numbers.{before_or_last}
 use Rattle.nesting_bound.specs.declared.graph.GraphInst.{GraphInst}
 use Rattle.nesting_bound.specs.declared.found.Found.{Found}
-use Rattle.nesting_bound.specs.Graph.{IsGraph, Reaches, once, more}
-use Rattle.nesting_bound.specs.Table.{at, IsSound, IsStuck, AreFound, IsMissing, rank_of, need_of}
+use Rattle.nesting_bound.specs.Graph.{IsGraph, ReachesBy, once, more}
+use Rattle.nesting_bound.specs.Table.{at, IsSoundTable, IsInstStuck, AreFound, IsInstMissing, rank_of, need_of}
 use Rattle.nesting_bound.specs.Least.{IsLeast}
 use Rattle.nesting_bound.proofs.Walk.{some_cycle}
 
@@ -23,11 +23,11 @@ found_there : (o : Option Found) → o ≢ None → (x : Found) × (o ≡ Some x
 found_there None ne = absurd (ne refl)
 found_there (Some x) ne = (x, refl)
 
-reaches_inside : (gs : List GraphInst) (i j : ℕ) → Reaches gs i j → i < length gs
+reaches_inside : (gs : List GraphInst) (i j : ℕ) → ReachesBy gs i j → i < length gs
 reaches_inside gs i j (once _ e enters) = slice_get_within gs i enters.inst enters.is
 reaches_inside gs i j (more _ _ e enters rest) = slice_get_within gs i enters.inst enters.is
 
-module _ (gs : List GraphInst) (table : List (Option Found)) (sound : IsSound gs table) where
+module _ (gs : List GraphInst) (table : List (Option Found)) (sound : IsSoundTable gs table) where
   module _ (all : (i : ℕ) → i < length table → at table i ≢ None) where
     found : (i : ℕ) → i < length gs → (x : Found) × (at table i ≡ Some x)
     found i lt = found_there (at table i) (all i (subst (λ n. i < n) (sym sound.same) lt))
@@ -68,19 +68,19 @@ module _ (gs : List GraphInst) (table : List (Option Found)) (sound : IsSound gs
             }
 
   -- a table that is stuck with something missing has an instance that reaches itself
-  pub stuck_cycle : IsGraph gs → ((i : ℕ) → i < length gs → at table i ≡ None → IsStuck gs table i) → (i : ℕ) → i < length table → at table i ≡ None → ((j : ℕ) → j < length gs → Reaches gs j j → ⊥) → ⊥
+  pub stuck_cycle : IsGraph gs → ((i : ℕ) → i < length gs → at table i ≡ None → IsInstStuck gs table i) → (i : ℕ) → i < length table → at table i ≡ None → ((j : ℕ) → j < length gs → ReachesBy gs j j → ⊥) → ⊥
   stuck_cycle graph stuck i lt none acyclic =
       let c = some_cycle gs (length gs) (λ j. (j < length gs) × (at table j ≡ None)) (λ j h. h.0) (λ j h. let s = stuck j h.0 h.1 in (s.0, s.1, (graph.within j s.0 s.1, s.2))) i (subst (λ n. i < n) sound.same lt, none) in
       acyclic c.0 (reaches_inside gs c.0 c.0 c.1) c.1
 
   -- the same, by the lists that the code has on the way
-  pub stuck_at : (gs0 : List GraphInst) (table0 : List (Option Found)) → gs0 ≡ gs → table0 ≡ table → IsGraph gs → ((i : ℕ) → i < length gs0 → at table i ≡ None → IsStuck gs0 table i) → IsMissing table0 → ((j : ℕ) → j < length gs0 → Reaches gs0 j j → ⊥) → ⊥
+  pub stuck_at : (gs0 : List GraphInst) (table0 : List (Option Found)) → gs0 ≡ gs → table0 ≡ table → IsGraph gs → ((i : ℕ) → i < length gs0 → at table i ≡ None → IsInstStuck gs0 table i) → IsInstMissing table0 → ((j : ℕ) → j < length gs0 → ReachesBy gs0 j j → ⊥) → ⊥
   stuck_at gs0 table0 eg et graph stuck missing acyclic =
-      let m : IsMissing table = subst IsMissing et missing in
+      let m : IsInstMissing table = subst IsInstMissing et missing in
       stuck_cycle graph
-      (subst (λ g. (i : ℕ) → i < length g → at table i ≡ None → IsStuck g table i) eg stuck)
+      (subst (λ g. (i : ℕ) → i < length g → at table i ≡ None → IsInstStuck g table i) eg stuck)
       m.inst m.inside m.none
-      (subst (λ g. (j : ℕ) → j < length g → Reaches g j j → ⊥) eg acyclic)
+      (subst (λ g. (j : ℕ) → j < length g → ReachesBy g j j → ⊥) eg acyclic)
 
   pub least_at : (table0 : List (Option Found)) (ranks needs : List ℕ) → table0 ≡ table → AreFound table0 (length table0) ranks needs → IsLeast gs ranks needs
   least_at table0 ranks needs et found =

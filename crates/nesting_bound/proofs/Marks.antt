@@ -8,7 +8,7 @@ use Rattle.std.proofs.lemmas.List.Elements.{Contains-push_cases, Contains-push, 
 use Rattle.basics.specs.Items.{none_within}
 use Rattle.nesting_bound.specs.declared.graph.GraphInst.{GraphInst}
 use Rattle.nesting_bound.specs.declared.graph.Entered.{Entered}
-use Rattle.nesting_bound.specs.Graph.{Enters, Reaches, once, more, IsGraph}
+use Rattle.nesting_bound.specs.Graph.{EntersAlong, ReachesBy, once, more, IsGraph}
 use Rattle.nesting_bound.specs.Reach.{marked, one_if_new, IsMarked, IsSpread}
 use Rattle.nesting_bound.proofs.Walk.{reaches_on}
 use Rattle.nesting_bound.proofs.Table.{more_within}
@@ -84,17 +84,17 @@ spread_more es es0 i d a b c sa sb sc e lt so one =
         within_last = subst (λ ys. Contains ys (get_or es i d)) (sym (take_more es i d lt)) (Contains-push (take i es) (get_or es i d))
 
 -- ---- all that is reached
-it_enters : (gs : List GraphInst) (j : ℕ) (inst : GraphInst) (e : Entered) → slice_get gs j ≡ Some inst → Contains inst.entered e → Enters gs j e
+it_enters : (gs : List GraphInst) (j : ℕ) (inst : GraphInst) (e : Entered) → slice_get gs j ≡ Some inst → Contains inst.entered e → EntersAlong gs j e
 it_enters gs j inst e is h = record { inst = inst; is = is; has = h }
 
-of_inst : (gs : List GraphInst) (j : ℕ) (inst : GraphInst) (e : Entered) → slice_get gs j ≡ Some inst → Enters gs j e → Contains inst.entered e
+of_inst : (gs : List GraphInst) (j : ℕ) (inst : GraphInst) (e : Entered) → slice_get gs j ≡ Some inst → EntersAlong gs j e → Contains inst.entered e
 of_inst gs j inst e is enters = let same : enters.inst ≡ inst = let a = enters.is in cc in subst (λ x. Contains x.entered e) same enters.has
 
 pub marked_first : (gs : List GraphInst) (from : ℕ) (inst : GraphInst) (old new : List Bool) (stack : List ℕ) → slice_get gs from ≡ Some inst → length old ≡ length gs → ((j : ℕ) → marked old j ≡ false) → IsSpread inst.entered old [] new stack → IsMarked gs from new stack
 marked_first gs from inst old new stack is size none s =
     record {
       same = s.same ∙ size;
-      reached = λ j h. ⊎_elim (λ m. absurd (let e = none j in cc)) (λ p. subst (Reaches gs from) p.2 (once from p.0 (it_enters gs from inst p.0 is p.1))) (s.only j h);
+      reached = λ j h. ⊎_elim (λ m. absurd (let e = none j in cc)) (λ p. subst (ReachesBy gs from) p.2 (once from p.0 (it_enters gs from inst p.0 is p.1))) (s.only j h);
       stacked = λ j h. ⊎_elim (λ h. absurd (none_within h)) (λ m. m) (s.stack_only j h);
       first = λ e enters. s.all e (of_inst gs from inst e is enters);
       rest = λ j e h enters. ⊎_elim (λ m. absurd (let e' = none j in cc)) (λ p. inl p.3) (s.only j h);
@@ -104,12 +104,12 @@ pub marked_more : (gs : List GraphInst) (from place : ℕ) (inst : GraphInst) (o
 marked_more gs from place inst old new stack rest stack' is e m s =
     record {
       same = s.same ∙ m.same;
-      reached = λ j h. ⊎_elim (λ o. m.reached j o) (λ p. subst (Reaches gs from) p.2 (reaches_on gs from place p.0 (m.reached place (m.stacked place on_stack)) (it_enters gs place inst p.0 is p.1))) (s.only j h);
+      reached = λ j h. ⊎_elim (λ o. m.reached j o) (λ p. subst (ReachesBy gs from) p.2 (reaches_on gs from place p.0 (m.reached place (m.stacked place on_stack)) (it_enters gs place inst p.0 is p.1))) (s.only j h);
       stacked = λ j h. ⊎_elim (λ h. s.kept j (m.stacked j (on_rest j h))) (λ o. o) (s.stack_only j h);
       first = λ d enters. s.kept d.into (m.first d enters);
       rest = λ j d h enters. ⊎_elim
           (λ o. ⊎_elim
-          (λ h. ⊎_elim (λ h. inl (s.stack_kept j h)) (λ same. inr (s.all d (of_inst gs place inst d is (subst (λ x. Enters gs x d) (sym same) enters)))) (Contains-push_cases rest place j (subst (λ xs. Contains xs j) e h)))
+          (λ h. ⊎_elim (λ h. inl (s.stack_kept j h)) (λ same. inr (s.all d (of_inst gs place inst d is (subst (λ x. EntersAlong gs x d) (sym same) enters)))) (Contains-push_cases rest place j (subst (λ xs. Contains xs j) e h)))
           (λ o. inr (s.kept d.into o))
           (m.rest j d o enters))
           (λ p. inl p.3)
@@ -122,11 +122,11 @@ marked_more gs from place inst old new stack rest stack' is e m s =
     on_rest : (j : ℕ) → Contains rest j → Contains stack j
     on_rest j h = subst (λ xs. Contains xs j) (sym e) (Contains-append_left rest (place ∷ []) j h)
 
-pub all_marked : (gs : List GraphInst) (from : ℕ) (seen : List Bool) → IsMarked gs from seen [] → (j : ℕ) → Reaches gs from j → marked seen j ≡ true
+pub all_marked : (gs : List GraphInst) (from : ℕ) (seen : List Bool) → IsMarked gs from seen [] → (j : ℕ) → ReachesBy gs from j → marked seen j ≡ true
 all_marked gs from seen m j (once _ e enters) = m.first e enters
 all_marked gs from seen m j (more _ _ e enters rest) = on e.into j (m.first e enters) rest
   where
-    on : (i k : ℕ) → marked seen i ≡ true → Reaches gs i k → marked seen k ≡ true
+    on : (i k : ℕ) → marked seen i ≡ true → ReachesBy gs i k → marked seen k ≡ true
     on i k h (once _ d en) = ⊎_elim (λ h. absurd (none_within h)) (λ o. o) (m.rest i d h en)
     on i k h (more _ _ d en r) = on d.into k (⊎_elim (λ h. absurd (none_within h)) (λ o. o) (m.rest i d h en)) r
 

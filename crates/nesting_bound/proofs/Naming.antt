@@ -8,21 +8,21 @@ use Rattle.nesting_bound.specs.declared.found.Found.{Found}
 use Rattle.nesting_bound.specs.declared.graph.Entered.{Entered}
 use Rattle.nesting_bound.specs.declared.graph.GraphInst.{GraphInst}
 use Rattle.nesting_bound.specs.Cycle.{group_of, number_of, IsNoLater, IsNamed}
-use Rattle.nesting_bound.specs.Graph.{Enters, Reaches, once, more}
+use Rattle.nesting_bound.specs.Graph.{EntersAlong, ReachesBy, once, more}
 use Rattle.nesting_bound.specs.Search.{AreLayers, IsNamedOf, IsNamedBelow}
-use Rattle.nesting_bound.specs.Table.{at, IsSound}
+use Rattle.nesting_bound.specs.Table.{at, IsSoundTable}
 use Rattle.nesting_bound.proofs.Table.{same_found}
 use Rattle.nesting_bound.proofs.Tested.{edge_of}
 
 -- what a settled instance reaches is settled, at a lower rank
-lower : (gs : List GraphInst) (table : List (Option Found)) → IsSound gs table → (i j : ℕ) → Reaches gs i j → (x : Found) → at table i ≡ Some x → (y : Found) × (at table j ≡ Some y) × (y.rank < x.rank)
+lower : (gs : List GraphInst) (table : List (Option Found)) → IsSoundTable gs table → (i j : ℕ) → ReachesBy gs i j → (x : Found) → at table i ≡ Some x → (y : Found) × (at table j ≡ Some y) × (y.rank < x.rank)
 lower gs table sound i j (once _ e enters) x is = let p = (sound.settled i x is).entered e enters in (p.0, p.1, p.2)
 lower gs table sound i j (more _ _ e enters rest) x is =
     let p = (sound.settled i x is).entered e enters in
     let q = lower gs table sound e.into j rest p.0 p.1 in
     (q.0, q.1, omega (arith, p.2, q.2))
 
-pub settled_apart : (gs : List GraphInst) (table : List (Option Found)) → IsSound gs table → (i : ℕ) (x : Found) → at table i ≡ Some x → Reaches gs i i → ⊥
+pub settled_apart : (gs : List GraphInst) (table : List (Option Found)) → IsSoundTable gs table → (i : ℕ) (x : Found) → at table i ≡ Some x → ReachesBy gs i i → ⊥
 settled_apart gs table sound i x is r =
     let q = lower gs table sound i i r x is in
     let same : q.0 ≡ x = same_found q.0 x (at table i) q.1 is in
@@ -34,19 +34,19 @@ settled_there (Some x) e = (x, refl)
 
 -- ---- numbers that only fall along edges
 abbrev pub AreLayersBelow : List GraphInst → List ℕ → ℕ → Type 0
-AreLayersBelow gs numbers i = (k : ℕ) (e : Entered) → k < i → Enters gs k e → slice_index numbers e.into ≤ slice_index numbers k
+AreLayersBelow gs numbers i = (k : ℕ) (e : Entered) → k < i → EntersAlong gs k e → slice_index numbers e.into ≤ slice_index numbers k
 
-reached_no_higher : (gs : List GraphInst) (numbers : List ℕ) → AreLayers gs numbers → (i j : ℕ) → Reaches gs i j → slice_index numbers j ≤ slice_index numbers i
+reached_no_higher : (gs : List GraphInst) (numbers : List ℕ) → AreLayers gs numbers → (i j : ℕ) → ReachesBy gs i j → slice_index numbers j ≤ slice_index numbers i
 reached_no_higher gs numbers layers i j (once _ e enters) = layers i e enters
 reached_no_higher gs numbers layers i j (more _ _ e enters rest) = omega (arith, layers i e enters, reached_no_higher gs numbers layers e.into j rest)
 
 -- an instance that reaches itself enters one of its own number
-pub stays_on : (gs : List GraphInst) (numbers : List ℕ) → AreLayers gs numbers → (i : ℕ) → Reaches gs i i → (e : Entered) × Enters gs i e × (slice_index numbers e.into ≡ slice_index numbers i)
+pub stays_on : (gs : List GraphInst) (numbers : List ℕ) → AreLayers gs numbers → (i : ℕ) → ReachesBy gs i i → (e : Entered) × EntersAlong gs i e × (slice_index numbers e.into ≡ slice_index numbers i)
 stays_on gs numbers layers i (once _ e enters) = (e, enters, refl)
 stays_on gs numbers layers i (more _ _ e enters rest) =
     (e, enters, omega (arith, layers i e enters, reached_no_higher gs numbers layers e.into i rest))
 
-pub no_candidate : (gs : List GraphInst) (numbers : List ℕ) (i number : ℕ) (here : GraphInst) (es : List Entered) → AreLayers gs numbers → slice_get gs i ≡ Some here → es ≡ here.entered → number ≡ slice_index numbers i → ((e : Entered) → Contains es e → slice_index numbers e.into ≢ number) → Reaches gs i i → ⊥
+pub no_candidate : (gs : List GraphInst) (numbers : List ℕ) (i number : ℕ) (here : GraphInst) (es : List Entered) → AreLayers gs numbers → slice_get gs i ≡ Some here → es ≡ here.entered → number ≡ slice_index numbers i → ((e : Entered) → Contains es e → slice_index numbers e.into ≢ number) → ReachesBy gs i i → ⊥
 no_candidate gs numbers i number here es layers is same at never reaches =
     let on = stays_on gs numbers layers i reaches in
     never on.0 (subst (λ xs. Contains xs on.0) (sym same) (edge_of gs i here is i on.0 refl on.1)) (on.2 ∙ sym at)
@@ -78,7 +78,7 @@ module _ (gs : List GraphInst) (i : ℕ) (x : GraphInst) (here : slice_get gs i 
   same_at j c same is = let is' : slice_get gs i ≡ Some c = subst (λ k. slice_get gs k ≡ Some c) same is in cc
 
   module _ (at : ℕ) (b : GraphInst) (there : slice_get gs at ≡ Some b) where
-    pub named_takes : i < length gs → Reaches gs i i → IsNoLater x.key i b.key at → IsNamedOf gs i at → IsNamedOf gs (i + 1) i
+    pub named_takes : i < length gs → ReachesBy gs i i → IsNoLater x.key i b.key at → IsNamedOf gs i at → IsNamedOf gs (i + 1) i
     named_takes inside reaches le named = record {
       inside = inside;
       reaches = reaches;
@@ -90,12 +90,12 @@ module _ (gs : List GraphInst) (i : ℕ) (x : GraphInst) (here : slice_get gs i 
           (before_or_last j i lt));
     }
 
-pub named_skip : (gs : List GraphInst) (i : ℕ) (best : Option ℕ) → (Reaches gs i i → ⊥) → IsNamedBelow gs i best → IsNamedBelow gs (i + 1) best
-named_skip gs i None never named = λ j lt r. ⊎_elim (λ less. named j less r) (λ same. never (subst (λ k. Reaches gs k k) same r)) (before_or_last j i lt)
+pub named_skip : (gs : List GraphInst) (i : ℕ) (best : Option ℕ) → (ReachesBy gs i i → ⊥) → IsNamedBelow gs i best → IsNamedBelow gs (i + 1) best
+named_skip gs i None never named = λ j lt r. ⊎_elim (λ less. named j less r) (λ same. never (subst (λ k. ReachesBy gs k k) same r)) (before_or_last j i lt)
 named_skip gs i (Some at) never named = record {
   inside = named.inside;
   reaches = named.reaches;
-  first = λ j a b lt r is_a is_b. ⊎_elim (λ less. named.first j a b less r is_a is_b) (λ same. absurd (never (subst (λ k. Reaches gs k k) same r))) (before_or_last j i lt);
+  first = λ j a b lt r is_a is_b. ⊎_elim (λ less. named.first j a b less r is_a is_b) (λ same. absurd (never (subst (λ k. ReachesBy gs k k) same r))) (before_or_last j i lt);
 }
 
 pub named_at : (gs : List GraphInst) (n at : ℕ) (best : Option ℕ) → best ≡ Some at → IsNamedBelow gs n best → IsNamedOf gs n at

@@ -13,8 +13,8 @@ use Rattle.nesting_bound.specs.declared.graph.Place.{Place}
 use Rattle.nesting_bound.specs.declared.graph.Entered.{Entered}
 use Rattle.mask_states.specs.declared.keys.EdgeKind.TheVariants.{Local}
 use Rattle.nesting_bound.specs.declared.found.Found.{Found}
-use Rattle.nesting_bound.specs.Graph.{Enters, HasPlace, IsGraph}
-use Rattle.nesting_bound.specs.Table.{at, IsOver, raised, one_if_found, one_if_missing, count_found, count_missing, IsSmall, IsSettled, IsSound, IsStuck, IsVisit}
+use Rattle.nesting_bound.specs.Graph.{EntersAlong, HasPlace, IsGraph}
+use Rattle.nesting_bound.specs.Table.{at, IsOver, raised, one_if_found, one_if_missing, count_found, count_missing, IsSmall, IsSettled, IsSoundTable, IsInstStuck, IsVisit}
 
 -- stand-ins for an element that is not there
 abbrev pub no_entry : Entered
@@ -84,25 +84,25 @@ count_le (o ∷ table) = omega (arith, sum_by-cons one_if_found o table, at_most
     at_most_one None = omega arith
     at_most_one (Some x) = omega arith
 
-pub small_table : (gs : List GraphInst) (table : List (Option Found)) → IsGraph gs → IsSound gs table → (j : ℕ) (x : Found) → at table j ≡ Some x → IsSmall x 65537
+pub small_table : (gs : List GraphInst) (table : List (Option Found)) → IsGraph gs → IsSoundTable gs table → (j : ℕ) (x : Found) → at table j ≡ Some x → IsSmall x 65537
 small_table gs table graph sound j x is =
     let s = sound.small j x is in
     (omega (arith, s.0, count_le table, sound.same, graph.few), s.1)
 
-module _ (gs : List GraphInst) (table : List (Option Found)) (graph : IsGraph gs) (sound : IsSound gs table) (i : ℕ) (inst : GraphInst) (within : i < length gs) (here : slice_get gs i ≡ Some inst) (missing : at table i ≡ None) where
-  same_inst : (e : Entered) → Enters gs i e → Contains inst.entered e
+module _ (gs : List GraphInst) (table : List (Option Found)) (graph : IsGraph gs) (sound : IsSoundTable gs table) (i : ℕ) (inst : GraphInst) (within : i < length gs) (here : slice_get gs i ≡ Some inst) (missing : at table i ≡ None) where
+  same_inst : (e : Entered) → EntersAlong gs i e → Contains inst.entered e
   same_inst e enters = let is : enters.inst ≡ inst = let a = enters.is in cc in subst (λ x. Contains x.entered e) is enters.has
 
   same_offsets : (o : Place) → HasPlace gs i o → Contains inst.offsets o
   same_offsets o h = let is : h.inst ≡ inst = let a = h.is in cc in subst (λ x. Contains x.offsets o) is h.has
 
-  enters_it : (e : Entered) → Contains inst.entered e → Enters gs i e
+  enters_it : (e : Entered) → Contains inst.entered e → EntersAlong gs i e
   enters_it e h = record { inst = inst; is = here; has = h }
 
   has_it : (p : Place) → Contains inst.offsets p → HasPlace gs i p
   has_it o h = record { inst = inst; is = here; has = h }
 
-  pub stays_stuck : (e : Entered) → Contains inst.entered e → at table e.into ≡ None → IsStuck gs table i
+  pub stays_stuck : (e : Entered) → Contains inst.entered e → at table e.into ≡ None → IsInstStuck gs table i
   stays_stuck e h none = (e, enters_it e h, none)
 
   module _ (f : Found) (over : IsOver inst.entered inst.offsets table f) where
@@ -182,7 +182,7 @@ module _ (gs : List GraphInst) (table : List (Option Found)) (graph : IsGraph gs
           stuck = λ e. absurd (let e' = e in cc);
         }
 
-pub no_visit : (gs : List GraphInst) (table : List (Option Found)) (i : ℕ) → IsSound gs table → (at table i ≡ None → IsStuck gs table i) → IsVisit gs table i false table
+pub no_visit : (gs : List GraphInst) (table : List (Option Found)) (i : ℕ) → IsSoundTable gs table → (at table i ≡ None → IsInstStuck gs table i) → IsVisit gs table i false table
 no_visit gs table i sound stuck =
     record {
       sound = sound;
@@ -201,7 +201,7 @@ none_found (suc n) (suc i) = none_found n i
 nothing_found : (n : ℕ) (table : List (Option Found)) → table ≡ replicate n None → (i : ℕ) (x : Found) → at table i ≡ Some x → ⊥
 nothing_found n table is i x e = none-some x (sym (ap (λ (t : List (Option Found)). at t i) is ∙ none_found n i) ∙ e)
 
-pub none_sound : (gs : List GraphInst) (table : List (Option Found)) → table ≡ replicate (length gs) None → IsSound gs table
+pub none_sound : (gs : List GraphInst) (table : List (Option Found)) → table ≡ replicate (length gs) None → IsSoundTable gs table
 none_sound gs table is = record {
   same = ap length is ∙ length-replicate (length gs) None;
   settled = λ i x e. absurd (nothing_found (length gs) table is i x e);
@@ -212,5 +212,5 @@ pub none_here : (o : Option Found) → is_some o ≡ false → o ≡ None
 none_here None e = refl
 none_here (Some x) e = absurd (let e' = e in cc)
 
-pub into_within : (gs : List GraphInst) (table : List (Option Found)) → IsGraph gs → IsSound gs table → (i : ℕ) (inst : GraphInst) → slice_get gs i ≡ Some inst → (e : Entered) → Contains inst.entered e → e.into < length table
+pub into_within : (gs : List GraphInst) (table : List (Option Found)) → IsGraph gs → IsSoundTable gs table → (i : ℕ) (inst : GraphInst) → slice_get gs i ≡ Some inst → (e : Entered) → Contains inst.entered e → e.into < length table
 into_within gs table graph sound i inst is e h = omega (arith, sound.same, graph.within i e (record { inst = inst; is = is; has = h }))

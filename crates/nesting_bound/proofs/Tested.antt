@@ -9,7 +9,7 @@ use Rattle.nesting_bound.specs.declared.graph.Entered.{Entered}
 use Rattle.nesting_bound.specs.declared.graph.GraphInst.{GraphInst}
 use Rattle.nesting_bound.specs.declared.graph.Place.{Place}
 use Rattle.nesting_bound.specs.Chain.{HasSome, HavePlaces}
-use Rattle.nesting_bound.specs.Graph.{Enters, HasPlace, IsGraph}
+use Rattle.nesting_bound.specs.Graph.{EntersAlong, HasPlace, IsGraph}
 
 -- ---- one instance
 pub some_place : (gs : List GraphInst) (i : ℕ) (here : GraphInst) (ps : List Place) → slice_get gs i ≡ Some here → ps ≡ here.offsets → (0 < length ps) → HasSome gs i
@@ -26,13 +26,13 @@ no_some_place gs i here ps is same none some =
 -- ---- all instances below i
 pub record AreComposable (gs : List GraphInst) (i : ℕ) : Type 0 where
   pub places : (k : ℕ) (p : Place) → k < i → HasPlace gs k p → p.offset ≤ 2048
-  pub edges : (k : ℕ) (e : Entered) → k < i → Enters gs k e → (e.offset ≤ 2048) × (e.into < length gs)
+  pub edges : (k : ℕ) (e : Entered) → k < i → EntersAlong gs k e → (e.offset ≤ 2048) × (e.into < length gs)
 
 module _ (gs : List GraphInst) (i : ℕ) (here : GraphInst) (is : slice_get gs i ≡ Some here) where
   place_of : (k : ℕ) (p : Place) → k ≡ i → HasPlace gs k p → Contains here.offsets p
   place_of k p same h = let inst : h.inst ≡ here = let a = subst (λ m. slice_get gs m ≡ Some h.inst) same h.is in cc in subst (λ x. Contains x.offsets p) inst h.has
 
-  pub edge_of : (k : ℕ) (e : Entered) → k ≡ i → Enters gs k e → Contains here.entered e
+  pub edge_of : (k : ℕ) (e : Entered) → k ≡ i → EntersAlong gs k e → Contains here.entered e
   edge_of k e same h = let inst : h.inst ≡ here = let a = subst (λ m. slice_get gs m ≡ Some h.inst) same h.is in cc in subst (λ x. Contains x.entered e) inst h.has
 
   pub composable_more : (ps : List Place) (es : List Entered) → ps ≡ here.offsets → es ≡ here.entered → ((p : Place) → Contains ps p → p.offset ≤ 2048) → ((e : Entered) → Contains es e → (e.offset ≤ 2048) × (e.into < length gs)) → AreComposable gs i → AreComposable gs (i + 1)
@@ -48,10 +48,10 @@ module _ (gs : List GraphInst) (i : ℕ) (here : GraphInst) (is : slice_get gs i
 
   pub not_inside : (es : List Entered) → es ≡ here.entered → (e : Entered) → Contains es e → ((e.offset ≤ 2048) × (e.into < length gs) → ⊥) → IsGraph gs → ⊥
   not_inside es same e h never graph =
-      let en : Enters gs i e = record { inst = here; is = is; has = subst (λ xs. Contains xs e) same h } in
+      let en : EntersAlong gs i e = record { inst = here; is = is; has = subst (λ xs. Contains xs e) same h } in
       never (graph.places i e en, graph.within i e en)
 
-  pub places_more : (es : List Entered) → es ≡ here.entered → ((e : Entered) → Contains es e → HasSome gs e.into) → ((k : ℕ) (e : Entered) → k < i → Enters gs k e → HasSome gs e.into) → (k : ℕ) (e : Entered) → k < i + 1 → Enters gs k e → HasSome gs e.into
+  pub places_more : (es : List Entered) → es ≡ here.entered → ((e : Entered) → Contains es e → HasSome gs e.into) → ((k : ℕ) (e : Entered) → k < i → EntersAlong gs k e → HasSome gs e.into) → (k : ℕ) (e : Entered) → k < i + 1 → EntersAlong gs k e → HasSome gs e.into
   places_more es same all before k e lt h = ⊎_elim (λ less. before k e less h) (λ at. all e (subst (λ xs. Contains xs e) (sym same) (edge_of k e at h))) (before_or_last k i lt)
 
   pub not_to_places : (es : List Entered) → es ≡ here.entered → (e : Entered) → Contains es e → (HasSome gs e.into → ⊥) → HavePlaces gs → ⊥
@@ -69,7 +69,7 @@ composable_upto gs i' some few le all = record {
     inside : (k : ℕ) (x : GraphInst) → slice_get gs k ≡ Some x → k < i'
     inside k x is = omega (arith, le, slice_get_within gs k x is)
 
-pub places_upto : (gs : List GraphInst) (i : ℕ) → HasSome gs 0 → length gs ≤ i → ((k : ℕ) (e : Entered) → k < i → Enters gs k e → HasSome gs e.into) → HavePlaces gs
+pub places_upto : (gs : List GraphInst) (i : ℕ) → HasSome gs 0 → length gs ≤ i → ((k : ℕ) (e : Entered) → k < i → EntersAlong gs k e → HasSome gs e.into) → HavePlaces gs
 places_upto gs i root le all = record { root = root; entered = λ k e h. all k e (omega (arith, le, slice_get_within gs k h.inst h.is)) h }
 
 pub not_empty : (n : ℕ) (b : Bool) → b ≡ (n == 0) → not b ≡ true → 0 < n

@@ -11,7 +11,7 @@ use Rattle.nesting_bound.specs.declared.graph.Entered.{Entered}
 use Rattle.nesting_bound.specs.declared.graph.GraphInst.{GraphInst}
 use Rattle.nesting_bound.specs.declared.graph.Link.{Link}
 use Rattle.nesting_bound.specs.declared.graph.Place.{Place}
-use Rattle.nesting_bound.specs.Graph.{Enters, HasPlace}
+use Rattle.nesting_bound.specs.Graph.{EntersAlong, HasPlace}
 
 -- calls before interrupts, these by vector, and one that keeps its own enable bit before one that clears it
 abbrev pub kind_numbers : EdgeKind → List ℕ
@@ -52,7 +52,7 @@ IsDeepPlace gs needs i p = HasPlace gs i p × (p.offset ≡ slice_index needs i)
 
 -- an edge out of instance i below which the stack becomes as deep as the instance's need
 abbrev pub IsDeepEdge : List GraphInst → List ℕ → ℕ → Entered → Type 0
-IsDeepEdge gs needs i e = Enters gs i e × (e.offset + 2 + slice_index needs e.into ≡ slice_index needs i)
+IsDeepEdge gs needs i e = EntersAlong gs i e × (e.offset + 2 + slice_index needs e.into ≡ slice_index needs i)
 
 -- The chain from instance i on, where the base of i is `above` bytes below the root's: it ends at the least place as deep as the
 -- need, if there is one, and else goes by the least edge that is.
@@ -74,4 +74,4 @@ HasSome gs i = (p : Place) × HasPlace gs i p
 -- the root and each instance that is entered have a place
 pub record HavePlaces (gs : List GraphInst) : Type 0 where
   pub root : HasSome gs 0
-  pub entered : (i : ℕ) (e : Entered) → Enters gs i e → HasSome gs e.into
+  pub entered : (i : ℕ) (e : Entered) → EntersAlong gs i e → HasSome gs e.into

@@ -6,7 +6,7 @@ use Rattle.mask_states.specs.declared.keys.InstKey.{InstKey}
 use Rattle.nesting_bound.specs.declared.fault.ComposeFault.{ComposeFault}
 use Rattle.nesting_bound.specs.declared.fault.ComposeFault.TheVariants.{Cycle, Memory}
 use Rattle.nesting_bound.specs.declared.graph.GraphInst.{GraphInst}
-use Rattle.nesting_bound.specs.Graph.{Reaches}
+use Rattle.nesting_bound.specs.Graph.{ReachesBy}
 
 -- instances of vectors are named before all others
 abbrev pub group_of : Kind → ℕ
@@ -29,8 +29,8 @@ IsNoLater a i b j =
 
 -- this instance reaches itself, and it is the first that is named of those that do
 pub record IsNamed (gs : List GraphInst) (at : ℕ) : Type 0 where
-  pub reaches : Reaches gs at at
-  pub first : (j : ℕ) (a b : GraphInst) → Reaches gs j j → slice_get gs at ≡ Some a → slice_get gs j ≡ Some b → IsNoLater a.key at b.key j
+  pub reaches : ReachesBy gs at at
+  pub first : (j : ℕ) (a b : GraphInst) → ReachesBy gs j j → slice_get gs at ≡ Some a → slice_get gs j ≡ Some b → IsNoLater a.key at b.key j
 
 -- why there are no ranks; want of memory says nothing
 abbrev pub IsFaultOf : List GraphInst → ComposeFault → Type 0

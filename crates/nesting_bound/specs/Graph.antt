@@ -5,7 +5,7 @@ use Rattle.nesting_bound.specs.declared.graph.GraphInst.{GraphInst}
 use Rattle.nesting_bound.specs.declared.graph.Place.{Place}
 
 -- instance i enters another by this edge
-pub record Enters (gs : List GraphInst) (i : ℕ) (e : Entered) : Type 0 where
+pub record EntersAlong (gs : List GraphInst) (i : ℕ) (e : Entered) : Type 0 where
   pub inst : GraphInst
   pub is : slice_get gs i ≡ Some inst
   pub has : Contains inst.entered e
@@ -17,24 +17,24 @@ pub record HasPlace (gs : List GraphInst) (i : ℕ) (p : Place) : Type 0 where
   pub has : Contains inst.offsets p
 
 -- the second instance is entered from the first by one or more edges
-pub data Reaches (gs : List GraphInst) : ℕ → ℕ → Type 0 where
-  once : (i : ℕ) (e : Entered) → Enters gs i e → Reaches gs i e.into
-  more : (i j : ℕ) (e : Entered) → Enters gs i e → Reaches gs e.into j → Reaches gs i j
+pub data ReachesBy (gs : List GraphInst) : ℕ → ℕ → Type 0 where
+  once : (i : ℕ) (e : Entered) → EntersAlong gs i e → ReachesBy gs i e.into
+  more : (i j : ℕ) (e : Entered) → EntersAlong gs i e → ReachesBy gs e.into j → ReachesBy gs i j
 
 -- an instance's rank is above that of each instance that it enters
-abbrev pub AreRanks : List GraphInst → (ℕ → ℕ) → Type 0
-AreRanks gs rank = (i : ℕ) (e : Entered) → Enters gs i e → rank e.into < rank i
+abbrev pub AreGraphRanks : List GraphInst → (ℕ → ℕ) → Type 0
+AreGraphRanks gs rank = (i : ℕ) (e : Entered) → EntersAlong gs i e → rank e.into < rank i
 
 -- An instance's need is at least the offset of each of its nodes at which the stack pointer is whole, and, for each instance that it
 -- enters, at least the offset there, two bytes for the return address and the need of that instance.
-pub record AreNeeds (gs : List GraphInst) (need : ℕ → ℕ) : Type 0 where
+pub record AreGraphNeeds (gs : List GraphInst) (need : ℕ → ℕ) : Type 0 where
   pub offsets : (i : ℕ) (p : Place) → HasPlace gs i p → p.offset ≤ need i
-  pub entered : (i : ℕ) (e : Entered) → Enters gs i e → e.offset + 2 + need e.into ≤ need i
+  pub entered : (i : ℕ) (e : Entered) → EntersAlong gs i e → e.offset + 2 + need e.into ≤ need i
 
 -- what a graph must be: 1 to 65,537 instances, each instance that is entered among them, each offset at most 2,048
 pub record IsGraph (gs : List GraphInst) : Type 0 where
   pub some : 0 < length gs
   pub few : length gs ≤ 65537
   pub offsets : (i : ℕ) (p : Place) → HasPlace gs i p → p.offset ≤ 2048
-  pub places : (i : ℕ) (e : Entered) → Enters gs i e → e.offset ≤ 2048
-  pub within : (i : ℕ) (e : Entered) → Enters gs i e → e.into < length gs
+  pub places : (i : ℕ) (e : Entered) → EntersAlong gs i e → e.offset ≤ 2048
+  pub within : (i : ℕ) (e : Entered) → EntersAlong gs i e → e.into < length gs

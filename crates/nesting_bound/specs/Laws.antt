@@ -6,25 +6,25 @@ use Rattle.nesting_bound.specs.declared.graph.Link.{Link}
 use Rattle.nesting_bound.specs.declared.graph.Place.{Place}
 use Rattle.nesting_bound.specs.Chain.{IsChain}
 use Rattle.nesting_bound.specs.Cycle.{IsNamed}
-use Rattle.nesting_bound.specs.Graph.{Enters, HasPlace, Reaches, AreRanks, AreNeeds}
+use Rattle.nesting_bound.specs.Graph.{EntersAlong, HasPlace, ReachesBy, AreGraphRanks, AreGraphNeeds}
 use Rattle.nesting_bound.specs.Least.{IsLeast}
 
 -- Entries nest from instance i on so that the stack pointer falls so many bytes below its base: to a place of its own, or through
 -- an edge, the two bytes of the return address, and on from the instance that is entered.
 pub data Nests (gs : List GraphInst) : ℕ → ℕ → Type 0 where
   here : (i : ℕ) (p : Place) → HasPlace gs i p → Nests gs i p.offset
-  deeper : (i depth : ℕ) (e : Entered) → Enters gs i e → Nests gs e.into depth → Nests gs i (e.offset + 2 + depth)
+  deeper : (i depth : ℕ) (e : Entered) → EntersAlong gs i e → Nests gs e.into depth → Nests gs i (e.offset + 2 + depth)
 
 -- where there are ranks, no instance reaches itself
 abbrev pub RanksRuleOutCycles : Type 0
-RanksRuleOutCycles = (gs : List GraphInst) (rank : ℕ → ℕ) → AreRanks gs rank → (i : ℕ) → Reaches gs i i → ⊥
+RanksRuleOutCycles = (gs : List GraphInst) (rank : ℕ → ℕ) → AreGraphRanks gs rank → (i : ℕ) → ReachesBy gs i i → ⊥
 
 -- However entries nest, an instance's need bounds them.
 abbrev pub NeedsBoundNesting : Type 0
-NeedsBoundNesting = (gs : List GraphInst) (need : ℕ → ℕ) → AreNeeds gs need → (i depth : ℕ) → Nests gs i depth → depth ≤ need i
+NeedsBoundNesting = (gs : List GraphInst) (need : ℕ → ℕ) → AreGraphNeeds gs need → (i depth : ℕ) → Nests gs i depth → depth ≤ need i
 
 -- least ranks and needs are the only ones, and so is the instance that is named
-pub record AnswersAreOne : Type 0 where
+pub record LeastNeedsAreOne : Type 0 where
   pub ranks : (gs : List GraphInst) (ranks needs ranks' needs' : List ℕ) → IsLeast gs ranks needs → IsLeast gs ranks' needs' → ranks ≡ ranks'
   pub needs : (gs : List GraphInst) (ranks needs ranks' needs' : List ℕ) → IsLeast gs ranks needs → IsLeast gs ranks' needs' → needs ≡ needs'
   pub named : (gs : List GraphInst) (a b : ℕ) → IsNamed gs a → IsNamed gs b → a ≡ b

@@ -3,7 +3,7 @@ use Rattle.std.specs.Prelude.{◌≡◌, ℕ, ◌+◌, ◌*◌, ◌≤◌, Bool,
 use Rattle.std.specs.List.{sum_by}
 use Rattle.nesting_bound.specs.declared.graph.GraphInst.{GraphInst}
 use Rattle.nesting_bound.specs.declared.graph.Entered.{Entered}
-use Rattle.nesting_bound.specs.Graph.{Enters, Reaches}
+use Rattle.nesting_bound.specs.Graph.{EntersAlong, ReachesBy}
 
 -- whether instance i is marked
 abbrev pub marked : List Bool → ℕ → Bool
@@ -21,10 +21,10 @@ count_new seen = sum_by one_if_new seen
 -- while marking: what is marked is reached, and each marked one that is not on the stack has all that it enters marked
 pub record IsMarked (gs : List GraphInst) (from : ℕ) (seen : List Bool) (stack : List ℕ) : Type 0 where
   pub same : length seen ≡ length gs
-  pub reached : (j : ℕ) → marked seen j ≡ true → Reaches gs from j
+  pub reached : (j : ℕ) → marked seen j ≡ true → ReachesBy gs from j
   pub stacked : (j : ℕ) → Contains stack j → marked seen j ≡ true
-  pub first : (e : Entered) → Enters gs from e → marked seen e.into ≡ true
-  pub rest : (j : ℕ) (e : Entered) → marked seen j ≡ true → Enters gs j e → Contains stack j ⊎ (marked seen e.into ≡ true)
+  pub first : (e : Entered) → EntersAlong gs from e → marked seen e.into ≡ true
+  pub rest : (j : ℕ) (e : Entered) → marked seen j ≡ true → EntersAlong gs j e → Contains stack j ⊎ (marked seen e.into ≡ true)
 
 -- what it does to mark these
 pub record IsSpread (es : List Entered) (old : List Bool) (old_stack : List ℕ) (new : List Bool) (new_stack : List ℕ) : Type 0 where

@@ -2,19 +2,19 @@
 use Rattle.std.specs.Prelude.{◌≡◌, ℕ, ◌<◌, ◌≤◌, List, Option, Some, MatchOption, length, slice_get, slice_index}
 use Rattle.nesting_bound.specs.declared.graph.Entered.{Entered}
 use Rattle.nesting_bound.specs.declared.graph.GraphInst.{GraphInst}
-use Rattle.nesting_bound.specs.Graph.{Enters, Reaches}
+use Rattle.nesting_bound.specs.Graph.{EntersAlong, ReachesBy}
 use Rattle.nesting_bound.specs.Cycle.{IsNoLater}
 
 -- an instance that reaches itself, and is not named after any below n that does
 pub record IsNamedOf (gs : List GraphInst) (n at : ℕ) : Type 0 where
   pub inside : at < length gs
-  pub reaches : Reaches gs at at
-  pub first : (j : ℕ) (a b : GraphInst) → j < n → Reaches gs j j → slice_get gs at ≡ Some a → slice_get gs j ≡ Some b → IsNoLater a.key at b.key j
+  pub reaches : ReachesBy gs at at
+  pub first : (j : ℕ) (a b : GraphInst) → j < n → ReachesBy gs j j → slice_get gs at ≡ Some a → slice_get gs j ≡ Some b → IsNoLater a.key at b.key j
 
 -- none below n reaches itself, or this one is named before those that do
 abbrev pub IsNamedBelow : List GraphInst → ℕ → Option ℕ → Type 0
-IsNamedBelow gs n best = MatchOption best ((j : ℕ) → j < n → Reaches gs j j → ⊥) (IsNamedOf gs n)
+IsNamedBelow gs n best = MatchOption best ((j : ℕ) → j < n → ReachesBy gs j j → ⊥) (IsNamedOf gs n)
 
 -- numbers of instances, where none enters one of a greater number
 abbrev pub AreLayers : List GraphInst → List ℕ → Type 0
-AreLayers gs numbers = (i : ℕ) (e : Entered) → Enters gs i e → slice_index numbers e.into ≤ slice_index numbers i
+AreLayers gs numbers = (i : ℕ) (e : Entered) → EntersAlong gs i e → slice_index numbers e.into ≤ slice_index numbers i

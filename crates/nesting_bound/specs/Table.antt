@@ -5,7 +5,7 @@ use Rattle.nesting_bound.specs.declared.found.Found.{Found}
 use Rattle.nesting_bound.specs.declared.graph.Entered.{Entered}
 use Rattle.nesting_bound.specs.declared.graph.GraphInst.{GraphInst}
 use Rattle.nesting_bound.specs.declared.graph.Place.{Place}
-use Rattle.nesting_bound.specs.Graph.{Enters, HasPlace, AreRanks, AreNeeds}
+use Rattle.nesting_bound.specs.Graph.{EntersAlong, HasPlace, AreGraphRanks, AreGraphNeeds}
 
 -- what was found of instance i
 abbrev pub at : List (Option Found) → ℕ → Option Found
@@ -44,34 +44,34 @@ IsSmall x count = (x.rank < count) × (x.need ≤ 2050 * (x.rank + 1))
 
 -- x is the rank and the need of instance i, the least there can be, and all that it enters is found
 pub record IsSettled (gs : List GraphInst) (table : List (Option Found)) (i : ℕ) (x : Found) : Type 0 where
-  pub entered : (e : Entered) → Enters gs i e → (y : Found) × (at table e.into ≡ Some y) × (y.rank < x.rank) × (e.offset + 2 + y.need ≤ x.need)
+  pub entered : (e : Entered) → EntersAlong gs i e → (y : Found) × (at table e.into ≡ Some y) × (y.rank < x.rank) × (e.offset + 2 + y.need ≤ x.need)
   pub offsets : (p : Place) → HasPlace gs i p → p.offset ≤ x.need
-  pub rank_least : (rank : ℕ → ℕ) → AreRanks gs rank → x.rank ≤ rank i
-  pub need_least : (need : ℕ → ℕ) → AreNeeds gs need → x.need ≤ need i
+  pub rank_least : (rank : ℕ → ℕ) → AreGraphRanks gs rank → x.rank ≤ rank i
+  pub need_least : (need : ℕ → ℕ) → AreGraphNeeds gs need → x.need ≤ need i
 
 -- all that is found is settled and small
-pub record IsSound (gs : List GraphInst) (table : List (Option Found)) : Type 0 where
+pub record IsSoundTable (gs : List GraphInst) (table : List (Option Found)) : Type 0 where
   pub same : length table ≡ length gs
   pub settled : (i : ℕ) (x : Found) → at table i ≡ Some x → IsSettled gs table i x
   pub small : (i : ℕ) (x : Found) → at table i ≡ Some x → IsSmall x (count_found table)
 
 -- an instance that is missing enters one that is
-abbrev pub IsStuck : List GraphInst → List (Option Found) → ℕ → Type 0
-IsStuck gs table i = (e : Entered) × Enters gs i e × (at table e.into ≡ None)
+abbrev pub IsInstStuck : List GraphInst → List (Option Found) → ℕ → Type 0
+IsInstStuck gs table i = (e : Entered) × EntersAlong gs i e × (at table e.into ≡ None)
 
 -- what a look at instance i does, where `grew` tells whether it was settled
 pub record IsVisit (gs : List GraphInst) (old : List (Option Found)) (i : ℕ) (grew : Bool) (new : List (Option Found)) : Type 0 where
-  pub sound : IsSound gs new
+  pub sound : IsSoundTable gs new
   pub fewer : grew ≡ true → count_missing new < count_missing old
   pub kept : grew ≡ false → new ≡ old
-  pub stuck : grew ≡ false → at new i ≡ None → IsStuck gs new i
+  pub stuck : grew ≡ false → at new i ≡ None → IsInstStuck gs new i
 
 -- the same of the instances below i
 pub record ArePassed (gs : List GraphInst) (old : List (Option Found)) (i : ℕ) (grew : Bool) (new : List (Option Found)) : Type 0 where
-  pub sound : IsSound gs new
+  pub sound : IsSoundTable gs new
   pub fewer : grew ≡ true → count_missing new < count_missing old
   pub kept : grew ≡ false → new ≡ old
-  pub stuck : grew ≡ false → (j : ℕ) → j < i → at new j ≡ None → IsStuck gs new j
+  pub stuck : grew ≡ false → (j : ℕ) → j < i → at new j ≡ None → IsInstStuck gs new j
 
 -- the rank and the need that are found, 0 where none is
 abbrev pub rank_of : Option Found → ℕ
@@ -89,7 +89,7 @@ pub record AreFound (table : List (Option Found)) (i : ℕ) (ranks needs : List 
   pub needs_are : needs ≡ map need_of (take i table)
 
 -- an instance of which nothing is found
-pub record IsMissing (table : List (Option Found)) : Type 0 where
+pub record IsInstMissing (table : List (Option Found)) : Type 0 where
   pub inst : ℕ
   pub inside : inst < length table
   pub none : at table inst ≡ None

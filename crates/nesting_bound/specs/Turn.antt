@@ -6,7 +6,7 @@ use Rattle.nesting_bound.specs.declared.graph.Entered.{Entered}
 use Rattle.nesting_bound.specs.declared.graph.GraphInst.{GraphInst}
 use Rattle.nesting_bound.specs.declared.graph.Link.{Link}
 use Rattle.nesting_bound.specs.declared.graph.Place.{Place}
-use Rattle.nesting_bound.specs.Graph.{AreNeeds}
+use Rattle.nesting_bound.specs.Graph.{AreGraphNeeds}
 use Rattle.nesting_bound.specs.Chain.{IsFirst, IsPlaceUpTo, IsEdgeUpTo, IsDeepPlace, IsDeepEdge, IsChainFrom, IsChain, HasSome}
 
 -- the first of those in the list that are so, if any is
@@ -29,8 +29,8 @@ IsTurn gs needs i (Enters e) = ((p : Place) → IsDeepPlace gs needs i p → ⊥
 -- needs, the least ones
 pub record AreLeastNeeds (gs : List GraphInst) (needs : List ℕ) : Type 0 where
   pub same : length needs ≡ length gs
-  pub are : AreNeeds gs (slice_index needs)
-  pub least : (need : ℕ → ℕ) → AreNeeds gs need → (i : ℕ) → i < length gs → slice_index needs i ≤ need i
+  pub are : AreGraphNeeds gs (slice_index needs)
+  pub least : (need : ℕ → ℕ) → AreGraphNeeds gs need → (i : ℕ) → i < length gs → slice_index needs i ≤ need i
 
 -- The chain from the root on is these links, and then what it is from instance i on, whose base is so many bytes below the root's.
 pub record IsOnWay (gs : List GraphInst) (needs : List ℕ) (i above : ℕ) (links : List Link) : Type 0 where

@@ -1,6 +1,6 @@
 //! The deepest chain of calls and interrupts.
 
-ghost use Rattle.std.specs.Prelude.{◌≡◌, ◌↔◌, ℕ, ◌+◌, ◌<◌, ◌≤◌, ◌∷◌, ◌++◌, [], List, IfOk, length, slice_get, slice_index, IsTrue, true};
+ghost use Rattle.std.specs.Prelude.{◌≡◌, ◌+◌, ◌<◌, ◌≤◌, IfOk, length, slice_get, slice_index, true};
 ghost use Rattle.avr_model.specs.State.{SIZE};
 ghost use Rattle.std.specs.Ordering.{is_lt};
 ghost use Rattle.nesting_bound.specs.declared.graph.Entered.{Entered};

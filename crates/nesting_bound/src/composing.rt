@@ -1,8 +1,8 @@
 //! The least ranks and needs, or the instance that is named where some reach themselves.
 
 ghost use Rattle.std.specs.Prelude.{ℕ, ◌≡◌, ◌<◌, None, IfOk, IfErr, MatchOption, length};
-ghost use Rattle.nesting_bound.specs.Graph.{IsGraph, Reaches};
-ghost use Rattle.nesting_bound.specs.Table.{at, AreFound, IsMissing, IsSound, IsStuck};
+ghost use Rattle.nesting_bound.specs.Graph.{IsGraph, ReachesBy};
+ghost use Rattle.nesting_bound.specs.Table.{at, AreFound, IsInstMissing, IsSoundTable, IsInstStuck};
 ghost use Rattle.nesting_bound.specs.Least.{IsLeast};
 ghost use Rattle.nesting_bound.specs.Cycle.{IsNamed, IsFaultOf};
 
@@ -41,7 +41,7 @@ impl Composed {
 
 // The ranks and needs of a table in which all is settled; none where something is missing.
 fn settled(alloc: Global, table: &[Option<Found>]) -> Result<Option<Composed>, AllocError>
-    ensures { IfOk result (λ found. MatchOption found (IsMissing table.now) (λ c. AreFound table.now (length table.now) c.ranks c.needs)) }
+    ensures { IfOk result (λ found. MatchOption found (IsInstMissing table.now) (λ c. AreFound table.now (length table.now) c.ranks c.needs)) }
 {
     let mut ranks = Vec::new(alloc);
     let mut needs = Vec::new(alloc);
@@ -68,10 +68,10 @@ fn told(
     numbers: Vec<u32>,
 ) -> Result<Composed, ComposeFault>
     requires graph { IsGraph instances.now }
-    requires sound { IsSound instances.now table.now }
-    requires stuck { (i : ℕ) → i < length instances.now → at table.now i ≡ None → IsStuck instances.now table.now i }
+    requires sound { IsSoundTable instances.now table.now }
+    requires stuck { (i : ℕ) → i < length instances.now → at table.now i ≡ None → IsInstStuck instances.now table.now i }
     ensures ok { IfOk result (λ c. IsLeast instances.now c.ranks c.needs) }
-    ensures acyclic { IfOk result (λ _. (i : ℕ) → Reaches instances.now i i → ⊥) }
+    ensures acyclic { IfOk result (λ _. (i : ℕ) → ReachesBy instances.now i i → ⊥) }
     ensures err { IfErr result (IsFaultOf instances.now) }
 {
     match settled(alloc, table)? {
@@ -90,7 +90,7 @@ fn told(
 pub fn compose(alloc: Global, graph: &Graph) -> Result<Composed, ComposeFault>
     requires { IsGraph graph.now.instances }
     ensures ok { IfOk result (λ c. IsLeast graph.now.instances c.ranks c.needs) }
-    ensures acyclic { IfOk result (λ _. (i : ℕ) → Reaches graph.now.instances i i → ⊥) }
+    ensures acyclic { IfOk result (λ _. (i : ℕ) → ReachesBy graph.now.instances i i → ⊥) }
     ensures err { IfErr result (IsFaultOf graph.now.instances) }
 {
     let instances = graph.instances.as_slice();

@@ -1,11 +1,11 @@
 //! Which instance is named where some reach themselves.
 
-ghost use Rattle.std.specs.Prelude.{◌≡◌, ◌≢◌, ◌⊎◌, ℕ, ◌+◌, ◌<◌, ◌≤◌, Contains, IfOk, IfSome, length, slice_index, true, false};
+ghost use Rattle.std.specs.Prelude.{◌≡◌, ◌⊎◌, ◌+◌, ◌<◌, ◌≤◌, Contains, IfOk, IfSome, length, slice_index, true, false};
 ghost use Rattle.nesting_bound.specs.declared.graph.Entered.{Entered};
-ghost use Rattle.nesting_bound.specs.Graph.{Reaches, IsGraph};
-ghost use Rattle.nesting_bound.specs.Cycle.{group_of, number_of, IsNoLater};
+ghost use Rattle.nesting_bound.specs.Graph.{ReachesBy, IsGraph};
+ghost use Rattle.nesting_bound.specs.Cycle.{group_of, number_of};
 ghost use Rattle.nesting_bound.specs.Search.{IsNamedOf, IsNamedBelow, AreLayers};
-ghost use Rattle.nesting_bound.specs.Table.{IsSound};
+ghost use Rattle.nesting_bound.specs.Table.{IsSoundTable};
 
 use crate::depth_first::read;
 use crate::found::Found;
@@ -51,10 +51,10 @@ fn highest(edges: &[Entered], numbers: &[u32]) -> u32
 
 // Whether instance i may reach itself: it wasn't settled, and it enters one whose number is not below its own.
 fn is_candidate(graph: &[GraphInst], table: &[Option<Found>], numbers: &[u32], i: usize) -> bool
-    requires sound { IsSound graph.now table.now }
+    requires sound { IsSoundTable graph.now table.now }
     requires layers { AreLayers graph.now numbers.now }
     requires within { i < length graph.now }
-    ensures { result ≡ false → Reaches graph.now i i → ⊥ }
+    ensures { result ≡ false → ReachesBy graph.now i i → ⊥ }
 {
     if table[i].is_some() {
         return false;
@@ -68,7 +68,7 @@ fn is_behind(graph: &[GraphInst], best: Option<u32>, i: usize) -> bool
     requires within { i < length graph.now }
     requires best { IsNamedBelow graph.now i best }
     ensures yes { result ≡ true → IsNamedBelow graph.now (i + 1) best }
-    ensures no { result ≡ false → Reaches graph.now i i → IsNamedOf graph.now (i + 1) i }
+    ensures no { result ≡ false → ReachesBy graph.now i i → IsNamedOf graph.now (i + 1) i }
 {
     match best {
         None => false,
@@ -86,7 +86,7 @@ fn is_behind(graph: &[GraphInst], best: Option<u32>, i: usize) -> bool
 
 // The first that is named of the candidates.
 fn first_candidate(graph: &[GraphInst], table: &[Option<Found>], numbers: &[u32]) -> Option<usize>
-    requires sound { IsSound graph.now table.now }
+    requires sound { IsSoundTable graph.now table.now }
     requires layers { AreLayers graph.now numbers.now }
     ensures { IfSome result (λ at. at < length graph.now) }
 {
@@ -111,7 +111,7 @@ fn guess(
     numbers: &[u32],
 ) -> Result<Option<u32>, AllocError>
     requires graph { IsGraph graph.now }
-    requires sound { IsSound graph.now table.now }
+    requires sound { IsSoundTable graph.now table.now }
     requires layers { AreLayers graph.now numbers.now }
     ensures { IfOk result (IsNamedBelow graph.now 0) }
 {
@@ -138,8 +138,8 @@ fn layers(alloc: Global, graph: &[GraphInst], numbers: Vec<u32>) -> Result<Vec<u
     Ok(numbers)
 }
 
-// The instance that is named, if one reaches itself. The table holds what was settled. Any numbers serve; where they are the
-// instances' components, one instance alone is asked what it reaches.
+/// The instance that is named, if one reaches itself. The table holds what was settled. Any numbers serve; where they are the
+/// instances' components, one instance alone is asked what it reaches.
 pub fn first_named(
     alloc: Global,
     graph: &[GraphInst],
@@ -147,7 +147,7 @@ pub fn first_named(
     numbers: Vec<u32>,
 ) -> Result<Option<u32>, AllocError>
     requires graph { IsGraph graph.now }
-    requires sound { IsSound graph.now table.now }
+    requires sound { IsSoundTable graph.now table.now }
     ensures { IfOk result (IsNamedBelow graph.now (length graph.now)) }
 {
     let layers = layers(alloc, graph, numbers)?;

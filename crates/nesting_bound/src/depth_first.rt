@@ -37,16 +37,16 @@ struct Walk {
     count: u32,
 }
 
-// The instances as a walk leaves them.
+/// The instances as a walk leaves them.
 #[derive(Drop)]
 pub struct Walked {
-    // Each instance behind those that it enters, but for cycles.
+    /// Each instance behind those that it enters, but for cycles.
     pub order: Vec<u32>,
-    // By instance, a number that instances on one cycle have in common, not below that of any that it enters.
+    /// By instance, a number that instances on one cycle have in common, not below that of any that it enters.
     pub component: Vec<u32>,
 }
 
-// The number at a place, 0 where there is none.
+/// The number at a place, 0 where there is none.
 pub fn read(list: &[u32], i: usize) -> u32
     ensures { result ≡ slice_index list.now i }
 {
@@ -152,7 +152,7 @@ impl Walk {
     }
 }
 
-// Walks over all instances.
+/// Walks over all instances.
 pub fn walk_all(alloc: Global, graph: &[GraphInst]) -> Result<Walked, AllocError>
     requires { IsGraph graph.now }
 {

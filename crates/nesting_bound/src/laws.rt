@@ -1,6 +1,6 @@
 //! Laws of ranks, needs and chains, each as the contract of a function that does nothing.
 
-ghost use Rattle.nesting_bound.specs.Laws.{RanksRuleOutCycles, NeedsBoundNesting, AnswersAreOne, ChainsReachTheNeed, ChainsAreOne};
+ghost use Rattle.nesting_bound.specs.Laws.{RanksRuleOutCycles, NeedsBoundNesting, LeastNeedsAreOne, ChainsReachTheNeed, ChainsAreOne};
 
 /// Where there are ranks, no instance reaches itself.
 pub fn ranks_rule_out_cycles()
@@ -16,7 +16,7 @@ pub fn needs_bound_nesting()
 
 /// Least ranks and needs are the only ones, and so is the instance that is named where some reach themselves.
 pub fn answers_are_one()
-    ensures { AnswersAreOne }
+    ensures { LeastNeedsAreOne }
 {}
 
 /// There is one chain.

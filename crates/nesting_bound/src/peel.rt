@@ -1,11 +1,11 @@
 //! Ranks and needs, from the instances that enter none up.
 
-ghost use Rattle.std.specs.Prelude.{◌≡◌, ◌≢◌, ℕ, ◌+◌, ◌*◌, ◌<◌, ◌≤◌, Contains, None, Some, IfSome, IfNone, IfOk, max, length, slice_get, true, false};
+ghost use Rattle.std.specs.Prelude.{◌≡◌, ℕ, ◌+◌, ◌*◌, ◌<◌, ◌≤◌, Contains, None, Some, IfSome, IfNone, IfOk, max, length, true, false};
 ghost use Rattle.nesting_bound.specs.declared.graph.Entered.{Entered};
 ghost use Rattle.nesting_bound.specs.declared.graph.Place.{Place};
 ghost use Rattle.nesting_bound.specs.declared.found.Found.{Found};
 ghost use Rattle.nesting_bound.specs.Graph.{IsGraph};
-ghost use Rattle.nesting_bound.specs.Table.{at, raised, IsVisit, ArePassed, IsOver, IsSmall, IsSound, IsStuck, count_missing};
+ghost use Rattle.nesting_bound.specs.Table.{at, IsVisit, ArePassed, IsOver, IsSmall, IsSoundTable, IsInstStuck};
 
 use crate::found::Found;
 use crate::graph::{Entered, GraphInst, Place};
@@ -52,7 +52,7 @@ fn settle(inst: &GraphInst, table: &[Option<Found>]) -> Option<Found>
 // Settles one instance, if that can be done; whether it was.
 fn visit(graph: &[GraphInst], table: &mut [Option<Found>], i: usize) -> bool
     requires graph { IsGraph graph.now }
-    requires sound { IsSound graph.now table.old }
+    requires sound { IsSoundTable graph.now table.old }
     requires within { i < length graph.now }
     ensures { IsVisit graph.now table.old i result table.new }
 {
@@ -71,7 +71,7 @@ fn visit(graph: &[GraphInst], table: &mut [Option<Found>], i: usize) -> bool
 // Looks at each instance once; whether one was settled.
 fn pass(graph: &[GraphInst], table: &mut [Option<Found>]) -> bool
     requires graph { IsGraph graph.now }
-    requires sound { IsSound graph.now table.old }
+    requires sound { IsSoundTable graph.now table.old }
     ensures { ArePassed graph.now table.old (length graph.now) result table.new }
 {
     let mut grew = false;
@@ -85,8 +85,8 @@ fn pass(graph: &[GraphInst], table: &mut [Option<Found>]) -> bool
 // Looks at instances in this order.
 fn settle_in(graph: &[GraphInst], table: &mut [Option<Found>], order: &[u32])
     requires graph { IsGraph graph.now }
-    requires sound { IsSound graph.now table.old }
-    ensures { IsSound graph.now table.new }
+    requires sound { IsSoundTable graph.now table.old }
+    ensures { IsSoundTable graph.now table.new }
 {
     for inst in order {
         let i = *inst as usize;
@@ -96,16 +96,16 @@ fn settle_in(graph: &[GraphInst], table: &mut [Option<Found>], order: &[u32])
     }
 }
 
-// Settles instances until none is left that enters settled ones alone. Any order serves; where each instance stands behind those
-// that it enters, one look at each is enough, and one more shows that nothing is left.
+/// Settles instances until none is left that enters settled ones alone. Any order serves; where each instance stands behind those
+/// that it enters, one look at each is enough, and one more shows that nothing is left.
 pub fn peel(
     alloc: Global,
     graph: &[GraphInst],
     order: &[u32],
 ) -> Result<Vec<Option<Found>>, AllocError>
     requires graph { IsGraph graph.now }
-    ensures sound { IfOk result (λ table. IsSound graph.now table.items) }
-    ensures stuck { IfOk result (λ table. (i : ℕ) → i < length graph.now → at table.items i ≡ None → IsStuck graph.now table.items i) }
+    ensures sound { IfOk result (λ table. IsSoundTable graph.now table.items) }
+    ensures stuck { IfOk result (λ table. (i : ℕ) → i < length graph.now → at table.items i ≡ None → IsInstStuck graph.now table.items i) }
 {
     let mut table = vec![in alloc; None; graph.len()]?;
     settle_in(graph, table.as_mut_slice(), order);

@@ -1,9 +1,9 @@
 //! Which instances one reaches.
 
-ghost use Rattle.std.specs.Prelude.{◌≡◌, ℕ, ◌+◌, ◌<◌, ◌≤◌, Contains, IfOk, OnOk, length, true, false, List, ◌∷◌, []};
+ghost use Rattle.std.specs.Prelude.{◌≡◌, ◌<◌, Contains, IfOk, OnOk, length, true, false};
 ghost use Rattle.nesting_bound.specs.declared.graph.Entered.{Entered};
-ghost use Rattle.nesting_bound.specs.Graph.{Reaches, IsGraph};
-ghost use Rattle.nesting_bound.specs.Reach.{IsSpread, IsMarked, marked};
+ghost use Rattle.nesting_bound.specs.Graph.{ReachesBy, IsGraph};
+ghost use Rattle.nesting_bound.specs.Reach.{IsSpread};
 
 use crate::graph::{Entered, GraphInst};
 use std::alloc::{AllocError, Global};
@@ -23,12 +23,12 @@ fn spread(inst: &GraphInst, seen: &mut [bool], stack: &mut Vec<u32>) -> Result<(
     Ok(())
 }
 
-// Whether the instance reaches itself.
+/// Whether the instance reaches itself.
 pub fn reaches_itself(alloc: Global, graph: &[GraphInst], from: usize) -> Result<bool, AllocError>
     requires graph { IsGraph graph.now }
     requires within { from < length graph.now }
-    ensures yes { IfOk result (λ yes. yes ≡ true → Reaches graph.now from from) }
-    ensures no { IfOk result (λ yes. yes ≡ false → Reaches graph.now from from → ⊥) }
+    ensures yes { IfOk result (λ yes. yes ≡ true → ReachesBy graph.now from from) }
+    ensures no { IfOk result (λ yes. yes ≡ false → ReachesBy graph.now from from → ⊥) }
 {
     let mut seen = vec![in alloc; false; graph.len()]?;
     let mut stack = Vec::new(alloc);

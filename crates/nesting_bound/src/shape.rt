@@ -1,6 +1,6 @@
 //! Tests of what `compose` and `chain` ask of a graph.
 
-ghost use Rattle.std.specs.Prelude.{◌≡◌, ℕ, ◌<◌, ◌≤◌, Contains, length, true, false};
+ghost use Rattle.std.specs.Prelude.{◌≡◌, ◌<◌, ◌≤◌, Contains, true, false};
 ghost use Rattle.avr_model.specs.State as model;
 ghost use Rattle.nesting_bound.specs.declared.graph.Entered.{Entered};
 ghost use Rattle.nesting_bound.specs.declared.graph.Place.{Place};

@@ -1,7 +1,7 @@
 -- Cuts of one byte of a pair, and of the pair.
 use Rattle.std.proofs.Common.{◌≡◌, refl, sym, ◌∙◌, ap, subst, ℕ, ◌/◌, ◌%◌, ◌<◌, min, Bool, true, false, Option, Some, None, arith}
 use Rattle.std.specs.Prelude.{◌==◌, if◌then◌else◌}
-use Rattle.bit_domain.specs.Ranges.{ByteSet, Holds, IsSetWithin, RangeFits}
+use Rattle.bit_domain.specs.Ranges.{ByteSet, SetHas, IsSetWithin, RangeFits}
 use Rattle.bit_domain.proofs.AllLaws.{ranges_fit}
 use Rattle.pair_domain.specs.declared.intervals.Interval.{Interval}
 use Rattle.pair_domain.specs.Intervals.{InInterval, IsIntervalWithin, interval_meet, hull}
@@ -15,7 +15,7 @@ use Rattle.pair_cut_laws.proofs.Steps.{EndsInHull}
 
 -- a cut of a byte keeps each byte of which P holds; it says more, and fits where the byte did
 pub record IsByteCut (P : ℕ → Type 0) (cut : ByteSet → Option ByteSet) : Type 0 where
-  pub keeps : (b : ByteSet) (x : ℕ) → Holds b x → P x → (m : ByteSet) × ((cut b ≡ Some m) × Holds m x)
+  pub keeps : (b : ByteSet) (x : ℕ) → SetHas b x → P x → (m : ByteSet) × ((cut b ≡ Some m) × SetHas m x)
   pub under : (b m : ByteSet) → cut b ≡ Some m → IsSetWithin m b
   pub fits : (b m : ByteSet) → RangeFits b → cut b ≡ Some m → RangeFits m
 

@@ -18,14 +18,14 @@ use Rattle.pair_domain.specs.declared.tags.ZeroTag.TheVariants as zero
 use Rattle.pair_domain.specs.Intervals.{InInterval, IsIntervalWithin}
 use Rattle.pair_domain.specs.Tags.{pair_number, side_byte, CompareHolds, ZeroHolds, IsCompareWithin, IsZeroWithin}
 use Rattle.pair_domain.specs.Facts.{KnownHolds, IsKnownWithin}
-use Rattle.pair_domain.specs.CompareLaws.{Keeps, LeavesMore}
+use Rattle.pair_domain.specs.CompareLaws.{KeepsMember, LeavesMore}
 use Rattle.pair_domain.specs.Rank.{IsPair, SideFits, CompareFits, ZeroFits, KnownFits}
 use Rattle.pair_domain.proofs.AllLaws.{intervals_are_ordered, compares_cut, cuts_are_monotone}
 use Rattle.abs_state.specs.declared.state.AbsState.{AbsState}
 use Rattle.abs_state.specs.Order.{IsStateWithin}
 use Rattle.abs_state.specs.Formed.{CarryNamesRegister, IsFormed}
-use Rattle.pair_cuts.specs.declared.places.Place.{Place}
-use Rattle.pair_cuts.specs.declared.places.Place.TheVariants as place
+use Rattle.pair_cuts.specs.declared.places.CutPlace.{CutPlace}
+use Rattle.pair_cuts.specs.declared.places.CutPlace.TheVariants as place
 use Rattle.pair_cuts.specs.declared.outcomes.Outcome.{Outcome}
 use Rattle.pair_cuts.specs.Places.{after, known_or_nothing, range_of, interval_of, range_at, narrow_at, narrow_to}
 use Rattle.pair_cuts.specs.Outcomes.{left_part, right_part, outcome_of}
@@ -37,41 +37,41 @@ use Rattle.pair_cut_laws.proofs.Outcomes.{agrees, parts_keep, parts_more}
 
 -- ---- a number that is k, or isn't
 
-abbrev number_at : List ℕ → Place → ℕ
+abbrev number_at : List ℕ → CutPlace → ℕ
 number_at registers place.Neither = 0
 number_at registers (place.Byte r) = slice_index registers r
 number_at registers (place.Pair r) = pair_number registers r
 
-is_in : (p : Place) (i : Interval) (registers : List ℕ) → InInterval i (number_at registers p) → IsIn p i registers
+is_in : (p : CutPlace) (i : Interval) (registers : List ℕ) → InInterval i (number_at registers p) → IsIn p i registers
 is_in place.Neither i registers h = tt
 is_in (place.Byte r) i registers h = h
 is_in (place.Pair r) i registers h = h
 
 -- a place that is followed
-abbrev pub IsFollowed : Place → Type 0
+abbrev pub IsFollowed : CutPlace → Type 0
 IsFollowed place.Neither = ⊥
 IsFollowed (place.Byte r) = ⊤
 IsFollowed (place.Pair r) = ⊤
 
-in_number : (p : Place) (i : Interval) (registers : List ℕ) → IsFollowed p → IsIn p i registers → InInterval i (number_at registers p)
+in_number : (p : CutPlace) (i : Interval) (registers : List ℕ) → IsFollowed p → IsIn p i registers → InInterval i (number_at registers p)
 in_number place.Neither i registers none h = absurd none
 in_number (place.Byte r) i registers some h = h
 in_number (place.Pair r) i registers some h = h
 
-pub equal_keeps : (b : Bool) (k : ℕ) (x : Interval) (w : ℕ) → InInterval x w → (w == k) ≡ b → Keeps (equal_part b k x) w
+pub equal_keeps : (b : Bool) (k : ℕ) (x : Interval) (w : ℕ) → InInterval x w → (w == k) ≡ b → KeepsMember (equal_part b k x) w
 equal_keeps true k x w h e = let is = eqb-true w k e in (just k, (refl, record { low = omega (arith, is); high = omega (arith, is) }))
 equal_keeps false k x w h e = compares_cut.off x (just k) w k h (record { low = omega arith; high = omega arith }) (eqb-false w k e)
 
-pub same_keeps : (p : Place) (b : Bool) (k : ℕ) (m : State) → PlaceFits p → IsFollowed p → (number_at m.registers p == k) ≡ b → KeepsMachine m (same_cut p b k)
+pub same_keeps : (p : CutPlace) (b : Bool) (k : ℕ) (m : State) → PlaceFits p → IsFollowed p → (number_at m.registers p == k) ≡ b → KeepsMachine m (same_cut p b k)
 same_keeps p b k m fits some is o s offset a h =
     let i = equal_keeps b k (range_at s p) (number_at m.registers p) (in_number p (range_at s p) m.registers some (range_holds p o s m fits h)) is in
     to_keeps p (equal_part b k (range_at s p)) i.0 m fits i.1.0 (is_in p i.0 m.registers i.1.1) o s offset a h
 
-pub same_leaves : (p : Place) (b : Bool) (k : ℕ) → PlaceFits p → LeavesLess (same_cut p b k)
+pub same_leaves : (p : CutPlace) (b : Bool) (k : ℕ) → PlaceFits p → LeavesLess (same_cut p b k)
 same_leaves p b k fits s t offset a e = to_leaves p (equal_part b k (range_at s p)) fits s t offset a e
 
 -- to intervals of which the second holds the first
-pub to_more : (p : Place) (x y : Option Interval) → PlaceFits p → LeavesMore x y → LeavesMoreBy (narrow_to p x) (narrow_to p y)
+pub to_more : (p : CutPlace) (x y : Option Interval) → PlaceFits p → LeavesMore x y → LeavesMoreBy (narrow_to p x) (narrow_to p y)
 to_more p None y fits more s s' t offset a b le e = absurd (cc)
 to_more p (Some i) y fits more s s' t offset a b le e =
     let j = more i refl in
@@ -85,20 +85,20 @@ equal_more true k x x' ordered le i e =
     (just k, (refl, subst P same (intervals_are_ordered.same (just k))))
 equal_more false k x x' ordered le i e = cuts_are_monotone.off x (just k) x' (just k) ordered (omega arith) le (intervals_are_ordered.same (just k)) i e
 
-pub same_more : (p : Place) (b : Bool) (k : ℕ) → PlaceFits p → LeavesMoreBy (same_cut p b k) (same_cut p b k)
+pub same_more : (p : CutPlace) (b : Bool) (k : ℕ) → PlaceFits p → LeavesMoreBy (same_cut p b k) (same_cut p b k)
 same_more p b k fits s s' t offset a a' le e =
     to_more p (equal_part b k (range_at s p)) (equal_part b k (range_at s' p)) fits
     (equal_more b k (range_at s p) (range_at s' p) (range_ordered p s offset fits a) (range_within p s s' offset fits a le)) s s' t offset a a' le e
 
 -- ---- C of a register
 
-below_keeps : (b : Bool) (k x : ℕ) → x < 256 → b ≡ nat_lt x k → Keeps (below_part b k) x
+below_keeps : (b : Bool) (k x : ℕ) → x < 256 → b ≡ nat_lt x k → KeepsMember (below_part b k) x
 below_keeps true k x small e = by (k == 0) refl
   where
     lt : x < k
     lt = ltb-true x k (sym e)
 
-    by : (t : Bool) → (k == 0) ≡ t → Keeps (if t then None else Some (record { low = 0; high = k - 1 })) x
+    by : (t : Bool) → (k == 0) ≡ t → KeepsMember (if t then None else Some (record { low = 0; high = k - 1 })) x
     by true t = absurd (let z = eqb-true k 0 t in omega (arith, z, lt))
     by false t = (record { low = 0; high = k - 1 }, (refl, record { low = omega arith; high = omega (arith, lt) }))
 below_keeps false k x small e =
@@ -212,29 +212,29 @@ zero_more n b s s' t offset a a' le e =
 
 -- ---- two sides
 
-both_was : (left right : Place) (x y : Option Interval) (s t : AbsState) → narrow_both left right x y s ≡ Some t
+both_was : (left right : CutPlace) (x y : Option Interval) (s t : AbsState) → narrow_both left right x y s ≡ Some t
     → (i : Interval) × (j : Interval) × (x ≡ Some i) × (y ≡ Some j) × (after (narrow_at left i s) (narrow_at right j) ≡ Some t)
 both_was left right None y s t e = absurd (cc)
 both_was left right (Some i) None s t e = absurd (cc)
 both_was left right (Some i) (Some j) s t e = (i, j, refl, refl, e)
 
-both_some : (left right : Place) (x y : Option Interval) (i j : Interval) (s : AbsState) → x ≡ Some i → y ≡ Some j
+both_some : (left right : CutPlace) (x y : Option Interval) (i j : Interval) (s : AbsState) → x ≡ Some i → y ≡ Some j
     → narrow_both left right x y s ≡ after (narrow_at left i s) (narrow_at right j)
 both_some left right x y i j s p q =
     ap (λ (z : Option Interval). narrow_both left right z y s) p ∙ ap (λ (z : Option Interval). narrow_both left right (Some i) z s) q
 
-both_keeps : (left right : Place) (x y : Option Interval) (i j : Interval) (m : State) → PlaceFits left → PlaceFits right → x ≡ Some i → y ≡ Some j → IsIn left i m.registers → IsIn right j m.registers
+both_keeps : (left right : CutPlace) (x y : Option Interval) (i j : Interval) (m : State) → PlaceFits left → PlaceFits right → x ≡ Some i → y ≡ Some j → IsIn left i m.registers → IsIn right j m.registers
     → KeepsMachine m (narrow_both left right x y)
 both_keeps left right x y i j m l r p q in_left in_right o s offset a h =
     let t = after_keeps m (narrow_at left i) (narrow_at right j) (place_leaves left i l) (place_keeps left i m l in_left) (place_keeps right j m r in_right) o s offset a h in
     (t.0, (both_some left right x y i j s p q ∙ t.1.0, t.1.1))
 
-both_leaves : (left right : Place) (x y : Option Interval) → PlaceFits left → PlaceFits right → LeavesLess (narrow_both left right x y)
+both_leaves : (left right : CutPlace) (x y : Option Interval) → PlaceFits left → PlaceFits right → LeavesLess (narrow_both left right x y)
 both_leaves left right x y l r s t offset a e =
     let was = both_was left right x y s t e in
     after_leaves (narrow_at left was.0) (narrow_at right was.1) (place_leaves left was.0 l) (place_leaves right was.1 r) s t offset a was.4
 
-both_more : (left right : Place) (x y x' y' : Option Interval) → PlaceFits left → PlaceFits right → LeavesMore x x' → LeavesMore y y'
+both_more : (left right : CutPlace) (x y x' y' : Option Interval) → PlaceFits left → PlaceFits right → LeavesMore x x' → LeavesMore y y'
     → LeavesMoreBy (narrow_both left right x y) (narrow_both left right x' y')
 both_more left right x y x' y' l r more more' s s' t offset a a' le e =
     let was = both_was left right x y s t e in
@@ -276,7 +276,7 @@ side_within (side.Register q) s s' offset fits a le = range_within (place.Byte q
 abbrev word_at : List ℕ → Side → ℕ → ℕ
 word_at registers y p = side_byte registers y + 256 * slice_index registers p
 
-record IsRight (to : Place) (y : Side) (p : ℕ) : Type 0 where
+record IsRight (to : CutPlace) (y : Side) (p : ℕ) : Type 0 where
   fits : PlaceFits to
   holds : (o : Origin) (s : AbsState) (m : State) → StandsFor o s m → InInterval (pair_range s to y p) (word_at m.registers y p)
   inside : (i : Interval) (m : State) → InInterval i (word_at m.registers y p) → IsIn to i m.registers

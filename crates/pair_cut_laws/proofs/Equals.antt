@@ -29,7 +29,7 @@ use Rattle.abs_state.specs.Formed.{IsFormed}
 use Rattle.abs_state.specs.Cuts.{pair_of, pair_set, with_pair, cut_known}
 use Rattle.abs_state.proofs.AllLaws.{states_are_ordered, joins_are_formed}
 use Rattle.abs_state.specs.Hulls.{AreInHulls}
-use Rattle.pair_cuts.specs.declared.places.Place.TheVariants as place
+use Rattle.pair_cuts.specs.declared.places.CutPlace.TheVariants as place
 use Rattle.pair_cuts.specs.Places.{on_byte, narrow_byte, range_of, narrow_to}
 use Rattle.pair_cuts.specs.Cuts.{just, same_cut, equal_by, equal_cut}
 use Rattle.pair_cut_laws.specs.Laws.{KeepsMachine, LeavesLess, EqualsAreCut}

@@ -19,7 +19,7 @@ use Rattle.abs_state.specs.declared.state.AbsState.{AbsState}
 use Rattle.abs_state.specs.Values.{value_at}
 use Rattle.abs_state.specs.Order.{IsStateWithin}
 use Rattle.abs_state.specs.Formed.{CarryNamesRegister, IsFormed}
-use Rattle.pair_cuts.specs.declared.places.Place.TheVariants as place
+use Rattle.pair_cuts.specs.declared.places.CutPlace.TheVariants as place
 use Rattle.pair_cuts.specs.Places.{after, narrow_to}
 use Rattle.pair_cuts.specs.Cuts.{less_by, less_cut, zero_cut, compare_cut, bit_known, flags_known, flag_by, flag_cut}
 use Rattle.pair_cut_laws.specs.Laws.{KeepsMachine, LeavesLess, IsLeftOf, LeavesMoreOfMore, FlagsAreCut}

@@ -6,7 +6,7 @@ use Rattle.avr_model.specs.Sreg.{flag}
 use Rattle.pair_domain.specs.declared.intervals.Interval.{Interval}
 use Rattle.pair_domain.specs.Intervals.{InInterval, IsIntervalWithin}
 use Rattle.pair_domain.specs.Tags.{signed_below, IsCompared}
-use Rattle.pair_domain.specs.CompareLaws.{Keeps, LeavesMore}
+use Rattle.pair_domain.specs.CompareLaws.{KeepsMember, LeavesMore}
 use Rattle.pair_domain.proofs.AllLaws.{intervals_meet, compares_cut, cuts_are_monotone}
 use Rattle.pair_cuts.specs.declared.outcomes.Outcome.{Outcome}
 use Rattle.pair_cuts.specs.declared.outcomes.Outcome.TheVariants as outcome
@@ -79,12 +79,12 @@ module _ (half x y sreg : ℕ) (h : IsCompared half x y (flag sreg 0) (flag sreg
 -- ---- it keeps what agrees with it
 
 pub parts_keep : (o : Outcome) (half : ℕ) (i j : Interval) (x y : ℕ) → 0 < half → i.high < 2 * half → j.high < 2 * half → InInterval i x → InInterval j y
-    → AgreesWith o half x y → Keeps (left_part o half i j) x × Keeps (right_part o i j) y
+    → AgreesWith o half x y → KeepsMember (left_part o half i j) x × KeepsMember (right_part o i j) y
 parts_keep outcome.Below half i j x y some a b p q lt = compares_cut.below i j x y p q lt
 parts_keep outcome.NotBelow half i j x y some a b p q le = compares_cut.from i j x y p q le
 parts_keep outcome.Equal half i j x y some a b p q eq =
     let both = compares_cut.equal i j x p (subst (InInterval j) (sym eq) q) in
-    let P : ℕ → Type 0 = λ k. Keeps (left_part outcome.Equal half i j) k in
+    let P : ℕ → Type 0 = λ k. KeepsMember (left_part outcome.Equal half i j) k in
     (both, subst P eq both)
 parts_keep outcome.NotEqual half i j x y some a b p q ne = (compares_cut.off i j x y p q ne, compares_cut.off j i y x q p (λ e. ne (sym e)))
 parts_keep outcome.Less half i j x y some a b p q less = (compares_cut.less half i j x y some a b p q less, (j, (refl, q)))

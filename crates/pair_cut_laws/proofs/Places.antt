@@ -21,8 +21,8 @@ use Rattle.abs_state.specs.Values.{value_at, set_of}
 use Rattle.abs_state.specs.Order.{IsStateWithin}
 use Rattle.abs_state.specs.Formed.{IsFormed}
 use Rattle.abs_state.specs.Cuts.{pair_of, pair_set, with_pair, cut_known}
-use Rattle.pair_cuts.specs.declared.places.Place.{Place}
-use Rattle.pair_cuts.specs.declared.places.Place.TheVariants as place
+use Rattle.pair_cuts.specs.declared.places.CutPlace.{CutPlace}
+use Rattle.pair_cuts.specs.declared.places.CutPlace.TheVariants as place
 use Rattle.pair_cuts.specs.Places.{on_byte, cut_byte, narrow_byte, narrow_pair, known_or_nothing, interval_of, range_at, narrow_at, narrow_to}
 use Rattle.pair_cuts.proofs.Capped.{narrow_capped}
 use Rattle.pair_cut_laws.specs.Laws.{StandsFor, KeepsMachine, LeavesLess}
@@ -100,31 +100,31 @@ pair_narrow_capped r i s offset lt a =
 
 -- ---- places
 
-abbrev pub PlaceFits : Place → Type 0
+abbrev pub PlaceFits : CutPlace → Type 0
 PlaceFits place.Neither = ⊤
 PlaceFits (place.Byte r) = r < 32
 PlaceFits (place.Pair r) = IsPair r
 
 -- the number at the place lies in the interval
-abbrev pub IsIn : Place → Interval → List ℕ → Type 0
+abbrev pub IsIn : CutPlace → Interval → List ℕ → Type 0
 IsIn place.Neither i registers = ⊤
 IsIn (place.Byte r) i registers = InInterval i (slice_index registers r)
 IsIn (place.Pair r) i registers = InInterval i (pair_number registers r)
 
-pub place_keeps : (p : Place) (i : Interval) (m : State) → PlaceFits p → IsIn p i m.registers → KeepsMachine m (narrow_at p i)
+pub place_keeps : (p : CutPlace) (i : Interval) (m : State) → PlaceFits p → IsIn p i m.registers → KeepsMachine m (narrow_at p i)
 place_keeps place.Neither i m fits inside = nothing_keeps m
 place_keeps (place.Byte r) i m fits inside = byte_keeps (InInterval i) (λ b. narrow b i.low i.high) (narrow_cuts i) r fits m inside
 place_keeps (place.Pair r) i m fits inside =
     state_keeps (r / 2) (half_small r fits.register) (λ p. pair_narrow p i) (λ x y. InInterval i (x + 256 * y)) (pairs_are_cut.pair i) m
     (subst (λ (k : ℕ). InInterval i (register m k + 256 * register m (k + 1))) (sym (even_half r fits.even)) inside)
 
-pub place_leaves : (p : Place) (i : Interval) → PlaceFits p → LeavesLess (narrow_at p i)
+pub place_leaves : (p : CutPlace) (i : Interval) → PlaceFits p → LeavesLess (narrow_at p i)
 place_leaves place.Neither i fits = nothing_leaves
 place_leaves (place.Byte r) i fits = byte_leaves (InInterval i) (λ b. narrow b i.low i.high) (narrow_cuts i) r fits
 place_leaves (place.Pair r) i fits =
     state_leaves (r / 2) (half_small r fits.register) (λ p. pair_narrow p i) (λ x y. InInterval i (x + 256 * y)) (pairs_are_cut.pair i) (pair_ends i)
 
-pub place_more : (p : Place) (i i' : Interval) → PlaceFits p → IsIntervalWithin i i' → LeavesMoreBy (narrow_at p i) (narrow_at p i')
+pub place_more : (p : CutPlace) (i i' : Interval) → PlaceFits p → IsIntervalWithin i i' → LeavesMoreBy (narrow_at p i) (narrow_at p i')
 place_more place.Neither i i' fits within s s' t offset a b le e = let P : AbsState → Type 0 = λ u. IsStateWithin u s' in let same : s ≡ t = cc in (s', (refl, subst P same le))
 place_more (place.Byte r) i i' fits within s s' t offset a b le e =
     byte_more (InInterval (capped 255 i)) (λ b. narrow b i.low (min i.high 255)) (λ b. narrow b i'.low i'.high) (narrow_cuts (capped 255 i))
@@ -150,7 +150,7 @@ known_within None (Some g) fits le n lt = absurd le
 known_within (Some f) None fits le n lt = (facts_are_ordered.top f fits).intervals n lt
 known_within (Some f) (Some g) fits le n lt = le.intervals n lt
 
-pub range_holds : (p : Place) (o : Origin) (s : AbsState) (m : State) → PlaceFits p → StandsFor o s m → IsIn p (range_at s p) m.registers
+pub range_holds : (p : CutPlace) (o : Origin) (s : AbsState) (m : State) → PlaceFits p → StandsFor o s m → IsIn p (range_at s p) m.registers
 range_holds place.Neither o s m fits h = tt
 range_holds (place.Byte r) o s m fits h = let at = h.stands.registers r fits in record { low = at.low; high = at.high }
 range_holds (place.Pair r) o s m fits h =
@@ -160,33 +160,33 @@ range_holds (place.Pair r) o s m fits h =
     subst (λ (k : ℕ). InInterval (interval_of s.facts r) (pair_number m.registers k)) even
     (known_holds s.facts m.registers _ _ _ h.facts (r / 2) (half_small r fits.register) (omega (arith, lo.small, hi.small)))
 
-pub range_ordered : (p : Place) (s : AbsState) (offset : ℕ) → PlaceFits p → IsFormed s offset → (range_at s p).low ≤ (range_at s p).high
+pub range_ordered : (p : CutPlace) (s : AbsState) (offset : ℕ) → PlaceFits p → IsFormed s offset → (range_at s p).low ≤ (range_at s p).high
 range_ordered place.Neither s offset fits a = omega arith
 range_ordered (place.Byte r) s offset fits a = (a.ranges r fits).ordered
 range_ordered (place.Pair r) s offset fits a = (known_fits s.facts a.facts (r / 2) (half_small r fits.register)).ordered
 
 -- of twice `half` numbers
-abbrev pub half_at : Place → ℕ
+abbrev pub half_at : CutPlace → ℕ
 half_at place.Neither = 32768
 half_at (place.Byte r) = 128
 half_at (place.Pair r) = 32768
 
-pub range_high : (p : Place) (s : AbsState) (offset : ℕ) → PlaceFits p → IsFormed s offset → (range_at s p).high < 2 * half_at p
+pub range_high : (p : CutPlace) (s : AbsState) (offset : ℕ) → PlaceFits p → IsFormed s offset → (range_at s p).high < 2 * half_at p
 range_high place.Neither s offset fits a = omega arith
 range_high (place.Byte r) s offset fits a = range_small (set_of (value_at s.registers r)) (a.ranges r fits)
 range_high (place.Pair r) s offset fits a = (known_fits s.facts a.facts (r / 2) (half_small r fits.register)).small
 
-pub range_within : (p : Place) (s s' : AbsState) (offset : ℕ) → PlaceFits p → IsFormed s offset → IsStateWithin s s' → IsIntervalWithin (range_at s p) (range_at s' p)
+pub range_within : (p : CutPlace) (s s' : AbsState) (offset : ℕ) → PlaceFits p → IsFormed s offset → IsStateWithin s s' → IsIntervalWithin (range_at s p) (range_at s' p)
 range_within place.Neither s s' offset fits a le = intervals_are_ordered.same whole
 range_within (place.Byte r) s s' offset fits a le = let at = le.registers r fits in record { low = at.low; high = at.high }
 range_within (place.Pair r) s s' offset fits a le = known_within s.facts s'.facts a.facts le.facts (r / 2) (half_small r fits.register)
 
 -- ---- to what is left
 
-pub to_keeps : (p : Place) (x : Option Interval) (i : Interval) (m : State) → PlaceFits p → x ≡ Some i → IsIn p i m.registers → KeepsMachine m (narrow_to p x)
+pub to_keeps : (p : CutPlace) (x : Option Interval) (i : Interval) (m : State) → PlaceFits p → x ≡ Some i → IsIn p i m.registers → KeepsMachine m (narrow_to p x)
 to_keeps p x i m fits is inside = subst (λ (y : Option Interval). KeepsMachine m (narrow_to p y)) (sym is) (place_keeps p i m fits inside)
 
-pub to_leaves : (p : Place) (x : Option Interval) → PlaceFits p → LeavesLess (narrow_to p x)
+pub to_leaves : (p : CutPlace) (x : Option Interval) → PlaceFits p → LeavesLess (narrow_to p x)
 to_leaves p None fits s t offset a e = absurd (cc)
 to_leaves p (Some i) fits s t offset a e = place_leaves p i fits s t offset a e
 

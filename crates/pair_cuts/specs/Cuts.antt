@@ -21,8 +21,8 @@ use Rattle.pair_domain.specs.Narrow.{narrow}
 use Rattle.abs_state.specs.declared.values.AbsByte.{AbsByte}
 use Rattle.abs_state.specs.declared.state.AbsState.{AbsState}
 use Rattle.abs_state.specs.Values.{value_at, with_bits}
-use Rattle.pair_cuts.specs.declared.places.Place.{Place}
-use Rattle.pair_cuts.specs.declared.places.Place.TheVariants as place
+use Rattle.pair_cuts.specs.declared.places.CutPlace.{CutPlace}
+use Rattle.pair_cuts.specs.declared.places.CutPlace.TheVariants as place
 use Rattle.pair_cuts.specs.declared.outcomes.Outcome.{Outcome}
 use Rattle.pair_cuts.specs.Places.{cut_byte, cut_pair, after, known_or_nothing, range_of, interval_of, range_at, narrow_at, narrow_to}
 use Rattle.pair_cuts.specs.Outcomes.{left_part, right_part, outcome_of}
@@ -38,7 +38,7 @@ equal_part true k x = Some (just k)
 equal_part false k x = off x (just k)
 
 -- the number at a place is k where `equal`, else it isn't
-abbrev pub same_cut : Place → Bool → ℕ → AbsState → Option AbsState
+abbrev pub same_cut : CutPlace → Bool → ℕ → AbsState → Option AbsState
 same_cut p equal k s = narrow_to p (equal_part equal k (range_at s p)) s
 
 -- ---- flags
@@ -67,7 +67,7 @@ abbrev pub zero_cut : ℕ → Bool → AbsState → Option AbsState
 zero_cut n b s = if n == 1 then zero_by (known_or_nothing s.facts).zero b s else Some s
 
 -- C, Z and S tell how two sides compare. The right side of a comparison of bytes, and its range.
-abbrev pub side_place : Side → Place
+abbrev pub side_place : Side → CutPlace
 side_place (side.Byte k) = place.Neither
 side_place (side.Register q) = place.Byte q
 
@@ -77,26 +77,26 @@ side_range registers (side.Register q) = range_of registers q
 
 -- The right side of a comparison of pairs: the pair of q where it is registers q and q + 1; else its range is from the least bytes to the
 -- greatest.
-abbrev pub pair_place : Side → ℕ → Place
+abbrev pub pair_place : Side → ℕ → CutPlace
 pair_place (side.Byte k) p = place.Neither
 pair_place (side.Register q) p = if (q % 2 == 0) && (p == q + 1) then place.Pair q else place.Neither
 
 abbrev pub word_range : Interval → Interval → Interval
 word_range lo hi = record { low = lo.low + 256 * hi.low; high = lo.high + 256 * hi.high }
 
-abbrev pub pair_range : AbsState → Place → Side → ℕ → Interval
+abbrev pub pair_range : AbsState → CutPlace → Side → ℕ → Interval
 pair_range s place.Neither y p = word_range (side_range s.registers y) (range_of s.registers p)
 pair_range s (place.Byte q) y p = word_range (side_range s.registers y) (range_of s.registers p)
 pair_range s (place.Pair q) y p = interval_of s.facts q
 
 -- the left side is cut first, and then the right one
-abbrev pub narrow_both : Place → Place → Option Interval → Option Interval → AbsState → Option AbsState
+abbrev pub narrow_both : CutPlace → CutPlace → Option Interval → Option Interval → AbsState → Option AbsState
 narrow_both left right None j s = None
 narrow_both left right (Some i) None s = None
 narrow_both left right (Some i) (Some j) s = after (narrow_at left i s) (narrow_at right j)
 
 -- both, whose ranges are x and y
-abbrev pub both_cut : Outcome → ℕ → Place → Place → Interval → Interval → AbsState → Option AbsState
+abbrev pub both_cut : Outcome → ℕ → CutPlace → CutPlace → Interval → Interval → AbsState → Option AbsState
 both_cut o half left right x y s = narrow_both left right (left_part o half x y) (right_part o x y) s
 
 abbrev pub compare_by : CompareTag → Outcome → AbsState → Option AbsState

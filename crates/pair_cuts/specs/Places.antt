@@ -12,8 +12,8 @@ use Rattle.abs_state.specs.declared.values.AbsByte.{AbsByte}
 use Rattle.abs_state.specs.declared.state.AbsState.{AbsState}
 use Rattle.abs_state.specs.Values.{value_at}
 use Rattle.abs_state.specs.Cuts.{cut_state}
-use Rattle.pair_cuts.specs.declared.places.Place.{Place}
-use Rattle.pair_cuts.specs.declared.places.Place.TheVariants as place
+use Rattle.pair_cuts.specs.declared.places.CutPlace.{CutPlace}
+use Rattle.pair_cuts.specs.declared.places.CutPlace.TheVariants as place
 
 -- ---- cuts of a state; there is none where nothing is left
 
@@ -58,18 +58,18 @@ abbrev pub interval_of : Option PairFacts → ℕ → Interval
 interval_of x r = interval_at (known_or_nothing x).intervals (r / 2)
 
 -- the numbers that may stand at a place
-abbrev pub range_at : AbsState → Place → Interval
+abbrev pub range_at : AbsState → CutPlace → Interval
 range_at s place.Neither = whole
 range_at s (place.Byte r) = range_of s.registers r
 range_at s (place.Pair r) = interval_of s.facts r
 
 -- the place is cut to an interval
-abbrev pub narrow_at : Place → Interval → AbsState → Option AbsState
+abbrev pub narrow_at : CutPlace → Interval → AbsState → Option AbsState
 narrow_at place.Neither i s = Some s
 narrow_at (place.Byte r) i s = narrow_byte r i s
 narrow_at (place.Pair r) i s = narrow_pair r i s
 
 -- to what is left of it, where anything is
-abbrev pub narrow_to : Place → Option Interval → AbsState → Option AbsState
+abbrev pub narrow_to : CutPlace → Option Interval → AbsState → Option AbsState
 narrow_to p None s = None
 narrow_to p (Some i) s = narrow_at p i s

@@ -10,7 +10,7 @@ ghost use Rattle.pair_cuts.specs.Bytes.{ranged, byte_left};
 ghost use Rattle.pair_cuts.specs.Cuts.{same_cut, below_part, less_cut, zero_cut, side_place, side_range, pair_place, pair_range, both_cut, compare_cut, bit_known, flag_cut, with_bit, bit_cut, equal_cut, pick_cut};
 
 use crate::outcomes::{Outcome, off};
-use crate::places::{Place, bytes_at, facts_of, narrow_at, narrow_to, put, range_at, value_at};
+use crate::places::{CutPlace, bytes_at, facts_of, narrow_at, narrow_to, put, range_at, value_at};
 use abs_state::{AbsByte, AbsState, PairBytes};
 use bit_domain::{Tri, TriByte, equal};
 use pair_domain::{CompareTag, Interval, Side, ZeroTag};
@@ -19,7 +19,7 @@ use sp_domain::CarryTag;
 // ---- a number that is k, or isn't
 
 // The number at a place is `k` where `equal`, else it isn't.
-fn same_cut(state: &mut AbsState, place: Place, equal: bool, k: u8) -> bool
+fn same_cut(state: &mut AbsState, place: CutPlace, equal: bool, k: u8) -> bool
     ensures { left_in result state.new ≡ same_cut place equal k state.old }
 {
     let just = Interval {
@@ -61,7 +61,7 @@ fn less_cut(state: &mut AbsState, n: u8, on: bool) -> bool
         return true;
     }
     match state.flags.carry {
-        CarryTag::Less(r, k) => narrow_to(state, Place::Byte(r), below_part(on, k)),
+        CarryTag::Less(r, k) => narrow_to(state, CutPlace::Byte(r), below_part(on, k)),
         CarryTag::None | CarryTag::Borrow(_, _) | CarryTag::Sum(_, _) => true,
     }
 }
@@ -76,18 +76,18 @@ fn zero_cut(state: &mut AbsState, n: u8, on: bool) -> bool
     let facts = facts_of(state);
     match facts.zero {
         ZeroTag::None => true,
-        ZeroTag::Byte(x) => same_cut(state, Place::Byte(x), on, 0),
-        ZeroTag::Pair(r) => same_cut(state, Place::Pair(r), on, 0),
+        ZeroTag::Byte(x) => same_cut(state, CutPlace::Byte(x), on, 0),
+        ZeroTag::Pair(r) => same_cut(state, CutPlace::Pair(r), on, 0),
     }
 }
 
 // The right side of a comparison of bytes.
-fn side_place(side: Side) -> Place
+fn side_place(side: Side) -> CutPlace
     ensures { result ≡ side_place side }
 {
     match side {
-        Side::Byte(_) => Place::Neither,
-        Side::Register(q) => Place::Byte(q),
+        Side::Byte(_) => CutPlace::Neither,
+        Side::Register(q) => CutPlace::Byte(q),
     }
 }
 
@@ -105,22 +105,22 @@ fn side_range(registers: &[AbsByte; 32], side: Side) -> (u8, u8)
 }
 
 // The right side of a comparison of pairs: a pair, where its two registers are one.
-fn pair_place(side: Side, p: u8) -> Place
+fn pair_place(side: Side, p: u8) -> CutPlace
     ensures { result ≡ pair_place side p }
 {
     match side {
-        Side::Register(q) if q % 2 == 0 && p == q + 1 => Place::Pair(q),
-        _ => Place::Neither,
+        Side::Register(q) if q % 2 == 0 && p == q + 1 => CutPlace::Pair(q),
+        _ => CutPlace::Neither,
     }
 }
 
 // Its interval: of a pair what is known, else from the least bytes to the greatest.
-fn pair_range(state: &AbsState, place: Place, side: Side, p: u8) -> Interval
+fn pair_range(state: &AbsState, place: CutPlace, side: Side, p: u8) -> Interval
     ensures { result ≡ pair_range state.now place side p }
 {
     match place {
-        Place::Pair(q) => range_at(state, Place::Pair(q)),
-        Place::Neither | Place::Byte(_) => {
+        CutPlace::Pair(q) => range_at(state, CutPlace::Pair(q)),
+        CutPlace::Neither | CutPlace::Byte(_) => {
             let (least, most) = side_range(&state.registers, side);
             let high = value_at(&state.registers, p);
             Interval {
@@ -136,8 +136,8 @@ fn both_cut(
     state: &mut AbsState,
     outcome: Outcome,
     half: u16,
-    left: Place,
-    right: Place,
+    left: CutPlace,
+    right: CutPlace,
     x: Interval,
     y: Interval,
 ) -> bool
@@ -164,7 +164,7 @@ fn compare_cut(state: &mut AbsState, n: u8, on: bool) -> bool
     match facts.compare {
         CompareTag::None => true,
         CompareTag::Byte(x, y) => {
-            let left = range_at(state, Place::Byte(x));
+            let left = range_at(state, CutPlace::Byte(x));
             let (least, most) = side_range(&state.registers, y);
             let right = Interval {
                 low: u16::from(least),
@@ -174,7 +174,7 @@ fn compare_cut(state: &mut AbsState, n: u8, on: bool) -> bool
                 state,
                 outcome,
                 128,
-                Place::Byte(x),
+                CutPlace::Byte(x),
                 side_place(y),
                 left,
                 right,
@@ -182,9 +182,17 @@ fn compare_cut(state: &mut AbsState, n: u8, on: bool) -> bool
         }
         CompareTag::Pair(r, y, p) => {
             let place = pair_place(y, p);
-            let left = range_at(state, Place::Pair(r));
+            let left = range_at(state, CutPlace::Pair(r));
             let right = pair_range(state, place, y, p);
-            both_cut(state, outcome, 0x8000, Place::Pair(r), place, left, right)
+            both_cut(
+                state,
+                outcome,
+                0x8000,
+                CutPlace::Pair(r),
+                place,
+                left,
+                right,
+            )
         }
     }
 }
@@ -270,7 +278,7 @@ pub fn bit_cut(state: &mut AbsState, r: u8, bit: u8, on: bool) -> bool
     put(state, r / 2, byte_with_bit(pair, r, bit, on))
 }
 
-// ---- `cpse`
+/// ---- `cpse`
 
 /// Cuts a state to where registers `d` and `r`, from 0 to 31, are equal, or aren't: a known one tells of the other. Gives whether anything is
 /// left; the state is of no use where nothing is. Source: own.
@@ -283,13 +291,13 @@ pub fn equal_cut(state: &mut AbsState, d: u8, r: u8, are_equal: bool) -> bool
         return false;
     }
     match (right.bits.constant(), left.bits.constant()) {
-        (Some(k), _) => same_cut(state, Place::Byte(d), are_equal, k),
-        (None, Some(k)) => same_cut(state, Place::Byte(r), are_equal, k),
+        (Some(k), _) => same_cut(state, CutPlace::Byte(d), are_equal, k),
+        (None, Some(k)) => same_cut(state, CutPlace::Byte(r), are_equal, k),
         (None, None) => true,
     }
 }
 
-// ---- the pick of a jump table's entry
+/// ---- the pick of a jump table's entry
 
 /// Picks this byte as that of register 30, with its tag as it was, and cuts the interval of its pair. Gives whether anything is left; the state
 /// is of no use where nothing is. Source: own.

@@ -8,4 +8,4 @@ pub mod places;
 
 pub use cuts::{bit_cut, equal_cut, flag_cut, pick_cut};
 pub use outcomes::Outcome;
-pub use places::Place;
+pub use places::CutPlace;

@@ -13,7 +13,7 @@ use pair_domain::{Interval, PairFacts};
 
 /// What something is told of by the outcome of a test. Source: own.
 #[derive(Clone, Copy)]
-pub enum Place {
+pub enum CutPlace {
     /// No register that is followed.
     Neither,
     /// This register, 0 to 31.
@@ -45,19 +45,19 @@ pub(crate) fn value_at(registers: &[AbsByte; 32], r: u8) -> AbsByte
 }
 
 // The numbers that may stand at a place.
-pub(crate) fn range_at(state: &AbsState, place: Place) -> Interval
+pub(crate) fn range_at(state: &AbsState, place: CutPlace) -> Interval
     ensures { result ≡ range_at state.now place }
 {
     match place {
-        Place::Neither => Interval::whole(),
-        Place::Byte(r) => {
+        CutPlace::Neither => Interval::whole(),
+        CutPlace::Byte(r) => {
             let value = value_at(&state.registers, r);
             Interval {
                 low: u16::from(value.low),
                 high: u16::from(value.high),
             }
         }
-        Place::Pair(r) => {
+        CutPlace::Pair(r) => {
             let facts = facts_of(state);
             interval_at(&facts.intervals, r / 2)
         }
@@ -123,16 +123,16 @@ fn narrow_byte(pair: PairBytes, r: u8, interval: Interval) -> Option<PairBytes>
 }
 
 // Cuts a place to an interval. Gives whether anything is left.
-pub(crate) fn narrow_at(state: &mut AbsState, place: Place, interval: Interval) -> bool
+pub(crate) fn narrow_at(state: &mut AbsState, place: CutPlace, interval: Interval) -> bool
     ensures { left_in result state.new ≡ narrow_at place interval state.old }
 {
     match place {
-        Place::Neither => true,
-        Place::Byte(r) => {
+        CutPlace::Neither => true,
+        CutPlace::Byte(r) => {
             let pair = bytes_at(state, r / 2);
             put(state, r / 2, narrow_byte(pair, r, interval))
         }
-        Place::Pair(r) => {
+        CutPlace::Pair(r) => {
             let pair = bytes_at(state, r / 2);
             put(state, r / 2, pair.narrow(interval))
         }
@@ -140,7 +140,7 @@ pub(crate) fn narrow_at(state: &mut AbsState, place: Place, interval: Interval) 
 }
 
 // Cuts a place to what is left of it. Gives whether anything is left.
-pub(crate) fn narrow_to(state: &mut AbsState, place: Place, left: Option<Interval>) -> bool
+pub(crate) fn narrow_to(state: &mut AbsState, place: CutPlace, left: Option<Interval>) -> bool
     ensures { left_in result state.new ≡ narrow_to place left state.old }
 {
     match left {

@@ -7,12 +7,12 @@ use Rattle.pair_domain.specs.declared.intervals.Interval.{Interval}
 use Rattle.pair_domain.specs.Intervals.{InInterval, IsIntervalWithin, interval_from, interval_join}
 use Rattle.pair_domain.specs.Tags.{signed_place}
 use Rattle.pair_domain.specs.Compare.{left_below, without, off, signed_greatest, signed_least, either, part_of, signed_below_part, signed_from_part}
-use Rattle.pair_domain.specs.CompareLaws.{Keeps, LeavesMore, ComparesCut, CutsAreMonotone}
+use Rattle.pair_domain.specs.CompareLaws.{KeepsMember, LeavesMore, ComparesCut, CutsAreMonotone}
 use Rattle.pair_domain.proofs.Ordered.{there, is_from, intervals_meet}
 
 -- ---- from one number to another
 
-from_keeps : (lo hi x : ℕ) → lo ≤ x → x ≤ hi → Keeps (interval_from lo hi) x
+from_keeps : (lo hi x : ℕ) → lo ≤ x → x ≤ hi → KeepsMember (interval_from lo hi) x
 from_keeps lo hi x down up = (record { low = lo; high = hi }, (there lo hi (omega (arith, down, up)), record { low = down; high = up }))
 
 from_more : (lo hi lo' hi' : ℕ) → lo' ≤ lo → hi ≤ hi' → LeavesMore (interval_from lo hi) (interval_from lo' hi')
@@ -22,7 +22,7 @@ from_more lo hi lo' hi' down up m e =
 
 -- ---- up to below a number
 
-keeps_unless : (b : Bool) (o : Option Interval) (x : ℕ) → b ≡ false → Keeps o x → Keeps (if b then None else o) x
+keeps_unless : (b : Bool) (o : Option Interval) (x : ℕ) → b ≡ false → KeepsMember o x → KeepsMember (if b then None else o) x
 keeps_unless false o x e k = k
 keeps_unless true o x e k = absurd (false≢true (sym e))
 
@@ -31,7 +31,7 @@ more_unless true b' o o' over more m e = absurd (cc)
 more_unless false false o o' over more m e = more m e
 more_unless false true o o' over more m e = absurd (false≢true (over refl))
 
-part_keeps : (i : Interval) (low end x : ℕ) → InInterval i x → low ≤ x → x < end → Keeps (part_of i low end) x
+part_keeps : (i : Interval) (low end x : ℕ) → InInterval i x → low ≤ x → x < end → KeepsMember (part_of i low end) x
 part_keeps i low end x h down up =
     keeps_unless (end == 0) (interval_from (max i.low low) (min i.high (end - 1))) x (ne_eqb end 0 (omega (arith, up)))
     (from_keeps (max i.low low) (min i.high (end - 1)) x (omega (arith, h.low, down)) (omega (arith, h.high, up)))
@@ -42,7 +42,7 @@ part_more i i' low end low' end' le down up =
     (λ e. let z = eqb-true end' 0 e in eq-eqb end 0 (omega (arith, z, up)))
     (from_more (max i.low low) (min i.high (end - 1)) (max i'.low low') (min i'.high (end' - 1)) (omega (arith, le.low, down)) (omega (arith, le.high, up)))
 
-below_keeps : (i j : Interval) (x y : ℕ) → InInterval i x → InInterval j y → x < y → Keeps (left_below i j) x
+below_keeps : (i j : Interval) (x y : ℕ) → InInterval i x → InInterval j y → x < y → KeepsMember (left_below i j) x
 below_keeps i j x y a b lt =
     keeps_unless (j.high == 0) (interval_from i.low (min i.high (j.high - 1))) x (ne_eqb j.high 0 (omega (arith, lt, b.high)))
     (from_keeps i.low (min i.high (j.high - 1)) x a.low (omega (arith, a.high, b.high, lt)))
@@ -69,10 +69,10 @@ high_end h k x le ne = by (h == k) refl
     by true e = let same = eqb-true h k e in omega (arith, same, le, ne)
     by false e = le
 
-off_keeps : (i j : Interval) (x y : ℕ) → InInterval i x → InInterval j y → x ≢ y → Keeps (off i j) x
+off_keeps : (i j : Interval) (x y : ℕ) → InInterval i x → InInterval j y → x ≢ y → KeepsMember (off i j) x
 off_keeps i j x y a b ne = by (j.low == j.high) refl
   where
-    by : (t : Bool) → (j.low == j.high) ≡ t → Keeps (if t then without i j.low else Some i) x
+    by : (t : Bool) → (j.low == j.high) ≡ t → KeepsMember (if t then without i j.low else Some i) x
     by false e = (i, (refl, a))
     by true e =
         let one = eqb-true j.low j.high e in
@@ -136,7 +136,7 @@ off_more i j i' j' p q a b = by (j.low == j.high) (j'.low == j'.high) refl refl
 
 -- ---- two parts
 
-first_keeps : (o p : Option Interval) (x : ℕ) → Keeps o x → Keeps (either o p) x
+first_keeps : (o p : Option Interval) (x : ℕ) → KeepsMember o x → KeepsMember (either o p) x
 first_keeps None p x k = absurd (let e = k.1.0 in cc)
 first_keeps (Some i) None x k = k
 first_keeps (Some i) (Some j) x k =
@@ -144,7 +144,7 @@ first_keeps (Some i) (Some j) x k =
     let h = subst (λ (n : Interval). InInterval n x) (sym same) k.1.1 in
     (interval_join i j, (refl, record { low = omega (arith, h.low); high = omega (arith, h.high) }))
 
-second_keeps : (o p : Option Interval) (x : ℕ) → Keeps p x → Keeps (either o p) x
+second_keeps : (o p : Option Interval) (x : ℕ) → KeepsMember p x → KeepsMember (either o p) x
 second_keeps None p x k = k
 second_keeps (Some i) None x k = absurd (let e = k.1.0 in cc)
 second_keeps (Some i) (Some j) x k =
@@ -247,10 +247,10 @@ module _ (half : ℕ) where
       by false e (inl lt) = (omega (arith, place_low y lt, place_high (max j.low half) (omega arith), h.low, lt), omega (arith, h.low, lt, pos))
       by false e (inr ge) = (omega (arith, place_high y ge, place_high (max j.low half) (omega arith), h.low, ge), omega (arith, h.low, h.high, small, ge))
 
-  below_part_keeps : (i : Interval) (g x : ℕ) → g < 2 * half → i.high < 2 * half → InInterval i x → signed_place half x < signed_place half g → Keeps (signed_below_part half i g) x
+  below_part_keeps : (i : Interval) (g x : ℕ) → g < 2 * half → i.high < 2 * half → InInterval i x → signed_place half x < signed_place half g → KeepsMember (signed_below_part half i g) x
   below_part_keeps i g x small all h lt = by (nat_lt g half) refl (cases_lt x half)
     where
-      by : (b : Bool) → nat_lt g half ≡ b → (x < half) ⊎ (half ≤ x) → Keeps (if b then either (part_of i half (2 * half)) (part_of i 0 g) else part_of i half g) x
+      by : (b : Bool) → nat_lt g half ≡ b → (x < half) ⊎ (half ≤ x) → KeepsMember (if b then either (part_of i half (2 * half)) (part_of i 0 g) else part_of i half g) x
       by true e (inl low) =
           second_keeps (part_of i half (2 * half)) (part_of i 0 g) x
           (part_keeps i 0 g x h (omega arith) (omega (arith, lt, place_low x low, place_low g (was_below g half e))))
@@ -259,10 +259,10 @@ module _ (half : ℕ) where
       by false e (inl low) = absurd (omega (arith, lt, place_low x low, place_high g (wasnt_below g half e), small))
       by false e (inr high) = part_keeps i half g x h high (omega (arith, lt, place_high x high, place_high g (wasnt_below g half e), high))
 
-  from_part_keeps : (i : Interval) (l x : ℕ) → l < 2 * half → i.high < 2 * half → InInterval i x → signed_place half l ≤ signed_place half x → Keeps (signed_from_part half i l) x
+  from_part_keeps : (i : Interval) (l x : ℕ) → l < 2 * half → i.high < 2 * half → InInterval i x → signed_place half l ≤ signed_place half x → KeepsMember (signed_from_part half i l) x
   from_part_keeps i l x small all h le = by (nat_lt l half) refl (cases_lt x half)
     where
-      by : (b : Bool) → nat_lt l half ≡ b → (x < half) ⊎ (half ≤ x) → Keeps (if b then part_of i l half else either (part_of i l (2 * half)) (part_of i 0 half)) x
+      by : (b : Bool) → nat_lt l half ≡ b → (x < half) ⊎ (half ≤ x) → KeepsMember (if b then part_of i l half else either (part_of i l (2 * half)) (part_of i 0 half)) x
       by true e (inl low) = part_keeps i l half x h (omega (arith, le, place_low x low, place_low l (was_below l half e))) low
       by true e (inr high) = absurd (omega (arith, le, place_high x high, place_low l (was_below l half e), h.high, all))
       by false e (inl low) = second_keeps (part_of i l (2 * half)) (part_of i 0 half) x (part_keeps i 0 half x h (omega arith) low)

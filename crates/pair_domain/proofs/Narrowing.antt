@@ -11,7 +11,7 @@ use Rattle.bit_domain.specs.declared.bytes.TriByte.{TriByte}
 use Rattle.bit_domain.specs.Tri.{Permits, IsTriWithin, tri_bit}
 use Rattle.bit_domain.specs.TriByte.{Has, has, IsWithin}
 use Rattle.bit_domain.specs.Lattice.{byte_meet, IsIntersection}
-use Rattle.bit_domain.specs.Ranges.{ByteSet, Holds, IsSetWithin, RangeFits}
+use Rattle.bit_domain.specs.Ranges.{ByteSet, SetHas, IsSetWithin, RangeFits}
 use Rattle.bit_domain.proofs.AllLaws.{bytes_are_sets, tests_tell_members, lattice_is_of_sets, lattice_is_monotone, ranges_hold, permits-tri_bit}
 use Rattle.pair_domain.specs.Narrow.{shared_bit, shared_bits, least_from, greatest_from, least_member, greatest_member, ends_with, sought, narrowed, narrow}
 use Rattle.pair_domain.specs.NarrowLaws.{NarrowingCuts}
@@ -53,7 +53,7 @@ shared_more low high low' high' ordered down up =
 
 -- ---- the least and the greatest member of a range
 
-pub record IsLeast (bits : TriByte) (x n m : ℕ) : Type 0 where
+pub record IsLeastMember (bits : TriByte) (x n m : ℕ) : Type 0 where
   pub there : Has bits m
   pub low : x ≤ m
   pub high : m < x + n
@@ -74,10 +74,10 @@ in_has bits x e = (tests_tell_members.bytes bits x).0 e
 has_in : (bits : TriByte) (x : ℕ) → Has bits x → has bits x ≡ true
 has_in bits x h = (tests_tell_members.bytes bits x).1 h
 
-module _ (bits : TriByte) (x n m : ℕ) (rest : least_from bits (suc x) n ≡ Some m → IsLeast bits (suc x) n m) where
-  least_by : (t : Bool) → has bits x ≡ t → (if t then Some x else least_from bits (suc x) n) ≡ Some m → IsLeast bits x (suc n) m
+module _ (bits : TriByte) (x n m : ℕ) (rest : least_from bits (suc x) n ≡ Some m → IsLeastMember bits (suc x) n m) where
+  least_by : (t : Bool) → has bits x ≡ t → (if t then Some x else least_from bits (suc x) n) ≡ Some m → IsLeastMember bits x (suc n) m
   least_by true is e =
-      let P : ℕ → Type 0 = IsLeast bits x (suc n) in
+      let P : ℕ → Type 0 = IsLeastMember bits x (suc n) in
       let same : x ≡ m = cc in
       subst P same (record { there = in_has bits x is; low = omega arith; high = omega arith; least = λ y a b h. a })
   least_by false is e =
@@ -91,7 +91,7 @@ module _ (bits : TriByte) (x n m : ℕ) (rest : least_from bits (suc x) n ≡ So
             (λ more. r.least y more (omega (arith, b)) h) (split_at x y a);
       }
 
-pub least_is : (bits : TriByte) (x n m : ℕ) → least_from bits x n ≡ Some m → IsLeast bits x n m
+pub least_is : (bits : TriByte) (x n m : ℕ) → least_from bits x n ≡ Some m → IsLeastMember bits x n m
 unfolding least_from
 least_is bits x zero m e = absurd (cc)
 least_is bits x (suc n) m e = least_by bits x n m (least_is bits (suc x) n m) (has bits x) refl e
@@ -146,7 +146,7 @@ greatest_there bits x (suc n) y a b h = last_by bits x n y (λ less. greatest_th
 -- ---- cuts
 
 -- what a cut has: the bits of both, and their least and greatest member in the range
-record IsNarrowed (s : ByteSet) (low high : ℕ) (m : ByteSet) : Type 0 where
+record IsIntervalNarrowed (s : ByteSet) (low high : ℕ) (m : ByteSet) : Type 0 where
   met : byte_meet s.bits (shared_bits low high) ≡ Some m.bits
   least : least_member m.bits low high ≡ Some m.low
   greatest : greatest_member m.bits low high ≡ Some m.high
@@ -158,10 +158,10 @@ ends_are bits (Some l) (Some h) m e =
     let same : record { bits = bits; low = l; high = h } ≡ m = cc in
     ((λ i. (same i).bits), (λ i. Some (same i).low), (λ i. Some (same i).high))
 
-was_narrowed : (s : ByteSet) (low high : ℕ) (m : ByteSet) → narrowed s low high ≡ Some m → IsNarrowed s low high m
+was_narrowed : (s : ByteSet) (low high : ℕ) (m : ByteSet) → narrowed s low high ≡ Some m → IsIntervalNarrowed s low high m
 was_narrowed s low high m e = by (byte_meet s.bits (shared_bits low high)) refl e
   where
-    by : (o : Option TriByte) → byte_meet s.bits (shared_bits low high) ≡ o → sought o low high ≡ Some m → IsNarrowed s low high m
+    by : (o : Option TriByte) → byte_meet s.bits (shared_bits low high) ≡ o → sought o low high ≡ Some m → IsIntervalNarrowed s low high m
     by None is e = absurd (cc)
     by (Some bits) is e =
         let ends = ends_are bits (least_member bits low high) (greatest_member bits low high) m e in
@@ -189,7 +189,7 @@ met_within o a b m is e =
     λ x small has. let h = (both x small).0 has in h.0
 
 -- a number that lies in the range and in s is kept
-kept : (s : ByteSet) (low high x : ℕ) → Has s.bits x → x < 256 → low ≤ x → x ≤ high → (m : ByteSet) × ((narrowed s low high ≡ Some m) × Holds m x)
+kept : (s : ByteSet) (low high x : ℕ) → Has s.bits x → x < 256 → low ≤ x → x ≤ high → (m : ByteSet) × ((narrowed s low high ≡ Some m) × SetHas m x)
 kept s low high x has small down up =
     let met = met_by (byte_meet s.bits (shared_bits low high)) s.bits (shared_bits low high) x (lattice_is_of_sets.meets s.bits (shared_bits low high)) small has (shared_has low high x down up) in
     let bits = met.0 in
@@ -205,7 +205,7 @@ kept s low high x has small down up =
       ),
     )
 
-keeps : (s : ByteSet) (low high x : ℕ) → Holds s x → low ≤ x → x ≤ high → (m : ByteSet) × ((narrow s low high ≡ Some m) × Holds m x)
+keeps : (s : ByteSet) (low high x : ℕ) → SetHas s x → low ≤ x → x ≤ high → (m : ByteSet) × ((narrow s low high ≡ Some m) × SetHas m x)
 keeps s low high x h down up =
     kept s (max s.low low) (min s.high high) x h.bits h.small (omega (arith, down, h.low)) (omega (arith, up, h.high))
 
@@ -225,7 +225,7 @@ under s m low high e =
       omega (arith, most.high, most.low),
     )
 
-pub fits_if : (s m : ByteSet) (low high : ℕ) → min s.high high < 256 → narrow s low high ≡ Some m → RangeFits m × Holds m m.low × Holds m m.high
+pub fits_if : (s m : ByteSet) (low high : ℕ) → min s.high high < 256 → narrow s low high ≡ Some m → RangeFits m × SetHas m m.low × SetHas m m.high
 fits_if s m low high small e =
     let lo = max s.low low in
     let hi = min s.high high in
@@ -242,7 +242,7 @@ fits_if s m low high small e =
       record { bits = most.there; low = ordered; high = omega arith; small = most_small },
     )
 
-fits : (s m : ByteSet) (low high : ℕ) → high < 256 → narrow s low high ≡ Some m → RangeFits m × Holds m m.low × Holds m m.high
+fits : (s m : ByteSet) (low high : ℕ) → high < 256 → narrow s low high ≡ Some m → RangeFits m × SetHas m m.low × SetHas m m.high
 fits s m low high small e = fits_if s m low high (omega (arith, small)) e
 
 more : (s s' m : ByteSet) (low high low' high' : ℕ) → high < 256 → IsSetWithin s s' → low' ≤ low → high ≤ high' → narrow s low high ≡ Some m
@@ -281,10 +281,10 @@ more s s' m low high low' high' small le down up e =
       ),
     )
 
-none_is : (s : ByteSet) (low high : ℕ) → narrow s low high ≡ None → (x : ℕ) → Holds s x → low ≤ x → x ≤ high → ⊥
+none_is : (s : ByteSet) (low high : ℕ) → narrow s low high ≡ None → (x : ℕ) → SetHas s x → low ≤ x → x ≤ high → ⊥
 none_is s low high none x h down up = let m = keeps s low high x h down up in let no : None ≡ Some m.0 = sym none ∙ m.1.0 in absurd (cc)
 
-is_none : (s : ByteSet) (low high : ℕ) → high < 256 → ((x : ℕ) → Holds s x → low ≤ x → x ≤ high → ⊥) → narrow s low high ≡ None
+is_none : (s : ByteSet) (low high : ℕ) → high < 256 → ((x : ℕ) → SetHas s x → low ≤ x → x ≤ high → ⊥) → narrow s low high ≡ None
 is_none s low high small none = by (narrow s low high) refl
   where
     by : (o : Option ByteSet) → narrow s low high ≡ o → o ≡ None

@@ -12,7 +12,7 @@ use Rattle.pair_domain.specs.declared.tags.CompareTag.TheVariants as compare
 use Rattle.pair_domain.specs.declared.tags.ZeroTag.{ZeroTag}
 use Rattle.pair_domain.specs.declared.tags.ZeroTag.TheVariants as zero
 use Rattle.pair_domain.specs.Intervals.{InInterval, IsIntervalWithin, interval_if, interval_meet}
-use Rattle.pair_domain.specs.Tags.{pair_number, LiesUp, LiesDown, AreNear, SumHolds, CompareHolds, ZeroHolds, AreEndsWithin, IsSumWithin, IsCompareWithin, IsZeroWithin, IsNear, up_if, up_from, down_if, down_from, sum_join}
+use Rattle.pair_domain.specs.Tags.{pair_number, LiesUp, LiesDown, AreNear, SumHolds, CompareHolds, ZeroHolds, AreEndsWithin, IsSumTagWithin, IsCompareWithin, IsZeroWithin, IsNear, up_if, up_from, down_if, down_from, sum_join}
 use Rattle.pair_domain.specs.Laws.{IntervalsAreOrdered, IntervalsMeet, HullsHold, SumsAreOrdered, ComparesAreOrdered, ZerosAreOrdered}
 
 -- ---- intervals
@@ -111,11 +111,11 @@ hulls_hold = record {
 -- ---- tags of flags
 
 -- a tag that is kept where the test of its ends holds
-up_above : (test : Bool) (r a b c d : ℕ) → c ≤ a → b ≤ d → IsSumWithin (sum.Up r a b) (up_if test r c d)
+up_above : (test : Bool) (r a b c d : ℕ) → c ≤ a → b ≤ d → IsSumTagWithin (sum.Up r a b) (up_if test r c d)
 up_above true r a b c d low high = λ near. record { pair = refl; low = low; high = high }
 up_above false r a b c d low high = tt
 
-down_above : (test : Bool) (r a b c d : ℕ) → c ≤ a → b ≤ d → IsSumWithin (sum.Down r a b) (down_if test r c d)
+down_above : (test : Bool) (r a b c d : ℕ) → c ≤ a → b ≤ d → IsSumTagWithin (sum.Down r a b) (down_if test r c d)
 down_above true r a b c d low high = λ near. record { pair = refl; low = low; high = high }
 down_above false r a b c d low high = tt
 
@@ -128,11 +128,11 @@ down_near true r a b near = near refl
 down_near false r a b near = tt
 
 -- ends that lie within kept ones are kept
-up_below : (test : Bool) (r a b c d : ℕ) → (test ≡ false → a + 65535 ≤ b) → c ≤ a → b ≤ d → d < c + 65535 → IsSumWithin (up_if test r a b) (sum.Up r c d)
+up_below : (test : Bool) (r a b c d : ℕ) → (test ≡ false → a + 65535 ≤ b) → c ≤ a → b ≤ d → d < c + 65535 → IsSumTagWithin (up_if test r a b) (sum.Up r c d)
 up_below true r a b c d wide low high near = λ again. record { pair = refl; low = low; high = high }
 up_below false r a b c d wide low high near = absurd (omega (arith, wide refl, low, high, near))
 
-down_below : (test : Bool) (r a b c d : ℕ) → (test ≡ false → a + 65535 ≤ b) → c ≤ a → b ≤ d → d < c + 65535 → IsSumWithin (down_if test r a b) (sum.Down r c d)
+down_below : (test : Bool) (r a b c d : ℕ) → (test ≡ false → a + 65535 ≤ b) → c ≤ a → b ≤ d → d < c + 65535 → IsSumTagWithin (down_if test r a b) (sum.Down r c d)
 down_below true r a b c d wide low high near = λ again. record { pair = refl; low = low; high = high }
 down_below false r a b c d wide low high near = absurd (omega (arith, wide refl, low, high, near))
 
@@ -142,7 +142,7 @@ is_near a b e = grind (arith, nat_tests, e)
 is_wide : (a b : ℕ) → nat_lt b (a + 65535) ≡ false → a + 65535 ≤ b
 is_wide a b e = grind (arith, nat_tests, e)
 
-sum_same : (t : SumTag) → IsSumWithin t t
+sum_same : (t : SumTag) → IsSumTagWithin t t
 sum_same sum.None = tt
 sum_same (sum.Up r a b) = λ near. record { pair = refl; low = omega arith; high = omega arith }
 sum_same (sum.Down r a b) = λ near. record { pair = refl; low = omega arith; high = omega arith }
@@ -154,7 +154,7 @@ still_near r a b s c d le near = omega (arith, le.low, le.high, near)
 ends_through : (r a b s c d k l h : ℕ) → AreEndsWithin r a b s c d → AreEndsWithin s c d k l h → AreEndsWithin r a b k l h
 ends_through r a b s c d k l h p q = record { pair = p.pair ∙ q.pair; low = omega (arith, p.low, q.low); high = omega (arith, p.high, q.high) }
 
-sum_through : (t u v : SumTag) → IsSumWithin t u → IsSumWithin u v → IsSumWithin t v
+sum_through : (t u v : SumTag) → IsSumTagWithin t u → IsSumTagWithin u v → IsSumTagWithin t v
 sum_through t u sum.None p q = tt
 sum_through sum.None sum.None (sum.Up k l h) p q = q
 sum_through (sum.Up r a b) sum.None (sum.Up k l h) p q = λ near. absurd (q near)
@@ -175,7 +175,7 @@ sum_through sum.None (sum.Down s c d) (sum.Down k l h) p q = λ near. p (still_n
 sum_through (sum.Up r a b) (sum.Down s c d) (sum.Down k l h) p q = λ near. p (still_near s c d k l h (q near) near)
 sum_through (sum.Down r a b) (sum.Down s c d) (sum.Down k l h) p q = λ near. ends_through r a b s c d k l h (p (still_near s c d k l h (q near) near)) (q near)
 
-sum_both : (t u : SumTag) → IsNear t → IsNear u → IsSumWithin t u → IsSumWithin u t → t ≡ u
+sum_both : (t u : SumTag) → IsNear t → IsNear u → IsSumTagWithin t u → IsSumTagWithin u t → t ≡ u
 sum_both sum.None sum.None m n p q = refl
 sum_both sum.None (sum.Up s c d) m n p q = absurd (p n)
 sum_both sum.None (sum.Down s c d) m n p q = absurd (p n)
@@ -197,15 +197,15 @@ sum_both (sum.Down r a b) (sum.Down s c d) m n p q =
     λ i. sum.Down (x.pair i) (low i) (high i)
 
 -- tags of one kind, by the test of their pairs
-by_up : (test : Bool) (r a b s c d : ℕ) → (test ≡ true → r ≡ s) → IsSumWithin (sum.Up r a b) (if test then up_from r (min a c) (max b d) else sum.None)
+by_up : (test : Bool) (r a b s c d : ℕ) → (test ≡ true → r ≡ s) → IsSumTagWithin (sum.Up r a b) (if test then up_from r (min a c) (max b d) else sum.None)
 by_up true r a b s c d same = up_above (nat_lt (max b d) (min a c + 65535)) r a b (min a c) (max b d) (omega arith) (omega arith)
 by_up false r a b s c d same = tt
 
-by_down : (test : Bool) (r a b s c d : ℕ) → (test ≡ true → r ≡ s) → IsSumWithin (sum.Down r a b) (if test then down_from r (min a c) (max b d) else sum.None)
+by_down : (test : Bool) (r a b s c d : ℕ) → (test ≡ true → r ≡ s) → IsSumTagWithin (sum.Down r a b) (if test then down_from r (min a c) (max b d) else sum.None)
 by_down true r a b s c d same = down_above (nat_lt (max b d) (min a c + 65535)) r a b (min a c) (max b d) (omega arith) (omega arith)
 by_down false r a b s c d same = tt
 
-sum_first : (t u : SumTag) → IsSumWithin t (sum_join t u)
+sum_first : (t u : SumTag) → IsSumTagWithin t (sum_join t u)
 sum_first (sum.Up r a b) (sum.Up s c d) = by_up (r == s) r a b s c d (eqb-true r s)
 sum_first (sum.Down r a b) (sum.Down s c d) = by_down (r == s) r a b s c d (eqb-true r s)
 sum_first sum.None u = tt
@@ -214,24 +214,24 @@ sum_first (sum.Up r a b) (sum.Down s c d) = tt
 sum_first (sum.Down r a b) sum.None = tt
 sum_first (sum.Down r a b) (sum.Up s c d) = tt
 
-or_up : (test : Bool) (r a b s c d : ℕ) → (test ≡ true → r ≡ s) → IsSumWithin (sum.Up s c d) (if test then up_from r (min a c) (max b d) else sum.None)
+or_up : (test : Bool) (r a b s c d : ℕ) → (test ≡ true → r ≡ s) → IsSumTagWithin (sum.Up s c d) (if test then up_from r (min a c) (max b d) else sum.None)
 or_up true r a b s c d same =
-    subst (λ (k : ℕ). IsSumWithin (sum.Up k c d) (up_from r (min a c) (max b d))) (same refl)
+    subst (λ (k : ℕ). IsSumTagWithin (sum.Up k c d) (up_from r (min a c) (max b d))) (same refl)
     (up_above (nat_lt (max b d) (min a c + 65535)) r c d (min a c) (max b d) (omega arith) (omega arith))
 or_up false r a b s c d same = tt
 
-or_down : (test : Bool) (r a b s c d : ℕ) → (test ≡ true → r ≡ s) → IsSumWithin (sum.Down s c d) (if test then down_from r (min a c) (max b d) else sum.None)
+or_down : (test : Bool) (r a b s c d : ℕ) → (test ≡ true → r ≡ s) → IsSumTagWithin (sum.Down s c d) (if test then down_from r (min a c) (max b d) else sum.None)
 or_down true r a b s c d same =
-    subst (λ (k : ℕ). IsSumWithin (sum.Down k c d) (down_from r (min a c) (max b d))) (same refl)
+    subst (λ (k : ℕ). IsSumTagWithin (sum.Down k c d) (down_from r (min a c) (max b d))) (same refl)
     (down_above (nat_lt (max b d) (min a c + 65535)) r c d (min a c) (max b d) (omega arith) (omega arith))
 or_down false r a b s c d same = tt
 
-sum_second : (t u : SumTag) → IsSumWithin u (sum_join t u)
+sum_second : (t u : SumTag) → IsSumTagWithin u (sum_join t u)
 sum_second (sum.Up r a b) (sum.Up s c d) = or_up (r == s) r a b s c d (eqb-true r s)
 sum_second (sum.Down r a b) (sum.Down s c d) = or_down (r == s) r a b s c d (eqb-true r s)
 sum_second sum.None u = none_above u
   where
-    none_above : (u : SumTag) → IsSumWithin u sum.None
+    none_above : (u : SumTag) → IsSumTagWithin u sum.None
     none_above u = tt
 sum_second (sum.Up r a b) sum.None = tt
 sum_second (sum.Up r a b) (sum.Down s c d) = tt
@@ -256,20 +256,20 @@ sum_near (sum.Down r a b) sum.None = tt
 sum_near (sum.Down r a b) (sum.Up s c d) = tt
 
 least_up : (test : Bool) (r a b s c d k l h : ℕ) → (r ≡ s → test ≡ true) → h < l + 65535 → AreEndsWithin r a b k l h → AreEndsWithin s c d k l h
-    → IsSumWithin (if test then up_from r (min a c) (max b d) else sum.None) (sum.Up k l h)
+    → IsSumTagWithin (if test then up_from r (min a c) (max b d) else sum.None) (sum.Up k l h)
 least_up true r a b s c d k l h same near p q =
-    subst (λ (n : ℕ). IsSumWithin (up_from r (min a c) (max b d)) (sum.Up n l h)) p.pair
+    subst (λ (n : ℕ). IsSumTagWithin (up_from r (min a c) (max b d)) (sum.Up n l h)) p.pair
     (up_below (nat_lt (max b d) (min a c + 65535)) r (min a c) (max b d) l h (is_wide (min a c) (max b d)) (omega (arith, p.low, q.low)) (omega (arith, p.high, q.high)) near)
 least_up false r a b s c d k l h same near p q = absurd (false≢true (same (p.pair ∙ sym q.pair)))
 
 least_down : (test : Bool) (r a b s c d k l h : ℕ) → (r ≡ s → test ≡ true) → h < l + 65535 → AreEndsWithin r a b k l h → AreEndsWithin s c d k l h
-    → IsSumWithin (if test then down_from r (min a c) (max b d) else sum.None) (sum.Down k l h)
+    → IsSumTagWithin (if test then down_from r (min a c) (max b d) else sum.None) (sum.Down k l h)
 least_down true r a b s c d k l h same near p q =
-    subst (λ (n : ℕ). IsSumWithin (down_from r (min a c) (max b d)) (sum.Down n l h)) p.pair
+    subst (λ (n : ℕ). IsSumTagWithin (down_from r (min a c) (max b d)) (sum.Down n l h)) p.pair
     (down_below (nat_lt (max b d) (min a c + 65535)) r (min a c) (max b d) l h (is_wide (min a c) (max b d)) (omega (arith, p.low, q.low)) (omega (arith, p.high, q.high)) near)
 least_down false r a b s c d k l h same near p q = absurd (false≢true (same (p.pair ∙ sym q.pair)))
 
-least_near : (t u v : SumTag) → IsNear v → IsSumWithin t v → IsSumWithin u v → IsSumWithin (sum_join t u) v
+least_near : (t u v : SumTag) → IsNear v → IsSumTagWithin t v → IsSumTagWithin u v → IsSumTagWithin (sum_join t u) v
 least_near t u sum.None near a b = tt
 least_near (sum.Up r a b) (sum.Up s c d) (sum.Up k l h) near p q = least_up (r == s) r a b s c d k l h (eq-eqb r s) near (p near) (q near)
 least_near (sum.Down r a b) (sum.Down s c d) (sum.Down k l h) near p q = least_down (r == s) r a b s c d k l h (eq-eqb r s) near (p near) (q near)
@@ -283,7 +283,7 @@ least_near (sum.Down r a b) sum.None (sum.Down k l h) near p q = absurd (q near)
 least_near (sum.Down r a b) (sum.Up s c d) (sum.Down k l h) near p q = absurd (q near)
 
 -- each tag is below one that says nothing
-wide_above : (t v : SumTag) → (IsNear v → ⊥) → IsSumWithin t v
+wide_above : (t v : SumTag) → (IsNear v → ⊥) → IsSumTagWithin t v
 wide_above t sum.None wide = tt
 wide_above sum.None (sum.Up k l h) wide = wide
 wide_above (sum.Up r a b) (sum.Up k l h) wide = λ near. absurd (wide near)
@@ -297,7 +297,7 @@ near_or_wide sum.None = inl tt
 near_or_wide (sum.Up k l h) = ⊎_elim (λ lt. inl lt) (λ over. inr (λ near. omega (arith, over, near))) (cases_lt h (l + 65535))
 near_or_wide (sum.Down k l h) = ⊎_elim (λ lt. inl lt) (λ over. inr (λ near. omega (arith, over, near))) (cases_lt h (l + 65535))
 
-sum_least : (t u v : SumTag) → IsSumWithin t v → IsSumWithin u v → IsSumWithin (sum_join t u) v
+sum_least : (t u v : SumTag) → IsSumTagWithin t v → IsSumTagWithin u v → IsSumTagWithin (sum_join t u) v
 sum_least t u v p q = ⊎_elim (λ near. least_near t u v near p q) (λ wide. wide_above (sum_join t u) v wide) (near_or_wide v)
 
 pub sums_are_ordered : SumsAreOrdered
@@ -318,7 +318,7 @@ compares_are_ordered = grind arith
 pub zeros_are_ordered : ZerosAreOrdered
 zeros_are_ordered = grind arith
 
-pub sum_less : (registers : List ℕ) (t u : SumTag) (c : Bool) → IsSumWithin t u → SumHolds registers t c → SumHolds registers u c
+pub sum_less : (registers : List ℕ) (t u : SumTag) (c : Bool) → IsSumTagWithin t u → SumHolds registers t c → SumHolds registers u c
 sum_less registers t sum.None c le h = tt
 sum_less registers (sum.Up r a b) (sum.Up s d e) c le h = λ near.
     let w = le near in

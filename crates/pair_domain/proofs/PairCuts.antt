@@ -2,7 +2,7 @@
 use Rattle.std.proofs.Common.{◌≡◌, refl, ◌∙◌, ap, subst, ℕ, ◌+◌, ◌*◌, ◌/◌, ◌%◌, ◌<◌, ◌≤◌, Bool, true, false, Option, Some, None, arith}
 use Rattle.std.specs.Prelude.{◌==◌, if◌then◌else◌}
 use Rattle.std.proofs.lemmas.Bool.{eqb-true, eq-eqb, false≢true}
-use Rattle.bit_domain.specs.Ranges.{ByteSet, Holds, IsSetWithin, RangeFits}
+use Rattle.bit_domain.specs.Ranges.{ByteSet, SetHas, IsSetWithin, RangeFits}
 use Rattle.bit_domain.proofs.AllLaws.{ranges_fit}
 use Rattle.pair_domain.specs.declared.intervals.Interval.{Interval}
 use Rattle.pair_domain.specs.Intervals.{InInterval, IsIntervalWithin, interval_meet, hull}
@@ -127,8 +127,8 @@ high_more l h l' h' small down up p p' m le e =
 -- ---- both bytes by the interval
 
 -- the low byte of a number of the interval is kept
-low_keeps : (test : Bool) (s : ByteSet) (i : Interval) (x y : ℕ) → (test ≡ true → i.low / 256 ≡ i.high / 256) → Holds s x → InInterval i (x + 256 * y)
-    → (m : ByteSet) × (((if test then narrow s (i.low % 256) (i.high % 256) else Some s) ≡ Some m) × Holds m x)
+low_keeps : (test : Bool) (s : ByteSet) (i : Interval) (x y : ℕ) → (test ≡ true → i.low / 256 ≡ i.high / 256) → SetHas s x → InInterval i (x + 256 * y)
+    → (m : ByteSet) × (((if test then narrow s (i.low % 256) (i.high % 256) else Some s) ≡ Some m) × SetHas m x)
 low_keeps false s i x y same h inside = (s, (refl, h))
 low_keeps true s i x y same h inside =
     let e = same refl in

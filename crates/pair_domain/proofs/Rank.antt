@@ -11,7 +11,7 @@ use Rattle.pair_domain.specs.declared.tags.ZeroTag.{ZeroTag}
 use Rattle.pair_domain.specs.declared.tags.ZeroTag.TheVariants as zero
 use Rattle.pair_domain.specs.declared.facts.PairFacts.{PairFacts}
 use Rattle.pair_domain.specs.Intervals.{IsIntervalWithin, interval_join}
-use Rattle.pair_domain.specs.Tags.{IsSumWithin, IsCompareWithin, IsZeroWithin, up_if, up_from, down_if, down_from, sum_join, is_same_compare, is_same_zero}
+use Rattle.pair_domain.specs.Tags.{IsSumTagWithin, IsCompareWithin, IsZeroWithin, up_if, up_from, down_if, down_from, sum_join, is_same_compare, is_same_zero}
 use Rattle.pair_domain.specs.Facts.{nothing, interval_at, AreFactsWithin, facts_join}
 use Rattle.pair_domain.specs.Rank.{IntervalFits, EndsFit, SumFits, CompareFits, ZeroFits, FactsFit, interval_rank, sum_rank, compare_rank, zero_rank, intervals_rank, facts_rank, facts_height}
 use Rattle.pair_domain.specs.Laws.{FactsRise}
@@ -53,7 +53,7 @@ interval_step : (i j : Interval) → IntervalFits i → IsIntervalWithin i j →
 interval_step i j fits le =
     step_of interval_of width interval_rank (λ p. refl) (i.low, i.high) (j.low, j.high) (ends_step i.low i.high j.low j.high fits.ordered le.low le.high)
 
-sum_step : (t u : SumTag) → SumFits t → SumFits u → IsSumWithin t u → Step sum_rank t u
+sum_step : (t u : SumTag) → SumFits t → SumFits u → IsSumTagWithin t u → Step sum_rank t u
 sum_step sum.None sum.None fits more le = inl refl
 sum_step (sum.Up r a b) sum.None fits more le = inr (omega (arith, fits.near))
 sum_step (sum.Down r a b) sum.None fits more le = inr (omega (arith, fits.near))

@@ -8,7 +8,7 @@ use Rattle.std.proofs.Math.Nat.{mul-le-mul}
 use Rattle.avr_model.specs.State.{minus16}
 use Rattle.avr_model.specs.Sums.{sum_of, difference_of}
 use Rattle.pair_domain.specs.declared.intervals.Interval.{Interval}
-use Rattle.pair_domain.specs.Tags.{LiesUp, LiesDown, IsSumWithin, up_if, down_if}
+use Rattle.pair_domain.specs.Tags.{LiesUp, LiesDown, IsSumTagWithin, up_if, down_if}
 use Rattle.pair_domain.specs.Rows.{ToldHolds, IsToldWithin, modulo}
 use Rattle.pair_domain.specs.RowLaws.{IsRow, RowsAreTrue, RowsAreMonotone}
 
@@ -87,13 +87,13 @@ rows_are_true = record {
 
 -- of wider ends a tag says less, and none is kept where they are too far apart
 up_less : (test test' : Bool) (r a b c d : ℕ) → nat_lt b (a + 65535) ≡ test → nat_lt d (c + 65535) ≡ test' → c ≤ a → b ≤ d
-    → IsSumWithin (up_if test r a b) (up_if test' r c d)
+    → IsSumTagWithin (up_if test r a b) (up_if test' r c d)
 up_less test false r a b c d e e' low high = tt
 up_less true true r a b c d e e' low high = λ near. record { pair = refl; low = low; high = high }
 up_less false true r a b c d e e' low high = absurd (grind (arith, nat_tests, e, e', low, high))
 
 down_less : (test test' : Bool) (r a b c d : ℕ) → nat_lt b (a + 65535) ≡ test → nat_lt d (c + 65535) ≡ test' → c ≤ a → b ≤ d
-    → IsSumWithin (down_if test r a b) (down_if test' r c d)
+    → IsSumTagWithin (down_if test r a b) (down_if test' r c d)
 down_less test false r a b c d e e' low high = tt
 down_less true true r a b c d e e' low high = λ near. record { pair = refl; low = low; high = high }
 down_less false true r a b c d e e' low high = absurd (grind (arith, nat_tests, e, e', low, high))

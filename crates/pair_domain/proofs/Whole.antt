@@ -5,7 +5,7 @@ use Rattle.pair_domain.specs.declared.intervals.Interval.{Interval}
 use Rattle.pair_domain.specs.declared.facts.PairFacts.{PairFacts}
 use Rattle.pair_domain.specs.Intervals.{InInterval, IsIntervalWithin, whole, interval_join}
 use Rattle.pair_domain.specs.Tags.{pair_number, IsNear}
-use Rattle.pair_domain.specs.Facts.{nothing, interval_at, AreFactsWithin, facts_join, IsLeastAbove}
+use Rattle.pair_domain.specs.Facts.{nothing, interval_at, AreFactsWithin, facts_join, AreLeastFactsAbove}
 use Rattle.pair_domain.specs.Rank.{FactsFit}
 use Rattle.pair_domain.specs.Laws.{FactsAreOrdered, FactsSayLess}
 use Rattle.pair_domain.proofs.Ordered.{intervals_are_ordered, sums_are_ordered, compares_are_ordered, zeros_are_ordered, sum_less, compare_less, zero_less}
@@ -37,7 +37,7 @@ facts_both f g m n near near' a b =
     let s = zeros_are_ordered.both f.zero g.zero a.zero b.zero in
     λ i. record { intervals = p i; sum = q i; compare = r i; zero = s i }
 
-pub facts_least : (f g : PairFacts) → length f.intervals ≡ 16 → length g.intervals ≡ 16 → IsLeastAbove f g (facts_join f g)
+pub facts_least : (f g : PairFacts) → length f.intervals ≡ 16 → length g.intervals ≡ 16 → AreLeastFactsAbove f g (facts_join f g)
 facts_least f g m n =
     let is : (k : ℕ) → k < 16 → interval_at (facts_join f g).intervals k ≡ interval_join (interval_at f.intervals k) (interval_at g.intervals k) = λ k h.
     interval_at-join f.intervals g.intervals k (omega arith) (omega arith) in

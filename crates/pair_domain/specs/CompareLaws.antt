@@ -8,8 +8,8 @@ use Rattle.pair_domain.specs.Tags.{signed_below, IsCompared}
 use Rattle.pair_domain.specs.Compare.{left_below, left_from, right_above, right_to, off, left_less, left_not_less}
 
 -- what is left is there, and has x
-abbrev pub Keeps : Option Interval → ℕ → Type 0
-Keeps o x = (m : Interval) × ((o ≡ Some m) × InInterval m x)
+abbrev pub KeepsMember : Option Interval → ℕ → Type 0
+KeepsMember o x = (m : Interval) × ((o ≡ Some m) × InInterval m x)
 
 -- more is left by the second
 abbrev pub LeavesMore : Option Interval → Option Interval → Type 0
@@ -24,14 +24,14 @@ pub record ComparesAreTold : Type 0 where
       (flag (flags_of_difference v w (flag sreg 0) true sreg) 4)
 
 pub record ComparesCut : Type 0 where
-  pub below : (i j : Interval) (x y : ℕ) → InInterval i x → InInterval j y → x < y → Keeps (left_below i j) x × Keeps (right_above i j) y
-  pub from : (i j : Interval) (x y : ℕ) → InInterval i x → InInterval j y → y ≤ x → Keeps (left_from i j) x × Keeps (right_to i j) y
-  pub equal : (i j : Interval) (x : ℕ) → InInterval i x → InInterval j x → Keeps (interval_meet i j) x
-  pub off : (i j : Interval) (x y : ℕ) → InInterval i x → InInterval j y → x ≢ y → Keeps (off i j) x
+  pub below : (i j : Interval) (x y : ℕ) → InInterval i x → InInterval j y → x < y → KeepsMember (left_below i j) x × KeepsMember (right_above i j) y
+  pub from : (i j : Interval) (x y : ℕ) → InInterval i x → InInterval j y → y ≤ x → KeepsMember (left_from i j) x × KeepsMember (right_to i j) y
+  pub equal : (i j : Interval) (x : ℕ) → InInterval i x → InInterval j x → KeepsMember (interval_meet i j) x
+  pub off : (i j : Interval) (x y : ℕ) → InInterval i x → InInterval j y → x ≢ y → KeepsMember (off i j) x
   pub less : (half : ℕ) (i j : Interval) (x y : ℕ) → 0 < half → i.high < 2 * half → j.high < 2 * half → InInterval i x → InInterval j y
-      → signed_below half x y ≡ true → Keeps (left_less half i j) x
+      → signed_below half x y ≡ true → KeepsMember (left_less half i j) x
   pub not_less : (half : ℕ) (i j : Interval) (x y : ℕ) → 0 < half → i.high < 2 * half → j.high < 2 * half → InInterval i x → InInterval j y
-      → signed_below half x y ≡ false → Keeps (left_not_less half i j) x
+      → signed_below half x y ≡ false → KeepsMember (left_not_less half i j) x
 
 pub record CutsAreMonotone : Type 0 where
   pub below : (i j i' j' : Interval) → IsIntervalWithin i i' → IsIntervalWithin j j' → LeavesMore (left_below i j) (left_below i' j')

@@ -7,7 +7,7 @@ use Rattle.pair_domain.specs.declared.tags.CompareTag.TheVariants as compare
 use Rattle.pair_domain.specs.declared.tags.ZeroTag.TheVariants as zero
 use Rattle.pair_domain.specs.declared.facts.PairFacts.{PairFacts}
 use Rattle.pair_domain.specs.Intervals.{whole, InInterval, IsIntervalWithin, interval_join}
-use Rattle.pair_domain.specs.Tags.{pair_number, SumHolds, CompareHolds, ZeroHolds, IsSumWithin, IsCompareWithin, IsZeroWithin, IsNear, sum_join, compare_join, zero_join}
+use Rattle.pair_domain.specs.Tags.{pair_number, SumHolds, CompareHolds, ZeroHolds, IsSumTagWithin, IsCompareWithin, IsZeroWithin, IsNear, sum_join, compare_join, zero_join}
 
 -- nothing is known
 abbrev pub nothing : PairFacts
@@ -39,7 +39,7 @@ pub record FactsHold (f : PairFacts) (registers : List ℕ) (c z s : Bool) : Typ
 -- g says no more than f
 pub record AreFactsWithin (f g : PairFacts) : Type 0 where
   pub intervals : (n : ℕ) → n < 16 → IsIntervalWithin (interval_at f.intervals n) (interval_at g.intervals n)
-  pub sum : IsSumWithin f.sum g.sum
+  pub sum : IsSumTagWithin f.sum g.sum
   pub compare : IsCompareWithin f.compare g.compare
   pub zero : IsZeroWithin f.zero g.zero
 
@@ -59,7 +59,7 @@ facts_join f g =
     }
 
 -- u is the least above f and g
-pub record IsLeastAbove (f g u : PairFacts) : Type 0 where
+pub record AreLeastFactsAbove (f g u : PairFacts) : Type 0 where
   pub first : AreFactsWithin f u
   pub second : AreFactsWithin g u
   pub least : (v : PairFacts) → AreFactsWithin f v → AreFactsWithin g v → AreFactsWithin u v
@@ -80,7 +80,7 @@ IsKnownNear None = ⊤
 IsKnownNear (Some f) = IsNear f.sum
 
 -- sixteen intervals, and a sum tag that is kept
-pub record IsKept (x : Option PairFacts) : Type 0 where
+pub record AreFactsKept (x : Option PairFacts) : Type 0 where
   pub sixteen : HasSixteen x
   pub near : IsKnownNear x
 

@@ -1,15 +1,15 @@
 -- Laws of intervals, of the tags of flags and of facts: they are ordered, a join is the least above both, what says less holds where more
 -- holds, and none is above a height.
 use Rattle.std.specs.Prelude.{ℕ, ◌+◌, ◌*◌, ◌≡◌, ◌<◌, ◌≤◌, ◌↔◌, ◌⊎◌, ◌&&◌, Bool, List, length, Option, Some, None}
-use Rattle.bit_domain.specs.Ranges.{ByteSet, Holds, IsSetWithin}
+use Rattle.bit_domain.specs.Ranges.{ByteSet, SetHas, IsSetWithin}
 use Rattle.pair_domain.specs.declared.intervals.Interval.{Interval}
 use Rattle.pair_domain.specs.declared.tags.SumTag.{SumTag}
 use Rattle.pair_domain.specs.declared.tags.CompareTag.{CompareTag}
 use Rattle.pair_domain.specs.declared.tags.ZeroTag.{ZeroTag}
 use Rattle.pair_domain.specs.declared.facts.PairFacts.{PairFacts}
 use Rattle.pair_domain.specs.Intervals.{InInterval, IsIntervalWithin, whole, interval_join, interval_meet, hull}
-use Rattle.pair_domain.specs.Tags.{SumHolds, CompareHolds, ZeroHolds, IsSumWithin, IsCompareWithin, IsZeroWithin, IsNear, sum_join, compare_join, zero_join}
-use Rattle.pair_domain.specs.Facts.{is_followed, nothing, FactsHold, AreFactsWithin, facts_join, IsLeastAbove, HasSixteen, IsKnownNear, KnownHolds, IsKnownWithin, known_join}
+use Rattle.pair_domain.specs.Tags.{SumHolds, CompareHolds, ZeroHolds, IsSumTagWithin, IsCompareWithin, IsZeroWithin, IsNear, sum_join, compare_join, zero_join}
+use Rattle.pair_domain.specs.Facts.{is_followed, nothing, FactsHold, AreFactsWithin, facts_join, AreLeastFactsAbove, HasSixteen, IsKnownNear, KnownHolds, IsKnownWithin, known_join}
 use Rattle.pair_domain.specs.Rank.{FactsFit, KnownFits, facts_rank, facts_height, known_rank}
 
 -- `within` is a partial order on intervals, and a join is the least above both; a meet holds just what both hold, lies below both and says
@@ -34,19 +34,19 @@ pub record IntervalsMeet : Type 0 where
 
 -- the number of a pair lies in the hull of its bytes, which says less where they do
 pub record HullsHold : Type 0 where
-  pub holds : (lo hi : ByteSet) (x y : ℕ) → Holds lo x → Holds hi y → InInterval (hull lo hi) (x + 256 * y)
+  pub holds : (lo hi : ByteSet) (x y : ℕ) → SetHas lo x → SetHas hi y → InInterval (hull lo hi) (x + 256 * y)
   pub more : (lo hi lo' hi' : ByteSet) → IsSetWithin lo lo' → IsSetWithin hi hi' → IsIntervalWithin (hull lo hi) (hull lo' hi')
 
 -- `within` is a partial order on tags of flags, of sums on those that are kept, and a join is the least above both; what isn't kept is above all
 pub record SumsAreOrdered : Type 0 where
-  pub same : (t : SumTag) → IsSumWithin t t
-  pub through : (t u v : SumTag) → IsSumWithin t u → IsSumWithin u v → IsSumWithin t v
-  pub both : (t u : SumTag) → IsNear t → IsNear u → IsSumWithin t u → IsSumWithin u t → t ≡ u
-  pub first : (t u : SumTag) → IsSumWithin t (sum_join t u)
-  pub second : (t u : SumTag) → IsSumWithin u (sum_join t u)
+  pub same : (t : SumTag) → IsSumTagWithin t t
+  pub through : (t u v : SumTag) → IsSumTagWithin t u → IsSumTagWithin u v → IsSumTagWithin t v
+  pub both : (t u : SumTag) → IsNear t → IsNear u → IsSumTagWithin t u → IsSumTagWithin u t → t ≡ u
+  pub first : (t u : SumTag) → IsSumTagWithin t (sum_join t u)
+  pub second : (t u : SumTag) → IsSumTagWithin u (sum_join t u)
   pub near : (t u : SumTag) → IsNear (sum_join t u)
-  pub least : (t u v : SumTag) → IsSumWithin t v → IsSumWithin u v → IsSumWithin (sum_join t u) v
-  pub wide : (t v : SumTag) → (IsNear v → ⊥) → IsSumWithin t v
+  pub least : (t u v : SumTag) → IsSumTagWithin t v → IsSumTagWithin u v → IsSumTagWithin (sum_join t u) v
+  pub wide : (t v : SumTag) → (IsNear v → ⊥) → IsSumTagWithin t v
 
 pub record ComparesAreOrdered : Type 0 where
   pub same : (t : CompareTag) → IsCompareWithin t t
@@ -69,7 +69,7 @@ pub record FactsAreOrdered : Type 0 where
   pub same : (f : PairFacts) → AreFactsWithin f f
   pub through : (f g h : PairFacts) → AreFactsWithin f g → AreFactsWithin g h → AreFactsWithin f h
   pub both : (f g : PairFacts) → length f.intervals ≡ 16 → length g.intervals ≡ 16 → IsNear f.sum → IsNear g.sum → AreFactsWithin f g → AreFactsWithin g f → f ≡ g
-  pub join : (f g : PairFacts) → length f.intervals ≡ 16 → length g.intervals ≡ 16 → IsLeastAbove f g (facts_join f g)
+  pub join : (f g : PairFacts) → length f.intervals ≡ 16 → length g.intervals ≡ 16 → AreLeastFactsAbove f g (facts_join f g)
   pub within : (f g : PairFacts) → length f.intervals ≡ 16 → length g.intervals ≡ 16 → IsNear f.sum → AreFactsWithin g f → facts_join f g ≡ f
   pub joins : (f g f' g' : PairFacts) → length f.intervals ≡ 16 → length g.intervals ≡ 16 → length f'.intervals ≡ 16 → length g'.intervals ≡ 16
       → AreFactsWithin f f' → AreFactsWithin g g' → AreFactsWithin (facts_join f g) (facts_join f' g')
@@ -78,7 +78,7 @@ pub record FactsAreOrdered : Type 0 where
 -- what holds still holds where less is said, and nothing always holds
 pub record FactsSayLess : Type 0 where
   pub interval : (i j : Interval) (x : ℕ) → IsIntervalWithin i j → InInterval i x → InInterval j x
-  pub sum : (registers : List ℕ) (t u : SumTag) (c : Bool) → IsSumWithin t u → SumHolds registers t c → SumHolds registers u c
+  pub sum : (registers : List ℕ) (t u : SumTag) (c : Bool) → IsSumTagWithin t u → SumHolds registers t c → SumHolds registers u c
   pub compare : (registers : List ℕ) (t u : CompareTag) (c z s : Bool) → IsCompareWithin t u → CompareHolds registers t c z s → CompareHolds registers u c z s
   pub zero : (registers : List ℕ) (t u : ZeroTag) (z : Bool) → IsZeroWithin t u → ZeroHolds registers t z → ZeroHolds registers u z
   pub facts : (f g : PairFacts) (registers : List ℕ) (c z s : Bool) → AreFactsWithin f g → FactsHold f registers c z s → FactsHold g registers c z s

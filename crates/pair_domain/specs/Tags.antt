@@ -74,12 +74,12 @@ pub record AreEndsWithin (r a b s c d : ℕ) : Type 0 where
   pub high : b ≤ d
 
 -- the second says no more than the first
-abbrev pub IsSumWithin : SumTag → SumTag → Type 0
-IsSumWithin t sum.None = ⊤
-IsSumWithin (sum.Up r a b) (sum.Up s c d) = AreNear c d → AreEndsWithin r a b s c d
-IsSumWithin (sum.Down r a b) (sum.Down s c d) = AreNear c d → AreEndsWithin r a b s c d
-IsSumWithin t (sum.Up s c d) = AreNear c d → ⊥
-IsSumWithin t (sum.Down s c d) = AreNear c d → ⊥
+abbrev pub IsSumTagWithin : SumTag → SumTag → Type 0
+IsSumTagWithin t sum.None = ⊤
+IsSumTagWithin (sum.Up r a b) (sum.Up s c d) = AreNear c d → AreEndsWithin r a b s c d
+IsSumTagWithin (sum.Down r a b) (sum.Down s c d) = AreNear c d → AreEndsWithin r a b s c d
+IsSumTagWithin t (sum.Up s c d) = AreNear c d → ⊥
+IsSumTagWithin t (sum.Down s c d) = AreNear c d → ⊥
 
 abbrev pub IsCompareWithin : CompareTag → CompareTag → Type 0
 IsCompareWithin t compare.None = ⊤

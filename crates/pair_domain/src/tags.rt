@@ -1,7 +1,7 @@
 //! Tags that tie flags to registers and pairs.
 
 ghost use Rattle.std.specs.Prelude.{◌≡◌, ◌↔◌, ◌+◌, nat_lt, IsTrue};
-ghost use Rattle.pair_domain.specs.Tags.{up_from, down_from, sum_join, IsSumWithin, compare_join, IsCompareWithin, zero_join, IsZeroWithin};
+ghost use Rattle.pair_domain.specs.Tags.{up_from, down_from, sum_join, IsSumTagWithin, compare_join, IsCompareWithin, zero_join, IsZeroWithin};
 
 /// What is known of a pair of registers and the carry flag C between the two instructions of a sum or difference of 16 bits. Only ends that
 /// are less than 65,535 apart are kept. Source: own.
@@ -94,7 +94,7 @@ impl SumTag {
     /// Whether `other` says no more than this: it is none, or of the same kind and pair with ends that hold this one's, or its ends are of
     /// those that aren't kept.
     pub fn le(self, other: SumTag) -> bool
-        ensures { IsTrue result ↔ IsSumWithin self other }
+        ensures { IsTrue result ↔ IsSumTagWithin self other }
     {
         match (self, other) {
             (_, SumTag::None) => true,

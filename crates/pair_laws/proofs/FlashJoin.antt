@@ -5,7 +5,7 @@ use Rattle.std.proofs.lemmas.Bool.Decides.{nat_tests}
 use Rattle.std.proofs.lemmas.Option.{same_Some, none-some}
 use Rattle.avr_model.specs.Bits.{all_below}
 use Rattle.avr_model.specs.Image.{byte_at}
-use Rattle.bit_domain.specs.Ranges.{ByteSet, Holds}
+use Rattle.bit_domain.specs.Ranges.{ByteSet, SetHas}
 use Rattle.bit_domain.specs.TriByte.{has, byte_any, byte_constant, byte_known}
 use Rattle.bit_domain.proofs.AllLaws.{tests_tell_members, ranges_hold, bytes_are_sets}
 use Rattle.sp_domain.specs.declared.tags.Tag.TheVariants as tag
@@ -29,7 +29,7 @@ IsMore permits permits' = (z : ℕ) → z < 65536 → permits z ≡ true → per
 was_le : (x y : ℕ) → nat_le x y ≡ true → x ≤ y
 was_le x y e = grind (arith, nat_tests)
 
-set_permitted : (s : ByteSet) (x : ℕ) → x < 256 → set_permits s x ≡ true → Holds s x
+set_permitted : (s : ByteSet) (x : ℕ) → x < 256 → set_permits s x ≡ true → SetHas s x
 set_permitted s x small e =
     let all = and_parts (nat_le s.low x && nat_le x s.high) (has s.bits x) e in
     let ends = and_parts (nat_le s.low x) (nat_le x s.high) all.0 in
@@ -46,7 +46,7 @@ and_both a b e f = grind arith
 is_le : (x y : ℕ) → x ≤ y → nat_le x y ≡ true
 is_le x y le = grind (arith, nat_tests)
 
-set_permits_it : (s : ByteSet) (x : ℕ) → Holds s x → set_permits s x ≡ true
+set_permits_it : (s : ByteSet) (x : ℕ) → SetHas s x → set_permits s x ≡ true
 set_permits_it s x h =
     and_both (nat_le s.low x && nat_le x s.high) (has s.bits x) (and_both (nat_le s.low x) (nat_le x s.high) (is_le s.low x h.low) (is_le x s.high h.high))
     ((tests_tell_members.bytes s.bits x).1 h.bits)

@@ -35,11 +35,11 @@ use Rattle.pair_rules.specs.Hulls.{all_hulled}
 
 -- ---- the registers that are written are there
 
-abbrev pub AreBelow : List ℕ → Type 0
-AreBelow [] = ⊤
-AreBelow (r ∷ rs) = (r < 32) × AreBelow rs
+abbrev pub AreBytesBelow : List ℕ → Type 0
+AreBytesBelow [] = ⊤
+AreBytesBelow (r ∷ rs) = (r < 32) × AreBytesBelow rs
 
-moved_below : (p : Pointer) → AreBelow (moved_pair p)
+moved_below : (p : Pointer) → AreBytesBelow (moved_pair p)
 moved_below pointer.ZPlus = (omega arith, (omega arith, tt))
 moved_below pointer.MinusZ = (omega arith, (omega arith, tt))
 moved_below pointer.YPlus = (omega arith, (omega arith, tt))
@@ -48,7 +48,7 @@ moved_below pointer.X = tt
 moved_below pointer.XPlus = (omega arith, (omega arith, tt))
 moved_below pointer.MinusX = (omega arith, (omega arith, tt))
 
-binary_below : (op : BinaryOp) (d : ℕ) → d < 32 → AreBelow (set_by_binary op d)
+binary_below : (op : BinaryOp) (d : ℕ) → d < 32 → AreBytesBelow (set_by_binary op d)
 binary_below binary.Cpc d lt = tt
 binary_below binary.Sbc d lt = (lt, tt)
 binary_below binary.Add d lt = (lt, tt)
@@ -62,7 +62,7 @@ binary_below binary.Or d lt = (lt, tt)
 binary_below binary.Mov d lt = (lt, tt)
 binary_below binary.Mul d lt = (omega arith, (omega arith, tt))
 
-immediate_below : (op : ImmediateOp) (d : ℕ) → d < 32 → AreBelow (set_by_immediate op d)
+immediate_below : (op : ImmediateOp) (d : ℕ) → d < 32 → AreBytesBelow (set_by_immediate op d)
 immediate_below immediate.Cpi d lt = tt
 immediate_below immediate.Sbci d lt = (lt, tt)
 immediate_below immediate.Subi d lt = (lt, tt)
@@ -70,13 +70,13 @@ immediate_below immediate.Ori d lt = (lt, tt)
 immediate_below immediate.Andi d lt = (lt, tt)
 immediate_below immediate.Ldi d lt = (lt, tt)
 
-pair_below : (d : ℕ) → d < 16 → AreBelow (2 * d ∷ (2 * d + 1) ∷ [])
+pair_below : (d : ℕ) → d < 16 → AreBytesBelow (2 * d ∷ (2 * d + 1) ∷ [])
 pair_below d lt = (omega (arith, lt), (omega (arith, lt), tt))
 
-product_below : AreBelow (0 ∷ 1 ∷ [])
+product_below : AreBytesBelow (0 ∷ 1 ∷ [])
 product_below = (omega arith, (omega arith, tt))
 
-pub written_below : (instr : Instr) → HasRegisters instr → AreBelow (written instr)
+pub written_below : (instr : Instr) → HasRegisters instr → AreBytesBelow (written instr)
 written_below (i.Movw d r) fit = pair_below d fit.0
 written_below (i.Muls d r) fit = product_below
 written_below (i.Mulsu d r) fit = product_below
@@ -105,8 +105,8 @@ written_below _ fit = tt
 abbrev pub AreWithin : List AbsByte → List AbsByte → Type 0
 AreWithin values values' = (r : ℕ) → r < 32 → IsByteWithin (value_at values r) (value_at values' r)
 
-abbrev pub AreFit : List AbsByte → Type 0
-AreFit values = (r : ℕ) → r < 32 → ByteFits (value_at values r)
+abbrev pub AreValuesFit : List AbsByte → Type 0
+AreValuesFit values = (r : ℕ) → r < 32 → ByteFits (value_at values r)
 
 pub all_hold : (o : Origin) (values : List AbsByte) (registers : List ℕ) (sreg : ℕ) (rs : List ℕ) (x : Option PairFacts) → HasSixteen x → RegistersStand o values registers
     → HoldsAt x registers sreg → HoldsAt (all_hulled values rs x) registers sreg
@@ -122,20 +122,20 @@ all_more values values' (r ∷ rs) x y a b within le =
     all_more values values' rs (written_hull values r x) (written_hull values' r y) (writes_end_facts.hull_count values r x a) (writes_end_facts.hull_count values' r y b) within
     (writes_end_facts.hull_more values values' r x y a b within le)
 
-pub all_fit : (values : List AbsByte) (rs : List ℕ) (x : Option PairFacts) → AreFit values → KnownFits x → KnownFits (all_hulled values rs x)
+pub all_fit : (values : List AbsByte) (rs : List ℕ) (x : Option PairFacts) → AreValuesFit values → KnownFits x → KnownFits (all_hulled values rs x)
 all_fit values [] x fit fits = fits
 all_fit values (r ∷ rs) x fit fits = all_fit values rs (written_hull values r x) fit (writes_end_facts.hull_fits values r x fit fits)
 
 -- ---- where the intervals were ended before
 
 -- the pair's interval is above its hull
-abbrev IsAbove : List AbsByte → ℕ → Option PairFacts → Type 0
-IsAbove values n None = ⊤
-IsAbove values n (Some f) = IsIntervalWithin (hull_at values n) (interval_at f.intervals n)
+abbrev IsAboveHull : List AbsByte → ℕ → Option PairFacts → Type 0
+IsAboveHull values n None = ⊤
+IsAboveHull values n (Some f) = IsIntervalWithin (hull_at values n) (interval_at f.intervals n)
 
 abbrev AreAbove : List AbsByte → List ℕ → Option PairFacts → Type 0
 AreAbove values [] x = ⊤
-AreAbove values (r ∷ rs) x = IsAbove values (r / 2) x × AreAbove values rs x
+AreAbove values (r ∷ rs) x = IsAboveHull values (r / 2) x × AreAbove values rs x
 
 set_or_not : (is : List Interval) (n : ℕ) (j : Interval) → (interval_at (slice_set is n j) n ≡ j) ⊎ (interval_at (slice_set is n j) n ≡ interval_at is n)
 set_or_not is n j = by (cases_lt n (length is))
@@ -151,7 +151,7 @@ module _ (values : List AbsByte) (f : PairFacts) (n : ℕ) where
   abbrev left : List Interval
   left = slice_set f.intervals n (hull_at values n)
 
-  one_less : IsAbove values n (Some f) → (k : ℕ) → (k ≡ n) ⊎ (k ≡ n → ⊥) → IsIntervalWithin (interval_at left k) (interval_at f.intervals k)
+  one_less : IsAboveHull values n (Some f) → (k : ℕ) → (k ≡ n) ⊎ (k ≡ n → ⊥) → IsIntervalWithin (interval_at left k) (interval_at f.intervals k)
   one_less above k (inl e) =
       let P : ℕ → Type 0 = λ m. IsIntervalWithin (interval_at left m) (interval_at f.intervals m) in
       subst P (sym e) (⊎_elim (λ set. subst (λ (j : Interval). IsIntervalWithin j (interval_at f.intervals n)) (sym set) above)
@@ -160,14 +160,14 @@ module _ (values : List AbsByte) (f : PairFacts) (n : ℕ) where
   one_less above k (inr ne) =
       subst (λ (j : Interval). IsIntervalWithin j (interval_at f.intervals k)) (sym (set_elsewhere f.intervals k n (hull_at values n) ne)) (intervals_are_ordered.same (interval_at f.intervals k))
 
-  one_above : (k : ℕ) → IsAbove values k (Some f) → (k ≡ n) ⊎ (k ≡ n → ⊥) → IsIntervalWithin (hull_at values k) (interval_at left k)
+  one_above : (k : ℕ) → IsAboveHull values k (Some f) → (k ≡ n) ⊎ (k ≡ n → ⊥) → IsIntervalWithin (hull_at values k) (interval_at left k)
   one_above k above (inl e) =
       let P : ℕ → Type 0 = λ m. IsIntervalWithin (hull_at values m) (interval_at f.intervals m) → IsIntervalWithin (hull_at values m) (interval_at left m) in
       subst P (sym e) (λ old. ⊎_elim (λ set. subst (IsIntervalWithin (hull_at values n)) (sym set) (intervals_are_ordered.same (hull_at values n)))
       (λ not. subst (IsIntervalWithin (hull_at values n)) (sym not) old) (set_or_not f.intervals n (hull_at values n))) above
   one_above k above (inr ne) = subst (IsIntervalWithin (hull_at values k)) (sym (set_elsewhere f.intervals k n (hull_at values n) ne)) above
 
-hulled_less : (values : List AbsByte) (r : ℕ) (x : Option PairFacts) → IsAbove values (r / 2) x → IsKnownWithin (written_hull values r x) x
+hulled_less : (values : List AbsByte) (r : ℕ) (x : Option PairFacts) → IsAboveHull values (r / 2) x → IsKnownWithin (written_hull values r x) x
 hulled_less values r None above = tt
 hulled_less values r (Some f) above =
     let same = known_is_ordered.same (Some f) in
@@ -178,7 +178,7 @@ hulled_less values r (Some f) above =
       zero = same.zero;
     }
 
-above_stays : (values : List AbsByte) (r k : ℕ) (x : Option PairFacts) → IsAbove values k x → IsAbove values k (written_hull values r x)
+above_stays : (values : List AbsByte) (r k : ℕ) (x : Option PairFacts) → IsAboveHull values k x → IsAboveHull values k (written_hull values r x)
 above_stays values r k None above = tt
 above_stays values r k (Some f) above = one_above values f (r / 2) k above (cases_eq k (r / 2))
 
@@ -203,8 +203,8 @@ in_its_pair written r e = by (cases_eq (2 * (r / 2)) r)
         let hit : written (2 * (r / 2) + 1) ≡ true = ap written odd ∙ e in
         ap (λ (b : Bool). written (2 * (r / 2)) || b) hit ∙ or_with_true (written (2 * (r / 2)))
 
-module _ (values : List AbsByte) (fit : AreFit values) (f : PairFacts) (flags carry : Bool) (written : ℕ → Bool) where
-  written_above : (r : ℕ) → r < 32 → written r ≡ true → IsAbove values (r / 2) (ended written flags carry (Some f))
+module _ (values : List AbsByte) (fit : AreValuesFit values) (f : PairFacts) (flags carry : Bool) (written : ℕ → Bool) where
+  written_above : (r : ℕ) → r < 32 → written r ≡ true → IsAboveHull values (r / 2) (ended written flags carry (Some f))
   written_above r lt e =
       let whole_there : interval_at (intervals_ended written 0 f.intervals) (r / 2) ≡ whole =
       ended_at written f.intervals (r / 2) ∙ ap (λ (b : Bool). if b then whole else interval_at f.intervals (r / 2)) (in_its_pair written r e) in
@@ -214,7 +214,7 @@ module _ (values : List AbsByte) (fit : AreFit values) (f : PairFacts) (flags ca
       (intervals_are_ordered.top (hull_at values (r / 2))
       (omega (arith, lo.high, hi.high, ranges_fit.most (value_at values (2 * (r / 2))).bits, ranges_fit.most (value_at values (2 * (r / 2) + 1)).bits)))
 
-  each_above : (rs : List ℕ) → AreBelow rs → ((r : ℕ) → is_one_of rs r ≡ true → written r ≡ true) → AreAbove values rs (ended written flags carry (Some f))
+  each_above : (rs : List ℕ) → AreBytesBelow rs → ((r : ℕ) → is_one_of rs r ≡ true → written r ≡ true) → AreAbove values rs (ended written flags carry (Some f))
   each_above [] below among = tt
   each_above (r ∷ rs) below among = (
     written_above r below.0 (among r (ap (λ (b : Bool). b || is_one_of rs r) (eq-eqb r r refl))),
@@ -226,7 +226,7 @@ none_above values [] = tt
 none_above values (r ∷ rs) = (tt, none_above values rs)
 
 -- what the hulls say is no less than what was left
-pub hulls_less : (values : List AbsByte) → AreFit values → (rs : List ℕ) (flags carry : Bool) (x : Option PairFacts) → AreBelow rs
+pub hulls_less : (values : List AbsByte) → AreValuesFit values → (rs : List ℕ) (flags carry : Bool) (x : Option PairFacts) → AreBytesBelow rs
     → IsKnownWithin (all_hulled values rs (ended (is_one_of rs) flags carry x)) (ended (is_one_of rs) flags carry x)
 hulls_less values fit rs flags carry None below = all_less values rs None (none_above values rs)
 hulls_less values fit rs flags carry (Some f) below =

@@ -13,11 +13,11 @@ use Rattle.avr_model.specs.Pattern.{places, letter}
 use Rattle.avr_model.specs.Table.{Row, table, fields, matches, decoded_by, decoded}
 use Rattle.pair_rules.specs.Fits.{HasRegisters}
 
-abbrev AreThere : List Row → Type 0
-AreThere [] = ⊤
-AreThere (row ∷ rows) = ((w next : ℕ) → HasRegisters (row.instr (fields row.pattern w next))) × AreThere rows
+abbrev AreOperandsThere : List Row → Type 0
+AreOperandsThere [] = ⊤
+AreOperandsThere (row ∷ rows) = ((w next : ℕ) → HasRegisters (row.instr (fields row.pattern w next))) × AreOperandsThere rows
 
-there_in : (rows : List Row) (w next : ℕ) (instr : Instr) → AreThere rows → decoded_by rows w next ≡ Some instr → HasRegisters instr
+there_in : (rows : List Row) (w next : ℕ) (instr : Instr) → AreOperandsThere rows → decoded_by rows w next ≡ Some instr → HasRegisters instr
 there_in [] w next instr h e = absurd (cc)
 there_in (row ∷ rows) w next instr h e = here (matches row w) (there_in rows w next instr h.1) e
   where
@@ -54,7 +54,7 @@ twelve_more lt = omega arith
 six_bits : {x : ℕ} → x < 64 → x < 256
 six_bits lt = omega arith
 
-all_there : AreThere table
+all_there : AreOperandsThere table
 all_there = (
   (λ w next. tt),
   (

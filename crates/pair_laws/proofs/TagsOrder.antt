@@ -19,7 +19,7 @@ use Rattle.pair_domain.specs.declared.tags.CompareTag.TheVariants as compare
 use Rattle.pair_domain.specs.declared.tags.ZeroTag.{ZeroTag}
 use Rattle.pair_domain.specs.declared.tags.ZeroTag.TheVariants as zero
 use Rattle.pair_domain.specs.declared.facts.PairFacts.{PairFacts}
-use Rattle.pair_domain.specs.Tags.{IsSumWithin, IsCompareWithin, IsZeroWithin, up_if, down_if}
+use Rattle.pair_domain.specs.Tags.{IsSumTagWithin, IsCompareWithin, IsZeroWithin, up_if, down_if}
 use Rattle.pair_domain.specs.Facts.{AreFactsWithin, IsKnownWithin}
 use Rattle.pair_domain.specs.Rank.{IsPair, SumFits, CompareFits, ZeroFits, FactsFit, KnownFits}
 use Rattle.pair_domain.specs.Rows.{up_tag, down_tag}
@@ -40,17 +40,17 @@ use Rattle.pair_laws.proofs.ToldLess.{AreBounds, bounds_at, bounds_of}
 -- ---- sums
 
 module _ (f f' : PairFacts) (le : AreFactsWithin f f') where
-  add_within : (d n m n' m' : ℕ) → d < 32 → AreBounds n m n' m' → IsSumWithin (sum_of_add f d n m) (sum_of_add f' d n' m')
+  add_within : (d n m n' m' : ℕ) → d < 32 → AreBounds n m n' m' → IsSumTagWithin (sum_of_add f d n m) (sum_of_add f' d n' m')
   add_within d n m n' m' lt b = by (is_odd d)
     where
-      by : (odd : Bool) → IsSumWithin (if odd then sum.None else up_tag d (interval_of f d) n m) (if odd then sum.None else up_tag d (interval_of f' d) n' m')
+      by : (odd : Bool) → IsSumTagWithin (if odd then sum.None else up_tag d (interval_of f d) n m) (if odd then sum.None else up_tag d (interval_of f' d) n' m')
       by true = tt
       by false = rows_are_monotone.up_tag d (interval_of f d) (interval_of f' d) n m n' m' (le.intervals (d / 2) (omega (arith, lt))) b.low b.high
 
-  sub_within : (d n m n' m' : ℕ) → d < 32 → AreBounds n m n' m' → IsSumWithin (sum_of_sub f d n m) (sum_of_sub f' d n' m')
+  sub_within : (d n m n' m' : ℕ) → d < 32 → AreBounds n m n' m' → IsSumTagWithin (sum_of_sub f d n m) (sum_of_sub f' d n' m')
   sub_within d n m n' m' lt b = by (is_odd d)
     where
-      by : (odd : Bool) → IsSumWithin (if odd then sum.None else down_tag d (interval_of f d) n m) (if odd then sum.None else down_tag d (interval_of f' d) n' m')
+      by : (odd : Bool) → IsSumTagWithin (if odd then sum.None else down_tag d (interval_of f d) n m) (if odd then sum.None else down_tag d (interval_of f' d) n' m')
       by true = tt
       by false = rows_are_monotone.down_tag d (interval_of f d) (interval_of f' d) n m n' m' (le.intervals (d / 2) (omega (arith, lt))) b.low b.high
 
@@ -68,7 +68,7 @@ module _ (f f' : PairFacts) (le : AreFactsWithin f f') where
       subst (λ (u : ZeroTag). IsZeroWithin (zero_high u d) (zero_high (zero.Byte x) d)) (sym within) (zeros_are_ordered.same (zero_high (zero.Byte x) d))
 
   module _ (s s' : AbsState) (n : ℕ) (formed : IsFormed s n) (within : IsStateWithin s s') where
-    sum_binary : (op : BinaryOp) (d r : ℕ) → d < 32 → r < 32 → IsSumWithin (sum_of_binary s.registers f op d r) (sum_of_binary s'.registers f' op d r)
+    sum_binary : (op : BinaryOp) (d r : ℕ) → d < 32 → r < 32 → IsSumTagWithin (sum_of_binary s.registers f op d r) (sum_of_binary s'.registers f' op d r)
     sum_binary binary.Cpc d r lt other = tt
     sum_binary binary.Sbc d r lt other = tt
     sum_binary binary.Add d r lt other = add_within d _ _ _ _ lt (bounds_at s s' n r formed within other)
@@ -82,7 +82,7 @@ module _ (f f' : PairFacts) (le : AreFactsWithin f f') where
     sum_binary binary.Mov d r lt other = tt
     sum_binary binary.Mul d r lt other = tt
 
-    sum_immediate : (op : ImmediateOp) (d k : ℕ) → d < 32 → IsSumWithin (sum_of_immediate f op d k) (sum_of_immediate f' op d k)
+    sum_immediate : (op : ImmediateOp) (d k : ℕ) → d < 32 → IsSumTagWithin (sum_of_immediate f op d k) (sum_of_immediate f' op d k)
     sum_immediate immediate.Cpi d k lt = tt
     sum_immediate immediate.Sbci d k lt = tt
     sum_immediate immediate.Subi d k lt = sub_within d k k k k lt (bounds_of k)
@@ -90,7 +90,7 @@ module _ (f f' : PairFacts) (le : AreFactsWithin f f') where
     sum_immediate immediate.Andi d k lt = tt
     sum_immediate immediate.Ldi d k lt = tt
 
-    sums_less : (instr : Instr) → HasRegisters instr → IsSumWithin (sum_of s.registers f instr) (sum_of s'.registers f' instr)
+    sums_less : (instr : Instr) → HasRegisters instr → IsSumTagWithin (sum_of s.registers f instr) (sum_of s'.registers f' instr)
     sums_less (i.Binary op d r) fit = sum_binary op d r fit.0 fit.1
     sums_less (i.Immediate op d k) fit = sum_immediate op d k fit.0
     sums_less _ fit = tt
@@ -158,7 +158,7 @@ module _ (f f' : PairFacts) (le : AreFactsWithin f f') where
       zero = zero_by (sets_flags instr);
     }
       where
-        sum_by : (b : Bool) → IsSumWithin (if b then sum_of s.registers f instr else g.sum) (if b then sum_of s'.registers f' instr else h.sum)
+        sum_by : (b : Bool) → IsSumTagWithin (if b then sum_of s.registers f instr else g.sum) (if b then sum_of s'.registers f' instr else h.sum)
         sum_by true = sums_less instr fit
         sum_by false = old.sum
 
@@ -390,8 +390,8 @@ tags_under s f instr (Some g) (Some h) is le = record {
     same : h ≡ facts_ended (is_one_of (written instr)) (sets_flags instr) (sets_carry instr) f
     same = same_Some h (facts_ended (is_one_of (written instr)) (sets_flags instr) (sets_carry instr) f) is
 
-    sum_by : (b : Bool) → h.sum ≡ sum_ended (is_one_of (written instr)) b f.sum → IsSumWithin (if b then sum_of s.registers f instr else g.sum) h.sum
-    sum_by true e = subst (IsSumWithin (sum_of s.registers f instr)) (sym (e ∙ sum_gone (is_one_of (written instr)) f.sum)) tt
+    sum_by : (b : Bool) → h.sum ≡ sum_ended (is_one_of (written instr)) b f.sum → IsSumTagWithin (if b then sum_of s.registers f instr else g.sum) h.sum
+    sum_by true e = subst (IsSumTagWithin (sum_of s.registers f instr)) (sym (e ∙ sum_gone (is_one_of (written instr)) f.sum)) tt
     sum_by false e = le.sum
 
     compare_by : (b : Bool) → h.compare ≡ compare_ended (is_one_of (written instr)) b f.compare → IsCompareWithin (if b then compare_of f instr else g.compare) h.compare

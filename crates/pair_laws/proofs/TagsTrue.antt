@@ -45,7 +45,7 @@ use Rattle.pair_rules.specs.Told.{interval_of, is_odd}
 use Rattle.pair_rules.specs.Tags.{sum_of_add, sum_of_sub, sum_of_binary, sum_of_immediate, sum_of, compare_high, compare_of_binary, compare_of_immediate, compare_of, zero_high, zero_of_binary, zero_of_immediate, zero_of_unary, zero_of, tagged}
 use Rattle.abs_state.specs.FlagsSet.{sets_flags, sets_carry}
 use Rattle.pair_rules.specs.Fits.{HasRegisters}
-use Rattle.pair_laws.specs.Laws.{AreBytes, IsBefore, registers_set, sreg_set}
+use Rattle.pair_laws.specs.Laws.{AreRegisterBytes, IsBefore, registers_set, sreg_set}
 use Rattle.pair_laws.proofs.Numbers.{set_there, set_other, set_word, low_is}
 use Rattle.pair_laws.proofs.ToldTrue.{IsOperand, operand_at, operand_of}
 
@@ -87,7 +87,7 @@ even_is d e = by (cases_eq (d % 2) 1)
 no_borrow : (x z : ℕ) → nat_lt x (z + from_bool false) ≡ nat_lt x z
 no_borrow x z = let e : z + 0 ≡ z = omega arith in ap (nat_lt x) e
 
-module _ (registers : List ℕ) (count : length registers ≡ 32) (bytes : AreBytes registers) (f : PairFacts) (sreg : ℕ) (h : HoldsAt (Some f) registers sreg)
+module _ (registers : List ℕ) (count : length registers ≡ 32) (bytes : AreRegisterBytes registers) (f : PairFacts) (sreg : ℕ) (h : HoldsAt (Some f) registers sreg)
     (d low high z : ℕ) (small : d < 32) (operand : IsOperand low high z) where
   low_row : 2 * (d / 2) ≡ d → IsRow (interval_of f d) low high (slice_index registers d) (slice_index registers (d + 1)) z
   low_row even = record {
@@ -187,7 +187,7 @@ kept_zero registers count (zero.Byte x) d b s c lt h = by (is_odd d && (x + 1 ==
 
 -- ---- comparisons
 
-high_compared : (registers : List ℕ) → AreBytes registers → (t : CompareTag) (d r s : ℕ) → CompareFits t
+high_compared : (registers : List ℕ) → AreRegisterBytes registers → (t : CompareTag) (d r s : ℕ) → CompareFits t
     → CompareHolds registers t (flag s 0) (flag s 1) (flag s 4)
     → CompareHolds registers (compare_high t d r) (flag (flags_of_difference (slice_index registers d) (slice_index registers r) (flag s 0) true s) 0)
     (flag (flags_of_difference (slice_index registers d) (slice_index registers r) (flag s 0) true s) 1)

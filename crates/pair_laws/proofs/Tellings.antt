@@ -29,14 +29,14 @@ IsToldLess (told.Kept n i) (told.Kept k j) = (n ≡ k) × IsIntervalWithin i j
 IsToldLess (told.Computed n i) (told.Computed k j) = (n ≡ k) × IsIntervalWithin i j
 IsToldLess t u = ⊥
 
-abbrev pub IsSmall : Option Interval → Type 0
-IsSmall None = ⊤
-IsSmall (Some j) = j.high < 65536
+abbrev pub IsIntervalSmall : Option Interval → Type 0
+IsIntervalSmall None = ⊤
+IsIntervalSmall (Some j) = j.high < 65536
 
-pub modulo_small : (a b : ℕ) → IsSmall (modulo a b)
+pub modulo_small : (a b : ℕ) → IsIntervalSmall (modulo a b)
 modulo_small a b = by (a / 65536 == b / 65536)
   where
-    by : (same : Bool) → IsSmall (if same then Some (record { low = a % 65536; high = b % 65536 }) else None)
+    by : (same : Bool) → IsIntervalSmall (if same then Some (record { low = a % 65536; high = b % 65536 }) else None)
     by true = omega arith
     by false = tt
 
@@ -46,7 +46,7 @@ pub computed_true : (n : ℕ) (o : Option Interval) (registers : List ℕ) → T
 computed_true n None registers h = tt
 computed_true n (Some j) registers h = h
 
-pub computed_fits : (n : ℕ) (o : Option Interval) → n < 16 → IsSmall o → ToldFits (computed n o)
+pub computed_fits : (n : ℕ) (o : Option Interval) → n < 16 → IsIntervalSmall o → ToldFits (computed n o)
 computed_fits n None lt small = tt
 computed_fits n (Some j) lt small = (lt, small)
 
@@ -67,7 +67,7 @@ high_true d o registers h = by (is_odd d) refl
     by true e = computed_true (d / 2) o registers (h (odd_is d e))
     by false e = tt
 
-pub high_fits : (d : ℕ) (o : Option Interval) → d < 32 → IsSmall o → ToldFits (computed_high d o)
+pub high_fits : (d : ℕ) (o : Option Interval) → d < 32 → IsIntervalSmall o → ToldFits (computed_high d o)
 high_fits d o lt small = by (is_odd d)
   where
     by : (odd : Bool) → ToldFits (if odd then computed (d / 2) o else told.Nothing)
@@ -90,7 +90,7 @@ unless_true d n o registers h = by (d / 2 == n) refl
     by true e = tt
     by false e = computed_true n o registers (h (λ same. false≢true (sym e ∙ eq-eqb (d / 2) n same)))
 
-pub unless_fits : (d n : ℕ) (o : Option Interval) → n < 16 → IsSmall o → ToldFits (unless_set d n o)
+pub unless_fits : (d n : ℕ) (o : Option Interval) → n < 16 → IsIntervalSmall o → ToldFits (unless_set d n o)
 unless_fits d n o lt small = by (d / 2 == n)
   where
     by : (set : Bool) → ToldFits (if set then told.Nothing else computed n o)

@@ -11,7 +11,7 @@ use Rattle.avr_model.specs.declared.instruction.Pointer.TheVariants as pointer
 use Rattle.pair_domain.specs.declared.tags.SumTag.{SumTag}
 use Rattle.pair_domain.specs.declared.tags.SumTag.TheVariants as sum
 use Rattle.pair_domain.specs.declared.facts.PairFacts.{PairFacts}
-use Rattle.pair_domain.specs.Tags.{IsSumWithin}
+use Rattle.pair_domain.specs.Tags.{IsSumTagWithin}
 use Rattle.pair_domain.specs.Facts.{interval_at, AreFactsWithin}
 use Rattle.pair_domain.specs.Rank.{SumFits, FactsFit}
 use Rattle.pair_domain.specs.Rows.{IsToldWithin, carried_up, carried_down}
@@ -40,7 +40,7 @@ bounds_at s s' n r formed le lt =
 pub bounds_of : (k : ℕ) → AreBounds k k k k
 bounds_of k = record { ordered = omega arith; low = omega arith; high = omega arith }
 
-carried_less : (t t' : SumTag) (d n m n' m' : ℕ) → SumFits t → SumFits t' → IsSumWithin t t' → AreBounds n m n' m' → IsToldWithin (carried t d n m) (carried t' d n' m')
+carried_less : (t t' : SumTag) (d n m n' m' : ℕ) → SumFits t → SumFits t' → IsSumTagWithin t t' → AreBounds n m n' m' → IsToldWithin (carried t d n m) (carried t' d n' m')
 carried_less t sum.None d n m n' m' fits fits' le b = tt
 carried_less t (sum.Down r a c) d n m n' m' fits fits' le b = tt
 carried_less sum.None (sum.Up s a' c') d n m n' m' fits fits' le b = absurd (le fits'.near)
@@ -52,7 +52,7 @@ carried_less (sum.Up r a c) (sum.Up s a' c') d n m n' m' fits fits' le b =
     by true = rows_are_monotone.carried_up a c a' c' n m n' m' fits.ordered b.ordered (le fits'.near).low (le fits'.near).high b.low b.high
     by false = tt
 
-borrowed_less : (t t' : SumTag) (d n m n' m' : ℕ) → SumFits t → SumFits t' → IsSumWithin t t' → AreBounds n m n' m' → IsToldWithin (borrowed t d n m) (borrowed t' d n' m')
+borrowed_less : (t t' : SumTag) (d n m n' m' : ℕ) → SumFits t → SumFits t' → IsSumTagWithin t t' → AreBounds n m n' m' → IsToldWithin (borrowed t d n m) (borrowed t' d n' m')
 borrowed_less t sum.None d n m n' m' fits fits' le b = tt
 borrowed_less t (sum.Up r a c) d n m n' m' fits fits' le b = tt
 borrowed_less sum.None (sum.Down s a' c') d n m n' m' fits fits' le b = absurd (le fits'.near)

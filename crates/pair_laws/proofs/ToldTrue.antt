@@ -39,9 +39,9 @@ use Rattle.abs_state.specs.Laws.{HoldsAt}
 use Rattle.pair_rules.specs.declared.told.Told.TheVariants as told
 use Rattle.pair_rules.specs.Told.{interval_of, computed, kept_same, carried, borrowed, told_add, told_adc, told_sub, told_sbc, unless_set, told_pointer, told_binary, told_immediate, told_by}
 use Rattle.pair_rules.specs.Fits.{HasRegisters}
-use Rattle.pair_laws.specs.Laws.{AreBytes, IsBefore, registers_set}
+use Rattle.pair_laws.specs.Laws.{AreRegisterBytes, IsBefore, registers_set}
 use Rattle.pair_laws.proofs.Numbers.{set_word, word_kept, high_is, same_is}
-use Rattle.pair_laws.proofs.Tellings.{TellsTrue, ToldFits, IsSmall, modulo_small, computed_true, computed_fits, high_true, high_fits, unless_true, unless_fits}
+use Rattle.pair_laws.proofs.Tellings.{TellsTrue, ToldFits, IsIntervalSmall, modulo_small, computed_true, computed_fits, high_true, high_fits, unless_true, unless_fits}
 
 -- ---- what an operand is known to be
 
@@ -62,7 +62,7 @@ operand_of k lt = record { low = omega arith; high = omega arith; byte = lt }
 
 -- ---- the high byte of a pair
 
-module _ (registers : List ℕ) (count : length registers ≡ 32) (bytes : AreBytes registers) (f : PairFacts) (sreg : ℕ) (h : HoldsAt (Some f) registers sreg)
+module _ (registers : List ℕ) (count : length registers ≡ 32) (bytes : AreRegisterBytes registers) (f : PairFacts) (sreg : ℕ) (h : HoldsAt (Some f) registers sreg)
     (d low high z : ℕ) (small : d < 32) (operand : IsOperand low high z) where
   row : IsRow (interval_of f d) low high (slice_index registers (2 * (d / 2))) (slice_index registers (2 * (d / 2) + 1)) z
   row = record {
@@ -239,21 +239,21 @@ module _ (o : Origin) (m : State) (s : AbsState) (n : ℕ) (at : IsBefore o s m)
 
 -- ---- it fits
 
-carried_small : (t : SumTag) (d low high : ℕ) → IsSmall (carried t d low high)
+carried_small : (t : SumTag) (d low high : ℕ) → IsIntervalSmall (carried t d low high)
 carried_small sum.None d low high = tt
 carried_small (sum.Down r a b) d low high = tt
 carried_small (sum.Up r a b) d low high = by (r + 1 == d)
   where
-    by : (same : Bool) → IsSmall (if same then carried_up a b low high else None)
+    by : (same : Bool) → IsIntervalSmall (if same then carried_up a b low high else None)
     by true = modulo_small _ _
     by false = tt
 
-borrowed_small : (t : SumTag) (d low high : ℕ) → IsSmall (borrowed t d low high)
+borrowed_small : (t : SumTag) (d low high : ℕ) → IsIntervalSmall (borrowed t d low high)
 borrowed_small sum.None d low high = tt
 borrowed_small (sum.Up r a b) d low high = tt
 borrowed_small (sum.Down r a b) d low high = by (r + 1 == d)
   where
-    by : (same : Bool) → IsSmall (if same then carried_down a b low high else None)
+    by : (same : Bool) → IsIntervalSmall (if same then carried_down a b low high else None)
     by true = modulo_small _ _
     by false = tt
 

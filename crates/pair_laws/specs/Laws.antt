@@ -28,8 +28,8 @@ use Rattle.pair_rules.specs.Fits.{HasRegisters, flash_at, CoversFlash, IsPlain}
 use Rattle.pair_rules.specs.Refined.{refined}
 use Rattle.pair_rules.specs.Values.{doubled}
 
-abbrev pub AreBytes : List ℕ → Type 0
-AreBytes registers = (r : ℕ) → slice_index registers r < 256
+abbrev pub AreRegisterBytes : List ℕ → Type 0
+AreRegisterBytes registers = (r : ℕ) → slice_index registers r < 256
 
 -- the registers and the status register behind an instruction, before a byte is stored
 abbrev pub registers_set : List ℕ → State → Instr → ℕ → ℕ → List ℕ
@@ -58,7 +58,7 @@ pub record ValuesAreCovered : Type 0 where
 -- the state stands for the machine before the instruction
 pub record IsBefore (o : Origin) (s : AbsState) (m : State) : Type 0 where
   pub count : length m.registers ≡ 32
-  pub bytes : AreBytes m.registers
+  pub bytes : AreRegisterBytes m.registers
   pub registers : RegistersStand o s.registers m.registers
   pub flags : FlagsStand o s.flags m.sreg
   pub facts : HoldsAt s.facts m.registers m.sreg

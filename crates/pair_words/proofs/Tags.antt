@@ -72,11 +72,11 @@ pair_alone k r h = ap pair_at (sym (append-nil (hex_digits r 2))) ∙ pair_again
 
 -- ---- the sum tag
 
-record EndsRead (bs : List ℕ) (r a b : ℕ) : Type 0 where
+record EndsOfTagRead (bs : List ℕ) (r a b : ℕ) : Type 0 where
   pub text : bs ≡ ends_text r a b
   pub fit : EndsFit r a b
 
-ends_take : WordLaws → (bs : List ℕ) (z : ℕ × ℕ × ℕ) → ends_in bs ≡ Some z → EndsRead bs z.0 z.1 z.2
+ends_take : WordLaws → (bs : List ℕ) (z : ℕ × ℕ × ℕ) → ends_in bs ≡ Some z → EndsOfTagRead bs z.0 z.1 z.2
 unfolding ends_in
 ends_take k bs z e =
     let r = bind_some (pair_at bs) _ z e in
@@ -97,7 +97,7 @@ ends_take k bs z e =
       near = less_from_test b.0.0 (a.0.0 + 65535) near.1;
       small = omega (arith, third.1);
     } in
-    let P : ℕ × ℕ × ℕ → Type 0 = λ y. EndsRead bs y.0 y.1 y.2 in
+    let P : ℕ × ℕ × ℕ → Type 0 = λ y. EndsOfTagRead bs y.0 y.1 y.2 in
     subst P last.1 (record { text = first.0 ∙ ap (λ (xs : List ℕ). hex_digits r.0.0 2 ++ xs) ends; fit = fit })
 
 ends_again : WordLaws → (r a b : ℕ) → EndsFit r a b → ends_in (ends_text r a b) ≡ Some (r, a, b)

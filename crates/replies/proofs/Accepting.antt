@@ -16,14 +16,14 @@ use Rattle.elf_load.specs.Elf.{is_elf}
 use Rattle.flash_image.specs.Narrowing.{NarrowingIsExact, outside_word}
 use Rattle.indirect_targets.specs.declared.fault.AssumeText.{AssumeText}
 use Rattle.indirect_targets.specs.Reading.{entries_in}
-use Rattle.indirect_targets.specs.Exact.{IsDue, ReadingIsExact}
+use Rattle.indirect_targets.specs.Exact.{IsListDue, ReadingIsExact}
 use Rattle.witness_replay.specs.Spelling.{Plan}
 use Rattle.witness_replay.specs.Replay.{Report as Replayed, replay_of}
 use Rattle.certificate.specs.Claims.{Claim, IsClaim}
 use Rattle.certificate.specs.Valid.{IsSound, IsAttained, IsValid}
 use Rattle.cert_format.specs.declared.fault.CertFault.{CertFault}
 use Rattle.cert_format.specs.Reading.{certificate_in}
-use Rattle.cert_format.specs.Exact.{ReadIsSpelled, SpelledIsRead}
+use Rattle.cert_format.specs.Exact.{ReadCertificateIsSpelled, SpelledCertificateIsRead}
 use Rattle.cert_check.specs.Laws.{VerdictsAreOne, SoundCertificatesBoundEveryRun}
 use Rattle.cert_check.specs.Verdict.{IsVerdict}
 use Rattle.cert_check.specs.declared.verdict.Reason.{Reason}
@@ -168,7 +168,7 @@ module _ (exact : ReadingIsExact) where
   zero_list None next text h = ([], refl, h)
   zero_list (Some bytes) next text h =
       let r = zero_read (entries_in bytes) next text h in
-      (r.0, subst (IsDue bytes) r.1 (exact.read bytes), r.2)
+      (r.0, subst (IsListDue bytes) r.1 (exact.read bytes), r.2)
 
   pub list_zero : (list : Option (List ℕ)) (A : List Entry) (next : List Entry → Reply) (status : ℕ) (text : List ℕ) → IsListOf list A → next A status text → WithList list next status text
   list_zero None A next status text e h = subst (λ l. next l status text) e h
@@ -197,16 +197,16 @@ attains_by bound (Err step) h = absurd h
 attains_by bound (Ok r) h = let d : (r.depth == bound) ≡ true = (let e = h.1 in grind (arith, nat_tests)) in rw (h.0, d) refl
 
 -- the schedule attains the bound, and what follows is answered
-pub record IsTold (words : List ℕ) (A : List Entry) (next : Reply) (bound : ℕ) (w : Option Plan) (text : List ℕ) : Type 0 where
+pub record IsAttainmentTold (words : List ℕ) (A : List Entry) (next : Reply) (bound : ℕ) (w : Option Plan) (text : List ℕ) : Type 0 where
   pub attained : IsAttained words A bound w
   pub says : next 0 text
 
 zero_attained : (words : List ℕ) (A : List Entry) (next : Reply) (bound : ℕ) (plan : Plan) (attained : Bool) (text : List ℕ) → attains bound (replay_of words A plan) ≡ attained
-    → AttainedBy next attained 0 text → IsTold words A next bound (Some plan) text
+    → AttainedBy next attained 0 text → IsAttainmentTold words A next bound (Some plan) text
 zero_attained words A next bound plan true text e h = record { attained = attained_by bound (replay_of words A plan) e; says = h }
 zero_attained words A next bound plan false text e h = absurd (no_one h.0)
 
-zero_witness : (words : List ℕ) (A : List Entry) (next : Reply) (bound : ℕ) (w : Option Plan) (text : List ℕ) → WitnessReply words A next bound w 0 text → IsTold words A next bound w text
+zero_witness : (words : List ℕ) (A : List Entry) (next : Reply) (bound : ℕ) (w : Option Plan) (text : List ℕ) → WitnessReply words A next bound w 0 text → IsAttainmentTold words A next bound w text
 zero_witness words A next bound None text h = record { attained = tt; says = h }
 zero_witness words A next bound (Some plan) text h = zero_attained words A next bound plan (attains bound (replay_of words A plan)) text refl h
 
@@ -220,12 +220,12 @@ witness_zero words A next bound (Some plan) status text h k = subst (λ b. Attai
 -- the certificate is sound, its schedule attains its bound, and what follows is answered
 pub record IsAccepted (words : List ℕ) (A : List Entry) (next : Claim → Reply) (c : Claim) (text : List ℕ) : Type 0 where
   pub sound : IsSound words A c
-  pub told : IsTold words A (next c) c.bound c.witness text
+  pub told : IsAttainmentTold words A (next c) c.bound c.witness text
 
 zero_verdict : (words : List ℕ) (A : List Entry) (next : Claim → Reply) (c : Claim) (v : Verdict) (text : List ℕ) → IsVerdict words A c v → VerdictReply words A next c v 0 text → IsAccepted words A next c text
 zero_verdict words A next c (Rejected reason) text is h = absurd (no_one h.0)
 zero_verdict words A next c (Accepted bound) text is h =
-    record { sound = is.0; told = subst (λ b. IsTold words A (next c) b c.witness text) is.1 (zero_witness words A (next c) bound c.witness text h) }
+    record { sound = is.0; told = subst (λ b. IsAttainmentTold words A (next c) b c.witness text) is.1 (zero_witness words A (next c) bound c.witness text h) }
 
 zero_certificate : (words : List ℕ) (A : List Entry) (next : Claim → Reply) (x : Result Claim CertFault) (text : List ℕ) → CertificateReply words A next x 0 text
     → (c : Claim) × (x ≡ Ok c) × IsAccepted words A next c text
@@ -290,16 +290,16 @@ abbrev JudgeReply : Device → Accepting → List ℕ → List ℕ → Option (L
 JudgeReply device next firmware second list = WithImage device firmware (λ words. WithList list (λ A. CertificateReply words A (next firmware words A) (certificate_in second)))
 
 -- the answer of a command that judges the certificate of this name for the firmware of that one, with what follows where it accepts
-abbrev pub IsJudgement : Device → Accepting → List ℕ → List ℕ → Option (List ℕ) → Contents → Reply
-IsJudgement device next fw cert assume seen = WithFile fw seen.firmware (λ firmware. WithFile cert seen.second (λ s. WithOptional assume seen.assumptions (λ list. JudgeReply device next firmware s list)))
+abbrev pub IsReplyJudged : Device → Accepting → List ℕ → List ℕ → Option (List ℕ) → Contents → Reply
+IsReplyJudged device next fw cert assume seen = WithFile fw seen.firmware (λ firmware. WithFile cert seen.second (λ s. WithOptional assume seen.assumptions (λ list. JudgeReply device next firmware s list)))
 
 module _
     (one : (bytes words : List ℕ) → IsRawImage bytes words → words ≡ raw_words bytes)
     (images : (bytes : List ℕ) → length bytes % 2 ≡ 0 → length bytes ≤ 2 * WORDS → IsRawImage bytes (raw_words bytes))
     (narrowing : NarrowingIsExact)
     (lists : ReadingIsExact)
-    (read : ReadIsSpelled)
-    (spelled : SpelledIsRead)
+    (read : ReadCertificateIsSpelled)
+    (spelled : SpelledCertificateIsRead)
     (bounds : SoundCertificatesBoundEveryRun)
     (device : Device)
     (next : Accepting) where
@@ -316,7 +316,7 @@ module _
     is : certificate_in certificate ≡ Ok claim
     accepted : IsAccepted (firmware_words device firmware) A (next firmware (firmware_words device firmware) A) claim text
 
-  zero_judgement : (fw cert : List ℕ) (assume : Option (List ℕ)) (seen : Contents) (text : List ℕ) → IsJudgement device next fw cert assume seen 0 text → IsZero assume seen text
+  zero_judgement : (fw cert : List ℕ) (assume : Option (List ℕ)) (seen : Contents) (text : List ℕ) → IsReplyJudged device next fw cert assume seen 0 text → IsZero assume seen text
   zero_judgement fw cert assume seen text h =
       let first = zero_file fw seen.firmware _ text h in
       let second = zero_file cert seen.second _ text first.2 in
@@ -353,7 +353,7 @@ module _
     pub told : next firmware words A claim 0 text
 
   pub judgement_holds : (fw cert : List ℕ) (assume : Option (List ℕ)) (seen : Contents) (text : List ℕ) → ((firmware : List ℕ) → seen.firmware ≡ Whole firmware → AreWords (firmware_words device firmware))
-      → IsJudgement device next fw cert assume seen 0 text → HoldsOf assume seen text
+      → IsReplyJudged device next fw cert assume seen 0 text → HoldsOf assume seen text
   judgement_holds fw cert assume seen text has h =
       let z = zero_judgement fw cert assume seen text h in
       let spelling = read z.certificate z.claim z.is in
@@ -387,7 +387,7 @@ module _
   module _ (fw cert : List ℕ) (assume : Option (List ℕ)) (seen : Contents) (firmware certificate : List ℕ) (list : Option (List ℕ)) (words : List ℕ) (claim : Claim) (A : List Entry)
       (are : AreRead assume seen firmware certificate list) (stand : StandFor device firmware certificate list words claim A) where
     -- the answer is by the verdict on the certificate
-    judged_so : (status : ℕ) (text : List ℕ) → IsJudgement device next fw cert assume seen status text → JudgedReply words A (next firmware words A) claim status text
+    judged_so : (status : ℕ) (text : List ℕ) → IsReplyJudged device next fw cert assume seen status text → JudgedReply words A (next firmware words A) claim status text
     judged_so status text h =
         let first = file_read fw seen.firmware firmware _ status text are.loaded.firmware_read h in
         let second = file_read cert seen.second certificate _ status text are.second_read first in
@@ -397,11 +397,11 @@ module _
         (list_read list A (λ B. CertificateReply words B (next firmware words B) (certificate_in certificate)) status text stand.mean.assumptions image)
 
     -- the certificate is valid and what follows is answered, or it isn't valid
-    pub judged_by : VerdictsAreOne → (status : ℕ) (text : List ℕ) → IsJudgement device next fw cert assume seen status text → IsJudged words A (next firmware words A) claim status text
+    pub judged_by : VerdictsAreOne → (status : ℕ) (text : List ℕ) → IsReplyJudged device next fw cert assume seen status text → IsJudged words A (next firmware words A) claim status text
     judged_by verdicts status text h =
         let j = judged_so status text h in by_verdict verdicts words A (next firmware words A) claim stand.fits.claim j.verdict status text j.is j.reply
 
-    pub valid_judged : (status : ℕ) (text : List ℕ) → IsValid words A claim → next firmware words A claim status text → IsJudgement device next fw cert assume seen status text
+    pub valid_judged : (status : ℕ) (text : List ℕ) → IsValid words A claim → next firmware words A claim status text → IsReplyJudged device next fw cert assume seen status text
     valid_judged status text v says =
         file_zero fw seen.firmware firmware _ status text are.loaded.firmware_read
         (file_zero cert seen.second certificate _ status text are.second_read

@@ -17,17 +17,17 @@ use Rattle.indirect_targets.specs.Exact.{ReadingIsExact}
 use Rattle.local_rules.specs.Machine.{AreWords}
 use Rattle.witness_replay.specs.Runs.{ReplaysAreRuns}
 use Rattle.certificate.specs.Claims.{Claim}
-use Rattle.cert_format.specs.Exact.{ReadIsSpelled, SpelledIsRead}
+use Rattle.cert_format.specs.Exact.{ReadCertificateIsSpelled, SpelledCertificateIsRead}
 use Rattle.cert_check.specs.Laws.{VerdictsAreOne, SoundCertificatesBoundEveryRun}
 use Rattle.round_laws.specs.Laws.{RoundsAreLeast, SolutionsAreValid}
-use Rattle.solution_laws.specs.Answers.{AnswersAreOne}
+use Rattle.round_solutions.specs.Answers.{AnswersAreOne}
 use Rattle.witness_search.specs.Laws.{WaypointsAreOne}
 use Rattle.demo_image.specs.Image.{demo_words}
 use Rattle.certificate.specs.Valid.{IsSound, IsValid}
 use Rattle.device_hooks.specs.declared.devices.DevicesFault.{DevicesFault}
 use Rattle.device_hooks.specs.Spelling.{Setup}
 use Rattle.device_hooks.specs.Reading.{setup_in}
-use Rattle.device_hooks.specs.Exact.{IsReading as IsDevices, ReadIsSpelled as DevicesAreSpelled, SpelledIsRead as DevicesAreRead}
+use Rattle.device_hooks.specs.Exact.{IsSetupReading as IsDevices, ReadSetupIsSpelled as DevicesAreSpelled, SpelledSetupIsRead as DevicesAreRead}
 use Rattle.device_hooks.specs.Simulating.{simulation_of}
 use Rattle.device_hooks.specs.Laws.{SimulationsAreBounded}
 use Rattle.chain_explain.specs.Laws.{ExplanationsTell}
@@ -47,7 +47,7 @@ use Rattle.replies.specs.Texts.{devices_refused, accepted, run_text}
 use Rattle.replies.specs.Reading.{Whole, Contents, certificate_cap}
 use Rattle.replies.specs.Reply.{Reply, WithOptional, WithImage, WithList, ClearSays, ClearReply, PlacesReply, AcceptedReply, AnalyseReply, SimulateReply, DemoReply, IsReply}
 use Rattle.replies.specs.Headline.{AreLoaded, IsListOf, StandFor, Shows, HoldsAsRead, IsLeastAsRead, IsAttainedAsRead, IsSimulatedAsRead, IsMeasured, SaysWhether, AcceptsExactly, AnswersRounds, AnswersDevices, AcceptingRepliesHold, RepliesAreExact}
-use Rattle.replies.proofs.Accepting.{zero_file, zero_optional, zero_image, zero_list, zero_refused, no_one, IsJudged, file_read, optional_read, Accepting, IsJudgement, HoldsOf, judgement_holds, image_read, list_read, judged_by, valid_judged}
+use Rattle.replies.proofs.Accepting.{zero_file, zero_optional, zero_image, zero_list, zero_refused, no_one, IsJudged, file_read, optional_read, Accepting, IsReplyJudged, HoldsOf, judgement_holds, image_read, list_read, judged_by, valid_judged}
 use Rattle.replies.proofs.Attaining.{written_attained}
 use Rattle.replies.proofs.Least.{AnalysesFit, analysis_best, best_bounds, Ends, analyse_ends, says_ends, not_written}
 
@@ -83,8 +83,8 @@ module _
     (images : (bytes : List ℕ) → length bytes % 2 ≡ 0 → length bytes ≤ 2 * WORDS → IsRawImage bytes (raw_words bytes))
     (narrowing : NarrowingIsExact)
     (lists : ReadingIsExact)
-    (read : ReadIsSpelled)
-    (spelled : SpelledIsRead)
+    (read : ReadCertificateIsSpelled)
+    (spelled : SpelledCertificateIsRead)
     (verdicts : VerdictsAreOne)
     (bounds : SoundCertificatesBoundEveryRun)
     (answers : AnswersAreOne)
@@ -161,7 +161,7 @@ module _
   accepts_valid : (command : Command) (fw cert : List ℕ) (assume : Option (List ℕ)) (seen : Contents) (status : ℕ) (text : List ℕ)
       → ((bytes words : List ℕ) (A : List Entry) (c : Claim) (s : ℕ) (t : List ℕ) → AcceptedReply command bytes words A c s t → s ≡ 0)
       → ((words : List ℕ) (A : List Entry) (c : Claim) (s : ℕ) → SaysValid words A c s → SaysWhether command words A c s)
-      → IsJudgement (device_for command) (AcceptedReply command) fw cert assume seen status text → AcceptsExactly command assume seen status
+      → IsReplyJudged (device_for command) (AcceptedReply command) fw cert assume seen status text → AcceptsExactly command assume seen status
   accepts_valid command fw cert assume seen status text zero says h firmware certificate list words claim A are stand =
       says words A claim status
       (accepts_by words A (AcceptedReply command firmware words A) claim status text (zero firmware words A claim)
@@ -203,7 +203,7 @@ module _
   no_list None A e h = sym h
   no_list (Some bytes) A e h = absurd (let wrong = e in cc)
 
-  clear_read : (device : Device) (fw cert : List ℕ) (seen : Contents) (status : ℕ) (text : List ℕ) → IsJudgement device (AcceptedReply (Clear device fw cert)) fw cert None seen status text
+  clear_read : (device : Device) (fw cert : List ℕ) (seen : Contents) (status : ℕ) (text : List ℕ) → IsReplyJudged device (AcceptedReply (Clear device fw cert)) fw cert None seen status text
       → AcceptsExactly (Clear device fw cert) None seen status
   clear_read device fw cert seen status text h firmware certificate list words claim A are stand =
       let empty : [] ≡ A = no_list list A are.loaded.list_read stand.mean.assumptions in

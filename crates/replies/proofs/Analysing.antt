@@ -6,7 +6,7 @@ use Rattle.certificate.specs.Claims.{Claim}
 use Rattle.cert_words.specs.Text.{text_of}
 use Rattle.round_rules.specs.declared.refusal.Refusal.{Refusal}
 use Rattle.round_rules.specs.declared.refusal.Refusal.TheVariants.{Memory}
-use Rattle.solution_laws.specs.Answers.{AnswersAreOne}
+use Rattle.round_solutions.specs.Answers.{AnswersAreOne}
 use Rattle.witness_search.specs.Laws.{WaypointsAreOne}
 use Rattle.witness_search.specs.Trials.{IsFound}
 use Rattle.demo_image.specs.Image.{demo_words}

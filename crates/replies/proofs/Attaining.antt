@@ -10,27 +10,27 @@ use Rattle.cert_words.specs.Text.{text_of}
 use Rattle.cert_writing.specs.Sizes.{HasFewChoices, TextsFit}
 use Rattle.guided_trials.specs.declared.guide.Guide.{Guide}
 use Rattle.guided_trials.specs.Guides.{guide_of}
-use Rattle.guided_trials.specs.Trials.{fill_of, trial_of, IsFirst, IsFound}
+use Rattle.guided_trials.specs.Trials.{fill_of, trial_of, IsFirstGuided, IsGuidedFound}
 use Rattle.guided_trials.specs.Attaining.{IsScheduled, IsCompleted}
 use Rattle.guided_trials.specs.Laws.{TrialsAreLed}
 use Rattle.guided_trials.proofs.AllLaws.{claim_with, sound_with, attained_where}
 use Rattle.replies.specs.Reading.{certificate_cap}
 use Rattle.replies.specs.Reply.{AttainReply}
-use Rattle.replies.specs.Headline.{IsReached, IsWrittenAttained}
+use Rattle.replies.specs.Headline.{IsDepthReached, IsWrittenAttained}
 use Rattle.replies.proofs.Trials.{same_runs, same_plan}
 use Rattle.replies.proofs.Least.{reached}
 
 -- ---- what trials find is one
 
 module _ (words : List ℕ) (A : List Entry) (g : Guide) (n : ℕ) where
-  first_one : (a b : Plan) → IsFirst words A g n a → IsFirst words A g n b → a ≡ b
+  first_one : (a b : Plan) → IsFirstGuided words A g n a → IsFirstGuided words A g n b → a ≡ b
   first_one a b h k =
       let trial : h.trial ≡ k.trial = same_if_neither h.trial k.trial (λ lt. k.failed h.trial lt h.succeeds) (λ lt. h.failed k.trial lt k.succeeds) in
       let fill : a.fill ≡ b.fill = h.schedule.fill ∙ ap (fill_of g) trial ∙ sym k.schedule.fill in
       let choices : choices_of a.runs ≡ choices_of b.runs = h.schedule.choices ∙ ap (trial_of words A g) trial ∙ sym k.schedule.choices in
       same_plan a b fill (same_runs None None most_choices most_choices a.runs b.runs h.schedule.fits.runs_fit k.schedule.fits.runs_fit choices)
 
-  found_one : (p q : Option Plan) → IsFound words A g n p → IsFound words A g n q → p ≡ q
+  found_one : (p q : Option Plan) → IsGuidedFound words A g n p → IsGuidedFound words A g n q → p ≡ q
   found_one None None h k = refl
   found_one None (Some b) h k = absurd (h k.trial k.among k.succeeds)
   found_one (Some a) None h k = absurd (k h.trial h.among h.succeeds)
@@ -57,7 +57,7 @@ module _ (led : TrialsAreLed) (fit : TextsFit) (words : List ℕ) (A : List Entr
   schedule_fits None (Some plan) fits h = h.schedule.fits
   schedule_fits (Some p) found fits h = subst (λ (w : Option Plan). IfSome w IsSchedule) (sym h) fits
 
-  few_found : (found : Option Plan) → IsFound words A (guide_of words A c) n found → IfSome found HasFewChoices
+  few_found : (found : Option Plan) → IsGuidedFound words A (guide_of words A c) n found → IfSome found HasFewChoices
   few_found None h = tt
   few_found (Some plan) h = omega (arith, ap length h.schedule.choices, led.short words A (guide_of words A c) h.trial)
 
@@ -89,6 +89,6 @@ module _ (led : TrialsAreLed) (fit : TextsFit) (words : List ℕ) (A : List Entr
         completed = h.completed;
         attained = attained_where words A n c h.claim h.completed;
         valid = valid_as h.claim h.completed h.attained valid.sound;
-        reached = λ e. subst (IsReached words A) (sym (bound_as h.claim h.completed)) (reached runs words A c.bound h.claim.witness fits.schedule h.attained e);
+        reached = λ e. subst (IsDepthReached words A) (sym (bound_as h.claim h.completed)) (reached runs words A c.bound h.claim.witness fits.schedule h.attained e);
         short = λ le. subst (λ (t : List ℕ). length t ≤ certificate_cap) (sym h.says.1) (short_by h.claim c.witness refl h.completed.schedule h.completed.same fits le);
       }

@@ -20,7 +20,7 @@ use Rattle.round_rules.specs.declared.refusal.Refusal.TheVariants as refusal
 use Rattle.round_rules.specs.Refusals.{Test, over, faulty, re_entry, recursion, too_deep, refusal_of, GoesBeyond}
 use Rattle.round_rules.specs.Solutions.{IsAnswer, IsRefusal, IsWhyNot}
 use Rattle.round_laws.specs.Laws.{RoundsAreLeast, SolutionsAreValid}
-use Rattle.solution_laws.specs.Answers.{AnswersAreOne}
+use Rattle.round_solutions.specs.Answers.{AnswersAreOne}
 use Rattle.witness_search.specs.Laws.{TrialsAreShort}
 use Rattle.witness_search.specs.Trials.{IsFound}
 use Rattle.witness_search.specs.declared.waypoint.Waypoint.{Waypoint}
@@ -29,7 +29,7 @@ use Rattle.replies.specs.Texts.{why_not_status, why_not_text}
 use Rattle.replies.specs.Reading.{certificate_cap}
 use Rattle.replies.specs.Analysis.{TrialsFind, IsAnalysis}
 use Rattle.replies.specs.Reply.{Refuses, AnalyseReply, WhyNotReply}
-use Rattle.replies.specs.Headline.{IsReached, HasValid, SaysHowRoundsEnd}
+use Rattle.replies.specs.Headline.{IsDepthReached, HasValid, SaysHowRoundsEnd}
 use Rattle.replies.proofs.Analysing.{no_memory}
 
 schedule_found : (words : List ℕ) (A : List Entry) (points : List Waypoint) (bound : ℕ) (found : Option Plan) → IsFound words A points bound found → IfSome found IsSchedule
@@ -59,7 +59,7 @@ no_schedule : (w : Option Plan) → w ≡ None → is_some w ≡ true → ⊥
 no_schedule None e f = let wrong = f in cc
 no_schedule (Some plan) e f = let wrong = e in cc
 
-pub reached : (runs : ReplaysAreRuns) (words : List ℕ) (A : List Entry) (bound : ℕ) (found : Option Plan) → IfSome found IsSchedule → IsAttained words A bound found → is_some found ≡ true → IsReached words A bound
+pub reached : (runs : ReplaysAreRuns) (words : List ℕ) (A : List Entry) (bound : ℕ) (found : Option Plan) → IfSome found IsSchedule → IsAttained words A bound found → is_some found ≡ true → IsDepthReached words A bound
 reached runs words A bound None fits h e = absurd (no_schedule None refl e)
 reached runs words A bound (Some plan) fits h e =
     let r = replayed bound (replay_of words A plan) (replay_of words A plan) refl h in
@@ -144,7 +144,7 @@ module _
     pub fits : IsCertificate c
     pub valid : IsValid words A c
     pub least : (other : Claim) → IsClaim other → IsValid words A other → c.bound ≤ other.bound
-    pub reached : is_some c.witness ≡ true → IsReached words A c.bound
+    pub reached : is_some c.witness ≡ true → IsDepthReached words A c.bound
     pub trials : TrialsFind words A c c.witness
 
   best_of : (h : (c : Claim) × IsAnalysis words A steps c) → IsBest (record h.1.least { witness = h.1.found })

@@ -10,9 +10,9 @@ use Rattle.witness_replay.specs.Replay.{Report as Replayed, replay_of}
 use Rattle.certificate.specs.Claims.{Claim, IsClaim}
 use Rattle.cert_format.specs.declared.fault.CertFault.{CertFault}
 use Rattle.cert_format.specs.Reading.{certificate_in}
-use Rattle.cert_format.specs.Exact.{ReadIsSpelled}
+use Rattle.cert_format.specs.Exact.{ReadCertificateIsSpelled}
 use Rattle.cert_check.specs.Laws.{VerdictsAreOne}
-use Rattle.solution_laws.specs.Answers.{AnswersAreOne}
+use Rattle.round_solutions.specs.Answers.{AnswersAreOne}
 use Rattle.witness_search.specs.Laws.{WaypointsAreOne}
 use Rattle.cert_check.specs.declared.verdict.Verdict.{Verdict}
 use Rattle.cert_check.specs.declared.verdict.Verdict.TheVariants.{Accepted, Rejected}
@@ -38,114 +38,114 @@ use Rattle.replies.proofs.Analysing.{analyse_one, demo_one}
 use Rattle.replies.proofs.Attaining.{attain_one}
 
 -- at most one status with one text is the answer
-abbrev IsOne : Reply → Type 0
-IsOne R = (s t : ℕ) (a b : List ℕ) → R s a → R t b → (s ≡ t) × (a ≡ b)
+abbrev IsOneAnswer : Reply → Type 0
+IsOneAnswer R = (s t : ℕ) (a b : List ℕ) → R s a → R t b → (s ≡ t) × (a ≡ b)
 
-says_one : (n : ℕ) (x : List ℕ) → IsOne (Says n x)
+says_one : (n : ℕ) (x : List ℕ) → IsOneAnswer (Says n x)
 says_one n x s t a b h k = (h.0 ∙ sym k.0, h.1 ∙ sym k.1)
 
-refuses_one : (n : ℕ) (o : Option (List ℕ)) → IsOne (Refuses n o)
+refuses_one : (n : ℕ) (o : Option (List ℕ)) → IsOneAnswer (Refuses n o)
 refuses_one n None s t a b h k = absurd h
 refuses_one n (Some x) s t a b h k = (h.0 ∙ sym k.0, h.1 ∙ sym k.1)
 
-file_one : (name : List ℕ) (seen : Seen) (next : List ℕ → Reply) → ((bytes : List ℕ) → IsOne (next bytes)) → IsOne (WithFile name seen next)
+file_one : (name : List ℕ) (seen : Seen) (next : List ℕ → Reply) → ((bytes : List ℕ) → IsOneAnswer (next bytes)) → IsOneAnswer (WithFile name seen next)
 file_one name Unread next f s t a b h k = absurd h
 file_one name (Whole bytes) next f s t a b h k = f bytes s t a b h k
 file_one name Long next f s t a b h k = says_one 5 (too_long name) s t a b h k
 
-bytes_one : (o : Option (List ℕ)) (seen : Seen) (next : List ℕ → Reply) → ((bytes : List ℕ) → IsOne (next bytes)) → IsOne (WithBytes o seen next)
+bytes_one : (o : Option (List ℕ)) (seen : Seen) (next : List ℕ → Reply) → ((bytes : List ℕ) → IsOneAnswer (next bytes)) → IsOneAnswer (WithBytes o seen next)
 bytes_one None seen next f s t a b h k = f [] s t a b h k
 bytes_one (Some name) seen next f s t a b h k = file_one name seen next f s t a b h k
 
-optional_one : (o : Option (List ℕ)) (seen : Seen) (next : Option (List ℕ) → Reply) → ((list : Option (List ℕ)) → IsOne (next list)) → IsOne (WithOptional o seen next)
+optional_one : (o : Option (List ℕ)) (seen : Seen) (next : Option (List ℕ) → Reply) → ((list : Option (List ℕ)) → IsOneAnswer (next list)) → IsOneAnswer (WithOptional o seen next)
 optional_one None seen next f s t a b h k = f None s t a b h k
 optional_one (Some name) seen next f s t a b h k = file_one name seen (λ bytes. next (Some bytes)) (λ bytes. f (Some bytes)) s t a b h k
 
-image_one : (o : Option (List ℕ)) (reply : Reply) → IsOne reply → IsOne (ImageBy o reply)
+image_one : (o : Option (List ℕ)) (reply : Reply) → IsOneAnswer reply → IsOneAnswer (ImageBy o reply)
 image_one (Some refusal) reply f s t a b h k = says_one 6 refusal s t a b h k
 image_one None reply f s t a b h k = f s t a b h k
 
-list_one : (x : Result (List Entry) AssumeText) (next : List Entry → Reply) → ((A : List Entry) → IsOne (next A)) → IsOne (ListBy x next)
+list_one : (x : Result (List Entry) AssumeText) (next : List Entry → Reply) → ((A : List Entry) → IsOneAnswer (next A)) → IsOneAnswer (ListBy x next)
 list_one (Ok A) next f s t a b h k = f A s t a b h k
 list_one (Err fault) next f s t a b h k = refuses_one 7 (assumptions_refused fault) s t a b h k
 
-with_list_one : (list : Option (List ℕ)) (next : List Entry → Reply) → ((A : List Entry) → IsOne (next A)) → IsOne (WithList list next)
+with_list_one : (list : Option (List ℕ)) (next : List Entry → Reply) → ((A : List Entry) → IsOneAnswer (next A)) → IsOneAnswer (WithList list next)
 with_list_one None next f = f []
 with_list_one (Some bytes) next f = list_one (entries_in bytes) next f
 
-attained_one : (next : Reply) (attained : Bool) → IsOne next → IsOne (AttainedBy next attained)
+attained_one : (next : Reply) (attained : Bool) → IsOneAnswer next → IsOneAnswer (AttainedBy next attained)
 attained_one next true f s t a b h k = f s t a b h k
 attained_one next false f s t a b h k = says_one 1 witness_rejected s t a b h k
 
-witness_one : (words : List ℕ) (A : List Entry) (next : Reply) (bound : ℕ) (w : Option Plan) → IsOne next → IsOne (WitnessReply words A next bound w)
+witness_one : (words : List ℕ) (A : List Entry) (next : Reply) (bound : ℕ) (w : Option Plan) → IsOneAnswer next → IsOneAnswer (WitnessReply words A next bound w)
 witness_one words A next bound None f s t a b h k = f s t a b h k
 witness_one words A next bound (Some plan) f s t a b h k = attained_one next (attains bound (replay_of words A plan)) f s t a b h k
 
-verdict_one : (words : List ℕ) (A : List Entry) (next : Claim → Reply) (c : Claim) (v : Verdict) → IsOne (next c) → IsOne (VerdictReply words A next c v)
+verdict_one : (words : List ℕ) (A : List Entry) (next : Claim → Reply) (c : Claim) (v : Verdict) → IsOneAnswer (next c) → IsOneAnswer (VerdictReply words A next c v)
 verdict_one words A next c (Rejected reason) f s t a b h k = says_one 1 (rejected reason) s t a b h k
 verdict_one words A next c (Accepted bound) f s t a b h k = witness_one words A (next c) bound c.witness f s t a b h k
 
-simulate_one : (words : List ℕ) (A : List Entry) (steps : ℕ) (x : Result Setup DevicesFault) → IsOne (SimulateReply words A steps x)
+simulate_one : (words : List ℕ) (A : List Entry) (steps : ℕ) (x : Result Setup DevicesFault) → IsOneAnswer (SimulateReply words A steps x)
 simulate_one words A steps (Err fault) s t a b h k = refuses_one 14 (devices_refused fault) s t a b h k
 simulate_one words A steps (Ok setup) s t a b h k = says_one 0 (run_text (simulation_of words A setup steps)) s t a b h k
 
-run_one : (x : Result Replayed ℕ) → IsOne (RunReply x)
+run_one : (x : Result Replayed ℕ) → IsOneAnswer (RunReply x)
 run_one (Err step) s t a b h k = says_one 9 (schedule_illegal step) s t a b h k
 run_one (Ok r) s t a b h k = says_one 0 (run_text r) s t a b h k
 
-ends_one : (ls : List TextLine) (at : ℕ) (reply : Reply) → IsOne reply → IsOne (EndsBefore ls at reply)
+ends_one : (ls : List TextLine) (at : ℕ) (reply : Reply) → IsOneAnswer reply → IsOneAnswer (EndsBefore ls at reply)
 ends_one [] at reply f s t a b h k = f s t a b h k
 ends_one (l ∷ ls) at reply f s t a b h k = says_one 9 (schedule_malformed at) s t a b h k
 
-schedule_one : (words : List ℕ) (A : List Entry) (x : Result (Plan × Place) ℕ) → IsOne (ScheduleReply words A x)
+schedule_one : (words : List ℕ) (A : List Entry) (x : Result (Plan × Place) ℕ) → IsOneAnswer (ScheduleReply words A x)
 schedule_one words A (Err at) s t a b h k = says_one 9 (schedule_malformed at) s t a b h k
 schedule_one words A (Ok read) s t a b h k =
     ends_one read.1.rest read.1.at (RunReply (replay_of words A read.0)) (run_one (replay_of words A read.0)) s t a b h k
 
-module _ (read : ReadIsSpelled) (one : VerdictsAreOne) (answers : AnswersAreOne) (chains : WaypointsAreOne) (explanations : ExplanationsAreOne)
+module _ (read : ReadCertificateIsSpelled) (one : VerdictsAreOne) (answers : AnswersAreOne) (chains : WaypointsAreOne) (explanations : ExplanationsAreOne)
     (clears : ClearVerdictsAreOne) (sites : SitesAreOne) (places : PlacesAreOne) (takes : NeversAreOne) where
-  judged_one : (words : List ℕ) (A : List Entry) (next : Claim → Reply) (c : Claim) → IsClaim c → IsOne (next c) → IsOne (JudgedReply words A next c)
+  judged_one : (words : List ℕ) (A : List Entry) (next : Claim → Reply) (c : Claim) → IsClaim c → IsOneAnswer (next c) → IsOneAnswer (JudgedReply words A next c)
   judged_one words A next c claim f s t a b h k =
       let e = one words A c h.verdict k.verdict claim h.is k.is in
       verdict_one words A next c k.verdict f s t a b (subst (λ v. VerdictReply words A next c v s a) e h.reply) k.reply
 
-  certificate_one : (words : List ℕ) (A : List Entry) (next : Claim → Reply) (x : Result Claim CertFault) → ((c : Claim) → x ≡ Ok c → IsClaim c) → ((c : Claim) → IsClaim c → IsOne (next c)) → IsOne (CertificateReply words A next x)
+  certificate_one : (words : List ℕ) (A : List Entry) (next : Claim → Reply) (x : Result Claim CertFault) → ((c : Claim) → x ≡ Ok c → IsClaim c) → ((c : Claim) → IsClaim c → IsOneAnswer (next c)) → IsOneAnswer (CertificateReply words A next x)
   certificate_one words A next (Err fault) f g s t a b h k = refuses_one 8 (certificate_refused fault) s t a b h k
   certificate_one words A next (Ok c) f g s t a b h k = judged_one words A next c (f c refl) (g c (f c refl)) s t a b h k
 
-  read_one : (words : List ℕ) (A : List Entry) (next : Claim → Reply) (bytes : List ℕ) → ((c : Claim) → IsClaim c → IsOne (next c)) → IsOne (CertificateReply words A next (certificate_in bytes))
+  read_one : (words : List ℕ) (A : List Entry) (next : Claim → Reply) (bytes : List ℕ) → ((c : Claim) → IsClaim c → IsOneAnswer (next c)) → IsOneAnswer (CertificateReply words A next (certificate_in bytes))
   read_one words A next bytes g = certificate_one words A next (certificate_in bytes) (λ c e. (read bytes c e).1.claim) g
 
-  explain_one : (names : List Named) (words : List ℕ) (A : List Entry) (c : Claim) → IsClaim c → IsOne (ExplainReply names words A c)
+  explain_one : (names : List Named) (words : List ℕ) (A : List Entry) (c : Claim) → IsClaim c → IsOneAnswer (ExplainReply names words A c)
   explain_one names words A c claim s t a b h k =
       let e = explanations words A c h.explanation k.explanation claim h.is k.is in
       (h.says.0 ∙ sym k.says.0, h.says.1 ∙ (ap (explanation_text c.bound names) e ∙ sym k.says.1))
 
-  clear_says_one : (words : List ℕ) (c : Claim) (v : ClearVerdict) → IsOne (ClearSays words c v)
+  clear_says_one : (words : List ℕ) (c : Claim) (v : ClearVerdict) → IsOneAnswer (ClearSays words c v)
   clear_says_one words c clear.Clear s t a b h k = says_one 0 (clear_text c.bound) s t a b h k
   clear_says_one words c (clear.Unclear node pc) s t a b h k = says_one 13 (unclear_text words node pc) s t a b h k
 
-  clear_one : (words : List ℕ) (c : Claim) → IsClaim c → IsOne (ClearReply words c)
+  clear_one : (words : List ℕ) (c : Claim) → IsClaim c → IsOneAnswer (ClearReply words c)
   clear_one words c claim s t a b h k =
       let e = clears words c h.verdict k.verdict h.is k.is in clear_says_one words c k.verdict s t a b (subst (λ v. ClearSays words c v s a) e h.says) k.says
 
-  premises_one : (names : List Named) (words : List ℕ) (A : List Entry) (c : Claim) → IsClaim c → IsOne (PremisesReply names words A c)
+  premises_one : (names : List Named) (words : List ℕ) (A : List Entry) (c : Claim) → IsClaim c → IsOneAnswer (PremisesReply names words A c)
   premises_one names words A c claim s t a b h k =
       let e = sites words A c h.sites k.sites h.are k.are in
       let f = takes words A c h.nevers k.nevers h.are_nevers k.are_nevers in
       (h.says.0 ∙ sym k.says.0, h.says.1 ∙ (ap₂ (premises_text words names c.bound) e f ∙ sym k.says.1))
 
-  why_one : (names : List Named) (words : List ℕ) (A : List Entry) (c : Claim) → IsClaim c → IsOne (WhyReply names words A c)
+  why_one : (names : List Named) (words : List ℕ) (A : List Entry) (c : Claim) → IsClaim c → IsOneAnswer (WhyReply names words A c)
   why_one names words A c claim s t a b h k =
       let e = places words A c h.places k.places h.are k.are in
       let f = takes words A c h.nevers k.nevers h.are_nevers k.are_nevers in
       (h.says.0 ∙ sym k.says.0, h.says.1 ∙ (ap₂ (why_text words names c.bound) e f ∙ sym k.says.1))
 
-  places_one : (why : Bool) (names : List Named) (words : List ℕ) (A : List Entry) (c : Claim) → IsClaim c → IsOne (PlacesReply why names words A c)
+  places_one : (why : Bool) (names : List Named) (words : List ℕ) (A : List Entry) (c : Claim) → IsClaim c → IsOneAnswer (PlacesReply why names words A c)
   places_one false names words A c claim s t a b h k = premises_one names words A c claim s t a b h k
   places_one true names words A c claim s t a b h k = why_one names words A c claim s t a b h k
 
-  flash_one : (command : Command) (firmware bytes words : List ℕ) (A : List Entry) → IsOne (FlashReply command firmware bytes words A)
+  flash_one : (command : Command) (firmware bytes words : List ℕ) (A : List Entry) → IsOneAnswer (FlashReply command firmware bytes words A)
   flash_one (Check device fw cert assume) firmware bytes words A =
       read_one words A (AcceptedReply (Check device fw cert assume) firmware words A) bytes (λ c claim. says_one 0 (told_of (Check device fw cert assume) firmware c))
   flash_one (Analyse device fw assume steps) firmware bytes words A = analyse_one answers chains words A steps
@@ -162,12 +162,12 @@ module _ (read : ReadIsSpelled) (one : VerdictsAreOne) (answers : AnswersAreOne)
   flash_one (Simulate device fw devices assume steps) firmware bytes words A = simulate_one words A steps (setup_in bytes)
   flash_one (Demo size) firmware bytes words A = demo_one answers chains size
 
-  on_flash_one : (command : Command) (firmware second : List ℕ) (list : Option (List ℕ)) → IsOne (WithImage (device_for command) firmware (λ words. WithList list (λ A. FlashReply command firmware second words A)))
+  on_flash_one : (command : Command) (firmware second : List ℕ) (list : Option (List ℕ)) → IsOneAnswer (WithImage (device_for command) firmware (λ words. WithList list (λ A. FlashReply command firmware second words A)))
   on_flash_one command firmware second list =
       image_one (firmware_fault (device_for command) firmware) (WithList list (λ A. FlashReply command firmware second (firmware_words (device_for command) firmware) A))
       (with_list_one list (λ A. FlashReply command firmware second (firmware_words (device_for command) firmware) A) (flash_one command firmware second (firmware_words (device_for command) firmware)))
 
-  work_one : (command : Command) (firmware second : List ℕ) (list : Option (List ℕ)) → IsOne (WorkReply command firmware second list)
+  work_one : (command : Command) (firmware second : List ℕ) (list : Option (List ℕ)) → IsOneAnswer (WorkReply command firmware second list)
   work_one (Check device fw cert assume) firmware second list = on_flash_one (Check device fw cert assume) firmware second list
   work_one (Analyse device fw assume steps) firmware second list = on_flash_one (Analyse device fw assume steps) firmware second list
   work_one (Run device fw schedule assume) firmware second list = on_flash_one (Run device fw schedule assume) firmware second list

@@ -11,14 +11,14 @@ use Rattle.witness_replay.specs.declared.schedule.Run.{Run}
 use Rattle.witness_replay.specs.declared.schedule.Run.TheVariants.{Go, Take}
 use Rattle.witness_replay.specs.Spelling.{Plan, AreRuns, most_choices, choices_of}
 use Rattle.witness_search.specs.declared.waypoint.Waypoint.{Waypoint}
-use Rattle.witness_search.specs.Trials.{fills, trial_of, Succeeds, NoneSucceeds, IsFirst, IsFound}
+use Rattle.witness_search.specs.Trials.{fills, trial_of, Succeeds, NoneSucceeds, IsFirstFilled, IsFound}
 
 -- ---- the choices of a schedule determine its runs
 
 -- the list doesn't begin with this
-abbrev IsBehind : Choice → List Choice → Type 0
-IsBehind x [] = ⊤
-IsBehind x (a ∷ xs) = a ≢ x
+abbrev BeginsOtherwise : Choice → List Choice → Type 0
+BeginsOtherwise x [] = ⊤
+BeginsOtherwise x (a ∷ xs) = a ≢ x
 
 tails : (a b : Choice) (xs ys : List Choice) → ◌≡◌ {A = List Choice} (a ∷ xs) (b ∷ ys) → xs ≡ ys
 tails a b xs ys e = cc
@@ -26,11 +26,11 @@ tails a b xs ys e = cc
 heads : (a b : Choice) (xs ys : List Choice) → ◌≡◌ {A = List Choice} (a ∷ xs) (b ∷ ys) → a ≡ b
 heads a b xs ys e = cc
 
-behind_head : (x : Choice) (xs ys : List Choice) → xs ≡ x ∷ ys → IsBehind x xs → ⊥
+behind_head : (x : Choice) (xs ys : List Choice) → xs ≡ x ∷ ys → BeginsOtherwise x xs → ⊥
 behind_head x [] ys e h = let wrong = e in cc
 behind_head x (a ∷ xs) ys e h = h (heads a x xs ys e)
 
-same_counts : (n m : ℕ) (x : Choice) (xs ys : List Choice) → replicate n x ++ xs ≡ replicate m x ++ ys → IsBehind x xs → IsBehind x ys → (n ≡ m) × (xs ≡ ys)
+same_counts : (n m : ℕ) (x : Choice) (xs ys : List Choice) → replicate n x ++ xs ≡ replicate m x ++ ys → BeginsOtherwise x xs → BeginsOtherwise x ys → (n ≡ m) × (xs ≡ ys)
 same_counts zero zero x xs ys e h k = (refl, e)
 same_counts zero (suc m) x xs ys e h k = absurd (behind_head x xs (replicate m x ++ ys) e h)
 same_counts (suc n) zero x xs ys e h k = absurd (behind_head x ys (replicate n x ++ xs) (sym e) k)
@@ -52,7 +52,7 @@ differ a b c d f e = let x : c ≡ a = first_bytes c d a b e in let y : d ≡ b 
 take_go : (v a b : ℕ) (clears : Bool) → choice.Take v clears ≢ choice.Go a b
 take_go v a b clears e = cc
 
-next_behind : (n a b left : ℕ) (rs : List Run) → AreRuns (Some (Go n a b)) left rs → IsBehind (choice.Go a b) (choices_of rs)
+next_behind : (n a b left : ℕ) (rs : List Run) → AreRuns (Some (Go n a b)) left rs → BeginsOtherwise (choice.Go a b) (choices_of rs)
 next_behind n a b left [] h = tt
 next_behind n a b left (Go zero c d ∷ rs) h = no_count h.0.0
 next_behind n a b left (Go (suc k) c d ∷ rs) h = differ a b c d h.1
@@ -78,7 +78,7 @@ same_runs before last left most (Go (suc n) a b ∷ rs) (Go zero c d ∷ qs) h k
 same_runs before last left most (Go (suc n) a b ∷ rs) (Go (suc m) c d ∷ qs) h k e =
     let top : choice.Go a b ≡ choice.Go c d = heads (choice.Go a b) (choice.Go c d) (replicate n (choice.Go a b) ++ choices_of rs) (replicate m (choice.Go c d) ++ choices_of qs) e in
     let rest : replicate n (choice.Go a b) ++ choices_of rs ≡ replicate m (choice.Go c d) ++ choices_of qs = tails (choice.Go a b) (choice.Go c d) _ _ e in
-    let behind : IsBehind (choice.Go a b) (choices_of qs) = subst (λ x. IsBehind x (choices_of qs)) (sym top) (next_behind (suc m) c d _ qs k.3) in
+    let behind : BeginsOtherwise (choice.Go a b) (choices_of qs) = subst (λ x. BeginsOtherwise x (choices_of qs)) (sym top) (next_behind (suc m) c d _ qs k.3) in
     let counts = same_counts n m (choice.Go a b) (choices_of rs) (choices_of qs) (rest ∙ ap (λ x. replicate m x ++ choices_of qs) (sym top)) (next_behind (suc n) a b _ rs h.3) behind in
     go_same n m a b c d rs qs counts.0 (first_bytes a b c d top) (second_bytes a b c d top) (same_runs (Some (Go (suc n) a b)) (Some (Go (suc m) c d)) (left - suc n) (most - suc m) rs qs h.3 k.3 counts.1)
 same_runs before last left most (Go (suc n) a b ∷ rs) (Take v x ∷ qs) h k e = absurd (take_go v a b x (sym (heads (choice.Go a b) (choice.Take v x) _ _ e)))
@@ -113,10 +113,10 @@ module _ (words : List ℕ) (A : List Entry) (points : List Waypoint) (bound : �
   fill_one (b ∷ bs) after (c ∷ cs) after' f g e h k x y =
       fill_one bs after cs after' f g (num_tails b c (bs ++ f ∷ after) (cs ++ g ∷ after') e) (λ t i. h t (further_in b t bs i)) (λ t i. k t (further_in c t cs i)) x y
 
-  in_fills : (plan : Plan) → IsFirst words A points bound plan → Contains fills plan.fill
+  in_fills : (plan : Plan) → IsFirstFilled words A points bound plan → Contains fills plan.fill
   in_fills plan h = subst (λ ts. Contains ts plan.fill) (sym h.order) (Contains-append_right h.before (plan.fill ∷ h.after) plan.fill (first_in plan.fill h.after))
 
-  first_one : (a b : Plan) → IsFirst words A points bound a → IsFirst words A points bound b → a ≡ b
+  first_one : (a b : Plan) → IsFirstFilled words A points bound a → IsFirstFilled words A points bound b → a ≡ b
   first_one a b h k =
       let fill : a.fill ≡ b.fill = fill_one h.before h.after k.before k.after a.fill b.fill (sym h.order ∙ k.order) h.failed k.failed h.succeeds k.succeeds in
       let choices : choices_of a.runs ≡ choices_of b.runs = h.trial.choices ∙ (ap (trial_of words A points bound) fill ∙ sym k.trial.choices) in

@@ -8,7 +8,7 @@ use Rattle.avr_model.specs.declared.choice.Choice.{Choice}
 use Rattle.avr_model.specs.declared.choice.Stop.TheVariants.{End}
 use Rattle.avr_model.specs.State.{State, IsReset}
 use Rattle.avr_model.specs.Run.{IsRun, stop_of, depth_of, Bounded}
-use Rattle.indirect_targets.specs.Exact.{IsReading}
+use Rattle.indirect_targets.specs.Exact.{IsListReading}
 use Rattle.certificate.specs.Claims.{Claim, IsClaim, IsCertificate}
 use Rattle.certificate.specs.Valid.{IsValid}
 use Rattle.cert_words.specs.Text.{text_of}
@@ -31,7 +31,7 @@ use Rattle.clear_laws.specs.declared.verdict.ClearVerdict.TheVariants.{Clear as 
 use Rattle.clear_laws.specs.Verdict.{AreAllClear, IsFirstUnclear, IsClearVerdict, AreSites, AreNevers}
 use Rattle.demo_image.specs.Image.{demo_words}
 use Rattle.device_hooks.specs.Spelling.{Setup}
-use Rattle.device_hooks.specs.Exact.{IsReading as IsDevices}
+use Rattle.device_hooks.specs.Exact.{IsSetupReading as IsDevices}
 use Rattle.device_hooks.specs.Simulating.{simulation_of}
 use Rattle.commands.specs.Commands.{Command, Check, Analyse, Run, Report, Explain, Clear, Premises, Attain, Simulate, Demo, device_for}
 use Rattle.local_rules.specs.Machine.{AreWords}
@@ -61,7 +61,7 @@ pub record AreRead (assume : Option (List ℕ)) (seen : Contents) (firmware seco
 -- the assumptions of an assumption file's bytes, or none without such a file
 abbrev pub IsListOf : Option (List ℕ) → List Entry → Type 0
 IsListOf None A = A ≡ []
-IsListOf (Some bytes) A = IsReading bytes A
+IsListOf (Some bytes) A = IsListReading bytes A
 
 -- the bytes of a firmware for a device and of an assumption file stand for these words and these assumptions
 pub record Mean (device : Device) (firmware : List ℕ) (list : Option (List ℕ)) (words : List ℕ) (A : List Entry) : Type 0 where
@@ -115,7 +115,7 @@ TellsPlaces false names words A c text = TellsFlagged names words A c text
 TellsPlaces true names words A c text = TellsCauses names words A c text
 
 -- some run of the machine from reset ends without a stop, exactly this deep
-pub record IsReached (words : List ℕ) (A : List Entry) (depth : ℕ) : Type 0 where
+pub record IsDepthReached (words : List ℕ) (A : List Entry) (depth : ℕ) : Type 0 where
   pub state : State
   pub reset : IsReset (device_of words) state
   pub choices : List Choice
@@ -134,7 +134,7 @@ pub record IsWrittenAttained (words : List ℕ) (A : List Entry) (trials : ℕ) 
   pub completed : IsCompleted words A trials c claim
   pub attained : AttainedWhere words A trials c claim
   pub valid : IsValid words A claim
-  pub reached : is_some claim.witness ≡ true → IsReached words A claim.bound
+  pub reached : is_some claim.witness ≡ true → IsDepthReached words A claim.bound
   pub short : length (text_of c) ≤ certificate_cap → length text ≤ certificate_cap
 
 -- what is said of an accepted certificate besides that its bound holds, for a firmware of these bytes with these words, by a text
@@ -180,7 +180,7 @@ pub record IsLeastCertificate (device : Device) (firmware : List ℕ) (list : Op
   pub valid : IsValid words assumptions claim
   pub least : (other : Claim) → IsClaim other → IsValid words assumptions other → claim.bound ≤ other.bound
   pub bounded : Bounded words assumptions claim.bound
-  pub reached : is_some claim.witness ≡ true → IsReached words assumptions claim.bound
+  pub reached : is_some claim.witness ≡ true → IsDepthReached words assumptions claim.bound
   pub trials : TrialsFind words assumptions claim claim.witness
   pub short : length text ≤ certificate_cap
 

@@ -1,6 +1,6 @@
 -- What is read of a command's files. Source: own.
 use Rattle.std.specs.Prelude.{ℕ, ◌≡◌, ◌≤◌, List, length, ⊤, Bool, true, false, Option, Some, None}
-use Rattle.sb_base.specs.Outside.{Held, Blamed, Gives, MayExceed, Blames}
+use Rattle.sb_base.specs.Outside.{Held, Blamed, Gives, MayExceed, IsBlamed}
 use Rattle.commands.specs.Commands.{Command, Run, Simulate, Role, Firmware, Second, Assumptions, name_of, IsFileOf}
 
 -- what was read of a file: nothing so far, all its bytes, or that it is longer than its cap
@@ -83,5 +83,5 @@ WasRead holds cap (Some name) = (bytes : List ℕ) × Agrees (holds name) cap (W
 pub record IsFirstFailed (command : Command) (holds : List ℕ → Held) (blamed : Blamed) (name : List ℕ) : Type 0 where
   pub role : Role
   pub is : IsFileOf command role name
-  pub blames : Blames blamed name
+  pub blames : IsBlamed blamed name
   pub earlier : (r : Role) → is_before r role ≡ true → WasRead holds (cap_of command r) (name_of command r)

@@ -56,9 +56,9 @@ refusal_words (SegmentOutside i) = codes "6" ∷ codes "segment" ∷ decimal i �
 refusal_words (Overlap j i) = codes "7" ∷ codes "segments" ∷ decimal j ∷ decimal i ∷ []
 
 -- the words of a refusal were written; where there is none, nothing is said
-abbrev pub IsRefused : Written → Written → Option ElfRefusal → Type 0
-IsRefused before after None = ⊥
-IsRefused before after (Some refusal) = after ≡ with_words before (refusal_words refusal)
+abbrev pub IsRefusalWritten : Written → Written → Option ElfRefusal → Type 0
+IsRefusalWritten before after None = ⊥
+IsRefusalWritten before after (Some refusal) = after ≡ with_words before (refusal_words refusal)
 
 -- these words were written; where there are none, nothing is said
 abbrev pub AreWritten : Written → Written → Option (List (List ℕ)) → Type 0

@@ -1,11 +1,11 @@
 //! The lines that are printed.
 
-ghost use Rattle.std.specs.Prelude.{◌≡◌, ◌++◌, ◌<◌, [], ◌∷◌, IfOk, OnOk, Some, codes, decimal};
+ghost use Rattle.std.specs.Prelude.{◌≡◌, ◌<◌, [], ◌∷◌, IfOk, OnOk, Some, codes, decimal};
 ghost use Rattle.std.specs.Option.{option_map};
 ghost use Rattle.elf_load.specs.Refusing.{refusal_of};
 ghost use Rattle.sb_base.specs.Digits.{hex_digits};
 ghost use Rattle.sb_base.specs.Writing.{with_words, with_end};
-ghost use Rattle.replies.specs.Texts.{told, usage, read_fault, too_long, raw_fault, elf_refused, firmware_outside, IsRefused, AreWritten, assumption_words, assumptions_refused, limit_word, certificate_words, certificate_refused, schedule_malformed, schedule_illegal, devices_refused, witness_word, accepted, reason_words, rejected, witness_rejected, stop_words, run_text};
+ghost use Rattle.replies.specs.Texts.{told, usage, read_fault, too_long, raw_fault, elf_refused, firmware_outside, IsRefusalWritten, AreWritten, assumption_words, assumptions_refused, limit_word, certificate_words, certificate_refused, schedule_malformed, schedule_illegal, devices_refused, witness_word, accepted, reason_words, rejected, witness_rejected, stop_words, run_text};
 
 use avr_model::choice::{Flag, Stop};
 use cert_check::Reason;
@@ -75,7 +75,7 @@ pub fn raw_fault(alloc: Global, number: u64) -> Result<Vec<u8>, AllocError>
 
 // The words that name what a test of an ELF file refuses; none for want of memory.
 fn put_refusal(line: &mut LineWriter, fault: &ElfFault) -> Result<(), AllocError>
-    ensures { OnOk result (IsRefused line.old line.new (refusal_of fault.now)) }
+    ensures { OnOk result (IsRefusalWritten line.old line.new (refusal_of fault.now)) }
 {
     match *fault {
         ElfFault::Short(at) => put_two_and_number(line, b"1", b"at", at),

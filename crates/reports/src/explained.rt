@@ -1,8 +1,7 @@
 //! The text of an explanation.
 
-ghost use Rattle.std.specs.Prelude.{◌≡◌, ◌<◌, map, length, IfOk, OnOk, false};
+ghost use Rattle.std.specs.Prelude.{◌≡◌, ◌<◌, map, IfOk, OnOk, false};
 ghost use Rattle.std.specs.List.{flat_map};
-ghost use Rattle.sb_base.specs.Lines.{line};
 ghost use Rattle.sb_base.specs.Writing.{with_words, with_end};
 ghost use Rattle.line_reading.specs.Appending.{with_text};
 ghost use Rattle.reports.specs.Explained.{word_text, explain_line, link_line, part_text, explanation_text};

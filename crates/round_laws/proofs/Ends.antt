@@ -15,7 +15,7 @@ use Rattle.witness_replay.specs.Spelling.{Plan}
 use Rattle.certificate.specs.Valid.{IsValid, IsAttained}
 use Rattle.round_rules.specs.declared.refusal.Refusal.{Refusal}
 use Rattle.round_rules.specs.Families.{Family, nodes_of, Below, HasNoFault, IsClosed, FitsLimits}
-use Rattle.round_rules.specs.Rounds.{IsAcyclic, AreRanks, AreNeeds, IsRootNeed, Passes, Comes}
+use Rattle.round_rules.specs.Rounds.{IsAcyclic, AreRanks, AreNeeds, IsRootNeed, PassesTests, Comes}
 use Rattle.round_rules.specs.Refusals.{Test, over, faulty, re_entry, recursion, too_deep, FaultAt, FirstHolds, refusal_of, IsReEntry, IsRecursion, IsRefused, IsSolved, GoesBeyond}
 use Rattle.round_rules.specs.Solutions.{IsShown, IsSolution}
 use Rattle.round_laws.specs.Laws.{IsValidFamily, RoundsAreLeast, RoundsEndOnce, SolutionsAreValid}
@@ -111,7 +111,7 @@ module _ (words : List ℕ) (A : List Entry) where
   -- ---- before the end no test holds
 
   abbrev GoesOn : Family → Type 0
-  GoesOn f = Passes words A f × (IsClosed words A f → ⊥)
+  GoesOn f = PassesTests words A f × (IsClosed words A f → ⊥)
 
   earlier : (m n : ℕ) (f g : Family) → m < n → Comes words A m f → Comes words A n g → GoesOn f
   earlier m zero f g lt c d = absurd (omega arith)
@@ -121,7 +121,7 @@ module _ (words : List ℕ) (A : List Entry) where
       let same = comes_same words A m d.0 f (subst (λ (k : ℕ). Comes words A k d.0) is d.1) c in
       subst GoesOn same (d.2, d.3)) (cases_lt m n)
 
-  not_passes : (f : Family) (t : Test) → FirstHolds words A f t → Passes words A f → ⊥
+  not_passes : (f : Family) (t : Test) → FirstHolds words A f t → PassesTests words A f → ⊥
   not_passes f (over Nodes) h p = omega (arith, h, p.fits.few_nodes)
   not_passes f (over Cells) h p = omega (arith, h.1, p.fits.few_cells)
   not_passes f (faulty x) h p = never_faulty f x p.faultless h.1.0
@@ -192,7 +192,7 @@ module _ (words : List ℕ) (A : List Entry) where
       let g = b.ends.family in
       elim (cases_order m n) [
         | inl same ↦ not_passes g b.test b.ends.holds
-            (subst (Passes words A) (comes_same words A n f g (subst (λ (k : ℕ). Comes words A k f) same a.comes) b.ends.comes) a.passes)
+            (subst (PassesTests words A) (comes_same words A n f g (subst (λ (k : ℕ). Comes words A k f) same a.comes) b.ends.comes) a.passes)
         | inr (inl lt) ↦ (earlier m n f g lt a.comes b.ends.comes).1 a.closed
         | inr (inr gt) ↦ not_passes g b.test b.ends.holds (earlier n m g f gt b.ends.comes a.comes).0
       ]
@@ -223,7 +223,7 @@ module _ (words : List ℕ) (A : List Entry) where
       let f = a.ends.family in
       elim (cases_order m n) [
         | inl same ↦ absurd (not_passes f a.test a.ends.holds
-            (subst (Passes words A) (sym (comes_same words A n f b.family (subst (λ (k : ℕ). Comes words A k f) same a.ends.comes) b.comes)) b.passes))
+            (subst (PassesTests words A) (sym (comes_same words A n f b.family (subst (λ (k : ℕ). Comes words A k f) same a.ends.comes) b.comes)) b.passes))
         | inr (inl lt) ↦ absurd (not_passes f a.test a.ends.holds (earlier m n f b.family lt a.ends.comes b.comes).0)
         | inr (inr gt) ↦ gt
       ]

@@ -3,7 +3,7 @@ use Rattle.std.proofs.Common.{◌≡◌, refl, sym, ap, ◌∙◌, ℕ, ◌<◌,
 use Rattle.local_rules.specs.declared.local.NodeFault.{NodeFault}
 use Rattle.local_rules.specs.declared.local.NodeFault.TheVariants.{UnresolvedJump, UntrackedSp, Unsupported, TooDeep, UnknownPointer, Memory}
 use Rattle.local_rules.specs.Faults.{cause_of, fault_offset}
-use Rattle.round_rules.specs.Refusals.{word_of, IsNoLater}
+use Rattle.round_rules.specs.Refusals.{word_of, IsFaultNoLater}
 
 abbrev fault_by : ℕ → ℕ → ℕ → NodeFault
 fault_by cause word depth =
@@ -21,7 +21,7 @@ is_by Memory = refl
 fault_same : (x y : NodeFault) → cause_of x ≡ cause_of y → word_of x ≡ word_of y → fault_offset x ≡ fault_offset y → x ≡ y
 fault_same x y c w d = sym (is_by x) ∙ ap (λ n. fault_by n (word_of x) (fault_offset x)) c ∙ ap (λ n. fault_by (cause_of y) n (fault_offset x)) w ∙ ap (λ n. fault_by (cause_of y) (word_of y) n) d ∙ is_by y
 
-pub later_once : (x y : NodeFault) → IsNoLater x y → IsNoLater y x → x ≡ y
+pub later_once : (x y : NodeFault) → IsFaultNoLater x y → IsFaultNoLater y x → x ≡ y
 later_once x y (inl lt) (inl gt) = absurd (omega (arith, lt, gt))
 later_once x y (inl lt) (inr h) = absurd (omega (arith, lt, h.0))
 later_once x y (inr h) (inl gt) = absurd (omega (arith, gt, h.0))

@@ -22,7 +22,7 @@ use Rattle.edge_rules.specs.Families.{IsCovered}
 use Rattle.edge_rules.specs.Roots.{root_of}
 use Rattle.edge_laws.specs.Laws.{with_state}
 use Rattle.edge_laws.proofs.AllLaws.{edges_lead_to_nodes, edges_grow}
-use Rattle.round_rules.specs.Families.{Family, nodes_of, Has, Lands, Below, AreFormed, HasNoFault, LandIn}
+use Rattle.round_rules.specs.Families.{Family, nodes_of, FamilyHas, Lands, Below, AreFormed, HasNoFault, LandIn}
 use Rattle.round_rules.specs.Rounds.{Reaches, once, more, AreRanks, AreNeeds, first, IsNext, Comes}
 use Rattle.round_laws.specs.Laws.{IsValidFamily}
 use Rattle.round_laws.proofs.Keys.{at_keys, get_same, get_other}
@@ -45,7 +45,7 @@ pub formed_nodes : {followed : Bool} (f : Family) → AreFormed followed f → A
 formed_nodes f formed n i = formed n (has_member f n i)
 
 -- what holds of the first family's one node holds of all its nodes
-pub first_has : (A : List Entry) (P : NodeKey → AbsState → Type 0) → P (entry_key root_inst) (root_of A) → (n : Node) → Has (first A) n → P n.key n.state
+pub first_has : (A : List Entry) (P : NodeKey → AbsState → Type 0) → P (entry_key root_inst) (root_of A) → (n : Node) → FamilyHas (first A) n → P n.key n.state
 first_has A P h n =
     at_keys (λ q. (s : AbsState) → get (first A) q ≡ Some s → P q s) (entry_key root_inst) n.key
     (λ s e. subst (P (entry_key root_inst)) (same_Some (root_of A) s (sym (get_same empty (entry_key root_inst) (root_of A)) ∙ e)) h)
@@ -100,7 +100,7 @@ module _ (words : List ℕ) (A : List Entry) where
           let i = member_has g (with_state n l.at) l.is in
           edges_grow.faultless words A n l.at (formed n has) (valid.sound.formed (with_state n l.at) i) l.above (valid.sound.faultless (with_state n l.at) i)
 
-      enters_up : (n : Node) (way : EdgeKind) (inst : InstKey) (back : ℕ) (has : Has f n) → Enters words A n way inst back → Enters words A (with_state n (below n has).at) way inst back
+      enters_up : (n : Node) (way : EdgeKind) (inst : InstKey) (back : ℕ) (has : FamilyHas f n) → Enters words A n way inst back → Enters words A (with_state n (below n has).at) way inst back
       enters_up n way inst back has enters =
           let l = below n has in
           let i = member_has g (with_state n l.at) l.is in

@@ -18,8 +18,8 @@ use Rattle.mask_states.specs.Total.{node_total, node_equal}
 use Rattle.mask_states.proofs.AllLaws.{keys_are_ordered}
 use Rattle.local_rules.specs.declared.local.Node.{Node}
 use Rattle.local_laws.proofs.AllLaws.{each_of}
-use Rattle.round_rules.specs.Families.{Family, node_of, nodes_of, Has, Below, AreFormed}
-use Rattle.round_laws.specs.Steps.{AreApart}
+use Rattle.round_rules.specs.Families.{Family, node_of, nodes_of, FamilyHas, Below, AreFormed}
+use Rattle.round_laws.specs.Steps.{HaveOwnKeys}
 use Rattle.round_laws.specs.Laws.{FamiliesAreTheirNodes}
 use Rattle.round_laws.proofs.Keys.{node_exact}
 
@@ -85,13 +85,13 @@ found (e ∷ es) n sorted i =
 pub sorted_parts : (e : NodeKey × AbsState) (es : List (NodeKey × AbsState)) → T (is_sorted node_cmp (e ∷ es)) → T (below_all node_cmp e.0 es) × T (is_sorted node_cmp es)
 sorted_parts e es h = both _ _ h
 
-pub has_member : (f : Family) (n : Node) → Contains (nodes_of f) n → Has f n
+pub has_member : (f : Family) (n : Node) → Contains (nodes_of f) n → FamilyHas f n
 has_member f n i = get-entries f n.key ∙ found (entries f) n (entries_sorted f) i
 
-pub member_has : (f : Family) (n : Node) → Has f n → Contains (nodes_of f) n
+pub member_has : (f : Family) (n : Node) → FamilyHas f n → Contains (nodes_of f) n
 member_has f n h = found_in n.key n.state (entries f) (sym (get-entries f n.key) ∙ h)
 
-nodes_apart : (es : List (NodeKey × AbsState)) → T (is_sorted node_cmp es) → AreApart (map node_of es)
+nodes_apart : (es : List (NodeKey × AbsState)) → T (is_sorted node_cmp es) → HaveOwnKeys (map node_of es)
 nodes_apart [] sorted = tt
 nodes_apart (e ∷ es) sorted =
     let p = both _ _ sorted in (

@@ -11,7 +11,7 @@ use Rattle.local_rules.specs.declared.local.Node.{Node}
 use Rattle.edge_rules.specs.Edges.{target}
 use Rattle.edge_laws.specs.Laws.{with_state}
 use Rattle.edge_laws.proofs.AllLaws.{edges_grow}
-use Rattle.round_rules.specs.Families.{Family, nodes_of, Has, Lands, Below, AreFormed, HasNoFault, LandIn}
+use Rattle.round_rules.specs.Families.{Family, nodes_of, FamilyHas, Lands, Below, AreFormed, HasNoFault, LandIn}
 use Rattle.round_rules.specs.Rounds.{IsNext, Comes}
 use Rattle.round_laws.proofs.AllLaws.{node_exact, comes_formed, first_has, has_member, member_has, lands_covered, formed_nodes}
 use Rattle.round_laws.specs.Reached.{IsKept, RoundsAreReached}
@@ -40,7 +40,7 @@ module _ (words : List ℕ) (A : List Entry) (holds : NodeKey → Bool) where
       (λ m c. clean m (has_member g m c)) (member_has f n has) edge in
       kept (with_state n o.from) (record { kind = e.kind; to = e.to; state = o.landed }) (has_member g (with_state n o.from) o.present) h o.is_edge
 
-  next_holds : (f g : Family) → IsNext words A f g → IsKept words A f holds → ((n : Node) → Has f n → holds n.key ≡ true) → (n : Node) → Has g n → holds n.key ≡ true
+  next_holds : (f g : Family) → IsNext words A f g → IsKept words A f holds → ((n : Node) → FamilyHas f n → holds n.key ≡ true) → (n : Node) → FamilyHas g n → holds n.key ≡ true
   next_holds f g next kept all n has =
       let h = retain_keys g holds in
       let up : Below f h = λ m there. lands_kept g m (all m there) (next.above m there) in
@@ -49,7 +49,7 @@ module _ (words : List ℕ) (A : List Entry) (holds : NodeKey → Bool) where
       kept_holds g n.key l.at l.is
 
   all_hold : (n : ℕ) (f : Family) → Comes words A n f → HasNoFault words A f → holds (entry_key root_inst) ≡ true → IsKept words A f holds
-      → (m : Node) → Has f m → holds m.key ≡ true
+      → (m : Node) → FamilyHas f m → holds m.key ≡ true
   all_hold zero f c clean root kept = λ m has. first_has A (λ k s. holds k ≡ true) root m (subst (λ (x : Family). get x m.key ≡ Some m.state) c has)
   all_hold (suc n) f c clean root kept =
       let formed = comes_formed words A n c.0 c.1 in

@@ -16,13 +16,13 @@ use Rattle.mask_states.specs.Order.{node_cmp}
 use Rattle.local_rules.specs.declared.local.Node.{Node}
 use Rattle.edge_rules.specs.declared.seeded.NodeForm.{NodeForm}
 use Rattle.edge_rules.specs.Expansion.{Seeds, HasKeyAt}
-use Rattle.edge_rules.specs.Families.{IsSound}
+use Rattle.edge_rules.specs.Families.{IsSoundFamily}
 use Rattle.certificate.specs.Claims.{Claim, node_keys, cells_of, most_cells}
 use Rattle.certificate.specs.Insts.{rank_in, need_in}
 use Rattle.certificate.proofs.AllLaws.{conditions_make_families_sound}
 use Rattle.round_rules.specs.Families.{Family, node_of, nodes_of}
 use Rattle.round_rules.specs.Solutions.{IsShown}
-use Rattle.round_laws.specs.Laws.{StandsFor}
+use Rattle.round_laws.specs.Laws.{StandsForShown}
 
 abbrev pair_of : Node → NodeKey × AbsState
 pair_of n = (n.key, n.state)
@@ -60,7 +60,7 @@ count_back : (ns : List Node) → length (map pair_of ns) ≡ length ns
 count_back [] = refl
 count_back (n ∷ ns) = omega (arith, count_back ns)
 
-pub stands : (words : List ℕ) (A : List Entry) (c : Claim) → IsShown words A c → StandsFor words A c
+pub stands : (words : List ℕ) (A : List Entry) (c : Claim) → IsShown words A c → StandsForShown words A c
 stands words A c shown =
     let ns = shown.sound.nodes in
     let keys : keys_at ns ≡ node_keys c.nodes = same_keys ns c.nodes shown.sound.expanded.count shown.sound.expanded.keys in
@@ -76,7 +76,7 @@ stands words A c shown =
         need_of = need_in c.instances;
         bound = c.bound;
         sound =
-            subst (λ (l : List Node). IsSound words A (record { nodes = l; rank_of = rank_in c.instances; need_of = need_in c.instances; bound = c.bound })) (sym nodes) sound;
+            subst (λ (l : List Node). IsSoundFamily words A (record { nodes = l; rank_of = rank_in c.instances; need_of = need_in c.instances; bound = c.bound })) (sym nodes) sound;
       };
       fits = record {
         few_nodes = omega (arith, len-entries g, ap length are, count_back ns, shown.sound.expanded.count, shown.claim.few_nodes);

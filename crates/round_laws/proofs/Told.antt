@@ -17,7 +17,7 @@ use Rattle.nesting_bound.specs.Cycle.{IsNamed, IsNoLater, group_of, number_of}
 use Rattle.round_rules.specs.Refusals.{IsReEntry, IsRecursion}
 use Rattle.round_rules.specs.Families.{Family}
 use Rattle.round_rules.specs.Rounds.{Entering, Reaches, once, more, IsAcyclic, AreRanks, AreNeeds, IsRootNeed}
-use Rattle.round_laws.specs.Graphs.{IsNumber, StandsFor, IsGraphOver, valued, GraphsTell}
+use Rattle.round_laws.specs.Graphs.{IsNumber, IsNumberFor, IsGraphOver, valued, GraphsTell}
 
 -- ---- values by numbers
 
@@ -96,28 +96,28 @@ module _ (words : List ℕ) (A : List Entry) (f : Family) (keys : List InstKey) 
   from_number i j offset e = is.numbered i (e.node, e.has, e.same)
 
   -- a number that stands for an instance with a number is that one
-  own_number : (i n : ℕ) (inst : InstKey) → StandsFor keys i inst → IsNumber keys n inst → i ≡ n
+  own_number : (i n : ℕ) (inst : InstKey) → IsNumberFor keys i inst → IsNumber keys n inst → i ≡ n
   own_number i n inst (inl e) d = is.once i n inst e d
   own_number i n inst (inr h) d = absurd (h.1 n d)
 
   -- ---- which reaches which
 
-  into_is : (n : ℕ) (k j : InstKey) → StandsFor keys n k → IsNumber keys n j → k ≡ j
+  into_is : (n : ℕ) (k j : InstKey) → IsNumberFor keys n k → IsNumber keys n j → k ≡ j
   into_is n k j (inl e) d = same_Some k j (sym e ∙ d)
   into_is n k j (inr h) d = let lt = slice_get_within keys n j d in absurd (omega (arith, lt, h.0))
 
-  entering_is : (a : ℕ) (e : Entered) (i j : InstKey) → graph.Enters gs a e → IsNumber keys a i → IsNumber keys e.into j → Entering words A f i j e.offset
+  entering_is : (a : ℕ) (e : Entered) (i j : InstKey) → graph.EntersAlong gs a e → IsNumber keys a i → IsNumber keys e.into j → Entering words A f i j e.offset
   entering_is a e i j h from to =
       let x = is.entered a e h in
       let is_i : x.inst ≡ i = same_Some x.inst i (sym x.from ∙ from) in
       let is_j : x.into ≡ j = into_is e.into x.into j x.to to in
       subst (λ (k : InstKey). Entering words A f i k e.offset) is_j (subst (λ (k : InstKey). Entering words A f k x.into e.offset) is_i x.entering)
 
-  number_from : (a b : ℕ) → graph.Reaches gs a b → (k : InstKey) × IsNumber keys a k
+  number_from : (a b : ℕ) → graph.ReachesBy gs a b → (k : InstKey) × IsNumber keys a k
   number_from _ _ (graph.once a e h) = let x = is.entered a e h in (x.inst, x.from)
   number_from _ _ (graph.more a b e h rest) = let x = is.entered a e h in (x.inst, x.from)
 
-  reached : (a b : ℕ) → graph.Reaches gs a b → (i j : InstKey) → IsNumber keys a i → IsNumber keys b j → Reaches words A f i j
+  reached : (a b : ℕ) → graph.ReachesBy gs a b → (i j : InstKey) → IsNumber keys a i → IsNumber keys b j → Reaches words A f i j
   reached _ _ (graph.once a e h) i j from to = once i j e.offset (entering_is a e i j h from to)
   reached _ _ (graph.more a b e h rest) i j from to =
       let mid = number_from e.into b rest in
@@ -127,21 +127,21 @@ module _ (words : List ℕ) (A : List Entry) (f : Family) (keys : List InstKey) 
   own_reach _ _ (once i j offset e) = from_number i j offset e
   own_reach _ _ (more i j k offset e rest) = from_number i j offset e
 
-  reaches : (i j : InstKey) → Reaches words A f i j → (a b : ℕ) → IsNumber keys a i → IsNumber keys b j → graph.Reaches gs a b
+  reaches : (i j : InstKey) → Reaches words A f i j → (a b : ℕ) → IsNumber keys a i → IsNumber keys b j → graph.ReachesBy gs a b
   reaches _ _ (once i j offset e) a b from to =
       let h = is.all_entered i j offset e in
       let is_a = is.once h.number a i h.from from in
       let is_b = own_number h.edge.into b j h.to to in
-      subst (λ (n : ℕ). graph.Reaches gs a n) is_b (subst (λ (n : ℕ). graph.Reaches gs n h.edge.into) is_a (graph.once h.number h.edge h.enters))
+      subst (λ (n : ℕ). graph.ReachesBy gs a n) is_b (subst (λ (n : ℕ). graph.ReachesBy gs n h.edge.into) is_a (graph.once h.number h.edge h.enters))
   reaches _ _ (more i j k offset e rest) a b from to =
       let h = is.all_entered i j offset e in
       let is_a = is.once h.number a i h.from from in
       let mid = own_reach j k rest in
       let is_m = own_number h.edge.into mid.0 j h.to mid.1 in
       let tail = reaches j k rest mid.0 b mid.1 to in
-      subst (λ (n : ℕ). graph.Reaches gs n b) is_a (graph.more h.number b h.edge h.enters (subst (λ (n : ℕ). graph.Reaches gs n b) (sym is_m) tail))
+      subst (λ (n : ℕ). graph.ReachesBy gs n b) is_a (graph.more h.number b h.edge h.enters (subst (λ (n : ℕ). graph.ReachesBy gs n b) (sym is_m) tail))
 
-  acyclic : ((i : ℕ) → graph.Reaches gs i i → ⊥) → IsAcyclic words A f
+  acyclic : ((i : ℕ) → graph.ReachesBy gs i i → ⊥) → IsAcyclic words A f
   acyclic never i h = let n = own_reach i i h in never n.0 (reaches i i h n.0 n.0 n.1 n.1)
 
   -- ---- the instance that is named
@@ -205,7 +205,7 @@ module _ (words : List ℕ) (A : List Entry) (f : Family) (keys : List InstKey) 
     rank_is i inst e = valued_at keys ranks i inst is.once (in_ranks i inst e) e
 
     -- what stands for an instance has no lower rank
-    rank_le : (i : ℕ) (inst : InstKey) → StandsFor keys i inst → valued keys ranks inst ≤ slice_index ranks i
+    rank_le : (i : ℕ) (inst : InstKey) → IsNumberFor keys i inst → valued keys ranks inst ≤ slice_index ranks i
     rank_le i inst (inl e) = omega (arith, rank_is i inst e)
     rank_le i inst (inr h) = omega (arith, valued_none keys ranks inst h.1)
 
@@ -221,7 +221,7 @@ module _ (words : List ℕ) (A : List Entry) (f : Family) (keys : List InstKey) 
     by_number_is : (rank : InstKey → ℕ) (i : ℕ) (inst : InstKey) → IsNumber keys i inst → by_number rank i ≡ rank inst
     by_number_is rank i inst e = ap (value_of rank) e
 
-    by_number_le : (rank : InstKey → ℕ) (i : ℕ) (inst : InstKey) → StandsFor keys i inst → by_number rank i ≤ rank inst
+    by_number_le : (rank : InstKey → ℕ) (i : ℕ) (inst : InstKey) → IsNumberFor keys i inst → by_number rank i ≤ rank inst
     by_number_le rank i inst (inl e) = omega (arith, by_number_is rank i inst e)
     by_number_le rank i inst (inr h) = none (slice_get keys i) refl
       where
@@ -229,7 +229,7 @@ module _ (words : List ℕ) (A : List Entry) (f : Family) (keys : List InstKey) 
         none None e = let z = ap (value_of rank) e in omega (arith, z)
         none (Some k) e = let lt = slice_get_within keys i k e in absurd (omega (arith, lt, h.0))
 
-    graph_ranks : (rank : InstKey → ℕ) → AreRanks words A f rank → graph.AreRanks gs (by_number rank)
+    graph_ranks : (rank : InstKey → ℕ) → AreRanks words A f rank → graph.AreGraphRanks gs (by_number rank)
     graph_ranks rank are i e h =
         let x = is.entered i e h in
         omega (arith, are x.inst x.into e.offset x.entering, by_number_is rank i x.inst x.from, by_number_le rank e.into x.into x.to)
@@ -249,7 +249,7 @@ module _ (words : List ℕ) (A : List Entry) (f : Family) (keys : List InstKey) 
       need_is i inst e =
           valued_at keys more_needs i inst is.once (let lt = in_needs i inst e in omega (arith, lt, more_length needs spare)) e ∙ more_by needs spare i (in_needs i inst e)
 
-      need_le : (i : ℕ) (inst : InstKey) → StandsFor keys i inst → valued keys more_needs inst ≤ slice_index needs i + spare
+      need_le : (i : ℕ) (inst : InstKey) → IsNumberFor keys i inst → valued keys more_needs inst ≤ slice_index needs i + spare
       need_le i inst (inl e) = omega (arith, need_is i inst e)
       need_le i inst (inr h) = omega (arith, valued_none keys more_needs inst h.1)
 
@@ -263,7 +263,7 @@ module _ (words : List ℕ) (A : List Entry) (f : Family) (keys : List InstKey) 
             omega (arith, least.are_needs.entered h.number h.edge h.enters, h.at, need_is h.number i h.from, need_le h.edge.into j h.to);
       }
 
-    graph_needs : (need : InstKey → ℕ) → AreNeeds words A f need → graph.AreNeeds gs (by_number need)
+    graph_needs : (need : InstKey → ℕ) → AreNeeds words A f need → graph.AreGraphNeeds gs (by_number need)
     graph_needs need are = record {
       offsets = λ i p has. let x = is.places i p has in omega (arith, are.offsets x.node p.offset x.has x.closed, by_number_is need i x.node.key.inst x.of);
       entered = λ i e h.

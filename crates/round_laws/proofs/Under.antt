@@ -17,7 +17,7 @@ use Rattle.edge_rules.specs.declared.edge.Edge.{Edge}
 use Rattle.edge_rules.specs.Edges.{raw_of, Enters, IsEdge, moving, entering, returning, target}
 use Rattle.edge_laws.specs.Laws.{with_state}
 use Rattle.edge_laws.proofs.AllLaws.{edges_grow}
-use Rattle.round_rules.specs.Families.{Family, nodes_of, Has, Lands, Below, AreFormed, HasInst, HasNoFault, LandIn}
+use Rattle.round_rules.specs.Families.{Family, nodes_of, FamilyHas, Lands, Below, AreFormed, FamilyHasInst, HasNoFault, LandIn}
 use Rattle.round_rules.specs.Rounds.{AreNeeds, IsNext, Comes}
 use Rattle.round_laws.proofs.Keys.{node_exact}
 use Rattle.round_laws.proofs.Least.{comes_formed, first_has}
@@ -42,7 +42,7 @@ module _ (words : List ℕ) (A : List Entry) where
   }
 
   -- the instance of an edge's target is the node's own, or one that it enters
-  edge_inst : {followed : Bool} (P : InstKey → Type 0) (f : Family) (n : Node) (e : Edge) → AreFormed followed f → Has f n → P n.key.inst
+  edge_inst : {followed : Bool} (P : InstKey → Type 0) (f : Family) (n : Node) (e : Edge) → AreFormed followed f → FamilyHas f n → P n.key.inst
       → ((way : EdgeKind) (inst : InstKey) (back : ℕ) → Enters words A n way inst back → P inst) → IsEdge words A (nodes_of f) n e → P e.to.inst
   edge_inst P f n _ formed has own enter (moving to clean member) =
       let raw = joins_are_least.keys (raw_of words A n).moves to member in
@@ -78,7 +78,7 @@ module _ (words : List ℕ) (A : List Entry) where
     is_under_is k e = grind (arith, nat_tests)
 
     next_under : (f g : Family) → AreFormed (has_pairs A) f → IsNext words A f g → HasNoFault words A g → AreNeeds words A f need
-        → ((n : Node) → Has f n → need n.key.inst ≤ need root_inst) → (n : Node) → Has g n → need n.key.inst ≤ need root_inst
+        → ((n : Node) → FamilyHas f n → need n.key.inst ≤ need root_inst) → (n : Node) → FamilyHas g n → need n.key.inst ≤ need root_inst
     next_under f g formed next clean are low n has =
         let h = retain_keys g is_under in
         let up : Below f h = λ m there. lands_kept g m (under_is m.key (low m there)) (next.above m there) in
@@ -90,7 +90,7 @@ module _ (words : List ℕ) (A : List Entry) where
         lands_kept g (target e) (under_is e.to le) (next.edges m e there edge) in
         is_under_is n.key (kept_under g n.key (next.least h up lands n has).at (next.least h up lands n has).is)
 
-    all_under : (n : ℕ) (f : Family) → Comes words A n f → HasNoFault words A f → AreNeeds words A f need → (m : Node) → Has f m → need m.key.inst ≤ need root_inst
+    all_under : (n : ℕ) (f : Family) → Comes words A n f → HasNoFault words A f → AreNeeds words A f need → (m : Node) → FamilyHas f m → need m.key.inst ≤ need root_inst
     all_under zero f c clean are = λ m has.
         first_has A (λ k s. need k.inst ≤ need root_inst) (omega arith) m (subst (λ (x : Family). get x m.key ≡ Some m.state) c has)
     all_under (suc n) f c clean are =
@@ -98,6 +98,6 @@ module _ (words : List ℕ) (A : List Entry) where
         let needs = needs_down c.0 f need formed c.4.formed c.4.above clean are in
         next_under c.0 f formed c.4 clean needs (all_under n c.0 c.1 c.2.faultless needs)
 
-  pub under_root : (n : ℕ) (f : Family) (need : InstKey → ℕ) → Comes words A n f → HasNoFault words A f → AreNeeds words A f need → (inst : InstKey) → HasInst f inst
+  pub under_root : (n : ℕ) (f : Family) (need : InstKey → ℕ) → Comes words A n f → HasNoFault words A f → AreNeeds words A f need → (inst : InstKey) → FamilyHasInst f inst
       → need inst ≤ need root_inst
   under_root n f need c clean are inst has = subst (λ (x : InstKey). need x ≤ need root_inst) has.2 (all_under need n f c clean are has.0 has.1)

@@ -15,7 +15,7 @@ use Rattle.nesting_bound.specs.Graph as graph
 use Rattle.nesting_bound.specs.Least.{IsLeast}
 use Rattle.nesting_bound.specs.Cycle.{IsNamed, group_of}
 use Rattle.round_rules.specs.Refusals.{IsReEntry, IsRecursion}
-use Rattle.round_rules.specs.Families.{Family, Has, HasInst}
+use Rattle.round_rules.specs.Families.{Family, FamilyHas, FamilyHasInst}
 use Rattle.round_rules.specs.Rounds.{Entering, IsAcyclic, AreRanks, AreNeeds, IsRootNeed}
 
 -- the instance has this number
@@ -23,16 +23,16 @@ abbrev pub IsNumber : List InstKey → ℕ → InstKey → Type 0
 IsNumber keys i inst = slice_get keys i ≡ Some inst
 
 -- the number stands for the instance: it is its own, or one behind all, and the instance has none
-abbrev pub StandsFor : List InstKey → ℕ → InstKey → Type 0
-StandsFor keys i inst = IsNumber keys i inst ⊎ ((length keys ≤ i) × ((j : ℕ) → IsNumber keys j inst → ⊥))
+abbrev pub IsNumberFor : List InstKey → ℕ → InstKey → Type 0
+IsNumberFor keys i inst = IsNumber keys i inst ⊎ ((length keys ≤ i) × ((j : ℕ) → IsNumber keys j inst → ⊥))
 
 -- an edge of the graph for this entry
-pub record HasEntered (keys : List InstKey) (gs : List GraphInst) (i j : InstKey) (offset : ℕ) : Type 0 where
+pub record HasEntryEdge (keys : List InstKey) (gs : List GraphInst) (i j : InstKey) (offset : ℕ) : Type 0 where
   pub number : ℕ
   pub edge : Entered
-  pub enters : graph.Enters gs number edge
+  pub enters : graph.EntersAlong gs number edge
   pub from : IsNumber keys number i
-  pub to : StandsFor keys edge.into j
+  pub to : IsNumberFor keys edge.into j
   pub at : edge.offset ≡ offset
 
 -- an entry of the family for this edge
@@ -40,11 +40,11 @@ pub record IsEntered (words : List ℕ) (A : List Entry) (f : Family) (keys : Li
   pub inst : InstKey
   pub into : InstKey
   pub from : IsNumber keys i inst
-  pub to : StandsFor keys e.into into
+  pub to : IsNumberFor keys e.into into
   pub entering : Entering words A f inst into e.offset
 
 -- a place of the graph for this node
-pub record HasNode (keys : List InstKey) (gs : List GraphInst) (inst : InstKey) (offset : ℕ) : Type 0 where
+pub record HasNodePlace (keys : List InstKey) (gs : List GraphInst) (inst : InstKey) (offset : ℕ) : Type 0 where
   pub number : ℕ
   pub place : Place
   pub has : graph.HasPlace gs number place
@@ -52,9 +52,9 @@ pub record HasNode (keys : List InstKey) (gs : List GraphInst) (inst : InstKey) 
   pub at : place.offset ≡ offset
 
 -- a node of the family for this place
-pub record IsPlaceOf (f : Family) (keys : List InstKey) (i offset : ℕ) : Type 0 where
+pub record IsFamilyPlace (f : Family) (keys : List InstKey) (i offset : ℕ) : Type 0 where
   pub node : Node
-  pub has : Has f node
+  pub has : FamilyHas f node
   pub closed : node.key.sp ≡ Closed offset
   pub of : IsNumber keys i node.key.inst
 
@@ -64,11 +64,11 @@ pub record IsGraphOver (words : List ℕ) (A : List Entry) (f : Family) (keys : 
   pub root : IsNumber keys 0 root_inst
   pub keyed : (i : ℕ) (g : GraphInst) (inst : InstKey) → slice_get gs i ≡ Some g → IsNumber keys i inst → g.key ≡ inst
   pub once : (i j : ℕ) (inst : InstKey) → IsNumber keys i inst → IsNumber keys j inst → i ≡ j
-  pub numbered : (inst : InstKey) → HasInst f inst → (i : ℕ) × IsNumber keys i inst
-  pub entered : (i : ℕ) (e : Entered) → graph.Enters gs i e → IsEntered words A f keys i e
-  pub all_entered : (i j : InstKey) (offset : ℕ) → Entering words A f i j offset → HasEntered keys gs i j offset
-  pub places : (i : ℕ) (p : Place) → graph.HasPlace gs i p → IsPlaceOf f keys i p.offset
-  pub all_places : (n : Node) (offset : ℕ) → Has f n → n.key.sp ≡ Closed offset → HasNode keys gs n.key.inst offset
+  pub numbered : (inst : InstKey) → FamilyHasInst f inst → (i : ℕ) × IsNumber keys i inst
+  pub entered : (i : ℕ) (e : Entered) → graph.EntersAlong gs i e → IsEntered words A f keys i e
+  pub all_entered : (i j : InstKey) (offset : ℕ) → Entering words A f i j offset → HasEntryEdge keys gs i j offset
+  pub places : (i : ℕ) (p : Place) → graph.HasPlace gs i p → IsFamilyPlace f keys i p.offset
+  pub all_places : (n : Node) (offset : ℕ) → FamilyHas f n → n.key.sp ≡ Closed offset → HasNodePlace keys gs n.key.inst offset
 
 -- the value of an instance by its number, and 0 where it has none
 abbrev pub valued : List InstKey → List ℕ → InstKey → ℕ
@@ -80,7 +80,7 @@ valued (k ∷ ks) (x ∷ xs) inst = if same_inst k inst then x else valued ks xs
 -- family, and the least need of instance 0 is the least need of the root. Needs may all be greater by one number.
 pub record GraphsTell : Type 0 where
   pub acyclic : (words : List ℕ) (A : List Entry) (f : Family) (keys : List InstKey) (gs : List GraphInst) → IsGraphOver words A f keys gs
-      → ((i : ℕ) → graph.Reaches gs i i → ⊥) → IsAcyclic words A f
+      → ((i : ℕ) → graph.ReachesBy gs i i → ⊥) → IsAcyclic words A f
   pub re_entry : (words : List ℕ) (A : List Entry) (f : Family) (keys : List InstKey) (gs : List GraphInst) (at v : ℕ) (inst : InstKey) → IsGraphOver words A f keys gs
       → IsNamed gs at → IsNumber keys at inst → inst.kind ≡ Vector v → IsReEntry words A f v inst.entry
   pub recursion : (words : List ℕ) (A : List Entry) (f : Family) (keys : List InstKey) (gs : List GraphInst) (at : ℕ) (inst : InstKey) → IsGraphOver words A f keys gs

@@ -8,20 +8,20 @@ use Rattle.mask_states.specs.Keys.{root_inst}
 use Rattle.local_rules.specs.declared.local.Node.{Node}
 use Rattle.local_rules.specs.Cover.{IsNodeIn}
 use Rattle.local_laws.specs.Laws.{AreNodesIn}
-use Rattle.edge_rules.specs.Families.{IsSound as IsSoundFamily}
+use Rattle.edge_rules.specs.Families.{IsSoundFamily as IsSoundFamily}
 use Rattle.certificate.specs.Claims.{Claim, IsClaim}
 use Rattle.certificate.specs.Valid.{IsValid}
 use Rattle.round_rules.specs.declared.refusal.Refusal.{Refusal}
-use Rattle.round_rules.specs.Families.{Family, nodes_of, Has, Below, AreFormed, HasInst, HasNoFault, cells, FitsLimits}
+use Rattle.round_rules.specs.Families.{Family, nodes_of, FamilyHas, Below, AreFormed, FamilyHasInst, HasNoFault, cells, FitsLimits}
 use Rattle.round_rules.specs.Rounds.{IsAcyclic, AreRanks, AreNeeds, IsRootNeed, IsNext, Comes}
 use Rattle.round_rules.specs.Refusals.{IsRefused, IsSolved, GoesBeyond}
 use Rattle.round_rules.specs.Solutions.{IsShown, IsSolution}
-use Rattle.round_laws.specs.Steps.{raised, raised_all, IsRoundOf, AreJoined, AreApart, weight}
+use Rattle.round_laws.specs.Steps.{raised, raised_all, IsRoundOf, AreJoined, HaveOwnKeys, weight}
 
 pub record FamiliesAreTheirNodes : Type 0 where
-  pub members : (f : Family) (n : Node) → Contains (nodes_of f) n ↔ Has f n
+  pub members : (f : Family) (n : Node) → Contains (nodes_of f) n ↔ FamilyHas f n
   pub same : {followed : Bool} (f g : Family) → AreFormed followed f → AreFormed followed g → Below f g → Below g f → f ≡ g
-  pub apart : (f : Family) → AreApart (nodes_of f)
+  pub apart : (f : Family) → HaveOwnKeys (nodes_of f)
 
 -- a family that shows a bound, with ranks and needs
 pub record IsValidFamily (words : List ℕ) (A : List Entry) (g : Family) : Type 0 where
@@ -31,7 +31,7 @@ pub record IsValidFamily (words : List ℕ) (A : List Entry) (g : Family) : Type
   pub sound : IsSoundFamily words A (record { nodes = nodes_of g; rank_of = rank_of; need_of = need_of; bound = bound })
 
 -- the family that a shown certificate stands for, within the limits
-pub record StandsFor (words : List ℕ) (A : List Entry) (c : Claim) : Type 0 where
+pub record StandsForShown (words : List ℕ) (A : List Entry) (c : Claim) : Type 0 where
   pub family : Family
   pub valid : IsValidFamily words A family
   pub fits : FitsLimits family
@@ -50,14 +50,14 @@ pub record RoundsAreLeast : Type 0 where
   pub few : (words : List ℕ) (A : List Entry) (n : ℕ) (f g : Family) → IsValidFamily words A g → Comes words A n f → len f ≤ len g
   pub fewer : (words : List ℕ) (A : List Entry) (n : ℕ) (f g : Family) → IsValidFamily words A g → Comes words A n f → cells f ≤ cells g
   -- a certificate whose nodes meet the conditions stands for a valid family
-  pub stands : (words : List ℕ) (A : List Entry) (c : Claim) → IsShown words A c → StandsFor words A c
+  pub stands : (words : List ℕ) (A : List Entry) (c : Claim) → IsShown words A c → StandsForShown words A c
   -- no refusal where one is valid
   pub never : (words : List ℕ) (A : List Entry) (n : ℕ) (c : Claim) (r : Refusal) → IsShown words A c → IsRefused words A n r → ⊥
   -- no needs of a solved family, and no bound of a valid certificate, are below the least need of the root
   pub bound : (words : List ℕ) (A : List Entry) (n : ℕ) (f : Family) (c : Claim) (d : ℕ) → IsShown words A c → Comes words A n f → IsRootNeed words A f d → d ≤ c.bound
   -- what enters no instance of its own has a need no greater than the root's
   pub under_root : (words : List ℕ) (A : List Entry) (n : ℕ) (f : Family) (need : InstKey → ℕ) → Comes words A n f → HasNoFault words A f → AreNeeds words A f need
-      → (inst : InstKey) → HasInst f inst → need inst ≤ need root_inst
+      → (inst : InstKey) → FamilyHasInst f inst → need inst ≤ need root_inst
 
 -- The rounds end at one number, with one family or one refusal, and go on before it.
 pub record RoundsEndOnce : Type 0 where

@@ -12,7 +12,7 @@ use Rattle.edge_rules.specs.declared.edge.Edge.{Edge}
 use Rattle.edge_rules.specs.Edges.{IsEdge, target}
 use Rattle.edge_rules.specs.Families.{IsCovered}
 use Rattle.abs_state.specs.Rank.{state_rank}
-use Rattle.round_rules.specs.Families.{Family, nodes_of, Has, Lands, Below, AreFormed, LandIn}
+use Rattle.round_rules.specs.Families.{Family, nodes_of, FamilyHas, Lands, Below, AreFormed, LandIn}
 
 -- a state joined with that which is there, if any
 abbrev pub joined_with : Option AbsState → AbsState → AbsState
@@ -31,7 +31,7 @@ raised_all f (n ∷ ns) = raised_all (raised f n) ns
 -- they.
 pub record IsRoundOf (words : List ℕ) (A : List Entry) (f : Family) (ns : List Node) : Type 0 where
   pub formed : (to : Node) → Contains ns to → IsNodeIn (has_pairs A) to.key to.state
-  pub all : (n : Node) (e : Edge) → Has f n → IsEdge words A (nodes_of f) n e → Lands f (target e) ⊎ IsCovered ns (target e)
+  pub all : (n : Node) (e : Edge) → FamilyHas f n → IsEdge words A (nodes_of f) n e → Lands f (target e) ⊎ IsCovered ns (target e)
   pub least : (h : Family) → Below f h → LandIn words A f h → (to : Node) → Contains ns to → Lands h to
 
 -- g is f with all of these nodes joined into it: the least family above f in which they land
@@ -42,9 +42,9 @@ pub record AreJoined (followed : Bool) (f : Family) (ns : List Node) (g : Family
   pub least : (h : Family) → Below f h → ((to : Node) → Contains ns to → Lands h to) → Below g h
 
 -- no two of the nodes have the same key
-abbrev pub AreApart : List Node → Type 0
-AreApart [] = ⊤
-AreApart (n ∷ ns) = ((m : Node) → Contains ns m → m.key ≡ n.key → ⊥) × AreApart ns
+abbrev pub HaveOwnKeys : List Node → Type 0
+HaveOwnKeys [] = ⊤
+HaveOwnKeys (n ∷ ns) = ((m : Node) → Contains ns m → m.key ≡ n.key → ⊥) × HaveOwnKeys ns
 
 -- how far a family is up: one for each node, and the rank of its state
 abbrev pub weight_of : List (NodeKey × AbsState) → ℕ

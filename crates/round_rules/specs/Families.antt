@@ -23,12 +23,12 @@ node_of e = record { key = e.0; state = e.1 }
 abbrev pub nodes_of : Family → List Node
 nodes_of f = map node_of (entries f)
 
-abbrev pub Has : Family → Node → Type 0
-Has f n = get f n.key ≡ Some n.state
+abbrev pub FamilyHas : Family → Node → Type 0
+FamilyHas f n = get f n.key ≡ Some n.state
 
 -- a node of the instance is there
-abbrev pub HasInst : Family → InstKey → Type 0
-HasInst f inst = (n : Node) × Has f n × (n.key.inst ≡ inst)
+abbrev pub FamilyHasInst : Family → InstKey → Type 0
+FamilyHasInst f inst = (n : Node) × FamilyHas f n × (n.key.inst ≡ inst)
 
 -- the family has a node of this key, with a state at least this one
 pub record Lands (f : Family) (n : Node) : Type 0 where
@@ -37,18 +37,18 @@ pub record Lands (f : Family) (n : Node) : Type 0 where
   pub above : IsStateWithin n.state at
 
 abbrev pub Below : Family → Family → Type 0
-Below f g = (n : Node) → Has f n → Lands g n
+Below f g = (n : Node) → FamilyHas f n → Lands g n
 
 -- its nodes are ones that the analysis works with, where pairs are followed or where they aren't
 abbrev pub AreFormed : Bool → Family → Type 0
-AreFormed followed f = (n : Node) → Has f n → IsNodeIn followed n.key n.state
+AreFormed followed f = (n : Node) → FamilyHas f n → IsNodeIn followed n.key n.state
 
 abbrev pub HasNoFault : List ℕ → List Entry → Family → Type 0
-HasNoFault words A f = (n : Node) → Has f n → IsFaultless words A n
+HasNoFault words A f = (n : Node) → FamilyHas f n → IsFaultless words A n
 
 -- each edge of f lands in the family h
 abbrev pub LandIn : List ℕ → List Entry → Family → Family → Type 0
-LandIn words A f h = (n : Node) (e : Edge) → Has f n → IsEdge words A (nodes_of f) n e → Lands h (target e)
+LandIn words A f h = (n : Node) (e : Edge) → FamilyHas f n → IsEdge words A (nodes_of f) n e → Lands h (target e)
 
 abbrev pub IsClosed : List ℕ → List Entry → Family → Type 0
 IsClosed words A f = LandIn words A f f

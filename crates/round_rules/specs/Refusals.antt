@@ -15,15 +15,15 @@ use Rattle.certificate.specs.declared.limit.Limit.TheVariants.{Nodes, Cells}
 use Rattle.certificate.specs.Claims.{most_nodes, most_cells}
 use Rattle.round_rules.specs.declared.refusal.Refusal.{Refusal}
 use Rattle.round_rules.specs.declared.refusal.Refusal.TheVariants as refusal
-use Rattle.round_rules.specs.Families.{Family, Has, cells, FitsLimits, HasNoFault, IsClosed}
-use Rattle.round_rules.specs.Rounds.{Reaches, IsAcyclic, IsRootNeed, Passes, Comes}
+use Rattle.round_rules.specs.Families.{Family, FamilyHas, cells, FitsLimits, HasNoFault, IsClosed}
+use Rattle.round_rules.specs.Rounds.{Reaches, IsAcyclic, IsRootNeed, PassesTests, Comes}
 
 -- ---- the tests, in their order
 
 -- the nodes, else the cells, are above the limits
-abbrev pub IsOver : Family → Limit → Type 0
-IsOver f Nodes = most_nodes < len f
-IsOver f Cells = (len f ≤ most_nodes) × (most_cells < cells f)
+abbrev pub IsOverSize : Family → Limit → Type 0
+IsOverSize f Nodes = most_nodes < len f
+IsOverSize f Cells = (len f ≤ most_nodes) × (most_cells < cells f)
 
 -- the word at which a fault is
 abbrev pub word_of : NodeFault → ℕ
@@ -37,17 +37,17 @@ word_of fault.Memory = 0
 -- a node has the fault
 pub record FaultAt (words : List ℕ) (A : List Entry) (f : Family) (x : NodeFault) : Type 0 where
   pub node : Node
-  pub has : Has f node
+  pub has : FamilyHas f node
   pub is : local words A node.key node.state ≡ Err x
 
 -- by cause, then word, then offset
-abbrev pub IsNoLater : NodeFault → NodeFault → Type 0
-IsNoLater x y =
+abbrev pub IsFaultNoLater : NodeFault → NodeFault → Type 0
+IsFaultNoLater x y =
     (cause_of x < cause_of y) ⊎ ((cause_of x ≡ cause_of y) × ((word_of x < word_of y) ⊎ ((word_of x ≡ word_of y) × (fault_offset x ≤ fault_offset y))))
 
 -- the least fault of all nodes
 abbrev pub IsLeastFault : List ℕ → List Entry → Family → NodeFault → Type 0
-IsLeastFault words A f x = FaultAt words A f x × ((y : NodeFault) → FaultAt words A f y → IsNoLater x y)
+IsLeastFault words A f x = FaultAt words A f x × ((y : NodeFault) → FaultAt words A f y → IsFaultNoLater x y)
 
 -- an instance of this vector, which begins at the word, reaches itself, and none of a lesser vector does
 pub record IsReEntry (words : List ℕ) (A : List Entry) (f : Family) (v word : ℕ) : Type 0 where
@@ -77,7 +77,7 @@ pub data Test : Type 0 where
 
 -- the first test that holds of the family
 abbrev pub FirstHolds : List ℕ → List Entry → Family → Test → Type 0
-FirstHolds words A f (over limit) = IsOver f limit
+FirstHolds words A f (over limit) = IsOverSize f limit
 FirstHolds words A f (faulty x) = FitsLimits f × IsLeastFault words A f x
 FirstHolds words A f (re_entry v word) = FitsLimits f × HasNoFault words A f × IsReEntry words A f v word
 FirstHolds words A f (recursion word) = FitsLimits f × HasNoFault words A f × IsRecursion words A f word
@@ -115,12 +115,12 @@ pub record IsRefused (words : List ℕ) (A : List Entry) (n : ℕ) (r : Refusal)
 -- the rounds end at family n, which is this one, without a refusal
 pub record IsSolved (words : List ℕ) (A : List Entry) (n : ℕ) (f : Family) : Type 0 where
   pub comes : Comes words A n f
-  pub passes : Passes words A f
+  pub passes : PassesTests words A f
   pub closed : IsClosed words A f
 
 -- the rounds end at none of the families 0 to n
 pub record GoesBeyond (words : List ℕ) (A : List Entry) (n : ℕ) : Type 0 where
   pub family : Family
   pub comes : Comes words A n family
-  pub passes : Passes words A family
+  pub passes : PassesTests words A family
   pub more : IsClosed words A family → ⊥

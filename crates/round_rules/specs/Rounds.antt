@@ -11,14 +11,14 @@ use Rattle.mask_states.specs.Keys.{root_inst, entry_key, offset_of}
 use Rattle.local_rules.specs.declared.local.Node.{Node}
 use Rattle.edge_rules.specs.Edges.{Enters}
 use Rattle.edge_rules.specs.Roots.{root_of}
-use Rattle.round_rules.specs.Families.{Family, Has, Below, AreFormed, HasNoFault, LandIn, IsClosed, FitsLimits}
+use Rattle.round_rules.specs.Families.{Family, FamilyHas, Below, AreFormed, HasNoFault, LandIn, IsClosed, FitsLimits}
 
 -- ---- which instance enters which
 
 -- a node of the first instance, with this offset, enters the second
 pub record Entering (words : List ℕ) (A : List Entry) (f : Family) (i j : InstKey) (offset : ℕ) : Type 0 where
   pub node : Node
-  pub has : Has f node
+  pub has : FamilyHas f node
   pub same : node.key.inst ≡ i
   pub at : offset_of node.key.sp ≡ offset
   pub way : EdgeKind
@@ -40,7 +40,7 @@ AreRanks words A f rank = (i j : InstKey) (offset : ℕ) → Entering words A f 
 -- An instance's need is at least the offset of each of its closed nodes, and at least what each instance that it enters needs behind the
 -- offset there and two bytes for the way back. An instance that has no node yet may have any need.
 pub record AreNeeds (words : List ℕ) (A : List Entry) (f : Family) (need : InstKey → ℕ) : Type 0 where
-  pub offsets : (n : Node) (offset : ℕ) → Has f n → n.key.sp ≡ Closed offset → offset ≤ need n.key.inst
+  pub offsets : (n : Node) (offset : ℕ) → FamilyHas f n → n.key.sp ≡ Closed offset → offset ≤ need n.key.inst
   pub entered : (i j : InstKey) (offset : ℕ) → Entering words A f i j offset → offset + 2 + need j ≤ need i
 
 -- the least need of the root
@@ -69,7 +69,7 @@ pub record IsNext (words : List ℕ) (A : List Entry) (f g : Family) : Type 0 wh
   pub least : (h : Family) → Below f h → LandIn words A f h → Below g h
 
 -- no test holds of the family
-pub record Passes (words : List ℕ) (A : List Entry) (f : Family) : Type 0 where
+pub record PassesTests (words : List ℕ) (A : List Entry) (f : Family) : Type 0 where
   pub fits : FitsLimits f
   pub faultless : HasNoFault words A f
   pub acyclic : IsAcyclic words A f
@@ -78,4 +78,4 @@ pub record Passes (words : List ℕ) (A : List Entry) (f : Family) : Type 0 wher
 -- the rounds come to family n, which is this one
 abbrev pub Comes : List ℕ → List Entry → ℕ → Family → Type 0
 Comes words A zero f = f ≡ first A
-Comes words A (suc n) g = (f : Family) × Comes words A n f × Passes words A f × (IsClosed words A f → ⊥) × IsNext words A f g
+Comes words A (suc n) g = (f : Family) × Comes words A n f × PassesTests words A f × (IsClosed words A f → ⊥) × IsNext words A f g

@@ -10,7 +10,7 @@ use Rattle.certificate.specs.Insts.{inst_keys, rank_in, need_in}
 use Rattle.certificate.specs.Valid.{IsSound}
 use Rattle.round_rules.specs.declared.refusal.Refusal.{Refusal}
 use Rattle.round_rules.specs.declared.refusal.Refusal.TheVariants.{Spent, Memory}
-use Rattle.round_rules.specs.Families.{Family, nodes_of, HasInst}
+use Rattle.round_rules.specs.Families.{Family, nodes_of, FamilyHasInst}
 use Rattle.round_rules.specs.Rounds.{AreRanks, AreNeeds}
 use Rattle.round_rules.specs.Refusals.{IsSolved, IsRefused, GoesBeyond}
 use Rattle.round_rules.specs.Sparse.{AreSparse}
@@ -26,7 +26,7 @@ pub record IsSolution (words : List ℕ) (A : List Entry) (f : Family) (c : Clai
   pub version : c.version ≡ written_version A
   pub expands : IsFilled words A c.nodes (nodes_of f)
   pub sparse : AreSparse words A (nodes_of f) c.nodes
-  pub instances : (inst : InstKey) → Contains (inst_keys c.instances) inst ↔ HasInst f inst
+  pub instances : (inst : InstKey) → Contains (inst_keys c.instances) inst ↔ FamilyHasInst f inst
   pub ranks : AreRanks words A f (rank_in c.instances)
   pub least_ranks : (rank : InstKey → ℕ) → AreRanks words A f rank → (inst : InstKey) → rank_in c.instances inst ≤ rank inst
   pub needs : AreNeeds words A f (need_in c.instances)
@@ -36,22 +36,22 @@ pub record IsSolution (words : List ℕ) (A : List Entry) (f : Family) (c : Clai
   pub unwitnessed : c.witness ≡ None
 
 -- the budget serves for family n
-abbrev pub IsWithin : Option ℕ → ℕ → Type 0
-IsWithin None n = ⊤
-IsWithin (Some steps) n = n ≤ steps
+abbrev pub IsWithinBudget : Option ℕ → ℕ → Type 0
+IsWithinBudget None n = ⊤
+IsWithinBudget (Some steps) n = n ≤ steps
 
 -- The rounds end within the budget at a solved family, and this is its certificate.
 pub record IsAnswer (words : List ℕ) (A : List Entry) (steps : Option ℕ) (c : Claim) : Type 0 where
   pub number : ℕ
   pub family : Family
-  pub within : IsWithin steps number
+  pub within : IsWithinBudget steps number
   pub solved : IsSolved words A number family
   pub solution : IsSolution words A family c
 
 -- The rounds end within the budget with this refusal.
 pub record IsRefusal (words : List ℕ) (A : List Entry) (steps : Option ℕ) (r : Refusal) : Type 0 where
   pub number : ℕ
-  pub within : IsWithin steps number
+  pub within : IsWithinBudget steps number
   pub refused : IsRefused words A number r
 
 -- What may be answered in place of a certificate: the one refusal, that the budget is spent, or want of memory, which says nothing.

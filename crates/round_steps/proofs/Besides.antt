@@ -8,9 +8,9 @@ use Rattle.mask_states.specs.declared.keys.InstKey.{InstKey}
 use Rattle.mask_states.specs.declared.keys.NodeKey.{NodeKey}
 use Rattle.local_rules.specs.declared.local.Exit.{Exit}
 use Rattle.call_graph.specs.declared.ways.Way.{Way}
-use Rattle.family_table.specs.declared.crossings.Crossing.{Crossing}
-use Rattle.family_table.specs.Crossings.{Groups, IsAdded}
-use Rattle.instance_nesting.specs.Nestings.{Noted, HasNode, HasEntrance}
+use Rattle.round_table.specs.declared.crossings.Crossing.{Crossing}
+use Rattle.round_table.specs.Crossings.{Groups, IsCrossingAdded}
+use Rattle.round_nesting.specs.Nestings.{Noted, IsNodeNoted, HasEntrance}
 use Rattle.round_steps.specs.declared.looking.Look.{Look}
 use Rattle.round_steps.specs.declared.noting.Notes.{Notes}
 use Rattle.round_steps.specs.Notings.{AnyHas, Besides, HasCrossing, caller, leaver, CallsBy, EntersBy, HasCallers, HasLeaver, HasEntrances, CallsAt, LeavesAt, InstAt, SpotAt, EntersAt, IsNoted, AreNoted}
@@ -37,7 +37,7 @@ besides_more old mid new xs x P a b y = (
 
 -- ---- who enters and who leaves
 
-pub callers_more : (old mid new : Groups) (k : NodeKey) (ws : List Way) (w : Way) → HasCallers old k ws mid → IsAdded mid w.inst (caller k w) new
+pub callers_more : (old mid new : Groups) (k : NodeKey) (ws : List Way) (w : Way) → HasCallers old k ws mid → IsCrossingAdded mid w.inst (caller k w) new
     → HasCallers old k (ws ++ w ∷ []) new
 callers_more old mid new k ws w a b =
     besides_more (HasCrossing old) (HasCrossing mid) (HasCrossing new) ws w (CallsBy k) a
@@ -49,7 +49,7 @@ callers_more old mid new k ws w a b =
 pub leaver_none : (old : Groups) (k : NodeKey) → HasLeaver old k None old
 leaver_none old k y = (λ o. inl o, λ s. ⊎_elim (λ o. o) (λ p. absurd (let e = p.0 in cc)) s)
 
-pub leaver_some : (old new : Groups) (k : NodeKey) (x : Exit) → IsAdded old k.inst (leaver k x) new → HasLeaver old k (Some x) new
+pub leaver_some : (old new : Groups) (k : NodeKey) (x : Exit) → IsCrossingAdded old k.inst (leaver k x) new → HasLeaver old k (Some x) new
 leaver_some old new k x b y = (
   λ n. ⊎_elim (λ m. inl m)
       (λ e. let same : x ≡ y.1.exit = sym (ap (λ (p : Crossing). p.exit) e.1) in
@@ -81,7 +81,7 @@ entrances_more old mid new k ws w a b = record {
 -- ---- looks
 
 pub noted_one : (old : Notes) (x : Look) (callers leavers : Groups) (mid nesting : Noted) (ws : List Way) → ws ≡ x.ways.items → HasCallers old.callers x.key ws callers
-    → HasLeaver old.leavers x.key x.part.exit leavers → HasNode old.nesting x.key mid → HasEntrances mid x.key ws nesting
+    → HasLeaver old.leavers x.key x.part.exit leavers → IsNodeNoted old.nesting x.key mid → HasEntrances mid x.key ws nesting
     → IsNoted old x (record { callers = callers; leavers = leavers; nesting = nesting })
 noted_one old x callers leavers mid nesting ws is c l n e = record {
   callers = subst (λ (v : List Way). HasCallers old.callers x.key v callers) is c;

@@ -16,9 +16,9 @@ use Rattle.local_rules.specs.Cover.{IsNodeIn}
 use Rattle.local_laws.proofs.AllLaws.{each_of}
 use Rattle.certificate.specs.Claims.{cells_of}
 use Rattle.round_rules.specs.Families.{Family, Lands, cells}
-use Rattle.round_laws.specs.Steps.{joined_with, raised, AreApart, weight}
+use Rattle.round_laws.specs.Steps.{joined_with, raised, HaveOwnKeys, weight}
 use Rattle.round_laws.proofs.AllLaws.{rounds_are_joins, at_keys, get_same, get_other, same_cells, found_here, found_later}
-use Rattle.round_steps.specs.Joins.{keys_of, AreNew, FitTogether, SoFar}
+use Rattle.round_steps.specs.Joins.{keys_of, AreNew, FitTogether, AreJoinedSoFar}
 
 -- ---- cells
 
@@ -84,7 +84,7 @@ as_many_cells f g n count before now counted is was become le =
 
 -- ---- joins
 
-pub none_yet : (f : Family) (count : ℕ) (all : List Node) → count ≡ cells f → FitTogether f all → AreNew f all → AreApart all → SoFar f all f count all []
+pub none_yet : (f : Family) (count : ℕ) (all : List Node) → count ≡ cells f → FitTogether f all → AreNew f all → HaveOwnKeys all → AreJoinedSoFar f all f count all []
 none_yet f count all counted fit fresh apart = record {
   joined = refl;
   counted = counted;
@@ -97,7 +97,7 @@ none_yet f count all counted fit fresh apart = record {
   more = omega arith;
 }
 
-module _ (f : Family) (all : List Node) (g : Family) (n : Node) (left : List Node) (changed : List NodeKey) (before : ℕ) (so : SoFar f all g before (n ∷ left) changed) where
+module _ (f : Family) (all : List Node) (g : Family) (n : Node) (left : List Node) (changed : List NodeKey) (before : ℕ) (so : AreJoinedSoFar f all g before (n ∷ left) changed) where
   node : IsNodeIn so.fit.followed n.key n.state
   node = so.fit.nodes n (first_in n left)
 
@@ -111,7 +111,7 @@ module _ (f : Family) (all : List Node) (g : Family) (n : Node) (left : List Nod
       landed : Lands (raised g n) n
       landed = (rounds_are_joins.joined g (n ∷ []) so.fit.formed (each_of (λ m. IsNodeIn so.fit.followed m.key m.state) n [] node (λ m i. absurd (none_in m i)))).lands n (first_in n [])
 
-  more_joined : (count : ℕ) → count ≡ cells (raised g n) → SoFar f all (raised g n) count left (changed ++ n.key ∷ [])
+  more_joined : (count : ℕ) → count ≡ cells (raised g n) → AreJoinedSoFar f all (raised g n) count left (changed ++ n.key ∷ [])
   more_joined count counted = record {
     joined = so.joined;
     counted = counted;
@@ -133,7 +133,7 @@ module _ (f : Family) (all : List Node) (g : Family) (n : Node) (left : List Nod
     more = let lt = higher in omega (arith, so.more, lt, length-append changed (n.key ∷ []));
   }
 
-  pub one_more : (h : Family) (now : List NodeKey) (count : ℕ) → h ≡ raised g n → count ≡ cells h → now ≡ changed ++ n.key ∷ [] → SoFar f all h count left now
+  pub one_more : (h : Family) (now : List NodeKey) (count : ℕ) → h ≡ raised g n → count ≡ cells h → now ≡ changed ++ n.key ∷ [] → AreJoinedSoFar f all h count left now
   one_more h now count is counted noted =
-      subst (SoFar f all h count left) (sym noted)
-      (subst (λ (x : Family). SoFar f all x count left (changed ++ n.key ∷ [])) (sym is) (more_joined count (counted ∙ ap cells is)))
+      subst (AreJoinedSoFar f all h count left) (sym noted)
+      (subst (λ (x : Family). AreJoinedSoFar f all x count left (changed ++ n.key ∷ [])) (sym is) (more_joined count (counted ∙ ap cells is)))

@@ -14,12 +14,12 @@ use Rattle.local_rules.specs.Local.{local}
 use Rattle.local_rules.specs.Faults.{cause_of, fault_offset, is_less}
 use Rattle.call_graph.specs.Ways.{ways_of}
 use Rattle.round_rules.specs.Families.{Family}
-use Rattle.round_rules.specs.Refusals.{IsNoLater, word_of}
+use Rattle.round_rules.specs.Refusals.{IsFaultNoLater, word_of}
 use Rattle.round_steps.specs.declared.looking.Look.{Look}
 use Rattle.round_steps.specs.declared.looking.Seen.{Seen}
 use Rattle.round_steps.specs.Looks.{IsLook, AreSeen, IsFaultSeen, IsSeenBesides, IsWorst}
 
-pub later_through : (x y z : NodeFault) → IsNoLater x y → IsNoLater y z → IsNoLater x z
+pub later_through : (x y z : NodeFault) → IsFaultNoLater x y → IsFaultNoLater y z → IsFaultNoLater x z
 later_through x y z (inl a) (inl b) = inl (omega (arith, a, b))
 later_through x y z (inl a) (inr b) = inl (omega (arith, a, b.0))
 later_through x y z (inr a) (inl b) = inl (omega (arith, b, a.0))
@@ -37,14 +37,14 @@ some_fault x y o a b = cc
 
 -- ---- which of two faults counts
 
-itself : (x : NodeFault) → IsNoLater x x
+itself : (x : NodeFault) → IsFaultNoLater x x
 itself x = inr (refl, inr (refl, omega arith))
 
-worst_stays : (o : Option NodeFault) (x y : NodeFault) → o ≡ Some x → IsNoLater x y → IsWorst o y x
-worst_stays o x y is first = record { later = first; kept = λ z e. subst (IsNoLater x) (some_fault x z o is e) (itself x); either = inr is }
+worst_stays : (o : Option NodeFault) (x y : NodeFault) → o ≡ Some x → IsFaultNoLater x y → IsWorst o y x
+worst_stays o x y is first = record { later = first; kept = λ z e. subst (IsFaultNoLater x) (some_fault x z o is e) (itself x); either = inr is }
 
-worst_changes : (o : Option NodeFault) (x y : NodeFault) → o ≡ Some x → IsNoLater y x → IsWorst o y y
-worst_changes o x y is first = record { later = itself y; kept = λ z e. subst (IsNoLater y) (some_fault x z o is e) first; either = inl refl }
+worst_changes : (o : Option NodeFault) (x y : NodeFault) → o ≡ Some x → IsFaultNoLater y x → IsWorst o y y
+worst_changes o x y is first = record { later = itself y; kept = λ z e. subst (IsFaultNoLater y) (some_fault x z o is e) first; either = inl refl }
 
 less_first : (c d v w x y : ℕ) → (d ≡ c → w ≡ v) → (nat_lt c d || ((c == d) && nat_lt x y)) ≡ true → (c < d) ⊎ ((c ≡ d) × ((v < w) ⊎ ((v ≡ w) × (x ≤ y))))
 less_first c d v w x y same less = grind (arith, nat_tests)

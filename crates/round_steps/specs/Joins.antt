@@ -5,7 +5,7 @@ use Rattle.mask_states.specs.declared.keys.NodeKey.{NodeKey}
 use Rattle.local_rules.specs.declared.local.Node.{Node}
 use Rattle.local_laws.specs.Laws.{AreNodesIn}
 use Rattle.round_rules.specs.Families.{Family, Lands, AreFormed, cells}
-use Rattle.round_laws.specs.Steps.{raised_all, AreApart, weight}
+use Rattle.round_laws.specs.Steps.{raised_all, HaveOwnKeys, weight}
 
 abbrev pub keys_of : List Node → List NodeKey
 keys_of = map (λ (n : Node). n.key)
@@ -25,11 +25,11 @@ pub record FitTogether (f : Family) (ns : List Node) : Type 0 where
   pub nodes : AreNodesIn followed ns
 
 -- g is f with some of the nodes joined into it, and these are left
-pub record SoFar (f : Family) (all : List Node) (g : Family) (count : ℕ) (left : List Node) (changed : List NodeKey) : Type 0 where
+pub record AreJoinedSoFar (f : Family) (all : List Node) (g : Family) (count : ℕ) (left : List Node) (changed : List NodeKey) : Type 0 where
   pub joined : raised_all g left ≡ raised_all f all
   pub counted : count ≡ cells g
   pub fresh : AreNew g left
-  pub apart : AreApart left
+  pub apart : HaveOwnKeys left
   pub fit : FitTogether g left
   pub formed : (followed : Bool) → AreFormed followed f → AreNodesIn followed all → AreFormed followed g × AreNodesIn followed left
   pub keys : changed ++ keys_of left ≡ keys_of all

@@ -9,7 +9,7 @@ use Rattle.local_rules.specs.declared.local.NodeFault.TheVariants.{Memory}
 use Rattle.local_rules.specs.Local.{local}
 use Rattle.call_graph.specs.Ways.{ways_of}
 use Rattle.round_rules.specs.Families.{Family}
-use Rattle.round_rules.specs.Refusals.{FaultAt, IsNoLater}
+use Rattle.round_rules.specs.Refusals.{FaultAt, IsFaultNoLater}
 use Rattle.round_steps.specs.declared.looking.Look.{Look}
 use Rattle.round_steps.specs.declared.looking.Seen.{Seen}
 
@@ -32,7 +32,7 @@ pub record HasFault (words : List ℕ) (A : List Entry) (worst : Option NodeFaul
   pub is : local words A k s ≡ Err fault
   pub first : NodeFault
   pub found : worst ≡ Some first
-  pub no_later : IsNoLater first fault
+  pub no_later : IsFaultNoLater first fault
 
 -- of these nodes of the family, each was looked at or has a fault, and the worst fault is one of theirs
 pub record AreSeen (words : List ℕ) (A : List Entry) (f : Family) (keys : List NodeKey) (seen : Seen) : Type 0 where
@@ -44,8 +44,8 @@ pub record AreSeen (words : List ℕ) (A : List Entry) (f : Family) (keys : List
 
 -- of the fault that counted and another, this counts
 pub record IsWorst (before : Option NodeFault) (fault now : NodeFault) : Type 0 where
-  pub later : IsNoLater now fault
-  pub kept : (x : NodeFault) → before ≡ Some x → IsNoLater now x
+  pub later : IsFaultNoLater now fault
+  pub kept : (x : NodeFault) → before ≡ Some x → IsFaultNoLater now x
   pub either : (now ≡ fault) ⊎ (before ≡ Some now)
 
 pub record IsFaultSeen (old : Seen) (fault : NodeFault) (new : Seen) : Type 0 where

@@ -7,9 +7,9 @@ use Rattle.mask_states.specs.declared.keys.SpForm.TheVariants.{Closed}
 use Rattle.mask_states.specs.Keys.{offset_of}
 use Rattle.local_rules.specs.declared.local.Exit.{Exit}
 use Rattle.call_graph.specs.declared.ways.Way.{Way}
-use Rattle.family_table.specs.declared.crossings.Crossing.{Crossing}
-use Rattle.family_table.specs.Crossings.{Groups, IsCrossing}
-use Rattle.instance_nesting.specs.Nestings.{Spot, Entrance, Noted, nothing}
+use Rattle.round_table.specs.declared.crossings.Crossing.{Crossing}
+use Rattle.round_table.specs.Crossings.{Groups, IsCrossing}
+use Rattle.round_nesting.specs.Nestings.{Spot, Entrance, Noted, nothing}
 use Rattle.round_steps.specs.declared.looking.Look.{Look}
 use Rattle.round_steps.specs.declared.noting.Notes.{Notes}
 

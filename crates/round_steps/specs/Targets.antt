@@ -10,8 +10,8 @@ use Rattle.local_rules.specs.declared.local.Exit.{Exit}
 use Rattle.local_rules.specs.declared.local.Node.{Node}
 use Rattle.call_graph.specs.declared.ways.Way.{Way}
 use Rattle.call_graph.specs.Next.{gathered, returned_node}
-use Rattle.family_table.specs.declared.crossings.Crossing.{Crossing}
-use Rattle.family_table.specs.Crossings.{Groups, crossings_at}
+use Rattle.round_table.specs.declared.crossings.Crossing.{Crossing}
+use Rattle.round_table.specs.Crossings.{Groups, crossings_at}
 use Rattle.round_rules.specs.Families.{Family}
 use Rattle.round_steps.specs.declared.looking.Look.{Look}
 use Rattle.round_steps.specs.declared.noting.Notes.{Notes}

@@ -1,15 +1,15 @@
 //! Nodes joined into a family.
 
-ghost use Rattle.std.specs.Prelude.{ℕ, Bool, ◌≡◌, ◌+◌, ◌≤◌, ◌++◌, ◌∷◌, [], length, IfOk, OnOk};
+ghost use Rattle.std.specs.Prelude.{Bool, ◌≡◌, ◌+◌, ◌≤◌, ◌++◌, ◌∷◌, [], length, IfOk, OnOk};
 ghost use Rattle.local_laws.specs.Laws.{AreNodesIn};
 ghost use Rattle.edge_rules.specs.Views.{IsOwnNode};
 ghost use Rattle.round_rules.specs.Families.{AreFormed, cells};
-ghost use Rattle.round_laws.specs.Steps.{raised, raised_all, AreApart, weight};
+ghost use Rattle.round_laws.specs.Steps.{raised, raised_all, HaveOwnKeys, weight};
 ghost use Rattle.round_steps.specs.Joins.{keys_of, AreNew, FitTogether, KeptBut};
 
-use family_table::Table;
 use local_rules::Node;
 use mask_states::NodeKey;
+use round_table::Table;
 use std::alloc::{AllocError, Global};
 
 // Joins one node into the table, whose cells are counted, and notes its key.
@@ -50,7 +50,7 @@ pub fn join_all(
     requires count { counted.old ≡ cells table.old }
     requires fit { FitTogether table.old nodes.items }
     requires fresh { AreNew table.old nodes.items }
-    requires apart { AreApart nodes.items }
+    requires apart { HaveOwnKeys nodes.items }
     ensures joined { OnOk result (table.new ≡ raised_all table.old nodes.items) }
     ensures count { OnOk result (counted.new ≡ cells table.new) }
     ensures formed { (followed : Bool) → AreFormed followed table.old → AreNodesIn followed nodes.items → OnOk result (AreFormed followed table.new) }

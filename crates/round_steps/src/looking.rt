@@ -15,9 +15,9 @@ use abs_state::AbsState;
 use abs_step::local;
 use call_graph::Task;
 use call_graph::ways::{Way, ways};
-use family_table::Table;
 use local_rules::{Local, NodeFault};
 use mask_states::NodeKey;
+use round_table::Table;
 use std::alloc::AllocError;
 
 /// Where a node leads.

@@ -3,16 +3,16 @@
 ghost use Rattle.std.specs.Prelude.{◌≡◌, ◌≤◌, OnOk, Contains};
 ghost use Rattle.avr_model.specs.State.{SIZE};
 ghost use Rattle.mask_states.specs.Keys.{offset_of};
-ghost use Rattle.instance_nesting.specs.Nestings.{AreOnce};
+ghost use Rattle.round_nesting.specs.Nestings.{AreOnce};
 ghost use Rattle.round_steps.specs.Notings.{blank, HasCallers, HasLeaver, HasEntrances, IsNoted, AreNoted};
 ghost use Rattle.round_steps.specs.declared.looking.Look as look_type;
 
 use crate::looking::Look;
 use call_graph::ways::Way;
-use family_table::{Crossing, Crossings};
-use instance_nesting::Nesting;
 use local_rules::Exit;
 use mask_states::{EdgeKind, NodeKey};
+use round_nesting::Nesting;
+use round_table::{Crossing, Crossings};
 use std::alloc::{AllocError, Global};
 
 /// What is noted of nodes.

@@ -7,16 +7,16 @@ ghost use Rattle.local_rules.specs.declared.local.Node as node_type;
 ghost use Rattle.local_laws.specs.Laws.{AreNodesIn};
 ghost use Rattle.edge_rules.specs.Views.{IsOwnNode};
 ghost use Rattle.round_steps.specs.Targets.{entry_node, returned_to, back_at, backs_in, all_backs, onward_at, onwards_if, crossings_of, targets_of, all_targets};
-ghost use Rattle.round_steps.specs.Gathers.{AreOwn, AreOwnNodes, IsGathered, AreGathered, AreBeyond};
+ghost use Rattle.round_steps.specs.Gathers.{AreOwn, AreOwnNodes, IsTargetGathered, AreTargetsGathered, AreBeyond};
 
 use crate::looking::Look;
 use crate::noting::Notes;
 use abs_state::AbsState;
 use call_graph::ways::Way;
 use call_graph::{Caller, returned};
-use family_table::{Crossing, Gathered, Table};
 use local_rules::{Exit, Node};
 use mask_states::{InstKey, NodeKey};
+use round_table::{Crossing, GatheredStates, Table};
 use std::alloc::{AllocError, Global};
 
 // A family of nodes, and what is noted of them.
@@ -207,9 +207,9 @@ fn add_targets(targets: &mut Vec<Node>, family: &Family<'_>, x: Look) -> Result<
 }
 
 // Joins a node into those of its key that are gathered, unless it lands in the family.
-fn gather_one(next: &mut Gathered, table: &Table, node: Node) -> Result<(), AllocError>
+fn gather_one(next: &mut GatheredStates, table: &Table, node: Node) -> Result<(), AllocError>
     requires { IsOwnNode node.key node.state }
-    ensures { OnOk result (IsGathered table.now next.old node next.new) }
+    ensures { OnOk result (IsTargetGathered table.now next.old node next.new) }
 {
     if table.covers(&node) {
         drop(node);
@@ -218,9 +218,9 @@ fn gather_one(next: &mut Gathered, table: &Table, node: Node) -> Result<(), Allo
     next.raise(node)
 }
 
-fn gather(next: &mut Gathered, table: &Table, nodes: Vec<Node>) -> Result<(), AllocError>
+fn gather(next: &mut GatheredStates, table: &Table, nodes: Vec<Node>) -> Result<(), AllocError>
     requires { AreOwnNodes nodes.items }
-    ensures { (followed : Bool) (before : List node_type.Node) → AreNodesIn followed nodes.items → AreGathered followed table.now before next.old → OnOk result (AreGathered followed table.now (before ++ nodes.items) next.new) }
+    ensures { (followed : Bool) (before : List node_type.Node) → AreNodesIn followed nodes.items → AreTargetsGathered followed table.now before next.old → OnOk result (AreTargetsGathered followed table.now (before ++ nodes.items) next.new) }
 {
     for node in nodes {
         gather_one(next, table, node)?;
@@ -229,10 +229,10 @@ fn gather(next: &mut Gathered, table: &Table, nodes: Vec<Node>) -> Result<(), Al
 }
 
 // The same of where one node leads.
-fn gather_targets(next: &mut Gathered, family: &Family<'_>, x: Look) -> Result<(), AllocError>
+fn gather_targets(next: &mut GatheredStates, family: &Family<'_>, x: Look) -> Result<(), AllocError>
     requires formed { AreOwn family.now.table.now }
     requires nodes { AreOwnNodes (targets_of family.now.table.now family.now.notes.now x) }
-    ensures { (followed : Bool) (before : List node_type.Node) → AreNodesIn followed (targets_of family.now.table.now family.now.notes.now x) → AreGathered followed family.now.table.now before next.old → OnOk result (AreGathered followed family.now.table.now (before ++ targets_of family.now.table.now family.now.notes.now x) next.new) }
+    ensures { (followed : Bool) (before : List node_type.Node) → AreNodesIn followed (targets_of family.now.table.now family.now.notes.now x) → AreTargetsGathered followed family.now.table.now before next.old → OnOk result (AreTargetsGathered followed family.now.table.now (before ++ targets_of family.now.table.now family.now.notes.now x) next.new) }
 {
     let mut nodes = Vec::new(family.alloc);
     match add_targets(&mut nodes, family, x) {
@@ -262,7 +262,7 @@ pub fn targets(
         table,
         notes,
     };
-    let mut next = Gathered::new(alloc);
+    let mut next = GatheredStates::new(alloc);
     for x in looks {
         gather_targets(&mut next, &family, x)?;
     }

@@ -26,9 +26,9 @@ abbrev pub Rose : ℕ → ℕ → Type 0
 Rose before after = one_more before ≤ after
 
 -- it is told that nothing is held
-abbrev pub IsMissing : Held → Type 0
-IsMissing Missing = ⊤
-IsMissing _ = ⊥
+abbrev pub TellsMissing : Held → Type 0
+TellsMissing Missing = ⊤
+TellsMissing _ = ⊥
 
 -- these bytes are the held ones, where that is told
 abbrev pub Gives : Held → List ℕ → Type 0
@@ -49,10 +49,10 @@ Exceeds Missing cap = ⊥
 Exceeds (Bytes held) cap = cap < length held
 
 -- the name of the last read that failed is this one, or it isn't told
-abbrev pub Blames : Blamed → List ℕ → Type 0
-Blames Unsaid name = ⊤
-Blames Nobody name = ⊥
-Blames (Name blamed) name = blamed ≡ name
+abbrev pub IsBlamed : Blamed → List ℕ → Type 0
+IsBlamed Unsaid name = ⊤
+IsBlamed Nobody name = ⊥
+IsBlamed (Name blamed) name = blamed ≡ name
 
 -- what is written after more of it was taken, where that is told
 abbrev pub grown : Option (List ℕ) → List ℕ → Option (List ℕ)

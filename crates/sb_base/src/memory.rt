@@ -6,7 +6,7 @@ ghost use Rattle.std.specs.List.{find};
 ghost use Rattle.std.specs.Str.{bytes_eq};
 ghost use Rattle.sb_base.specs.declared.outside.FileFault.TheVariants.{Failed as ReadFailed, TooLong, Memory as NoMemory};
 ghost use Rattle.sb_base.specs.declared.outside.SinkFault.TheVariants.{Failed as PutFailed, Memory as NoRoom};
-ghost use Rattle.sb_base.specs.Outside.{Bytes, Missing, IsMissing, Rose, Gives, MayExceed, Exceeds, Blames, greatest_count, grown};
+ghost use Rattle.sb_base.specs.Outside.{Bytes, Missing, TellsMissing, Rose, Gives, MayExceed, Exceeds, IsBlamed, greatest_count, grown};
 ghost use Rattle.sb_base.specs.Answers.{Answers};
 ghost use Rattle.sb_base.specs.Memory.{Store, Taken, held_in, blamed_of, is_listed, within, read_answer, after_read, limit_of, limited, put_answer, after_put};
 
@@ -151,14 +151,14 @@ impl Files for MemFiles {
     fn read(&mut self, alloc: Global, name: &str, cap: usize) -> Result<Vec<u8>, FileFault>
         ensures bytes { IfOk result (λ v. Gives (held_in self.old.files name.now) v.items) }
         ensures cap { IfOk result (λ v. length v.items ≤ cap) }
-        ensures missing { IsMissing (held_in self.old.files name.now) → result ≢ Err NoMemory → result ≡ Err ReadFailed }
+        ensures missing { TellsMissing (held_in self.old.files name.now) → result ≢ Err NoMemory → result ≡ Err ReadFailed }
         ensures too_long { result ≡ Err TooLong → MayExceed (held_in self.old.files name.now) cap }
         ensures long { Exceeds (held_in self.old.files name.now) cap → result ≢ Err ReadFailed → result ≢ Err NoMemory → result ≡ Err TooLong }
         ensures same { (n : List ℕ) → held_in self.new.files n ≡ held_in self.old.files n }
         ensures later { self.old.faults ≤ self.new.faults }
         ensures bounded { self.new.faults ≤ greatest_count }
         ensures failed { result ≡ Err ReadFailed → Rose self.old.faults self.new.faults }
-        ensures blames { result ≡ Err ReadFailed → Blames (blamed_of self.new.blamed) name.now }
+        ensures blames { result ≡ Err ReadFailed → IsBlamed (blamed_of self.new.blamed) name.now }
         ensures kept { result ≢ Err ReadFailed → self.new.faults ≡ self.old.faults }
         ensures kept_blame { result ≢ Err ReadFailed → blamed_of self.new.blamed ≡ blamed_of self.old.blamed }
         ensures exact { Answers (λ v. v.items) NoMemory result (read_answer self.old name.now cap) }

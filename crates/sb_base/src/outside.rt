@@ -3,7 +3,7 @@
 ghost use Rattle.std.specs.Prelude.{◌≡◌, ◌≢◌, ◌≤◌, ◌<◌, ◌-◌, ℕ, List, Option, length, take, IfOk, OnOk, OnErr};
 ghost use Rattle.sb_base.specs.declared.outside.FileFault.TheVariants.{Failed as ReadFailed, TooLong, Memory as NoMemory};
 ghost use Rattle.sb_base.specs.declared.outside.SinkFault.TheVariants.{Failed as PutFailed, Memory as NoRoom};
-ghost use Rattle.sb_base.specs.Outside.{Held, Blamed, IsMissing, Rose, Gives, MayExceed, Exceeds, Blames, greatest_count, grown, GrewByPrefix};
+ghost use Rattle.sb_base.specs.Outside.{Held, Blamed, TellsMissing, Rose, Gives, MayExceed, Exceeds, IsBlamed, greatest_count, grown, GrewByPrefix};
 
 use std::alloc::Global;
 
@@ -43,14 +43,14 @@ pub trait Files {
     fn read(&mut self, alloc: Global, name: &str, cap: usize) -> Result<Vec<u8>, FileFault>
         ensures bytes { IfOk result (λ v. Gives (holds self.old name.now) v.items) }
         ensures cap { IfOk result (λ v. length v.items ≤ cap) }
-        ensures missing { IsMissing (holds self.old name.now) → result ≢ Err NoMemory → result ≡ Err ReadFailed }
+        ensures missing { TellsMissing (holds self.old name.now) → result ≢ Err NoMemory → result ≡ Err ReadFailed }
         ensures too_long { result ≡ Err TooLong → MayExceed (holds self.old name.now) cap }
         ensures long { Exceeds (holds self.old name.now) cap → result ≢ Err ReadFailed → result ≢ Err NoMemory → result ≡ Err TooLong }
         ensures same { (n : List ℕ) → holds self.new n ≡ holds self.old n }
         ensures later { faults self.old ≤ faults self.new }
         ensures bounded { faults self.new ≤ greatest_count }
         ensures failed { result ≡ Err ReadFailed → Rose (faults self.old) (faults self.new) }
-        ensures blames { result ≡ Err ReadFailed → Blames (blamed self.new) name.now }
+        ensures blames { result ≡ Err ReadFailed → IsBlamed (blamed self.new) name.now }
         ensures kept { result ≢ Err ReadFailed → faults self.new ≡ faults self.old }
         ensures kept_blame { result ≢ Err ReadFailed → blamed self.new ≡ blamed self.old };
 }

@@ -24,7 +24,7 @@ impl<'a> DiskFiles<'a> {
     }
 }
 
-/// What an error of the system means to a reader.
+// What an error of the system means to a reader.
 fn fault_of(error: &io::Error) -> FileFault {
     if error.kind() == ErrorKind::OutOfMemory {
         FileFault::Memory
@@ -33,7 +33,7 @@ fn fault_of(error: &io::Error) -> FileFault {
     }
 }
 
-/// The open file.
+// The open file.
 fn open(rt: &HostRuntime, name: &str) -> Result<File, FileFault> {
     for _ in 0..u64::MAX {
         match fs::open(rt, name) {
@@ -45,7 +45,7 @@ fn open(rt: &HostRuntime, name: &str) -> Result<File, FileFault> {
     Err(FileFault::Failed)
 }
 
-/// Reads the file's next bytes into the piece, and says how many; 0 at the end.
+// Reads the file's next bytes into the piece, and says how many; 0 at the end.
 fn read_piece(file: &mut File, piece: &mut [u8]) -> Result<usize, FileFault>
     ensures count { IfOk result (λ n. n ≤ length piece.old) }
     ensures room { length piece.new ≡ length piece.old }
@@ -60,7 +60,7 @@ fn read_piece(file: &mut File, piece: &mut [u8]) -> Result<usize, FileFault>
     Err(FileFault::Failed)
 }
 
-/// The bytes of a file, if they are at most `cap`.
+// The bytes of a file, if they are at most `cap`.
 fn read_whole(alloc: Global, rt: &HostRuntime, name: &str, cap: usize) -> Result<Vec<u8>, FileFault>
     ensures { IfOk result (λ v. length v.items ≤ cap) }
 {
@@ -116,7 +116,7 @@ impl<'a> StdSink<'a> {
     }
 }
 
-/// Writes the first bytes of the piece, and says how many; none where the system refuses.
+// Writes the first bytes of the piece, and says how many; none where the system refuses.
 fn write_piece(rt: &HostRuntime, piece: &[u8]) -> Option<usize>
     ensures { IfSome result (λ n. n ≤ length piece.now) }
 {

@@ -33,113 +33,113 @@ use Rattle.replies.specs.Headline.{HasWords, ReadsWords, AcceptingRepliesHold, R
 use Rattle.stack_core.specs.declared.reply.Reply.{Reply as Answered}
 use Rattle.command_files.specs.Reading.{seen_under, seen_whole, AreBytes}
 use Rattle.command_files.proofs.AllLaws.{whole_reply}
-use Rattle.stack_core.specs.Answer.{IsAnswered, IsWritten, IsReadFault, IsSettled, IsAnswer, IsCutOff}
+use Rattle.stack_core.specs.Answer.{IsAnswered, IsReplyWritten, IsReadFault, IsSettledAnswer, IsOutcome, IsCutOff}
 
 -- ---- no reply has a status that isn't the reply's
 
 -- not the statuses of usage, of a read fault, of a write fault and of want of memory
-record IsPlain (status : ℕ) : Type 0 where
+record IsReplyPlain (status : ℕ) : Type 0 where
   two : status ≢ 2
   three : status ≢ 3
   four : status ≢ 4
   twelve : status ≢ 12
 
-abbrev IsApart : Reply → Type 0
-IsApart R = (status : ℕ) (text : List ℕ) → R status text → IsPlain status
+abbrev IsPlainApart : Reply → Type 0
+IsPlainApart R = (status : ℕ) (text : List ℕ) → R status text → IsReplyPlain status
 
-at : (n status : ℕ) → IsPlain n → status ≡ n → IsPlain status
-at n status h e = subst IsPlain (sym e) h
+at : (n status : ℕ) → IsReplyPlain n → status ≡ n → IsReplyPlain status
+at n status h e = subst IsReplyPlain (sym e) h
 
-zero_plain : IsPlain 0
+zero_plain : IsReplyPlain 0
 zero_plain = record { two = λ e. cc; three = λ e. cc; four = λ e. cc; twelve = λ e. cc }
 
-one_plain : IsPlain 1
+one_plain : IsReplyPlain 1
 one_plain = record { two = λ e. cc; three = λ e. cc; four = λ e. cc; twelve = λ e. cc }
 
-five_plain : IsPlain 5
+five_plain : IsReplyPlain 5
 five_plain = record { two = λ e. cc; three = λ e. cc; four = λ e. cc; twelve = λ e. cc }
 
-six_plain : IsPlain 6
+six_plain : IsReplyPlain 6
 six_plain = record { two = λ e. cc; three = λ e. cc; four = λ e. cc; twelve = λ e. cc }
 
-seven_plain : IsPlain 7
+seven_plain : IsReplyPlain 7
 seven_plain = record { two = λ e. cc; three = λ e. cc; four = λ e. cc; twelve = λ e. cc }
 
-eight_plain : IsPlain 8
+eight_plain : IsReplyPlain 8
 eight_plain = record { two = λ e. cc; three = λ e. cc; four = λ e. cc; twelve = λ e. cc }
 
-nine_plain : IsPlain 9
+nine_plain : IsReplyPlain 9
 nine_plain = record { two = λ e. cc; three = λ e. cc; four = λ e. cc; twelve = λ e. cc }
 
-ten_plain : IsPlain 10
+ten_plain : IsReplyPlain 10
 ten_plain = record { two = λ e. cc; three = λ e. cc; four = λ e. cc; twelve = λ e. cc }
 
-eleven_plain : IsPlain 11
+eleven_plain : IsReplyPlain 11
 eleven_plain = record { two = λ e. cc; three = λ e. cc; four = λ e. cc; twelve = λ e. cc }
 
-thirteen_plain : IsPlain 13
+thirteen_plain : IsReplyPlain 13
 thirteen_plain = record { two = λ e. cc; three = λ e. cc; four = λ e. cc; twelve = λ e. cc }
 
-fourteen_plain : IsPlain 14
+fourteen_plain : IsReplyPlain 14
 fourteen_plain = record { two = λ e. cc; three = λ e. cc; four = λ e. cc; twelve = λ e. cc }
 
-refuses_apart : (n : ℕ) → IsPlain n → (o : Option (List ℕ)) → IsApart (Refuses n o)
+refuses_apart : (n : ℕ) → IsReplyPlain n → (o : Option (List ℕ)) → IsPlainApart (Refuses n o)
 refuses_apart n p None s t h = absurd h
 refuses_apart n p (Some x) s t h = at n s p h.0
 
-file_apart : (name : List ℕ) (seen : Seen) (next : List ℕ → Reply) → ((bytes : List ℕ) → IsApart (next bytes)) → IsApart (WithFile name seen next)
+file_apart : (name : List ℕ) (seen : Seen) (next : List ℕ → Reply) → ((bytes : List ℕ) → IsPlainApart (next bytes)) → IsPlainApart (WithFile name seen next)
 file_apart name Unread next f s t h = absurd h
 file_apart name (Whole bytes) next f s t h = f bytes s t h
 file_apart name Long next f s t h = at 5 s five_plain h.0
 
-bytes_apart : (o : Option (List ℕ)) (seen : Seen) (next : List ℕ → Reply) → ((bytes : List ℕ) → IsApart (next bytes)) → IsApart (WithBytes o seen next)
+bytes_apart : (o : Option (List ℕ)) (seen : Seen) (next : List ℕ → Reply) → ((bytes : List ℕ) → IsPlainApart (next bytes)) → IsPlainApart (WithBytes o seen next)
 bytes_apart None seen next f s t h = f [] s t h
 bytes_apart (Some name) seen next f s t h = file_apart name seen next f s t h
 
-optional_apart : (o : Option (List ℕ)) (seen : Seen) (next : Option (List ℕ) → Reply) → ((list : Option (List ℕ)) → IsApart (next list)) → IsApart (WithOptional o seen next)
+optional_apart : (o : Option (List ℕ)) (seen : Seen) (next : Option (List ℕ) → Reply) → ((list : Option (List ℕ)) → IsPlainApart (next list)) → IsPlainApart (WithOptional o seen next)
 optional_apart None seen next f s t h = f None s t h
 optional_apart (Some name) seen next f s t h = file_apart name seen (λ bytes. next (Some bytes)) (λ bytes. f (Some bytes)) s t h
 
-image_apart : (o : Option (List ℕ)) (reply : Reply) → IsApart reply → IsApart (ImageBy o reply)
+image_apart : (o : Option (List ℕ)) (reply : Reply) → IsPlainApart reply → IsPlainApart (ImageBy o reply)
 image_apart (Some refusal) reply f s t h = at 6 s six_plain h.0
 image_apart None reply f s t h = f s t h
 
-list_apart : (x : Result (List Entry) AssumeText) (next : List Entry → Reply) → ((A : List Entry) → IsApart (next A)) → IsApart (ListBy x next)
+list_apart : (x : Result (List Entry) AssumeText) (next : List Entry → Reply) → ((A : List Entry) → IsPlainApart (next A)) → IsPlainApart (ListBy x next)
 list_apart (Ok A) next f s t h = f A s t h
 list_apart (Err fault) next f s t h = refuses_apart 7 seven_plain (assumptions_refused fault) s t h
 
-with_list_apart : (list : Option (List ℕ)) (next : List Entry → Reply) → ((A : List Entry) → IsApart (next A)) → IsApart (WithList list next)
+with_list_apart : (list : Option (List ℕ)) (next : List Entry → Reply) → ((A : List Entry) → IsPlainApart (next A)) → IsPlainApart (WithList list next)
 with_list_apart None next f = f []
 with_list_apart (Some bytes) next f = list_apart (entries_in bytes) next f
 
-attained_apart : (next : Reply) (attained : Bool) → IsApart next → IsApart (AttainedBy next attained)
+attained_apart : (next : Reply) (attained : Bool) → IsPlainApart next → IsPlainApart (AttainedBy next attained)
 attained_apart next true f s t h = f s t h
 attained_apart next false f s t h = at 1 s one_plain h.0
 
-witness_apart : (words : List ℕ) (A : List Entry) (next : Reply) (bound : ℕ) (w : Option Plan) → IsApart next → IsApart (WitnessReply words A next bound w)
+witness_apart : (words : List ℕ) (A : List Entry) (next : Reply) (bound : ℕ) (w : Option Plan) → IsPlainApart next → IsPlainApart (WitnessReply words A next bound w)
 witness_apart words A next bound None f s t h = f s t h
 witness_apart words A next bound (Some plan) f s t h = attained_apart next (attains bound (replay_of words A plan)) f s t h
 
-verdict_apart : (words : List ℕ) (A : List Entry) (next : Claim → Reply) (c : Claim) (v : Verdict) → IsApart (next c) → IsApart (VerdictReply words A next c v)
+verdict_apart : (words : List ℕ) (A : List Entry) (next : Claim → Reply) (c : Claim) (v : Verdict) → IsPlainApart (next c) → IsPlainApart (VerdictReply words A next c v)
 verdict_apart words A next c (Rejected reason) f s t h = at 1 s one_plain h.0
 verdict_apart words A next c (Accepted bound) f s t h = witness_apart words A (next c) bound c.witness f s t h
 
-certificate_apart : (words : List ℕ) (A : List Entry) (next : Claim → Reply) (x : Result Claim CertFault) → ((c : Claim) → IsApart (next c)) → IsApart (CertificateReply words A next x)
+certificate_apart : (words : List ℕ) (A : List Entry) (next : Claim → Reply) (x : Result Claim CertFault) → ((c : Claim) → IsPlainApart (next c)) → IsPlainApart (CertificateReply words A next x)
 certificate_apart words A next (Err fault) f s t h = refuses_apart 8 eight_plain (certificate_refused fault) s t h
 certificate_apart words A next (Ok c) f s t h = verdict_apart words A next c h.verdict (f c) s t h.reply
 
-accepted_apart : (text : Claim → List ℕ) (c : Claim) → IsApart (Says 0 (text c))
+accepted_apart : (text : Claim → List ℕ) (c : Claim) → IsPlainApart (Says 0 (text c))
 accepted_apart text c s t h = at 0 s zero_plain h.0
 
-clear_apart : (words : List ℕ) (c : Claim) (v : ClearVerdict) → IsApart (ClearSays words c v)
+clear_apart : (words : List ℕ) (c : Claim) (v : ClearVerdict) → IsPlainApart (ClearSays words c v)
 clear_apart words c clear.Clear s t h = at 0 s zero_plain h.0
 clear_apart words c (clear.Unclear node pc) s t h = at 13 s thirteen_plain h.0
 
-simulate_apart : (words : List ℕ) (A : List Entry) (steps : ℕ) (x : Result Setup DevicesFault) → IsApart (SimulateReply words A steps x)
+simulate_apart : (words : List ℕ) (A : List Entry) (steps : ℕ) (x : Result Setup DevicesFault) → IsPlainApart (SimulateReply words A steps x)
 simulate_apart words A steps (Err fault) s t h = refuses_apart 14 fourteen_plain (devices_refused fault) s t h
 simulate_apart words A steps (Ok setup) s t h = at 0 s zero_plain h.0
 
-why_not_plain : (r : Refusal) → IsPlain (why_not_status r)
+why_not_plain : (r : Refusal) → IsReplyPlain (why_not_status r)
 why_not_plain (refusal.UnresolvedJump pc) = ten_plain
 why_not_plain (refusal.Recursion pc) = ten_plain
 why_not_plain (refusal.ReEntry v pc) = ten_plain
@@ -151,30 +151,30 @@ why_not_plain (refusal.UnknownPointer pc) = ten_plain
 why_not_plain (refusal.Spent n) = eleven_plain
 why_not_plain refusal.Memory = ten_plain
 
-why_not_apart : (words : List ℕ) (A : List Entry) (steps : Option ℕ) → IsApart (WhyNotReply words A steps)
+why_not_apart : (words : List ℕ) (A : List Entry) (steps : Option ℕ) → IsPlainApart (WhyNotReply words A steps)
 why_not_apart words A steps s t h = refuses_apart (why_not_status h.refusal) (why_not_plain h.refusal) (why_not_text words h.refusal) s t h.says
 
-analyse_apart : (words : List ℕ) (A : List Entry) (steps : Option ℕ) → IsApart (AnalyseReply words A steps)
+analyse_apart : (words : List ℕ) (A : List Entry) (steps : Option ℕ) → IsPlainApart (AnalyseReply words A steps)
 analyse_apart words A steps s t (inl h) = at 0 s zero_plain h.says.0
 analyse_apart words A steps s t (inr h) = why_not_apart words A steps s t h
 
-demo_apart : (size : ℕ) → IsApart (DemoReply size)
+demo_apart : (size : ℕ) → IsPlainApart (DemoReply size)
 demo_apart size s t (inl h) = at 0 s zero_plain h.says.0
 demo_apart size s t (inr h) = why_not_apart (demo_words size) [] None s t h
 
-run_apart : (x : Result Replayed ℕ) → IsApart (RunReply x)
+run_apart : (x : Result Replayed ℕ) → IsPlainApart (RunReply x)
 run_apart (Err step) s t h = at 9 s nine_plain h.0
 run_apart (Ok r) s t h = at 0 s zero_plain h.0
 
-ends_apart : (ls : List TextLine) (place : ℕ) (reply : Reply) → IsApart reply → IsApart (EndsBefore ls place reply)
+ends_apart : (ls : List TextLine) (place : ℕ) (reply : Reply) → IsPlainApart reply → IsPlainApart (EndsBefore ls place reply)
 ends_apart [] place reply f s t h = f s t h
 ends_apart (l ∷ ls) place reply f s t h = at 9 s nine_plain h.0
 
-schedule_apart : (words : List ℕ) (A : List Entry) (x : Result (Plan × Place) ℕ) → IsApart (ScheduleReply words A x)
+schedule_apart : (words : List ℕ) (A : List Entry) (x : Result (Plan × Place) ℕ) → IsPlainApart (ScheduleReply words A x)
 schedule_apart words A (Err place) s t h = at 9 s nine_plain h.0
 schedule_apart words A (Ok r) s t h = ends_apart r.1.rest r.1.at (RunReply (replay_of words A r.0)) (run_apart (replay_of words A r.0)) s t h
 
-flash_apart : (c : Command) (firmware bytes words : List ℕ) (A : List Entry) → IsApart (FlashReply c firmware bytes words A)
+flash_apart : (c : Command) (firmware bytes words : List ℕ) (A : List Entry) → IsPlainApart (FlashReply c firmware bytes words A)
 flash_apart (Check device f k a) firmware bytes words A =
     certificate_apart words A (AcceptedReply (Check device f k a) firmware words A) (certificate_in bytes) (accepted_apart (told_of (Check device f k a) firmware))
 flash_apart (Analyse device f a steps) firmware bytes words A = analyse_apart words A steps
@@ -193,12 +193,12 @@ flash_apart (Attain device f k a trials) firmware bytes words A =
 flash_apart (Simulate device f k a steps) firmware bytes words A = simulate_apart words A steps (setup_in bytes)
 flash_apart (Demo size) firmware bytes words A = demo_apart size
 
-on_image_apart : (c : Command) (firmware second : List ℕ) (list : Option (List ℕ)) → IsApart (WithImage (device_for c) firmware (λ words. WithList list (λ A. FlashReply c firmware second words A)))
+on_image_apart : (c : Command) (firmware second : List ℕ) (list : Option (List ℕ)) → IsPlainApart (WithImage (device_for c) firmware (λ words. WithList list (λ A. FlashReply c firmware second words A)))
 on_image_apart c firmware second list =
     image_apart (firmware_fault (device_for c) firmware) (WithList list (λ A. FlashReply c firmware second (firmware_words (device_for c) firmware) A))
     (with_list_apart list (λ A. FlashReply c firmware second (firmware_words (device_for c) firmware) A) (flash_apart c firmware second (firmware_words (device_for c) firmware)))
 
-work_apart : (c : Command) (firmware second : List ℕ) (list : Option (List ℕ)) → IsApart (WorkReply c firmware second list)
+work_apart : (c : Command) (firmware second : List ℕ) (list : Option (List ℕ)) → IsPlainApart (WorkReply c firmware second list)
 work_apart (Check device f k a) firmware second list = on_image_apart (Check device f k a) firmware second list
 work_apart (Analyse device f a steps) firmware second list = on_image_apart (Analyse device f a steps) firmware second list
 work_apart (Run device f k a) firmware second list = on_image_apart (Run device f k a) firmware second list
@@ -210,7 +210,7 @@ work_apart (Attain device f k a trials) firmware second list = on_image_apart (A
 work_apart (Simulate device f k a steps) firmware second list = on_image_apart (Simulate device f k a steps) firmware second list
 work_apart (Demo size) firmware second list = demo_apart size
 
-reply_apart : (c : Command) (seen : read.Contents) → IsApart (IsReply c seen)
+reply_apart : (c : Command) (seen : read.Contents) → IsPlainApart (IsReply c seen)
 reply_apart c seen =
     bytes_apart (name_of c Firmware) seen.firmware _ (λ fw. bytes_apart (name_of c Second) seen.second _ (λ s. optional_apart (name_of c Assumptions) seen.assumptions _ (work_apart c fw s)))
 
@@ -222,7 +222,7 @@ seen_is (Some name) bytes b e = cc
 
 -- ---- answers
 
-settle : (c : Command) (holds : List ℕ → Held) (before after status : ℕ) (text : List ℕ) → after ≡ before → IsAnswered c holds status text → IsSettled (Some c) holds before after status text
+settle : (c : Command) (holds : List ℕ → Held) (before after status : ℕ) (text : List ℕ) → after ≡ before → IsAnswered c holds status text → IsSettledAnswer (Some c) holds before after status text
 settle c holds before after status text quiet h =
     let plain = reply_apart c h.seen status text h.reply in
     record {
@@ -238,7 +238,7 @@ module _ (hold : AcceptingRepliesHold) (exact : RepliesAreExact) where
   worked : (c : Command) (holds : List ℕ → Held) (before after : ℕ) (blamed : Blamed) (firmware second : List ℕ) (list : Option (List ℕ)) (status : ℕ) (text : List ℕ)
       → AreBytes c holds firmware second list × (after ≡ before)
       → WorkReply c firmware second list status text → (status ≡ 0 → HasWords c firmware)
-      → IsAnswer (Some c) holds before after blamed status text
+      → IsOutcome (Some c) holds before after blamed status text
   worked c holds before after blamed firmware second list status text read work words =
       let seen = seen_whole c firmware second list in
       let reply = whole_reply c firmware second list status text read.0.with_firmware read.0.with_second read.0.with_list work in
@@ -255,12 +255,12 @@ module _ (hold : AcceptingRepliesHold) (exact : RepliesAreExact) where
   pub worked_result : (c : Command) (holds : List ℕ → Held) (before after : ℕ) (blamed : Blamed) {E : Type 0} (firmware second : List ℕ) (list : Option (List ℕ)) (x : Result Answered E)
       → AreBytes c holds firmware second list × (after ≡ before)
       → IfOk x (λ r. WorkReply c firmware second list r.status r.text.items) → IfOk x (λ r. r.status ≡ 0 → HasWords c firmware)
-      → MatchResult x (λ r. IsAnswer (Some c) holds before after blamed r.status r.text.items) (λ e. IsCutOff (Some c) holds before after blamed)
+      → MatchResult x (λ r. IsOutcome (Some c) holds before after blamed r.status r.text.items) (λ e. IsCutOff (Some c) holds before after blamed)
   worked_result c holds before after blamed firmware second list (Ok r) read work words = worked c holds before after blamed firmware second list r.status r.text.items read work words
   worked_result c holds before after blamed firmware second list (Err e) read work words = inl read.1
 
 pub failed : (o : Option Command) (holds : List ℕ → Held) (before after : ℕ) (blamed : Blamed) (name : List ℕ) (status : ℕ) (text : List ℕ)
-    → IsReadFault o holds before after blamed name → status ≡ 3 → text ≡ read_fault name → IsAnswer o holds before after blamed status text
+    → IsReadFault o holds before after blamed name → status ≡ 3 → text ≡ read_fault name → IsOutcome o holds before after blamed status text
 failed o holds before after blamed name status text fault three told = inr (record { three = three; name = name; fault = fault; text_is = told })
 
 -- ---- where memory is wanting
@@ -271,8 +271,8 @@ grown-none (Some bytes) = ap Some (sym (append-nil bytes))
 
 -- ---- where the whole text was written
 
-pub written_of : (o : Option Command) (holds : List ℕ → Held) (before after : ℕ) (blamed : Blamed) (status : ℕ) (text : List ℕ) (old new : Option (List ℕ)) → IsAnswer o holds before after blamed status text
-    → status ≢ 3 → new ≡ grown old text → IsWritten o holds status old new
+pub written_of : (o : Option Command) (holds : List ℕ → Held) (before after : ℕ) (blamed : Blamed) (status : ℕ) (text : List ℕ) (old new : Option (List ℕ)) → IsOutcome o holds before after blamed status text
+    → status ≢ 3 → new ≡ grown old text → IsReplyWritten o holds status old new
 written_of o holds before after blamed status text old new (inl s) apart grew = record { text = text; due = s.due; grew = grew }
 written_of o holds before after blamed status text old new (inr t) apart grew = absurd (apart t.three)
 

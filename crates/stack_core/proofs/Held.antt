@@ -5,7 +5,7 @@ use Rattle.commands.specs.Commands.{Command, Analyse, Simulate, Firmware, Second
 use Rattle.replies.specs.Reading.{Seen, Unread, Whole, Long, Contents, firmware_cap, certificate_cap, devices_cap, assumption_cap, second_cap, Agrees, AgreesUnder, AllAgree}
 use Rattle.replies.specs.Reply.{Reply, WithFile, WithBytes, WithOptional, WorkReply, IsReply}
 use Rattle.replies.specs.Headline.{IsSeen, AreRead, Holds, HoldsAsRead, IsLeastCertificate, IsSimulated, Headline, AcceptsExactly, IsExact}
-use Rattle.stack_core.specs.Answer.{IsAnswered, IsDue, IsWritten, AreHeld, Judges, checks, reports, explains, clears, lists_premises, completes, HeldHeadline, IsHeldExact, HeldLeast, IsHeldEnd, HeldSimulated, AreHeldDevices, WrittenAnswersHold}
+use Rattle.stack_core.specs.Answer.{IsAnswered, IsReplyDue, IsReplyWritten, AreHeld, Judges, checks, reports, explains, clears, lists_premises, completes, HeldHeadline, IsHeldExact, HeldLeast, IsHeldEnd, HeldSimulated, AreHeldDevices, WrittenAnswersHold}
 
 held_is : (h : Held) (cap : ℕ) (s : Seen) (a b : List ℕ) → Agrees h cap s → s ≡ Whole a → h ≡ Bytes b → a ≡ b
 held_is h cap s a b agrees e is = let g : Agrees h cap (Whole a) = subst (Agrees h cap) e agrees in subst (λ x. Gives x a) is g.0
@@ -35,8 +35,8 @@ optional_held holds (Some n) s (Some b) next status text reply agrees held =
     (file_held n s (holds n) assumption_cap b (λ x. next (Some x)) status text reply agrees held.0 held.1).0
 
 -- the answer to this command, of which one was due
-due_to : (o : Option Command) (c : Command) (holds : List ℕ → Held) (status : ℕ) (text : List ℕ) → o ≡ Some c → IsDue o holds status text → IsAnswered c holds status text
-due_to o c holds status text e h = subst (λ x. IsDue x holds status text) e h
+due_to : (o : Option Command) (c : Command) (holds : List ℕ → Held) (status : ℕ) (text : List ℕ) → o ≡ Some c → IsReplyDue o holds status text → IsAnswered c holds status text
+due_to o c holds status text e h = subst (λ x. IsReplyDue x holds status text) e h
 
 -- ---- commands that judge
 
@@ -69,7 +69,7 @@ judged_names _ _ _ _ (completes device fw cert assume trials) = (refl, refl, ref
 agrees_as : (holds : List ℕ → Held) (cap cap' : ℕ) (o : Option (List ℕ)) (name : List ℕ) (s : Seen) → o ≡ Some name → cap ≡ cap' → AgreesUnder holds cap o s → Agrees (holds name) cap' s
 agrees_as holds cap cap' o name s e caps h = subst (λ x. Agrees (holds name) x s) caps (subst (λ x. AgreesUnder holds cap x s) e h)
 
-written_headline : (o : Option Command) (holds : List ℕ → Held) (status : ℕ) (before after : Option (List ℕ)) → IsWritten o holds status before after → HeldHeadline o holds status before after
+written_headline : (o : Option Command) (holds : List ℕ → Held) (status : ℕ) (before after : Option (List ℕ)) → IsReplyWritten o holds status before after → HeldHeadline o holds status before after
 written_headline o holds status before after w judge firmware certificate list j zero =
     let d = due_to o judge holds status w.text j.named w.due in
     let names = judged_names judge j.firmware_name j.certificate_name j.assume j.judges in
@@ -104,7 +104,7 @@ are_read c holds seen fw cert assume firmware certificate list cap status text n
     let last = optional_held holds assume seen.assumptions list (λ l. work firmware certificate l) status text next.1 (subst (λ x. AgreesUnder holds assumption_cap x seen.assumptions) third (agree Assumptions)) lh in
     record { loaded = record { firmware_read = first.0; list_read = last }; second_read = next.0 }
 
-written_exact : (o : Option Command) (holds : List ℕ → Held) (status : ℕ) (before after : Option (List ℕ)) → IsWritten o holds status before after → IsHeldExact o holds status
+written_exact : (o : Option Command) (holds : List ℕ → Held) (status : ℕ) (before after : Option (List ℕ)) → IsReplyWritten o holds status before after → IsHeldExact o holds status
 written_exact o holds status before after w judge firmware certificate list words claim A j stand =
     let d = due_to o judge holds status w.text j.named w.due in
     let names = judged_names judge j.firmware_name j.certificate_name j.assume j.judges in
@@ -114,7 +114,7 @@ written_exact o holds status before after w judge firmware certificate list word
 
 -- ---- analyses
 
-written_least : (o : Option Command) (holds : List ℕ → Held) (status : ℕ) (before after : Option (List ℕ)) → IsWritten o holds status before after → HeldLeast o holds status before after
+written_least : (o : Option Command) (holds : List ℕ → Held) (status : ℕ) (before after : Option (List ℕ)) → IsReplyWritten o holds status before after → HeldLeast o holds status before after
 written_least o holds status before after w device steps firmware list a zero =
     let d = due_to o (Analyse device a.firmware_name a.assume steps) holds status w.text a.named w.due in
     let h = d.headline zero in
@@ -122,7 +122,7 @@ written_least o holds status before after w device steps firmware list a zero =
     let l : h.list ≡ list = held_list holds a.assume d.seen.assumptions h.list list (d.agrees Assumptions) h.read.list_read a.list_held in
     (w.text, subst (λ x. IsLeastCertificate device firmware x w.text) l (subst (λ x. IsLeastCertificate device x h.list w.text) f h.certificate), w.grew)
 
-written_end : (o : Option Command) (holds : List ℕ → Held) (status : ℕ) (before after : Option (List ℕ)) → IsWritten o holds status before after → IsHeldEnd o holds status
+written_end : (o : Option Command) (holds : List ℕ → Held) (status : ℕ) (before after : Option (List ℕ)) → IsReplyWritten o holds status before after → IsHeldEnd o holds status
 written_end o holds status before after w device steps firmware list words A a mean =
     let c = Analyse device a.firmware_name a.assume steps in
     let d = due_to o (Analyse device a.firmware_name a.assume steps) holds status w.text a.named w.due in
@@ -133,7 +133,7 @@ written_end o holds status before after w device steps firmware list words A a m
 
 -- ---- simulations
 
-written_simulated : (o : Option Command) (holds : List ℕ → Held) (status : ℕ) (before after : Option (List ℕ)) → IsWritten o holds status before after → HeldSimulated o holds status before after
+written_simulated : (o : Option Command) (holds : List ℕ → Held) (status : ℕ) (before after : Option (List ℕ)) → IsReplyWritten o holds status before after → HeldSimulated o holds status before after
 written_simulated o holds status before after w device steps firmware devices list a zero =
     let d = due_to o (Simulate device a.firmware_name a.devices_name a.assume steps) holds status w.text a.named w.due in
     let h = d.headline zero in
@@ -146,7 +146,7 @@ written_simulated o holds status before after w device steps firmware devices li
       w.grew,
     )
 
-written_devices : (o : Option Command) (holds : List ℕ → Held) (status : ℕ) (before after : Option (List ℕ)) → IsWritten o holds status before after → AreHeldDevices o holds status
+written_devices : (o : Option Command) (holds : List ℕ → Held) (status : ℕ) (before after : Option (List ℕ)) → IsReplyWritten o holds status before after → AreHeldDevices o holds status
 written_devices o holds status before after w device steps firmware devices list words A a mean =
     let c = Simulate device a.firmware_name a.devices_name a.assume steps in
     let d = due_to o (Simulate device a.firmware_name a.devices_name a.assume steps) holds status w.text a.named w.due in

@@ -5,7 +5,7 @@ use Rattle.avr_model.specs.declared.device.Device.{Device}
 use Rattle.sb_base.specs.Outside.{Held, Bytes, Blamed, Rose, grown, GrewByPrefix}
 use Rattle.certificate.specs.Claims.{Claim}
 use Rattle.device_hooks.specs.Spelling.{Setup}
-use Rattle.device_hooks.specs.Exact.{IsReading as IsDevices}
+use Rattle.device_hooks.specs.Exact.{IsSetupReading as IsDevices}
 use Rattle.commands.specs.Commands.{Command, Check, Analyse, Report, Explain, Clear, Premises, Attain, Simulate, device_for}
 use Rattle.replies.specs.Texts.{usage, read_fault}
 use Rattle.replies.specs.Reading.{Contents, AllAgree, IsFirstFailed, firmware_cap, certificate_cap, devices_cap, assumption_cap}
@@ -25,14 +25,14 @@ pub record IsAnswered (command : Command) (holds : List ℕ → Held) (status : 
   pub exact : IsExact command seen status
 
 -- the answer to words that are this command, or none
-abbrev pub IsDue : Option Command → (List ℕ → Held) → ℕ → List ℕ → Type 0
-IsDue None holds status text = (status ≡ 2) × (text ≡ usage)
-IsDue (Some command) holds status text = IsAnswered command holds status text
+abbrev pub IsReplyDue : Option Command → (List ℕ → Held) → ℕ → List ℕ → Type 0
+IsReplyDue None holds status text = (status ≡ 2) × (text ≡ usage)
+IsReplyDue (Some command) holds status text = IsAnswered command holds status text
 
 -- the same, and its text was written
-pub record IsWritten (command : Option Command) (holds : List ℕ → Held) (status : ℕ) (before after : Option (List ℕ)) : Type 0 where
+pub record IsReplyWritten (command : Option Command) (holds : List ℕ → Held) (status : ℕ) (before after : Option (List ℕ)) : Type 0 where
   pub text : List ℕ
-  pub due : IsDue command holds status text
+  pub due : IsReplyDue command holds status text
   pub grew : after ≡ grown before text
 
 -- ---- a read that failed
@@ -45,23 +45,23 @@ IsReadFault (Some command) holds before after blamed name = IsFirstFailed comman
 -- ---- before anything is written
 
 -- an answer that no read fault comes before
-pub record IsSettled (command : Option Command) (holds : List ℕ → Held) (before after : ℕ) (status : ℕ) (text : List ℕ) : Type 0 where
+pub record IsSettledAnswer (command : Option Command) (holds : List ℕ → Held) (before after : ℕ) (status : ℕ) (text : List ℕ) : Type 0 where
   pub quiet : after ≡ before
-  pub due : IsDue command holds status text
+  pub due : IsReplyDue command holds status text
   pub usage_alone : (status ≡ 2) ↔ (command ≡ None)
   pub read : status ≢ 3
   pub write : status ≢ 4
   pub ample : status ≢ 12
 
 -- a read fault is told
-pub record IsTold (command : Option Command) (holds : List ℕ → Held) (before after : ℕ) (blamed : Blamed) (status : ℕ) (text : List ℕ) : Type 0 where
+pub record IsFaultTold (command : Option Command) (holds : List ℕ → Held) (before after : ℕ) (blamed : Blamed) (status : ℕ) (text : List ℕ) : Type 0 where
   pub three : status ≡ 3
   pub name : List ℕ
   pub fault : IsReadFault command holds before after blamed name
   pub text_is : text ≡ read_fault name
 
-abbrev pub IsAnswer : Option Command → (List ℕ → Held) → ℕ → ℕ → Blamed → ℕ → List ℕ → Type 0
-IsAnswer command holds before after blamed status text = IsSettled command holds before after status text ⊎ IsTold command holds before after blamed status text
+abbrev pub IsOutcome : Option Command → (List ℕ → Held) → ℕ → ℕ → Blamed → ℕ → List ℕ → Type 0
+IsOutcome command holds before after blamed status text = IsSettledAnswer command holds before after status text ⊎ IsFaultTold command holds before after blamed status text
 
 -- where memory is wanting: no read failed, or one did that is to be told
 abbrev pub IsCutOff : Option Command → (List ℕ → Held) → ℕ → ℕ → Blamed → Type 0
@@ -72,7 +72,7 @@ IsCutOff command holds before after blamed = (after ≡ before) ⊎ ((name : Lis
 -- Some first bytes were written of the text that is due: that of the answer where no read failed, else that of the read fault.
 abbrev pub Cuts : Option Command → (List ℕ → Held) → ℕ → ℕ → Blamed → Option (List ℕ) → Option (List ℕ) → Type 0
 Cuts command holds before after blamed old new =
-    ((after ≡ before) × ((new ≡ old) ⊎ ((status : ℕ) × (text : List ℕ) × IsDue command holds status text × GrewByPrefix old new text)))
+    ((after ≡ before) × ((new ≡ old) ⊎ ((status : ℕ) × (text : List ℕ) × IsReplyDue command holds status text × GrewByPrefix old new text)))
     ⊎ ((name : List ℕ) × IsReadFault command holds before after blamed name × GrewByPrefix old new (read_fault name))
 
 -- ---- over files that tell what they hold
@@ -165,12 +165,12 @@ AreHeldDevices command holds status =
 
 -- what holds of an answer whose text was written, over files that tell what they hold
 pub record WrittenAnswersHold : Type 0 where
-  pub headline : (command : Option Command) (holds : List ℕ → Held) (status : ℕ) (before after : Option (List ℕ)) → IsWritten command holds status before after
+  pub headline : (command : Option Command) (holds : List ℕ → Held) (status : ℕ) (before after : Option (List ℕ)) → IsReplyWritten command holds status before after
       → HeldHeadline command holds status before after
-  pub exact : (command : Option Command) (holds : List ℕ → Held) (status : ℕ) (before after : Option (List ℕ)) → IsWritten command holds status before after → IsHeldExact command holds status
-  pub least : (command : Option Command) (holds : List ℕ → Held) (status : ℕ) (before after : Option (List ℕ)) → IsWritten command holds status before after
+  pub exact : (command : Option Command) (holds : List ℕ → Held) (status : ℕ) (before after : Option (List ℕ)) → IsReplyWritten command holds status before after → IsHeldExact command holds status
+  pub least : (command : Option Command) (holds : List ℕ → Held) (status : ℕ) (before after : Option (List ℕ)) → IsReplyWritten command holds status before after
       → HeldLeast command holds status before after
-  pub ends : (command : Option Command) (holds : List ℕ → Held) (status : ℕ) (before after : Option (List ℕ)) → IsWritten command holds status before after → IsHeldEnd command holds status
-  pub simulated : (command : Option Command) (holds : List ℕ → Held) (status : ℕ) (before after : Option (List ℕ)) → IsWritten command holds status before after
+  pub ends : (command : Option Command) (holds : List ℕ → Held) (status : ℕ) (before after : Option (List ℕ)) → IsReplyWritten command holds status before after → IsHeldEnd command holds status
+  pub simulated : (command : Option Command) (holds : List ℕ → Held) (status : ℕ) (before after : Option (List ℕ)) → IsReplyWritten command holds status before after
       → HeldSimulated command holds status before after
-  pub devices : (command : Option Command) (holds : List ℕ → Held) (status : ℕ) (before after : Option (List ℕ)) → IsWritten command holds status before after → AreHeldDevices command holds status
+  pub devices : (command : Option Command) (holds : List ℕ → Held) (status : ℕ) (before after : Option (List ℕ)) → IsReplyWritten command holds status before after → AreHeldDevices command holds status

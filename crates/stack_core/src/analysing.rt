@@ -1,10 +1,8 @@
 //! Certificates that are made, for `analyse` and for `demo`.
 
-ghost use Rattle.std.specs.Prelude.{◌≡◌, IfOk, [], None};
+ghost use Rattle.std.specs.Prelude.{◌≡◌, IfOk, None};
 ghost use Rattle.certificate.specs.Claims.{IsClaim};
 ghost use Rattle.certificate.specs.Valid.{IsSound};
-ghost use Rattle.round_rules.specs.Solutions.{IsAnswer, IsWhyNot};
-ghost use Rattle.demo_image.specs.Image.{demo_words};
 ghost use Rattle.replies.specs.Texts.{why_not_status, why_not_text, demo_text};
 ghost use Rattle.replies.specs.Reply.{Refuses, AnalyseReply, DemoReply};
 ghost use Rattle.stack_core.specs.Answering.{IsWitnessedText};

@@ -1,10 +1,9 @@
 //! What is answered to the words, before any of it is written.
 
 ghost use Rattle.std.specs.Prelude.{map, MatchResult, Some};
-ghost use Rattle.std.specs.Option.{option_map};
 ghost use Rattle.commands.specs.Commands.{command_of};
 ghost use Rattle.commands.specs.Views.{command_seen};
-ghost use Rattle.stack_core.specs.Answer.{IsAnswer, IsCutOff};
+ghost use Rattle.stack_core.specs.Answer.{IsOutcome, IsCutOff};
 
 use crate::reply::Reply;
 use crate::work::work;
@@ -22,7 +21,7 @@ fn answer_to<F: Files>(
     command: &Command<'_>,
     files: &mut F,
 ) -> Result<Reply, AllocError>
-    ensures { MatchResult result (λ r. IsAnswer (Some (command_seen command.now)) (F.holds files.old) (F.faults files.old) (F.faults files.new) (F.blamed files.new) r.status r.text.items) (λ e. IsCutOff (Some (command_seen command.now)) (F.holds files.old) (F.faults files.old) (F.faults files.new) (F.blamed files.new)) }
+    ensures { MatchResult result (λ r. IsOutcome (Some (command_seen command.now)) (F.holds files.old) (F.faults files.old) (F.faults files.new) (F.blamed files.new) r.status r.text.items) (λ e. IsCutOff (Some (command_seen command.now)) (F.holds files.old) (F.faults files.old) (F.faults files.new) (F.blamed files.new)) }
 {
     replies_are_claims();
     match gather(alloc, files, command) {
@@ -47,7 +46,7 @@ fn answer_to<F: Files>(
 
 /// What is answered to the words.
 pub fn answer<F: Files>(alloc: Global, words: &[&str], files: &mut F) -> Result<Reply, AllocError>
-    ensures { MatchResult result (λ r. IsAnswer (command_of (map (λ w. w.now) words.now)) (F.holds files.old) (F.faults files.old) (F.faults files.new) (F.blamed files.new) r.status r.text.items) (λ e. IsCutOff (command_of (map (λ w. w.now) words.now)) (F.holds files.old) (F.faults files.old) (F.faults files.new) (F.blamed files.new)) }
+    ensures { MatchResult result (λ r. IsOutcome (command_of (map (λ w. w.now) words.now)) (F.holds files.old) (F.faults files.old) (F.faults files.new) (F.blamed files.new) r.status r.text.items) (λ e. IsCutOff (command_of (map (λ w. w.now) words.now)) (F.holds files.old) (F.faults files.old) (F.faults files.new) (F.blamed files.new)) }
 {
     match command_of(alloc, words) {
         Ok(Some(command)) => answer_to(alloc, &command, files),

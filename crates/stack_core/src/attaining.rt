@@ -14,7 +14,7 @@ use cert_format::Certificate;
 use cert_writing::write;
 use std::alloc::AllocError;
 
-/// The text of an accepted certificate, with the schedule that so many guided trials find where it has none.
+// The text of an accepted certificate, with the schedule that so many guided trials find where it has none.
 fn completed(task: &Task<'_>, certificate: Certificate, trials: u32) -> Result<Vec<u8>, AllocError>
     requires { IsValid task.now.flash.now task.now.assumptions.now certificate }
     ensures { IfOk result (λ v. AttainReply task.now.flash.now task.now.assumptions.now trials certificate 0 v.items) }

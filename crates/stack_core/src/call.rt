@@ -4,7 +4,7 @@ ghost use Rattle.std.specs.Prelude.{◌≡◌, ◌≢◌, ◌⊎◌, ◌↔◌, 
 ghost use Rattle.sb_base.specs.Outside.{Rose, grown};
 ghost use Rattle.commands.specs.Commands.{command_of};
 ghost use Rattle.replies.specs.Texts.{read_fault};
-ghost use Rattle.stack_core.specs.Answer.{IsWritten, IsReadFault, HeldHeadline, IsHeldExact, HeldLeast, IsHeldEnd, HeldSimulated, AreHeldDevices, Cuts};
+ghost use Rattle.stack_core.specs.Answer.{IsReplyWritten, IsReadFault, HeldHeadline, IsHeldExact, HeldLeast, IsHeldEnd, HeldSimulated, AreHeldDevices, Cuts};
 
 use crate::answer::answer;
 use crate::laws::written_answers_hold;
@@ -21,7 +21,7 @@ pub fn stackbound<F: Files, K: Sink>(
 ) -> u8
     // Where no call failed and memory sufficed, the answer is the one reply to the words and to what was read, and it is written. One that
     // accepts a certificate says that the bound holds, and one that writes a certificate that it is the least.
-    ensures settled { result ≢ 3 → result ≢ 4 → result ≢ 12 → IsWritten (command_of (map (λ w. w.now) words.now)) (F.holds files.old) result (K.written out.old) (K.written out.new) }
+    ensures settled { result ≢ 3 → result ≢ 4 → result ≢ 12 → IsReplyWritten (command_of (map (λ w. w.now) words.now)) (F.holds files.old) result (K.written out.old) (K.written out.new) }
     // Where a command that judges accepts held bytes, the bound holds of every run, and is told. An explanation is the one that there is of the
     // certificate: its links nest from the root on, add up to at most the bound, and to the bound of a certificate with which the rounds end.
     // Where `clear` answers 0, no run from reset is flagged, and each keeps the bound. A run from reset that ends flagged ends at one of the

@@ -9,12 +9,12 @@ use crate::judging::{Judged, judge_text};
 use crate::reply::Reply;
 use call_graph::{Task, Worked};
 use cert_format::Certificate;
-use clear_nodes::{
-    ClearVerdict, clear_family, flagged_places_in, flagged_sites_in, never_takes_in,
-};
 use flash_image::{Flash, Names};
 use replies::places::{self, Program};
 use std::alloc::{AllocError, Global};
+use store_clear::{
+    ClearVerdict, clear_family, flagged_places_in, flagged_sites_in, never_takes_in,
+};
 use vector_table::Assumptions;
 
 // Whether all nodes of an accepted certificate with this family are clear.

@@ -14,7 +14,7 @@ use flash_image::Names;
 use reports::explanation_text;
 use std::alloc::AllocError;
 
-/// The explanation of an accepted certificate with this family, with these names.
+// The explanation of an accepted certificate with this family, with these names.
 fn explained(
     task: &Task<'_>,
     names: &Names,

@@ -11,7 +11,7 @@ pub fn written_answers_hold()
     ensures { WrittenAnswersHold }
 {}
 
-/// The words of a flash have 16 bits, as their type says.
+// The words of a flash have 16 bits, as their type says.
 pub(crate) fn have_16_bits(words: &[u16])
     ensures { AreWords words.now }
 {}

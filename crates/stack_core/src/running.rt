@@ -14,7 +14,7 @@ use sb_base::LineReader;
 use std::alloc::{AllocError, Global};
 use witness_replay::{IllegalChoice, Schedule, ScheduleFault, replay};
 
-/// What is answered of a schedule that was read.
+// What is answered of a schedule that was read.
 fn replayed(task: &Task<'_>, schedule: &Schedule) -> Result<Reply, AllocError>
     ensures { IfOk result (λ r. RunReply (replay_of task.now.flash.now task.now.assumptions.now schedule.now) r.status r.text.items) }
 {

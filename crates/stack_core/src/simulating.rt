@@ -8,13 +8,13 @@ ghost use Rattle.replies.specs.Reply.{SimulateReply};
 
 use crate::reply::Reply;
 use call_graph::Task;
-use commands::Choices;
+use commands::ChoiceCount;
 use device_hooks::{Devices, simulation};
 use replies::texts;
 use std::alloc::AllocError;
 
-/// What is told of the run that devices choose.
-fn simulated(task: &Task<'_>, steps: Choices, devices: &Devices) -> Result<Vec<u8>, AllocError>
+// What is told of the run that devices choose.
+fn simulated(task: &Task<'_>, steps: ChoiceCount, devices: &Devices) -> Result<Vec<u8>, AllocError>
     ensures { IfOk result (λ v. v.items ≡ run_text (simulation_of task.now.flash.now task.now.assumptions.now devices.now steps)) }
 {
     let report = simulation(
@@ -28,7 +28,7 @@ fn simulated(task: &Task<'_>, steps: Choices, devices: &Devices) -> Result<Vec<u
 }
 
 /// What is answered of the text of devices.
-pub fn simulate(task: &Task<'_>, steps: Choices, text: &[u8]) -> Result<Reply, AllocError>
+pub fn simulate(task: &Task<'_>, steps: ChoiceCount, text: &[u8]) -> Result<Reply, AllocError>
     ensures { IfOk result (λ r. SimulateReply task.now.flash.now task.now.assumptions.now steps (setup_in text.now) r.status r.text.items) }
 {
     match Devices::read(task.alloc, text) {

@@ -5,7 +5,7 @@ ghost use Rattle.local_rules.specs.Machine.{AreWords};
 ghost use Rattle.commands.specs.Commands.{device_for};
 ghost use Rattle.commands.specs.Views.{command_seen};
 ghost use Rattle.replies.specs.Firmware.{firmware_words};
-ghost use Rattle.replies.specs.Reply.{WithImage, WithList, FlashReply, WorkReply};
+ghost use Rattle.replies.specs.Reply.{WithList, WorkReply};
 ghost use Rattle.replies.specs.Headline.{HasWords};
 ghost use Rattle.command_files.specs.Reading.{bytes_of};
 ghost use Rattle.stack_core.specs.Answering.{LoadedReply, ImageReply};
@@ -28,7 +28,7 @@ use reports::laws::same_names_give_same_reports;
 use std::alloc::{AllocError, Global};
 use vector_table::Assumptions;
 
-/// What is answered for a firmware that was loaded and a list that was read.
+// What is answered for a firmware that was loaded and a list that was read.
 fn on_flash(
     alloc: Global,
     command: &Command<'_>,
@@ -58,7 +58,7 @@ fn on_flash(
     }
 }
 
-/// The same, with the marks of the program kept where the list has the line `pairs`, whose rules look for them again and again.
+// The same, with the marks of the program kept where the list has the line `pairs`, whose rules look for them again and again.
 fn with_marks(
     alloc: Global,
     command: &Command<'_>,
@@ -74,7 +74,7 @@ fn with_marks(
     on_flash(alloc, command, loaded, assumptions, second)
 }
 
-/// What is answered for a firmware that was loaded.
+// What is answered for a firmware that was loaded.
 fn under_list(
     alloc: Global,
     command: &Command<'_>,
@@ -90,7 +90,7 @@ fn under_list(
     }
 }
 
-/// What is answered of a firmware's file and of the other files that were read.
+// What is answered of a firmware's file and of the other files that were read.
 fn on_image(
     alloc: Global,
     command: &Command<'_>,

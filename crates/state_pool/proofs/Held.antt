@@ -50,11 +50,11 @@ removed m new k at others =
 -- ---- places
 
 -- the first places have numbers of their own
-abbrev pub AreApart : List ℕ → ℕ → Type 0
-AreApart ns count = (i j : ℕ) → i < count → j < count → number_at ns i ≡ number_at ns j → i ≡ j
+abbrev pub HaveOwnNumbers : List ℕ → ℕ → Type 0
+HaveOwnNumbers ns count = (i j : ℕ) → i < count → j < count → number_at ns i ≡ number_at ns j → i ≡ j
 
 -- the number's place has this entry
-pub record IsAt (ns : List ℕ) (es : List (AbsState × ℕ)) (q : ℕ) (e : AbsState × ℕ) : Type 0 where
+pub record IsEntryAt (ns : List ℕ) (es : List (AbsState × ℕ)) (q : ℕ) (e : AbsState × ℕ) : Type 0 where
   pub place : ℕ
   pub low : place < length es
   pub number : number_at ns place ≡ q
@@ -63,7 +63,7 @@ pub record IsAt (ns : List ℕ) (es : List (AbsState × ℕ)) (q : ℕ) (e : Abs
 abbrev pub uses_of : List ℕ → List (AbsState × ℕ) → Uses
 uses_of ns es = from_entries {R = nat_cmp} (numbered ns es)
 
-found : (ns : List ℕ) (es : List (AbsState × ℕ)) (i : ℕ) (e : AbsState × ℕ) → length es ≤ length ns → AreApart ns (length es) → i < length es → slice_get es i ≡ Some e
+found : (ns : List ℕ) (es : List (AbsState × ℕ)) (i : ℕ) (e : AbsState × ℕ) → length es ≤ length ns → HaveOwnNumbers ns (length es) → i < length es → slice_get es i ≡ Some e
     → find nat_cmp (number_at ns i) (numbered ns es) ≡ Some e
 found [] [] i e le apart lt is = absurd (omega arith)
 found [] (f ∷ es) i e le apart lt is = absurd (omega arith)
@@ -75,11 +75,11 @@ found (n ∷ ns) (f ∷ es) (suc i) e le apart lt is =
     ∙ found ns es i e (omega (arith, le))
     (λ j k lj lk s. let same = apart (suc j) (suc k) (omega (arith, lj)) (omega (arith, lk)) s in omega (arith, same)) (omega (arith, lt)) is
 
-place_of : (ns : List ℕ) (es : List (AbsState × ℕ)) (q : ℕ) (e : AbsState × ℕ) → find nat_cmp q (numbered ns es) ≡ Some e → IsAt ns es q e
-place_of [] es q e is = absurd (none-some e is)
-place_of (n ∷ ns) [] q e is = absurd (none-some e is)
-place_of (n ∷ ns) (f ∷ es) q e is =
-    cases_eq q n (IsAt (n ∷ ns) (f ∷ es) q e)
+entry_place : (ns : List ℕ) (es : List (AbsState × ℕ)) (q : ℕ) (e : AbsState × ℕ) → find nat_cmp q (numbered ns es) ≡ Some e → IsEntryAt ns es q e
+entry_place [] es q e is = absurd (none-some e is)
+entry_place (n ∷ ns) [] q e is = absurd (none-some e is)
+entry_place (n ∷ ns) (f ∷ es) q e is =
+    cases_eq q n (IsEntryAt (n ∷ ns) (f ∷ es) q e)
     (λ s. record {
       place = 0;
       low = omega arith;
@@ -87,17 +87,17 @@ place_of (n ∷ ns) (f ∷ es) q e is =
       entry = sym (ap (λ b. cond b (Some f) (find nat_cmp q (numbered ns es))) (subst (λ m. eq_by_cmp nat_cmp q m ≡ true) s (same_number q))) ∙ is;
     })
     (λ ne.
-    let rest = place_of ns es q e (sym (ap (λ b. cond b (Some f) (find nat_cmp q (numbered ns es))) (other_number q n ne)) ∙ is) in
+    let rest = entry_place ns es q e (sym (ap (λ b. cond b (Some f) (find nat_cmp q (numbered ns es))) (other_number q n ne)) ∙ is) in
     record { place = suc rest.place; low = let l = rest.low in omega (arith, l); number = rest.number; entry = rest.entry })
 
-pub get_at : (ns : List ℕ) (es : List (AbsState × ℕ)) (q : ℕ) (e : AbsState × ℕ) → length es ≤ length ns → AreApart ns (length es) → IsAt ns es q e
+pub get_at : (ns : List ℕ) (es : List (AbsState × ℕ)) (q : ℕ) (e : AbsState × ℕ) → length es ≤ length ns → HaveOwnNumbers ns (length es) → IsEntryAt ns es q e
     → get (uses_of ns es) q ≡ Some e
 get_at ns es q e le apart at =
     get-from_entries nat_cmp_total (numbered ns es) q
     ∙ subst (λ n. find nat_cmp n (numbered ns es) ≡ Some e) at.number (found ns es at.place e le apart at.low at.entry)
 
-pub at_get : (ns : List ℕ) (es : List (AbsState × ℕ)) (q : ℕ) (e : AbsState × ℕ) → get (uses_of ns es) q ≡ Some e → IsAt ns es q e
-at_get ns es q e is = place_of ns es q e (sym (get-from_entries nat_cmp_total (numbered ns es) q) ∙ is)
+pub at_get : (ns : List ℕ) (es : List (AbsState × ℕ)) (q : ℕ) (e : AbsState × ℕ) → get (uses_of ns es) q ≡ Some e → IsEntryAt ns es q e
+at_get ns es q e is = entry_place ns es q e (sym (get-from_entries nat_cmp_total (numbered ns es) q) ∙ is)
 
 -- ---- how many
 
@@ -105,7 +105,7 @@ new_one : (ns : List ℕ) (es : List (AbsState × ℕ)) (n : ℕ) → ((i : ℕ)
 new_one ns es n other =
     ap is_some (none_of (get (uses_of ns es) n) (λ e is. let at = at_get ns es n e is in other at.place at.low at.number))
 
-pub many : (ns : List ℕ) (es : List (AbsState × ℕ)) → length es ≤ length ns → AreApart ns (length es) → len (uses_of ns es) ≡ length es
+pub many : (ns : List ℕ) (es : List (AbsState × ℕ)) → length es ≤ length ns → HaveOwnNumbers ns (length es) → len (uses_of ns es) ≡ length es
 many [] [] le apart = len-empty nat_cmp (AbsState × ℕ)
 many [] (e ∷ es) le apart = absurd (omega arith)
 many (n ∷ ns) [] le apart = len-empty nat_cmp (AbsState × ℕ)

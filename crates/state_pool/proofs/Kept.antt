@@ -16,44 +16,44 @@ use Rattle.std.proofs.Common.{inl, inr, Result, Ok, Err}
 use Rattle.std.specs.Prelude.{if◌then◌else◌, OnOk, is_err, is_some, IfSome}
 use Rattle.indexmap.specs.IndexMap.{insert_entry}
 use Rattle.state_pool.specs.Uses.{Uses, AreDistinct, AreUsed, IsAbsent, IsInterned, lowered, released, last_state}
-use Rattle.state_pool.specs.Numbers.{number_at, AreNumbers, IsReached}
-use Rattle.state_pool.specs.Places.{numbered, AreKept}
+use Rattle.state_pool.specs.Numbers.{number_at, AreNumbers, IsPlaceReached}
+use Rattle.state_pool.specs.Places.{numbered, ArePlacesKept}
 use Rattle.state_pool.proofs.Cases.{cases_eq, same_option, none_of}
-use Rattle.state_pool.proofs.Held.{AreApart, IsAt, uses_of, inserted, removed, get_at, at_get, many}
+use Rattle.state_pool.proofs.Held.{HaveOwnNumbers, IsEntryAt, uses_of, inserted, removed, get_at, at_get, many}
 
 abbrev Entries : Type 0
 Entries = List (AbsState × ℕ)
 
-pub apart : (ns : List ℕ) (es : Entries) → AreKept ns es → AreApart ns (length es)
+pub apart : (ns : List ℕ) (es : Entries) → ArePlacesKept ns es → HaveOwnNumbers ns (length es)
 apart ns es k i j li lj same = k.numbers.once i j (omega (arith, li, k.within)) (omega (arith, lj, k.within)) same
 
-pub kept_many : (ns : List ℕ) (es : Entries) (m : Uses) → AreKept ns es → uses_of ns es ≡ m → len m ≡ length es
+pub kept_many : (ns : List ℕ) (es : Entries) (m : Uses) → ArePlacesKept ns es → uses_of ns es ≡ m → len m ≡ length es
 kept_many ns es m k is = ap len (sym is) ∙ many ns es k.within (apart ns es k)
 
 -- ---- the place of a number that is there
 
 -- what stands at the number's place
-pub record IsPlace (es : Entries) (m : Uses) (n p : ℕ) : Type 0 where
+pub record IsEntryPlace (es : Entries) (m : Uses) (n p : ℕ) : Type 0 where
   pub low : p < length es
   pub held : AbsState × ℕ
   pub entry : slice_get es p ≡ Some held
   pub there : get m n ≡ Some held
 
 number_at_place : (ns : List ℕ) (es : Entries) (m : Uses) (n : ℕ) → uses_of ns es ≡ m → IsSome (get m n)
-    → (e : AbsState × ℕ) × IsAt ns es n e × (get m n ≡ Some e)
+    → (e : AbsState × ℕ) × IsEntryAt ns es n e × (get m n ≡ Some e)
 number_at_place ns es m n is some = by (get m n) refl some
   where
-    by : (o : Option (AbsState × ℕ)) → get m n ≡ o → IsSome o → (e : AbsState × ℕ) × IsAt ns es n e × (get m n ≡ Some e)
+    by : (o : Option (AbsState × ℕ)) → get m n ≡ o → IsSome o → (e : AbsState × ℕ) × IsEntryAt ns es n e × (get m n ≡ Some e)
     by None e h = absurd (cc)
     by (Some x) e h = (x, at_get ns es n x (ap (λ f. get f n) is ∙ e), e)
 
-pub number_low : (ns : List ℕ) (es : Entries) (m : Uses) (n : ℕ) → AreKept ns es → uses_of ns es ≡ m → IsSome (get m n) → n < length ns
+pub number_low : (ns : List ℕ) (es : Entries) (m : Uses) (n : ℕ) → ArePlacesKept ns es → uses_of ns es ≡ m → IsSome (get m n) → n < length ns
 number_low ns es m n k is some =
     let at = number_at_place ns es m n is some in
     subst (λ q. q < length ns) at.1.number (k.numbers.low at.1.place (omega (arith, at.1.low, k.within)))
 
-pub at_place : (ns : List ℕ) (es : Entries) (m : Uses) (n p : ℕ) → AreKept ns es → uses_of ns es ≡ m → IsSome (get m n) → p < length ns → number_at ns p ≡ n
-    → IsPlace es m n p
+pub at_place : (ns : List ℕ) (es : Entries) (m : Uses) (n p : ℕ) → ArePlacesKept ns es → uses_of ns es ≡ m → IsSome (get m n) → p < length ns → number_at ns p ≡ n
+    → IsEntryPlace es m n p
 at_place ns es m n p k is some lp number =
     let at = number_at_place ns es m n is some in
     let same : at.1.place ≡ p = k.numbers.once at.1.place p (omega (arith, at.1.low, k.within)) lp (at.1.number ∙ sym number) in
@@ -80,13 +80,13 @@ one_place (x ∷ es) distinct zero (suc j) s c d e f = absurd (never_again x.0 e
 one_place (x ∷ es) distinct (suc i) zero s c d e f = absurd (never_again x.0 es i s c distinct.0 e (ap (λ (p : AbsState × ℕ). p.0) (same_Some x (s, d) f)))
 one_place (x ∷ es) distinct (suc i) (suc j) s c d e f = ap suc (one_place es distinct.1 i j s c d e f)
 
-pub distinct_uses : (ns : List ℕ) (es : Entries) (m : Uses) → AreKept ns es → uses_of ns es ≡ m → AreDistinct m
+pub distinct_uses : (ns : List ℕ) (es : Entries) (m : Uses) → ArePlacesKept ns es → uses_of ns es ≡ m → AreDistinct m
 distinct_uses ns es m k is n q s c d e f =
     let a = at_get ns es n (s, c) (ap (λ g. get g n) is ∙ e) in
     let b = at_get ns es q (s, d) (ap (λ g. get g q) is ∙ f) in
     sym a.number ∙ ap (number_at ns) (one_place es k.distinct a.place b.place s c d a.entry b.entry) ∙ b.number
 
-pub used_uses : (ns : List ℕ) (es : Entries) (m : Uses) → AreKept ns es → uses_of ns es ≡ m → AreUsed m
+pub used_uses : (ns : List ℕ) (es : Entries) (m : Uses) → ArePlacesKept ns es → uses_of ns es ≡ m → AreUsed m
 used_uses ns es m k is n s c e = let at = at_get ns es n (s, c) (ap (λ g. get g n) is ∙ e) in k.used at.place (s, c) at.entry
 
 -- ---- a state that is put in
@@ -125,20 +125,20 @@ set_there es mid new x p c d n place known put set =
     ∙ ap (λ (i : ℕ). set_value_at es i n) (sym place)
 
 -- one that isn't there comes last
-record IsLast (es : Entries) (x : AbsState) (d : ℕ) : Type 0 where
+record ComesLast (es : Entries) (x : AbsState) (d : ℕ) : Type 0 where
   away : (j c : ℕ) → slice_get es j ≢ Some (x, c)
   put : insert_entry same_state es x d ≡ es ++ (x, d) ∷ []
   place : position_or_len (same_state x) (keys_of es) ≡ length es
 
-put_last : (x : AbsState) (es : Entries) (d : ℕ) → lookup (same_state x) es ≡ None → IsLast es x d
+put_last : (x : AbsState) (es : Entries) (d : ℕ) → lookup (same_state x) es ≡ None → ComesLast es x d
 put_last x [] d is = record { away = λ j c e. none-some (x, c) e; put = refl; place = refl }
 put_last x (f ∷ es) d is = by (same_state x f.0) refl is (put_last x es d)
   where
-    away_by : same_state x f.0 ≡ false → IsLast es x d → (j c : ℕ) → slice_get (f ∷ es) j ≢ Some (x, c)
+    away_by : same_state x f.0 ≡ false → ComesLast es x d → (j c : ℕ) → slice_get (f ∷ es) j ≢ Some (x, c)
     away_by t rest zero c e = let s = (same_state_decides x f.0).1 (sym (ap (λ (p : AbsState × ℕ). p.0) (same_Some f (x, c) e))) in absurd (cc)
     away_by t rest (suc j) c e = rest.away j c e
 
-    by : (b : Bool) → same_state x f.0 ≡ b → cond b (Some f.1) (lookup (same_state x) es) ≡ None → (lookup (same_state x) es ≡ None → IsLast es x d) → IsLast (f ∷ es) x d
+    by : (b : Bool) → same_state x f.0 ≡ b → cond b (Some f.1) (lookup (same_state x) es) ≡ None → (lookup (same_state x) es ≡ None → ComesLast es x d) → ComesLast (f ∷ es) x d
     by true t is rest = absurd (none-some f.1 (sym is))
     by false t is rest =
         let h = rest is in
@@ -190,9 +190,9 @@ set_counts (f ∷ es) zero d (suc j) e h lt is = h (suc j) e is
 set_counts (f ∷ es) (suc i) d zero e h lt is = h 0 e is
 set_counts (f ∷ es) (suc i) d (suc j) e h lt is = set_counts es i d j e (λ k. h (suc k)) lt is
 
-pub kept_set : (ns : List ℕ) (es new : Entries) (i d : ℕ) → AreKept ns es → 0 < d → new ≡ set_value_at es i d → AreKept ns new
+pub kept_set : (ns : List ℕ) (es new : Entries) (i d : ℕ) → ArePlacesKept ns es → 0 < d → new ≡ set_value_at es i d → ArePlacesKept ns new
 kept_set ns es new i d k lt is =
-    subst (AreKept ns) (sym is) (
+    subst (ArePlacesKept ns) (sym is) (
     record {
       numbers = k.numbers;
       within = subst (λ n. n ≤ length ns) (sym (set_long es i d)) k.within;
@@ -201,7 +201,7 @@ kept_set ns es new i d k lt is =
     }
     )
 
-pub uses_set : (ns : List ℕ) (es new : Entries) (i : ℕ) (s : AbsState) (c d : ℕ) → AreKept ns es → 0 < d → new ≡ set_value_at es i d → slice_get es i ≡ Some (s, c)
+pub uses_set : (ns : List ℕ) (es new : Entries) (i : ℕ) (s : AbsState) (c d : ℕ) → ArePlacesKept ns es → 0 < d → new ≡ set_value_at es i d → slice_get es i ≡ Some (s, c)
     → uses_of ns new ≡ insert (uses_of ns es) (number_at ns i) (s, d)
 uses_set ns es new i s c d k lt is e =
     let k' = kept_set ns es new i d k lt is in
@@ -235,13 +235,13 @@ uses_set ns es new i s c d k lt is e =
 
 -- ---- one state more
 
-reached_long : (ns new : List ℕ) (n : ℕ) → IsReached ns n new → n ≤ length ns → n < length new
+reached_long : (ns new : List ℕ) (n : ℕ) → IsPlaceReached ns n new → n ≤ length ns → n < length new
 reached_long ns new n r le =
     cases_eq (length ns) n (n < length new)
     (λ e. let long : length new ≡ length ns + 1 = ap length (r.1 e) ∙ length-append ns (n ∷ []) in omega (arith, long, e))
     (λ ne. let lt : n < length ns = grind (arith, ne, le) in subst (λ (ms : List ℕ). n < length ms) (sym (r.0 lt)) lt)
 
-pub kept_reached : (ns ms : List ℕ) (es : Entries) → AreKept ns es → IsReached ns (length es) ms → AreNumbers ms → AreKept ms es
+pub kept_reached : (ns ms : List ℕ) (es : Entries) → ArePlacesKept ns es → IsPlaceReached ns (length es) ms → AreNumbers ms → ArePlacesKept ms es
 kept_reached ns ms es k r numbers =
     record { numbers = numbers; within = let room = reached_long ns ms (length es) r k.within in omega (arith, room); distinct = k.distinct; used = k.used }
 
@@ -251,7 +251,7 @@ numbered_more [] n (e ∷ es) le = absurd (omega (arith, le))
 numbered_more (m ∷ ns) n [] le = refl
 numbered_more (m ∷ ns) n (e ∷ es) le = ap (λ (l : List (ℕ × (AbsState × ℕ))). (m, e) ∷ l) (numbered_more ns n es (omega (arith, le)))
 
-reached_uses : (ns new : List ℕ) (es : Entries) → IsReached ns (length es) new → length es ≤ length ns → uses_of new es ≡ uses_of ns es
+reached_uses : (ns new : List ℕ) (es : Entries) → IsPlaceReached ns (length es) new → length es ≤ length ns → uses_of new es ≡ uses_of ns es
 reached_uses ns new es r le =
     cases_eq (length ns) (length es) (uses_of new es ≡ uses_of ns es)
     (λ e. ap (λ (ms : List ℕ). uses_of ms es) (r.1 e) ∙ ap (λ (l : List (ℕ × (AbsState × ℕ))). from_entries {R = nat_cmp} l) (numbered_more ns (length es) es le))
@@ -273,8 +273,8 @@ push_counts [] e (suc j) x h lt is = absurd (none-some x is)
 push_counts (f ∷ es) e zero x h lt is = h 0 x is
 push_counts (f ∷ es) e (suc j) x h lt is = push_counts es e j x (λ k. h (suc k)) lt is
 
-pub kept_push : (ns ms : List ℕ) (es new : Entries) (e : AbsState × ℕ) → AreKept ns es → 0 < e.1 → IsReached ns (length es) ms → AreNumbers ms → new ≡ es ++ e ∷ []
-    → IsDistinct same_state (keys_of new) → AreKept ms new
+pub kept_push : (ns ms : List ℕ) (es new : Entries) (e : AbsState × ℕ) → ArePlacesKept ns es → 0 < e.1 → IsPlaceReached ns (length es) ms → AreNumbers ms → new ≡ es ++ e ∷ []
+    → IsDistinct same_state (keys_of new) → ArePlacesKept ms new
 kept_push ns ms es new e k lt r numbers is distinct =
     let long : length new ≡ length es + 1 = ap length is ∙ length-append es (e ∷ []) in
     let room = reached_long ns ms (length es) r k.within in
@@ -286,19 +286,19 @@ kept_push ns ms es new e k lt r numbers is distinct =
     }
 
 -- the new state's number, which none had
-pub record IsPushed (m new : Uses) (n : ℕ) (e : AbsState × ℕ) : Type 0 where
+pub record IsNumberPushed (m new : Uses) (n : ℕ) (e : AbsState × ℕ) : Type 0 where
   pub fresh : get m n ≡ None
   pub more : new ≡ insert m n e
 
-pub uses_push : (ns ms : List ℕ) (es new : Entries) (e : AbsState × ℕ) → AreKept ns es → 0 < e.1 → IsReached ns (length es) ms → AreNumbers ms → new ≡ es ++ e ∷ []
-    → IsDistinct same_state (keys_of new) → IsPushed (uses_of ns es) (uses_of ms new) (number_at ms (length es)) e
+pub uses_push : (ns ms : List ℕ) (es new : Entries) (e : AbsState × ℕ) → ArePlacesKept ns es → 0 < e.1 → IsPlaceReached ns (length es) ms → AreNumbers ms → new ≡ es ++ e ∷ []
+    → IsDistinct same_state (keys_of new) → IsNumberPushed (uses_of ns es) (uses_of ms new) (number_at ms (length es)) e
 uses_push ns ms es new e k lt r numbers is distinct =
     let k' = kept_push ns ms es new e k lt r numbers is distinct in
     let long : length new ≡ length es + 1 = ap length is ∙ length-append es (e ∷ []) in
     let n = number_at ms (length es) in
     let old : uses_of ms es ≡ uses_of ns es = reached_uses ns ms es r k.within in
     let le : length es ≤ length ms = (let w = k'.within in omega (arith, long, w)) in
-    let less : AreApart ms (length es) = λ i j li lj same. apart ms new k' i j (omega (arith, li, long)) (omega (arith, lj, long)) same in
+    let less : HaveOwnNumbers ms (length es) = λ i j li lj same. apart ms new k' i j (omega (arith, li, long)) (omega (arith, lj, long)) same in
     record {
       fresh = ap (λ (m : Uses). get m n) (sym old)
           ∙ none_of (get (uses_of ms es) n)
@@ -348,11 +348,11 @@ put_other (f ∷ es) (suc i) zero e ne = refl
 put_other (f ∷ es) (suc i) (suc j) e ne = put_other es i j e (λ s. ne (ap suc s))
 
 -- the last entry comes to the place, and the others stay
-record IsMoved (es new : Entries) (p : ℕ) : Type 0 where
+record IsLastMoved (es new : Entries) (p : ℕ) : Type 0 where
   here : p < length new → slice_get new p ≡ slice_get es (length new)
   others : (j : ℕ) → j < length new → j ≢ p → slice_get new j ≡ slice_get es j
 
-moved : (es new : Entries) (p : ℕ) (e : AbsState × ℕ) → p < length es → new ≡ swap_remove es p e → length new + 1 ≡ length es → IsMoved es new p
+moved : (es new : Entries) (p : ℕ) (e : AbsState × ℕ) → p < length es → new ≡ swap_remove es p e → length new + 1 ≡ length es → IsLastMoved es new p
 moved es new p e lp is long =
     let last : length es - 1 ≡ length new = omega (arith, long) in
     let end = slice_index_or es (length es - 1) e in
@@ -362,8 +362,8 @@ moved es new p e lp is long =
       others = λ j lt ne. ap (λ (l : Entries). slice_get l j) is ∙ take_get (slice_set es p end) (length es - 1) j (omega (arith, lt, last)) ∙ put_other es p j end ne;
     }
 
-pub kept_less : (ns ms : List ℕ) (es new : Entries) (p : ℕ) (e : AbsState × ℕ) → AreKept ns es → p < length es → ms ≡ swap ns p (length new) → new ≡ swap_remove es p e → length new + 1 ≡ length es → AreNumbers ms
-    → IsDistinct same_state (keys_of new) → AreKept ms new
+pub kept_less : (ns ms : List ℕ) (es new : Entries) (p : ℕ) (e : AbsState × ℕ) → ArePlacesKept ns es → p < length es → ms ≡ swap ns p (length new) → new ≡ swap_remove es p e → length new + 1 ≡ length es → AreNumbers ms
+    → IsDistinct same_state (keys_of new) → ArePlacesKept ms new
 kept_less ns ms es new p e k lp is entries long numbers distinct =
     let same : length ms ≡ length ns = ap length is ∙ length-swap ns p (length new) in
     let w = k.within in
@@ -379,7 +379,7 @@ kept_less ns ms es new p e k lp is entries long numbers distinct =
           (λ ne. k.used j x (sym (m.others j low ne) ∙ g));
     }
 
-pub uses_less : (ns ms : List ℕ) (es new : Entries) (p : ℕ) (e : AbsState × ℕ) → AreKept ns es → p < length es → ms ≡ swap ns p (length new) → new ≡ swap_remove es p e
+pub uses_less : (ns ms : List ℕ) (es new : Entries) (p : ℕ) (e : AbsState × ℕ) → ArePlacesKept ns es → p < length es → ms ≡ swap ns p (length new) → new ≡ swap_remove es p e
     → length new + 1 ≡ length es → AreNumbers ms → IsDistinct same_state (keys_of new) → uses_of ms new ≡ remove (uses_of ns es) (number_at ns p)
 uses_less ns ms es new p e k lp is entries long numbers distinct =
     let k' = kept_less ns ms es new p e k lp is entries long numbers distinct in
@@ -435,12 +435,12 @@ uses_less ns ms es new p e k lp is entries long numbers distinct =
 
 -- ---- what the calls answer
 
-pub held_at : (ns : List ℕ) (es : Entries) (m : Uses) (i : ℕ) (e : AbsState × ℕ) → AreKept ns es → uses_of ns es ≡ m → slice_get es i ≡ Some e → get m (number_at ns i) ≡ Some e
+pub held_at : (ns : List ℕ) (es : Entries) (m : Uses) (i : ℕ) (e : AbsState × ℕ) → ArePlacesKept ns es → uses_of ns es ≡ m → slice_get es i ≡ Some e → get m (number_at ns i) ≡ Some e
 held_at ns es m i e k is entry =
     ap (λ (f : Uses). get f (number_at ns i)) (sym is)
     ∙ get_at ns es (number_at ns i) e k.within (apart ns es k) (record { place = i; low = slice_get_within es i e entry; number = refl; entry = entry })
 
-pub interned_again : (ns : List ℕ) (es new : Entries) (m : Uses) (n i : ℕ) (s : AbsState) (c : ℕ) → AreKept ns es → uses_of ns es ≡ m → n ≡ number_at ns i
+pub interned_again : (ns : List ℕ) (es new : Entries) (m : Uses) (n i : ℕ) (s : AbsState) (c : ℕ) → ArePlacesKept ns es → uses_of ns es ≡ m → n ≡ number_at ns i
     → slice_get es i ≡ Some (s, c) → new ≡ set_value_at es i (c + 1) → IsInterned m s n (uses_of ns new)
 interned_again ns es new m n i s c k is number entry set =
     inl (
@@ -449,7 +449,7 @@ interned_again ns es new m n i s c k is number entry set =
       uses_set ns es new i s c (c + 1) k (omega arith) set entry ∙ ap (λ (f : Uses). insert f (number_at ns i) (s, c + 1)) is ∙ ap (λ q. insert m q (s, c + 1)) (sym number),
     )
 
-pub interned_new : (ns ms : List ℕ) (es new : Entries) (m : Uses) (n : ℕ) (s : AbsState) → AreKept ns es → uses_of ns es ≡ m → IsReached ns (length es) ms → AreNumbers ms
+pub interned_new : (ns ms : List ℕ) (es new : Entries) (m : Uses) (n : ℕ) (s : AbsState) → ArePlacesKept ns es → uses_of ns es ≡ m → IsPlaceReached ns (length es) ms → AreNumbers ms
     → new ≡ es ++ (s, 1) ∷ [] → IsDistinct same_state (keys_of new) → n ≡ number_at ms (length es) → IsAbsent m s → IsInterned m s n (uses_of ms new)
 interned_new ns ms es new m n s k is r numbers entries distinct number away =
     let pushed = uses_push ns ms es new (s, 1) k (omega arith) r numbers entries distinct in
@@ -460,7 +460,7 @@ interned_new ns ms es new m n s k is r numbers entries distinct number away =
     )
 
 -- want of memory changes nothing
-pub kept_uses : (ns ms : List ℕ) (es new : Entries) (m : Uses) → AreKept ns es → uses_of ns es ≡ m → IsReached ns (length es) ms → new ≡ es → uses_of ms new ≡ m
+pub kept_uses : (ns ms : List ℕ) (es new : Entries) (m : Uses) → ArePlacesKept ns es → uses_of ns es ≡ m → IsPlaceReached ns (length es) ms → new ≡ es → uses_of ms new ≡ m
 kept_uses ns ms es new m k is r same = ap (uses_of ms) same ∙ reached_uses ns ms es r k.within ∙ is
 
 test : (c : ℕ) (b : Bool) → nat_lt 1 c ≡ b → (A : Type 0) (x y z : A) → (b ≡ true → x ≡ z) → (b ≡ false → y ≡ z) → (if nat_lt 1 c then x else y) ≡ z
@@ -475,14 +475,14 @@ pub lowered_last : (m : Uses) (n : ℕ) (s : AbsState) (c : ℕ) → c ≤ 1 →
 lowered_last m n s c le =
     test c (nat_lt 1 c) refl Uses (insert m n (s, c - 1)) (remove m n) (remove m n) (λ t. absurd (grind (arith, nat_tests, t, le))) (λ t. refl)
 
-pub released_less : (ns : List ℕ) (es new : Entries) (m : Uses) (n p : ℕ) (x : AbsState) (c : ℕ) → AreKept ns es → uses_of ns es ≡ m → number_at ns p ≡ n
+pub released_less : (ns : List ℕ) (es new : Entries) (m : Uses) (n p : ℕ) (x : AbsState) (c : ℕ) → ArePlacesKept ns es → uses_of ns es ≡ m → number_at ns p ≡ n
     → slice_get es p ≡ Some (x, c) → 1 < c → new ≡ set_value_at es p (c - 1) → uses_of ns new ≡ released m n
 released_less ns es new m n p x c k is number entry lt set =
     let there : get m n ≡ Some (x, c) = sym (ap (get m) number) ∙ held_at ns es m p (x, c) k is entry in
     uses_set ns es new p x c (c - 1) k (omega (arith, lt)) set entry ∙ ap (λ (f : Uses). insert f (number_at ns p) (x, c - 1)) is ∙ ap (λ q. insert m q (x, c - 1)) number
     ∙ sym (ap (lowered m n) there ∙ lowered_more m n x c lt)
 
-pub released_last : (ns ms : List ℕ) (es new : Entries) (m : Uses) (n p : ℕ) (x : AbsState) (c : ℕ) (e : AbsState × ℕ) → AreKept ns es → uses_of ns es ≡ m → number_at ns p ≡ n
+pub released_last : (ns ms : List ℕ) (es new : Entries) (m : Uses) (n p : ℕ) (x : AbsState) (c : ℕ) (e : AbsState × ℕ) → ArePlacesKept ns es → uses_of ns es ≡ m → number_at ns p ≡ n
     → slice_get es p ≡ Some (x, c) → c ≤ 1 → ms ≡ swap ns p (length new) → new ≡ swap_remove es p e → length new + 1 ≡ length es → AreNumbers ms
     → IsDistinct same_state (keys_of new) → uses_of ms new ≡ released m n
 released_last ns ms es new m n p x c e k is number entry le swapped entries long numbers distinct =
@@ -498,11 +498,11 @@ given_last : (m : Uses) (n : ℕ) (s : AbsState) (c : ℕ) → get m n ≡ Some 
 given_last m n s c there le = ap last_state there ∙ test c (nat_lt 1 c) refl (Option AbsState) None (Some s) (Some s) (λ t. absurd (grind (arith, nat_tests, t, le))) (λ t. refl)
 
 -- what a release gives, by the entry at the number's place
-pub not_given : (ns : List ℕ) (es : Entries) (m : Uses) (n p : ℕ) (x : AbsState) (c : ℕ) → AreKept ns es → uses_of ns es ≡ m → number_at ns p ≡ n → slice_get es p ≡ Some (x, c) → 1 < c
+pub not_given : (ns : List ℕ) (es : Entries) (m : Uses) (n p : ℕ) (x : AbsState) (c : ℕ) → ArePlacesKept ns es → uses_of ns es ≡ m → number_at ns p ≡ n → slice_get es p ≡ Some (x, c) → 1 < c
     → None ≡ last_state (get m n)
 not_given ns es m n p x c k is number entry lt = sym (given_none m n x c (sym (ap (get m) number) ∙ held_at ns es m p (x, c) k is entry) lt)
 
-pub given_there : (ns : List ℕ) (es : Entries) (m : Uses) (n p : ℕ) (x s : AbsState) (c d : ℕ) → AreKept ns es → uses_of ns es ≡ m → number_at ns p ≡ n → slice_get es p ≡ Some (x, c) → c ≤ 1
+pub given_there : (ns : List ℕ) (es : Entries) (m : Uses) (n p : ℕ) (x s : AbsState) (c d : ℕ) → ArePlacesKept ns es → uses_of ns es ≡ m → number_at ns p ≡ n → slice_get es p ≡ Some (x, c) → c ≤ 1
     → Some (s, d) ≡ slice_get es p → Some s ≡ last_state (get m n)
 given_there ns es m n p x s c d k is number entry le taken =
     ap Some (ap (λ (e : AbsState × ℕ). e.0) (same_Some (s, d) (x, c) (taken ∙ entry)))
@@ -513,8 +513,8 @@ on_ok : {V E : Type 0} (r : Result V E) (P : Type 0) → OnOk r P → is_err r �
 on_ok (Ok v) P h e = h
 on_ok (Err x) P h e = absurd (cc)
 
-pub reached_by : {V E : Type 0} (r : Result V E) (ns ms : List ℕ) (n m : ℕ) → OnOk r (IsReached ns n ms) → is_err r ≡ false → n ≡ m → IsReached ns m ms
-reached_by r ns ms n m ok e same = subst (λ (i : ℕ). IsReached ns i ms) same (on_ok r (IsReached ns n ms) ok e)
+pub reached_by : {V E : Type 0} (r : Result V E) (ns ms : List ℕ) (n m : ℕ) → OnOk r (IsPlaceReached ns n ms) → is_err r ≡ false → n ≡ m → IsPlaceReached ns m ms
+reached_by r ns ms n m ok e same = subst (λ (i : ℕ). IsPlaceReached ns i ms) same (on_ok r (IsPlaceReached ns n ms) ok e)
 
 -- ---- an entry that was taken out
 

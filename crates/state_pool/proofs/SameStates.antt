@@ -11,7 +11,7 @@ use Rattle.sp_domain.specs.declared.tags.CarryTag.{CarryTag}
 use Rattle.sp_domain.specs.contracts.tags.TagPartialEq.TheImpl as tags
 use Rattle.sp_domain.specs.contracts.tags.CarryTagPartialEq.TheImpl as carries
 use Rattle.pair_domain.specs.declared.facts.PairFacts.{PairFacts}
-use Rattle.pair_domain.specs.Facts.{IsKept, IsKnownWithin}
+use Rattle.pair_domain.specs.Facts.{AreFactsKept, IsKnownWithin}
 use Rattle.pair_domain.proofs.AllLaws.{known_is_ordered}
 use Rattle.abs_state.specs.declared.values.AbsByte.{AbsByte}
 use Rattle.abs_state.specs.declared.values.AbsFlags.{AbsFlags}
@@ -54,7 +54,7 @@ same_flags f g =
     (Decides-and (bits.ghosts.eq f.bits g.bits) _ (same_bits f.bits g.bits) (same_carry f.carry g.carry)))
 
 -- facts that say no less than each other are the same
-pub same_facts : (x y : Option PairFacts) → IsKept x → IsKept y → (IsKnownWithin x y × IsKnownWithin y x → x ≡ y) × (x ≡ y → IsKnownWithin x y × IsKnownWithin y x)
+pub same_facts : (x y : Option PairFacts) → AreFactsKept x → AreFactsKept y → (IsKnownWithin x y × IsKnownWithin y x → x ≡ y) × (x ≡ y → IsKnownWithin x y × IsKnownWithin y x)
 same_facts x y a b = (
   (λ le. known_is_ordered.both x y a.sixteen b.sixteen a.near b.near le.0 le.1),
   (λ e. (subst (IsKnownWithin x) e (known_is_ordered.same x), subst (λ (w : Option PairFacts). IsKnownWithin w x) e (known_is_ordered.same x))),

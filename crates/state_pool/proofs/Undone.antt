@@ -4,13 +4,13 @@ use Rattle.std.specs.FinMap.{get, insert, len, len-insert}
 use Rattle.std.specs.Cmp.{nat_cmp_total}
 use Rattle.std.proofs.lemmas.Option.{same_Some}
 use Rattle.abs_state.specs.declared.state.AbsState.{AbsState}
-use Rattle.state_pool.specs.Uses.{Uses, IsHeld, AreDistinct, AreUsed, AreBelow, IsInterned, lowered, released}
+use Rattle.state_pool.specs.Uses.{Uses, IsStateHeld, AreDistinct, AreUsed, AreBelow, IsInterned, lowered, released}
 use Rattle.state_pool.specs.Laws.{ReleasesUndo}
 use Rattle.state_pool.proofs.Cases.{cases_eq}
 use Rattle.state_pool.proofs.Held.{get_here, get_there, inserted, removed}
 use Rattle.state_pool.proofs.Kept.{lowered_more, lowered_last}
 
-held : (old new : Uses) (s : AbsState) (n : ℕ) → IsInterned old s n new → (count : ℕ) × IsHeld new n s count
+held : (old new : Uses) (s : AbsState) (n : ℕ) → IsInterned old s n new → (count : ℕ) × IsStateHeld new n s count
 held old new s n =
     ⊎_elim (λ h. (h.0 + 1, ap (λ (m : Uses). get m n) h.2 ∙ get_here old n (s, h.0 + 1)))
     (λ h. (1, ap (λ (m : Uses). get m n) h.2 ∙ get_here old n (s, 1)))

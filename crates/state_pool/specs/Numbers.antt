@@ -21,5 +21,5 @@ pub record AreInverse (numbers places : List ℕ) : Type 0 where
   pub forth : (n : ℕ) → n < length numbers → number_at numbers (number_at places n) ≡ n
 
 -- one number more, where the places end before this one
-abbrev pub IsReached : List ℕ → ℕ → List ℕ → Type 0
-IsReached old place new = (place < length old → new ≡ old) × (length old ≡ place → new ≡ old ++ place ∷ [])
+abbrev pub IsPlaceReached : List ℕ → ℕ → List ℕ → Type 0
+IsPlaceReached old place new = (place < length old → new ≡ old) × (length old ≡ place → new ≡ old ++ place ∷ [])

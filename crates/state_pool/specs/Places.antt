@@ -13,7 +13,7 @@ numbered (n ∷ ns) [] = []
 numbered (n ∷ ns) (e ∷ es) = (n, e) ∷ numbered ns es
 
 -- each place has a number of its own, equal states have one place, and each is used
-pub record AreKept (ns : List ℕ) (es : List (AbsState × ℕ)) : Type 0 where
+pub record ArePlacesKept (ns : List ℕ) (es : List (AbsState × ℕ)) : Type 0 where
   pub numbers : AreNumbers ns
   pub within : length es ≤ length ns
   pub distinct : IsDistinct same_state (keys_of es)

@@ -9,8 +9,8 @@ abbrev pub Uses : Type 0
 Uses = FinMap nat_cmp (AbsState × ℕ)
 
 -- the state has this number, and so many uses
-abbrev pub IsHeld : Uses → ℕ → AbsState → ℕ → Type 0
-IsHeld pool n s count = get pool n ≡ Some (s, count)
+abbrev pub IsStateHeld : Uses → ℕ → AbsState → ℕ → Type 0
+IsStateHeld pool n s count = get pool n ≡ Some (s, count)
 
 -- no number is the state's
 abbrev pub IsAbsent : Uses → AbsState → Type 0
@@ -18,20 +18,20 @@ IsAbsent pool s = (n count : ℕ) → get pool n ≢ Some (s, count)
 
 -- equal states have one number
 abbrev pub AreDistinct : Uses → Type 0
-AreDistinct pool = (n m : ℕ) (s : AbsState) (count more : ℕ) → IsHeld pool n s count → IsHeld pool m s more → n ≡ m
+AreDistinct pool = (n m : ℕ) (s : AbsState) (count more : ℕ) → IsStateHeld pool n s count → IsStateHeld pool m s more → n ≡ m
 
 -- each count is at least 1
 abbrev pub AreUsed : Uses → Type 0
-AreUsed pool = (n : ℕ) (s : AbsState) (count : ℕ) → IsHeld pool n s count → 0 < count
+AreUsed pool = (n : ℕ) (s : AbsState) (count : ℕ) → IsStateHeld pool n s count → 0 < count
 
 -- each count is below this
 abbrev pub AreBelow : ℕ → Uses → Type 0
-AreBelow most pool = (n : ℕ) (s : AbsState) (count : ℕ) → IsHeld pool n s count → count < most
+AreBelow most pool = (n : ℕ) (s : AbsState) (count : ℕ) → IsStateHeld pool n s count → count < most
 
 -- the state is used once more: its number's count grows, or it gets a new number
 abbrev pub IsInterned : Uses → AbsState → ℕ → Uses → Type 0
 IsInterned old s n new =
-    ((count : ℕ) × IsHeld old n s count × (new ≡ insert old n (s, count + 1)))
+    ((count : ℕ) × IsStateHeld old n s count × (new ≡ insert old n (s, count + 1)))
     ⊎ (IsAbsent old s × (get old n ≡ None) × (new ≡ insert old n (s, 1)))
 
 -- what is left of a number where its state is used once less

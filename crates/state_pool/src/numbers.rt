@@ -2,7 +2,7 @@
 
 ghost use Rattle.std.specs.Prelude.{ℕ, ◌≡◌, ◌<◌, ◌≤◌, [], length, OnOk, OnErr};
 ghost use Rattle.std.specs.List.{swap};
-ghost use Rattle.state_pool.specs.Numbers.{number_at, AreNumbers, IsReached};
+ghost use Rattle.state_pool.specs.Numbers.{number_at, AreNumbers, IsPlaceReached};
 
 use std::alloc::{AllocError, Global};
 use std::marker::Model;
@@ -64,7 +64,7 @@ impl Numbers {
     /// A number for a place: the one that it has, or another where the places end before it.
     pub fn reach(&mut self, place: usize) -> Result<(), AllocError>
         requires { (place ≤ length self.old) × (place < 4294967295) }
-        ensures ok { OnOk result (IsReached self.old place self.new) }
+        ensures ok { OnOk result (IsPlaceReached self.old place self.new) }
         ensures err { OnErr result (self.new ≡ self.old) }
         ensures once { AreNumbers self.new }
     {

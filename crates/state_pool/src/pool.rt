@@ -4,7 +4,7 @@ ghost use Rattle.std.specs.Prelude.{ℕ, ◌≡◌, ◌<◌, IfOk, IfErr, OnErr,
 ghost use Rattle.std.specs.FinMap.{get, empty, len};
 ghost use Rattle.indexmap.specs.IndexMap.{index_map_len};
 ghost use Rattle.indexmap.specs.Layout.{set_value_at};
-ghost use Rattle.state_pool.specs.Uses.{IsInterned, AreDistinct, AreUsed, AreBelow, IsHeld, released, last_state};
+ghost use Rattle.state_pool.specs.Uses.{IsInterned, AreDistinct, AreUsed, AreBelow, IsStateHeld, released, last_state};
 
 use crate::numbers::Numbers;
 use crate::shared::Shared;
@@ -23,11 +23,11 @@ pub struct Pool {
 }
 
 impl Model for Pool {
-    ghost use Rattle.std.specs.FinMap.{FinMap, from_entries, code};
+    ghost use Rattle.std.specs.FinMap.{from_entries, code};
     ghost use Rattle.std.specs.Coded.{coded×, coded_ℕ};
     ghost use Rattle.abs_state.specs.contracts.state.AbsState as abs_state;
     ghost use Rattle.state_pool.specs.Uses.{Uses};
-    ghost use Rattle.state_pool.specs.Places.{numbered, AreKept};
+    ghost use Rattle.state_pool.specs.Places.{numbered, ArePlacesKept};
 
     ghost Value = { Uses };
 
@@ -35,7 +35,7 @@ impl Model for Pool {
 
     ghost view = { λ p. from_entries (numbered p.numbers p.uses.entries) };
 
-    ghost invariant = { λ p. AreKept p.numbers p.uses.entries };
+    ghost invariant = { λ p. ArePlacesKept p.numbers p.uses.entries };
 }
 
 // Another count at a place.
@@ -72,7 +72,7 @@ impl Pool {
     /// The state of a number that is there.
     pub fn get(&self, number: u32) -> &AbsState
         requires { IsSome (get self.now number) }
-        ensures { (count : ℕ) × IsHeld self.now number result.now count }
+        ensures { (count : ℕ) × IsStateHeld self.now number result.now count }
     {
         let place = self.numbers.place(number);
         match self.uses.get_index(place) {

@@ -9,20 +9,20 @@ mod words;
 
 use std::alloc::Global;
 
-/// The first table and row that is wrong, once there is one.
+// The first table and row that is wrong, once there is one.
 struct Told {
     table: &'static str,
     row: usize,
     wrong: bool,
 }
 
-/// A row that was worked out apart from what it is about.
+// A row that was worked out apart from what it is about.
 trait Worked {
-    /// Whether what it is about is so. Want of memory is wrong too.
+    // Whether what it is about is so. Want of memory is wrong too.
     fn holds(&self, alloc: Global) -> bool;
 }
 
-/// The first row that doesn't hold.
+// The first row that doesn't hold.
 fn wrong_row<R: Worked>(alloc: Global, rows: &[R]) -> Option<usize> {
     for at in 0..rows.len() {
         if !rows[at].holds(alloc) {
@@ -32,7 +32,7 @@ fn wrong_row<R: Worked>(alloc: Global, rows: &[R]) -> Option<usize> {
     None
 }
 
-/// Tells the row of a table that is wrong, if one is.
+// Tells the row of a table that is wrong, if one is.
 fn tell_row(told: &mut Told, table: &'static str, wrong: Option<usize>) {
     if let Some(at) = wrong
         && !told.wrong
@@ -43,14 +43,14 @@ fn tell_row(told: &mut Told, table: &'static str, wrong: Option<usize>) {
     }
 }
 
-/// Tells the first row that doesn't hold of tables with their names.
+// Tells the first row that doesn't hold of tables with their names.
 fn tell<R: Worked>(told: &mut Told, alloc: Global, tables: &[(&'static str, &[R])]) {
     for (name, rows) in tables {
         tell_row(told, *name, wrong_row(alloc, rows));
     }
 }
 
-/// Tells whether a fact that stands in no table is wrong, by its number.
+// Tells whether a fact that stands in no table is wrong, by its number.
 fn tell_fact(told: &mut Told, number: usize, holds: bool) {
     if !told.wrong && !holds {
         told.table = "fact";
@@ -59,7 +59,7 @@ fn tell_fact(told: &mut Told, number: usize, holds: bool) {
     }
 }
 
-/// Numbers, commands, assumption lists, schedules and certificates.
+// Numbers, commands, assumption lists, schedules and certificates.
 fn tell_texts(told: &mut Told, alloc: Global) {
     tell_row(told, "file", words::misread_of_two(alloc));
     tell_row(told, "sink", words::misput_in_pieces(alloc));
@@ -76,7 +76,7 @@ fn tell_texts(told: &mut Told, alloc: Global) {
     tell(told, alloc, &certificates::CELLS);
 }
 
-/// What stands in no table.
+// What stands in no table.
 fn tell_facts(told: &mut Told, alloc: Global) {
     tell_fact(told, 0, words::are_words());
     tell_fact(told, 1, assumption_texts::are_sixty_four());

@@ -40,7 +40,7 @@ IsTried words A points bound fill None = Succeeds words A points bound fill → 
 IsTried words A points bound fill (Some plan) = (plan.fill ≡ fill) × Succeeds words A points bound fill × IsTrial words A points bound plan
 
 -- a schedule of the first trial that succeeds
-pub record IsFirst (words : List ℕ) (A : List Entry) (points : List Waypoint) (bound : ℕ) (plan : Plan) : Type 0 where
+pub record IsFirstFilled (words : List ℕ) (A : List Entry) (points : List Waypoint) (bound : ℕ) (plan : Plan) : Type 0 where
   pub before : List ℕ
   pub after : List ℕ
   pub order : fills ≡ before ++ plan.fill ∷ after
@@ -51,4 +51,4 @@ pub record IsFirst (words : List ℕ) (A : List Entry) (points : List Waypoint) 
 -- what the trials find: that schedule, or none where none succeeds
 abbrev pub IsFound : List ℕ → List Entry → List Waypoint → ℕ → Option Plan → Type 0
 IsFound words A points bound None = NoneSucceeds words A points bound fills
-IsFound words A points bound (Some plan) = IsFirst words A points bound plan
+IsFound words A points bound (Some plan) = IsFirstFilled words A points bound plan

@@ -55,7 +55,7 @@ fn interrupts(
     Ok(points)
 }
 
-/// The interrupts of the deepest chain of a certificate's family, whose nodes meet the conditions.
+// The interrupts of the deepest chain of a certificate's family, whose nodes meet the conditions.
 pub(crate) fn waypoints(
     task: &Task<'_>,
     certificate: &Certificate,

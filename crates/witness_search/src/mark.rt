@@ -5,7 +5,7 @@ ghost use Rattle.std.specs.Prelude.{◌≡◌, IsTrue, length};
 use crate::waypoint::Waypoint;
 use avr_machine::Machine;
 
-/// A place of a trial: the machine, how many waypoints were left, and until which step it is kept.
+// A place of a trial: the machine, how many waypoints were left, and until which step it is kept.
 #[derive(Drop)]
 pub(crate) struct Mark {
     machine: Machine,
@@ -14,8 +14,8 @@ pub(crate) struct Mark {
 }
 
 impl Mark {
-    /// The place after so many steps, which is kept for as many more: so a trial that repeats itself is ended after some three times the
-    /// steps that it takes to the first state in which it was before.
+    // The place after so many steps, which is kept for as many more: so a trial that repeats itself is ended after some three times the
+    // steps that it takes to the first state in which it was before.
     pub(crate) fn new(at: u32, machine: &Machine, rest: &[Waypoint]) -> Mark
         ensures machine { result.machine ≡ machine.now }
         ensures left { result.left ≡ length rest.now }
@@ -27,12 +27,12 @@ impl Mark {
         }
     }
 
-    /// Whether another place is to be marked after so many steps.
+    // Whether another place is to be marked after so many steps.
     pub(crate) fn is_old(&self, at: u32) -> bool {
         self.until <= at
     }
 
-    /// Whether the trial is in the same state again, with as many waypoints left.
+    // Whether the trial is in the same state again, with as many waypoints left.
     pub(crate) fn is_met(&self, machine: &Machine, rest: &[Waypoint]) -> bool
         ensures state { IsTrue result → machine.now.state ≡ self.now.machine.state }
         ensures left { IsTrue result → length rest.now ≡ self.now.left }

@@ -17,7 +17,7 @@ use std::alloc::{AllocError, Global};
 use vector_table::Assumptions;
 use witness_replay::Schedule;
 
-/// The waypoints of a certificate, whose conditions hold.
+// The waypoints of a certificate, whose conditions hold.
 fn waypoints_of(task: &Task<'_>, certificate: &Certificate) -> Result<Vec<Waypoint>, AllocError>
     requires { IsSound task.now.flash.now task.now.assumptions.now certificate.now }
     ensures { IfOk result (λ points. AreWaypoints task.now.flash.now task.now.assumptions.now certificate.now points.items) }

@@ -44,9 +44,9 @@ fn found(choices: Vec<Choice>, machine: &Machine, bound: u16) -> Option<Listed<C
     }
 }
 
-/// The choices of the trial with this fill byte where its depth is the bound: the next waypoint's interrupt is taken where it is due,
-/// and every other choice is `Go(fill, fill)`, until the depth is the bound or more, or a stop, or so many steps. A trial that comes to
-/// a state again, with as many waypoints left, is at its end, since it repeats itself.
+// The choices of the trial with this fill byte where its depth is the bound: the next waypoint's interrupt is taken where it is due,
+// and every other choice is `Go(fill, fill)`, until the depth is the bound or more, or a stop, or so many steps. A trial that comes to
+// a state again, with as many waypoints left, is at its end, since it repeats itself.
 fn attempt(
     task: &Task<'_>,
     points: &[Waypoint],
@@ -82,7 +82,7 @@ fn attempt(
     Ok(found(choices, &machine, bound))
 }
 
-/// The schedule of the trial with this fill byte. None exactly where its depth isn't the bound.
+// The schedule of the trial with this fill byte. None exactly where its depth isn't the bound.
 fn try_fill(
     task: &Task<'_>,
     points: &[Waypoint],

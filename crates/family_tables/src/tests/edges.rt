@@ -2,7 +2,7 @@
 
 ghost use Rattle.std.specs.Prelude.{◌<◌, false, length};
 ghost use Rattle.edge_rules.specs.Expansion.{AreSeeds};
-ghost use Rattle.edge_laws.specs.Expansions.{AreAscending};
+ghost use Rattle.edge_laws.specs.Expansions.{AreSeedsAscending};
 
 use super::Worked;
 use crate::tests::seeds::{Plan, SeedList, seeds_of};
@@ -15,7 +15,7 @@ use mask_states::Kind;
 use std::alloc::Global;
 use vector_table::Assumptions;
 
-/// What is due: edges, by their kinds and the words where they land; the node's fault; or the least node without an expansion.
+// What is due: edges, by their kinds and the words where they land; the node's fault; or the least node without an expansion.
 enum Due {
     Edges(&'static [(EdgeKind, u16)]),
     Fault(NodeFault),
@@ -52,7 +52,7 @@ fn has_fault(due: &Due, fault: NodeFault) -> bool {
     }
 }
 
-/// Whether the node leads where it is due.
+// Whether the node leads where it is due.
 fn leads(task: &Task<'_>, filled: &Filled, at: usize, due: &Due) -> bool
     requires { at < length filled.now }
 {
@@ -62,7 +62,7 @@ fn leads(task: &Task<'_>, filled: &Filled, at: usize, due: &Due) -> bool
     }
 }
 
-/// The same with exits worked out once.
+// The same with exits worked out once.
 fn leads_by_exits(task: &Task<'_>, filled: &Filled, at: usize, due: &Due) -> bool
     requires { at < length filled.now }
 {
@@ -90,10 +90,10 @@ fn is_missing(due: &Due, missing: u32) -> bool {
     }
 }
 
-/// Whether the family of these nodes is so.
+// Whether the family of these nodes is so.
 fn is_family(alloc: Global, flash: &Flash, nodes: &SeedList, at: usize, due: &Due) -> bool
     requires seeds { AreSeeds false nodes.now.items.items }
-    requires ascending { AreAscending nodes.now.items.items }
+    requires ascending { AreSeedsAscending nodes.now.items.items }
 {
     let none = Assumptions::empty(alloc);
     let task = Task {
@@ -115,7 +115,7 @@ fn is_on(alloc: Global, flash: &Flash, row: &Row) -> bool {
     }
 }
 
-/// The flash of a device that begins with these bytes.
+// The flash of a device that begins with these bytes.
 pub(crate) fn flash_on(alloc: Global, device: Device, bytes: &[u8]) -> Option<Flash> {
     match Flash::from_raw(alloc, bytes) {
         Ok(whole) => whole.narrow(device).ok(),

@@ -2,7 +2,7 @@
 
 ghost use Rattle.std.specs.Prelude.{◌≤◌, false, length};
 ghost use Rattle.edge_rules.specs.Expansion.{AreSeeds};
-ghost use Rattle.edge_laws.specs.Expansions.{AreAscending};
+ghost use Rattle.edge_laws.specs.Expansions.{AreSeedsAscending};
 ghost use Rattle.call_graph.specs.Landings.{AreLandings};
 
 use super::Worked;
@@ -59,10 +59,10 @@ fn is_formed(task: &Task<'_>, nodes: Filled, due: &[Option<u32>]) -> bool
     }
 }
 
-/// Whether the family of these nodes is written so.
+// Whether the family of these nodes is written so.
 fn is_family(alloc: Global, flash: &Flash, nodes: &SeedList, due: &[Option<u32>]) -> bool
     requires seeds { AreSeeds false nodes.now.items.items }
-    requires ascending { AreAscending nodes.now.items.items }
+    requires ascending { AreSeedsAscending nodes.now.items.items }
 {
     let none = Assumptions::empty(alloc);
     let task = Task {

@@ -13,34 +13,34 @@ use nesting_bound::{
 use std::alloc::{AllocError, Global};
 use vector_table::Masks;
 
-/// What enters or is entered: nothing or the root, a call, or the interrupt of a vector from 2 on.
+// What enters or is entered: nothing or the root, a call, or the interrupt of a vector from 2 on.
 const NONE: u8 = 0;
 
 const CALL: u8 = 1;
 
-/// A node and an offset.
+// A node and an offset.
 type At = (u32, u16);
 
-/// A node, an offset, how it enters, and the instance that is entered.
+// A node, an offset, how it enters, and the instance that is entered.
 type Edge = (u32, u16, u8, u32);
 
-/// How it was entered, its entry, its places and its edges.
+// How it was entered, its entry, its places and its edges.
 type Inst = (u8, u16, &'static [At], &'static [Edge]);
 
-/// An instance, a node, the depth there, and how the next one is entered.
+// An instance, a node, the depth there, and how the next one is entered.
 type Step = (u32, u32, u16, u8);
 
-/// Ranks, needs and a chain.
+// Ranks, needs and a chain.
 struct Least(&'static [u32], &'static [u32], &'static [Step]);
 
-/// What `compose` and `chain` make of a graph.
+// What `compose` and `chain` make of a graph.
 enum Wanted {
     Least(Least),
-    /// The instance that is named.
+    // The instance that is named.
     Cycle(u32),
-    /// It is not composable.
+    // It is not composable.
     Shapeless,
-    /// It is, but an instance that is entered or the root has no place.
+    // It is, but an instance that is entered or the root has no place.
     Placeless,
 }
 
@@ -52,7 +52,7 @@ fn kind(number: u8) -> EdgeKind {
     }
 }
 
-/// The instance of this entry that is entered so.
+// The instance of this entry that is entered so.
 pub(crate) fn key(number: u8, entry: u16) -> InstKey {
     let kind = match number {
         NONE => Kind::Root,
@@ -152,7 +152,7 @@ fn are_least(composed: &Composed, wanted: &Least) -> bool {
     composed.ranks.as_slice() == wanted.0 && composed.needs.as_slice() == wanted.1
 }
 
-/// Whether the graph has these ranks and needs, and this chain.
+// Whether the graph has these ranks and needs, and this chain.
 fn has(alloc: Global, graph: &Graph, wanted: &Least) -> bool {
     if !graph.is_composable() || !graph.has_places() {
         return false;
@@ -165,7 +165,7 @@ fn has(alloc: Global, graph: &Graph, wanted: &Least) -> bool {
     }
 }
 
-/// Whether the graph is refused for a cycle that is named by this instance.
+// Whether the graph is refused for a cycle that is named by this instance.
 fn is_cyclic(alloc: Global, graph: &Graph, at: u32) -> bool {
     if !graph.is_composable() {
         return false;

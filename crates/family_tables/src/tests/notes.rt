@@ -7,11 +7,11 @@ ghost use Rattle.mask_states.specs.Keys.{offset_of};
 use super::Worked;
 use crate::tests::nesting::key;
 use avr_model::device::SIZE;
-use instance_nesting::{Nesting, NestingVerdict};
 use mask_states::{NodeKey, SpForm};
+use round_nesting::{Nesting, NestingVerdict};
 use std::alloc::{AllocError, Global};
 
-/// How an instance is entered, and its entry: 0 is the root, 1 a call, and any other number a vector.
+// How an instance is entered, and its entry: 0 is the root, 1 a call, and any other number a vector.
 type Inst = (u8, u16);
 
 const ROOT: Inst = (0, 0);
@@ -26,9 +26,9 @@ const LATER: Inst = (9, 18);
 
 #[derive(Clone, Copy)]
 enum Note {
-    /// A node of this instance at this offset.
+    // A node of this instance at this offset.
     Node(Inst, u16),
-    /// A node of the first instance at this offset enters the second.
+    // A node of the first instance at this offset enters the second.
     Entrance(Inst, u16, Inst),
 }
 
@@ -51,7 +51,7 @@ fn take(nesting: &mut Nesting, note: Note) -> Result<(), AllocError> {
     }
 }
 
-/// Takes the notes, and judges the nesting after each of them if `often`.
+// Takes the notes, and judges the nesting after each of them if `often`.
 fn take_all(
     nesting: &mut Nesting,
     size: u16,
@@ -67,7 +67,7 @@ fn take_all(
     Ok(())
 }
 
-/// Whether the notes tell this where SRAM has so many bytes, where the nesting is judged besides after each note if `often`.
+// Whether the notes tell this where SRAM has so many bytes, where the nesting is judged besides after each note if `often`.
 fn tells(
     nesting: &mut Nesting,
     size: u16,

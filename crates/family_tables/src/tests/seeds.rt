@@ -7,7 +7,7 @@ ghost use Rattle.mask_states.specs.declared.keys.SpForm.TheVariants.{Closed};
 ghost use Rattle.mask_states.specs.Order.{node_cmp};
 ghost use Rattle.edge_rules.specs.declared.seeded.NodeForm as node_form;
 ghost use Rattle.edge_rules.specs.Expansion.{AreSeeds};
-ghost use Rattle.edge_laws.specs.Expansions.{AreAscending};
+ghost use Rattle.edge_laws.specs.Expansions.{AreSeedsAscending};
 
 use abs_state::AbsState;
 use avr_model::device::WORDS;
@@ -17,7 +17,7 @@ use mask_states::{InstKey, Kind, NodeKey, SpForm};
 use std::alloc::{AllocError, Global};
 use vector_table::Masks;
 
-/// Nodes in a list.
+// Nodes in a list.
 #[derive(Drop)]
 pub(crate) struct SeedList {
     pub items: Vec<(NodeKey, NodeForm)>,
@@ -42,12 +42,12 @@ impl Seeded for SeedList {
     }
 }
 
-/// A node: how and where its instance is entered, whether vectors 2 and 7 are enabled, its word, and the number of the node that it
-/// comes from with the bytes on the stack; with none there are none, and its state is that at reset.
+// A node: how and where its instance is entered, whether vectors 2 and 7 are enabled, its word, and the number of the node that it
+// comes from with the bytes on the stack; with none there are none, and its state is that at reset.
 #[derive(Clone, Copy)]
 pub(crate) struct Plan(pub Kind, pub u16, pub bool, pub u16, pub Option<(u32, u16)>);
 
-/// The node's key; I is on in the root where vectors are enabled.
+// The node's key; I is on in the root where vectors are enabled.
 fn key_of(plan: &Plan, offset: u16) -> NodeKey
     ensures closed { result.sp ≡ Closed offset }
     ensures unpicked { result.pick ≡ None }
@@ -70,7 +70,7 @@ fn key_of(plan: &Plan, offset: u16) -> NodeKey
     }
 }
 
-/// Whether the key of this number is below the other.
+// Whether the key of this number is below the other.
 fn is_before(items: &[(NodeKey, NodeForm)], at: usize, key: &NodeKey) -> bool
     requires { at < length items.now }
     ensures { (e : node_key.NodeKey × node_form.NodeForm) → slice_get items.now at ≡ Some e → IsTrue result → node_cmp e.0 key.now ≡ Less }
@@ -78,7 +78,7 @@ fn is_before(items: &[(NodeKey, NodeForm)], at: usize, key: &NodeKey) -> bool
     items[at].0.cmp(key).is_lt()
 }
 
-/// Whether all keys are below this one, and there is room for it.
+// Whether all keys are below this one, and there is room for it.
 fn may_follow(items: &[(NodeKey, NodeForm)], key: &NodeKey) -> bool
     ensures room { IsTrue result → length items.now < 65536 }
     ensures below { IsTrue result → (at : ℕ) (e : node_key.NodeKey × node_form.NodeForm) → slice_get items.now at ≡ Some e → node_cmp e.0 key.now ≡ Less }
@@ -94,7 +94,7 @@ fn may_follow(items: &[(NodeKey, NodeForm)], key: &NodeKey) -> bool
     true
 }
 
-/// A node with the state at reset, if it may follow.
+// A node with the state at reset, if it may follow.
 fn add_own(
     alloc: Global,
     items: &mut Vec<(NodeKey, NodeForm)>,
@@ -103,9 +103,9 @@ fn add_own(
     requires closed { key.sp ≡ Closed 0 }
     requires unpicked { key.pick ≡ None }
     requires seeds { AreSeeds false items.old.items }
-    requires ascending { AreAscending items.old.items }
+    requires ascending { AreSeedsAscending items.old.items }
     ensures seeds { OnOk result (AreSeeds false items.new.items) }
-    ensures ascending { OnOk result (AreAscending items.new.items) }
+    ensures ascending { OnOk result (AreSeedsAscending items.new.items) }
 {
     let _ = key.masks.bits();
     if key.pc >= WORDS || !may_follow(items, &key) {
@@ -116,16 +116,16 @@ fn add_own(
     Ok(true)
 }
 
-/// A node that comes from an earlier one, if it may follow.
+// A node that comes from an earlier one, if it may follow.
 fn add_from(
     items: &mut Vec<(NodeKey, NodeForm)>,
     key: NodeKey,
     from: u32,
 ) -> Result<bool, AllocError>
     requires seeds { AreSeeds false items.old.items }
-    requires ascending { AreAscending items.old.items }
+    requires ascending { AreSeedsAscending items.old.items }
     ensures seeds { OnOk result (AreSeeds false items.new.items) }
-    ensures ascending { OnOk result (AreAscending items.new.items) }
+    ensures ascending { OnOk result (AreSeedsAscending items.new.items) }
 {
     if from as usize >= items.len() || !may_follow(items, &key) {
         return Ok(false);
@@ -134,12 +134,12 @@ fn add_from(
     Ok(true)
 }
 
-/// One node more, if it may follow.
+// One node more, if it may follow.
 fn add(alloc: Global, items: &mut Vec<(NodeKey, NodeForm)>, plan: &Plan) -> Result<bool, AllocError>
     requires seeds { AreSeeds false items.old.items }
-    requires ascending { AreAscending items.old.items }
+    requires ascending { AreSeedsAscending items.old.items }
     ensures seeds { OnOk result (AreSeeds false items.new.items) }
-    ensures ascending { OnOk result (AreAscending items.new.items) }
+    ensures ascending { OnOk result (AreSeedsAscending items.new.items) }
 {
     match plan.4 {
         None => add_own(alloc, items, key_of(plan, 0)),
@@ -147,9 +147,9 @@ fn add(alloc: Global, items: &mut Vec<(NodeKey, NodeForm)>, plan: &Plan) -> Resu
     }
 }
 
-/// The nodes, if they may stand in this order.
+// The nodes, if they may stand in this order.
 pub(crate) fn seeds_of(alloc: Global, plans: &[Plan]) -> Result<Option<SeedList>, AllocError>
-    ensures { IfOk result (λ found. IfSome found (λ s. AreSeeds false s.items.items × AreAscending s.items.items)) }
+    ensures { IfOk result (λ found. IfSome found (λ s. AreSeeds false s.items.items × AreSeedsAscending s.items.items)) }
 {
     let mut items = Vec::new(alloc);
     for at in 0..plans.len() {

@@ -12,13 +12,13 @@ use witness_search::{Waypoint, first_trial};
 /// The words from 0 on, the depth at which vector 2 is due at word 7, and the bound; the fill byte and the steps of the schedule.
 pub struct Row([u16; 7], u16, u16, Option<(u8, u32)>);
 
-/// An erased word.
+// An erased word.
 const E: u16 = 0xFFFF;
 
-/// `rjmp` to word 4, where the enable bit of vector 2 and I are set, and `nop`; then an erased word. Vector 2 returns at once.
+// `rjmp` to word 4, where the enable bit of vector 2 and I are set, and `nop`; then an erased word. Vector 2 returns at once.
 const TAKING: [u16; 7] = [0xC003, 0x0000, 0x9518, 0x0000, 0x9AE8, 0x9478, 0x0000];
 
-/// `in r24, 0x09` and `sbrc r24, 0`, which skips `push r0` where the input's bit 0 is clear; then an erased word.
+// `in r24, 0x09` and `sbrc r24, 0`, which skips `push r0` where the input's bit 0 is clear; then an erased word.
 const ASKING: [u16; 7] = [0xB189, 0xFD80, 0x920F, E, E, E, E];
 
 pub static ROWS: [(&str, &[Row]); 1] = [(
@@ -44,7 +44,7 @@ fn add_words(bytes: &mut Vec<u8>, words: &[u16]) -> Result<(), AllocError> {
     Ok(())
 }
 
-/// Whether the schedule begins so and takes so many steps.
+// Whether the schedule begins so and takes so many steps.
 fn is_due(flash: &Flash, assumptions: &Assumptions, schedule: &Schedule, row: &Row) -> bool {
     let Some((fill, steps)) = row.3 else {
         return false;

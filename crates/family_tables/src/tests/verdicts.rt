@@ -15,32 +15,32 @@ use mask_states::{InstKey, Kind, NodeKey};
 use std::alloc::{AllocError, Global};
 use vector_table::{Assumptions, Entry, Masks};
 
-/// `rcall .+2`, `rjmp .-2`, `ret`.
+// `rcall .+2`, `rjmp .-2`, `ret`.
 const CALL: [u8; 6] = [0x01, 0xD0, 0xFF, 0xCF, 0x08, 0x95];
 
-/// The same with a `nop` behind the call.
+// The same with a `nop` behind the call.
 const RUN_ON: [u8; 6] = [0x01, 0xD0, 0x00, 0x00, 0x08, 0x95];
 
-/// The same with an undefined word as the callee.
+// The same with an undefined word as the callee.
 const UNDEFINED: [u8; 6] = [0x01, 0xD0, 0xFF, 0xCF, 0x01, 0x00];
 
-/// The same with a `nop` in place of the call.
+// The same with a `nop` in place of the call.
 const NO_CALL: [u8; 6] = [0x00, 0x00, 0xFF, 0xCF, 0x08, 0x95];
 
 /// An image and a certificate for it, and the verdict.
 pub struct Row {
     device: Device,
     image: [u8; 6],
-    /// Whether an assumption is handed in, which the certificate lacks.
+    // Whether an assumption is handed in, which the certificate lacks.
     assumed: bool,
-    /// Whether the node behind the call comes from that before it.
+    // Whether the node behind the call comes from that before it.
     from: bool,
-    /// The bound, at most 2,048.
+    // The bound, at most 2,048.
     bound: u16,
-    /// The root's rank and need, at most 2,048.
+    // The root's rank and need, at most 2,048.
     rank: u16,
     need: u16,
-    /// The number of the reason, or 0; then the numbers that it tells, or the bound.
+    // The number of the reason, or 0; then the numbers that it tells, or the bound.
     verdict: (u8, u32, u32),
 }
 
@@ -64,7 +64,7 @@ fn told_of(reason: &Reason) -> (u8, u32, u32) {
     }
 }
 
-/// The callee, at word 2.
+// The callee, at word 2.
 fn callee() -> InstKey
     ensures { result ≡ callee }
 {
@@ -76,7 +76,7 @@ fn callee() -> InstKey
     }
 }
 
-/// How the state behind the call is given.
+// How the state behind the call is given.
 fn form(alloc: Global, from: bool) -> Result<NodeForm, AllocError>
     ensures { IfOk result (λ form. form ≡ form_by from) }
 {
@@ -87,7 +87,7 @@ fn form(alloc: Global, from: bool) -> Result<NodeForm, AllocError>
     Ok(NodeForm::State(root))
 }
 
-/// The nodes: the call, the word behind it, and the callee.
+// The nodes: the call, the word behind it, and the callee.
 fn nodes(alloc: Global, from: bool) -> Result<Vec<(NodeKey, NodeForm)>, AllocError>
     ensures { IfOk result (λ nodes. nodes.items ≡ nodes_by from) }
 {
@@ -104,7 +104,7 @@ fn nodes(alloc: Global, from: bool) -> Result<Vec<(NodeKey, NodeForm)>, AllocErr
     Ok(nodes)
 }
 
-/// The root with this rank and need, and the callee.
+// The root with this rank and need, and the callee.
 fn instances(alloc: Global, rank: u16, need: u16) -> Result<Vec<Inst>, AllocError>
     ensures { IfOk result (λ instances. instances.items ≡ insts_by rank need) }
 {
@@ -124,7 +124,7 @@ fn instances(alloc: Global, rank: u16, need: u16) -> Result<Vec<Inst>, AllocErro
     Ok(instances)
 }
 
-/// The row's certificate.
+// The row's certificate.
 fn certificate(alloc: Global, row: &Row) -> Result<Certificate, AllocError> {
     let bound = row.bound.min(2048);
     let rank = row.rank.min(2048);
@@ -134,7 +134,7 @@ fn certificate(alloc: Global, row: &Row) -> Result<Certificate, AllocError> {
     Ok(Certificate::build(bound, Assumptions::empty(alloc), instances, nodes))
 }
 
-/// The verdict on a certificate in numbers. One without a schedule says nothing of its being attained.
+// The verdict on a certificate in numbers. One without a schedule says nothing of its being attained.
 fn verdict_in_numbers(
     alloc: Global,
     flash: &Flash,
@@ -148,7 +148,7 @@ fn verdict_in_numbers(
     }
 }
 
-/// What is handed in: an assumption, or none.
+// What is handed in: an assumption, or none.
 fn assumptions(alloc: Global, assumed: bool) -> Assumptions {
     let mut list = Assumptions::empty(alloc);
     if assumed {
@@ -157,7 +157,7 @@ fn assumptions(alloc: Global, assumed: bool) -> Assumptions {
     list
 }
 
-/// Whether the verdict on this certificate is that of the row.
+// Whether the verdict on this certificate is that of the row.
 fn is_judged(alloc: Global, flash: &Flash, certificate: &Certificate, row: &Row) -> bool {
     let assumptions = assumptions(alloc, row.assumed);
     match verdict_in_numbers(alloc, flash, &assumptions, certificate) {
@@ -182,7 +182,7 @@ impl Worked for Row {
     }
 }
 
-/// A row on the greatest device, with neither an assumption nor a node that comes from another.
+// A row on the greatest device, with neither an assumption nor a node that comes from another.
 const PLAIN: Row = Row {
     device: Device::M328,
     image: CALL,

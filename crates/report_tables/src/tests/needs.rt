@@ -6,7 +6,7 @@ use reports::{report_json, report_text};
 use std::alloc::{AllocError, Global};
 use std::test::Fail;
 
-/// What is reported, on which device: the bound, whether the certificate has a schedule, the name of word 0040, and the end of static data.
+// What is reported, on which device: the bound, whether the certificate has a schedule, the name of word 0040, and the end of static data.
 #[derive(Clone, Copy)]
 struct Row {
     device: Device,
@@ -66,11 +66,11 @@ static ROWS: [Row; 5] = [
     },
 ];
 
-/// The instances of the certificate: the root, a call of word 0040, and the vector 17.
+// The instances of the certificate: the root, a call of word 0040, and the vector 17.
 const INSTANCES: &str =
     "instances 3\ninst root 0000 0000000 0 rank 2 need 9\ninst call 0040 0000000 0 rank 1 need 7\ninst v17 0020 0008000 0 rank 0 need 5\n";
 
-/// The end of its text with a schedule and without one.
+// The end of its text with a schedule and without one.
 fn ending(attained: bool) -> &'static str {
     if attained {
         "witness attained\nschedule 1\nfill 00\nend\nend\n"
@@ -92,7 +92,7 @@ fn add_name(names: &mut Names, row: &Row) -> Result<(), AllocError> {
     }
 }
 
-/// Whether both reports of the certificate are the row's.
+// Whether both reports of the certificate are the row's.
 fn are_reports(
     alloc: Global,
     row: &Row,
@@ -104,7 +104,7 @@ fn are_reports(
     Ok(text.as_slice() == row.text.as_bytes() && json.as_slice() == row.json.as_bytes())
 }
 
-/// The same of the row's own certificate.
+// The same of the row's own certificate.
 fn is_row(alloc: Global, row: &Row) -> Result<bool, Fail> {
     let text = certificate_text(alloc, row)?;
     let certificate = read(alloc, text.as_bytes()).map_err(|_| "no certificate")?;

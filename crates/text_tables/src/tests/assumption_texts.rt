@@ -7,12 +7,12 @@ use sb_base::LineWriter;
 use std::alloc::{AllocError, Global};
 use vector_table::Assumptions;
 
-/// What a text begins with.
+// What a text begins with.
 enum Start {
     Nothing,
-    /// A line with 63 items, which has at most 64.
+    // A line with 63 items, which has at most 64.
     Items,
-    /// 4,096 lines, behind which a line is malformed whatever it is.
+    // 4,096 lines, behind which a line is malformed whatever it is.
     Lines,
 }
 
@@ -277,7 +277,7 @@ pub static TEXTS: [(&str, &[Text]); 3] = [
     ),
 ];
 
-/// Writes a line of 63 items without its line feed.
+// Writes a line of 63 items without its line feed.
 fn write_items(out: &mut LineWriter) -> Result<(), AllocError> {
     out.word(b"jump")?;
     out.hex(0x0004, 4)?;
@@ -287,7 +287,7 @@ fn write_items(out: &mut LineWriter) -> Result<(), AllocError> {
     Ok(())
 }
 
-/// Writes the lines `prove 0000`, `prove 0001`, and on to the 4,096th.
+// Writes the lines `prove 0000`, `prove 0001`, and on to the 4,096th.
 fn write_proofs(out: &mut LineWriter) -> Result<(), AllocError> {
     for site in 0..4_096 {
         out.word(b"prove")?;
@@ -305,7 +305,7 @@ fn write_start(out: &mut LineWriter, start: &Start) -> Result<(), AllocError> {
     }
 }
 
-/// Whether the list is written as it was read.
+// Whether the list is written as it was read.
 fn is_written(alloc: Global, list: &Assumptions, text: &[u8]) -> bool {
     let mut out = LineWriter::new(alloc);
     let written = write(list, &mut out).is_ok();

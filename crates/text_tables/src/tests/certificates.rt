@@ -10,10 +10,10 @@ use sb_base::LineWriter;
 use sp_domain::{CarryTag, Slot, Tag};
 use std::alloc::{AllocError, Global};
 
-/// A piece of a text: what stands before, between and behind so many equal words.
+// A piece of a text: what stands before, between and behind so many equal words.
 pub(crate) type Piece = (&'static [u8], &'static [u8], usize, &'static [u8]);
 
-/// A certificate with each kind of line.
+// A certificate with each kind of line.
 const PIECES: &[Piece] = &[
     (b"stackcert 1\n", b"", 0, b""),
     (b"bound 4\n", b"", 0, b""),
@@ -44,7 +44,7 @@ const PIECES: &[Piece] = &[
     (b"end\n", b"", 0, b""),
 ];
 
-/// Appends a piece.
+// Appends a piece.
 fn append(text: &mut Vec<u8>, piece: &Piece) -> Result<(), AllocError> {
     let (head, word, count, tail) = *piece;
     text.extend_from_slice(head)?;
@@ -55,7 +55,7 @@ fn append(text: &mut Vec<u8>, piece: &Piece) -> Result<(), AllocError> {
     Ok(())
 }
 
-/// All pieces.
+// All pieces.
 fn append_all(text: &mut Vec<u8>, pieces: &[Piece]) -> Result<(), AllocError> {
     for piece in pieces {
         append(text, piece)?;
@@ -63,7 +63,7 @@ fn append_all(text: &mut Vec<u8>, pieces: &[Piece]) -> Result<(), AllocError> {
     Ok(())
 }
 
-/// Whether some of its values are those that the words of the certificate with each kind of line stand for.
+// Whether some of its values are those that the words of the certificate with each kind of line stand for.
 fn has_its_values(certificate: &Certificate) -> Option<bool> {
     let vector = certificate.instances().get(2)?;
     let second = certificate.nodes().get(1)?;
@@ -84,7 +84,7 @@ fn has_its_values(certificate: &Certificate) -> Option<bool> {
     Some(keys && value && behind)
 }
 
-/// Appends the line of a node of the root at this word, with a stack pointer and `from 0`.
+// Appends the line of a node of the root at this word, with a stack pointer and `from 0`.
 fn append_node(out: &mut LineWriter, word: u16, sp: &[u8]) -> Result<(), AllocError> {
     out.word(b"node 0")?;
     out.hex(u32::from(word), 4)?;
@@ -94,7 +94,7 @@ fn append_node(out: &mut LineWriter, word: u16, sp: &[u8]) -> Result<(), AllocEr
     out.end_line()
 }
 
-/// Writes a certificate whose nodes have 8,388,607 cells and those of the nodes of one cell each.
+// Writes a certificate whose nodes have 8,388,607 cells and those of the nodes of one cell each.
 fn write_cells(out: &mut LineWriter, more: u16) -> Result<(), AllocError> {
     out.word(
         b"stackcert 1\nbound 0\nassume 0\ninstances 1\ninst root 0000 0000000 0 rank 0 need 0\nnodes",
@@ -117,7 +117,7 @@ fn write_cells(out: &mut LineWriter, more: u16) -> Result<(), AllocError> {
     out.end_line()
 }
 
-/// Which version a certificate has.
+// Which version a certificate has.
 enum Version {
     First,
     Second,
@@ -144,7 +144,7 @@ fn has_values(certificate: &Certificate, version: &Version) -> Option<bool> {
     }
 }
 
-/// Whether it is written as it was read.
+// Whether it is written as it was read.
 fn is_written(alloc: Global, certificate: &Certificate, text: &[u8]) -> bool {
     match write(alloc, certificate) {
         Ok(again) => again.as_slice() == text,

@@ -5,8 +5,8 @@ use avr_model::device::Device;
 use commands::{Command, command_of};
 use std::alloc::Global;
 
-/// What is compared of a command: its name, the device, the second file, the assumption file, its number, and whether it
-/// answers as JSON.
+// What is compared of a command: its name, the device, the second file, the assumption file, its number, and whether it
+// answers as JSON.
 type Told = (
     &'static str,
     Device,
@@ -118,7 +118,7 @@ pub static REFUSED: [(&str, &[Refused]); 1] = [(
     ],
 )];
 
-/// A command's name and its number; those that no row is have none.
+// A command's name and its number; those that no row is have none.
 fn named<'a>(command: &Command<'a>) -> (&'static str, Option<u64>) {
     match command {
         Command::Check { .. } => ("check", None),
@@ -134,7 +134,7 @@ fn is_json(command: &Command<'_>) -> bool {
     matches!(command, Command::Report { json: true, .. })
 }
 
-/// Whether all but `demo` have the firmware `a`.
+// Whether all but `demo` have the firmware `a`.
 fn has_firmware(command: &Command<'_>, name: &str) -> bool {
     match command.firmware() {
         Some(firmware) => firmware == "a",

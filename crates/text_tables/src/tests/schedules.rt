@@ -60,7 +60,7 @@ pub static TEXTS: [(&str, &[Text]); 1] = [(
     ],
 )];
 
-/// Whether the schedule is written as so many bytes of the text.
+// Whether the schedule is written as so many bytes of the text.
 fn is_written(alloc: Global, schedule: &Schedule, text: &[u8], end: usize) -> bool {
     let mut out = LineWriter::new(alloc);
     let is_written = schedule.write(&mut out).is_ok();
@@ -94,7 +94,7 @@ pub fn is_within(alloc: Global) -> bool {
     answer.err() == Some(ScheduleFault::Malformed(25)) && reader.offset() == 25
 }
 
-/// Equal choices in a row, which are one run.
+// Equal choices in a row, which are one run.
 static CHOICES: [Choice; 7] = [
     Choice::Go(0, 0),
     Choice::Go(0, 0),

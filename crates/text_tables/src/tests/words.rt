@@ -7,7 +7,7 @@ use sb_base::{
 };
 use std::alloc::{AllocError, Global};
 
-/// The reads of one object in their order: the name, the most bytes that are wanted, and the answer.
+// The reads of one object in their order: the name, the most bytes that are wanted, and the answer.
 static READS: [(&str, usize, Result<&[u8], FileFault>); 5] = [
     ("a", 3, Ok(b"new")),
     ("a", 3, Err(FileFault::Failed)),
@@ -27,7 +27,7 @@ fn is_read(
     }
 }
 
-/// The first read of these files that has another answer.
+// The first read of these files that has another answer.
 fn misread(files: &mut MemFiles, alloc: Global) -> Option<usize> {
     for (at, row) in READS.iter().enumerate() {
         if !is_read(files, alloc, row) {
@@ -47,8 +47,8 @@ pub fn misread_of_two(alloc: Global) -> Option<usize> {
     }
 }
 
-/// The texts that one sink is given in their order, the answers, and what is written then. The sink takes 1 byte, 2 and
-/// the rest of the first text, 2 bytes and then a fault of the second, and none of the last.
+// The texts that one sink is given in their order, the answers, and what is written then. The sink takes 1 byte, 2 and
+// the rest of the first text, 2 bytes and then a fault of the second, and none of the last.
 static PUTS: [(&[u8], Result<(), SinkFault>, &[u8]); 4] = [
     (b"abcdef", Ok(()), b"abcdef"),
     (b"ghijkl", Err(SinkFault::Failed), b"abcdefgh"),
@@ -60,7 +60,7 @@ fn is_put(sink: &mut MemSink, row: &(&[u8], Result<(), SinkFault>, &[u8])) -> bo
     put_all(sink, row.0) == row.1 && sink.written() == row.2
 }
 
-/// The first text that this sink answers otherwise; behind all, it takes no byte of none.
+// The first text that this sink answers otherwise; behind all, it takes no byte of none.
 fn misput(sink: &mut MemSink) -> Option<usize> {
     for (at, row) in PUTS.iter().enumerate() {
         if !is_put(sink, row) {
@@ -74,7 +74,7 @@ fn misput(sink: &mut MemSink) -> Option<usize> {
     }
 }
 
-/// Takes the sink's pieces and faults.
+// Takes the sink's pieces and faults.
 fn plan(sink: &mut MemSink) -> Result<(), AllocError> {
     sink.short(0, 1)?;
     sink.short(1, 2)?;
@@ -131,7 +131,7 @@ impl Worked for Decimal {
     }
 }
 
-/// Each line: its text, where it begins, whether a line feed ends it, and the offset behind it.
+// Each line: its text, where it begins, whether a line feed ends it, and the offset behind it.
 static LINES: [(&[u8], usize, bool, usize); 3] = [
     (b"node 001F 18446744073709551615", 0, true, 31),
     (b"00", 31, true, 34),
@@ -176,7 +176,7 @@ pub fn are_words() -> bool {
     words.next().is_none()
 }
 
-/// The first line of a text that is another; there is none behind them.
+// The first line of a text that is another; there is none behind them.
 fn misread_line(text: &[u8]) -> Option<usize> {
     let mut reader = LineReader::new(text);
     for (at, row) in LINES.iter().enumerate() {

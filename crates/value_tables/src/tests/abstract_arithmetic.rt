@@ -174,7 +174,7 @@ pub static SUMS: [(&str, &[SumRow]); 1] = [(
     ],
 )];
 
-/// Z as the result has it, and kept where that is 0.
+// Z as the result has it, and kept where that is 0.
 static DIFFERENCES: [Operation; 2] = [SUB, SBC];
 
 impl Worked for SumRow {

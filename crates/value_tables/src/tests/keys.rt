@@ -8,8 +8,8 @@ use std::alloc::Global;
 use std::cmp::Ordering;
 use vector_table::{Masks, write};
 
-// A data address of enable bits, and how many splits the bits there have; one address has none. Source: the data sheet's registers EIMSK,
-// EECR, SPCR, ACSR, SPMCSR, WDTCSR, PCICR, TIMSK0, TIMSK1, TIMSK2, ADCSRA, TWCR and UCSR0B.
+/// A data address of enable bits, and how many splits the bits there have; one address has none. Source: the data sheet's registers EIMSK,
+/// EECR, SPCR, ACSR, SPMCSR, WDTCSR, PCICR, TIMSK0, TIMSK1, TIMSK2, ADCSRA, TWCR and UCSR0B.
 pub struct Address(u16, usize);
 
 pub static ADDRESSES: [(&str, &[Address]); 1] = [(
@@ -134,7 +134,7 @@ impl Worked for Split {
     }
 }
 
-/// An instance: its kind, entry, masks and flag.
+// An instance: its kind, entry, masks and flag.
 struct Inst(Kind, u16, u32, bool);
 
 const ROOT: Inst = Inst(Kind::Root, 0, 0, false);

@@ -109,7 +109,7 @@ impl Worked for FrameRow {
     }
 }
 
-/// What is made of the tag of a byte or of a pair.
+// What is made of the tag of a byte or of a pair.
 enum Call {
     // A pair moves down by so much: the tags then.
     Move(u16),
@@ -438,7 +438,7 @@ impl Worked for BaseRow {
     }
 }
 
-/// What is done to slots.
+// What is done to slots.
 enum Action {
     Nothing,
     Push(u16),
@@ -448,7 +448,7 @@ enum Action {
     Resize(u16),
 }
 
-/// What is done, how many slots there are then, and the first and the last of them.
+// What is done, how many slots there are then, and the first and the last of them.
 struct Step(Action, u16, Option<Slot<u16>>, Option<Slot<u16>>);
 
 // What is pushed is there and can be popped, and there is nothing to pop at first.

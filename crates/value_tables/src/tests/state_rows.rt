@@ -11,15 +11,15 @@ use abs_state::AbsState;
 use sp_domain::{CarryTag, Slot, Tag};
 use std::alloc::Global;
 
-/// What is made of two states.
+// What is made of two states.
 enum What {
-    /// A caller and an exit: what is known after the return, and none where no machine returns so.
+    // A caller and an exit: what is known after the return, and none where no machine returns so.
     Return(Option<Known>),
-    /// The first state's join with the second.
+    // The first state's join with the second.
     Join(Known),
-    /// The first state alone is entered.
+    // The first state alone is entered.
     Entry,
-    /// The first state is kept in a pool twice, and the second beside it.
+    // The first state is kept in a pool twice, and the second beside it.
     Pool,
 }
 

@@ -1,6 +1,6 @@
 //! Values and states worked by hand, each answer compared as a whole.
 
-ghost use Rattle.std.specs.Prelude.{ℕ, ◌≡◌, ◌<◌, [], length, IfSome, IsTrue};
+ghost use Rattle.std.specs.Prelude.{ℕ, ◌≡◌, ◌<◌, length, IfSome, IsTrue};
 ghost use Rattle.abs_state.specs.Values.{value_at};
 ghost use Rattle.abs_state.specs.Formed.{NamesRegister};
 
@@ -146,7 +146,7 @@ pub fn are_untagged() -> bool {
         && !known.le(byte_of(&BYTES[3]))
 }
 
-/// The root's state with other values in registers 0 and 31, and other flags.
+// The root's state with other values in registers 0 and 31, and other flags.
 fn state(alloc: Global, first: AbsByte, last: AbsByte, flags: AbsFlags) -> AbsState
     requires first { NamesRegister first.tag }
     requires last { NamesRegister last.tag }

@@ -1,7 +1,7 @@
 use Rattle.std.proofs.Common.{◌∙◌, sym, ap, subst}
 use Rattle.local_rules.specs.Local.{loading}
 use Rattle.local_rules.specs.Reads.{read_pointed}
-use Rattle.abs_step.specs.Adding.{IsAdded}
+use Rattle.abs_step.specs.Adding.{AreNodesAdded}
 use Rattle.abs_step.proofs.Added.{none_added}
 use Rattle.abs_step.proofs.data_transfer.load_row.Goals as goal
 
@@ -10,4 +10,4 @@ returns-in-None c =
     let nodes = c.args.nodes.now in
     let site = c.args.site.now in
     let told = c.read_pointed.ensures ∙ ap (read_pointed site.device site.key.now site.state.now) c.point-pointed.ensures in
-    subst (λ read. IsAdded nodes nodes (loading site.device site.key.now site.state.now c.args.registers.now c.args.d read)) (sym c.in-None.is ∙ told) (none_added nodes)
+    subst (λ read. AreNodesAdded nodes nodes (loading site.device site.key.now site.state.now c.args.registers.now c.args.d read)) (sym c.in-None.is ∙ told) (none_added nodes)

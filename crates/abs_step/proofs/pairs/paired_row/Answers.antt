@@ -1,6 +1,6 @@
 use Rattle.std.proofs.Common.{sym, subst}
 use Rattle.abs_step.specs.Adding.{plain}
-use Rattle.abs_step.specs.Leading.{Leads}
+use Rattle.abs_step.specs.Leading.{LeadsOn}
 use Rattle.abs_step.proofs.Paired.{binary_refined, others_refined}
 use Rattle.abs_step.proofs.pairs.paired_row.Goals as goal
 
@@ -8,7 +8,7 @@ pub returns-in_default : goal.returns-in_default
 returns-in_default c =
     let site = c.args.site.now in
     let is = c.in_default in
-    subst (Leads (plain c.args.nodes.now) (plain c.row_through-in_default.new.nodes) c.row_through-in_default.result)
+    subst (LeadsOn (plain c.args.nodes.now) (plain c.row_through-in_default.new.nodes) c.row_through-in_default.result)
     (sym (others_refined site.device site.flash.now site.assumptions.now c.args.scratch site.key.now site.state.now c.args.instr.now
     is.not-Binary is.not-St is.not-Brbs is.not-Brbc is.not-Sbrc is.not-Sbrs))
     c.row_through-in_default.ensures
@@ -16,7 +16,7 @@ returns-in_default c =
 pub returns-in_default-op : goal.returns-in_default-op
 returns-in_default-op c =
     let site = c.args.site.now in
-    subst (Leads (plain c.args.nodes.now) (plain c.row_through.new.nodes) c.row_through.result)
+    subst (LeadsOn (plain c.args.nodes.now) (plain c.row_through.new.nodes) c.row_through.result)
     (sym (binary_refined site.device site.flash.now site.assumptions.now c.args.scratch site.key.now site.state.now c.args.instr.now
     c.in-Binary.op c.in-Binary.d c.in-Binary.r c.in-Binary.is c.in_default-op.not-Cpse))
     c.row_through.ensures

@@ -3,7 +3,7 @@ use Rattle.local_rules.specs.declared.local.NodeFault.{NodeFault}
 use Rattle.local_rules.specs.Raw.{Raw}
 use Rattle.local_rules.specs.Local.{row_in, picking, picked_row}
 use Rattle.pair_cuts.specs.Cuts.{pick_cut}
-use Rattle.abs_step.specs.Adding.{Moving, plain, IsGathered, with_another}
+use Rattle.abs_step.specs.Adding.{Moving, plain, AreMovesGathered, with_another}
 use Rattle.abs_step.proofs.Gathered.{gathered_fault, not_memory}
 use Rattle.abs_step.proofs.Picked.{gathered_led}
 use Rattle.abs_step.proofs.splitting.picked_too.Goals as goal
@@ -13,14 +13,14 @@ pub returns-clause-ok : goal.returns-clause-ok
 returns-clause-ok c =
     let site = c.args.site.now in
     let row : Raw = picked_row (row_in site.device site.flash.now site.assumptions.now) (picking site.key.now c.args.byte) (pick_cut c.args.byte site.state.now) in
-    let gathers : Result (Option NodeFault) NodeFault → Type 0 = (λ x. IfOk x (λ next. (old : Moving) (r : Raw) → IsGathered old (plain c.args.nodes.now) c.args.fault r
-    → IsGathered old (plain c.with_pick.new.nodes) next (with_another r row))) in
+    let gathers : Result (Option NodeFault) NodeFault → Type 0 = (λ x. IfOk x (λ next. (old : Moving) (r : Raw) → AreMovesGathered old (plain c.args.nodes.now) c.args.fault r
+    → AreMovesGathered old (plain c.with_pick.new.nodes) next (with_another r row))) in
     elim c.match-with_pick.branch [
       | in-Ok w ↦
           subst gathers (sym w.result-is) (λ old r g. gathered_led old (plain c.args.nodes.now) (plain c.with_pick.new.nodes) c.args.fault r row _ g w.in-Ok.ensures)
       | in-Err+else-cause-eq0 w ↦
           subst gathers (sym w.result-is) (λ old r g.
-          subst (λ f. IsGathered old (plain c.with_pick.new.nodes) (Some f) (with_another r row)) (sym w.first.ensures)
+          subst (λ f. AreMovesGathered old (plain c.with_pick.new.nodes) (Some f) (with_another r row)) (sym w.first.ensures)
           (gathered_fault old (plain c.args.nodes.now) (plain c.with_pick.new.nodes) c.args.fault w.in-Err.found r row g
           (w.in-Err.ensures (not_memory w.in-Err.found w.cause-cause.result w.cause-cause.ensures w.if-cause-eq0.false))))
     ]

@@ -5,7 +5,7 @@ use Rattle.pair_cuts.specs.Cuts.{pick_cut}
 use Rattle.local_rules.specs.Raw.{Raw, nowhere}
 use Rattle.local_rules.specs.Local.{row_in, picking, picked_row}
 use Rattle.abs_step.specs.Adding.{plain}
-use Rattle.abs_step.specs.Leading.{Leads}
+use Rattle.abs_step.specs.Leading.{LeadsOn}
 use Rattle.abs_step.proofs.Added.{none_added}
 use Rattle.abs_step.proofs.splitting.with_pick.Goals as goal
 use Rattle.abs_step.proofs.splitting.with_pick.Goals.{then-left, else-left}
@@ -19,11 +19,11 @@ returns c =
     let cut : left_in c.pick_cut-left.result after ≡ pick_cut c.args.byte site.state.now = c.pick_cut-left.ensures ∙ ap (pick_cut c.args.byte) c.in_ok-picked.ensures.ok in
     elim c.if-left.branch [
       | then-left w ↦
-          subst₂ (λ n r. Leads nodes (plain n) r (row (pick_cut c.args.byte site.state.now))) (sym w.nodes-is) (sym w.led-is)
-          (subst (λ (o : Option AbsState). Leads nodes (plain w.at_instruction-led.new.nodes) w.at_instruction-led.result (row o))
+          subst₂ (λ n r. LeadsOn nodes (plain n) r (row (pick_cut c.args.byte site.state.now))) (sym w.nodes-is) (sym w.led-is)
+          (subst (λ (o : Option AbsState). LeadsOn nodes (plain w.at_instruction-led.new.nodes) w.at_instruction-led.result (row o))
           (ap (λ (b : Bool). left_in b after) (sym w.if-left.true) ∙ cut) w.at_instruction-led.ensures)
       | else-left w ↦
-          subst₂ (λ n r. Leads nodes (plain n) r (row (pick_cut c.args.byte site.state.now))) (sym w.nodes-is) (sym w.led-is)
-          (subst (λ (o : Option AbsState). Leads nodes nodes w.staying-led.result (row o))
+          subst₂ (λ n r. LeadsOn nodes (plain n) r (row (pick_cut c.args.byte site.state.now))) (sym w.nodes-is) (sym w.led-is)
+          (subst (λ (o : Option AbsState). LeadsOn nodes nodes w.staying-led.result (row o))
           (ap (λ (b : Bool). left_in b after) (sym w.if-left.false) ∙ cut) (w.staying-led.ensures nodes nodes nowhere (none_added nodes)))
     ]

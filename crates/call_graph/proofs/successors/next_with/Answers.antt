@@ -1,12 +1,12 @@
 use Rattle.std.proofs.Common.{Ok, sym, subst}
-use Rattle.call_graph.specs.Exits.{AreKnown}
+use Rattle.call_graph.specs.Exits.{AreExitsKnown}
 use Rattle.call_graph.proofs.Exact.{answer_edges}
 use Rattle.call_graph.proofs.Returning.{all_known}
 use Rattle.call_graph.proofs.successors.next_with.Goals as goal
 
 pub listed-requires-clause-given : goal.listed-requires-clause-given
 listed-requires-clause-given c =
-    subst (AreKnown c.args.task.now.flash.now c.args.task.now.assumptions.now c.args.nodes.now) (sym c.as_slice.ensures)
+    subst (AreExitsKnown c.args.task.now.flash.now c.args.task.now.assumptions.now c.args.nodes.now) (sym c.as_slice.ensures)
     (all_known c.args.task.now.flash.now c.args.task.now.assumptions.now c.args.nodes.now c.args.exits.now c.requires.taken)
 
 pub returns-in-Ok : goal.returns-in-Ok

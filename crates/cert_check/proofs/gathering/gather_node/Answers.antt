@@ -7,7 +7,7 @@ use Rattle.call_graph.specs.declared.landing.Landing.{Landing}
 use Rattle.call_graph.specs.Landings.{AreLandingsTo, landings_by}
 use Rattle.call_graph.proofs.Landed.{landed_more}
 use Rattle.certificate.specs.Insts.{inst_keys}
-use Rattle.cert_check.specs.Demands.{IsLeast, LeadsToNode, GapAt, KeyBelow, demands_of, AllBelong}
+use Rattle.cert_check.specs.Demands.{IsLeastOffered, LeadsToNode, GapAt, KeyBelow, demands_of, AllBelong}
 use Rattle.cert_check.proofs.Passing.{key_belongs, targets, gap_first, targets_belong, goes_on}
 use Rattle.cert_check.proofs.gathering.gather_node.Goals as goal
 
@@ -31,7 +31,7 @@ returns-in-Some c =
     let n = get_inside nodes c.args.at c.requires.inside in
     let are : AreEdges words A nodes n.0 c.as_slice.result.now = subst (AreEdges words A nodes n.0) (sym c.as_slice.ensures) (c.in_ok-edges.ensures n.0 n.1) in
     gap_first words A own claim.instances nodes c.args.at c.args.gathered.now.demands.items c.requires.before.0 n.0 n.1 c.as_slice.result.now are c.in-Some.to
-    (subst₂ (λ b l. IsLeast (LeadsToNode b own nodes) (GapAt b own nodes) KeyBelow c.as_slice.result.now l) c.requires.followed c.in-Some.is c.in_ok-gap.ensures.gap)
+    (subst₂ (λ b l. IsLeastOffered (LeadsToNode b own nodes) (GapAt b own nodes) KeyBelow c.as_slice.result.now l) c.requires.followed c.in-Some.is c.in_ok-gap.ensures.gap)
 
 pub add_demands-requires-clause-own : goal.add_demands-requires-clause-own
 add_demands-requires-clause-own c =
@@ -49,9 +49,9 @@ add_demands-requires-clause-there c =
     let n = get_inside nodes c.args.at c.requires.inside in
     let edges = c.in_ok-edges.edges in
     let are : AreEdges words A nodes n.0 edges = c.in_ok-edges.ensures n.0 n.1 in
-    let least : IsLeast (LeadsToNode (has_pairs A) own nodes) (GapAt (has_pairs A) own nodes) KeyBelow c.as_slice.result.now None =
-    subst₂ (λ b l. IsLeast (LeadsToNode b own nodes) (GapAt b own nodes) KeyBelow c.as_slice.result.now l) c.requires.followed c.in_default.is c.in_ok-gap.ensures.gap in
-    let clear = subst (λ l. IsLeast (LeadsToNode (has_pairs A) own nodes) (GapAt (has_pairs A) own nodes) KeyBelow l None) c.as_slice.ensures least in
+    let least : IsLeastOffered (LeadsToNode (has_pairs A) own nodes) (GapAt (has_pairs A) own nodes) KeyBelow c.as_slice.result.now None =
+    subst₂ (λ b l. IsLeastOffered (LeadsToNode b own nodes) (GapAt b own nodes) KeyBelow c.as_slice.result.now l) c.requires.followed c.in_default.is c.in_ok-gap.ensures.gap in
+    let clear = subst (λ l. IsLeastOffered (LeadsToNode (has_pairs A) own nodes) (GapAt (has_pairs A) own nodes) KeyBelow l None) c.as_slice.ensures least in
     let all = targets_belong words A own claim.instances nodes c.args.at c.args.gathered.now.demands.items c.requires.before.0 n.0 n.1 edges are c.requires.belong clear in
     subst₂ (λ l i. (e : Edge) → Contains l e → Contains (inst_keys i) e.to.inst) (sym c.as_slice-2.ensures) (sym c.instances.ensures) all
 
@@ -65,9 +65,9 @@ returns c =
     let n = get_inside nodes c.args.at c.requires.inside in
     let edges = c.in_ok-edges.edges in
     let are : AreEdges words A nodes n.0 edges = c.in_ok-edges.ensures n.0 n.1 in
-    let least : IsLeast (LeadsToNode (has_pairs A) own nodes) (GapAt (has_pairs A) own nodes) KeyBelow c.as_slice.result.now None =
-    subst₂ (λ b l. IsLeast (LeadsToNode b own nodes) (GapAt b own nodes) KeyBelow c.as_slice.result.now l) c.requires.followed c.in_default.is c.in_ok-gap.ensures.gap in
-    let clear = subst (λ l. IsLeast (LeadsToNode (has_pairs A) own nodes) (GapAt (has_pairs A) own nodes) KeyBelow l None) c.as_slice.ensures least in
+    let least : IsLeastOffered (LeadsToNode (has_pairs A) own nodes) (GapAt (has_pairs A) own nodes) KeyBelow c.as_slice.result.now None =
+    subst₂ (λ b l. IsLeastOffered (LeadsToNode b own nodes) (GapAt b own nodes) KeyBelow c.as_slice.result.now l) c.requires.followed c.in_default.is c.in_ok-gap.ensures.gap in
+    let clear = subst (λ l. IsLeastOffered (LeadsToNode (has_pairs A) own nodes) (GapAt (has_pairs A) own nodes) KeyBelow l None) c.as_slice.ensures least in
     let more : c.add_demands.new.demands.items ≡ c.args.gathered.now.demands.items ++ demands_of claim.instances c.key-key.result.now edges =
     subst₂ (λ i l. c.add_demands.new.demands.items ≡ c.args.gathered.now.demands.items ++ demands_of i c.key-key.result.now l) c.instances.ensures c.as_slice-2.ensures
     c.in_ok-add_demands.ensures in (

@@ -1,7 +1,7 @@
 use Rattle.std.proofs.Common.{◌≡◌, sym, ap, ◌∙◌, subst, IfOk}
 use Rattle.avr_model.specs.Assumptions.{has_pairs}
 use Rattle.edge_rules.specs.Expansion.{AreSeeds}
-use Rattle.edge_laws.specs.Expansions.{AreAscending}
+use Rattle.edge_laws.specs.Expansions.{AreSeedsAscending}
 use Rattle.call_graph.specs.Expanding.{IsExpanded}
 use Rattle.certificate.proofs.AllLaws.{claims_are_seeds}
 use Rattle.cert_check.specs.Reading.{read_seeds}
@@ -37,7 +37,7 @@ expand-requires-2-clause-ascending c =
     let A = c.args.task.now.assumptions.now in
     let read : c.in_ok-reading.reading.nodes.items ≡ read_seeds (has_pairs A) claim.nodes =
     c.in_ok-reading.ensures ∙ ap (λ b. read_seeds b claim.nodes) c.has_pairs-followed.ensures in
-    subst AreAscending (sym read) (ascending_read claim c.requires (has_pairs A))
+    subst AreSeedsAscending (sym read) (ascending_read claim c.requires (has_pairs A))
 
 pub returns : goal.returns
 returns c =

@@ -1,6 +1,6 @@
 use Rattle.std.proofs.Common.{subst₂}
 use Rattle.std.specs.Prelude.{◌↔◌, IsTrue}
-use Rattle.cert_check.specs.Reading.{Lands}
+use Rattle.cert_check.specs.Reading.{LandsOpen}
 use Rattle.cert_check.proofs.Verdicts.{reset_is_node, reset_is}
 use Rattle.cert_check.proofs.judging.has_reset.Goals as goal
 
@@ -10,5 +10,5 @@ lands-requires-clause-node c =
 
 pub returns : goal.returns
 returns c =
-    subst₂ (λ followed n. IsTrue c.lands.result ↔ Lands followed c.args.certificate.now.nodes c.args.nodes.now n) c.has_pairs.ensures
+    subst₂ (λ followed n. IsTrue c.lands.result ↔ LandsOpen followed c.args.certificate.now.nodes c.args.nodes.now n) c.has_pairs.ensures
     (reset_is c.args.task.now.assumptions.now c.root.result c.entry-key.result c.in_ok-state.state c.root.ensures c.entry-key.ensures c.in_ok-state.ensures) c.lands.ensures

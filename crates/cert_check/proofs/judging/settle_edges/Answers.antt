@@ -1,7 +1,7 @@
 use Rattle.std.proofs.Common.{subst, sym, arith}
 use Rattle.certificate.specs.Valid.{reset_node}
 use Rattle.cert_check.specs.Verdict.{IsFirstGap}
-use Rattle.cert_check.specs.Demands.{AreInside, IsFound, IsWeighed, Decides}
+use Rattle.cert_check.specs.Demands.{AreDemandsInside, IsGathering, IsWeighed, Decides}
 use Rattle.cert_check.proofs.Demands.{landed_belongs, all_inside}
 use Rattle.cert_check.proofs.Asking.{decided}
 use Rattle.cert_check.proofs.One.{are_instances}
@@ -26,7 +26,7 @@ overflow_cast-result c =
     let A = c.args.task.now.assumptions.now in
     let claim = c.args.certificate.now in
     let gap : IsFirstGap words A claim.nodes c.args.nodes.now c.in-Gap.at c.in-Gap.to =
-    subst (IsFound words A claim.nodes claim.instances c.args.nodes.now) c.in-Gap.is c.in_ok-at.ensures in
+    subst (IsGathering words A claim.nodes claim.instances c.args.nodes.now) c.in-Gap.is c.in_ok-at.ensures in
     let fits = node_fits words A claim c.args.nodes.now c.requires.claim c.requires.filled c.in-Gap.at gap.node gap.is in
     omega (arith, fits)
 
@@ -37,8 +37,8 @@ weigh-requires-clause-inside c =
     let claim = c.args.certificate.now in
     let nodes = c.args.nodes.now in
     let belong = nodes_belong words A claim nodes c.requires.claim c.requires.filled in
-    let found = subst (IsFound words A claim.nodes claim.instances nodes) c.in-All.is c.in_ok-at.ensures in
-    subst (AreInside claim.instances) (sym c.deref.ensures.value)
+    let found = subst (IsGathering words A claim.nodes claim.instances nodes) c.in-All.is c.in_ok-at.ensures in
+    subst (AreDemandsInside claim.instances) (sym c.deref.ensures.value)
     (all_inside words A claim.instances nodes (are_instances claim c.requires.claim) belong (λ n e h i. (found.0 n e h i).0) c.in-All.field-0.demands.items found.1)
 
 pub weigh-requires-clause-root : goal.weigh-requires-clause-root
@@ -53,7 +53,7 @@ returns-in-Accepted c =
     let claim = c.args.certificate.now in
     let nodes = c.args.nodes.now in
     let belong = nodes_belong words A claim nodes c.requires.claim c.requires.filled in
-    let found = subst (IsFound words A claim.nodes claim.instances nodes) c.in-All.is c.in_ok-at.ensures in
+    let found = subst (IsGathering words A claim.nodes claim.instances nodes) c.in-All.is c.in_ok-at.ensures in
     let all = decided words A claim nodes (are_instances claim c.requires.claim) belong found.0 c.in-All.field-0.demands.items found.1 c.requires.reset c.requires.taken.faultless
     c.weigh.result (subst (λ ds. IsWeighed words claim A ds c.weigh.result) c.deref.ensures.value c.weigh.ensures) in
     let met = subst (Decides words A claim nodes) c.in-Accepted.is all in
@@ -66,7 +66,7 @@ returns c =
     let claim = c.args.certificate.now in
     let nodes = c.args.nodes.now in
     let belong = nodes_belong words A claim nodes c.requires.claim c.requires.filled in
-    let found = subst (IsFound words A claim.nodes claim.instances nodes) c.in-All.is c.in_ok-at.ensures in
+    let found = subst (IsGathering words A claim.nodes claim.instances nodes) c.in-All.is c.in_ok-at.ensures in
     let all = decided words A claim nodes (are_instances claim c.requires.claim) belong found.0 c.in-All.field-0.demands.items found.1 c.requires.reset c.requires.taken.faultless
     c.weigh.result (subst (λ ds. IsWeighed words claim A ds c.weigh.result) c.deref.ensures.value c.weigh.ensures) in
     subst (Decides words A claim nodes) c.in-Rejected.is all

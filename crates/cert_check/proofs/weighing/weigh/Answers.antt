@@ -1,42 +1,42 @@
 use Rattle.std.proofs.Common.{◌≡◌, sym, ap, ◌∙◌, subst, Some, arith}
 use Rattle.mask_states.specs.Keys.{root_inst}
 use Rattle.certificate.specs.Insts.{need_in}
-use Rattle.cert_check.specs.Demands.{AreInside, IsLeast, MeetsRank, LowRank, PairBelow, MeetsNeed, LowNeed, NumberBelow, RanksFall, AllMet, need_at}
+use Rattle.cert_check.specs.Demands.{AreDemandsInside, IsLeastOffered, MeetsRank, LowRank, PairBelow, MeetsNeed, LowNeed, NumberBelow, RanksFall, AllMet, need_at}
 use Rattle.cert_check.proofs.Insts.{need_there}
 use Rattle.cert_check.proofs.Verdicts.{inst_fits, need_fits}
 use Rattle.cert_check.proofs.weighing.weigh.Goals as goal
 
 pub low_rank-requires : goal.low_rank-requires
-low_rank-requires c = subst (λ i. AreInside i c.args.demands.now) (sym c.instances-instances.ensures) c.requires.inside
+low_rank-requires c = subst (λ i. AreDemandsInside i c.args.demands.now) (sym c.instances-instances.ensures) c.requires.inside
 
 pub overflow_cast-result : goal.overflow_cast-result
 overflow_cast-result c =
-    let least = subst (λ i. IsLeast (MeetsRank i) (LowRank i) PairBelow c.args.demands.now (Some (c.in-Some.j, c.in-Some.l))) c.instances-instances.ensures c.in-Some.ensures in
+    let least = subst (λ i. IsLeastOffered (MeetsRank i) (LowRank i) PairBelow c.args.demands.now (Some (c.in-Some.j, c.in-Some.l))) c.instances-instances.ensures c.in-Some.ensures in
     let fits = inst_fits c.args.certificate.now.instances c.args.demands.now c.in-Some.j c.in-Some.l c.requires.claim.few_insts c.requires.inside least in
     omega (arith, fits.0)
 
 pub overflow_cast-result-in-Some : goal.overflow_cast-result-in-Some
 overflow_cast-result-in-Some c =
-    let least = subst (λ i. IsLeast (MeetsRank i) (LowRank i) PairBelow c.args.demands.now (Some (c.in-Some.j, c.in-Some.l))) c.instances-instances.ensures c.in-Some.ensures in
+    let least = subst (λ i. IsLeastOffered (MeetsRank i) (LowRank i) PairBelow c.args.demands.now (Some (c.in-Some.j, c.in-Some.l))) c.instances-instances.ensures c.in-Some.ensures in
     let fits = inst_fits c.args.certificate.now.instances c.args.demands.now c.in-Some.j c.in-Some.l c.requires.claim.few_insts c.requires.inside least in
     omega (arith, fits.1)
 
 pub returns-in-Some : goal.returns-in-Some
-returns-in-Some c = subst (λ i. IsLeast (MeetsRank i) (LowRank i) PairBelow c.args.demands.now (Some (c.in-Some.j, c.in-Some.l))) c.instances-instances.ensures c.in-Some.ensures
+returns-in-Some c = subst (λ i. IsLeastOffered (MeetsRank i) (LowRank i) PairBelow c.args.demands.now (Some (c.in-Some.j, c.in-Some.l))) c.instances-instances.ensures c.in-Some.ensures
 
 pub low_need-requires-clause-inside : goal.low_need-requires-clause-inside
-low_need-requires-clause-inside c = subst (λ i. AreInside i c.args.demands.now) (sym c.instances-instances.ensures) c.requires.inside
+low_need-requires-clause-inside c = subst (λ i. AreDemandsInside i c.args.demands.now) (sym c.instances-instances.ensures) c.requires.inside
 
 pub overflow_cast-result-in-Some-low_need : goal.overflow_cast-result-in-Some-low_need
 overflow_cast-result-in-Some-low_need c =
-    let least = subst (λ i. IsLeast (MeetsNeed i) (LowNeed i) NumberBelow c.args.demands.now (Some c.in-Some-low_need.j)) c.instances-instances.ensures c.in-Some-low_need.ensures in
+    let least = subst (λ i. IsLeastOffered (MeetsNeed i) (LowNeed i) NumberBelow c.args.demands.now (Some c.in-Some-low_need.j)) c.instances-instances.ensures c.in-Some-low_need.ensures in
     let fits = need_fits c.args.certificate.now.instances c.args.demands.now c.in-Some-low_need.j c.requires.claim.few_insts c.requires.inside least in
     omega (arith, fits)
 
 pub returns-in-Some-low_need : goal.returns-in-Some-low_need
 returns-in-Some-low_need c = (
   subst (λ i. RanksFall i c.args.demands.now) c.instances-instances.ensures c.in_default.ensures,
-  subst (λ i. IsLeast (MeetsNeed i) (LowNeed i) NumberBelow c.args.demands.now (Some c.in-Some-low_need.j)) c.instances-instances.ensures c.in-Some-low_need.ensures,
+  subst (λ i. IsLeastOffered (MeetsNeed i) (LowNeed i) NumberBelow c.args.demands.now (Some c.in-Some-low_need.j)) c.instances-instances.ensures c.in-Some-low_need.ensures,
   c.most_asked.ensures,
 )
 

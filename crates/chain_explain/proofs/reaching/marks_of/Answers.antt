@@ -5,7 +5,7 @@ use Rattle.basics.specs.Items.{only_one_in}
 use Rattle.edge_rules.specs.Places.{found_at}
 use Rattle.mask_states.specs.Keys.{entry_key}
 use Rattle.local_laws.specs.Laws.{HasKey}
-use Rattle.shortest_walk.specs.Graph.{IsGraph, AreMarks}
+use Rattle.shortest_walk.specs.Graph.{IsNumberedGraph, AreMarks}
 use Rattle.chain_explain.specs.Moves.{at_of, leads_by}
 use Rattle.chain_explain.proofs.Numbers.{inside_at}
 use Rattle.chain_explain.proofs.Edges.{is_graph}
@@ -24,7 +24,7 @@ overflow_cast-root c =
 
 pub reached-requires-clause-graph : goal.reached-requires-clause-graph
 reached-requires-clause-graph c =
-    subst IsGraph (sym (c.deref.ensures.value ∙ (c.in_ok-graph.ensures ∙ ap leads_by c.as_slice.ensures)))
+    subst IsNumberedGraph (sym (c.deref.ensures.value ∙ (c.in_ok-graph.ensures ∙ ap leads_by c.as_slice.ensures)))
     (is_graph c.args.task.now.flash.now c.args.task.now.assumptions.now c.args.family.now.nodes c.count-count.ensures.shown c.args.family.now.landings c.requires.landings c.requires.few)
 
 pub reached-requires-clause-starts : goal.reached-requires-clause-starts

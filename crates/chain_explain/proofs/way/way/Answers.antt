@@ -4,7 +4,7 @@ use Rattle.std.proofs.lemmas.Result.{IfOk-weaker}
 use Rattle.mask_states.specs.declared.keys.NodeKey.{NodeKey}
 use Rattle.local_laws.specs.Laws.{HasKey}
 use Rattle.edge_rules.specs.Views.{place_of}
-use Rattle.shortest_walk.specs.Graph.{IsGraph, IsReached}
+use Rattle.shortest_walk.specs.Graph.{IsNumberedGraph, IsNumberReached}
 use Rattle.shortest_walk.specs.Walk.{IsFirstOfShortest}
 use Rattle.chain_explain.specs.Walks.{pc_at}
 use Rattle.chain_explain.specs.Moves.{moves_of, moves_by}
@@ -56,7 +56,7 @@ overflow_cast-target c =
 
 pub shortest_walk-requires-clause-graph : goal.shortest_walk-requires-clause-graph
 shortest_walk-requires-clause-graph c =
-    subst IsGraph (sym c.deref.ensures.value)
+    subst IsNumberedGraph (sym c.deref.ensures.value)
     (portion_graph c.args.task.now.flash.now c.args.task.now.assumptions.now c.args.family.now.nodes c.count-count.ensures.shown (moves_by c.args.family.now.landings) c.requires.moves c.args.key.now c.requires.reached c.span-low.result.0
     c.span-low.result.1 c.span-low.ensures c.number_of-start.result c.number_of-target.result
     (subst (λ (k : NodeKey). place_of k c.args.family.now.nodes ≡ Some c.number_of-start.result) c.entry.ensures c.number_of-start.ensures) c.number_of-target.ensures
@@ -73,7 +73,7 @@ shortest_walk-requires-clause-target c =
 pub unreachable-requires : goal.unreachable-requires
 unreachable-requires c =
     (c.in_ok-numbers.ensures.none).0 c.in-None.is
-    (subst (λ (g : List (List ℕ)). IsReached g ((c.number_of-start.result - c.span-low.result.0) ∷ []) (c.number_of-target.result - c.span-low.result.0)) (sym c.deref.ensures.value)
+    (subst (λ (g : List (List ℕ)). IsNumberReached g ((c.number_of-start.result - c.span-low.result.0) ∷ []) (c.number_of-target.result - c.span-low.result.0)) (sym c.deref.ensures.value)
     (portion_reaches c.args.task.now.flash.now c.args.task.now.assumptions.now c.args.family.now.nodes c.count-count.ensures.shown (moves_by c.args.family.now.landings) c.requires.moves c.args.key.now c.requires.reached c.span-low.result.0
     c.span-low.result.1 c.span-low.ensures c.number_of-start.result c.number_of-target.result
     (subst (λ (k : NodeKey). place_of k c.args.family.now.nodes ≡ Some c.number_of-start.result) c.entry.ensures c.number_of-start.ensures) c.number_of-target.ensures

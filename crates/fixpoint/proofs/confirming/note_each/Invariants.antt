@@ -1,5 +1,5 @@
 use Rattle.std.proofs.Common.{take}
-use Rattle.instance_nesting.specs.Nestings.{AreOnce}
+use Rattle.round_nesting.specs.Nestings.{AreOnce}
 use Rattle.fixpoint.specs.Confirm.{AreKnownAt}
 use Rattle.fixpoint.proofs.confirming.note_each.Given as goal
 

@@ -2,14 +2,14 @@ use Rattle.std.proofs.Common.{◌≢◌}
 use Rattle.avr_model.specs.Assumptions.{has_pairs}
 use Rattle.round_steps.proofs.Gathers.{formed_own, nodes_own}
 use Rattle.round_rules.specs.declared.refusal.Refusal.TheVariants.{Memory}
-use Rattle.fixpoint.specs.Tests.{IsStopped}
+use Rattle.fixpoint.specs.Tests.{AreRoundsStopped}
 use Rattle.fixpoint.proofs.Known.{all_known}
 use Rattle.fixpoint.proofs.Ready.{handed_on, too_large, has_fault, looks_fit, few_insts, told_stops, targets_fit, is_ready}
 use Rattle.fixpoint.proofs.rounds.next_nodes.Goals as goal
 
 pub returns-in_err-check_size-clause-stopped : goal.returns-in_err-check_size-clause-stopped
 returns-in_err-check_size-clause-stopped c =
-    handed_on c.from_residual.result c.in_err-check_size.field-0.0 (λ r. r ≢ Memory → IsStopped c.args.task.now.flash.now c.args.task.now.assumptions.now c.args.table.now r)
+    handed_on c.from_residual.result c.in_err-check_size.field-0.0 (λ r. r ≢ Memory → AreRoundsStopped c.args.task.now.flash.now c.args.task.now.assumptions.now c.args.table.now r)
     c.from_residual.ensures.1
     (λ real. too_large c.args.task.now.flash.now c.args.task.now.assumptions.now c.args.table.now c.in_err-check_size.field-0.0 c.in_err-check_size.ensures.over)
 

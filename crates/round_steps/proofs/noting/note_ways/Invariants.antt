@@ -1,5 +1,5 @@
 use Rattle.std.proofs.Common.{take}
-use Rattle.instance_nesting.specs.Nestings.{AreOnce}
+use Rattle.round_nesting.specs.Nestings.{AreOnce}
 use Rattle.round_steps.specs.Notings.{HasCallers, HasEntrances}
 use Rattle.round_steps.proofs.noting.note_ways.Given as goal
 

@@ -7,14 +7,14 @@ use Rattle.std.specs.Vec.Iter.{into_iter_items}
 use Rattle.basics.specs.Items.{first_in, further_in}
 use Rattle.local_rules.specs.declared.local.Node.{Node}
 use Rattle.local_laws.specs.Laws.{AreNodesIn}
-use Rattle.round_steps.specs.Gathers.{AreOwnNodes, AreGathered}
+use Rattle.round_steps.specs.Gathers.{AreOwnNodes, AreTargetsGathered}
 use Rattle.round_steps.proofs.Gathers.{one_gathered}
 use Rattle.round_steps.proofs.targets.gather.Goals as goal
 
 pub loop-node-init : goal.loop-node-init
 loop-node-init c = (
   subst AreOwnNodes (sym c.into_iter-node-iterator.ensures.into_iter_gives.0) c.requires,
-  λ followed before nodes are. subst (λ (l : List Node). AreGathered followed c.args.table.now l c.args.next.now) (sym (append-nil before)) are,
+  λ followed before nodes are. subst (λ (l : List Node). AreTargetsGathered followed c.args.table.now l c.args.next.now) (sym (append-nil before)) are,
 )
 
 pub gather_one-requires : goal.gather_one-requires
@@ -27,7 +27,7 @@ loop-node-preserved c =
     let nodes = subst AreOwnNodes c.in-Some.ensures.steps.0 c.loop-node.invariant.0 in (
       λ n i. nodes n (further_in c.in-Some.node n left i),
       λ followed before are_nodes are.
-          subst (λ (l : List Node). AreGathered followed c.args.table.now l c.gather_one.new.next) (append_assoc before c.loop-node.yielded (c.in-Some.node ∷ []))
+          subst (λ (l : List Node). AreTargetsGathered followed c.args.table.now l c.gather_one.new.next) (append_assoc before c.loop-node.yielded (c.in-Some.node ∷ []))
           (one_gathered followed c.args.table.now c.loop-node.next (before ++ c.loop-node.yielded) c.in-Some.node
           (are_nodes c.in-Some.node (Contains-push c.loop-node.yielded c.in-Some.node))
           (c.loop-node.invariant.1 followed before (λ n i. are_nodes n (Contains-append_left c.loop-node.yielded (c.in-Some.node ∷ []) n i)) are) c.gather_one.new.next c.in_ok-gather_one.ensures),
@@ -39,5 +39,5 @@ returns c = λ followed before nodes are.
     let road = YieldsList-from_vec {s = c.into_iter-node-iterator.result} c.args.nodes.items gives.0 (gives.1 ∙ c.args.nodes.ok.0) in
     let end = YieldsList-end road c.loop-node.yielded c.loop-node.node-iterator c.loop-node.yielded_by c.next.result c.next.new.self c.in-None.is c.next.ensures.steps in
     let all = sym (map-id c.loop-node.yielded) ∙ end.0 in
-    subst (λ (l : List Node). AreGathered followed c.args.table.now (before ++ l) c.loop-node.next) all
+    subst (λ (l : List Node). AreTargetsGathered followed c.args.table.now (before ++ l) c.loop-node.next) all
     (c.loop-node.invariant.1 followed before (subst (AreNodesIn followed) (sym all) nodes) are)

@@ -2,7 +2,7 @@ use Rattle.std.proofs.Common.{List, ◌++◌, sym, subst, ap, ◌∙◌}
 use Rattle.local_rules.specs.declared.local.Node.{Node}
 use Rattle.local_laws.specs.Laws.{AreNodesIn}
 use Rattle.round_steps.specs.Targets.{targets_of}
-use Rattle.round_steps.specs.Gathers.{AreOwnNodes, AreGathered}
+use Rattle.round_steps.specs.Gathers.{AreOwnNodes, AreTargetsGathered}
 use Rattle.round_steps.proofs.Gathers.{on_ok}
 use Rattle.round_steps.proofs.targets.gather_targets.Goals as goal
 
@@ -18,4 +18,4 @@ returns-in-Ok c =
     let found = c.in-Ok.ensures ∙ ap (λ (ns : List Node). ns ++ more) c.new-nodes.ensures.items in
     λ followed before nodes are.
     on_ok c.gather.result (c.gather.ensures followed before (subst (AreNodesIn followed) (sym found) nodes) are)
-    (subst (λ (l : List Node). AreGathered followed f l c.gather.new.next) (ap (λ (ns : List Node). before ++ ns) found))
+    (subst (λ (l : List Node). AreTargetsGathered followed f l c.gather.new.next) (ap (λ (ns : List Node). before ++ ns) found))

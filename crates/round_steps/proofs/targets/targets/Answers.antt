@@ -8,13 +8,13 @@ use Rattle.local_rules.specs.declared.local.Node.{Node}
 use Rattle.local_laws.specs.Laws.{AreNodesIn}
 use Rattle.round_steps.specs.declared.looking.Look.{Look}
 use Rattle.round_steps.specs.Targets.{targets_of, all_targets}
-use Rattle.round_steps.specs.Gathers.{AreOwnNodes, AreGathered, AreBeyond}
+use Rattle.round_steps.specs.Gathers.{AreOwnNodes, AreTargetsGathered, AreBeyond}
 use Rattle.round_steps.proofs.Gathers.{if_ok, none_gathered, gathered_push, are_beyond}
 use Rattle.round_steps.proofs.targets.targets.Goals as goal
 
 pub loop-x-init : goal.loop-x-init
 loop-x-init c = (
-  λ followed nodes. subst (AreGathered followed c.args.table.now []) (sym c.new-next.ensures) (none_gathered followed c.args.table.now),
+  λ followed nodes. subst (AreTargetsGathered followed c.args.table.now []) (sym c.new-next.ensures) (none_gathered followed c.args.table.now),
   subst (λ (xs : List Look). AreOwnNodes (all_targets c.args.table.now c.args.notes.now xs)) (sym c.into_iter-x-iterator.ensures.into_iter_gives.0) c.requires.nodes,
 )
 
@@ -37,7 +37,7 @@ loop-x-preserved c =
     let grown = gathered_push (targets_of f notes) c.loop-x.yielded c.in-Some.x in (
       λ followed nodes.
           let each = subst (AreNodesIn followed) grown nodes in
-          subst (λ (l : List Node). AreGathered followed f l c.gather_targets.new.next) (sym grown)
+          subst (λ (l : List Node). AreTargetsGathered followed f l c.gather_targets.new.next) (sym grown)
           (c.in_ok-gather_targets.ensures followed done (λ n i. each n (Contains-append_right done more n i))
           (c.loop-x.invariant.0 followed (λ n i. each n (Contains-append_left done more n i)))),
       λ n i. all n (Contains-append_right more (all_targets f notes left) n i),
@@ -53,5 +53,5 @@ returns c = λ followed nodes.
     if_ok c.into_sorted.result c.into_sorted.ensures
     (λ found is. subst (AreBeyond followed f (all_targets f c.args.notes.now c.args.looks.items)) (sym is)
     (are_beyond followed f (all_targets f c.args.notes.now c.args.looks.items) c.loop-x.next
-    (subst (λ (xs : List Look). AreGathered followed f (all_targets f c.args.notes.now xs) c.loop-x.next) all
+    (subst (λ (xs : List Look). AreTargetsGathered followed f (all_targets f c.args.notes.now xs) c.loop-x.next) all
     (c.loop-x.invariant.0 followed (subst (λ (xs : List Look). AreNodesIn followed (all_targets f c.args.notes.now xs)) (sym all) nodes)))))

@@ -1,5 +1,5 @@
 use Rattle.std.proofs.Common.{take, subst}
-use Rattle.shortest_walk.specs.Nearest.{IsBest}
+use Rattle.shortest_walk.specs.Nearest.{IsNearestOf}
 use Rattle.shortest_walk.proofs.Best.{best_more, best_all}
 use Rattle.shortest_walk.proofs.nearest.nearest.Goals as goal
 
@@ -10,5 +10,5 @@ loop-node-preserved c =
 
 pub returns-in-None : goal.returns-in-None
 returns-in-None c =
-    subst (IsBest c.args.distances.now c.args.nodes.now) c.in-None.is
+    subst (IsNearestOf c.args.distances.now c.args.nodes.now) c.in-None.is
     (best_all c.args.distances.now c.args.nodes.now c.loop-node.node-index c.loop-node.best c.loop-node-test.false c.loop-node.invariant)

@@ -5,7 +5,7 @@ use Rattle.mask_states.specs.Order.{node_cmp}
 use Rattle.edge_rules.specs.declared.seeded.NodeForm.{NodeForm}
 use Rattle.edge_rules.specs.declared.seeded.NodeForm.TheVariants.{From}
 use Rattle.edge_rules.specs.Expansion.{Seeds, AreSeeds}
-use Rattle.edge_laws.specs.Expansions.{AreAscending}
+use Rattle.edge_laws.specs.Expansions.{AreSeedsAscending}
 use Rattle.family_tables.proofs.Growing.{with_from, pushed_ascending}
 use Rattle.family_tables.proofs.tests.seeds.add_from.Goals as goal
 
@@ -20,4 +20,4 @@ pub returns-clause-ascending : goal.returns-clause-ascending
 returns-clause-ascending c =
     let above = subst (λ (ys : Seeds). (at : ℕ) (e : NodeKey × NodeForm) → slice_get ys at ≡ Some e → node_cmp e.0 c.args.key ≡ Less) c.deref.ensures.value
     (c.may_follow.ensures.below c.if-not-may_follow.false) in
-    subst AreAscending (sym c.in_ok-push.ensures.items) (pushed_ascending c.args.items.now.items c.args.key (From c.args.from) c.requires.ascending above)
+    subst AreSeedsAscending (sym c.in_ok-push.ensures.items) (pushed_ascending c.args.items.now.items c.args.key (From c.args.from) c.requires.ascending above)

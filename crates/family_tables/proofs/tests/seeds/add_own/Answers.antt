@@ -6,7 +6,7 @@ use Rattle.mask_states.specs.Order.{node_cmp}
 use Rattle.edge_rules.specs.declared.seeded.NodeForm.{NodeForm}
 use Rattle.edge_rules.specs.declared.seeded.NodeForm.TheVariants.{State}
 use Rattle.edge_rules.specs.Expansion.{Seeds, AreSeeds}
-use Rattle.edge_laws.specs.Expansions.{AreAscending}
+use Rattle.edge_laws.specs.Expansions.{AreSeedsAscending}
 use Rattle.family_tables.proofs.Growing.{with_root, pushed_ascending}
 use Rattle.family_tables.proofs.tests.seeds.add_own.Goals as goal
 
@@ -23,4 +23,4 @@ pub returns-clause-ascending : goal.returns-clause-ascending
 returns-clause-ascending c =
     let above = subst (λ (ys : Seeds). (at : ℕ) (e : NodeKey × NodeForm) → slice_get ys at ≡ Some e → node_cmp e.0 c.args.key ≡ Less) c.deref.ensures.value
     (c.may_follow.ensures.below c.if-not-may_follow.false) in
-    subst AreAscending (sym c.in_ok-push.ensures.items) (pushed_ascending c.args.items.now.items c.args.key (State c.in_ok-held.held) c.requires.ascending above)
+    subst AreSeedsAscending (sym c.in_ok-push.ensures.items) (pushed_ascending c.args.items.now.items c.args.key (State c.in_ok-held.held) c.requires.ascending above)

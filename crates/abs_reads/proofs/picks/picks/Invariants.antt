@@ -1,7 +1,0 @@
-use Rattle.std.proofs.Common.{◌≡◌, filter}
-use Rattle.local_rules.specs.Registers.{value}
-use Rattle.local_rules.specs.Local.{below, may_be}
-use Rattle.abs_reads.proofs.picks.picks.Given as goal
-
-abbrev pub invariant-loop-byte : goal.invariant-loop-byte
-invariant-loop-byte l = l.picks.items ≡ filter (may_be (value l.state 30)) (below l.byte)

@@ -1,5 +1,0 @@
-use Rattle.clear_nodes.specs.Causing.{IsLiveAt}
-use Rattle.clear_nodes.proofs.causes.is_live_at.Given as goal
-
-abbrev pub invariant-loop-at : goal.invariant-loop-at
-invariant-loop-at l = IsLiveAt l.task.flash.now l.task.assumptions.now l.bound l.told.nodes.now l.told.asks.now l.site.pc l.site.instr.now l.at → ⊥

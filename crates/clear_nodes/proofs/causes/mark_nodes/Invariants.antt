@@ -1,6 +1,0 @@
-use Rattle.clear_nodes.specs.Takes.{IsMarked}
-use Rattle.clear_nodes.specs.Causing.{IsProtectedAt}
-use Rattle.clear_nodes.proofs.causes.mark_nodes.Given as goal
-
-abbrev pub invariant-loop-at : goal.invariant-loop-at
-invariant-loop-at l = IsMarked (IsProtectedAt l.task.flash.now l.task.assumptions.now l.told.nodes.now l.told.asks.now l.site.pc l.site.instr.now l.at) l.fn.marks l.marks

@@ -1,7 +1,0 @@
-use Rattle.std.proofs.Common.{take}
-use Rattle.certificate.specs.Valid.{family_of}
-use Rattle.clear_nodes.specs.Causing.{ArePlacesOf}
-use Rattle.clear_nodes.proofs.causes.places_at.Given as goal
-
-abbrev pub invariant-loop-site : goal.invariant-loop-site
-invariant-loop-site l = ArePlacesOf l.task.flash.now l.task.assumptions.now (family_of l.certificate l.told.nodes.now) (take l.site-index l.sites) l.list

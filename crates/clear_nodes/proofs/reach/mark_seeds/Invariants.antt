@@ -1,7 +1,0 @@
-use Rattle.std.proofs.Common.{take}
-use Rattle.std.specs.List.{Contains}
-use Rattle.clear_nodes.specs.Spreading.{IsSpread}
-use Rattle.clear_nodes.proofs.reach.mark_seeds.Given as goal
-
-abbrev pub invariant-loop-at : goal.invariant-loop-at
-invariant-loop-at l = IsSpread (λ j. Contains (take l.at l.seeds) (record { node = j; slot = l.slot })) l.fn.seen l.fn.stack.items l.seen l.stack.items

@@ -1,5 +1,0 @@
-use Rattle.clear_nodes.specs.Settling.{AreSettled}
-use Rattle.clear_nodes.proofs.settling.settle.Given as goal
-
-abbrev pub invariant-loop-at : goal.invariant-loop-at
-invariant-loop-at l = AreSettled l.frames.links l.frames.offsets l.frames.seeds l.at l.fn.asks l.asks

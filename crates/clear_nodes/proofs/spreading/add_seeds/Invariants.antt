@@ -1,6 +1,0 @@
-use Rattle.std.proofs.Common.{◌≡◌, ◌++◌, take}
-use Rattle.clear_nodes.specs.Settling.{seeds_by}
-use Rattle.clear_nodes.proofs.spreading.add_seeds.Given as goal
-
-abbrev pub invariant-loop-landing : goal.invariant-loop-landing
-invariant-loop-landing l = l.seeds ≡ l.fn.seeds ++ seeds_by l.slot (take l.landing-index l.landings)

@@ -1,6 +1,0 @@
-use Rattle.std.proofs.Common.{◌≡◌, map, take}
-use Rattle.clear_nodes.specs.Settling.{links_by}
-use Rattle.clear_nodes.proofs.spreading.all_links.Given as goal
-
-abbrev pub invariant-loop-at : goal.invariant-loop-at
-invariant-loop-at l = l.links ≡ map links_by (take l.at l.landings)

@@ -1,6 +1,0 @@
-use Rattle.std.proofs.Common.{◌≡◌, take}
-use Rattle.clear_nodes.specs.Settling.{links_by}
-use Rattle.clear_nodes.proofs.spreading.links_of.Given as goal
-
-abbrev pub invariant-loop-landing : goal.invariant-loop-landing
-invariant-loop-landing l = l.to ≡ links_by (take l.landing-index l.landings)

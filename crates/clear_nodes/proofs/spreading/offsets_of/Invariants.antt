@@ -1,6 +1,0 @@
-use Rattle.std.proofs.Common.{◌≡◌, take}
-use Rattle.clear_laws.specs.Links.{offsets_of}
-use Rattle.clear_nodes.proofs.spreading.offsets_of.Given as goal
-
-abbrev pub invariant-loop-at : goal.invariant-loop-at
-invariant-loop-at l = l.offsets ≡ offsets_of (take l.at l.nodes)

@@ -1,5 +1,0 @@
-use Rattle.clear_nodes.specs.Settling.{AreAskedTo}
-use Rattle.clear_nodes.proofs.telling.asked.Given as goal
-
-abbrev pub invariant-loop-at : goal.invariant-loop-at
-invariant-loop-at l = AreAskedTo l.task.flash.now l.task.assumptions.now l.bound l.nodes l.at l.asks.items

@@ -1,9 +1,0 @@
-use Rattle.std.proofs.Common.{sym}
-use Rattle.clear_nodes.proofs.Sites.{passing_more, passing_all}
-use Rattle.clear_nodes.proofs.words.first_unclear.Goals as goal
-
-pub loop-at-preserved : goal.loop-at-preserved
-loop-at-preserved c = passing_more c.args.asks.now c.loop-at.at c.loop-at.invariant (sym c.if-not-passes.ensures)
-
-pub returns : goal.returns
-returns c = passing_all c.args.asks.now c.loop-at.at c.loop-at.invariant c.loop-at-test.false

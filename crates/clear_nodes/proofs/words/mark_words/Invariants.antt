@@ -1,5 +1,0 @@
-use Rattle.clear_nodes.specs.Settling.{AreWordsMarked}
-use Rattle.clear_nodes.proofs.words.mark_words.Given as goal
-
-abbrev pub invariant-loop-at : goal.invariant-loop-at
-invariant-loop-at l = AreWordsMarked l.told.nodes.now l.told.asks.now l.at l.fn.marks l.marks

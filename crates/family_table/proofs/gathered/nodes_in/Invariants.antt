@@ -1,6 +1,0 @@
-use Rattle.std.proofs.Common.{◌≡◌, ◌++◌, map}
-use Rattle.family_table.specs.Families.{node_of}
-use Rattle.family_table.proofs.gathered.nodes_in.Given as goal
-
-abbrev pub invariant-loop-place : goal.invariant-loop-place
-invariant-loop-place l = l.all.items ++ map node_of l.place-iterator ≡ map node_of l.fn.map.entries

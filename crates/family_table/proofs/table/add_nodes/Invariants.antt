@@ -1,8 +1,0 @@
-use Rattle.std.proofs.Common.{◌≡◌, ◌++◌, map}
-use Rattle.family_table.specs.Families.{node_of}
-use Rattle.family_table.specs.Shared.{stated, AreCounted}
-use Rattle.family_table.proofs.table.add_nodes.Given as goal
-
-abbrev pub invariant-loop-place : goal.invariant-loop-place
-invariant-loop-place l =
-    AreCounted l.pool l.place-iterator × (l.all.items ++ map node_of (stated l.pool l.place-iterator) ≡ l.fn.all.items ++ map node_of (stated l.fn.pool l.fn.map.entries))

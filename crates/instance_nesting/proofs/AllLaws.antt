@@ -1,2 +1,0 @@
--- The laws, each under the name of the public function that carries it. Crates above cite them from here.
-pub use Rattle.instance_nesting.proofs.Small.{nestings_are_small}

@@ -1,8 +1,0 @@
-use Rattle.std.proofs.Common.{take}
-use Rattle.std.specs.List.{Contains}
-use Rattle.instance_nesting.specs.Nestings.{Entrance}
-use Rattle.instance_nesting.specs.Covers.{AllowsEntrance}
-use Rattle.instance_nesting.proofs.allowances.Allowances.allow_entrances.Given as goal
-
-abbrev pub invariant-loop-entrance : goal.invariant-loop-entrance
-invariant-loop-entrance l = (x : Entrance) → Contains (take l.entrance-index l.entrances) x → AllowsEntrance l.self.map.entries x

@@ -1,7 +1,0 @@
-use Rattle.std.proofs.Common.{◌≡◌, ◌∷◌, take}
-use Rattle.mask_states.specs.Keys.{root_inst}
-use Rattle.instance_nesting.proofs.Steps.{bare, bares}
-use Rattle.instance_nesting.proofs.drawing.instances.Given as goal
-
-abbrev pub invariant-loop-other : goal.invariant-loop-other
-invariant-loop-other l = l.instances.items ≡ bare root_inst ∷ bares (take l.other-index l.other-items)

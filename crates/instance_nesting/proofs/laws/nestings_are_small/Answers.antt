@@ -1,5 +1,0 @@
-use Rattle.instance_nesting.proofs.Small as small
-use Rattle.instance_nesting.proofs.laws.nestings_are_small.Goals as goal
-
-pub returns : goal.returns
-returns c = small.nestings_are_small

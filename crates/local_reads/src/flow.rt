@@ -1,0 +1,77 @@
+//! Words that jumps, branches and skips go to, and the conditions that decide.
+
+ghost use Rattle.std.specs.Prelude.{◌≡◌, ◌<◌, ◌+◌, ℕ, nat_lt, if◌then◌else◌};
+ghost use Rattle.avr_model.specs.Assumptions.{lists};
+ghost use Rattle.avr_model.specs.Devices.{width};
+ghost use Rattle.avr_model.specs.Effects as effects;
+ghost use Rattle.bit_domain.specs.TriByte.{tri_at};
+ghost use Rattle.bit_domain.specs.declared.bits.Tri.TheVariants.{Any};
+ghost use Rattle.local_rules.specs.Registers as registers;
+ghost use Rattle.local_rules.specs.Raw as raw;
+ghost use Rattle.local_rules.specs.Reads as reads;
+ghost use Rattle.local_rules.specs.Flow.{words_on};
+
+use crate::reads::read_at;
+use abs_state::AbsState;
+use avr_model::device::Device;
+use avr_model::instruction::{Base, Bit, LowPort, Register, Six};
+use bit_domain::{Tri, TriByte};
+use local_rows::registers::{bits, pair};
+use local_rows::transfer::base_register;
+use mask_states::NodeKey;
+
+// The data address of I/O address 0.
+const IO_START: u16 = 0x20;
+
+/// The word so many words further, modulo the number of words.
+#[tactic(auto, using(avr_model::proofs::AllLaws::devices_are_alike))]
+pub fn further(device: Device, key: &NodeKey, words: u16) -> u16
+    ensures { result ≡ raw.further device key.now words }
+{
+    device.wrap(key.pc.wrapping_add(words))
+}
+
+/// The data address of an I/O address.
+pub fn port(address: Six) -> u16
+    ensures { result ≡ effects.port address }
+{
+    address.get() + IO_START
+}
+
+/// A bit of an I/O address, which `sbic` and `sbis` test.
+pub fn port_bit(device: Device, key: &NodeKey, state: &AbsState, address: LowPort, bit: Bit) -> Tri
+    ensures { result ≡ tri_at (reads.read_at device key.now state.now (effects.port address)).bits bit }
+{
+    read_at(device, key, state, port(address.widened()))
+        .bits
+        .bit(bit.get() as u8)
+}
+
+/// A bit of a register, which `sbrc` and `sbrs` test.
+pub fn register_bit(state: &AbsState, r: Register, bit: Bit) -> Tri
+    ensures { result ≡ tri_at (registers.bits state.now r) bit }
+{
+    bits(state, r).bit(bit.get() as u8)
+}
+
+// The high byte with all bits open that a word address hasn't.
+fn high_byte(device: Device, hi: TriByte) -> TriByte
+    ensures { (i : ℕ) → i < 8 → tri_at result i ≡ (if nat_lt (i + 8) (width device) then tri_at hi i else Any) }
+{
+    let mut byte = hi;
+    for bit in device.width() - 8..8 {
+        byte = byte.with(bit, Tri::Any);
+    }
+    byte
+}
+
+/// Whether an indirect transfer may lead to this word.
+pub fn is_target(device: Device, state: &AbsState, word: u16) -> bool
+    ensures { result ≡ lists (words_on device (registers.bits state.now 30) (registers.bits state.now 31)) word }
+{
+    let (low, high) = pair(state, base_register(Base::Z));
+    if word >= device.words() {
+        return false;
+    }
+    low.bits.has((word % 256) as u8) && high_byte(device, high.bits).has((word / 256) as u8)
+}

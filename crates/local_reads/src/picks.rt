@@ -1,0 +1,36 @@
+//! The bytes by which a node at a table site splits.
+
+ghost use Rattle.std.specs.Prelude.{◌≡◌, IfOk, IfErr};
+ghost use Rattle.local_rules.specs.declared.local.NodeFault.TheVariants.{Memory};
+ghost use Rattle.local_rules.specs.Local.{may_be, picks};
+
+use crate::pointers::has;
+use abs_state::{AbsByte, AbsState};
+use avr_model::instruction::Register;
+use local_rows::registers::value;
+use local_rules::local::NodeFault;
+use std::alloc::Global;
+
+// Whether the value may be this byte: its bits permit it, and it lies in the range.
+fn may_be(value: AbsByte, byte: u8) -> bool
+    ensures { result ≡ may_be value byte }
+{
+    has(value.bits, byte) && value.low <= byte && byte <= value.high
+}
+
+/// The bytes that r30 may hold, ascending.
+pub fn picks(alloc: Global, state: &AbsState) -> Result<Vec<u8>, NodeFault>
+    ensures ok { IfOk result (λ v. v.items ≡ picks state.now) }
+    ensures err { IfErr result (λ e. e ≡ Memory) }
+{
+    let index = value(state, Register::new(30));
+    let mut picks = Vec::new(alloc);
+    for byte in 0..256u16 {
+        if may_be(index, byte as u8) {
+            if picks.push(byte as u8).is_err() {
+                return Err(NodeFault::Memory);
+            }
+        }
+    }
+    Ok(picks)
+}

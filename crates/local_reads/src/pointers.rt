@@ -1,0 +1,130 @@
+//! Reads and writes through pairs of registers.
+
+ghost use Rattle.std.specs.Prelude.{◌≡◌};
+ghost use Rattle.bit_domain.specs.TriByte as bytes;
+ghost use Rattle.local_rules.specs.Reads.{read_number, flash_value};
+ghost use Rattle.local_rules.specs.Reads as reads;
+ghost use Rattle.local_rules.specs.Writes as writes;
+ghost use Rattle.local_rules.specs.Local as rows;
+
+use crate::reads::{read_at, slot_value};
+use abs_state::{AbsByte, AbsState};
+use avr_model::device::{BELOW, Device};
+use avr_model::instruction::{LowRegister, Pointer};
+use bit_domain::TriByte;
+use flash_image::Flash;
+use local_rows::registers::pair;
+use local_rules::Pointed;
+use mask_states::NodeKey;
+use sp_domain::{Tag, frame};
+
+/// What is added to a pointer for the address, modulo 65,536: `-P` takes one off.
+pub fn step_before(pointer: Pointer) -> u16
+    ensures { result ≡ rows.step_before pointer }
+{
+    match pointer {
+        Pointer::MinusZ | Pointer::MinusY | Pointer::MinusX => 65535,
+        Pointer::ZPlus | Pointer::YPlus | Pointer::X | Pointer::XPlus => 0,
+    }
+}
+
+/// The number that registers `r` and `r + 1` hold, where all their bits are known.
+pub fn pair_constant(state: &AbsState, r: LowRegister) -> Option<u16>
+    ensures { result ≡ reads.pair_constant state.now r }
+{
+    let (low, high) = pair(state, r);
+    match (low.bits.constant(), high.bits.constant()) {
+        (Some(low), Some(high)) => Some(u16::from(low) + 256 * u16::from(high)),
+        _ => None,
+    }
+}
+
+/// The address that registers `r` and `r + 1` plus a number give, modulo 65,536.
+pub fn point(state: &AbsState, r: LowRegister, up: u16) -> Pointed
+    ensures { result ≡ reads.pointed state.now r up }
+{
+    let (low, high) = pair(state, r);
+    let constant = match pair_constant(state, r) {
+        Some(number) => Some(number.wrapping_add(up)),
+        None => None,
+    };
+    let frame = match frame(low.tag, high.tag) {
+        Some(below) => Some(below.wrapping_sub(up)),
+        None => None,
+    };
+    Pointed { constant, frame }
+}
+
+// What is read at a number: of a register or I/O the bits alone, and of a slot its range too, without a tag.
+fn read_number(device: Device, key: &NodeKey, state: &AbsState, address: u16) -> AbsByte
+    ensures { result ≡ read_number device key.now state.now address }
+{
+    let read = read_at(device, key, state, address);
+    if address <= BELOW {
+        AbsByte::untagged(read.bits)
+    } else {
+        AbsByte {
+            tag: Tag::None,
+            ..read
+        }
+    }
+}
+
+/// What a read through a pointer gives: None where it can't be. A slot that isn't there is read by the number alone.
+pub fn read_pointed(
+    device: Device,
+    key: &NodeKey,
+    state: &AbsState,
+    pointed: Pointed,
+) -> Option<AbsByte>
+    ensures { result ≡ reads.read_pointed device key.now state.now pointed }
+{
+    let number = match pointed.constant {
+        Some(address) => Some(read_number(device, key, state, address)),
+        None => None,
+    };
+    match pointed.frame {
+        Some(d) if d < state.slots.len() => {
+            let value = slot_value(state, d);
+            match number {
+                Some(number) => {
+                    let tag = value.tag;
+                    AbsByte { tag, ..number }.meet(value)
+                }
+                None => Some(value),
+            }
+        }
+        _ => match number {
+            Some(number) => Some(number),
+            None => Some(AbsByte::unknown()),
+        },
+    }
+}
+
+/// The byte of flash at a known address.
+#[tactic(auto, using(avr_model::proofs::AllLaws::devices_are_alike))]
+pub fn flash_value(flash: &Flash, z: Option<u16>) -> AbsByte
+    ensures { result ≡ flash_value flash.now z }
+{
+    let end = 2 * flash.device().words();
+    match z {
+        Some(z) if z < end => AbsByte::known(flash.byte(z)),
+        _ => AbsByte::unknown(),
+    }
+}
+
+/// Whether the bits are those of some value that this byte is.
+pub fn has(bits: TriByte, byte: u8) -> bool
+    ensures { result ≡ bytes.has bits byte }
+{
+    bits.has(byte)
+}
+
+/// Whether some value of registers `r` and `r + 1` that their bits permit, plus a number, is the address.
+pub fn reaches(state: &AbsState, r: LowRegister, up: u16, address: u16) -> bool
+    ensures { result ≡ writes.reaches state.now r up address }
+{
+    let pointer = address.wrapping_sub(up);
+    let (low, high) = pair(state, r);
+    has(low.bits, (pointer % 256) as u8) && has(high.bits, (pointer / 256) as u8)
+}

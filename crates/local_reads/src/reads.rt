@@ -1,0 +1,76 @@
+//! What is known of a byte that is read from data space at a known address.
+
+ghost use Rattle.std.specs.Prelude.{◌≡◌};
+ghost use Rattle.avr_model.specs.Vectors.{enable_of};
+ghost use Rattle.sp_domain.specs.Slots.{slot_at};
+ghost use Rattle.local_rules.specs.Reads.{io_tri, io_bits, value_of, slot_read, read_at};
+
+use crate::stack_pointer::sp_bytes;
+use abs_state::{AbsByte, AbsState};
+use avr_model::device::{BELOW, Device, REGISTERS_END, SPH, SPL, SREG};
+use avr_model::instruction::Register;
+use bit_domain::{Tri, TriByte};
+use local_rows::bits::tri_of;
+use local_rows::registers::value;
+use local_rows::status::sreg_value;
+use mask_states::{Kind, NodeKey};
+use sp_domain::Slot;
+use vector_table::{Masks, enable_of};
+
+// One bit of an I/O address: an enable bit comes from the key, and no other one is known.
+fn io_tri(masks: Masks, address: u16, bit: u8) -> Tri
+    ensures { result ≡ io_tri (enable_of address bit) masks }
+{
+    match enable_of(address, bit) {
+        Some(vector) => tri_of(masks.has(vector)),
+        None => Tri::Any,
+    }
+}
+
+// The bits of an I/O address.
+pub(crate) fn io_bits(masks: Masks, address: u16) -> TriByte
+    ensures { result ≡ io_bits masks address }
+{
+    let mut bits = TriByte::any();
+    for bit in 0..8u8 {
+        bits = bits.with(bit, io_tri(masks, address, bit));
+    }
+    bits
+}
+
+/// What is known of the byte in slot `d`: nothing where there is no such slot.
+pub fn slot_value(state: &AbsState, d: u16) -> AbsByte
+    ensures { result ≡ value_of (slot_at state.now.slots d) }
+{
+    match state.slots.at(d) {
+        Some(Slot::Guarded(value)) => value,
+        Some(Slot::Free) => AbsByte::unknown(),
+        None => AbsByte::unknown(),
+    }
+}
+
+// The byte above I/O: a slot of the root's frame, whose base is known; elsewhere nothing is known.
+fn slot_read(device: Device, kind: Kind, state: &AbsState, address: u16) -> AbsByte
+    ensures { result ≡ slot_read device kind state.now address }
+{
+    let base = device.ramend();
+    match kind {
+        Kind::Root if address <= base => slot_value(state, base - address),
+        _ => AbsByte::unknown(),
+    }
+}
+
+/// What a read of a data address gives.
+#[tactic(auto, unfolding(local_rules::specs::Reads::read_at))]
+pub fn read_at(device: Device, key: &NodeKey, state: &AbsState, address: u16) -> AbsByte
+    ensures { result ≡ read_at device key.now state.now address }
+{
+    match address {
+        0..REGISTERS_END => value(state, Register::new(address)),
+        SPL => sp_bytes(device, key.inst.kind, key.sp).0,
+        SPH => sp_bytes(device, key.inst.kind, key.sp).1,
+        SREG => sreg_value(key, state),
+        0..=BELOW => AbsByte::untagged(io_bits(key.masks, address)),
+        _ => slot_read(device, key.inst.kind, state, address),
+    }
+}

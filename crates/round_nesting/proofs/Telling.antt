@@ -1,0 +1,125 @@
+-- What the graph tells of each family of which the notes are the nesting.
+use Rattle.std.proofs.Common.{◌≡◌, refl, sym, ap, ◌∙◌, subst, List, ◌∷◌, Some, slice_get, slice_index, slice_index_or, ℕ, ◌<◌, ◌≤◌, length, Contains, arith}
+use Rattle.std.proofs.lemmas.Option.{slice_get_within, slice_get-get_or}
+use Rattle.avr_model.specs.declared.assumption.Entry.{Entry}
+use Rattle.mask_states.specs.declared.keys.InstKey.{InstKey}
+use Rattle.mask_states.specs.declared.keys.Kind.TheVariants.{Vector}
+use Rattle.mask_states.specs.declared.keys.SpForm.TheVariants.{Closed}
+use Rattle.local_rules.specs.declared.local.Node.{Node}
+use Rattle.mask_states.specs.Keys.{root_inst}
+use Rattle.nesting_bound.specs.declared.graph.Entered.{Entered}
+use Rattle.nesting_bound.specs.declared.graph.GraphInst.{GraphInst}
+use Rattle.nesting_bound.specs.declared.graph.Place.{Place}
+use Rattle.nesting_bound.specs.Graph as graph
+use Rattle.nesting_bound.specs.Cycle.{IsNamed, group_of}
+use Rattle.nesting_bound.specs.Least.{IsLeast}
+use Rattle.round_rules.specs.Families.{Family, FamilyHas, FamilyHasInst}
+use Rattle.round_rules.specs.Rounds.{Entering}
+use Rattle.round_laws.specs.Graphs.{GraphsTell, IsGraphOver, IsNumber, IsNumberFor, IsEntered, HasEntryEdge, IsFamilyPlace as IsPlaceIn, HasNodePlace}
+use Rattle.round_nesting.specs.declared.verdict.NestingVerdict.TheVariants.{Nests, ReEntry, Recursion, TooDeep}
+use Rattle.round_nesting.specs.Nestings.{Noted, AreOnce, IsNestingOf, TellsAll}
+use Rattle.round_nesting.specs.declared.verdict.NestingVerdict.{NestingVerdict}
+use Rattle.round_nesting.specs.Drawn.{number_of, IsDrawn, GraphTells}
+use Rattle.round_nesting.proofs.Numbers.{there, stands, numbered}
+
+module _ (n : Noted) (others : List InstKey) (gs : List GraphInst) (drawn : IsDrawn (root_inst ∷ others) n.spots n.entrances gs) (is : n.insts ≡ root_inst ∷ others) (once : AreOnce n.insts) where
+  abbrev keys : List InstKey
+  keys = root_inst ∷ others
+
+  module _ (words : List ℕ) (A : List Entry) (f : Family) (nesting : IsNestingOf words A f n) where
+    number_is : (inst : InstKey) → FamilyHasInst f inst → IsNumber keys (number_of keys inst) inst
+    number_is inst h = numbered keys inst (subst (λ l. Contains l inst) is ((nesting.insts inst).1 h))
+
+    entered : (i : ℕ) (e : Entered) → graph.EntersAlong gs i e → IsEntered words A f keys i e
+    entered i e h =
+        let x = drawn.edges i e h in
+        let entering = (nesting.entrances x.entrance).0 x.has in
+        record {
+          inst = x.entrance.from;
+          into = x.entrance.into;
+          from = subst (λ j. IsNumber keys j x.entrance.from) x.from (number_is x.entrance.from (entering.node, entering.has, entering.same));
+          to = subst (λ j. IsNumberFor keys j x.entrance.into) x.into (stands keys x.entrance.into);
+          entering = subst (Entering words A f x.entrance.from x.entrance.into) x.at entering;
+        }
+
+    all_entered : (i j : InstKey) (offset : ℕ) → Entering words A f i j offset → HasEntryEdge keys gs i j offset
+    all_entered i j offset entering =
+        let x = drawn.all_edges (record { from = i; into = j; offset = offset }) ((nesting.entrances (record { from = i; into = j; offset = offset })).1 entering) in
+        record {
+          number = number_of keys i;
+          edge = x.edge;
+          enters = x.enters;
+          from = number_is i (entering.node, entering.has, entering.same);
+          to = subst (λ k. IsNumberFor keys k j) x.into (stands keys j);
+          at = sym x.at;
+        }
+
+    places : (i : ℕ) (p : Place) → graph.HasPlace gs i p → IsPlaceIn f keys i p.offset
+    places i p h =
+        let x = drawn.places i p h in
+        let spot = (nesting.spots x.spot).0 x.has in
+        record {
+          node = spot.node;
+          has = spot.has;
+          closed = spot.closed ∙ ap (λ (k : ℕ). Closed k) x.at;
+          of = subst (λ k. IsNumber keys i k) (sym spot.of) (subst (λ j. IsNumber keys j x.spot.inst) x.of (number_is x.spot.inst (spot.node, spot.has, spot.of)));
+        }
+
+    all_places : (node : Node) (offset : ℕ) → FamilyHas f node → node.key.sp ≡ Closed offset → HasNodePlace keys gs node.key.inst offset
+    all_places node offset has closed =
+        let x = drawn.all_places (record { inst = node.key.inst; offset = offset })
+        ((nesting.spots (record { inst = node.key.inst; offset = offset })).1 (record { node = node; has = has; of = refl; closed = closed })) in
+        record { number = number_of keys node.key.inst; place = x.place; has = x.has; of = number_is node.key.inst (node, has, refl); at = sym x.at }
+
+    pub is_graph_of : IsGraphOver words A f keys gs
+    is_graph_of = record {
+      is_graph = drawn.is_graph;
+      inside = omega (arith, drawn.count);
+      root = refl;
+      keyed = drawn.keyed;
+      once = subst AreOnce is once;
+      numbered = λ inst h. (number_of keys inst, number_is inst h);
+      entered = entered;
+      all_entered = all_entered;
+      places = places;
+      all_places = all_places;
+    }
+
+  pub tells_all : (size : ℕ) (w : NestingVerdict) → GraphTells size gs w → TellsAll size n w
+  tells_all size w tells words A f sized root nesting = tells words A f keys sized (is_graph_of words A f nesting)
+
+-- ---- from the graph
+
+module _ (tell : GraphsTell) (gs : List GraphInst) where
+  module _ (at : ℕ) (g : GraphInst) (is : slice_get gs at ≡ Some g) (named : IsNamed gs at) where
+    number : (words : List ℕ) (A : List Entry) (f : Family) (keys : List InstKey) → IsGraphOver words A f keys gs → IsNumber keys at g.key
+    number words A f keys of =
+        let k = there keys at (tell.named words A f keys gs at of named) in
+        k.1 ∙ ap (λ (x : InstKey). Some x) (sym (of.keyed at g k.0 is k.1))
+
+    pub re_entry : (v : ℕ) → g.key.kind ≡ Vector v → (size : ℕ) → GraphTells size gs (ReEntry v g.key.entry)
+    re_entry v kind size words A f keys sized of = tell.re_entry words A f keys gs at v g.key of named (number words A f keys of) kind
+
+    pub recursion : group_of g.key.kind ≡ 1 → (size : ℕ) → GraphTells size gs (Recursion g.key.entry)
+    recursion one size words A f keys sized of = tell.recursion words A f keys gs at g.key of named (number words A f keys of) one
+
+  module _ (ranks needs : List ℕ) (least : IsLeast gs ranks needs) (acyclic : (i : ℕ) → graph.ReachesBy gs i i → ⊥) where
+    pub nests : (size : ℕ) → slice_index needs 0 ≤ size → GraphTells size gs Nests
+    nests size le words A f keys sized of =
+        let root = tell.root words A f keys gs ranks needs of least in
+        (tell.acyclic words A f keys gs of acyclic, record { need = root.need; are = root.are; small = omega (arith, root.is, le, sized) })
+
+    pub too_deep : (size : ℕ) → size < slice_index needs 0 → GraphTells size gs (TooDeep (slice_index needs 0))
+    too_deep size lt words A f keys sized of = (tell.acyclic words A f keys gs of acyclic, tell.root words A f keys gs ranks needs of least, omega (arith, lt, sized))
+
+-- ---- a named instance is there
+
+starts : (gs : List GraphInst) (i j : ℕ) → graph.ReachesBy gs i j → (g : GraphInst) × (slice_get gs i ≡ Some g)
+starts gs _ _ (graph.once a e h) = (h.inst, h.is)
+starts gs _ _ (graph.more a b e h rest) = (h.inst, h.is)
+
+pub named_within : (gs : List GraphInst) (at : ℕ) → IsNamed gs at → at < length gs
+named_within gs at named = let g = starts gs at at named.reaches in slice_get_within gs at g.0 g.1
+
+pub named_is : (gs : List GraphInst) (at : ℕ) (d : GraphInst) → IsNamed gs at → slice_get gs at ≡ Some (slice_index_or gs at d)
+named_is gs at d named = slice_get-get_or gs at d (named_within gs at named)

@@ -1,0 +1,55 @@
+-- Allowances: ranks and needs of instances that leave room for more than is noted.
+use Rattle.std.specs.Prelude.{ℕ, ◌+◌, ◌≡◌, ◌<◌, ◌≤◌, Bool, true, List, Option, Some, Contains}
+use Rattle.std.specs.Map.{lookup}
+use Rattle.mask_states.specs.declared.keys.InstKey.{InstKey}
+use Rattle.mask_states.specs.Keys.{root_inst}
+use Rattle.mask_states.specs.Order.{same_inst}
+use Rattle.round_nesting.specs.declared.allowances.Allowance.{Allowance}
+use Rattle.round_nesting.specs.Nestings.{Spot, Entrance}
+use Rattle.round_nesting.specs.Drawn.{AreOthersApart}
+
+abbrev pub Granted : Type 0
+Granted = List (InstKey × Allowance)
+
+-- what an instance is allowed, if it has an allowance
+abbrev pub allowed : Granted → InstKey → Option Allowance
+allowed gs inst = lookup (same_inst inst) gs
+
+-- what the first is allowed covers that it enters the second at this offset
+pub record Allows (from into : Allowance) (offset : ℕ) : Type 0 where
+  pub rank : into.rank < from.rank
+  pub need : offset + 2 + into.need ≤ from.need
+
+-- the root is allowed no more than so many bytes
+pub record AllowsRoot (gs : Granted) (size : ℕ) : Type 0 where
+  pub most : Allowance
+  pub is : allowed gs root_inst ≡ Some most
+  pub fits : most.need ≤ size
+
+-- the spot's instance is allowed its offset
+pub record AllowsSpot (gs : Granted) (s : Spot) : Type 0 where
+  pub most : Allowance
+  pub is : allowed gs s.inst ≡ Some most
+  pub fits : s.offset ≤ most.need
+
+-- what both instances are allowed covers the entrance
+pub record AllowsEntrance (gs : Granted) (x : Entrance) : Type 0 where
+  pub from : Allowance
+  pub into : Allowance
+  pub is_from : allowed gs x.from ≡ Some from
+  pub is_into : allowed gs x.into ≡ Some into
+  pub allows : Allows from into x.offset
+
+-- what is allowed covers all spots and entrances
+pub record CoversNoted (gs : Granted) (spots : List Spot) (entrances : List Entrance) : Type 0 where
+  pub each_spot : (s : Spot) → Contains spots s → AllowsSpot gs s
+  pub each_entrance : (x : Entrance) → Contains entrances x → AllowsEntrance gs x
+
+-- each instance that had an allowance keeps it
+abbrev pub AreAllowancesKept : Granted → Granted → Type 0
+AreAllowancesKept gs new = (inst : InstKey) (most : Allowance) → allowed gs inst ≡ Some most → allowed new inst ≡ Some most
+
+-- the other instances are apart from the root, and where the nesting says so, its allowances cover what is noted
+pub record IsCoverKept (covered : Bool) (gs : Granted) (others : List InstKey) (spots : List Spot) (entrances : List Entrance) : Type 0 where
+  pub apart : AreOthersApart others
+  pub covers : covered ≡ true → CoversNoted gs spots entrances

@@ -1,0 +1,94 @@
+-- The nesting of a family's instances: what is noted of it, and what it tells. Source: own.
+use Rattle.std.specs.Prelude.{ℕ, ◌≡◌, ◌<◌, ◌≤◌, ◌↔◌, ◌⊎◌, List, [], length, Contains, Some, slice_get}
+use Rattle.std.specs.FinMap.{len}
+use Rattle.avr_model.specs.declared.assumption.Entry.{Entry}
+use Rattle.avr_model.specs.Devices.{device_of, size_of}
+use Rattle.mask_states.specs.declared.keys.InstKey.{InstKey}
+use Rattle.mask_states.specs.declared.keys.NodeKey.{NodeKey}
+use Rattle.mask_states.specs.declared.keys.SpForm.TheVariants.{Closed}
+use Rattle.mask_states.specs.Keys.{root_inst, offset_of}
+use Rattle.local_rules.specs.declared.local.Node.{Node}
+use Rattle.round_rules.specs.Families.{Family, FamilyHas, FamilyHasInst}
+use Rattle.round_rules.specs.Rounds.{Entering, IsAcyclic, IsRootNeed, IsShallow}
+use Rattle.round_rules.specs.Refusals.{IsReEntry, IsRecursion}
+use Rattle.round_nesting.specs.declared.verdict.NestingVerdict.{NestingVerdict}
+use Rattle.round_nesting.specs.declared.verdict.NestingVerdict.TheVariants.{Nests, ReEntry, Recursion, TooDeep}
+
+-- ---- what is noted
+
+-- an instance has a node with a whole stack pointer at this offset
+pub record Spot : Type 0 where
+  pub inst : InstKey
+  pub offset : ℕ
+
+-- a node of one instance, at this offset, enters another
+pub record Entrance : Type 0 where
+  pub from : InstKey
+  pub into : InstKey
+  pub offset : ℕ
+
+-- the instances that have nodes, these nodes' offsets, and which enters which
+pub record Noted : Type 0 where
+  pub insts : List InstKey
+  pub spots : List Spot
+  pub entrances : List Entrance
+
+abbrev pub nothing : Noted
+nothing = record { insts = []; spots = []; entrances = [] }
+
+-- each instance is noted once
+abbrev pub AreOnce : List InstKey → Type 0
+AreOnce insts = (i j : ℕ) (inst : InstKey) → slice_get insts i ≡ Some inst → slice_get insts j ≡ Some inst → i ≡ j
+
+-- a node of this key was noted besides
+pub record IsNodeNoted (old : Noted) (key : NodeKey) (new : Noted) : Type 0 where
+  pub insts : (inst : InstKey) → Contains new.insts inst ↔ (Contains old.insts inst ⊎ (inst ≡ key.inst))
+  pub spots : (s : Spot) → Contains new.spots s ↔ (Contains old.spots s ⊎ ((s.inst ≡ key.inst) × (key.sp ≡ Closed s.offset)))
+  pub entrances : (e : Entrance) → Contains new.entrances e ↔ Contains old.entrances e
+
+-- the entrance of this instance from a node of this key was noted besides
+pub record HasEntrance (old : Noted) (key : NodeKey) (into : InstKey) (new : Noted) : Type 0 where
+  pub insts : (inst : InstKey) → Contains new.insts inst ↔ Contains old.insts inst
+  pub spots : (s : Spot) → Contains new.spots s ↔ Contains old.spots s
+  pub entrances : (e : Entrance) → Contains new.entrances e
+      ↔ (Contains old.entrances e ⊎ (e ≡ record { from = key.inst; into = into; offset = offset_of key.sp }))
+
+-- as much is noted of one as of the other
+pub record AreAlike (m n : Noted) : Type 0 where
+  pub insts : (inst : InstKey) → Contains m.insts inst ↔ Contains n.insts inst
+  pub spots : (s : Spot) → Contains m.spots s ↔ Contains n.spots s
+  pub entrances : (e : Entrance) → Contains m.entrances e ↔ Contains n.entrances e
+
+-- ---- of which family
+
+-- a node of the instance has a whole stack pointer at this offset
+pub record IsSpotOf (f : Family) (s : Spot) : Type 0 where
+  pub node : Node
+  pub has : FamilyHas f node
+  pub of : node.key.inst ≡ s.inst
+  pub closed : node.key.sp ≡ Closed s.offset
+
+-- what is noted is what the family has
+pub record IsNestingOf (words : List ℕ) (A : List Entry) (f : Family) (n : Noted) : Type 0 where
+  pub insts : (inst : InstKey) → Contains n.insts inst ↔ FamilyHasInst f inst
+  pub spots : (s : Spot) → Contains n.spots s ↔ IsSpotOf f s
+  pub entrances : (e : Entrance) → Contains n.entrances e ↔ Entering words A f e.from e.into e.offset
+
+-- ---- what it tells
+
+abbrev pub VerdictTells : List ℕ → List Entry → Family → NestingVerdict → Type 0
+VerdictTells words A f Nests = IsAcyclic words A f × IsShallow words A f
+VerdictTells words A f (ReEntry v word) = IsReEntry words A f v word
+VerdictTells words A f (Recursion word) = IsRecursion words A f word
+VerdictTells words A f (TooDeep d) = IsAcyclic words A f × IsRootNeed words A f d × (size_of (device_of words) < d)
+
+-- of each family of which it is the nesting, in which the root has a node, and whose device's SRAM has so many bytes
+abbrev pub TellsAll : ℕ → Noted → NestingVerdict → Type 0
+TellsAll size n w =
+    (words : List ℕ) (A : List Entry) (f : Family) → size_of (device_of words) ≡ size → FamilyHasInst f root_inst → IsNestingOf words A f n → VerdictTells words A f w
+
+-- ---- laws
+
+-- no more instances are noted than the family has nodes
+abbrev pub NestingsAreSmall : Type 0
+NestingsAreSmall = (words : List ℕ) (A : List Entry) (f : Family) (n : Noted) → IsNestingOf words A f n → AreOnce n.insts → length n.insts ≤ len f

@@ -1,0 +1,116 @@
+//! The graph of what is noted.
+
+ghost use Rattle.std.specs.Prelude.{◌≡◌, ◌+◌, ◌≤◌, ◌∷◌, [], List, length, IfOk, OnOk};
+ghost use Rattle.indexmap.specs.IndexSet.{index_set_len};
+ghost use Rattle.mask_states.specs.Keys.{root_inst};
+ghost use Rattle.round_nesting.specs.Nestings.{Spot};
+ghost use Rattle.round_nesting.specs.Drawn.{number_of, IsDrawn};
+
+use crate::notes::{NotedEntrance, NotedInst, NotedSpot};
+use avr_model::listed::Listed;
+use indexmap::IndexSet;
+use mask_states::{EdgeKind, InstKey};
+use nesting_bound::{Entered, Graph, GraphInst, Place};
+use std::alloc::{AllocError, Global};
+
+// The number of an instance: the root's is 0, the others' are by their order, and one that is not noted goes by the number behind all.
+pub(crate) fn number(others: &IndexSet<NotedInst>, inst: &InstKey) -> usize
+    ensures is { result ≡ number_of (root_inst ∷ others.now.keys) inst.now }
+    ensures within { result ≤ index_set_len others.now + 1 }
+{
+    if *inst == InstKey::root() {
+        return 0;
+    }
+    let count = others.len();
+    match others.get_index_of(&NotedInst { key: *inst }) {
+        Some(at) => at + 1,
+        None => count + 1,
+    }
+}
+
+// An instance with no places and edges yet.
+fn bare(alloc: Global, key: InstKey) -> GraphInst
+    ensures { result ≡ record { key = key; offsets = []; entered = [] } }
+{
+    GraphInst {
+        key,
+        offsets: Listed::empty(alloc),
+        entered: Listed::empty(alloc),
+    }
+}
+
+// The instances of the graph, and one more for all that have no number.
+fn instances(alloc: Global, others: &IndexSet<NotedInst>) -> Result<Vec<GraphInst>, AllocError>
+    requires { index_set_len others.now ≤ 65535 }
+    ensures { IfOk result (λ gs. IsDrawn (root_inst ∷ others.now.keys) [] [] gs.items) }
+{
+    let mut instances = Vec::new(alloc);
+    instances.push(bare(alloc, InstKey::root()))?;
+    for other in others.as_slice() {
+        instances.push(bare(alloc, other.key))?;
+    }
+    instances.push(bare(alloc, InstKey::root()))?;
+    Ok(instances)
+}
+
+// The places of spots. What tells the nodes of an instance apart is not noted.
+fn draw_spots(
+    others: &IndexSet<NotedInst>,
+    spots: &[NotedSpot],
+    instances: &mut [GraphInst],
+) -> Result<(), AllocError>
+    requires few { index_set_len others.now ≤ 65535 }
+    requires drawn { IsDrawn (root_inst ∷ others.now.keys) [] [] instances.old }
+    ensures count { length instances.new ≡ length instances.old }
+    ensures drawn { OnOk result (IsDrawn (root_inst ∷ others.now.keys) spots.now [] instances.new) }
+{
+    for spot in spots {
+        let at = number(others, spot.inst());
+        instances[at].offsets.push(Place {
+            node: 0,
+            offset: spot.offset(),
+        })?;
+    }
+    Ok(())
+}
+
+// The edges of entrances. The kind of an edge does not count.
+fn draw_entrances(
+    others: &IndexSet<NotedInst>,
+    entrances: &[NotedEntrance],
+    instances: &mut [GraphInst],
+) -> Result<(), AllocError>
+    requires few { index_set_len others.now ≤ 65535 }
+    requires count { length instances.old ≡ index_set_len others.now + 2 }
+    ensures { (spots : List Spot) → IsDrawn (root_inst ∷ others.now.keys) spots [] instances.old → OnOk result (IsDrawn (root_inst ∷ others.now.keys) spots entrances.now instances.new) }
+{
+    for entrance in entrances {
+        let into = number(others, entrance.into()) as u32;
+        let from = number(others, entrance.from());
+        instances[from].entered.push(Entered {
+            node: 0,
+            offset: entrance.offset(),
+            kind: EdgeKind::Call,
+            into,
+        })?;
+    }
+    Ok(())
+}
+
+// The graph of the root and these other instances.
+pub(crate) fn drawn(
+    alloc: Global,
+    others: &IndexSet<NotedInst>,
+    spots: &[NotedSpot],
+    entrances: &[NotedEntrance],
+) -> Result<Graph, AllocError>
+    requires { index_set_len others.now ≤ 65535 }
+    ensures { IfOk result (λ graph. IsDrawn (root_inst ∷ others.now.keys) spots.now entrances.now graph.instances) }
+{
+    let mut instances = instances(alloc, others)?;
+    draw_spots(others, spots, instances.as_mut_slice())?;
+    draw_entrances(others, entrances, instances.as_mut_slice())?;
+    Ok(Graph {
+        instances: Listed::new(instances),
+    })
+}

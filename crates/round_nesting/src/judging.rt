@@ -1,0 +1,92 @@
+//! What the graph of what is noted tells.
+
+ghost use Rattle.std.specs.Prelude.{◌≤◌, ℕ, IfOk, true};
+ghost use Rattle.indexmap.specs.IndexSet.{index_set_len};
+ghost use Rattle.nesting_bound.specs.Graph.{IsGraph};
+ghost use Rattle.nesting_bound.specs.Cycle.{IsNamed};
+ghost use Rattle.round_nesting.specs.Drawn.{insts_of, AreOthersApart, GraphTells};
+ghost use Rattle.round_nesting.specs.Nestings.{TellsAll};
+
+use crate::allowances::Allowances;
+use crate::drawing::drawn;
+use crate::notes::{NotedEntrance, NotedInst, NotedSpot};
+use crate::verdict::NestingVerdict;
+use indexmap::IndexSet;
+use mask_states::{InstKey, Kind};
+use nesting_bound::{ComposeFault, Graph, GraphInst, compose};
+use round_laws::graphs::graphs_tell;
+use std::alloc::{AllocError, Global};
+
+// How an instance that reaches itself is named.
+fn named(graph: &[GraphInst], at: u32) -> NestingVerdict
+    requires { IsNamed graph.now at }
+    ensures { (size : ℕ) → GraphTells size graph.now result }
+{
+    graphs_tell();
+    let key = &graph[at as usize].key;
+    match key.kind {
+        Kind::Vector(vector) => NestingVerdict::ReEntry(vector, key.entry),
+        Kind::Root | Kind::Call => NestingVerdict::Recursion(key.entry),
+    }
+}
+
+// What a nesting tells of the family, and where instances nest, what each is allowed.
+#[derive(Drop)]
+pub(crate) struct JudgedNesting {
+    pub verdict: NestingVerdict,
+    pub allowances: Allowances,
+}
+
+// What the graph of a family tells on a device whose SRAM has so many bytes.
+fn judge_graph(
+    alloc: Global,
+    graph: &Graph,
+    others: &IndexSet<NotedInst>,
+    entrances: &IndexSet<NotedEntrance>,
+    size: u16,
+) -> Result<JudgedNesting, AllocError>
+    requires { IsGraph graph.now.instances }
+    ensures { IfOk result (λ w. GraphTells size graph.now.instances w.verdict) }
+{
+    graphs_tell();
+    let composed = match compose(alloc, graph) {
+        Ok(composed) => composed,
+        Err(ComposeFault::Cycle(at)) => {
+            return Ok(JudgedNesting {
+                verdict: named(graph.instances.as_slice(), at),
+                allowances: Allowances::none(alloc),
+            });
+        }
+        Err(ComposeFault::Memory) => return Err(AllocError),
+    };
+    let need = composed.need(0);
+    if need > u32::from(size) {
+        return Ok(JudgedNesting {
+            verdict: NestingVerdict::TooDeep(need),
+            allowances: Allowances::none(alloc),
+        });
+    }
+    let allowances = Allowances::over(alloc, &composed, others, entrances, size)?;
+    Ok(JudgedNesting {
+        verdict: NestingVerdict::Nests,
+        allowances,
+    })
+}
+
+// What is noted of a family whose root has a node tells on a device whose SRAM has so many bytes.
+pub(crate) fn judge_noted(
+    alloc: Global,
+    others: &IndexSet<NotedInst>,
+    spots: &IndexSet<NotedSpot>,
+    entrances: &IndexSet<NotedEntrance>,
+    size: u16,
+) -> Result<JudgedNesting, AllocError>
+    requires few { index_set_len others.now ≤ 65535 }
+    requires apart { AreOthersApart others.now.keys }
+    ensures { IfOk result (λ w. TellsAll size (record { insts = insts_of true others.now.keys; spots = spots.now.keys; entrances = entrances.now.keys }) w.verdict) }
+{
+    let graph = drawn(alloc, others, spots.as_slice(), entrances.as_slice())?;
+    let judged = judge_graph(alloc, &graph, others, entrances, size);
+    drop(graph);
+    judged
+}

@@ -1,0 +1,143 @@
+//! The nesting of a family's instances.
+
+ghost use Rattle.std.specs.Prelude.{◌≡◌, ◌≤◌, length, IfOk, OnOk};
+ghost use Rattle.avr_model.specs.State.{SIZE};
+ghost use Rattle.mask_states.specs.Keys.{offset_of};
+ghost use Rattle.round_nesting.specs.Nestings.{Noted, nothing, AreOnce, IsNodeNoted, HasEntrance, AreAlike, TellsAll};
+ghost use Rattle.round_nesting.specs.Drawn.{insts_of, AreOthersApart, HasMore};
+
+use crate::allowances::Allowances;
+use crate::judging::judge_noted;
+use crate::notes::{NotedEntrance, NotedInst, NotedSpot};
+use crate::verdict::NestingVerdict;
+use indexmap::IndexSet;
+use mask_states::{InstKey, NodeKey, SpForm};
+use std::alloc::{AllocError, Global};
+use std::marker::Model;
+
+/// Which instances of a family have nodes, at which offsets these stand, and which instance enters which. Seen as what was noted.
+#[derive(Drop)]
+pub struct Nesting {
+    alloc: Global,
+    covered: bool,
+    allowances: Allowances,
+    has_root: bool,
+    others: IndexSet<NotedInst>,
+    spots: IndexSet<NotedSpot>,
+    entrances: IndexSet<NotedEntrance>,
+}
+
+impl Model for Nesting {
+    ghost use Rattle.round_nesting.specs.Nestings.{Noted};
+    ghost use Rattle.round_nesting.specs.Drawn.{insts_of};
+    ghost use Rattle.round_nesting.specs.Covers.{IsCoverKept};
+
+    ghost Value = { Noted };
+
+    ghost view = { λ n. record { insts = insts_of n.has_root n.others.keys; spots = n.spots.keys; entrances = n.entrances.keys } };
+
+    ghost invariant = { λ n. IsCoverKept n.covered n.allowances.map.entries n.others.keys n.spots.keys n.entrances.keys };
+}
+
+// Keeps an instance, if it is new.
+fn keep_inst(
+    has_root: &mut bool,
+    others: &mut IndexSet<NotedInst>,
+    inst: &InstKey,
+) -> Result<(), AllocError>
+    requires apart { AreOthersApart others.old.keys }
+    ensures apart { AreOthersApart others.new.keys }
+    ensures more { OnOk result (HasMore (insts_of has_root.old others.old.keys) inst.now (insts_of has_root.new others.new.keys)) }
+{
+    if *inst == InstKey::root() {
+        *has_root = true;
+        return Ok(());
+    }
+    others.insert(NotedInst { key: *inst })?;
+    Ok(())
+}
+
+impl Nesting {
+    /// Nothing noted.
+    pub fn new(alloc: Global) -> Nesting
+        ensures { result ≡ nothing }
+    {
+        Nesting {
+            alloc,
+            covered: false,
+            allowances: Allowances::none(alloc),
+            has_root: false,
+            others: IndexSet::new(alloc),
+            spots: IndexSet::new(alloc),
+            entrances: IndexSet::new(alloc),
+        }
+    }
+
+    /// How many instances are noted.
+    pub fn count(&self) -> usize
+        ensures { result ≡ length self.now.insts }
+    {
+        let others = self.others.len();
+        if self.has_root { others + 1 } else { others }
+    }
+
+    /// Notes a node: its instance, and its offset where its stack pointer is whole. It may be noted before.
+    pub fn note_node(&mut self, key: &NodeKey) -> Result<(), AllocError>
+        requires { offset_of key.now.sp ≤ SIZE }
+        ensures node { OnOk result (IsNodeNoted self.old key.now self.new) }
+        ensures once { OnOk result (AreOnce self.new.insts) }
+    {
+        let covered = self.covered;
+        self.covered = false;
+        keep_inst(&mut self.has_root, &mut self.others, &key.inst)?;
+        match key.sp {
+            SpForm::Closed(offset) => {
+                let spot = NotedSpot::new(key.inst, offset);
+                let covered = covered && self.allowances.allow_spot(&spot);
+                self.spots.insert(spot)?;
+                self.covered = covered;
+                Ok(())
+            }
+            SpForm::Open(_, _) => {
+                self.covered = covered;
+                Ok(())
+            }
+        }
+    }
+
+    /// Notes that a node of this key, whose stack pointer is whole, enters an instance. It may be noted before.
+    pub fn note_entrance(&mut self, key: &NodeKey, into: &InstKey) -> Result<(), AllocError>
+        requires { offset_of key.now.sp ≤ SIZE }
+        ensures entrance { OnOk result (HasEntrance self.old key.now into.now self.new) }
+        ensures once { OnOk result (AreOnce self.new.insts) }
+    {
+        let entrance = NotedEntrance::new(key.inst, *into, key.offset());
+        let covered = self.covered;
+        self.covered = false;
+        self.allowances.leave(&entrance)?;
+        let covered = covered && self.allowances.allow_entrance(&entrance);
+        self.entrances.insert(entrance)?;
+        self.covered = covered;
+        Ok(())
+    }
+
+    /// What the nesting tells of the family on a device whose SRAM has so many bytes. What was noted stays. Where the root has no node,
+    /// nothing is told.
+    pub fn judge(&mut self, size: u16) -> Result<NestingVerdict, AllocError>
+        requires { length self.old.insts ≤ 65536 }
+        ensures tells { IfOk result (λ w. TellsAll size self.old w) }
+        ensures same { AreAlike self.old self.new }
+        ensures once { AreOnce self.new.insts }
+    {
+        if self.covered && self.allowances.allow_root(size) {
+            return Ok(NestingVerdict::Nests);
+        }
+        if !self.has_root {
+            return Ok(NestingVerdict::Nests);
+        }
+        let judged = judge_noted(self.alloc, &self.others, &self.spots, &self.entrances, size)?;
+        self.covered = judged.allowances.cover(&self.spots, &self.entrances);
+        self.allowances = judged.allowances;
+        Ok(judged.verdict)
+    }
+}

@@ -1,0 +1,208 @@
+-- The graph of a solved family, as its list of nodes gives it.
+use Rattle.std.proofs.Common.{◌≡◌, refl, sym, ap, ◌∙◌, subst, ℕ, zero, suc, ◌<◌, ◌≤◌, inl, List, [], ◌∷◌, length, Some, Contains, slice_get, arith}
+use Rattle.std.proofs.lemmas.List.{length-map}
+use Rattle.std.proofs.lemmas.Option.{none-some, same_Some}
+use Rattle.std.specs.FinMap.{entries, len-entries}
+use Rattle.basics.specs.Lists.{one_at, get_inside}
+use Rattle.basics.specs.Items.{contained_at, get_contained}
+use Rattle.family_graph.proofs.Graphs.{keys_long}
+use Rattle.avr_model.specs.declared.assumption.Entry.{Entry}
+use Rattle.avr_model.specs.Assumptions.{has_pairs}
+use Rattle.abs_state.specs.Frames.{entered}
+use Rattle.mask_states.specs.declared.keys.EdgeKind.{EdgeKind}
+use Rattle.mask_states.specs.declared.keys.InstKey.{InstKey}
+use Rattle.mask_states.specs.declared.keys.Kind.{Kind}
+use Rattle.mask_states.specs.declared.keys.Kind.TheVariants.{Root, Call, Vector}
+use Rattle.mask_states.specs.declared.keys.NodeKey.{NodeKey}
+use Rattle.mask_states.specs.declared.keys.SpForm.TheVariants.{Closed}
+use Rattle.mask_states.specs.Keys.{root_inst, entry_key, offset_of}
+use Rattle.mask_states.specs.Order.{inst_cmp}
+use Rattle.local_rules.specs.declared.local.Node.{Node}
+use Rattle.edge_rules.specs.declared.edge.Edge.{Edge}
+use Rattle.edge_rules.specs.Edges.{IsFaultless, Enters, by_call, by_interrupt, entering}
+use Rattle.edge_rules.specs.Views.{AreShown}
+use Rattle.edge_laws.specs.Laws.{with_state}
+use Rattle.nesting_bound.specs.declared.graph.Entered.{Entered}
+use Rattle.nesting_bound.specs.declared.graph.GraphInst.{GraphInst}
+use Rattle.nesting_bound.specs.declared.graph.Place.{Place}
+use Rattle.nesting_bound.specs.Graph as graph
+use Rattle.nesting_bound.specs.Cycle.{IsNamed, group_of}
+use Rattle.family_graph.specs.Graphs.{insts_of, IsPeopled, IsGraphOf}
+use Rattle.round_laws.specs.Graphs as told
+use Rattle.round_laws.specs.Graphs.{IsNumber}
+use Rattle.round_laws.proofs.GraphLaws.{graphs_tell}
+use Rattle.certificate.specs.Valid.{reset_node}
+use Rattle.round_rules.specs.Families.{Family, node_of, nodes_of, FamilyHas, FamilyHasInst}
+use Rattle.round_rules.specs.Rounds.{Entering}
+use Rattle.round_rules.specs.Refusals.{IsSolved}
+use Rattle.round_laws.proofs.AllLaws.{has_member, member_has, formed_nodes, comes_root}
+use Rattle.round_solutions.specs.Laws.{SolvedFamiliesAreShown, GraphsAreAcyclic}
+use Rattle.round_solutions.proofs.Order.{ascending, before, inst_once, root_inst_first}
+use Rattle.round_solutions.proofs.Lone.{formed}
+
+-- the key of an instance is that of its number
+pub key_is : (gs : List GraphInst) (i : ℕ) (g : GraphInst) → slice_get gs i ≡ Some g → IsNumber (insts_of gs) i g.key
+key_is [] i g e = absurd (none-some g e)
+key_is (x ∷ xs) zero g e = ap Some (ap (λ (y : GraphInst). y.key) (same_Some x g e))
+key_is (x ∷ xs) (suc i) g e = key_is xs i g e
+
+-- only a node with a whole stack pointer enters an instance
+closed_at : (words : List ℕ) (A : List Entry) (n : Node) (way : EdgeKind) (inst : InstKey) (back : ℕ) → Enters words A n way inst back → (offset : ℕ) × (n.key.sp ≡ Closed offset)
+closed_at words A n _ _ _ (by_call offset site clean form member) = (offset, form)
+closed_at words A n _ _ _ (by_interrupt offset v clears clean form i delay enabled allowed clearable) = (offset, form)
+
+module _ (words : List ℕ) (A : List Entry) (n : ℕ) (f : Family) (solved : IsSolved words A n f) where
+  abbrev nodes : List Node
+  nodes = nodes_of f
+
+  shown : AreShown nodes
+  shown = record { followed = has_pairs A; ascending = ascending f; all = formed_nodes f (formed words A n f solved) }
+
+  -- the root's node is among them
+  root_has : (m : Node) × (FamilyHas f m × (m.key ≡ entry_key root_inst))
+  root_has = let l = comes_root words A n f solved.comes in (with_state (reset_node A) l.at, (l.is, refl))
+
+  some : 0 < length nodes
+  some = let i = member_has f root_has.0 root_has.1.0 in omega (arith, i.1)
+
+  pub few : length nodes ≤ 65536
+  few = omega (arith, length-map (entries f) node_of, len-entries f, solved.passes.fits.few_nodes)
+
+  faultless : (m : Node) → Contains nodes m → IsFaultless words A m
+  faultless m i = solved.passes.faultless m (has_member f m i)
+
+  peopled : IsPeopled words A nodes
+  peopled m way into back i enters =
+      let e : Edge = record { kind = way; to = entry_key into; state = entered m.state } in
+      let l = solved.closed m e (has_member f m i) (entering way into back enters) in
+      let x : Node = record { key = entry_key into; state = l.at } in
+      (x, (member_has f x l.is, refl))
+
+  module _ (gs : List GraphInst) (is_graph : graph.IsGraph gs) (of : IsGraphOf words A nodes gs) where
+    abbrev keys : List InstKey
+    keys = insts_of gs
+
+    number_in : (inst : InstKey) → Contains keys inst → (i : ℕ) × IsNumber keys i inst
+    number_in inst h = (h.0, get_contained keys inst h)
+
+    pub numbered : (inst : InstKey) → FamilyHasInst f inst → (i : ℕ) × IsNumber keys i inst
+    numbered inst h = number_in inst ((of.insts inst).1 (h.0, member_has f h.0 h.1, h.2))
+
+    root_at : IsNumber keys 0 root_inst
+    root_at =
+        let h = numbered root_inst (root_has.0, root_has.1.0, ap (λ k. k.inst) root_has.1.1) in
+        by h.0 h.1
+      where
+        by : (i : ℕ) → IsNumber keys i root_inst → IsNumber keys 0 root_inst
+        by zero e = e
+        by (suc i) e =
+            let x = get_inside keys 0 (let g = is_graph.some in omega (arith, g, keys_long gs)) in
+            absurd (root_inst_first x.0 (before inst_cmp keys 0 (suc i) x.0 root_inst of.ascending x.1 e (omega arith)))
+
+    -- ---- entries
+
+    graph_entered : (i : ℕ) (e : Entered) → graph.EntersAlong gs i e → told.IsEntered words A f keys i e
+    graph_entered i e h =
+        let x = (of.entered i e).0 h in
+        record {
+          inst = x.inst;
+          into = x.into;
+          from = x.is;
+          to = inl x.leads;
+          entering = record {
+            node = x.entry.node;
+            has = has_member f x.entry.node (contained_at nodes e.node x.entry.node x.entry.at);
+            same = x.entry.same;
+            at = ap offset_of x.entry.closed;
+            way = e.kind;
+            back = x.entry.back;
+            enters = x.entry.enters;
+          };
+        }
+
+    all_entered : (i j : InstKey) (offset : ℕ) → Entering words A f i j offset → told.HasEntryEdge keys gs i j offset
+    all_entered i j offset e =
+        let member = member_has f e.node e.has in
+        let from = numbered i (e.node, e.has, e.same) in
+        let first = peopled e.node e.way j e.back member e.enters in
+        let to = number_in j ((of.insts j).1 (first.0, first.1.0, ap (λ (k : NodeKey). k.inst) first.1.1)) in
+        let c = closed_at words A e.node e.way j e.back e.enters in
+        let same : c.0 ≡ offset = sym (ap offset_of c.1) ∙ e.at in
+        let edge : Entered = record { node = member.0; offset = offset; kind = e.way; into = to.0 } in
+        record {
+          number = from.0;
+          edge = edge;
+          enters = (of.entered from.0 edge).1 record {
+            inst = i;
+            is = from.1;
+            into = j;
+            leads = to.1;
+            entry = record { node = e.node; at = get_contained nodes e.node member; same = e.same; closed = c.1 ∙ ap Closed same; back = e.back; enters = e.enters };
+          };
+          from = from.1;
+          to = inl to.1;
+          at = refl;
+        }
+
+    -- ---- places
+
+    graph_places : (i : ℕ) (p : Place) → graph.HasPlace gs i p → told.IsFamilyPlace f keys i p.offset
+    graph_places i p h =
+        let x = (of.places i p).0 h in
+        record {
+          node = x.place.node;
+          has = has_member f x.place.node (contained_at nodes p.node x.place.node x.place.at);
+          closed = x.place.closed;
+          of = subst (λ (k : InstKey). IsNumber keys i k) (sym x.place.same) x.is;
+        }
+
+    all_places : (m : Node) (offset : ℕ) → FamilyHas f m → m.key.sp ≡ Closed offset → told.HasNodePlace keys gs m.key.inst offset
+    all_places m offset has closed =
+        let member = member_has f m has in
+        let number = numbered m.key.inst (m, has, refl) in
+        let p : Place = record { node = member.0; offset = offset } in
+        record {
+          number = number.0;
+          place = p;
+          has = (of.places number.0 p).1 record { inst = m.key.inst; is = number.1; place = record { node = m; at = get_contained nodes m member; same = refl; closed = closed } };
+          of = number.1;
+          at = refl;
+        }
+
+    -- ---- the graph
+
+    keyed : (i : ℕ) (g : GraphInst) (inst : InstKey) → slice_get gs i ≡ Some g → IsNumber keys i inst → g.key ≡ inst
+    keyed i g inst e d = one_at keys i g.key inst (key_is gs i g e) d
+
+    pub graph_is : told.IsGraphOver words A f keys gs
+    graph_is = record {
+      is_graph = is_graph;
+      inside = omega (arith, keys_long gs);
+      root = root_at;
+      keyed = keyed;
+      once = λ i j inst a b. inst_once keys i j inst of.ascending a b;
+      numbered = numbered;
+      entered = graph_entered;
+      all_entered = all_entered;
+      places = graph_places;
+      all_places = all_places;
+    }
+
+    acyclic : (at : ℕ) → IsNamed gs at → ⊥
+    acyclic at named =
+        let inst = get_inside keys at (graphs_tell.named words A f keys gs at graph_is named) in
+        by inst.0 inst.1 inst.0.kind refl
+      where
+        recursive : (inst : InstKey) → IsNumber keys at inst → group_of inst.kind ≡ 1 → ⊥
+        recursive inst is one = let r = graphs_tell.recursion words A f keys gs at inst graph_is named is one in solved.passes.acyclic r.inst r.reaches
+
+        by : (inst : InstKey) → IsNumber keys at inst → (kind : Kind) → inst.kind ≡ kind → ⊥
+        by inst is Root e = recursive inst is (ap group_of e)
+        by inst is Call e = recursive inst is (ap group_of e)
+        by inst is (Vector v) e = let r = graphs_tell.re_entry words A f keys gs at v inst graph_is named is e in solved.passes.acyclic r.inst r.reaches
+
+pub solved_families_are_shown : SolvedFamiliesAreShown
+solved_families_are_shown = record { shown = shown; some = some; few = few; faultless = faultless; peopled = peopled }
+
+pub graphs_are_acyclic : GraphsAreAcyclic
+graphs_are_acyclic words A n f gs at solved is_graph of named = acyclic words A n f solved gs is_graph of at named

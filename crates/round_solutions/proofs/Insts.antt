@@ -1,0 +1,126 @@
+-- The instances of a solved family are ones that may stand in a certificate.
+use Rattle.std.proofs.Common.{◌≡◌, refl, sym, ap, ◌∙◌, subst, ℕ, ◌^◌, ◌<◌, Bool, true, false, cond, ◌==◌, ◌&&◌, ◌-◌, ◌*◌, not, nat_lt, List, Some, None, arith}
+use Rattle.std.specs.Prelude.{nat_le}
+use Rattle.std.proofs.lemmas.Bool.Decides.{nat_tests}
+use Rattle.std.specs.FinMap.{get, retain_keys, get-retain_keys}
+use Rattle.std.specs.declared.cmp.Ordering.TheVariants.{Equal}
+use Rattle.basics.specs.Numbers.{equals_itself}
+use Rattle.std.proofs.lemmas.Bool.{or_left, or_right}
+use Rattle.avr_model.specs.declared.assumption.Entry.{Entry}
+use Rattle.avr_model.specs.Assumptions.{has_pairs}
+use Rattle.avr_model.specs.Image.{WORDS}
+use Rattle.avr_model.specs.declared.device.Device.{Device}
+use Rattle.avr_model.specs.declared.device.Device.TheVariants.{M48, M88, M168, M328}
+use Rattle.avr_model.specs.Devices.{device_of}
+use Rattle.avr_model.specs.Vectors.{is_enabled, vector_word}
+use Rattle.abs_state.specs.declared.state.AbsState.{AbsState}
+use Rattle.abs_state.proofs.AllLaws.{states_are_ordered}
+use Rattle.mask_states.specs.declared.keys.InstKey.{InstKey}
+use Rattle.mask_states.specs.declared.keys.Kind.TheVariants.{Vector}
+use Rattle.mask_states.specs.declared.keys.EdgeKind.{EdgeKind}
+use Rattle.mask_states.specs.declared.keys.NodeKey.{NodeKey}
+use Rattle.mask_states.specs.Order.{node_cmp}
+use Rattle.local_rules.specs.declared.local.Node.{Node}
+use Rattle.local_rules.specs.Cover.{IsNodeIn}
+use Rattle.local_laws.proofs.AllLaws.{joins_are_least, local_parts_are_nodes}
+use Rattle.edge_rules.specs.declared.edge.Edge.{Edge}
+use Rattle.edge_rules.specs.Edges.{raw_of, Enters, by_call, by_interrupt, IsEdge, moving, entering, returning, target}
+use Rattle.edge_laws.specs.Laws.{with_state}
+use Rattle.edge_laws.proofs.AllLaws.{edges_lead_to_nodes, edges_grow}
+use Rattle.certificate.specs.Insts.{is_vector_word, fits_kind}
+use Rattle.certificate.specs.Valid.{reset_node}
+use Rattle.round_rules.specs.Families.{Family, nodes_of, Lands, Below, AreFormed, FamilyHasInst, HasNoFault, IsClosed}
+use Rattle.round_rules.specs.Refusals.{IsSolved}
+use Rattle.round_laws.proofs.AllLaws.{node_exact, has_member, member_has, lands_covered, formed_nodes, comes_root}
+use Rattle.round_solutions.proofs.Lone.{formed, rounds_below}
+
+-- its kind fits its other parts, and its enable bits are 25
+abbrev pub fits : InstKey → Bool
+fits k = fits_kind k.kind k.entry k.masks k.i && nat_lt k.masks (2 ^ 25)
+
+call_fits : (entry masks : ℕ) → entry < WORDS → masks < 2 ^ 25 → (nat_lt entry WORDS && nat_lt masks (2 ^ 25)) ≡ true
+call_fits entry masks a b = grind (arith, nat_tests)
+
+-- a vector's word on each device is one that an entry may be
+vector_is : (device : Device) (v : ℕ) → is_vector_word v (vector_word device v) ≡ true
+vector_is M48 v = or_right (v - 1 == 2 * (v - 1)) (v - 1 == v - 1) (equals_itself (v - 1))
+vector_is M88 v = or_right (v - 1 == 2 * (v - 1)) (v - 1 == v - 1) (equals_itself (v - 1))
+vector_is M168 v = or_left (2 * (v - 1) == 2 * (v - 1)) (2 * (v - 1) == v - 1) (equals_itself (2 * (v - 1)))
+vector_is M328 v = or_left (2 * (v - 1) == 2 * (v - 1)) (2 * (v - 1) == v - 1) (equals_itself (2 * (v - 1)))
+
+fits_if : (enables v masks : ℕ) (is : Bool) → is_enabled enables v ≡ true → masks < 2 ^ 25 → is ≡ true
+    → (nat_le 2 v && nat_le v 26 && is && not false) && nat_lt masks (2 ^ 25) ≡ true
+fits_if enables v masks is e b t = grind (arith, nat_tests)
+
+vector_fits : (device : Device) (enables v masks : ℕ) → is_enabled enables v ≡ true → masks < 2 ^ 25
+    → fits_kind (Vector v) (vector_word device v) masks false && nat_lt masks (2 ^ 25) ≡ true
+vector_fits device enables v masks e b = fits_if enables v masks (is_vector_word v (vector_word device v)) e b (vector_is device v)
+
+-- an entered instance fits
+entered_fits : {followed : Bool} (words : List ℕ) (A : List Entry) (n : Node) (way : EdgeKind) (inst : InstKey) (back : ℕ) → IsNodeIn followed n.key n.state → Enters words A n way inst back → fits inst ≡ true
+entered_fits words A n way inst back node enters = let to = edges_lead_to_nodes.entries words A n way inst back node enters in by way inst back enters to.word to.masks
+  where
+    by : (way : EdgeKind) (inst : InstKey) (back : ℕ) → Enters words A n way inst back → inst.entry < WORDS → inst.masks < 2 ^ 25 → fits inst ≡ true
+    by _ _ _ (by_call offset site clean form member) word masks = call_fits _ _ word masks
+    by _ _ _ (by_interrupt offset v clears clean form i delay enabled allowed clearable) word masks = vector_fits (device_of words) n.key.masks v _ enabled masks
+
+-- the instance of an edge's target fits where the node's own does
+target_fits : {followed : Bool} (words : List ℕ) (A : List Entry) (nodes : List Node) (n : Node) (e : Edge) → IsNodeIn followed n.key n.state → fits n.key.inst ≡ true → IsEdge words A nodes n e → fits e.to.inst ≡ true
+target_fits words A nodes n _ node own (moving to clean member) =
+    let raw = joins_are_least.keys (raw_of words A n).moves to member in
+    let same = (local_parts_are_nodes.nodes words A n.key n.state raw.0 node clean raw.1.0).0 in
+    subst (λ (k : InstKey). fits k ≡ true) (sym same ∙ ap (λ (k : NodeKey). k.inst) raw.1.1) own
+target_fits words A nodes n _ node own (entering way inst back enters) = entered_fits words A n way inst back node enters
+target_fits words A nodes n _ node own (returning way inst back leaver x state enters present at clean exit is) = own
+
+module _ (words : List ℕ) (A : List Entry) (n : ℕ) (f : Family) (solved : IsSolved words A n f) where
+  abbrev is_fit : NodeKey → Bool
+  is_fit k = fits k.inst
+
+  alike : (q x : NodeKey) → node_cmp q x ≡ Equal → is_fit x ≡ is_fit q
+  alike q x e = ap is_fit (sym (node_exact q x e))
+
+  -- the nodes whose instances fit
+  abbrev h : Family
+  h = retain_keys f is_fit
+
+  got : (q : NodeKey) → get h q ≡ cond (is_fit q) (get f q) None
+  got q = get-retain_keys f is_fit q (λ x e. alike q x e)
+
+  kept : (q : NodeKey) (s : AbsState) → is_fit q ≡ true → get f q ≡ Some s → get h q ≡ Some s
+  kept q s e is = got q ∙ ap (λ b. cond b (get f q) None) e ∙ is
+
+  parts : (q : NodeKey) (s : AbsState) → get h q ≡ Some s → (is_fit q ≡ true) × (get f q ≡ Some s)
+  parts q s e = by (is_fit q) refl (sym (got q) ∙ e)
+    where
+      by : (b : Bool) → is_fit q ≡ b → cond b (get f q) None ≡ Some s → (is_fit q ≡ true) × (get f q ≡ Some s)
+      by true t is = (t, is)
+      by false t is = absurd (cc)
+
+  h_formed : AreFormed (has_pairs A) h
+  h_formed m has = formed words A n f solved m (parts m.key m.state has).1
+
+  h_below : Below h f
+  h_below m has = record { at = m.state; is = (parts m.key m.state has).1; above = states_are_ordered.same m.state }
+
+  h_clean : HasNoFault words A h
+  h_clean m has = solved.passes.faultless m (parts m.key m.state has).1
+
+  lands_h : (m : Node) → is_fit m.key ≡ true → Lands f m → Lands h m
+  lands_h m e l = record { at = l.at; is = kept m.key l.at e l.is; above = l.above }
+
+  h_closed : IsClosed words A h
+  h_closed m e has edge =
+      let p = edges_grow.edges words A (nodes_of h) (nodes_of f) m e (formed_nodes h h_formed) (formed_nodes f (formed words A n f solved))
+      (λ y i. lands_covered f y (h_below y (has_member h y i))) (λ y i. solved.passes.faultless y (has_member f y i)) (member_has h m has) edge in
+      let l = solved.closed (with_state m p.from) (record { kind = e.kind; to = e.to; state = p.landed }) (has_member f (with_state m p.from) p.present) p.is_edge in
+      lands_h (target e) (target_fits words A (nodes_of h) m e (h_formed m has) (parts m.key m.state has).0 edge)
+      (record { at = l.at; is = l.is; above = states_are_ordered.through e.state p.landed l.at p.above l.above })
+
+  h_root : Lands h (reset_node A)
+  h_root = lands_h (reset_node A) refl (comes_root words A n f solved.comes)
+
+  pub insts_fit : (inst : InstKey) → FamilyHasInst f inst → fits inst ≡ true
+  insts_fit inst has =
+      let l = rounds_below words A h h_formed h_clean h_closed h_root n f solved.comes has.0 has.1 in
+      subst (λ (k : InstKey). fits k ≡ true) has.2 (parts has.0.key l.at l.is).0

@@ -1,0 +1,142 @@
+-- One answer.
+use Rattle.std.proofs.Common.{arith, refl, sym, ap, subst, ◌∙◌, ◌≡◌, ◌≢◌, ℕ, ◌<◌, ◌≤◌, List, Option, Some, slice_get}
+use Rattle.std.proofs.lemmas.Option.{slice_get_within, same_Some}
+use Rattle.basics.specs.Lists.{get_inside}
+use Rattle.family_graph.proofs.Alike.{same_lists}
+use Rattle.avr_model.specs.declared.assumption.Entry.{Entry}
+use Rattle.abs_state.specs.declared.state.AbsState.{AbsState}
+use Rattle.mask_states.specs.declared.keys.InstKey.{InstKey}
+use Rattle.mask_states.specs.declared.keys.NodeKey.{NodeKey}
+use Rattle.mask_states.specs.Keys.{root_inst}
+use Rattle.local_rules.specs.declared.local.Node.{Node}
+use Rattle.edge_rules.specs.declared.seeded.NodeForm.{NodeForm}
+use Rattle.edge_rules.specs.declared.seeded.NodeForm.TheVariants.{State, From}
+use Rattle.edge_laws.proofs.ExpansionLaws.{expansions_follow, filled_or_missing}
+use Rattle.certificate.specs.Claims.{Claim, IsClaim}
+use Rattle.certificate.specs.Insts.{inst_keys, rank_in, need_in}
+use Rattle.round_rules.specs.declared.refusal.Refusal.{Refusal}
+use Rattle.round_rules.specs.declared.refusal.Refusal.TheVariants as refusal
+use Rattle.round_rules.specs.Families.{Family, nodes_of}
+use Rattle.round_rules.specs.Refusals.{GoesBeyond}
+use Rattle.round_rules.specs.Solutions.{IsSolution, IsWithinBudget, IsAnswer, IsRefusal, IsWhyNot}
+use Rattle.round_laws.proofs.AllLaws.{rounds_end_once}
+use Rattle.round_solutions.proofs.Parts.{same_insts, same_seeds}
+use Rattle.round_solutions.specs.Answers.{AnswersAreOne}
+
+from_is : (s : AbsState) (m : ℕ) → State s ≡ From m → ⊥
+from_is s m e = cc
+
+state_is : (s t u : AbsState) → u ≡ s → u ≡ t → State s ≡ State t
+state_is s t u a b = cc
+
+module _ (words : List ℕ) (A : List Entry) (f : Family) (c d : Claim) (claim_c : IsClaim c) (claim_d : IsClaim d) (has_c : IsSolution words A f c) (has_d : IsSolution words A f d) where
+  keys : inst_keys c.instances ≡ inst_keys d.instances
+  keys = same_lists (inst_keys c.instances) (inst_keys d.instances) claim_c.insts_ascend claim_d.insts_ascend
+      (λ k h. (has_d.instances k).1 ((has_c.instances k).0 h)) (λ k h. (has_c.instances k).1 ((has_d.instances k).0 h))
+
+  ranks : (k : InstKey) → rank_in c.instances k ≡ rank_in d.instances k
+  ranks k = omega (arith, has_c.least_ranks (rank_in d.instances) has_d.ranks k, has_d.least_ranks (rank_in c.instances) has_c.ranks k)
+
+  needs : (k : InstKey) → need_in c.instances k ≡ need_in d.instances k
+  needs k = omega (arith, has_c.least_needs (need_in d.instances) has_d.needs k, has_d.least_needs (need_in c.instances) has_c.needs k)
+
+  insts : c.instances ≡ d.instances
+  insts = same_insts c.instances d.instances keys claim_c.insts_ascend (λ k h. ranks k) (λ k h. needs k)
+
+  node_at : (at : ℕ) (k : NodeKey) (a : NodeForm) → slice_get c.nodes at ≡ Some (k, a) → (n : Node) × (slice_get (nodes_of f) at ≡ Some n)
+  node_at at k a e = get_inside (nodes_of f) at (omega (arith, slice_get_within c.nodes at (k, a) e, has_c.expands.count))
+
+  forms : (at : ℕ) (k : NodeKey) (a b : NodeForm) → slice_get c.nodes at ≡ Some (k, a) → slice_get d.nodes at ≡ Some (k, b) → a ≡ b
+  forms at k (From m) b e g = sym ((has_d.sparse at m k b g).1 ((has_c.sparse at m k (From m) e).0 refl))
+  forms at k (State s) (From m) e g = (has_c.sparse at m k (State s) e).1 ((has_d.sparse at m k (From m) g).0 refl)
+  forms at k (State s) (State t) e g =
+      let there : (n : Node) × (slice_get (nodes_of f) at ≡ Some n) = node_at at k (State s) e in
+      state_is s t there.0.state
+      ((expansions_follow.own words A c.nodes at k s there.0.state e).0 (has_c.expands.states at there.0 there.1))
+      ((expansions_follow.own words A d.nodes at k t there.0.state g).0 (has_d.expands.states at there.0 there.1))
+
+  nodes : c.nodes ≡ d.nodes
+  nodes = same_seeds c.nodes d.nodes (sym (filled_or_missing.keys words A c.nodes (nodes_of f) has_c.expands) ∙ filled_or_missing.keys words A d.nodes (nodes_of f) has_d.expands) forms
+
+  versions : c.version ≡ d.version
+  versions = has_c.version ∙ sym has_d.version
+
+  bounds : c.bound ≡ d.bound
+  bounds = has_c.bound ∙ needs root_inst ∙ sym has_d.bound
+
+  assumed : c.assumptions ≡ d.assumptions
+  assumed = has_c.assumptions ∙ sym has_d.assumptions
+
+  unwitnessed : c.witness ≡ d.witness
+  unwitnessed = has_c.unwitnessed ∙ sym has_d.unwitnessed
+
+claim_is : (c d : Claim) → c.version ≡ d.version → c.bound ≡ d.bound → c.assumptions ≡ d.assumptions → c.instances ≡ d.instances → c.nodes ≡ d.nodes → c.witness ≡ d.witness → c ≡ d
+claim_is c d v a b e f g =
+    ap (λ x. record { version = x; bound = c.bound; assumptions = c.assumptions; instances = c.instances; nodes = c.nodes; witness = c.witness }) v
+    ∙ ap (λ x. record { version = d.version; bound = x; assumptions = c.assumptions; instances = c.instances; nodes = c.nodes; witness = c.witness }) a
+    ∙ ap (λ x. record { version = d.version; bound = d.bound; assumptions = x; instances = c.instances; nodes = c.nodes; witness = c.witness }) b
+    ∙ ap (λ x. record { version = d.version; bound = d.bound; assumptions = d.assumptions; instances = x; nodes = c.nodes; witness = c.witness }) e
+    ∙ ap (λ x. record { version = d.version; bound = d.bound; assumptions = d.assumptions; instances = d.instances; nodes = x; witness = c.witness }) f
+    ∙ ap (λ x. record { version = d.version; bound = d.bound; assumptions = d.assumptions; instances = d.instances; nodes = d.nodes; witness = x }) g
+
+solution : (words : List ℕ) (A : List Entry) (f : Family) (c d : Claim) → IsClaim c → IsClaim d → IsSolution words A f c → IsSolution words A f d → c ≡ d
+solution words A f c d p q h i =
+    claim_is c d (versions words A f c d p q h i) (bounds words A f c d p q h i) (assumed words A f c d p q h i) (insts words A f c d p q h i) (nodes words A f c d p q h i) (unwitnessed words A f c d p q h i)
+
+answer : (words : List ℕ) (A : List Entry) (steps : Option ℕ) (c d : Claim) → IsClaim c → IsClaim d → IsAnswer words A steps c → IsAnswer words A steps d → c ≡ d
+answer words A steps c d p q h i =
+    let same : (h.number ≡ i.number) × (h.family ≡ i.family) = rounds_end_once.solved words A h.number i.number h.family i.family h.solved i.solved in
+    solution words A i.family c d p q (subst (λ (f : Family). IsSolution words A f c) same.1 h.solution) i.solution
+
+-- a refusal that isn't that of a spent budget or want of memory
+beyond : (words : List ℕ) (A : List Entry) (n m : ℕ) (steps : Option ℕ) → steps ≡ Some n → IsWithinBudget steps m → n < m → ⊥
+beyond words A n m steps e within less = let le : m ≤ n = subst (λ (o : Option ℕ). IsWithinBudget o m) e within in omega (arith, le, less)
+
+spent_refused : (words : List ℕ) (A : List Entry) (steps : Option ℕ) (n : ℕ) (r : Refusal) → (steps ≡ Some n) × GoesBeyond words A n → IsRefusal words A steps r → ⊥
+spent_refused words A steps n r spent h = beyond words A n h.number steps spent.0 h.within (rounds_end_once.refused_beyond words A h.number n r h.refused spent.1)
+
+spent_answered : (words : List ℕ) (A : List Entry) (steps : Option ℕ) (n : ℕ) (c : Claim) → (steps ≡ Some n) × GoesBeyond words A n → IsAnswer words A steps c → ⊥
+spent_answered words A steps n c spent h = beyond words A n h.number steps spent.0 h.within (rounds_end_once.solved_beyond words A h.number n h.family h.solved spent.1)
+
+refused_answered : (words : List ℕ) (A : List Entry) (steps : Option ℕ) (r : Refusal) (c : Claim) → IsRefusal words A steps r → IsAnswer words A steps c → ⊥
+refused_answered words A steps r c h i = rounds_end_once.either words A i.number h.number i.family r i.solved h.refused
+
+-- what may be answered in place of a certificate
+data Why (words : List ℕ) (A : List Entry) (steps : Option ℕ) (r : Refusal) : Type 0 where
+  refused : IsRefusal words A steps r → Why words A steps r
+  spent : (n : ℕ) → r ≡ refusal.Spent n → (steps ≡ Some n) × GoesBeyond words A n → Why words A steps r
+  wanting : r ≡ refusal.Memory → Why words A steps r
+
+why : (words : List ℕ) (A : List Entry) (steps : Option ℕ) (r : Refusal) → IsWhyNot words A steps r → Why words A steps r
+why words A steps (refusal.UnresolvedJump pc) h = refused h
+why words A steps (refusal.Recursion pc) h = refused h
+why words A steps (refusal.ReEntry v pc) h = refused h
+why words A steps (refusal.UntrackedSp pc) h = refused h
+why words A steps (refusal.Unsupported pc) h = refused h
+why words A steps (refusal.TooDeep pc n) h = refused h
+why words A steps (refusal.TooLarge l) h = refused h
+why words A steps (refusal.UnknownPointer pc) h = refused h
+why words A steps (refusal.Spent n) h = spent n refl h
+why words A steps refusal.Memory h = wanting refl
+
+two : (words : List ℕ) (A : List Entry) (steps : Option ℕ) (r s : Refusal) → Why words A steps r → Why words A steps s → r ≢ refusal.Memory → s ≢ refusal.Memory → r ≡ s
+two words A steps r s (refused h) (refused i) not_r not_s = (rounds_end_once.refused words A h.number i.number r s h.refused i.refused).1
+two words A steps r s (refused h) (spent n e i) not_r not_s = absurd (spent_refused words A steps n r i h)
+two words A steps r s (refused h) (wanting e) not_r not_s = absurd (not_s e)
+two words A steps r s (spent n e h) (refused i) not_r not_s = absurd (spent_refused words A steps n s h i)
+two words A steps r s (spent m e h) (spent n g i) not_r not_s = let same : m ≡ n = same_Some m n (sym h.0 ∙ i.0) in e ∙ ap refusal.Spent same ∙ sym g
+two words A steps r s (spent m e h) (wanting g) not_r not_s = absurd (not_s g)
+two words A steps r s (wanting e) i not_r not_s = absurd (not_r e)
+
+none : (words : List ℕ) (A : List Entry) (steps : Option ℕ) (c : Claim) (r : Refusal) → IsAnswer words A steps c → Why words A steps r → r ≡ refusal.Memory
+none words A steps c r h (refused i) = absurd (refused_answered words A steps r c i h)
+none words A steps c r h (spent n e i) = absurd (spent_answered words A steps n c i h)
+none words A steps c r h (wanting e) = e
+
+pub answers_are_one : AnswersAreOne
+answers_are_one = record {
+  solution = solution;
+  answer = answer;
+  why_not = λ words A steps r s h i. two words A steps r s (why words A steps r h) (why words A steps s i);
+  either = λ words A steps c r h i. none words A steps c r h (why words A steps r i);
+}

@@ -1,0 +1,58 @@
+-- What a certificate of a family is made of. Source: own.
+use Rattle.std.specs.Prelude.{ℕ, ◌≡◌, ◌<◌, List, length, None, Some, slice_get, slice_index}
+use Rattle.avr_model.specs.declared.assumption.Entry.{Entry}
+use Rattle.local_rules.specs.declared.local.Node.{Node}
+use Rattle.edge_rules.specs.declared.seeded.NodeForm.{NodeForm}
+use Rattle.edge_rules.specs.declared.seeded.NodeForm.TheVariants.{State, From}
+use Rattle.edge_rules.specs.Expansion.{Seeds}
+use Rattle.nesting_bound.specs.declared.graph.GraphInst.{GraphInst}
+use Rattle.nesting_bound.specs.Graph.{IsGraph}
+use Rattle.nesting_bound.specs.Least.{IsLeast}
+use Rattle.family_graph.specs.Graphs.{IsGraphOf}
+use Rattle.certificate.specs.Versions.{written_version}
+use Rattle.certificate.specs.declared.instance.Inst.{Inst}
+use Rattle.certificate.specs.Claims.{Claim}
+use Rattle.round_rules.specs.Families.{Family, nodes_of}
+use Rattle.round_rules.specs.Sparse.{IsOnlyFrom}
+
+-- ---- nodes
+
+-- This is the form of the node of this number: the number of an earlier node where the one edge that leads to it is local and comes from
+-- there, and else its state.
+abbrev pub IsForm : List ℕ → List Entry → List Node → ℕ → Node → NodeForm → Type 0
+IsForm words A nodes at n (State s) = (s ≡ n.state) × ((m : ℕ) → m < at → IsOnlyFrom words A nodes n.key m → ⊥)
+IsForm words A nodes at n (From m) = (m < at) × IsOnlyFrom words A nodes n.key m
+
+-- the node of this number has its key and its form here
+abbrev pub IsGivenAt : List ℕ → List Entry → List Node → Seeds → ℕ → Node → Type 0
+IsGivenAt words A nodes seeds at n = (form : NodeForm) × ((slice_get seeds at ≡ Some (n.key, form)) × IsForm words A nodes at n form)
+
+-- these are the nodes, each with its form
+pub record AreForms (words : List ℕ) (A : List Entry) (nodes : List Node) (seeds : Seeds) : Type 0 where
+  pub count : length seeds ≡ length nodes
+  pub each : (at : ℕ) (n : Node) → slice_get nodes at ≡ Some n → IsGivenAt words A nodes seeds at n
+
+-- ---- instances
+
+-- these are the graph's instances, each with its rank and its need
+pub record AreInsts (gs : List GraphInst) (ranks needs : List ℕ) (insts : List Inst) : Type 0 where
+  pub count : length insts ≡ length gs
+  pub each : (i : ℕ) (g : GraphInst) → slice_get gs i ≡ Some g
+      → slice_get insts i ≡ Some (record { key = g.key; rank = slice_index ranks i; need = slice_index needs i })
+
+-- ---- all
+
+-- the instances of a graph of the family, with least ranks and needs, and the family's nodes with their forms
+pub record AreCertificateParts (words : List ℕ) (A : List Entry) (f : Family) (insts : List Inst) (seeds : Seeds) : Type 0 where
+  pub graph : List GraphInst
+  pub ranks : List ℕ
+  pub needs : List ℕ
+  pub is_graph : IsGraph graph
+  pub of : IsGraphOf words A (nodes_of f) graph
+  pub least : IsLeast graph ranks needs
+  pub insts_are : AreInsts graph ranks needs insts
+  pub forms : AreForms words A (nodes_of f) seeds
+
+-- the certificate of these parts with this bound, without a schedule, in the version that the assumptions ask for
+abbrev pub claim_of : ℕ → List Entry → List Inst → Seeds → Claim
+claim_of bound A insts seeds = record { version = written_version A; bound = bound; assumptions = A; instances = insts; nodes = seeds; witness = None }

@@ -1,0 +1,151 @@
+//! What is noted of instances.
+
+ghost use Rattle.std.specs.Prelude.{◌≡◌, ◌∷◌, [], IfSome, IfNone, IfOk, OnOk};
+ghost use Rattle.mask_states.specs.Order.{same_inst};
+ghost use Rattle.mask_states.specs.Total.{inst_equivalence};
+ghost use Rattle.mask_states.specs.Hashes.{inst_hash};
+ghost use Rattle.mask_states.proofs.Hashes.{inst_alike};
+ghost use Rattle.round_table.specs.Hashes.{key_hash, first_alike};
+ghost use Rattle.round_table.specs.Crossings.{crossings_at, IsCrossingAdded, AreCrossingsOnce};
+
+use indexmap::{IndexMap, IndexSet};
+use local_rules::Exit;
+use mask_states::{EdgeKind, InstKey, NodeKey};
+use std::alloc::{AllocError, Global};
+use std::hash::{Hash, Hasher};
+use std::marker::Model;
+
+/// A node that enters an instance or leaves its own, with what the list that it stands in needs of these.
+#[derive(Clone, Copy, PartialEq, Eq)]
+pub struct Crossing {
+    /// The node.
+    pub node: NodeKey,
+    /// How it enters the instance, or `Return` where it leaves its own.
+    pub kind: EdgeKind,
+    /// The word at which it goes on after the return from there, or its own where it leaves its own.
+    pub back: u16,
+    /// How it leaves its own.
+    pub exit: Exit,
+}
+
+impl Hash for Crossing {
+    ghost hash_input = { λ c. key_hash c.node };
+
+    ghost respects_eq = { λ a b. first_alike a.node b.node _ };
+
+    fn hash<H: Hasher>(&self, state: &mut H) {
+        self.node.inst.entry.hash(state);
+        self.node.inst.masks.bits().hash(state);
+        self.node.pc.hash(state);
+        self.node.masks.bits().hash(state);
+        self.node.offset().hash(state);
+    }
+}
+
+// An instance, to be hashed. Seen as its key.
+#[derive(Drop)]
+struct HashedInst {
+    key: InstKey,
+}
+
+impl Model for HashedInst {
+    ghost use Rattle.mask_states.specs.declared.keys.InstKey.{InstKey};
+
+    ghost Value = { InstKey };
+
+    ghost view = { λ p. p.key };
+}
+
+impl PartialEq for HashedInst {
+    ghost eq = { same_inst };
+
+    ghost laws = { inst_equivalence.0 };
+
+    fn eq(&self, other: &HashedInst) -> bool {
+        self.key == other.key
+    }
+}
+
+impl Eq for HashedInst {
+    ghost laws = { inst_equivalence.1 };
+}
+
+impl Hash for HashedInst {
+    ghost hash_input = { inst_hash };
+
+    ghost respects_eq = { inst_alike };
+
+    fn hash<H: Hasher>(&self, state: &mut H) {
+        self.key.entry.hash(state);
+        self.key.masks.bits().hash(state);
+    }
+}
+
+// The set of one crossing.
+fn one(alloc: Global, crossing: Crossing) -> Result<IndexSet<Crossing>, AllocError>
+    ensures { IfOk result (λ set. set.keys ≡ crossing ∷ []) }
+{
+    let mut first = IndexSet::new(alloc);
+    first.insert(crossing)?;
+    Ok(first)
+}
+
+/// Crossings by their instances, each of them once. Seen as the list of instances with their crossings.
+#[derive(Drop)]
+pub struct Crossings {
+    map: IndexMap<HashedInst, IndexSet<Crossing>>,
+}
+
+impl Model for Crossings {
+    ghost use Rattle.round_table.specs.Crossings.{Groups, groups_of};
+
+    ghost Value = { Groups };
+
+    ghost view = { λ s. groups_of s.map.entries };
+}
+
+impl Crossings {
+    /// No crossings.
+    pub fn new(alloc: Global) -> Crossings
+        ensures { result ≡ [] }
+    {
+        Crossings {
+            map: IndexMap::new(alloc),
+        }
+    }
+
+    /// A crossing of an instance. It may be there before.
+    pub fn add(
+        &mut self,
+        alloc: Global,
+        inst: InstKey,
+        crossing: Crossing,
+    ) -> Result<(), AllocError>
+        ensures { OnOk result (IsCrossingAdded self.old inst crossing self.new) }
+    {
+        let place = HashedInst { key: inst };
+        match self.map.get_mut(&place) {
+            Some(set) => {
+                set.insert(crossing)?;
+                Ok(())
+            }
+            None => {
+                let set = one(alloc, crossing)?;
+                self.map.insert(place, set)?;
+                Ok(())
+            }
+        }
+    }
+
+    /// The crossings of an instance, if it has any, each of them once.
+    pub fn at(&self, inst: &InstKey) -> Option<&[Crossing]>
+        ensures some { IfSome result (λ list. list.now ≡ crossings_at self.now inst.now) }
+        ensures none { IfNone result (crossings_at self.now inst.now ≡ []) }
+        ensures once { IfSome result (λ list. AreCrossingsOnce list.now) }
+    {
+        match self.map.get(&HashedInst { key: *inst }) {
+            Some(set) => Some(set.as_slice()),
+            None => None,
+        }
+    }
+}

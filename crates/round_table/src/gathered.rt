@@ -1,0 +1,91 @@
+//! The states that one round gathers.
+
+ghost use Rattle.std.specs.Prelude.{◌≡◌, length, IfOk, OnOk};
+ghost use Rattle.std.specs.Prelude.{map as list_map};
+ghost use Rattle.std.specs.FinMap.{empty};
+ghost use Rattle.mask_states.specs.Keys.{offset_of};
+ghost use Rattle.round_table.specs.Families.{raised, nodes_of, node_of};
+
+use crate::place::HashedNode;
+use abs_state::AbsState;
+use indexmap::IndexMap;
+use local_rules::Node;
+use std::alloc::{AllocError, Global};
+use std::marker::Model;
+
+/// A state of its own for each node, the join of all that came for its key: it is raised in place, which a shared one can't be. Seen as a
+/// map from their keys. Each state has as many slots as its key's offset says.
+#[derive(Drop)]
+pub struct GatheredStates {
+    map: IndexMap<HashedNode, AbsState>,
+}
+
+impl Model for GatheredStates {
+    ghost use Rattle.std.specs.FinMap.{FinMap, from_entries, code};
+    ghost use Rattle.mask_states.specs.contracts.keys.NodeKey as node_key;
+    ghost use Rattle.abs_state.specs.contracts.state.AbsState as abs_state;
+    ghost use Rattle.std.specs.List.{IsDistinct};
+    ghost use Rattle.std.specs.Map.{keys_of};
+    ghost use Rattle.mask_states.specs.Order.{node_cmp, same_node};
+    ghost use Rattle.abs_state.specs.declared.state.AbsState.{AbsState};
+    ghost use Rattle.round_table.specs.Sized.{AreStatesSized};
+
+    ghost Value = { FinMap node_cmp AbsState };
+
+    ghost coded = { code node_key.the_row.coded abs_state.the_row.coded };
+
+    ghost view = { λ g. from_entries g.map.entries };
+
+    ghost invariant = { λ g. AreStatesSized (from_entries g.map.entries) × IsDistinct same_node (keys_of g.map.entries) };
+}
+
+impl GatheredStates {
+    /// No nodes.
+    pub fn new(alloc: Global) -> GatheredStates
+        ensures { result ≡ empty }
+    {
+        GatheredStates {
+            map: IndexMap::new(alloc),
+        }
+    }
+
+    /// Joins a state into that of its node, or adds the node.
+    pub fn raise(&mut self, node: Node) -> Result<(), AllocError>
+        requires { length node.state.slots ≡ offset_of node.key.sp }
+        ensures { OnOk result (self.new ≡ raised self.old node) }
+    {
+        let place = HashedNode { key: node.key };
+        match self.map.get_mut(&place) {
+            Some(state) => {
+                state.join_into(&node.state);
+                Ok(())
+            }
+            None => {
+                self.map.insert(place, node.state)?;
+                Ok(())
+            }
+        }
+    }
+
+    /// The nodes, ascending by key.
+    pub fn into_sorted(self, alloc: Global) -> Result<Vec<Node>, AllocError>
+        ensures { IfOk result (λ all. all.items ≡ nodes_of self) }
+    {
+        let mut map = self.map;
+        map.sort_keys()?;
+        let all = nodes_in(map, alloc)?;
+        Ok(all)
+    }
+}
+
+// The nodes by their numbers.
+fn nodes_in(map: IndexMap<HashedNode, AbsState>, alloc: Global) -> Result<Vec<Node>, AllocError>
+    ensures { IfOk result (λ all. all.items ≡ list_map node_of map.entries) }
+{
+    let mut all = Vec::new(alloc);
+    for (place, state) in map {
+        let key = place.key;
+        all.push(Node { key, state })?;
+    }
+    Ok(all)
+}

@@ -1,0 +1,233 @@
+//! The state of each node.
+
+ghost use Rattle.std.specs.Prelude.{◌≡◌, ◌≢◌, ◌<◌, ◌↔◌, length, Contains, Some, IsTrue, IfOk, OnOk, OnErr, ◌++◌};
+ghost use Rattle.std.specs.Map.{keys_of};
+ghost use Rattle.mask_states.specs.declared.keys.NodeKey as node_key;
+ghost use Rattle.abs_state.specs.declared.state.AbsState as abs_state;
+ghost use Rattle.std.specs.Prelude.{map as list_map};
+ghost use Rattle.std.specs.Option.{option_copied};
+ghost use Rattle.std.specs.FinMap.{get, empty, len};
+ghost use Rattle.abs_state.specs.Order.{state_join};
+ghost use Rattle.mask_states.specs.Keys.{offset_of};
+ghost use Rattle.state_pool.specs.Uses.{AreBelow};
+ghost use Rattle.state_pool.specs.Counts.{state_at, count_at, IsUsedLess};
+ghost use Rattle.round_table.specs.Families.{Lands, raised, nodes_of, node_of};
+ghost use Rattle.round_table.specs.Shared.{stated, AreCounted, IsMoved};
+
+use crate::place::HashedNode;
+use abs_state::AbsState;
+use indexmap::IndexMap;
+use local_rules::Node;
+use mask_states::NodeKey;
+use state_pool::Pool;
+use state_pool::laws::uses_are_counted;
+use std::alloc::{AllocError, Global};
+use std::marker::Model;
+
+// The most entries, and the most different states: as many as the pool counts.
+const MOST: usize = 4_294_967_294;
+
+/// The state of each node, with the nodes numbered as they came; equal states are kept once. Seen as a map from their keys. Each state
+/// has as many slots as its key's offset says.
+#[derive(Drop)]
+pub struct Table {
+    // The number of each node's state.
+    map: IndexMap<HashedNode, u32>,
+    // The states, each with as many uses as nodes have it.
+    pool: Pool,
+}
+
+impl Model for Table {
+    ghost use Rattle.std.specs.FinMap.{FinMap, from_entries, code};
+    ghost use Rattle.mask_states.specs.contracts.keys.NodeKey as node_key;
+    ghost use Rattle.abs_state.specs.contracts.state.AbsState as abs_state;
+    ghost use Rattle.std.specs.Map.{keys_of};
+    ghost use Rattle.mask_states.specs.Order.{node_cmp};
+    ghost use Rattle.abs_state.specs.declared.state.AbsState.{AbsState};
+    ghost use Rattle.round_table.specs.Shared.{stated, IsShared};
+
+    ghost Value = { FinMap node_cmp AbsState };
+
+    ghost coded = { code node_key.the_row.coded abs_state.the_row.coded };
+
+    ghost view = { λ t. from_entries (stated t.pool t.map.entries) };
+
+    ghost invariant = { λ t. IsShared t.pool t.map.entries };
+}
+
+impl Table {
+    /// No nodes.
+    pub fn new(alloc: Global) -> Table
+        ensures { result ≡ empty }
+    {
+        Table {
+            map: IndexMap::new(alloc),
+            pool: Pool::new(alloc),
+        }
+    }
+
+    /// How many nodes there are.
+    pub fn len(&self) -> usize
+        ensures { result ≡ len self.now }
+    {
+        self.map.len()
+    }
+
+    /// The state of a node.
+    pub fn get(&self, key: &NodeKey) -> Option<&AbsState>
+        ensures { option_copied result ≡ get self.now key.now }
+    {
+        match self.map.get(&HashedNode { key: *key }) {
+            Some(number) => Some(self.pool.get(*number)),
+            None => None,
+        }
+    }
+
+    /// Whether the node lands here: its key has a state that is at least its own.
+    pub fn covers(&self, node: &Node) -> bool
+        requires { length node.now.state.slots ≡ offset_of node.now.key.sp }
+        ensures { IsTrue result ↔ Lands self.now node.now }
+    {
+        match self.map.get(&HashedNode { key: node.key }) {
+            Some(number) => node.state.le(self.pool.get(*number)),
+            None => false,
+        }
+    }
+
+    /// Joins a state into that of its node, or adds the node. Gives whether the table is another then.
+    pub fn raise(&mut self, alloc: Global, node: Node) -> Result<bool, AllocError>
+        requires { length node.state.slots ≡ offset_of node.key.sp }
+        ensures ok { IfOk result (λ grew. self.new ≡ raised self.old node) }
+        ensures grew { IfOk result (λ grew. IsTrue grew ↔ (self.new ≢ self.old)) }
+        ensures err { OnErr result (self.new ≡ self.old) }
+    {
+        uses_are_counted();
+        if self.map.len() > MOST || self.pool.len() > MOST {
+            return Err(AllocError);
+        }
+        let place = HashedNode { key: node.key };
+        match self.map.get_mut(&place) {
+            Some(held) => {
+                let (number, grew) = joined(&mut self.pool, alloc, *held, &node.state)?;
+                *held = number;
+                Ok(grew)
+            }
+            None => {
+                let Ok(number) = self.pool.intern(node.state) else {
+                    return Err(AllocError);
+                };
+                match self.map.insert(place, number) {
+                    Ok(_) => Ok(true),
+                    Err(_) => {
+                        self.pool.release(number);
+                        Err(AllocError)
+                    }
+                }
+            }
+        }
+    }
+
+    /// The keys of all nodes, as they came.
+    pub fn keys(&self, alloc: Global) -> Result<Vec<NodeKey>, AllocError>
+        ensures { IfOk result (λ all. (k : node_key.NodeKey) (s : abs_state.AbsState) → get self.now k ≡ Some s → Contains all.items k) }
+    {
+        keys_in(&self.map, alloc)
+    }
+
+    /// The nodes, ascending by key.
+    pub fn into_sorted(self, alloc: Global) -> Result<Vec<Node>, AllocError>
+        ensures { IfOk result (λ all. all.items ≡ nodes_of self) }
+    {
+        let mut map = self.map;
+        map.sort_keys()?;
+        let all = nodes_in(map, self.pool, alloc)?;
+        Ok(all)
+    }
+}
+
+// Joins a state into that of a number, of which one use goes over to the number that the join has. Gives this number, and whether the join
+// is another state.
+fn joined(
+    pool: &mut Pool,
+    alloc: Global,
+    number: u32,
+    other: &AbsState,
+) -> Result<(u32, bool), AllocError>
+    requires few { len pool.old < 4294967295 }
+    requires counts { AreBelow 4294967295 pool.old }
+    requires there { 0 < count_at pool.old number }
+    requires slots { length (state_at pool.old number).slots ≡ length other.now.slots }
+    ensures moved { IfOk result (λ r. IsMoved pool.old number (state_join (state_at pool.old number) other.now) r.0 pool.new) }
+    ensures grew { IfOk result (λ r. IsTrue r.1 ↔ (state_join (state_at pool.old number) other.now ≢ state_at pool.old number)) }
+    ensures slots { IfOk result (λ r. length (state_at pool.new r.0).slots ≡ length other.now.slots) }
+    ensures err { OnErr result (pool.new ≡ pool.old) }
+{
+    uses_are_counted();
+    let mut state = pool.get(number).copy(alloc)?;
+    if !state.join_into(other) {
+        return Ok((number, false));
+    }
+    let Ok(next) = pool.intern(state) else {
+        return Err(AllocError);
+    };
+    pool.release(number);
+    Ok((next, true))
+}
+
+// The state of a number, of which one use goes: with the last use the pool's own, and else a copy.
+fn taken(pool: &mut Pool, alloc: Global, number: u32) -> Result<AbsState, AllocError>
+    requires { 0 < count_at pool.old number }
+    ensures state { IfOk result (λ state. state ≡ state_at pool.old number) }
+    ensures less { IsUsedLess pool.old number pool.new }
+{
+    uses_are_counted();
+    match pool.release(number) {
+        Some(state) => Ok(state),
+        None => pool.get(number).copy(alloc),
+    }
+}
+
+// The keys by their numbers.
+fn keys_in(map: &IndexMap<HashedNode, u32>, alloc: Global) -> Result<Vec<NodeKey>, AllocError>
+    ensures { IfOk result (λ all. all.items ≡ keys_of map.now.entries) }
+{
+    let mut all = Vec::with_capacity(alloc, map.len())?;
+    for place in map.keys() {
+        all.push(place.key)?;
+    }
+    Ok(all)
+}
+
+// Puts the nodes of the numbers behind others.
+fn add_nodes(
+    all: &mut Vec<Node>,
+    map: IndexMap<HashedNode, u32>,
+    pool: &mut Pool,
+    alloc: Global,
+) -> Result<(), AllocError>
+    requires { AreCounted pool.old map.entries }
+    ensures { OnOk result (all.new.items ≡ all.old.items ++ list_map node_of (stated pool.old map.entries)) }
+{
+    all.reserve(map.len())?;
+    for (place, number) in map {
+        let key = place.key;
+        let state = taken(pool, alloc, number)?;
+        all.push(Node { key, state })?;
+    }
+    Ok(())
+}
+
+// The nodes by their numbers.
+fn nodes_in(
+    map: IndexMap<HashedNode, u32>,
+    pool: Pool,
+    alloc: Global,
+) -> Result<Vec<Node>, AllocError>
+    requires { AreCounted pool map.entries }
+    ensures { IfOk result (λ all. all.items ≡ list_map node_of (stated pool map.entries)) }
+{
+    let (mut pool, mut all) = (pool, Vec::new(alloc));
+    let told = add_nodes(&mut all, map, &mut pool, alloc);
+    drop(pool);
+    told.and(Ok(all))
+}

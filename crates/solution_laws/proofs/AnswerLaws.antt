@@ -1,2 +1,0 @@
--- The law, under the name of the public function that carries it. Crates above cite it from here.
-pub use Rattle.solution_laws.proofs.One.{answers_are_one}

@@ -1,0 +1,300 @@
+-- What may happen at a word, node by node.
+use Rattle.std.proofs.Common.{◌≡◌, refl, sym, ap, ◌∙◌, subst, ℕ, ◌+◌, ◌<◌, ◌⊎◌, inl, inr, ⊎_elim, ◌==◌, ◌&&◌, ◌||◌, Bool, true, false, not, List, [], ◌∷◌, ◌++◌, length, take, get_or, set, replicate, Some, None, slice_get, Contains, eqb-true, arith}
+use Rattle.std.specs.Prelude.{◌↔◌}
+use Rattle.std.specs.List.Sorted.{IsStrictlySortedBy}
+use Rattle.std.specs.Ordering.{nat_cmp}
+use Rattle.std.proofs.lemmas.Bool.{cases_lt, and_parts, and_from, not-true}
+use Rattle.std.proofs.lemmas.List.Elements.{Contains-push_cases}
+use Rattle.std.proofs.lemmas.List.{map-append, take_more}
+use Rattle.std.proofs.lemmas.Option.{same_Some, slice_get_within}
+use Rattle.basics.specs.Booleans.{never_both, not_from_never, left_of_and}
+use Rattle.basics.specs.Items.{none_in, place_of_contained, contained_at}
+use Rattle.basics.specs.Lists.{one_at}
+use Rattle.basics.specs.Numbers.{before_or_last, equals_itself}
+use Rattle.store_clear.proofs.Marks.{none_on}
+use Rattle.avr_model.specs.declared.assumption.Entry.{Entry}
+use Rattle.avr_model.specs.declared.instruction.Instr.{Instr}
+use Rattle.avr_model.specs.Sites.{instruction_at}
+use Rattle.avr_model.specs.Step.{is_pointer_store, is_indirect}
+use Rattle.avr_model.specs.Assumptions.{is_fixed_site, store_line, lists}
+use Rattle.avr_model.specs.Vectors.{is_protected}
+use Rattle.abs_state.specs.declared.state.AbsState.{AbsState}
+use Rattle.mask_states.specs.declared.keys.NodeKey.{NodeKey}
+use Rattle.local_rules.specs.declared.local.Node.{Node}
+use Rattle.edge_rules.specs.Families.{RankedFamily}
+use Rattle.edge_laws.proofs.ExpansionLaws.{filled_or_missing}
+use Rattle.certificate.specs.Claims.{Claim}
+use Rattle.certificate.specs.Valid.{family_of}
+use Rattle.clear_laws.specs.Clear.{IsClear, MayBeFlagged, is_transfer_listed, is_flagged_address}
+use Rattle.clear_laws.specs.Causes.{may_write_protected, may_write_live, IsCause}
+use Rattle.clear_laws.proofs.AllLaws.{not_listed, unprotected}
+use Rattle.clear_laws.specs.Reach.{is_on}
+use Rattle.clear_laws.specs.declared.slots.Asks.{Asks}
+use Rattle.clear_laws.specs.declared.place.FlaggedPlace.{FlaggedPlace}
+use Rattle.clear_laws.specs.Places.{word_of, IsPlaceOf, ArePlaces}
+use Rattle.clear_laws.specs.Verdict.{AreSites}
+use Rattle.store_clear.specs.Settling.{ask_at, passes, IsTold, places_of}
+use Rattle.store_clear.specs.Takes.{AreMarkedBeside}
+use Rattle.store_clear.specs.Causing.{IsProtectedBelow, is_unclear_at, PassesBelow, IsProtectedAt, IsLiveAt, ArePlacesOf}
+use Rattle.store_clear.proofs.Marked.{placed, placing, ascending}
+use Rattle.store_clear.proofs.Taken.{marks_none, marks_one, marks_both, marks_as}
+
+-- ---- the addresses of a node
+
+module _ (words : List ℕ) (A : List Entry) (pc : ℕ) (s : AbsState) (instr : Instr) where
+  abbrev may : ℕ → Bool
+  may a = may_write_protected words A pc s instr a
+
+  abbrev This : ℕ → ℕ → Type 0
+  This a x = (x ≡ a) × (may x ≡ true)
+
+  pub addresses_none : (marks : List Bool) → AreMarkedBeside (IsProtectedBelow words A pc s instr 0) marks marks
+  addresses_none marks = marks_none (IsProtectedBelow words A pc s instr 0) marks (λ x t. let lt = t.0 in omega (arith, lt))
+
+  module _ (n : ℕ) (old mid : List Bool) (so : AreMarkedBeside (IsProtectedBelow words A pc s instr n) old mid) where
+    with_it : (new : List Bool) → AreMarkedBeside (This n) mid new → AreMarkedBeside (IsProtectedBelow words A pc s instr (n + 1)) old new
+    with_it new one =
+        marks_both (IsProtectedBelow words A pc s instr n) (This n) (IsProtectedBelow words A pc s instr (n + 1)) old mid new
+        (λ x t. (let below = t.0 in omega (arith, below), t.1)) (λ x t. (let same = t.0 in omega (arith, same), t.1))
+        (λ x t. ⊎_elim (λ below. inl (below, t.1)) (λ e. inr (e, t.1)) (before_or_last x n t.0)) so one
+
+    pub addresses_more : n < length mid → may n ≡ true → AreMarkedBeside (IsProtectedBelow words A pc s instr (n + 1)) old (set mid n true)
+    addresses_more lt e = with_it (set mid n true) (marks_as (λ x. x ≡ n) (This n) mid _ (λ x same. (same, ap may same ∙ e)) (λ x t. t.0) (marks_one n mid lt))
+
+    pub addresses_same : may n ≡ false → AreMarkedBeside (IsProtectedBelow words A pc s instr (n + 1)) old mid
+    addresses_same e = with_it mid (marks_none (This n) mid (λ x t. never_both (may n) (ap may (sym t.0) ∙ t.1) e))
+
+-- ---- all nodes
+
+module _ (words : List ℕ) (A : List Entry) (nodes : List Node) (asks : List Asks) (pc : ℕ) (instr : Instr) where
+  abbrev At : ℕ → ℕ → Type 0
+  At count a = IsProtectedAt words A nodes asks pc instr count a
+
+  -- a node with this key still asks this and lies at the word, and a store there may write this address
+  abbrev From : NodeKey → AbsState → Asks → ℕ → Type 0
+  From k s ask a = (is_unclear_at pc k ask ≡ true) × IsProtectedBelow words A pc s instr 256 a
+
+  pub nodes_none : (marks : List Bool) → AreMarkedBeside (At 0) marks marks
+  nodes_none marks = marks_none (At 0) marks (λ a t. let lt = t.1.below in omega (arith, lt))
+
+  nodes_more : (at : ℕ) (n : Node) (k : NodeKey) (s : AbsState) (ask : Asks) (old mid new : List Bool) → slice_get nodes at ≡ Some n → n.key ≡ k → n.state ≡ s → ask_at asks at ≡ ask
+      → AreMarkedBeside (At at) old mid → AreMarkedBeside (From k s ask) mid new → AreMarkedBeside (At (at + 1)) old new
+  nodes_more at n k s ask old mid new is key state same so one =
+      marks_both (At at) (From k s ask) (At (at + 1)) old mid new
+      (λ a t. (t.0, record { at = t.1.at; node = t.1.node; below = let lt = t.1.below in omega (arith, lt); is = t.1.is; unclear = t.1.unclear; passes = t.1.passes }))
+      (λ a t. (t.1.0, record { at = at; node = n; below = omega arith; is = is; unclear = unclear_back t.0; passes = ap (λ (x : AbsState). may_write_protected words A pc x instr a) state ∙ t.1.1 }))
+      split so one
+    where
+      unclear_back : is_unclear_at pc k ask ≡ true → is_unclear_at pc n.key (ask_at asks at) ≡ true
+      unclear_back h = ap (λ (x : NodeKey). is_unclear_at pc x (ask_at asks at)) key ∙ ap (is_unclear_at pc k) same ∙ h
+
+      here : (t : ℕ) (m : Node) → t ≡ at → slice_get nodes t ≡ Some m → m ≡ n
+      here t m e read = one_at nodes at m n (subst (λ i. slice_get nodes i ≡ Some m) e read) is
+
+      split : (a : ℕ) → At (at + 1) a → At at a ⊎ From k s ask a
+      split a t =
+          ⊎_elim (λ lt. inl (t.0, record { at = t.1.at; node = t.1.node; below = lt; is = t.1.is; unclear = t.1.unclear; passes = t.1.passes }))
+          (λ e.
+          let m = here t.1.at t.1.node e t.1.is in
+          inr (
+            sym (ap (λ (x : NodeKey). is_unclear_at pc x (ask_at asks at)) key ∙ ap (is_unclear_at pc k) same)
+                ∙ ap (λ (x : Node). is_unclear_at pc x.key (ask_at asks at)) (sym m) ∙ ap (λ i. is_unclear_at pc t.1.node.key (ask_at asks i)) (sym e) ∙ t.1.unclear,
+            (t.0, ap (λ (x : AbsState). may_write_protected words A pc x instr a) (sym state) ∙ ap (λ (x : Node). may_write_protected words A pc x.state instr a) (sym m) ∙ t.1.passes),
+          ))
+          (before_or_last t.1.at at t.1.below)
+
+  module _ (at : ℕ) (n : Node) (k : NodeKey) (s : AbsState) (ask : Asks) (old mid : List Bool) (is : slice_get nodes at ≡ Some n) (key : n.key ≡ k) (state : n.state ≡ s)
+      (same : ask_at asks at ≡ ask) (so : AreMarkedBeside (At at) old mid) where
+    pub nodes_marked : (new : List Bool) → is_unclear_at pc k ask ≡ true → AreMarkedBeside (IsProtectedBelow words A pc s instr 256) mid new → AreMarkedBeside (At (at + 1)) old new
+    nodes_marked new e one =
+        nodes_more at n k s ask old mid new is key state same so
+        (marks_as (IsProtectedBelow words A pc s instr 256) (From k s ask) mid new (λ a t. (e, t)) (λ a t. t.1) one)
+
+    pub nodes_same : is_unclear_at pc k ask ≡ false → AreMarkedBeside (At (at + 1)) old mid
+    nodes_same e =
+        nodes_more at n k s ask old mid mid is key state same so
+        (marks_none (From k s ask) mid (λ a t. never_both (is_unclear_at pc k ask) t.0 e))
+
+-- ---- the list
+
+-- what is marked where nothing was
+module _ (P : ℕ → Type 0) (old new : List Bool) (many : ℕ) (none : old ≡ replicate many false) (marked : AreMarkedBeside P old new) where
+  pub marked_are : (a : ℕ) → Contains (places_of new) a ↔ P a
+  marked_are a = (down, up)
+    where
+      down : Contains (places_of new) a → P a
+      down h =
+          let p = placed 0 new a h in
+          let on : is_on new a ≡ true = subst (λ x. is_on new x ≡ true) (let e = p.1.0 in omega (arith, e)) p.1.1 in
+          ⊎_elim (λ o. absurd (never_both (is_on old a) o (ap (λ (bs : List Bool). is_on bs a) none ∙ none_on many a))) (λ q. q) ((marked.exact a).0 on)
+
+      up : P a → Contains (places_of new) a
+      up q = subst (Contains (places_of new)) (let same : 0 + a ≡ a = omega arith in same) (placing 0 new a ((marked.exact a).1 (inr q)))
+
+pub members_given : (P : ℕ → Type 0) (old first new last : List Bool) (many : ℕ) (list : List ℕ) → old ≡ replicate many false → first ≡ old → AreMarkedBeside P first new → last ≡ new
+    → list ≡ places_of last → (a : ℕ) → Contains list a ↔ P a
+members_given P old first new last many list none begins marked ends are a =
+    subst (λ (xs : List ℕ). Contains xs a ↔ P a) (sym (are ∙ ap places_of ends)) (marked_are P first new many (begins ∙ none) marked a)
+
+pub ascending_given : (list : List ℕ) (last : List Bool) → list ≡ places_of last → IsStrictlySortedBy nat_cmp list
+ascending_given list last are = subst (IsStrictlySortedBy nat_cmp) (sym are) (ascending 0 last)
+
+-- ---- one after the other
+
+module _ (words : List ℕ) (A : List Entry) (bound : ℕ) (nodes : List Node) (asks : List Asks) (pc : ℕ) (instr : Instr) where
+  abbrev LiveAt : ℕ → Type 0
+  LiveAt count = IsLiveAt words A bound nodes asks pc instr count
+
+  module _ (at : ℕ) (n : Node) (k : NodeKey) (s : AbsState) (is : slice_get nodes at ≡ Some n) (key : n.key ≡ k) (state : n.state ≡ s) where
+    pub live_found : (count : ℕ) → at < count → is_unclear_at pc k (ask_at asks at) ≡ true → may_write_live words A bound pc s instr ≡ true → LiveAt count
+    live_found count lt unclear live =
+        record {
+          at = at;
+          node = n;
+          below = lt;
+          is = is;
+          unclear = ap (λ (x : NodeKey). is_unclear_at pc x (ask_at asks at)) key ∙ unclear;
+          passes = ap (λ (x : AbsState). may_write_live words A bound pc x instr) state ∙ live;
+        }
+
+    pub live_not : (LiveAt at → ⊥) → (is_unclear_at pc k (ask_at asks at) ≡ true → may_write_live words A bound pc s instr ≡ true → ⊥) → LiveAt (at + 1) → ⊥
+    live_not none here t =
+        ⊎_elim (λ lt. none (record { at = t.at; node = t.node; below = lt; is = t.is; unclear = t.unclear; passes = t.passes }))
+        (λ e.
+        let m : t.node ≡ n = one_at nodes at t.node n (subst (λ i. slice_get nodes i ≡ Some t.node) e t.is) is in
+        here
+        (sym (ap (λ (x : Node). is_unclear_at pc x.key (ask_at asks at)) m ∙ ap (λ (x : NodeKey). is_unclear_at pc x (ask_at asks at)) key)
+        ∙ ap (λ i. is_unclear_at pc t.node.key (ask_at asks i)) (sym e) ∙ t.unclear)
+        (sym (ap (λ (x : Node). may_write_live words A bound pc x.state instr) m ∙ ap (λ (x : AbsState). may_write_live words A bound pc x instr) state) ∙ t.passes))
+        (before_or_last t.at at t.below)
+
+  pub live_none : LiveAt 0 → ⊥
+  live_none t = let lt = t.below in omega (arith, lt)
+
+-- ---- a word
+
+listed_by : (a b : Bool) → not (not a || b) ≡ true → a ≡ true
+listed_by true b h = refl
+listed_by false b h = absurd (cc)
+
+module _ (words : List ℕ) (A : List Entry) (c : Claim) (nodes : List Node) (asks : List Asks) (told : IsTold words A c nodes asks) (pc : ℕ) where
+  abbrev f : RankedFamily
+  f = family_of c nodes
+
+  -- a node that isn't clear still asks something
+  asks_there : (n : Node) (at : ℕ) → slice_get nodes at ≡ Some n → n.key.pc ≡ pc → (IsClear words A f n → ⊥) → is_unclear_at pc n.key (ask_at asks at) ≡ true
+  asks_there n at is word unclear =
+      and_from (not (passes (ask_at asks at))) (n.key.pc == pc) (not_from_never (passes (ask_at asks at)) (λ h. unclear ((told.told.each at n is).0 h)))
+      (ap (λ p. p == pc) word ∙ equals_itself pc)
+
+  module _ (instr : Instr) (is : instruction_at words pc ≡ Some instr) (test : AbsState → Instr → Bool) where
+    pub cause_from : PassesBelow nodes asks pc (λ s. test s instr) (length asks) → IsCause words A f pc test
+    cause_from t =
+        let parts = and_parts (not (passes (ask_at asks t.at))) (t.node.key.pc == pc) t.unclear in
+        record {
+          node = t.node;
+          present = contained_at nodes t.at t.node t.is;
+          is = eqb-true t.node.key.pc pc parts.1;
+          unclear = λ clear. never_both (passes (ask_at asks t.at)) ((told.told.each t.at t.node t.is).1 clear) (not-true (passes (ask_at asks t.at)) parts.0);
+          instr = instr;
+          instruction = is;
+          passes = t.passes;
+        }
+
+    pub cause_to : IsCause words A f pc test → PassesBelow nodes asks pc (λ s. test s instr) (length asks)
+    cause_to cause =
+        let p = place_of_contained nodes cause.node cause.present in
+        record {
+          at = p.0;
+          node = cause.node;
+          below = let lt = slice_get_within nodes p.0 cause.node p.1 in let same = told.told.count in omega (arith, lt, same);
+          is = p.1;
+          unclear = asks_there cause.node p.0 p.1 cause.is cause.unclear;
+          passes = ap (test cause.node.state) (same_Some instr cause.instr (sym is ∙ cause.instruction)) ∙ cause.passes;
+        }
+
+  none_without : (test : AbsState → Instr → Bool) → instruction_at words pc ≡ None → IsCause words A f pc test → ⊥
+  none_without test is cause = let no : None ≡ Some cause.instr = sym is ∙ cause.instruction in cc
+
+  never_true : false ≡ true → ⊥
+  never_true e = cc
+
+  pub nothing_there : instruction_at words pc ≡ None → IsPlaceOf words A f (record { word = pc; protected = []; live = false; transfer = false })
+  unfolding IsStrictlySortedBy
+  nothing_there is =
+      record {
+        ascending = tt;
+        protected = λ a. (λ h. absurd (none_in a h), λ cause. absurd (none_without (λ s y. may_write_protected words A pc s y a) is cause));
+        live = (λ h. absurd (never_true h), λ cause. absurd (none_without (may_write_live words A c.bound pc) is cause));
+        transfer = (λ h. absurd (never_true h), λ cause. absurd (none_without (λ s y. not (is_transfer_listed words A pc s y)) is cause));
+      }
+
+  -- only the first 256 addresses are protected
+  protected_small : (s : AbsState) (instr : Instr) (a : ℕ) → may_write_protected words A pc s instr a ≡ true → a < 256
+  protected_small s instr a h =
+      ⊎_elim (λ lt. lt)
+      (λ over. absurd (never_both (is_protected a) (flagged_parts (left_of_and (is_flagged_address words A pc instr a) _ h)) (unprotected a (omega (arith, over))))) (cases_lt a 256)
+    where
+      flagged_parts : is_flagged_address words A pc instr a ≡ true → is_protected a ≡ true
+      flagged_parts e =
+          let parts = and_parts (is_pointer_store instr && not (is_fixed_site words A pc)) (is_protected a && not (lists (store_line A pc) a)) e in
+          left_of_and (is_protected a) _ parts.1
+
+  module _ (instr : Instr) (is : instruction_at words pc ≡ Some instr) (protected : List ℕ) (live : Bool)
+      (exact : (a : ℕ) → Contains protected a ↔ IsProtectedAt words A nodes asks pc instr (length asks) a) (sorted : IsStrictlySortedBy nat_cmp protected)
+      (alive : (live ≡ true) ↔ IsLiveAt words A c.bound nodes asks pc instr (length asks)) (site : MayBeFlagged words A f pc) where
+    pub place_given : IsPlaceOf words A f (record { word = pc; protected = protected; live = live; transfer = is_indirect instr })
+    place_given =
+        record {
+          ascending = sorted;
+          protected = λ a. (
+            λ h. cause_from instr is (λ s y. may_write_protected words A pc s y a) ((exact a).0 h).1,
+            λ cause.
+                let t = cause_to instr is (λ s y. may_write_protected words A pc s y a) cause in
+                (exact a).1 (protected_small t.node.state instr a t.passes, t),
+          );
+          live = (
+            λ h. cause_from instr is (may_write_live words A c.bound pc) (alive.0 h),
+            λ cause. alive.1 (cause_to instr is (may_write_live words A c.bound pc) cause),
+          );
+          transfer = (
+            λ h. record {
+              node = site.node;
+              present = site.present;
+              is = site.is;
+              unclear = site.unclear;
+              instr = instr;
+              instruction = is;
+              passes = subst (λ q. not (is_transfer_listed words A q site.node.state instr) ≡ true) site.is
+                  (not_listed words A f site.node instr (subst (λ q. instruction_at words q ≡ Some instr) (sym site.is) is) h site.unclear);
+            },
+            λ cause.
+                let t = cause_to instr is (λ s y. not (is_transfer_listed words A pc s y)) cause in
+                listed_by (is_indirect instr) _ t.passes,
+          );
+        }
+
+-- ---- all words
+
+module _ (words : List ℕ) (A : List Entry) (g : RankedFamily) where
+  pub places_none : ArePlacesOf words A g [] []
+  places_none = record { are = refl; each = λ p h. absurd (none_in p h) }
+
+  pub places_more : (sites : List ℕ) (i d : ℕ) (places : List FlaggedPlace) (place : FlaggedPlace) → i < length sites → place.word ≡ get_or sites i d → IsPlaceOf words A g place
+      → ArePlacesOf words A g (take i sites) places → ArePlacesOf words A g (take (i + 1) sites) (places ++ place ∷ [])
+  places_more sites i d places place lt word is so =
+      record {
+        are = map-append word_of places (place ∷ []) ∙ ap (λ (xs : List ℕ). xs ++ place.word ∷ []) so.are
+            ∙ ap (λ w. take i sites ++ w ∷ []) word ∙ sym (take_more sites i d lt);
+        each = λ p h. ⊎_elim (so.each p) (λ e. subst (IsPlaceOf words A g) e is) (Contains-push_cases places place p h);
+      }
+
+module _ (words : List ℕ) (A : List Entry) (c : Claim) (nodes : List Node) (asks : List Asks) (told : IsTold words A c nodes asks) (sites : List ℕ) (are : AreSites words A c sites) where
+  -- the words are those of these nodes
+  pub sites_are_flagged : (pc : ℕ) → Contains sites pc → MayBeFlagged words A (family_of c nodes) pc
+  sites_are_flagged pc h =
+      let same = filled_or_missing.one words A c.nodes are.nodes nodes are.expanded told.filled in
+      subst (λ (ns : List Node). MayBeFlagged words A (family_of c ns) pc) same ((are.exact pc).0 h)
+
+  pub are_places : (places : List FlaggedPlace) → ArePlacesOf words A (family_of c nodes) sites places → ArePlaces words A c places
+  are_places places h = record { sites = subst (AreSites words A c) (sym h.are) are; nodes = nodes; expanded = told.filled; each = h.each }

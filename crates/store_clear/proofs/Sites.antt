@@ -1,0 +1,166 @@
+-- What is answered of nodes that may flag a step.
+use Rattle.std.proofs.Common.{◌≡◌, refl, sym, ap, ◌∙◌, subst, ℕ, ◌+◌, ◌<◌, ◌≤◌, inr, ⊎_elim, Bool, true, false, List, [], length, replicate, Some, slice_get, Contains, arith}
+use Rattle.std.specs.Prelude.{◌↔◌}
+use Rattle.std.specs.Option.{option_map}
+use Rattle.std.proofs.lemmas.Option.{slice_get_within}
+use Rattle.basics.specs.Booleans.{never_both}
+use Rattle.basics.specs.Items.{none_in, place_of_contained, contained_at}
+use Rattle.basics.specs.Lists.{get_inside}
+use Rattle.basics.specs.Numbers.{before_or_last}
+use Rattle.store_clear.proofs.Marks.{none_on}
+use Rattle.avr_model.specs.declared.assumption.Entry.{Entry}
+use Rattle.avr_model.specs.Devices.{device_of}
+use Rattle.avr_model.specs.Vectors.{vector_word}
+use Rattle.mask_states.specs.declared.keys.NodeKey.{NodeKey}
+use Rattle.local_rules.specs.declared.local.Node.{Node}
+use Rattle.edge_rules.specs.Views.{key_of}
+use Rattle.certificate.specs.Claims.{Claim}
+use Rattle.certificate.specs.Valid.{family_of}
+use Rattle.clear_laws.specs.Clear.{IsClear, MayBeFlagged, NeverFlagged, word_of_flag}
+use Rattle.clear_laws.specs.Reach.{is_on}
+use Rattle.clear_laws.specs.declared.slots.Asks.{Asks}
+use Rattle.clear_laws.specs.declared.verdict.ClearVerdict.{ClearVerdict}
+use Rattle.clear_laws.specs.declared.verdict.ClearVerdict.TheVariants.{Clear, Unclear}
+use Rattle.clear_laws.specs.CertificateLaws.{EndFlaggedAt, EndsByTakeAt}
+use Rattle.clear_laws.specs.Verdict.{AreAllClear, IsFirstUnclear, IsClearVerdict, AreSites}
+use Rattle.clear_laws.proofs.AllLaws.{clear_verdicts_are_one, none_where_clear}
+use Rattle.store_clear.specs.Settling.{ask_at, passes, ArePassing, IsFirstAt, IsTold, IsWordOf, AreWordsMarked, places_of}
+use Rattle.store_clear.specs.Causing.{AreSitesTold}
+use Rattle.store_clear.proofs.Askings.{key_is}
+use Rattle.store_clear.proofs.Marked.{placed, placing, ascending}
+
+-- ---- the verdict
+
+module _ (words : List ℕ) (A : List Entry) (c : Claim) (nodes : List Node) (asks : List Asks) (is : IsTold words A c nodes asks) where
+  clear_at : (at : ℕ) (n : Node) → slice_get nodes at ≡ Some n → passes (ask_at asks at) ≡ true → IsClear words A (family_of c nodes) n
+  clear_at at n e = (is.told.each at n e).0
+
+  pub all_clear : ArePassing asks (length asks) → AreAllClear words A c
+  all_clear passing =
+      record {
+        nodes = nodes;
+        expanded = is.filled;
+        clear = λ n has.
+            let p = place_of_contained nodes n has in
+            let lt = slice_get_within nodes p.0 n p.1 in
+            clear_at p.0 n p.1 (passing p.0 (let same = is.told.count in omega (arith, lt, same)));
+      }
+
+  pub first_unclear : (at : ℕ) (k : NodeKey) → IsFirstAt asks at → option_map key_of (slice_get nodes at) ≡ Some k → IsFirstUnclear words A c at k.pc
+  first_unclear at k first key =
+      let lt : at < length nodes = let l = first.inside in let same = is.told.count in omega (arith, l, same) in
+      let n = get_inside nodes at lt in
+      record {
+        nodes = nodes;
+        expanded = is.filled;
+        node = n.0;
+        is = n.1;
+        word = ap (λ (x : NodeKey). x.pc) (key_is nodes at n.0 n.1 k key);
+        unclear = λ clear. never_both (passes (ask_at asks at)) ((is.told.each at n.0 n.1).1 clear) first.is;
+        earlier = λ i m e l. clear_at i m e (first.earlier i l);
+      }
+
+  -- ---- the words
+
+  module _ (old new : List Bool) (many : ℕ) (none : old ≡ replicate many false) (marked : AreWordsMarked nodes asks (length asks) old new) where
+    flagged_down : (pc : ℕ) → Contains (places_of new) pc → MayBeFlagged words A (family_of c nodes) pc
+    flagged_down pc h =
+        let w = placed 0 new pc h in
+        let on : is_on new pc ≡ true = subst (λ x. is_on new x ≡ true) (let e = w.1.0 in omega (arith, e)) w.1.1 in
+        ⊎_elim (λ o. absurd (never_both (is_on old pc) o (ap (λ (bs : List Bool). is_on bs pc) none ∙ none_on many pc))) (by pc) ((marked.exact pc).0 on)
+      where
+        by : (pc : ℕ) → IsWordOf nodes asks (length asks) pc → MayBeFlagged words A (family_of c nodes) pc
+        by pc w =
+            record {
+              node = w.node;
+              present = contained_at nodes w.at w.node w.is;
+              is = w.word;
+              unclear = λ clear. never_both (passes (ask_at asks w.at)) ((is.told.each w.at w.node w.is).1 clear) w.fails;
+            }
+
+    listed_at : (at : ℕ) (n : Node) → slice_get nodes at ≡ Some n → passes (ask_at asks at) ≡ false → Contains (places_of new) n.key.pc
+    listed_at at n e fails =
+        let lt = slice_get_within nodes at n e in
+        let below : at < length asks = let same = is.told.count in omega (arith, lt, same) in
+        let on = (marked.exact n.key.pc).1 (inr (record { at = at; node = n; below = below; is = e; fails = fails; word = refl })) in
+        subst (Contains (places_of new)) (let same : 0 + n.key.pc ≡ n.key.pc = omega arith in same) (placing 0 new n.key.pc on)
+
+    -- each node is clear, or its word is listed
+    clear_or_listed : (n : Node) → Contains nodes n → (Contains (places_of new) n.key.pc → IsClear words A (family_of c nodes) n) → IsClear words A (family_of c nodes) n
+    clear_or_listed n has given = by (passes (ask_at asks p.0)) refl
+      where
+        p : (i : ℕ) × (slice_get nodes i ≡ Some n)
+        p = place_of_contained nodes n has
+
+        by : (b : Bool) → passes (ask_at asks p.0) ≡ b → IsClear words A (family_of c nodes) n
+        by true e = clear_at p.0 n p.1 e
+        by false e = given (listed_at p.0 n p.1 e)
+
+    flagged_up : (pc : ℕ) → MayBeFlagged words A (family_of c nodes) pc → Contains (places_of new) pc
+    flagged_up pc m = by (passes (ask_at asks p.0)) refl
+      where
+        p : (i : ℕ) × (slice_get nodes i ≡ Some m.node)
+        p = place_of_contained nodes m.node m.present
+
+        by : (b : Bool) → passes (ask_at asks p.0) ≡ b → Contains (places_of new) pc
+        by true e = absurd (m.unclear (clear_at p.0 m.node p.1 e))
+        by false e = subst (Contains (places_of new)) m.is (listed_at p.0 m.node p.1 e)
+
+    pub are_sites : AreSites words A c (places_of new)
+    are_sites = record { nodes = nodes; expanded = is.filled; ascending = ascending 0 new; exact = λ pc. (flagged_down pc, flagged_up pc) }
+
+    pub clear_where_none : places_of new ≡ [] → AreAllClear words A c
+    clear_where_none e =
+        record {
+          nodes = nodes;
+          expanded = is.filled;
+          clear = λ n has. clear_or_listed n has (λ h. absurd (none_in n.key.pc (subst (λ (xs : List ℕ). Contains xs n.key.pc) e h)));
+        }
+
+-- ---- without assumptions
+
+module _ (words : List ℕ) (A : List Entry) (c : Claim) (nodes : List Node) (asks given : List Asks) (nothing : A ≡ []) (same : given ≡ asks) (is : IsTold words A c nodes asks) where
+  told : IsTold words [] c nodes given
+  told = subst (λ (B : List Entry). IsTold words B c nodes given) nothing (subst (IsTold words A c nodes) (sym same) is)
+
+  pub clear_told : ArePassing given (length given) → IsClearVerdict words c Clear
+  clear_told passing = all_clear words [] c nodes given told passing
+
+  pub unclear_told : (at : ℕ) (k : NodeKey) → IsFirstAt given at → option_map key_of (slice_get nodes at) ≡ Some k → IsClearVerdict words c (Unclear at k.pc)
+  unclear_told at k first key = first_unclear words [] c nodes given told at k first key
+
+-- ---- what follows
+
+module _ (words : List ℕ) (c : Claim) (verdict : ClearVerdict) (is : IsClearVerdict words c verdict) where
+  pub clear_both : (verdict ≡ Clear) ↔ AreAllClear words [] c
+  clear_both = (λ e. subst (IsClearVerdict words c) e is, λ all. clear_verdicts_are_one words c verdict Clear is all)
+
+  pub unclear_both : (j pc : ℕ) → (verdict ≡ Unclear j pc) ↔ IsFirstUnclear words [] c j pc
+  unclear_both j pc = (λ e. subst (IsClearVerdict words c) e is, λ first. clear_verdicts_are_one words c verdict (Unclear j pc) is first)
+
+-- where all are read behind references
+pub sites_told : (nodes : List Node) (asks : List Asks) (old first new last : List Bool) (many : ℕ) (sites : List ℕ) → old ≡ replicate many false → first ≡ old
+    → AreWordsMarked nodes asks (length asks) first new → last ≡ new → sites ≡ places_of last → AreSitesTold nodes asks sites
+sites_told nodes asks old first new last many sites none begins marked ends are words A c told = (
+  sites_given,
+  (λ e. clear_where_none words A c nodes asks told first new many (begins ∙ none) marked (sym places_are ∙ e), λ all. none_where_clear words A c sites sites_given all),
+)
+  where
+    places_are : sites ≡ places_of new
+    places_are = are ∙ ap places_of ends
+
+    sites_given : AreSites words A c sites
+    sites_given = subst (AreSites words A c) (sym places_are) (are_sites words A c nodes asks told first new many (begins ∙ none) marked)
+
+pub never_flagged : (words : List ℕ) (A : List Entry) (sites : List ℕ) → EndFlaggedAt words A sites [] → sites ≡ [] → NeverFlagged words A
+never_flagged words A sites law e m choices flag reset run ends =
+    ⊎_elim (λ h. none_in (word_of_flag flag) (subst (λ (xs : List ℕ). Contains xs (word_of_flag flag)) e h))
+    (λ (t : EndsByTakeAt words A [] m choices). none_in (vector_word (device_of words) t.vector) t.word) (law m choices flag reset run ends)
+
+-- ---- one after the other
+
+pub passing_more : (asks : List Asks) (at : ℕ) → ArePassing asks at → passes (ask_at asks at) ≡ true → ArePassing asks (at + 1)
+passing_more asks at so is i lt = ⊎_elim (λ l. so i l) (λ e. subst (λ k. passes (ask_at asks k) ≡ true) (sym e) is) (before_or_last i at lt)
+
+pub passing_all : (asks : List Asks) (at : ℕ) → ArePassing asks at → length asks ≤ at → ArePassing asks (length asks)
+passing_all asks at so le i lt = so i (omega (arith, lt, le))

@@ -1,0 +1,5 @@
+use Rattle.store_clear.specs.Causing.{IsLiveAt}
+use Rattle.store_clear.proofs.causes.is_live_at.Given as goal
+
+abbrev pub invariant-loop-at : goal.invariant-loop-at
+invariant-loop-at l = IsLiveAt l.task.flash.now l.task.assumptions.now l.bound l.told.nodes.now l.told.asks.now l.site.pc l.site.instr.now l.at → ⊥

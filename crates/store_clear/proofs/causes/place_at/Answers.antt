@@ -1,0 +1,24 @@
+use Rattle.std.proofs.Common.{◌≡◌, ℕ, Bool, true, false, List, length, sym, subst, ◌∙◌}
+use Rattle.std.specs.Prelude.{◌↔◌}
+use Rattle.certificate.specs.Valid.{family_of}
+use Rattle.clear_laws.specs.Places.{IsPlaceOf}
+use Rattle.store_clear.specs.Causing.{IsLiveAt}
+use Rattle.store_clear.proofs.Causing.{nothing_there, place_given}
+use Rattle.store_clear.proofs.causes.place_at.Goals as goal
+
+pub returns-in-None-clause-exact : goal.returns-in-None-clause-exact
+returns-in-None-clause-exact c =
+    subst (λ (xs : List ℕ). IsPlaceOf c.args.task.now.flash.now c.args.task.now.assumptions.now (family_of c.args.certificate.now c.args.told.now.nodes.now) (record { word = c.args.pc; protected = xs; live = false; transfer = false })) (sym c.empty.ensures)
+    (nothing_there c.args.task.now.flash.now c.args.task.now.assumptions.now c.args.certificate.now c.args.told.now.nodes.now c.args.told.now.asks.now c.requires.told c.args.pc (sym c.instruction.ensures ∙ c.in-None.is))
+
+pub returns-in_ok-protected-in-Some-clause-exact : goal.returns-in_ok-protected-in-Some-clause-exact
+returns-in_ok-protected-in-Some-clause-exact c =
+    let told = c.args.told.now in
+    let words = c.args.task.now.flash.now in
+    let A = c.args.task.now.assumptions.now in
+    let alive =
+    subst (λ (b : ℕ). (c.is_live_at.result ≡ true) ↔ IsLiveAt words A b told.nodes.now told.asks.now c.args.pc c.in-Some.instr (length told.asks.now)) c.bound.ensures c.is_live_at.ensures in
+    subst (λ (b : Bool). IsPlaceOf words A (family_of c.args.certificate.now told.nodes.now) (record { word = c.args.pc; protected = c.in_ok-protected-in-Some.protected; live = c.is_live_at.result; transfer = b }))
+    (sym c.is_indirect.ensures)
+    (place_given words A c.args.certificate.now told.nodes.now told.asks.now c.requires.told c.args.pc c.in-Some.instr (sym c.instruction.ensures ∙ c.in-Some.is)
+    c.in_ok-protected-in-Some.protected c.is_live_at.result c.in_ok-protected-in-Some.ensures.exact c.in_ok-protected-in-Some.ensures.ascending alive c.requires.site)

@@ -1,0 +1,80 @@
+use Rattle.std.proofs.Common.{◌∙◌, List, ℕ, Contains, ap, length, subst, sym}
+use Rattle.std.proofs.lemmas.Result.{IfOk-weaker}
+use Rattle.certificate.specs.Valid.{family_of}
+use Rattle.local_rules.specs.Machine.{AreWords}
+use Rattle.clear_laws.proofs.AllLaws.{flagged_runs_end_at_places}
+use Rattle.store_clear.specs.Settling.{AreTold, IsTold}
+use Rattle.store_clear.specs.Causing.{ArePlacesOf}
+use Rattle.store_clear.proofs.Causing.{sites_are_flagged, are_places}
+use Rattle.store_clear.proofs.clearing.flagged_places_in.Goals as goal
+
+pub sites_of-requires : goal.sites_of-requires
+sites_of-requires c = ap length c.as_slice.ensures.value ∙ c.in_ok-asks.ensures.count
+
+pub places_at-requires-clause-told : goal.places_at-requires-clause-told
+places_at-requires-clause-told c =
+    record {
+      filled = c.requires.filled;
+      told = subst (AreTold c.args.task.now.flash.now c.args.task.now.assumptions.now c.args.certificate.now c.args.family.now.nodes) (sym c.as_slice.ensures.value) c.in_ok-asks.ensures;
+    }
+
+pub places_at-requires-clause-sites : goal.places_at-requires-clause-sites
+places_at-requires-clause-sites c =
+    let words = c.args.task.now.flash.now in
+    let A = c.args.task.now.assumptions.now in
+    let claim = c.args.certificate.now in
+    let nodes = c.args.family.now.nodes in
+    let told : IsTold words A claim nodes c.as_slice.result.now =
+    record { filled = c.requires.filled; told = subst (AreTold words A claim nodes) (sym c.as_slice.ensures.value) c.in_ok-asks.ensures } in
+    let sites = (c.in_ok-sites.ensures words A claim told).0 in
+    λ pc h.
+    sites_are_flagged words A claim nodes c.as_slice.result.now told c.in_ok-sites.sites sites pc (subst (λ (xs : List ℕ). Contains xs pc) c.as_slice-2.ensures h)
+
+pub returns-clause-exact : goal.returns-clause-exact
+returns-clause-exact c =
+    let words = c.args.task.now.flash.now in
+    let A = c.args.task.now.assumptions.now in
+    let claim = c.args.certificate.now in
+    let nodes = c.args.family.now.nodes in
+    let told : IsTold words A claim nodes c.as_slice.result.now =
+    record { filled = c.requires.filled; told = subst (AreTold words A claim nodes) (sym c.as_slice.ensures.value) c.in_ok-asks.ensures } in
+    let sites = (c.in_ok-sites.ensures words A claim told).0 in
+    IfOk-weaker c.places_at.result _ _
+    (λ list so.
+    are_places words A claim nodes c.as_slice.result.now told c.in_ok-sites.sites sites list
+    (subst (λ (xs : List ℕ). ArePlacesOf words A (family_of claim nodes) xs list) c.as_slice-2.ensures so))
+    c.places_at.ensures
+
+pub returns-clause-told : goal.returns-clause-told
+returns-clause-told c =
+    let words = c.args.task.now.flash.now in
+    let A = c.args.task.now.assumptions.now in
+    let claim = c.args.certificate.now in
+    let nodes = c.args.family.now.nodes in
+    let told : IsTold words A claim nodes c.as_slice.result.now =
+    record { filled = c.requires.filled; told = subst (AreTold words A claim nodes) (sym c.as_slice.ensures.value) c.in_ok-asks.ensures } in
+    let sites = (c.in_ok-sites.ensures words A claim told).0 in
+    IfOk-weaker c.places_at.result _ _
+    (λ list so nevers all.
+    flagged_runs_end_at_places.ends words A claim list nevers (subst AreWords c.words.ensures.value c.words_have_16_bits.ensures) c.nodes-nodes.ensures.kept
+    (record { nodes = nodes; expanded = c.requires.filled; meets = c.requires.meets })
+    (are_places words A claim nodes c.as_slice.result.now told c.in_ok-sites.sites sites list
+    (subst (λ (xs : List ℕ). ArePlacesOf words A (family_of claim nodes) xs list) c.as_slice-2.ensures so))
+    all)
+    c.places_at.ensures
+
+pub returns-clause-causes : goal.returns-clause-causes
+returns-clause-causes c =
+    let words = c.args.task.now.flash.now in
+    let A = c.args.task.now.assumptions.now in
+    let claim = c.args.certificate.now in
+    let nodes = c.args.family.now.nodes in
+    let told : IsTold words A claim nodes c.as_slice.result.now =
+    record { filled = c.requires.filled; told = subst (AreTold words A claim nodes) (sym c.as_slice.ensures.value) c.in_ok-asks.ensures } in
+    let sites = (c.in_ok-sites.ensures words A claim told).0 in
+    IfOk-weaker c.places_at.result _ _
+    (λ list so.
+    flagged_runs_end_at_places.told words A claim list
+    (are_places words A claim nodes c.as_slice.result.now told c.in_ok-sites.sites sites list
+    (subst (λ (xs : List ℕ). ArePlacesOf words A (family_of claim nodes) xs list) c.as_slice-2.ensures so)))
+    c.places_at.ensures

@@ -1,0 +1,164 @@
+//! What may happen at each word at which a step may be flagged.
+
+ghost use Rattle.std.specs.Prelude.{ℕ, ◌≡◌, ◌≤◌, ◌↔◌, true, length, Contains, IfOk};
+ghost use Rattle.std.specs.List.Sorted.{IsStrictlySortedBy};
+ghost use Rattle.std.specs.Ordering.{nat_cmp};
+ghost use Rattle.avr_model.specs.Devices.{device_of, size_of};
+ghost use Rattle.certificate.specs.Valid.{family_of};
+ghost use Rattle.clear_laws.specs.Clear.{MayBeFlagged};
+ghost use Rattle.clear_laws.specs.Places.{IsPlaceOf};
+ghost use Rattle.store_clear.specs.Settling.{IsTold};
+ghost use Rattle.store_clear.specs.Takes.{AreMarkedBeside};
+ghost use Rattle.store_clear.specs.Causing.{IsProtectedBelow, is_unclear_at, IsProtectedAt, IsLiveAt, ArePlacesOf};
+
+use crate::need::is_indirect;
+use crate::store::Store;
+use crate::telling::{ToldNodes, passes};
+use crate::words::places;
+use crate::writes::{may_write_live, may_write_protected};
+use avr_model::instruction::Instr;
+use avr_model::listed::Listed;
+use call_graph::Task;
+use certificate::Certificate;
+use clear_laws::FlaggedPlace;
+use clear_laws::slots::Asks;
+use mask_states::NodeKey;
+use std::alloc::AllocError;
+
+// A word with its instruction.
+#[derive(Clone, Copy)]
+struct WordSite<'a> {
+    pc: u16,
+    instr: &'a Instr,
+}
+
+// Marks the addresses that a store may write and that are flagged as protected.
+fn mark_addresses(store: &Store<'_>, marks: &mut [bool])
+    requires { length marks.old ≡ 256 }
+    ensures { AreMarkedBeside (IsProtectedBelow store.now.flash.now store.now.assumptions.now store.now.pc store.now.state.now store.now.instr.now 256) marks.old marks.new }
+{
+    for address in 0..256u16 {
+        if may_write_protected(store, address) {
+            marks[usize::from(address)] = true;
+        }
+    }
+}
+
+// Whether a node that still asks this isn't clear, and lies at this word.
+fn is_unclear_at(pc: u16, key: &NodeKey, asks: Asks) -> bool
+    ensures { result ≡ is_unclear_at pc key.now asks }
+{
+    !passes(asks) && key.pc == pc
+}
+
+// Marks such addresses of all nodes there that aren't clear.
+fn mark_nodes(task: &Task<'_>, told: &ToldNodes<'_>, site: &WordSite<'_>, marks: &mut [bool])
+    requires same { length told.now.asks.now ≡ length told.now.nodes.now }
+    requires all { length marks.old ≡ 256 }
+    ensures { AreMarkedBeside (IsProtectedAt task.now.flash.now task.now.assumptions.now told.now.nodes.now told.now.asks.now site.now.pc site.now.instr.now (length told.now.asks.now)) marks.old marks.new }
+{
+    let _count = told.nodes.count();
+    for at in 0..told.asks.len() {
+        if is_unclear_at(site.pc, told.nodes.key(at), told.asks[at]) {
+            let store = Store {
+                flash: task.flash,
+                assumptions: task.assumptions,
+                pc: site.pc,
+                state: told.nodes.state(at),
+                instr: site.instr,
+            };
+            mark_addresses(&store, marks);
+        }
+    }
+}
+
+// The protected addresses that a store there may write at some node that isn't clear, ascending.
+fn protected_of(
+    task: &Task<'_>,
+    told: &ToldNodes<'_>,
+    site: &WordSite<'_>,
+) -> Result<Listed<u16>, AllocError>
+    requires { length told.now.asks.now ≡ length told.now.nodes.now }
+    ensures exact { IfOk result (λ list. (a : ℕ) → Contains list a ↔ IsProtectedAt task.now.flash.now task.now.assumptions.now told.now.nodes.now told.now.asks.now site.now.pc site.now.instr.now (length told.now.asks.now) a) }
+    ensures ascending { IfOk result (λ list. IsStrictlySortedBy nat_cmp list) }
+{
+    let mut marks = vec![in task.alloc; false; 256]?;
+    mark_nodes(task, told, site, marks.as_mut_slice());
+    places(task.alloc, &marks)
+}
+
+// Whether a store there may write a byte that was pushed at some node that isn't clear.
+fn is_live_at(task: &Task<'_>, bound: u16, told: &ToldNodes<'_>, site: &WordSite<'_>) -> bool
+    requires same { length told.now.asks.now ≡ length told.now.nodes.now }
+    requires small { bound ≤ size_of (device_of task.now.flash.now) }
+    ensures { (result ≡ true) ↔ IsLiveAt task.now.flash.now task.now.assumptions.now bound told.now.nodes.now told.now.asks.now site.now.pc site.now.instr.now (length told.now.asks.now) }
+{
+    let _count = told.nodes.count();
+    for at in 0..told.asks.len() {
+        let (key, state) = (told.nodes.key(at), told.nodes.state(at));
+        let store = Store {
+            flash: task.flash,
+            assumptions: task.assumptions,
+            pc: site.pc,
+            state,
+            instr: site.instr,
+        };
+        if is_unclear_at(site.pc, key, told.asks[at]) && may_write_live(&store, bound) {
+            return true;
+        }
+    }
+    false
+}
+
+// What may happen at a word at which some node isn't clear.
+fn place_at(
+    task: &Task<'_>,
+    certificate: &Certificate,
+    told: &ToldNodes<'_>,
+    pc: u16,
+) -> Result<FlaggedPlace, AllocError>
+    requires small { certificate.now.bound ≤ size_of (device_of task.now.flash.now) }
+    requires told { IsTold task.now.flash.now task.now.assumptions.now certificate.now told.now.nodes.now told.now.asks.now }
+    requires site { MayBeFlagged task.now.flash.now task.now.assumptions.now (family_of certificate.now told.now.nodes.now) pc }
+    ensures word { IfOk result (λ place. place.word ≡ pc) }
+    ensures exact { IfOk result (λ place. IsPlaceOf task.now.flash.now task.now.assumptions.now (family_of certificate.now told.now.nodes.now) place) }
+{
+    match task.flash.instruction(pc) {
+        None => Ok(FlaggedPlace {
+            word: pc,
+            protected: Listed::empty(task.alloc),
+            live: false,
+            transfer: false,
+        }),
+        Some(instr) => {
+            let site = WordSite { pc, instr: &instr };
+            let protected = protected_of(task, told, &site)?;
+            Ok(FlaggedPlace {
+                word: pc,
+                protected,
+                live: is_live_at(task, certificate.bound(), told, &site),
+                transfer: is_indirect(&instr),
+            })
+        }
+    }
+}
+
+// What may happen at each of these words, at each of which some node isn't clear.
+pub(crate) fn places_at(
+    task: &Task<'_>,
+    certificate: &Certificate,
+    told: &ToldNodes<'_>,
+    sites: &[u16],
+) -> Result<Listed<FlaggedPlace>, AllocError>
+    requires small { certificate.now.bound ≤ size_of (device_of task.now.flash.now) }
+    requires told { IsTold task.now.flash.now task.now.assumptions.now certificate.now told.now.nodes.now told.now.asks.now }
+    requires sites { (pc : ℕ) → Contains sites.now pc → MayBeFlagged task.now.flash.now task.now.assumptions.now (family_of certificate.now told.now.nodes.now) pc }
+    ensures { IfOk result (λ list. ArePlacesOf task.now.flash.now task.now.assumptions.now (family_of certificate.now told.now.nodes.now) sites.now list) }
+{
+    let mut list = Listed::empty(task.alloc);
+    for site in sites {
+        let place = place_at(task, certificate, told, *site)?;
+        list.push(place)?;
+    }
+    Ok(list)
+}

@@ -1,0 +1,219 @@
+//! What is said of a certificate's nodes that may flag a step.
+
+ghost use Rattle.std.specs.Prelude.{ℕ, ◌≡◌, ◌↔◌, List, [], IfOk};
+ghost use Rattle.edge_rules.specs.Expansion.{IsFilled};
+ghost use Rattle.call_graph.specs.Landings.{AreLandings};
+ghost use Rattle.certificate.specs.Claims.{Claim};
+ghost use Rattle.certificate.specs.Valid.{IsSound, MeetsConditions};
+ghost use Rattle.clear_laws.specs.Clear.{NeverFlagged};
+ghost use Rattle.clear_laws.specs.declared.verdict.ClearVerdict.TheVariants as verdicts;
+ghost use Rattle.clear_laws.specs.CertificateLaws.{IsBoundedAndClear, EndFlaggedAt, EndFlaggedAsTold};
+ghost use Rattle.clear_laws.specs.Places.{ArePlaces, AllTellCauses};
+ghost use Rattle.clear_laws.specs.Verdict.{AreAllClear, IsFirstUnclear, IsClearVerdict, AreSites, AreNevers};
+
+use crate::causes::places_at;
+use crate::takes::mark_takes;
+use crate::telling::{ToldNodes, tell};
+use crate::words::{first_unclear, places, sites_of};
+use avr_model::device::WORDS;
+use avr_model::listed::Listed;
+use call_graph::{Filled, Task, Worked};
+use certificate::Certificate;
+use clear_laws::{ClearVerdict, FlaggedPlace};
+use family_graph::worked_of;
+use flash_image::Flash;
+use local_rules::laws::words_have_16_bits;
+use std::alloc::{AllocError, Global};
+use vector_table::Assumptions;
+
+/// Whether each node of a certificate's family is clear, where there are no assumptions and all conditions hold but that on the schedule; if
+/// one isn't, the least such node, counted from 0, and its word address. Where each is clear, every run from reset keeps the bound, and no
+/// step of one is flagged: there is no premise on flags. The error is want of memory. No edge is worked out: each landing is looked at once,
+/// and once more for each slot on which a node rests. Source: own.
+pub fn clear_family(
+    task: &Task<'_>,
+    certificate: &Certificate,
+    family: &Worked,
+) -> Result<ClearVerdict, AllocError>
+    requires none { task.now.assumptions.now ≡ [] }
+    requires filled { IsFilled task.now.flash.now task.now.assumptions.now certificate.now.nodes family.now.nodes }
+    requires meets { MeetsConditions task.now.flash.now task.now.assumptions.now certificate.now family.now.nodes }
+    requires landings { AreLandings task.now.flash.now task.now.assumptions.now family.now.nodes family.now.landings }
+    ensures exact { IfOk result (λ verdict. IsClearVerdict task.now.flash.now certificate.now verdict) }
+    ensures clear { IfOk result (λ verdict. (verdict ≡ verdicts.Clear) ↔ AreAllClear task.now.flash.now [] certificate.now) }
+    ensures unclear { IfOk result (λ verdict. (j pc : ℕ) → (verdict ≡ verdicts.Unclear j pc) ↔ IsFirstUnclear task.now.flash.now [] certificate.now j pc) }
+    ensures never_flagged { IfOk result (λ verdict. verdict ≡ verdicts.Clear → IsBoundedAndClear task.now.flash.now certificate.now.bound) }
+{
+    words_have_16_bits(task.flash.words());
+    let _nodes = certificate.nodes();
+    let asks = tell(task, certificate, family)?;
+    match first_unclear(&asks) {
+        None => Ok(ClearVerdict::Clear),
+        Some(at) => Ok(ClearVerdict::Unclear(at as u32, family.nodes.key(at).pc)),
+    }
+}
+
+/// The word addresses at which a step may be flagged, ascending, each once: those of the nodes of a certificate's family that aren't clear,
+/// where all conditions hold but that on the schedule. Every run from reset that ends flagged ends at one of them, or by taking a vector
+/// that is assumed never to be taken; so where there is neither no run is flagged. The error is want of memory. No edge is worked out: each
+/// landing is looked at once, and once more for each slot on which a node rests. Source: own.
+pub fn flagged_sites_in(
+    task: &Task<'_>,
+    certificate: &Certificate,
+    family: &Worked,
+) -> Result<Listed<u16>, AllocError>
+    requires filled { IsFilled task.now.flash.now task.now.assumptions.now certificate.now.nodes family.now.nodes }
+    requires meets { MeetsConditions task.now.flash.now task.now.assumptions.now certificate.now family.now.nodes }
+    requires landings { AreLandings task.now.flash.now task.now.assumptions.now family.now.nodes family.now.landings }
+    ensures exact { IfOk result (λ sites. AreSites task.now.flash.now task.now.assumptions.now certificate.now sites) }
+    ensures told { IfOk result (λ sites. (nevers : List ℕ) → AreNevers task.now.flash.now task.now.assumptions.now certificate.now nevers → EndFlaggedAt task.now.flash.now task.now.assumptions.now sites nevers) }
+    ensures clear { IfOk result (λ sites. (sites ≡ []) ↔ AreAllClear task.now.flash.now task.now.assumptions.now certificate.now) }
+    ensures never_flagged { IfOk result (λ sites. sites ≡ [] → AreNevers task.now.flash.now task.now.assumptions.now certificate.now [] → NeverFlagged task.now.flash.now task.now.assumptions.now) }
+{
+    words_have_16_bits(task.flash.words());
+    let _nodes = certificate.nodes();
+    let asks = tell(task, certificate, family)?;
+    let told = ToldNodes {
+        nodes: &family.nodes,
+        asks: asks.as_slice(),
+    };
+    sites_of(task.alloc, &told)
+}
+
+/// The same word addresses, each with what may happen there by some node that isn't clear: which protected addresses a store may write that
+/// are flagged, whether one may write a byte that was pushed, whether a transfer may go to an unlisted word; and something may happen at
+/// each. What a run from reset is flagged for is told of the word at which it ends, unless it takes a vector that is assumed never to be
+/// taken. The error is want of memory. Beside what the words cost, each of them costs a look at each node. Source: own.
+pub fn flagged_places_in(
+    task: &Task<'_>,
+    certificate: &Certificate,
+    family: &Worked,
+) -> Result<Listed<FlaggedPlace>, AllocError>
+    requires filled { IsFilled task.now.flash.now task.now.assumptions.now certificate.now.nodes family.now.nodes }
+    requires meets { MeetsConditions task.now.flash.now task.now.assumptions.now certificate.now family.now.nodes }
+    requires landings { AreLandings task.now.flash.now task.now.assumptions.now family.now.nodes family.now.landings }
+    ensures exact { IfOk result (λ list. ArePlaces task.now.flash.now task.now.assumptions.now certificate.now list) }
+    ensures told { IfOk result (λ list. (nevers : List ℕ) → AreNevers task.now.flash.now task.now.assumptions.now certificate.now nevers → EndFlaggedAsTold task.now.flash.now task.now.assumptions.now list nevers) }
+    ensures causes { IfOk result (λ list. AllTellCauses list) }
+{
+    words_have_16_bits(task.flash.words());
+    let _nodes = certificate.nodes();
+    let asks = tell(task, certificate, family)?;
+    let told = ToldNodes {
+        nodes: &family.nodes,
+        asks: asks.as_slice(),
+    };
+    let sites = sites_of(task.alloc, &told)?;
+    places_at(task, certificate, &told, sites.as_slice())
+}
+
+/// The word addresses of vectors that are assumed never to be taken and that some of these nodes may take, ascending, each once, whichever
+/// certificate they are the nodes of. Taking such a vector is flagged. The error is want of memory. Source: own.
+pub fn never_takes_in(task: &Task<'_>, nodes: &Filled) -> Result<Listed<u16>, AllocError>
+    ensures exact { IfOk result (λ nevers. (c : Claim) → IsFilled task.now.flash.now task.now.assumptions.now c.nodes nodes.now → AreNevers task.now.flash.now task.now.assumptions.now c nevers) }
+{
+    let mut marks = vec![in task.alloc; false; usize::from(WORDS)]?;
+    mark_takes(task, nodes, marks.as_mut_slice());
+    places(task.alloc, &marks)
+}
+
+/// Whether each node of a certificate without assumptions is clear, where all conditions hold but that on its schedule; if one isn't,
+/// the least such node, counted from 0, and its word address. Where each is clear, every run from reset keeps the bound, and no step
+/// of one is flagged: there is no premise on flags. The error is want of memory. Each edge is looked at once, and once more for
+/// each slot on which a node rests. Source: own.
+pub fn clear_sites(
+    alloc: Global,
+    flash: &Flash,
+    certificate: &Certificate,
+) -> Result<ClearVerdict, AllocError>
+    requires { IsSound flash.now [] certificate.now }
+    ensures exact { IfOk result (λ verdict. IsClearVerdict flash.now certificate.now verdict) }
+    ensures clear { IfOk result (λ verdict. (verdict ≡ verdicts.Clear) ↔ AreAllClear flash.now [] certificate.now) }
+    ensures unclear { IfOk result (λ verdict. (j pc : ℕ) → (verdict ≡ verdicts.Unclear j pc) ↔ IsFirstUnclear flash.now [] certificate.now j pc) }
+    ensures never_flagged { IfOk result (λ verdict. verdict ≡ verdicts.Clear → IsBoundedAndClear flash.now certificate.now.bound) }
+{
+    let task = Task {
+        alloc,
+        flash,
+        assumptions: certificate.assumptions(),
+    };
+    let family = worked_of(&task, certificate)?;
+    let verdict = clear_family(&task, certificate, &family);
+    drop(family);
+    verdict
+}
+
+/// The word addresses at which a step may be flagged, ascending, each once: those of the nodes of a certificate that aren't clear under
+/// these assumptions, where all conditions hold but that on its schedule. Every run from reset that ends flagged ends at one of them, or
+/// by taking a vector that is assumed never to be taken; so where there is neither no run is flagged. The error is want of memory. Each
+/// edge is looked at once, and once more for each slot on which a node rests. Source: own.
+pub fn flagged_sites(
+    alloc: Global,
+    flash: &Flash,
+    assumptions: &Assumptions,
+    certificate: &Certificate,
+) -> Result<Listed<u16>, AllocError>
+    requires { IsSound flash.now assumptions.now certificate.now }
+    ensures exact { IfOk result (λ sites. AreSites flash.now assumptions.now certificate.now sites) }
+    ensures told { IfOk result (λ sites. (nevers : List ℕ) → AreNevers flash.now assumptions.now certificate.now nevers → EndFlaggedAt flash.now assumptions.now sites nevers) }
+    ensures clear { IfOk result (λ sites. (sites ≡ []) ↔ AreAllClear flash.now assumptions.now certificate.now) }
+    ensures never_flagged { IfOk result (λ sites. sites ≡ [] → AreNevers flash.now assumptions.now certificate.now [] → NeverFlagged flash.now assumptions.now) }
+{
+    let task = Task {
+        alloc,
+        flash,
+        assumptions,
+    };
+    let family = worked_of(&task, certificate)?;
+    let sites = flagged_sites_in(&task, certificate, &family);
+    drop(family);
+    sites
+}
+
+/// The same word addresses, each with what may happen there by some node that isn't clear: which protected addresses a store may write that
+/// are flagged, whether one may write a byte that was pushed, whether a transfer may go to an unlisted word; and something may happen at
+/// each. What a run from reset is flagged for is told of the word at which it ends, unless it takes a vector that is assumed never to be
+/// taken. The error is want of memory. Beside what the words cost, each of them costs a look at each node. Source: own.
+pub fn flagged_places(
+    alloc: Global,
+    flash: &Flash,
+    assumptions: &Assumptions,
+    certificate: &Certificate,
+) -> Result<Listed<FlaggedPlace>, AllocError>
+    requires { IsSound flash.now assumptions.now certificate.now }
+    ensures exact { IfOk result (λ list. ArePlaces flash.now assumptions.now certificate.now list) }
+    ensures told { IfOk result (λ list. (nevers : List ℕ) → AreNevers flash.now assumptions.now certificate.now nevers → EndFlaggedAsTold flash.now assumptions.now list nevers) }
+    ensures causes { IfOk result (λ list. AllTellCauses list) }
+{
+    let task = Task {
+        alloc,
+        flash,
+        assumptions,
+    };
+    let family = worked_of(&task, certificate)?;
+    let list = flagged_places_in(&task, certificate, &family);
+    drop(family);
+    list
+}
+
+/// The word addresses of vectors that are assumed never to be taken and that some node of a certificate may take, ascending, each once,
+/// where all conditions hold but that on its schedule. Taking such a vector is flagged. The error is want of memory. Source: own.
+pub fn never_takes(
+    alloc: Global,
+    flash: &Flash,
+    assumptions: &Assumptions,
+    certificate: &Certificate,
+) -> Result<Listed<u16>, AllocError>
+    requires { IsSound flash.now assumptions.now certificate.now }
+    ensures exact { IfOk result (λ nevers. AreNevers flash.now assumptions.now certificate.now nevers) }
+{
+    let task = Task {
+        alloc,
+        flash,
+        assumptions,
+    };
+    let family = worked_of(&task, certificate)?;
+    let nevers = never_takes_in(&task, &family.nodes);
+    drop(family);
+    nevers
+}

@@ -1,0 +1,183 @@
+//! What has to hold of a node's slots, so that none of its steps can be flagged.
+
+ghost use Rattle.std.specs.Prelude.{◌≡◌, ◌≤◌, ℕ, Bool, Some};
+ghost use Rattle.avr_model.specs.Assumptions as assumed;
+ghost use Rattle.avr_model.specs.Devices.{device_of, size_of};
+ghost use Rattle.avr_model.specs.Sites.{instruction_at};
+ghost use Rattle.avr_model.specs.Step as steps;
+ghost use Rattle.clear_laws.specs.Clear.{is_flagged_address, is_address_harmless, is_reach_harmless, is_aim_harmless, permits_pair, is_target_listed, are_targets_listed, is_transfer_listed, is_clear_by};
+ghost use Rattle.clear_laws.specs.Needs.{meets};
+
+use crate::aims::{aim, permits_number};
+use crate::numbers::are_addresses_harmless;
+use crate::store::Store;
+use abs_state::AbsState;
+use avr_model::device::BELOW;
+use avr_model::instruction::{Base, Instr, LowRegister};
+use clear_laws::slots::Asks;
+use clear_laws::stores::{Aim, Reach, Span};
+use flash_image::Flash;
+use local_reads::pointers::has;
+use local_rows::registers::pair;
+use local_rows::transfer::base_register;
+use mask_states::NodeKey;
+use vector_table::{Assumptions, is_protected};
+
+// Whether this is `ijmp` or `icall`.
+pub(crate) fn is_indirect(instr: &Instr) -> bool
+    ensures { result ≡ steps.is_indirect instr.now }
+{
+    match instr {
+        Instr::Ijmp => true,
+        Instr::Icall => true,
+        _ => false,
+    }
+}
+
+// Whether a list has this address.
+fn lists(items: &[u16], item: u16) -> bool
+    ensures { result ≡ assumed.lists items.now item }
+{
+    items.iter().any(|other| *other == item)
+}
+
+// Whether a write of this address at this word is flagged for a protected one.
+pub(crate) fn is_flagged_address(store: &Store<'_>, address: u16) -> bool
+    ensures { result ≡ is_flagged_address store.now.flash.now store.now.assumptions.now store.now.pc store.now.instr.now address }
+{
+    let is_store = matches!(store.instr, Instr::Std(..) | Instr::St(..));
+    let fixed = store.flash.is_fixed_site(store.assumptions, store.pc);
+    let protected = is_protected(address);
+    let listed = lists(store.assumptions.stores(store.pc), address);
+    is_store && !fixed && (protected && !listed)
+}
+
+// Whether a byte at this address isn't one that was pushed, and a write of it isn't flagged, where the stack takes at most this many bytes.
+pub(crate) fn is_address_harmless(store: &Store<'_>, bound: u16, address: u16) -> bool
+    requires { bound ≤ size_of (device_of store.now.flash.now) }
+    ensures { result ≡ is_address_harmless store.now.flash.now store.now.assumptions.now bound store.now.pc store.now.instr.now address }
+{
+    let ramend = store.flash.device().ramend();
+    (BELOW < address && address <= ramend - bound)
+        || ramend < address
+        || (address <= BELOW && !is_flagged_address(store, address))
+}
+
+// Whether a store to one of these addresses writes neither a live byte nor a flagged address.
+fn is_reach_harmless(store: &Store<'_>, bound: u16, reach: Reach) -> bool
+    requires { bound ≤ size_of (device_of store.now.flash.now) }
+    ensures { result ≡ is_reach_harmless store.now.flash.now store.now.assumptions.now bound store.now.pc store.now.instr.now reach }
+{
+    match reach {
+        Reach::Nothing => true,
+        Reach::Within(Span { first, last }) => {
+            let ramend = store.flash.device().ramend();
+            let flagged = is_flagged_address(store, first);
+            (BELOW < first && last <= ramend - bound)
+                || ramend < first
+                || (first == last && first <= BELOW && !flagged)
+        }
+        Reach::Beyond => false,
+    }
+}
+
+// What a store asks.
+fn asks_of_aim(store: &Store<'_>, bound: u16, key: &NodeKey, aim: Option<Aim>) -> Asks
+    requires at { store.now.pc ≡ key.now.pc }
+    requires small { bound ≤ size_of (device_of store.now.flash.now) }
+    ensures { (held : ℕ → Bool) → is_aim_harmless store.now.flash.now store.now.assumptions.now bound key.now store.now.state.now store.now.instr.now held aim ≡ meets result held }
+{
+    let Some(aim) = aim else {
+        return Asks::Nothing;
+    };
+    if is_reach_harmless(store, bound, aim.reach) || are_addresses_harmless(store, bound) {
+        return Asks::Nothing;
+    }
+    match aim.slot {
+        Some(slot) if slot < key.offset() => Asks::Free(slot),
+        _ => Asks::Never,
+    }
+}
+
+// Whether the registers may hold this number: by their bits alone, and where pairs are followed also by their ranges and their interval.
+fn permits_pair(state: &AbsState, r: LowRegister, number: u16) -> bool
+    ensures { result ≡ permits_pair state.now r number }
+{
+    match state.facts.get() {
+        Some(_) => permits_number(state, r, number),
+        None => {
+            let (low, high) = pair(state, r);
+            has(low.bits, (number % 256) as u8) && has(high.bits, (number / 256) as u8)
+        }
+    }
+}
+
+// Whether a word is listed to which Z may lead with this number, if that is permitted.
+fn is_target_listed(flash: &Flash, state: &AbsState, listed: &[u16], z: u16) -> bool
+    ensures { result ≡ is_target_listed (device_of flash.now) state.now listed.now z }
+{
+    let permitted = permits_pair(state, base_register(Base::Z), z);
+    !permitted || lists(listed, flash.device().wrap(z))
+}
+
+// Whether all words are listed to which Z may lead.
+fn are_targets_listed(flash: &Flash, state: &AbsState, listed: &[u16]) -> bool
+    ensures { result ≡ are_targets_listed (device_of flash.now) state.now (Some listed.now) }
+{
+    for z in 0..65536u32 {
+        if !is_target_listed(flash, state, listed, z as u16) {
+            return false;
+        }
+    }
+    true
+}
+
+// Whether an indirect transfer goes to listed words alone.
+fn is_transfer_listed(
+    flash: &Flash,
+    assumptions: &Assumptions,
+    pc: u16,
+    state: &AbsState,
+    instr: &Instr,
+) -> bool
+    ensures { result ≡ is_transfer_listed flash.now assumptions.now pc state.now instr.now }
+{
+    if !is_indirect(instr) {
+        return true;
+    }
+    match assumptions.jumps(pc) {
+        None => true,
+        Some(listed) => are_targets_listed(flash, state, listed),
+    }
+}
+
+// What a node asks of its slots to be clear, where the stack takes at most this many bytes.
+pub(crate) fn asked_by(
+    flash: &Flash,
+    assumptions: &Assumptions,
+    bound: u16,
+    key: &NodeKey,
+    state: &AbsState,
+) -> Asks
+    requires { bound ≤ size_of (device_of flash.now) }
+    ensures { (held : ℕ → Bool) → is_clear_by flash.now assumptions.now bound key.now state.now held (instruction_at flash.now key.now.pc) ≡ meets result held }
+{
+    match flash.instruction(key.pc) {
+        None => Asks::Nothing,
+        Some(instr) => {
+            let aim = aim(flash.device(), key, state, &instr);
+            if is_transfer_listed(flash, assumptions, key.pc, state, &instr) {
+                let store = Store {
+                    flash,
+                    assumptions,
+                    pc: key.pc,
+                    state,
+                    instr: &instr,
+                };
+                asks_of_aim(&store, bound, key, aim)
+            } else {
+                Asks::Never
+            }
+        }
+    }
+}

@@ -1,0 +1,103 @@
+//! Whether each address to which a store's byte may go is harmless, where pairs are followed.
+
+ghost use Rattle.std.specs.Prelude.{ℕ, ◌≡◌, ◌≤◌, Some};
+ghost use Rattle.avr_model.specs.Devices.{device_of, size_of};
+ghost use Rattle.clear_laws.specs.Aims.{is_between, is_in_interval};
+ghost use Rattle.clear_laws.specs.Clear.{are_addresses_harmless};
+ghost use Rattle.store_clear.specs.Numbers.{is_range_harmless, is_number_harmless, are_numbers_harmless};
+
+use crate::aims::permits_bytes;
+use crate::need::is_address_harmless;
+use crate::store::Store;
+use avr_model::device::BELOW;
+use avr_model::instruction::{Instr, LowRegister};
+use flash_image::Flash;
+use local_reads::pointers::step_before;
+use local_rows::transfer::{base_register, pointer_register};
+use pair_domain::{Interval, PairFacts};
+use pair_told::told::interval_of;
+
+// Whether the addresses from the first to the last lie in SRAM below what the stack can reach, or above SRAM. Where the last is less than the
+// first they go round the end of data space.
+fn is_range_harmless(flash: &Flash, bound: u16, first: u16, last: u16) -> bool
+    requires { bound ≤ size_of (device_of flash.now) }
+    ensures { result ≡ is_range_harmless (device_of flash.now) bound first last }
+{
+    let ramend = flash.device().ramend();
+    first <= last && ((BELOW < first && last <= ramend - bound) || ramend < first)
+}
+
+// Whether the bytes of registers `r` and `r + 1` don't permit a number, or it leads to a harmless address, with `up` added.
+fn is_number_harmless(store: &Store<'_>, bound: u16, r: LowRegister, up: u16, number: u16) -> bool
+    requires { bound ≤ size_of (device_of store.now.flash.now) }
+    ensures { result ≡ is_number_harmless store.now.flash.now store.now.assumptions.now bound store.now.pc store.now.state.now store.now.instr.now r up number }
+{
+    let address = number.wrapping_add(up);
+    !permits_bytes(store.state, r, number) || is_address_harmless(store, bound, address)
+}
+
+// Whether each number of an interval that registers `r` and `r + 1` may hold leads to a harmless address, with `up` added. They may hold no
+// others.
+fn is_interval_harmless(
+    store: &Store<'_>,
+    bound: u16,
+    r: LowRegister,
+    up: u16,
+    interval: Interval,
+) -> bool
+    requires small { bound ≤ size_of (device_of store.now.flash.now) }
+    requires follows { (p : ℕ) → is_in_interval store.now.state.now.facts r p ≡ is_between interval.low interval.high p }
+    ensures { result ≡ are_numbers_harmless store.now.flash.now store.now.assumptions.now bound store.now.pc store.now.state.now store.now.instr.now r up }
+{
+    let first = interval.low.wrapping_add(up);
+    let last = interval.high.wrapping_add(up);
+    if is_range_harmless(store.flash, bound, first, last) {
+        return true;
+    }
+    for number in u32::from(interval.low)..u32::from(interval.high) + 1 {
+        let number = number as u16;
+        if !is_number_harmless(store, bound, r, up, number) {
+            return false;
+        }
+    }
+    true
+}
+
+// Whether each number that registers `r` and `r + 1` may hold leads to a harmless address, with `up` added.
+fn are_numbers_harmless(
+    store: &Store<'_>,
+    bound: u16,
+    facts: &PairFacts,
+    r: LowRegister,
+    up: u16,
+) -> bool
+    requires small { bound ≤ size_of (device_of store.now.flash.now) }
+    requires follows { store.now.state.now.facts ≡ Some facts.now }
+    ensures { result ≡ are_numbers_harmless store.now.flash.now store.now.assumptions.now bound store.now.pc store.now.state.now store.now.instr.now r up }
+{
+    let interval = interval_of(facts, r.widened());
+    is_interval_harmless(store, bound, r, up, interval)
+}
+
+// Whether pairs are followed, and each address to which the byte of an instruction may go is harmless, where the stack takes at most this
+// many bytes.
+pub(crate) fn are_addresses_harmless(store: &Store<'_>, bound: u16) -> bool
+    requires { bound ≤ size_of (device_of store.now.flash.now) }
+    ensures { result ≡ are_addresses_harmless store.now.flash.now store.now.assumptions.now bound store.now.pc store.now.state.now store.now.instr.now }
+{
+    let Some(facts) = store.state.facts.get() else {
+        return false;
+    };
+    match store.instr {
+        Instr::Std(base, q, _) => {
+            let (r, up) = (base_register(*base), q.get());
+            are_numbers_harmless(store, bound, &facts, r, up)
+        }
+        Instr::St(pointer, _) => {
+            let (r, up) = (pointer_register(*pointer), step_before(*pointer));
+            are_numbers_harmless(store, bound, &facts, r, up)
+        }
+        Instr::Sts(address, _) => is_address_harmless(store, bound, *address),
+        _ => true,
+    }
+}

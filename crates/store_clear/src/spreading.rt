@@ -1,0 +1,122 @@
+//! Along which edges slots spread, by the numbers of nodes.
+
+ghost use Rattle.std.specs.Prelude.{◌≡◌, ◌++◌, map, IfOk, OnOk};
+ghost use Rattle.call_graph.specs.Landings.{AreLandings};
+ghost use Rattle.clear_laws.specs.Held as held;
+ghost use Rattle.clear_laws.specs.Links.{offsets_of};
+ghost use Rattle.store_clear.specs.Settling.{links_by, seeds_by, AreSlotSeeds, SpreadsAlong};
+
+use avr_model::instruction::Instr;
+use avr_model::listed::Listed;
+use call_graph::{Filled, Landing, Task, Worked};
+use clear_laws::slots::SlotSeed;
+use edge_rules::edge::is_entry;
+use flash_image::Flash;
+use mask_states::EdgeKind;
+use std::alloc::{AllocError, Global};
+
+// Along which edges slots spread, by the numbers of nodes.
+#[derive(Drop)]
+pub(crate) struct Frames {
+    // By node, to which nodes its edges lead that stay in its frame.
+    pub links: Listed<Listed<u32>>,
+    // By node, how many slots it has.
+    pub offsets: Listed<u16>,
+    // The slots that guarded pushes add.
+    pub seeds: Listed<SlotSeed>,
+}
+
+// Where edges land that stay in their frame, of those that land so.
+fn links_of(alloc: Global, landings: &[Landing]) -> Result<Listed<u32>, AllocError>
+    ensures { IfOk result (λ to. to ≡ links_by landings.now) }
+{
+    let mut to = Listed::empty(alloc);
+    for landing in landings {
+        if !is_entry(landing.kind) {
+            to.push(landing.at)?;
+        }
+    }
+    Ok(to)
+}
+
+// The same of each node.
+fn all_links(alloc: Global, landings: &[Listed<Landing>]) -> Result<Listed<Listed<u32>>, AllocError>
+    ensures { IfOk result (λ links. links ≡ map links_by landings.now) }
+{
+    let mut links = Listed::empty(alloc);
+    for at in 0..landings.len() {
+        links.push(links_of(alloc, landings[at].as_slice())?)?;
+    }
+    Ok(links)
+}
+
+// How many slots each node has.
+fn offsets_of(alloc: Global, nodes: &Filled) -> Result<Listed<u16>, AllocError>
+    ensures { IfOk result (λ offsets. offsets ≡ offsets_of nodes.now) }
+{
+    let mut offsets = Listed::empty(alloc);
+    for at in 0..nodes.count() {
+        offsets.push(nodes.key(at).offset())?;
+    }
+    Ok(offsets)
+}
+
+// Whether a guarded byte is pushed at this word.
+fn is_guarded_push(flash: &Flash, pc: u16) -> bool
+    ensures { result ≡ held.is_guarded_push flash.now pc }
+{
+    match flash.instruction(pc) {
+        None => false,
+        Some(instr) => matches!(&instr, Instr::Push(_)) && !flash.is_scratch(pc),
+    }
+}
+
+// Where local edges land, of those that land so, with the slot that is pushed there.
+fn add_seeds(
+    landings: &[Landing],
+    slot: u16,
+    seeds: &mut Listed<SlotSeed>,
+) -> Result<(), AllocError>
+    ensures { OnOk result (seeds.new ≡ seeds.old ++ seeds_by slot landings.now) }
+{
+    for landing in landings {
+        if matches!(landing.kind, EdgeKind::Local) {
+            seeds.push(SlotSeed {
+                node: landing.at,
+                slot,
+            })?;
+        }
+    }
+    Ok(())
+}
+
+// The slots that guarded pushes add.
+fn all_seeds(task: &Task<'_>, family: &Worked) -> Result<Listed<SlotSeed>, AllocError>
+    requires { AreLandings task.now.flash.now task.now.assumptions.now family.now.nodes family.now.landings }
+    ensures { IfOk result (AreSlotSeeds task.now.flash.now task.now.assumptions.now family.now.nodes) }
+{
+    let mut seeds = Listed::empty(task.alloc);
+    let landings = family.landings.as_slice();
+    for at in 0..family.nodes.count() {
+        let key = family.nodes.key(at);
+        if is_guarded_push(task.flash, key.pc) {
+            add_seeds(landings[at].as_slice(), key.offset(), &mut seeds)?;
+        }
+    }
+    Ok(seeds)
+}
+
+// Along which edges slots spread. No local part is worked out for it.
+pub(crate) fn frames_of(task: &Task<'_>, family: &Worked) -> Result<Frames, AllocError>
+    requires { AreLandings task.now.flash.now task.now.assumptions.now family.now.nodes family.now.landings }
+    ensures { IfOk result (λ f. SpreadsAlong task.now.flash.now task.now.assumptions.now family.now.nodes f.links f.offsets f.seeds) }
+{
+    let seeds = all_seeds(task, family)?;
+    let offsets = offsets_of(task.alloc, &family.nodes)?;
+    let links = all_links(task.alloc, family.landings.as_slice())?;
+    Ok(Frames {
+        links,
+        offsets,
+        seeds,
+    })
+}

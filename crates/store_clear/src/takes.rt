@@ -1,0 +1,49 @@
+//! The words of vectors that are assumed never to be taken, and that some node may take.
+
+ghost use Rattle.std.specs.Prelude.{◌≡◌, ◌≤◌, length};
+ghost use Rattle.avr_model.specs.Image.{WORDS};
+ghost use Rattle.store_clear.specs.Takes.{AreMarkedBeside, is_take, IsTakenBelow, may_take, IsTakenAt};
+
+use call_graph::{Filled, Task};
+use mask_states::NodeKey;
+
+// Whether a vector is enabled, and its word has a `never` line.
+fn is_take(task: &Task<'_>, key: &NodeKey, v: u8) -> bool
+    requires low { 2 ≤ v }
+    requires high { v ≤ 26 }
+    ensures { result ≡ is_take task.now.flash.now task.now.assumptions.now key.now v }
+{
+    key.masks.has(v) && task.assumptions.never(task.flash.device().vector_word(v))
+}
+
+// Marks the words of all such vectors.
+fn mark_vectors(task: &Task<'_>, key: &NodeKey, marks: &mut [bool])
+    requires { length marks.old ≡ WORDS }
+    ensures { AreMarkedBeside (IsTakenBelow task.now.flash.now task.now.assumptions.now key.now 25) marks.old marks.new }
+{
+    for n in 0..25u8 {
+        if is_take(task, key, n + 2) {
+            marks[usize::from(task.flash.device().vector_word(n + 2))] = true;
+        }
+    }
+}
+
+// Whether an interrupt may come.
+fn may_take(key: &NodeKey) -> bool
+    ensures { result ≡ may_take key.now }
+{
+    key.i && !key.delay
+}
+
+// Marks the words of the vectors that a node may take and that have a `never` line.
+pub(crate) fn mark_takes(task: &Task<'_>, nodes: &Filled, marks: &mut [bool])
+    requires { length marks.old ≡ WORDS }
+    ensures { AreMarkedBeside (IsTakenAt task.now.flash.now task.now.assumptions.now nodes.now (length nodes.now)) marks.old marks.new }
+{
+    for at in 0..nodes.count() {
+        let key = nodes.key(at);
+        if may_take(key) {
+            mark_vectors(task, key, marks);
+        }
+    }
+}

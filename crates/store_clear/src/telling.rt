@@ -1,0 +1,65 @@
+//! Which nodes of a certificate are clear.
+
+ghost use Rattle.std.specs.Prelude.{◌≡◌, ◌≤◌, IfOk};
+ghost use Rattle.avr_model.specs.Devices.{device_of, size_of};
+ghost use Rattle.call_graph.specs.Landings.{AreLandings};
+ghost use Rattle.store_clear.specs.Settling.{passes, AreAsked, AreTold};
+
+use crate::need::asked_by;
+use crate::settling::settle;
+use crate::spreading::frames_of;
+use call_graph::{Filled, Task, Worked};
+use certificate::Certificate;
+use clear_laws::slots::Asks;
+use std::alloc::AllocError;
+
+// Nodes, and what each still asks: nothing where it is clear.
+#[derive(Clone, Copy)]
+pub(crate) struct ToldNodes<'a> {
+    // The nodes with their states.
+    pub nodes: &'a Filled,
+    // What each asks, by its number.
+    pub asks: &'a [Asks],
+}
+
+// Whether a node that still asks this is clear.
+pub(crate) fn passes(asks: Asks) -> bool
+    ensures { result ≡ passes asks }
+{
+    match asks {
+        Asks::Nothing => true,
+        _ => false,
+    }
+}
+
+// What each node asks to be clear, by its number, where the stack takes at most this many bytes.
+fn asked(task: &Task<'_>, bound: u16, nodes: &Filled) -> Result<Vec<Asks>, AllocError>
+    requires { bound ≤ size_of (device_of task.now.flash.now) }
+    ensures { IfOk result (λ asks. AreAsked task.now.flash.now task.now.assumptions.now bound nodes.now asks.items) }
+{
+    let mut asks = Vec::new(task.alloc);
+    for at in 0..nodes.count() {
+        let (key, state) = (nodes.key(at), nodes.state(at));
+        asks.push(asked_by(task.flash, task.assumptions, bound, key, state))?;
+    }
+    Ok(asks)
+}
+
+// What each node of a certificate's family still asks.
+pub(crate) fn tell(
+    task: &Task<'_>,
+    certificate: &Certificate,
+    family: &Worked,
+) -> Result<Vec<Asks>, AllocError>
+    requires small { certificate.now.bound ≤ size_of (device_of task.now.flash.now) }
+    requires landings { AreLandings task.now.flash.now task.now.assumptions.now family.now.nodes family.now.landings }
+    ensures { IfOk result (λ asks. AreTold task.now.flash.now task.now.assumptions.now certificate.now family.now.nodes asks.items) }
+{
+    let _count = family.nodes.count();
+    let mut asks = asked(task, certificate.bound(), &family.nodes)?;
+    let frames = frames_of(task, family)?;
+    let settled = settle(task.alloc, &frames, asks.as_mut_slice());
+    drop(frames);
+    settled?;
+    Ok(asks)
+}

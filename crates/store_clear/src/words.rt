@@ -1,0 +1,62 @@
+//! The nodes that aren't clear: the first of them, and their words.
+
+ghost use Rattle.std.specs.Prelude.{◌≡◌, ◌≤◌, length, IfOk};
+ghost use Rattle.avr_model.specs.Image.{WORDS};
+ghost use Rattle.store_clear.specs.Settling.{IsFirstAsking, AreWordsMarked, places_of};
+ghost use Rattle.store_clear.specs.Causing.{AreSitesTold};
+
+use crate::telling::{ToldNodes, passes};
+use avr_model::device::WORDS;
+use avr_model::listed::Listed;
+use clear_laws::slots::Asks;
+use std::alloc::{AllocError, Global};
+
+// The number of the first that still asks something.
+pub(crate) fn first_unclear(asks: &[Asks]) -> Option<usize>
+    ensures { IsFirstAsking asks.now result }
+{
+    for at in 0..asks.len() {
+        if !passes(asks[at]) {
+            return Some(at);
+        }
+    }
+    None
+}
+
+// Marks the words of the nodes that still ask something.
+fn mark_words(told: &ToldNodes<'_>, marks: &mut [bool])
+    requires same { length told.now.asks.now ≡ length told.now.nodes.now }
+    requires all { length marks.old ≡ WORDS }
+    ensures { AreWordsMarked told.now.nodes.now told.now.asks.now (length told.now.asks.now) marks.old marks.new }
+{
+    let _count = told.nodes.count();
+    for at in 0..told.asks.len() {
+        if !passes(told.asks[at]) {
+            marks[usize::from(told.nodes.key(at).pc)] = true;
+        }
+    }
+}
+
+// The numbers of those that are marked, ascending.
+pub(crate) fn places(alloc: Global, marks: &[bool]) -> Result<Listed<u16>, AllocError>
+    requires { length marks.now ≤ 65536 }
+    ensures { IfOk result (λ places. places ≡ places_of marks.now) }
+{
+    let mut places = Listed::empty(alloc);
+    for at in 0..marks.len() {
+        if marks[at] {
+            places.push(at as u16)?;
+        }
+    }
+    Ok(places)
+}
+
+// The words at which some node isn't clear, ascending, each once.
+pub(crate) fn sites_of(alloc: Global, told: &ToldNodes<'_>) -> Result<Listed<u16>, AllocError>
+    requires { length told.now.asks.now ≡ length told.now.nodes.now }
+    ensures { IfOk result (λ sites. AreSitesTold told.now.nodes.now told.now.asks.now sites) }
+{
+    let mut marks = vec![in alloc; false; usize::from(WORDS)]?;
+    mark_words(told, marks.as_mut_slice());
+    places(alloc, &marks)
+}

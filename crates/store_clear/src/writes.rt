@@ -1,0 +1,77 @@
+//! What may happen where a node's step may be flagged.
+
+ghost use Rattle.std.specs.Prelude.{◌≡◌, ◌≤◌};
+ghost use Rattle.avr_model.specs.Devices.{device_of, size_of};
+ghost use Rattle.clear_laws.specs.Aims.{may_write};
+ghost use Rattle.clear_laws.specs.Causes.{may_write_protected, may_write_some_protected, may_write_stack, may_write_live};
+
+use crate::aims::permits_number;
+use crate::need::{is_flagged_address, is_indirect};
+use crate::store::Store;
+use abs_state::AbsState;
+use avr_model::instruction::Instr;
+use flash_image::Flash;
+use local_reads::pointers::step_before;
+use local_rows::transfer::{base_register, pointer_register};
+
+// Whether a store's byte may go to this address.
+fn may_write(state: &AbsState, instr: &Instr, address: u16) -> bool
+    ensures { result ≡ may_write state.now instr.now address }
+{
+    match instr {
+        Instr::Std(base, q, _) => {
+            let number = address.wrapping_sub(q.get());
+            permits_number(state, base_register(*base), number)
+        }
+        Instr::St(pointer, _) => {
+            let number = address.wrapping_sub(step_before(*pointer));
+            permits_number(state, pointer_register(*pointer), number)
+        }
+        Instr::Sts(only, _) => *only == address,
+        _ => false,
+    }
+}
+
+// Whether the byte of a store at this word may go to this data address, and a write of it is flagged as that of a protected one.
+pub(crate) fn may_write_protected(store: &Store<'_>, address: u16) -> bool
+    ensures { result ≡ may_write_protected store.now.flash.now store.now.assumptions.now store.now.pc store.now.state.now store.now.instr.now address }
+{
+    is_flagged_address(store, address) && may_write(store.state, store.instr, address)
+}
+
+// The same of some address.
+fn may_write_some_protected(store: &Store<'_>) -> bool
+    ensures { result ≡ may_write_some_protected store.now.flash.now store.now.assumptions.now store.now.pc store.now.state.now store.now.instr.now }
+{
+    for address in 0..256u16 {
+        if may_write_protected(store, address) {
+            return true;
+        }
+    }
+    false
+}
+
+// Whether the byte of a store may go where the stack can reach by the bound.
+fn may_write_stack(flash: &Flash, bound: u16, state: &AbsState, instr: &Instr) -> bool
+    requires { bound ≤ size_of (device_of flash.now) }
+    ensures { result ≡ may_write_stack (device_of flash.now) bound state.now instr.now }
+{
+    let last = flash.device().ramend();
+    for depth in 0..bound {
+        if may_write(state, instr, last - depth) {
+            return true;
+        }
+    }
+    false
+}
+
+// Whether a store at this word that isn't harmless may write a byte that was pushed, where the stack takes at most this many bytes: it may
+// go where the stack can reach, or pairs aren't followed and nothing else is told of it.
+pub(crate) fn may_write_live(store: &Store<'_>, bound: u16) -> bool
+    requires { bound ≤ size_of (device_of store.now.flash.now) }
+    ensures { result ≡ may_write_live store.now.flash.now store.now.assumptions.now bound store.now.pc store.now.state.now store.now.instr.now }
+{
+    may_write_stack(store.flash, bound, store.state, store.instr)
+        || (!store.state.facts.is_followed()
+            && !(is_indirect(store.instr) || may_write_some_protected(store)))
+}
