@@ -1,6 +1,7 @@
 -- Lines that are written one after the other.
-use Rattle.std.proofs.Common.{ℕ, ◌+◌, ◌<◌, ◌≡◌, List, [], ◌∷◌, ◌++◌, length, map, take, get_or, Option, false, ap, sym, refl, ◌∙◌, append-nil, codes}
+use Rattle.std.proofs.Common.{ℕ, ◌+◌, ◌<◌, ◌≡◌, List, [], ◌∷◌, ◌++◌, length, map, take, get_or, slice_get, Option, Some, false, ap, sym, refl, ◌∙◌, append-nil, codes}
 use Rattle.std.proofs.lemmas.List.{map-append, take_more}
+use Rattle.std.proofs.lemmas.Option.{slice_get_within, get_or_from_slice_get}
 use Rattle.std.proofs.lemmas.Grind.{flat_map-append}
 use Rattle.std.specs.List.{flat_map}
 use Rattle.indirect_targets.proofs.AllLaws.{none_begun}
@@ -21,12 +22,12 @@ texts_next {A} f xs i x lt =
     ∙ flat_map-append f (take i xs) (get_or xs i x ∷ [])
     ∙ ap (λ (ys : List ℕ). flat_map f (take i xs) ++ ys) (append-nil (f (get_or xs i x)))
 
-pub text_after : {A : Type 0} (f : A → List ℕ) (w v u : Written) (xs : List A) (i : ℕ) (x : A) → i < length xs → x ≡ get_or xs i x → v ≡ with_text w (flat_map f (take i xs)) → u ≡ with_text v (f x)
+pub text_after : {A : Type 0} (f : A → List ℕ) (w v u : Written) (xs : List A) (i : ℕ) (x : A) → slice_get xs i ≡ Some x → v ≡ with_text w (flat_map f (take i xs)) → u ≡ with_text v (f x)
     → u ≡ with_text w (flat_map f (take (i + 1) xs))
-text_after {A} f w v u xs i x lt is e g =
+text_after {A} f w v u xs i x at e g =
     more_text w v u (flat_map f (take i xs)) (f x) e g
-    ∙ ap (λ (y : A). with_text w (flat_map f (take i xs) ++ f y)) is
-    ∙ ap (with_text w) (sym (texts_next f xs i x lt))
+    ∙ ap (λ (y : A). with_text w (flat_map f (take i xs) ++ f y)) (sym (get_or_from_slice_get xs i x x at))
+    ∙ ap (with_text w) (sym (texts_next f xs i x (slice_get_within xs i x at)))
 
 -- two lines
 pub two_lines : AppendingLaws → (w v u : Written) (a b : List (List ℕ)) → w.begun ≡ false → v ≡ with_end (with_words w a) → u ≡ with_end (with_words v b) → u ≡ with_text w (line a ++ line b)
