@@ -2,3 +2,4 @@ pub mod Booleans
 pub mod Numbers
 pub mod Lists
 pub mod Items
+pub mod Results

@@ -16,7 +16,7 @@ use certificate::Certificate;
 use edge_laws::expansions::filled_or_missing;
 use family_graph::{deepest_chain, worked_of};
 use flash_image::Flash;
-use round_laws::reaching::rounds_are_reached;
+use round_laws::laws::rounds_are_reached;
 use std::alloc::{AllocError, Global};
 use vector_table::Assumptions;
 

@@ -4,7 +4,7 @@ ghost use Rattle.chain_explain.specs.Laws.{ExplanationsAreOne, ExplanationsTell}
 
 use edge_laws::expansions::filled_or_missing;
 use family_graph::laws::{deepest_chains_are_bounded, deepest_chains_are_one};
-use round_laws::reaching::rounds_are_reached;
+use round_laws::laws::rounds_are_reached;
 
 /// A certificate has at most one explanation. Its parts nest from the root on and add up to its number, which is at most the bound of
 /// the certificate, and the bound itself where the rounds end with this certificate.

@@ -2,16 +2,11 @@
 use Rattle.std.proofs.Common.{ℕ, ◌+◌, ◌<◌, ◌≡◌, List, [], ◌∷◌, ◌++◌, length, take, drop, get_or, Bool, false, Result, Ok, Err, refl, inl, inr, ap, sym, ◌∙◌, subst, append_assoc, append-nil}
 use Rattle.std.proofs.lemmas.List.{take-append-drop, map-append, take_more}
 use Rattle.std.proofs.lemmas.Grind.{flat_map-append}
-use Rattle.std.specs.Result.{OnErr}
 use Rattle.avr_model.specs.declared.assumption.Entry.{Entry}
 use Rattle.sb_base.specs.Digits.{hex_digits}
 use Rattle.sb_base.specs.Writing.{Written, with_word, with_words, with_end}
 use Rattle.line_reading.specs.Appending.{with_text, AppendedPart, WroteWords, AppendingLaws}
 use Rattle.indirect_targets.specs.Spelling.{number_words, entry_words, line_of, text_of}
-
-pub on_err : {X E : Type 0} (r : Result X E) (P : Type 0) → P → OnErr r P
-on_err (Ok x) P p = tt
-on_err (Err e) P p = p
 
 -- ---- words
 

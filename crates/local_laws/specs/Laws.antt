@@ -88,9 +88,6 @@ HasKey nodes k = (n : Node) × (Contains nodes n × (n.key ≡ k))
 abbrev pub AreNodesIn : Bool → List Node → Type 0
 AreNodesIn followed nodes = (n : Node) → Contains nodes n → IsNodeIn followed n.key n.state
 
-abbrev pub AreNodes : List Node → Type 0
-AreNodes nodes = AreNodesIn false nodes
-
 -- Joined successors ascend strictly by key. Each raw one is below the one of its key, and a state above all raw ones of a key is above
 -- the joined one.
 pub record JoinsAreLeast : Type 0 where

@@ -12,7 +12,7 @@ use flash_image::laws::{narrowing_is_exact, raw_images_are_their_words};
 use guided_trials::laws::trials_are_led;
 use indirect_targets::laws::reading_is_exact;
 use round_laws::laws::{rounds_are_least, solutions_are_valid};
-use round_solutions::answers::answers_are_one;
+use round_solutions::laws::answers_are_one;
 use witness_replay::laws::replays_are_runs;
 use witness_search::laws::trials_are_due;
 

@@ -1,7 +1,9 @@
 //! Laws of the rounds, each as the contract of a function that does nothing.
 
 ghost use Rattle.round_laws.specs.Closed.{ClosedFamiliesEndRounds};
+ghost use Rattle.round_laws.specs.Graphs.{GraphsTell};
 ghost use Rattle.round_laws.specs.Laws.{FamiliesAreTheirNodes, RoundsAreJoins, RoundsAreLeast, RoundsEndOnce, SolutionsAreValid};
+ghost use Rattle.round_laws.specs.Reached.{RoundsAreReached};
 
 /// The rounds come to one family at each number. It lies below that of each valid certificate, and no test holds of it where there is
 /// one.
@@ -25,4 +27,14 @@ pub fn solutions_are_valid()
 pub fn rounds_are_joins()
     ensures nodes { FamiliesAreTheirNodes }
     ensures joins { RoundsAreJoins }
+{}
+
+/// A cycle of the graph is one of the family, and least ranks and needs of the graph are those of the family.
+pub fn graphs_tell()
+    ensures { GraphsTell }
+{}
+
+/// What holds of the node at reset, and is kept along each edge of a family to which the rounds come, holds of each of its nodes.
+pub fn rounds_are_reached()
+    ensures { RoundsAreReached }
 {}

@@ -14,7 +14,7 @@ use crate::verdict::NestingVerdict;
 use indexmap::IndexSet;
 use mask_states::{InstKey, Kind};
 use nesting_bound::{ComposeFault, Graph, GraphInst, compose};
-use round_laws::graphs::graphs_tell;
+use round_laws::laws::graphs_tell;
 use std::alloc::{AllocError, Global};
 
 // How an instance that reaches itself is named.

@@ -1,6 +1,4 @@
 //! The laws of the certificates of solved families, and that the analysis has one answer.
 #![tactic(auto)]
 
-pub mod answers;
-pub mod closing;
 pub mod laws;

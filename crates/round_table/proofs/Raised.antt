@@ -1,6 +1,6 @@
 -- A table whose nodes share states, with one node raised.
 use Rattle.std.proofs.Common.{◌≡◌, ◌≢◌, ◌↔◌, refl, sym, ap, ◌∙◌, subst, ℕ, Bool, false, cond, Option, Some, None, List, length, Result, Ok, Err}
-use Rattle.std.specs.Prelude.{IsTrue, IsSome, OnErr}
+use Rattle.std.specs.Prelude.{IsTrue, IsSome}
 use Rattle.std.specs.List.{IsDistinct}
 use Rattle.std.specs.Map.{lookup, keys_of, set_value}
 use Rattle.std.specs.Option.{option_map}
@@ -101,9 +101,3 @@ joined_so a s t w other held copied joined = joined ∙ ap (λ (x : AbsState). s
 
 pub is_there : (pool : Uses) (n : ℕ) (s : AbsState) (count : ℕ) → IsStateHeld pool n s count → IsSome (get pool n)
 is_there pool n s count held = subst IsSome (sym held) refl
-
--- ---- want of memory
-
-pub if_err : {V E : Type 0} (r : Result V E) (P : Type 0) → P → OnErr r P
-if_err (Ok v) P p = tt
-if_err (Err e) P p = p

@@ -265,10 +265,6 @@ failed o holds before after blamed name status text fault three told = inr (reco
 
 -- ---- where memory is wanting
 
-grown-none : (o : Option (List ℕ)) → o ≡ grown o []
-grown-none None = refl
-grown-none (Some bytes) = ap Some (sym (append-nil bytes))
-
 -- ---- where the whole text was written
 
 pub written_of : (o : Option Command) (holds : List ℕ → Held) (before after : ℕ) (blamed : Blamed) (status : ℕ) (text : List ℕ) (old new : Option (List ℕ)) → IsOutcome o holds before after blamed status text

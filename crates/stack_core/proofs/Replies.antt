@@ -84,13 +84,6 @@ refused_as : (words : List ℕ) (A : List Entry) (next : Claim → Reply) (x : R
     → CertificateReply words A next x 8 text
 refused_as words A next x f text e t = subst (λ y. CertificateReply words A next y 8 text) (sym e) (subst (λ o. Refuses 8 o 8 text) (sym t) (refl, refl))
 
-unread_reply : (words : List ℕ) (A : List Entry) (next : Claim → Reply) (x : Result Claim CertFault) (f : CertFault) (text : List ℕ) → (f ≢ fault.Memory → x ≡ Err f) → certificate_refused f ≡ Some text
-    → CertificateReply words A next x 8 text
-unread_reply words A next x (fault.Malformed at) text e t = refused_as words A next x (fault.Malformed at) text (e (λ w. cc)) t
-unread_reply words A next x (fault.Order at) text e t = refused_as words A next x (fault.Order at) text (e (λ w. cc)) t
-unread_reply words A next x (fault.Limit l) text e t = refused_as words A next x (fault.Limit l) text (e (λ w. cc)) t
-unread_reply words A next x fault.Memory text e t = absurd (let wrong = t in cc)
-
 -- one that is
 pub read_claim : {E : Type 0} (words : List ℕ) (A : List Entry) (x : Result Claim CertFault) (c : Claim) (j : Result Judged E) → x ≡ Ok c → IfOk j (IsJudgedAs words A (Ok c)) → IfOk j (IsJudgedAs words A x)
 read_claim words A x c j e h = subst (λ y. IfOk j (IsJudgedAs words A y)) (sym e) h
@@ -166,20 +159,6 @@ unlisted bytes (assume.Order line) r e s t = (assume.Order line, e (λ w. cc), s
 unlisted bytes assume.Memory r e s t = absurd (let wrong = t in cc)
 
 -- ---- a firmware
-
--- what the greatest flash holds, on a device
-pub loaded_on : (device : Device) (bytes : List ℕ) (before : Loaded) (image : Image) → NarrowingIsExact → GivesAs (is_elf bytes) bytes before → NarrowedTo device before image → LoadsOn device bytes image
-loaded_on device bytes before (OnFlash after) narrowing g h = record {
-  loads = ap (λ (o : Option (List ℕ)). fault_or o (outside_fault device (words_by (is_elf bytes) bytes))) g.loads
-      ∙ ap (outside_fault device) (sym g.words) ∙ ap (option_map firmware_outside) (narrowing.none device before.flash after.flash g.size h.0);
-  words = narrowing.words device before.flash after.flash g.size h.0 ∙ ap (take (words_of device)) g.words;
-  names = subst (λ (names : List Named). SayTheSame names (firmware_names bytes)) (sym h.1.0) g.names;
-  static_end = h.1.1 ∙ g.static_end;
-}
-loaded_on device bytes before (Refused r) narrowing g h = (
-  h.0,
-  ap (λ (o : Option (List ℕ)). fault_or o (outside_fault device (words_by (is_elf bytes) bytes))) g.loads ∙ ap (outside_fault device) (sym g.words) ∙ h.1,
-)
 
 report_alike : (laws : NamesThatSayTheSame) (json : Bool) (device : Device) (names others : List Named) (end end' : Option ℕ) → SayTheSame names others → end ≡ end' → (c : Claim) → report_by json device names end c ≡ report_by json device others end' c
 report_alike laws true device names others end end' same e c = (laws device c names others end same).1 ∙ ap (λ x. report_by true device others x c) e

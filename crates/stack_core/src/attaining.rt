@@ -6,12 +6,12 @@ ghost use Rattle.cert_format.specs.Reading.{certificate_in};
 ghost use Rattle.replies.specs.Reply.{AttainReply, CertificateReply};
 
 use crate::judging::{Judged, judge_text};
-use crate::laws::have_16_bits;
 use crate::reply::Reply;
 use call_graph::Task;
 use cert_check::laws::sound_certificates_bound_every_run;
 use cert_format::Certificate;
 use cert_writing::write;
+use local_rules::laws::words_have_16_bits;
 use std::alloc::AllocError;
 
 // The text of an accepted certificate, with the schedule that so many guided trials find where it has none.
@@ -20,7 +20,7 @@ fn completed(task: &Task<'_>, certificate: Certificate, trials: u32) -> Result<V
     ensures { IfOk result (λ v. AttainReply task.now.flash.now task.now.assumptions.now trials certificate 0 v.items) }
 {
     sound_certificates_bound_every_run();
-    have_16_bits(task.flash.words());
+    words_have_16_bits(task.flash.words());
     let _nodes = certificate.nodes();
     let whole = guided_trials::attain(
         task.alloc,

@@ -1,6 +1,5 @@
-//! What is proved of the definitions alone, and of types.
+//! What is proved of the definitions alone.
 
-ghost use Rattle.local_rules.specs.Machine.{AreWords};
 ghost use Rattle.stack_core.specs.Answer.{WrittenAnswersHold};
 
 /// Over files that tell what they hold: a command that accepts a certificate says that the bound holds of the held bytes, and where these
@@ -9,9 +8,4 @@ ghost use Rattle.stack_core.specs.Answer.{WrittenAnswersHold};
 /// accepted.
 pub fn written_answers_hold()
     ensures { WrittenAnswersHold }
-{}
-
-// The words of a flash have 16 bits, as their type says.
-pub(crate) fn have_16_bits(words: &[u16])
-    ensures { AreWords words.now }
 {}

@@ -15,7 +15,6 @@ use crate::attaining::attain;
 use crate::clearing::{clear, premises};
 use crate::explaining::explain;
 use crate::judging::{check, report};
-use crate::laws::have_16_bits;
 use crate::loading::{Image, Listing, listed, loaded};
 use crate::reply::Reply;
 use crate::running::run;
@@ -23,6 +22,7 @@ use crate::simulating::simulate;
 use call_graph::Task;
 use commands::Command;
 use elf_load::Loaded;
+use local_rules::laws::words_have_16_bits;
 use replies::laws::same_names_give_same_places;
 use reports::laws::same_names_give_same_reports;
 use std::alloc::{AllocError, Global};
@@ -105,7 +105,7 @@ fn on_image(
     same_names_give_same_places();
     match loaded(alloc, command.device(), firmware)? {
         Image::Loaded(mut loaded) => {
-            have_16_bits(loaded.flash.words());
+            words_have_16_bits(loaded.flash.words());
             let reply = under_list(alloc, command, &mut loaded, second, list)?;
             Ok(reply)
         }

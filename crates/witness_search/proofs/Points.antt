@@ -11,10 +11,6 @@ use Rattle.stimulus.specs.Driving.{IsMenuOf}
 use Rattle.witness_search.specs.declared.waypoint.Waypoint.{Waypoint}
 use Rattle.witness_search.specs.Waypoints.{interrupt_of, is_due, taken, left_after, due_at, pick_due, due_left}
 
-stands_if : (menu : Menu) (fill : ℕ) (w : Waypoint) (b : Bool) → is_due w menu ≡ b → IsTrue (has_choice menu (if b then interrupt_of w else Go fill fill))
-stands_if menu fill w true is = last_of_four (menu.pc == w.pc) (menu.masks == w.masks) (menu.sp + w.depth == w.end) (has_choice menu (interrupt_of w)) is
-stands_if menu fill w false is = refl
-
 regrouped : (enabled i delay clears watchdog : Bool) → ((enabled && i && not delay && (not false || watchdog)) && (not clears || watchdog)) ≡ (enabled && i && not delay && (not clears || watchdog))
 regrouped true true true clears watchdog = refl
 regrouped true true false clears watchdog = refl

@@ -1,6 +1,7 @@
 use Rattle.std.proofs.Common.{ap, ◌∙◌}
 use Rattle.sb_base.specs.Writing.{with_end}
-use Rattle.indirect_targets.proofs.Parts.{on_err, no_lines, lines_next, lines_part, all_words}
+use Rattle.basics.specs.Results.{on_err}
+use Rattle.indirect_targets.proofs.Parts.{no_lines, lines_next, lines_part, all_words}
 use Rattle.indirect_targets.proofs.writing.write.Goals as goal
 
 pub loop-entry-init : goal.loop-entry-init

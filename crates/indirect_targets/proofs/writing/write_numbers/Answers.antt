@@ -1,4 +1,5 @@
-use Rattle.indirect_targets.proofs.Parts.{on_err, numbers_next, numbers_part}
+use Rattle.basics.specs.Results.{on_err}
+use Rattle.indirect_targets.proofs.Parts.{numbers_next, numbers_part}
 use Rattle.indirect_targets.proofs.writing.write_numbers.Goals as goal
 
 pub returns-in_err-hex-clause-refused : goal.returns-in_err-hex-clause-refused

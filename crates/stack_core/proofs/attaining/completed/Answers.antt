@@ -7,7 +7,7 @@ use Rattle.stack_core.proofs.attaining.completed.Goals as goal
 
 pub returns : goal.returns
 returns c =
-    let has : AreWords c.args.task.now.flash.now = subst AreWords c.words.ensures.value c.have_16_bits.ensures in
+    let has : AreWords c.args.task.now.flash.now = subst AreWords c.words.ensures.value c.words_have_16_bits.ensures in
     let bounded : Bounded c.args.task.now.flash.now c.args.task.now.assumptions.now c.args.certificate.bound =
     c.sound_certificates_bound_every_run.ensures c.args.task.now.flash.now c.args.task.now.assumptions.now c.args.certificate has c.nodes-nodes.ensures.kept c.requires.sound in
     IfOk-weaker c.write.result _ _

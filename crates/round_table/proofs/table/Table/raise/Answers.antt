@@ -12,7 +12,8 @@ use Rattle.state_pool.specs.Counts.{state_at}
 use Rattle.round_table.specs.Shared.{IsShared, stated}
 use Rattle.round_table.proofs.Families.{grew_by, new_grew}
 use Rattle.round_table.proofs.Shared.{counts_below, times_found}
-use Rattle.round_table.proofs.Raised.{number_long, shared_there, shared_new, if_err}
+use Rattle.round_table.proofs.Raised.{number_long, shared_there, shared_new}
+use Rattle.basics.specs.Results.{on_err}
 use Rattle.round_table.proofs.table.Table.raise.Goals as goal
 use Rattle.round_table.proofs.table.Table.raise.Goals.{in-Some-3, in-None-4}
 
@@ -90,7 +91,7 @@ pub returns-in_err-number-in-Some-clause-err : goal.returns-in_err-number-in-Som
 returns-in_err-number-in-Some-clause-err c =
     let n = c.in-Some.held.now in
     let same = (c.get_mut.follows.holds n).0 ∙ set_value_same (same_node c.args.node.key) c.self.inside.map.entries n (sym c.in-Some.ensures.value) in
-    if_err c.from_residual.result _
+    on_err c.from_residual.result _
     (ap (λ (p : Uses). from_entries {R = node_cmp} (stated p (c.get_mut.follows.lender n).entries)) c.in_err-number-in-Some.ensures.err
     ∙ ap (λ (es : List (NodeKey × ℕ)). from_entries {R = node_cmp} (stated c.self.inside.pool es)) same
     ∙ c.self.view_is)
