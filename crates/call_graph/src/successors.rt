@@ -1,7 +1,9 @@
 //! The edges from a node.
 
-ghost use Rattle.std.specs.Prelude.{◌≡◌, ◌≢◌, ◌↔◌, ◌<◌, ◌++◌, map, length, slice_get, Some, Err, IfOk, OnOk};
+ghost use Rattle.std.specs.Prelude.{ℕ, ◌≡◌, ◌≢◌, ◌↔◌, ◌<◌, ◌++◌, map, length, slice_get, Some, Err, IfOk, OnOk};
 ghost use Rattle.sb_base.specs.Answers.{Answers};
+ghost use Rattle.abs_state.specs.Values.{value_at};
+ghost use Rattle.abs_state.specs.Formed.{NamesRegister};
 ghost use Rattle.local_rules.specs.Local as rows;
 ghost use Rattle.local_rules.specs.declared.local.NodeFault.TheVariants.{Memory};
 ghost use Rattle.local_rules.specs.declared.local.NodeFault as fault_type;
@@ -10,7 +12,7 @@ ghost use Rattle.edge_rules.specs.Edges.{IsFaultless, AreEdges};
 ghost use Rattle.edge_rules.specs.Views.{AreShown};
 ghost use Rattle.call_graph.specs.Ways.{ways_of};
 ghost use Rattle.call_graph.specs.Exits.{AreExits, AreExitsKnown};
-ghost use Rattle.call_graph.specs.Next.{local_edge, entry_edge, return_edges, returns_in, all_returns, edges_with, next_of};
+ghost use Rattle.call_graph.specs.Next.{local_edge, entry_edge, returned_by, return_edges, returns_in, all_returns, edges_with, next_of};
 
 use crate::callers::{Caller, returned};
 use crate::filled::Filled;
@@ -73,7 +75,30 @@ fn add_entries(
     Ok(())
 }
 
-// The edge back from the node of this number, if it returns and its state fits.
+// The edge back from a node of the entered instance that returns so, if its state fits. It is a function of its own, so that room for
+// the edge is cleared only where a node returns.
+fn add_return(
+    alloc: Global,
+    edges: &mut Listed<Edge>,
+    caller: &Caller<'_>,
+    exit: &Exit,
+    leaving: &AbsState,
+) -> Result<(), AllocError>
+    requires { (r : ℕ) → r < 32 → NamesRegister (value_at leaving.now.registers r).tag }
+    ensures { OnOk result (edges.new ≡ edges.old ++ returned_by caller.now.key.now caller.now.state.now caller.now.way (Some exit.now) leaving.now) }
+{
+    let Some(node) = returned(alloc, caller, exit, leaving)? else {
+        return Ok(());
+    };
+    edges.push(Edge {
+        kind: EdgeKind::Return,
+        to: node.key,
+        state: node.state,
+    })?;
+    Ok(())
+}
+
+// The edge back from the node of this number.
 fn add_leaver(
     task: &Task<'_>,
     edges: &mut Listed<Edge>,
@@ -86,19 +111,13 @@ fn add_leaver(
     requires given { AreExitsKnown task.now.flash.now task.now.assumptions.now known.now.nodes.now known.now.exits.now }
     ensures { (n : Node) → slice_get known.now.nodes.now at ≡ Some n → OnOk result (edges.new ≡ edges.old ++ return_edges task.now.flash.now task.now.assumptions.now caller.now.key.now caller.now.state.now caller.now.way n) }
 {
-    let Some(exit) = exit_of(task, known.nodes, at, known.exits)? else {
-        return Ok(());
-    };
-    let leaving = known.nodes.state(at);
-    let Some(node) = returned(task.alloc, caller, &exit, leaving)? else {
-        return Ok(());
-    };
-    edges.push(Edge {
-        kind: EdgeKind::Return,
-        to: node.key,
-        state: node.state,
-    })?;
-    Ok(())
+    match exit_of(task, known.nodes, at, known.exits)? {
+        Some(exit) => {
+            let leaving = known.nodes.state(at);
+            add_return(task.alloc, edges, caller, &exit, leaving)
+        }
+        None => Ok(()),
+    }
 }
 
 // The edges back from the instance that the caller entered.
