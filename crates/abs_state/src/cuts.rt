@@ -1,4 +1,4 @@
-//! Cuts of what is known of one pair of registers.
+//! Cuts of one register pair.
 
 ghost use Rattle.std.specs.Prelude.{◌≡◌, ◌<◌};
 ghost use Rattle.pair_domain.specs.PairSets.{cut_pair, narrow_low, narrow_high, low_within, narrow_pair};
@@ -8,7 +8,7 @@ use crate::state::AbsState;
 use crate::values::AbsByte;
 use pair_domain::{Interval, PairFacts};
 
-/// What is known of one pair of registers: of its low and its high byte, and of its number.
+/// One register pair: its low byte, its high byte and its interval.
 #[derive(Clone, Copy)]
 pub struct PairBytes {
     pub low: AbsByte,
@@ -19,7 +19,7 @@ pub struct PairBytes {
 impl PairBytes {
     ghost use Rattle.abs_state.specs.PairBytes.{sets, left_by};
 
-    /// The interval cut to the hull of the bytes; none where nothing is left.
+    /// Cuts the interval to the hull of the bytes; `None` if nothing is left.
     pub fn cut(self) -> Option<PairBytes>
         ensures { result ≡ left_by self (cut_pair (sets self)) }
     {
@@ -27,7 +27,7 @@ impl PairBytes {
         Some(PairBytes { interval, ..self })
     }
 
-    /// The low byte cut to those from `low` to `high`, and the interval.
+    /// Cuts the low byte, and the interval, to `low` to `high`.
     pub fn narrow_low(self, low: u8, high: u8) -> Option<PairBytes>
         ensures { result ≡ left_by self (narrow_low (sets self) low high) }
     {
@@ -35,7 +35,7 @@ impl PairBytes {
         PairBytes { low, ..self }.cut()
     }
 
-    /// The high byte cut to those from `low` to `high`, and the interval.
+    /// Cuts the high byte, and the interval, to `low` to `high`.
     pub fn narrow_high(self, low: u8, high: u8) -> Option<PairBytes>
         ensures { result ≡ left_by self (narrow_high (sets self) low high) }
     {
@@ -43,7 +43,7 @@ impl PairBytes {
         PairBytes { high, ..self }.cut()
     }
 
-    /// The pair cut to an interval, and its bytes to what this tells of them.
+    /// Cuts the pair to an interval, and its bytes accordingly.
     pub fn narrow(self, interval: Interval) -> Option<PairBytes>
         ensures { result ≡ left_by self (narrow_pair (sets self) interval) }
     {
@@ -65,7 +65,7 @@ impl AbsByte {
     ghost use Rattle.abs_state.specs.Frames.{with_tag};
     ghost use Rattle.abs_state.specs.Values.{set_of};
 
-    // A low byte cut to those of an interval whose numbers have one high byte.
+    // Cuts a low byte to an interval within one high byte.
     fn narrow_to(self, interval: Interval) -> Option<AbsByte>
         ensures { result ≡ with_tag self.tag (low_within (set_of self) interval) }
     {
@@ -81,7 +81,7 @@ impl AbsState {
     ghost use Rattle.abs_state.specs.Cuts.{cut_state};
     ghost use Rattle.abs_state.specs.PairBytes.{pair_at, put, left_in};
 
-    /// What is known of pair `2 * n`, where pairs are followed.
+    /// Pair `2 * n`, if pairs are followed.
     pub fn pair(&self, n: usize) -> Option<PairBytes>
         requires { n < 16 }
         ensures { result ≡ pair_at self.now n }
@@ -94,7 +94,7 @@ impl AbsState {
         })
     }
 
-    // Puts what is left in the place of pair `2 * n`. Gives whether something is.
+    // Replaces pair `2 * n` by what is left. Returns whether anything is.
     fn put(&mut self, n: usize, left: Option<PairBytes>) -> bool
         requires { n < 16 }
         ensures { left_in result self.new ≡ put self.old n left }
@@ -113,7 +113,7 @@ impl AbsState {
         true
     }
 
-    /// Cuts the interval of pair `2 * n` to the hull of its bytes. Gives whether something is left.
+    /// Cuts the interval of pair `2 * n` to the hull of its bytes. Returns whether anything is left.
     pub fn cut_pair(&mut self, n: usize) -> bool
         requires { n < 16 }
         ensures { left_in result self.new ≡ cut_state cut_pair self.old n }
@@ -124,7 +124,7 @@ impl AbsState {
         }
     }
 
-    /// Cuts pair `2 * n` to an interval. Gives whether something is left.
+    /// Cuts pair `2 * n` to an interval. Returns whether anything is left.
     pub fn narrow_pair(&mut self, n: usize, interval: Interval) -> bool
         requires { n < 16 }
         ensures { left_in result self.new ≡ cut_state (λ p. narrow_pair p interval) self.old n }

@@ -1,4 +1,4 @@
-//! What writes end of what is known of pairs.
+//! Facts on pairs that a write ends.
 
 ghost use Rattle.std.specs.Prelude.{◌≡◌, ◌<◌, ◌*◌};
 ghost use Rattle.pair_domain.specs.Tags.{IsNear};
@@ -8,7 +8,8 @@ use crate::pairs::hull_of;
 use crate::values::AbsByte;
 use pair_domain::{CompareTag, Facts, Interval, PairFacts, Side, SumTag, ZeroTag};
 
-/// Takes off what a write ends: `written` has a bit for each register that is written, `flags` says that C, Z or S is, and `carry` that C is.
+/// Drops the facts that a write ends. `written` has a bit for each register written, `flags` says that C, Z or S is written, `carry` that C
+/// is.
 pub fn end_facts(facts: &mut Facts, written: u32, flags: bool, carry: bool)
     ensures { facts.new ≡ ended (is_bit_of written) flags carry facts.old }
 {
@@ -19,7 +20,7 @@ pub fn end_facts(facts: &mut Facts, written: u32, flags: bool, carry: bool)
     }
 }
 
-/// The interval of the pair of this register, which is written, becomes the hull of its bytes.
+/// The interval of this register's pair, which is written, becomes the hull of its bytes.
 pub fn hull_written(facts: &mut Facts, registers: &[AbsByte; 32], register: usize)
     requires { register < 32 }
     ensures { facts.new ≡ written_hull registers.now register facts.old }
@@ -33,7 +34,7 @@ pub fn hull_written(facts: &mut Facts, registers: &[AbsByte; 32], register: usiz
     }
 }
 
-// What is left where pairs are followed.
+// The facts that are left, if pairs are followed.
 fn facts_ended(known: &PairFacts, written: u32, flags: bool, carry: bool) -> PairFacts
     requires { IsNear known.now.sum }
     ensures facts { result ≡ facts_ended (is_bit_of written) flags carry known.now }
@@ -99,7 +100,7 @@ fn zero_ended(tag: ZeroTag, written: u32, flags: bool) -> ZeroTag
     }
 }
 
-// Whether one of the registers of this pair is written.
+// Whether a register of this pair is written.
 fn in_pair(written: u32, r: u8) -> bool
     ensures { result ≡ in_pair (is_bit_of written) r }
 {

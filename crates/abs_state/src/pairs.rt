@@ -1,4 +1,4 @@
-//! What is known of pairs after a return.
+//! Facts on pairs after a return.
 
 ghost use Rattle.std.specs.Prelude.{ℕ, ◌≡◌, ◌+◌, ◌%◌, ◌<◌, ◌==◌, ◌&&◌, IfOk, IfSome};
 ghost use Rattle.sp_domain.specs.declared.tags.Tag.TheVariants as tag;
@@ -15,8 +15,7 @@ use pair_domain::{CompareTag, Facts, Interval, PairFacts, Side, SumTag, ZeroTag}
 use sp_domain::Tag;
 use std::alloc::{AllocError, Global};
 
-/// What is known of pairs after a return to a caller that knew this, from an exit that found that, with the registers after it. There is
-/// none where nothing is left of a pair.
+/// The facts after a return, from those of the caller, those of the exit, and the registers after it. `None` if nothing is left of a pair.
 pub fn facts_returned(
     alloc: Global,
     caller: &Facts,
@@ -41,7 +40,7 @@ pub fn facts_returned(
     }
 }
 
-// The same where both follow pairs.
+// The case in which both follow pairs.
 fn pairs_returned(
     caller: &PairFacts,
     exit: &[AbsByte; 32],
@@ -91,7 +90,8 @@ fn intervals_returned(
     Some(intervals)
 }
 
-// That of pair `2 * n`: what was found and, of a pair that the callee kept, what the caller knew, cut to the registers after the return.
+// The interval of pair `2 * n`: that of the exit, met with the caller's if the callee preserved the pair, cut to the registers after the
+// return.
 fn interval_returned(
     caller: &[Interval; 16],
     exit: &[AbsByte; 32],
@@ -110,7 +110,7 @@ fn interval_returned(
     interval.meet(hull_of(registers[2 * n], registers[2 * n + 1]))
 }
 
-// The pair of the entry that two registers of a pair hold.
+// The entry pair that two registers of a pair hold.
 fn kept_pair(low: Tag, high: Tag) -> Option<u8>
     ensures { result ≡ kept_pair low high }
 {
@@ -122,7 +122,7 @@ fn kept_pair(low: Tag, high: Tag) -> Option<u8>
     }
 }
 
-/// From the number of the least bytes to that of the greatest.
+/// The hull: from the number of the least bytes to that of the greatest.
 pub fn hull_of(low: AbsByte, high: AbsByte) -> Interval
     ensures { result ≡ hull (set_of low) (set_of high) }
 {
@@ -132,7 +132,7 @@ pub fn hull_of(low: AbsByte, high: AbsByte) -> Interval
     }
 }
 
-// The caller's tags, where the callee kept each register that they speak of.
+// The caller's tags, if the callee preserved each register that they name.
 fn sum_returned(caller: SumTag, exit: &[AbsByte; 32]) -> SumTag
     requires { IsNear caller }
     ensures tag { result ≡ sum_after exit.now caller }

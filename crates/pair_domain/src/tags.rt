@@ -3,15 +3,15 @@
 ghost use Rattle.std.specs.Prelude.{◌≡◌, ◌↔◌, ◌+◌, nat_lt, IsTrue};
 ghost use Rattle.pair_domain.specs.Tags.{up_from, down_from, sum_join, IsSumTagWithin, compare_join, IsCompareWithin, zero_join, IsZeroWithin};
 
-/// What is known of a pair of registers and the carry flag C between the two instructions of a sum or difference of 16 bits. Only ends that
-/// are less than 65,535 apart are kept. Source: own.
+/// What relates a register pair and C between the two instructions of a sum or difference of 16 bits. A tag is normal if its ends are less
+/// than 65,535 apart. Source: own.
 #[derive(Clone, Copy, PartialEq, Eq)]
 pub enum SumTag {
-    /// Nothing is known.
+    /// Unknown.
     None,
-    /// The number of this pair, 256 more, and 256 C lies from the second number to the third.
+    /// The number of this pair plus 256 plus 256 C is from the second number to the third.
     Up(u8, u32, u32),
-    /// The number of this pair and 256 more, less 256 C, lies from the second number to the third.
+    /// The number of this pair plus 256, less 256 C, is from the second number to the third.
     Down(u8, u32, u32),
 }
 
@@ -20,26 +20,26 @@ pub enum SumTag {
 pub enum Side {
     /// This byte.
     Byte(u8),
-    /// What this register, 0 to 31, holds.
+    /// The current value of this register, 0 to 31.
     Register(u8),
 }
 
-/// Which comparison of what registers hold now the flags C, Z and S are those of: C tells whether the left number is below the right one,
-/// Z whether they are equal, and S whether the left is below the right, both read as signed numbers. Source: own.
+/// The comparison of current values that C, Z and S reflect. C: the left number is below the right one. Z: they are equal. S: the left one
+/// is below the right one as signed numbers. Source: own.
 #[derive(Clone, Copy, PartialEq, Eq)]
 pub enum CompareTag {
-    /// Nothing is known.
+    /// Unknown.
     None,
     /// Of this register, 0 to 31, with the side.
     Byte(u8, Side),
-    /// Of the number of this pair with the side and 256 times what the last register holds.
+    /// Of this pair with the side plus 256 times the last register.
     Pair(u8, Side, u8),
 }
 
-/// Which register or pair Z tells to be 0. Source: own.
+/// The register or pair that is 0 exactly when Z is 1. Source: own.
 #[derive(Clone, Copy, PartialEq, Eq)]
 pub enum ZeroTag {
-    /// Nothing is known.
+    /// Unknown.
     None,
     /// This register, 0 to 31.
     Byte(u8),
@@ -47,14 +47,14 @@ pub enum ZeroTag {
     Pair(u8),
 }
 
-// Whether the ends of a sum tag are kept.
+// Whether the ends are less than 65,535 apart.
 fn are_near(low: u32, high: u32) -> bool
     ensures { result ≡ nat_lt high (low + 65535) }
 {
     u64::from(high) < u64::from(low) + 65_535
 }
 
-/// The sum of a pair with these ends; none where they aren't kept.
+/// The sum of a pair with these ends; none if they are too far apart.
 pub fn up_from(pair: u8, low: u32, high: u32) -> SumTag
     ensures { result ≡ up_from pair low high }
 {
@@ -65,7 +65,7 @@ pub fn up_from(pair: u8, low: u32, high: u32) -> SumTag
     }
 }
 
-/// The difference of a pair with these ends; none where they aren't kept.
+/// The difference of a pair with these ends; none if they are too far apart.
 pub fn down_from(pair: u8, low: u32, high: u32) -> SumTag
     ensures { result ≡ down_from pair low high }
 {
@@ -77,8 +77,7 @@ pub fn down_from(pair: u8, low: u32, high: u32) -> SumTag
 }
 
 impl SumTag {
-    /// The most that says no more than either: the least ends that hold both where both are of one kind and pair and these ends are kept,
-    /// else none.
+    /// The join: the hull of the ends if both are of one kind and pair and it is normal, otherwise none.
     pub fn join(self, other: SumTag) -> SumTag
         ensures { result ≡ sum_join self other }
     {
@@ -91,8 +90,7 @@ impl SumTag {
         }
     }
 
-    /// Whether `other` says no more than this: it is none, or of the same kind and pair with ends that hold this one's, or its ends are of
-    /// those that aren't kept.
+    /// Whether `other` is above this: it is none, or of the same kind and pair with ends around this one's, or its ends are too far apart.
     pub fn le(self, other: SumTag) -> bool
         ensures { IsTrue result ↔ IsSumTagWithin self other }
     {
@@ -110,7 +108,7 @@ impl SumTag {
 }
 
 impl CompareTag {
-    /// The most that says no more than either: the tag where both are the same, else none.
+    /// The join: the tag if both are equal, otherwise none.
     pub fn join(self, other: CompareTag) -> CompareTag
         ensures { result ≡ compare_join self other }
     {
@@ -121,7 +119,7 @@ impl CompareTag {
         }
     }
 
-    /// Whether `other` says no more than this: it is none, or the same.
+    /// Whether `other` is above this: it is none, or the same.
     pub fn le(self, other: CompareTag) -> bool
         ensures { IsTrue result ↔ IsCompareWithin self other }
     {
@@ -130,14 +128,14 @@ impl CompareTag {
 }
 
 impl ZeroTag {
-    /// The most that says no more than either: the tag where both are the same, else none.
+    /// The join: the tag if both are equal, otherwise none.
     pub fn join(self, other: ZeroTag) -> ZeroTag
         ensures { result ≡ zero_join self other }
     {
         if self == other { self } else { ZeroTag::None }
     }
 
-    /// Whether `other` says no more than this: it is none, or the same.
+    /// Whether `other` is above this: it is none, or the same.
     pub fn le(self, other: ZeroTag) -> bool
         ensures { IsTrue result ↔ IsZeroWithin self other }
     {

@@ -9,6 +9,14 @@ use Rattle.sp_domain.specs.declared.tags.CarryTag.{CarryTag}
 use Rattle.sp_domain.specs.declared.tags.CarryTag.TheVariants as carry
 use Rattle.sp_domain.specs.Slots.{slot_at}
 use Rattle.pair_domain.specs.declared.intervals.Interval.{Interval}
+use Rattle.pair_domain.specs.declared.tags.Side.{Side}
+use Rattle.pair_domain.specs.declared.tags.Side.TheVariants as side
+use Rattle.pair_domain.specs.declared.tags.SumTag.{SumTag}
+use Rattle.pair_domain.specs.declared.tags.SumTag.TheVariants as sum
+use Rattle.pair_domain.specs.declared.tags.CompareTag.{CompareTag}
+use Rattle.pair_domain.specs.declared.tags.CompareTag.TheVariants as compare
+use Rattle.pair_domain.specs.declared.tags.ZeroTag.{ZeroTag}
+use Rattle.pair_domain.specs.declared.tags.ZeroTag.TheVariants as zero
 use Rattle.pair_domain.specs.declared.facts.PairFacts.{PairFacts}
 use Rattle.abs_state.specs.declared.values.AbsByte.{AbsByte}
 use Rattle.abs_state.specs.declared.values.AbsFlags.{AbsFlags}
@@ -62,11 +70,39 @@ AreFree slots at n = (e : ℕ) → e < n → slot_at slots (at + e) ≡ Free
 abbrev pub mix_interval : ℕ → Interval → ℕ
 mix_interval digest i = mix digest (i.low + 2 ^ 16 * i.high)
 
+-- the pair and the ends of a sum, and its kind
+abbrev pub mix_sum : ℕ → SumTag → ℕ
+mix_sum digest sum.None = mix digest 0
+mix_sum digest (sum.Up r a b) = mix (mix digest (1 + 4 * (r + 256 * a))) b
+mix_sum digest (sum.Down r a b) = mix (mix digest (2 + 4 * (r + 256 * a))) b
+
+-- the number that a side names, and its kind
+abbrev pub side_number : Side → ℕ
+side_number (side.Byte b) = 2 * b
+side_number (side.Register r) = 1 + 2 * r
+
+-- the numbers that a comparison names, and its kind
+abbrev pub compare_number : CompareTag → ℕ
+compare_number compare.None = 0
+compare_number (compare.Byte r s) = 1 + 4 * (r + 2 ^ 16 * side_number s)
+compare_number (compare.Pair r s h) = 2 + 4 * (r + 256 * h + 2 ^ 16 * side_number s)
+
+-- the number that a zero tag names, and its kind
+abbrev pub zero_number : ZeroTag → ℕ
+zero_number zero.None = 0
+zero_number (zero.Byte r) = 1 + 4 * r
+zero_number (zero.Pair r) = 2 + 4 * r
+
+-- all that is known of pairs: intervals, and the tags of the flags
+abbrev pub mix_pairs : ℕ → PairFacts → ℕ
+mix_pairs digest f = mix (mix_sum (fold mix_interval digest f.intervals) f.sum) (compare_number f.compare + 2 ^ 32 * zero_number f.zero)
+
+-- the same, where pairs are followed
 abbrev pub mix_facts : ℕ → Option PairFacts → ℕ
 mix_facts digest None = digest
-mix_facts digest (Some f) = fold mix_interval digest f.intervals
+mix_facts digest (Some f) = mix_pairs digest f
 
--- the flags, the intervals, the registers, how many slots there are, and the slots
+-- all fields of a state: the flags, what is known of pairs, the registers, how many slots there are, and the slots
 abbrev pub digest_of : AbsState → ℕ
 digest_of s = mix_slots (mix (fold mix_value (mix_facts (flags_number s.flags) s.facts) s.registers) (length s.slots)) 0 s.slots
 

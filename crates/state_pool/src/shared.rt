@@ -2,11 +2,12 @@
 
 ghost use Rattle.std.specs.Prelude.{◌≡◌, ◌↔◌, ◌<◌, ◌≤◌, ◌+◌, ◌*◌, IsTrue, length, fold};
 ghost use Rattle.state_pool.specs.SameState.{same_state};
-ghost use Rattle.state_pool.specs.Digest.{mix, tag_number, carry_number, value_number, flags_number, mix_value, mix_interval, mix_slots, AreFree, digest_of, state_hash};
+ghost use Rattle.state_pool.specs.Digest.{mix, tag_number, carry_number, value_number, flags_number, side_number, compare_number, zero_number, mix_value, mix_interval, mix_sum, mix_pairs, mix_facts, mix_slots, AreFree, digest_of, state_hash};
 ghost use Rattle.state_pool.specs.Equal.{state_equivalence, fed_alike};
 
 use abs_state::{AbsByte, AbsFlags, AbsState};
-use pair_domain::{Facts, Interval};
+use bit_domain::TriByte;
+use pair_domain::{CompareTag, Facts, Interval, PairFacts, Side, SumTag, ZeroTag};
 use sp_domain::{CarryTag, Slot, Tag};
 use std::hash::{Hash, Hasher};
 use std::marker::Model;
@@ -101,18 +102,45 @@ fn is_same_slot(slot: &Slot<AbsByte>, other: &Slot<AbsByte>) -> bool
     }
 }
 
-// A number that tells most states apart: from all that is said of the flags, of intervals, the registers and the slots.
+// A number that tells most states apart. Every field has a case: each struct is taken apart without `..`, here and in the functions below, so
+// a field that is added to a state has to be mixed in before this compiles.
 fn digest(state: &AbsState) -> u64
     ensures { result ≡ digest_of state.now }
 {
-    let slots = state.slots.as_slice();
-    let flags = flags_number(&state.flags);
-    let facts = match state.facts.get() {
-        Some(known) => digest_intervals(flags, &known.intervals),
-        None => flags,
-    };
-    let registers = digest_values(facts, &state.registers);
-    digest_slots(mixed(registers, slots.len() as u64), slots)
+    let AbsState {
+        registers,
+        flags,
+        slots,
+        facts,
+    } = state;
+    let slots = slots.as_slice();
+    let told = digest_facts(flags_number(flags), facts);
+    let values = digest_values(told, registers);
+    digest_slots(mixed(values, slots.len() as u64), slots)
+}
+
+// The intervals and the tags of pairs, where these are followed.
+fn digest_facts(start: u64, facts: &Facts) -> u64
+    ensures { result ≡ mix_facts start facts.now }
+{
+    match facts.get() {
+        Some(known) => digest_pairs(start, &known),
+        None => start,
+    }
+}
+
+fn digest_pairs(start: u64, facts: &PairFacts) -> u64
+    ensures { result ≡ mix_pairs start facts.now }
+{
+    let PairFacts {
+        intervals,
+        sum,
+        compare,
+        zero,
+    } = facts;
+    let digest = digest_sum(digest_intervals(start, intervals), *sum);
+    let tags = compare_number(*compare) + 4_294_967_296 * zero_number(*zero);
+    mixed(digest, tags)
 }
 
 // Both ends of each interval.
@@ -122,10 +150,62 @@ fn digest_intervals(start: u64, intervals: &[Interval]) -> u64
 {
     let mut digest = start;
     for interval in intervals {
-        let ends = u64::from(interval.low) + 65_536 * u64::from(interval.high);
-        digest = mixed(digest, ends);
+        let Interval { low, high } = *interval;
+        digest = mixed(digest, u64::from(low) + 65_536 * u64::from(high));
     }
     digest
+}
+
+fn digest_sum(start: u64, tag: SumTag) -> u64
+    ensures { result ≡ mix_sum start tag }
+{
+    match tag {
+        SumTag::None => mixed(start, 0),
+        SumTag::Up(pair, low, high) => {
+            let first = mixed(start, 1 + 4 * (u64::from(pair) + 256 * u64::from(low)));
+            mixed(first, u64::from(high))
+        }
+        SumTag::Down(pair, low, high) => {
+            let first = mixed(start, 2 + 4 * (u64::from(pair) + 256 * u64::from(low)));
+            mixed(first, u64::from(high))
+        }
+    }
+}
+
+fn side_number(side: Side) -> u64
+    ensures number { result ≡ side_number side }
+    ensures low { result < 512 }
+{
+    match side {
+        Side::Byte(byte) => 2 * u64::from(byte),
+        Side::Register(register) => 1 + 2 * u64::from(register),
+    }
+}
+
+fn compare_number(tag: CompareTag) -> u64
+    ensures number { result ≡ compare_number tag }
+    ensures low { result < 134217728 }
+{
+    match tag {
+        CompareTag::None => 0,
+        CompareTag::Byte(register, side) => {
+            1 + 4 * (u64::from(register) + 65_536 * side_number(side))
+        }
+        CompareTag::Pair(pair, side, high) => {
+            2 + 4 * (pair_number(pair, high) + 65_536 * side_number(side))
+        }
+    }
+}
+
+fn zero_number(tag: ZeroTag) -> u64
+    ensures number { result ≡ zero_number tag }
+    ensures low { result < 1024 }
+{
+    match tag {
+        ZeroTag::None => 0,
+        ZeroTag::Byte(register) => 1 + 4 * u64::from(register),
+        ZeroTag::Pair(pair) => 2 + 4 * u64::from(pair),
+    }
 }
 
 #[tactic(auto, using(crate::proofs::Lists::fold_take))]
@@ -217,17 +297,29 @@ fn pair_number(low: u8, high: u8) -> u64
     u64::from(low) + 256 * u64::from(high)
 }
 
+fn bits_number(bits: TriByte) -> u64
+    ensures number { result ≡ bits.known + 256 * bits.value }
+    ensures low { result < 65536 }
+{
+    let TriByte { known, value } = bits;
+    pair_number(known, value)
+}
+
 fn value_number(value: &AbsByte) -> u64
     ensures { result ≡ value_number value.now }
 {
-    let range = pair_number(value.low, value.high);
-    let bits = pair_number(value.bits.known, value.bits.value);
-    tag_number(value.tag) + 524_288 * (range + 65_536 * bits)
+    let AbsByte {
+        tag,
+        bits,
+        low,
+        high,
+    } = *value;
+    tag_number(tag) + 524_288 * (pair_number(low, high) + 65_536 * bits_number(bits))
 }
 
 fn flags_number(flags: &AbsFlags) -> u64
     ensures { result ≡ flags_number flags.now }
 {
-    let bits = pair_number(flags.bits.known, flags.bits.value);
-    bits + 65_536 * (u64::from(flags.entry) + 2 * carry_number(flags.carry))
+    let AbsFlags { entry, bits, carry } = *flags;
+    bits_number(bits) + 65_536 * (u64::from(entry) + 2 * carry_number(carry))
 }
