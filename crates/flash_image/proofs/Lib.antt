@@ -8,3 +8,4 @@ mod Behind
 pub mod Said
 pub mod Marked
 pub mod Loads
+pub mod Listed

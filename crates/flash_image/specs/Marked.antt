@@ -1,6 +1,7 @@
 -- Tables of marks: a truth for each number of 16 bits.
-use Rattle.std.specs.Prelude.{ℕ, ◌+◌, ◌*◌, ◌≡◌, ◌<◌, ◌==◌, Bool, true, false, List, [], ◌∷◌, length, slice_set, slice_index_or, Option, Some, None, if◌then◌else◌}
+use Rattle.std.specs.Prelude.{ℕ, ◌+◌, ◌*◌, ◌≡◌, ◌<◌, ◌↔◌, ◌==◌, Bool, true, false, List, [], ◌∷◌, length, slice_set, slice_index_or, Contains, Option, Some, None, if◌then◌else◌}
 use Rattle.std.specs.List.{list_any}
+use Rattle.std.specs.List.Sorted.{IsNonDecreasingBy}
 use Rattle.avr_model.specs.declared.instruction.ImmediateInstr.{ImmediateInstr}
 use Rattle.avr_model.specs.Marks.{joined_below, immediate_at, loaded_byte, marks}
 use Rattle.avr_model.specs.Sites.{loads}
@@ -15,9 +16,20 @@ pub record IsTable (ms : List ℕ) (table : List Bool) : Type 0 where
   pub count : length table ≡ 65536
   pub each : (m : ℕ) → m < 65536 → slice_index_or table m false ≡ list_any (λ n. n == m) ms
 
--- there is no table yet, or it is that of the program's marks
-abbrev pub AreMarksKept : List ℕ → List Bool → Type 0
-AreMarksKept words table = 0 < length table → IsTable (marks words) table
+-- the numbers that a table marks, ascending
+pub record AreListed (table : List Bool) (list : List ℕ) : Type 0 where
+  pub ascending : IsNonDecreasingBy (λ m. m) list
+  pub exact : (m : ℕ) → Contains list m ↔ (slice_index_or table m false ≡ true)
+
+-- the list has these numbers, ascending and each once
+pub record IsListOf (ms list : List ℕ) : Type 0 where
+  pub table : List Bool
+  pub tells : IsTable ms table
+  pub listed : AreListed table list
+
+-- there is no list yet, or it is that of the program's marks
+abbrev pub AreMarksKept : List ℕ → List ℕ → Type 0
+AreMarksKept words list = 0 < length list → IsListOf (marks words) list
 
 -- the table with the byte noted that an instruction loads, at 256 times its register and the byte
 abbrev pub noted : List Bool → Option ImmediateInstr → List Bool

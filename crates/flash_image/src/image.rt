@@ -21,8 +21,8 @@ pub struct Flash {
     pub(crate) words: Vec<u16>,
     // What the first words say, where that was worked out.
     pub(crate) readings: Vec<Reading>,
-    // The program's marks, where they were worked out.
-    pub(crate) mark_table: Vec<bool>,
+    // The program's marks, ascending, where they were worked out.
+    pub(crate) mark_list: Vec<u16>,
 }
 
 impl Model for Flash {
@@ -35,7 +35,7 @@ impl Model for Flash {
 
     ghost view = { λ f. f.words.items };
 
-    ghost invariant = { λ f. IsFlash f.words.items × (f.device ≡ device_of f.words.items) × AreReadings f.words.items f.readings.items × AreMarksKept f.words.items f.mark_table.items };
+    ghost invariant = { λ f. IsFlash f.words.items × (f.device ≡ device_of f.words.items) × AreReadings f.words.items f.readings.items × AreMarksKept f.words.items f.mark_list.items };
 }
 
 /// Why a file is no raw image, or that there was no memory for it.
@@ -68,7 +68,7 @@ impl Flash {
             device: Device::M328,
             words,
             readings: Vec::new(alloc),
-            mark_table: Vec::new(alloc),
+            mark_list: Vec::new(alloc),
         })
     }
 
@@ -129,7 +129,7 @@ impl Flash {
             return Err(Outside(word));
         }
         self.readings.clear();
-        self.mark_table.clear();
+        self.mark_list.clear();
         self.words.truncate(usize::from(device.words()));
         self.device = device;
         self.decode();
@@ -173,7 +173,7 @@ impl Flash {
         ensures bytes { (z : ℕ) → z < FLASH_BYTES → byte_at self.new z ≡ placed at bytes.now self.old z }
     {
         self.readings.clear();
-        self.mark_table.clear();
+        self.mark_list.clear();
         for (i, byte) in bytes.iter().enumerate() {
             set_byte(&mut self.words, usize::from(at) + i, *byte);
         }

@@ -1,13 +1,14 @@
-//! Tables of marks: a truth for each number of 16 bits.
+//! Tables of marks, a truth for each number of 16 bits, and the lists of what is marked.
 
-ghost use Rattle.std.specs.Prelude.{◌≡◌, ◌+◌, ◌*◌, ◌<◌, ℕ, List, Some, length};
+ghost use Rattle.std.specs.Prelude.{◌≡◌, ◌+◌, ◌*◌, ◌<◌, ℕ, List, Some, IfOk, length};
 ghost use Rattle.avr_model.specs.Marks.{loaded_number, pair_number, added_number, side_marks, usual_marks};
 ghost use Rattle.pair_domain.specs.Marks.{mark_below, mark_above, outward};
-ghost use Rattle.flash_image.specs.Marked.{marked, IsTable, noted, AreLoads};
+ghost use Rattle.flash_image.specs.Marked.{marked, IsTable, AreListed, IsListOf, noted, AreLoads};
 
 use avr_decode::is_pair;
 use avr_model::instruction::{ImmediateInstr, ImmediateOp};
 use pair_domain::Interval;
+use std::alloc::{AllocError, Global};
 
 // How many numbers have 16 bits.
 pub(crate) const NUMBERS: usize = 65536;
@@ -133,5 +134,45 @@ pub(crate) fn widened(table: &[bool], interval: Interval) -> Interval
     Interval {
         low: below(table, interval.low),
         high: above(table, interval.high),
+    }
+}
+
+// The numbers that are marked, ascending.
+pub(crate) fn listed(alloc: Global, table: &[bool]) -> Result<Vec<u16>, AllocError>
+    requires { length table.now ≡ NUMBERS }
+    ensures { IfOk result (λ list. AreListed table.now list.items) }
+{
+    let mut list = Vec::new(alloc);
+    for at in 0..table.len() {
+        if table[at] {
+            list.push(at as u16)?;
+        }
+    }
+    Ok(list)
+}
+
+// The greatest of ascending marks up to `x`, and 0 where there is none.
+fn last_to(marks: &[u16], x: u16) -> u16
+    ensures { (ms : List ℕ) → IsListOf ms marks.now → result ≡ mark_below ms x }
+{
+    let count = marks.partition_point(|mark| *mark <= x);
+    if count == 0 { 0 } else { marks[count - 1] }
+}
+
+// The least of ascending marks from `x` on, and 65,535 where there is none.
+fn first_from(marks: &[u16], x: u16) -> u16
+    ensures { (ms : List ℕ) → IsListOf ms marks.now → result ≡ mark_above ms x }
+{
+    let at = marks.partition_point(|mark| *mark < x);
+    if at < marks.len() { marks[at] } else { 0xFFFF }
+}
+
+// The interval, widened outwards to the nearest of ascending marks. Each end is found by bisection.
+pub(crate) fn widened_by(marks: &[u16], interval: Interval) -> Interval
+    ensures { (ms : List ℕ) → IsListOf ms marks.now → result ≡ outward ms interval }
+{
+    Interval {
+        low: last_to(marks, interval.low),
+        high: first_from(marks, interval.high),
     }
 }

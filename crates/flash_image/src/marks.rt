@@ -10,7 +10,8 @@ ghost use Rattle.flash_image.specs.Marked.{marked, AreLoads};
 
 use crate::image::Flash;
 use crate::mark_table::{
-    LOADS, NUMBERS, mark_added, mark_loaded, mark_side, mark_usual, note_load, widened,
+    LOADS, NUMBERS, listed, mark_added, mark_loaded, mark_side, mark_usual, note_load, widened,
+    widened_by,
 };
 use avr_decode::{immediate, other_side, written};
 use avr_model::instruction::ImmediateInstr;
@@ -18,14 +19,15 @@ use pair_domain::Interval;
 use std::alloc::AllocError;
 
 impl Flash {
-    /// Works out the marks of the program and keeps them, so that they aren't worked out at each look. The error is want of memory
-    /// (64 KiB), after which they are as they were.
+    /// Works out the marks of the program and keeps them, so that they aren't worked out at each look. The error is want of memory,
+    /// after which they are as they were. It isn't inlined: its table, 64 KiB of stack, would stay in its caller's frame.
+    #[inline(never)]
     pub fn keep_marks(&mut self) -> Result<(), AllocError>
         ensures { self.new ≡ self.old }
     {
         let mut table = [false; NUMBERS];
         self.mark_all(&mut table);
-        self.mark_table = Vec::from_array(self.alloc, table)?;
+        self.mark_list = listed(self.alloc, &table)?;
         Ok(())
     }
 
@@ -34,10 +36,10 @@ impl Flash {
     pub fn outward(&self, interval: Interval) -> Interval
         ensures { result ≡ outward (marks self.now) interval }
     {
-        if self.mark_table.is_empty() {
+        if self.mark_list.is_empty() {
             self.widened_anew(interval)
         } else {
-            widened(&self.mark_table, interval)
+            widened_by(&self.mark_list, interval)
         }
     }
 
