@@ -1,4 +1,4 @@
-//! Stores whose pointer is loaded a few words before.
+//! The rule of fixed stores: their pointer is loaded a few words before.
 
 ghost use Rattle.std.specs.Prelude.{◌≡◌, ◌<◌, ◌==◌, IfSome, if◌then◌else◌};
 ghost use Rattle.avr_model.specs.Devices.{IsFlash};
@@ -13,10 +13,10 @@ use crate::program::{WORDS, instruction, word};
 use crate::register_set::writes;
 use avr_model::instruction::{BinaryOp, ImmediateOp, Instr};
 
-// How many words before a store its pointer may be loaded at most.
+// The greatest distance in words from a pointer's load to its store.
 const FARTHEST: usize = 32;
 
-// A jump, a call, a return, a branch or a skip.
+// Whether it is a jump, a call, a return, a branch or a skip.
 pub(crate) fn leaves(instr: &Instr) -> bool
     ensures { result ≡ leaves instr.now }
 {
@@ -38,7 +38,7 @@ pub fn sets(instr: &Instr, register: u16) -> bool
     register < 32 && (set >> register) & 1 == 1
 }
 
-// The lower register of the pointer through which `st` or `std` stores.
+// The low register of the pointer of `st` or `std`.
 fn store_pointer(instr: &Instr) -> Option<u16>
     ensures value { result ≡ store_pointer instr.now }
     ensures pair { IfSome result (λ r. r < 31) }
@@ -50,15 +50,14 @@ fn store_pointer(instr: &Instr) -> Option<u16>
     }
 }
 
-// What a way to a store tells of the pair of registers that is its pointer: of each, whether the last instruction that sets
-// it is `ldi`; none where none sets it.
+// For each register of a store's pointer, whether the last instruction on a path that sets it is `ldi`; none if no instruction sets it.
 #[derive(Clone, Copy)]
 struct PointerTold {
     low: Option<bool>,
     high: Option<bool>,
 }
 
-// Whether the last instruction that sets the register is `ldi`, where `behind` says it of those behind this one.
+// Whether the last instruction that sets the register is `ldi`; `behind` is the answer for the path after this instruction.
 fn set_before(register: u16, instr: &Instr, behind: Option<bool>) -> Option<bool>
     ensures { result ≡ set_before register instr.now behind }
 {
@@ -69,8 +68,8 @@ fn set_before(register: u16, instr: &Instr, behind: Option<bool>) -> Option<bool
     }
 }
 
-// What the way from word `at` tells, where `one` and `two` are what those from one and from two words behind it tell; none
-// where it meets an undefined word, leaves the way or doesn't come exactly to the store.
+// The answer for the path from word `at`; `one` and `two` are those from one and from two words later. `None` if the path meets an
+// undefined word, branches off or misses the store.
 fn told_from(
     words: &[u16],
     at: usize,
@@ -99,8 +98,7 @@ fn told_from(
     })
 }
 
-// Whether the way loads both registers, where one that nothing on it sets counts as `unset` says: it may still be loaded on a longer
-// way.
+// Whether the path loads both registers. A register that it does not set counts as `unset`: a longer path may load it.
 fn loads(told: Option<PointerTold>, unset: bool) -> bool
     ensures { result ≡ (if unset then may_load told else loads_both told) }
 {
@@ -110,10 +108,9 @@ fn loads(told: Option<PointerTold>, unset: bool) -> bool
     }
 }
 
-/// Whether word `a` is `st` or `std` and its pointer is sure to be loaded just before: from some word 1 to 32 words before
-/// it, decoding forward comes exactly to it through defined words without a jump, call, return, branch or skip, and the
-/// last instruction on that way that sets each register of the pointer is `ldi`. `words` are those of any device's flash,
-/// modulo whose number addresses count. Source: own.
+/// Whether word `a` is `st` or `std` with its pointer surely loaded just before. From some word 1 to 32 words before it, decoding forward
+/// reaches it exactly, through defined words without a jump, call, return, branch or skip, and the last instruction there that sets each
+/// register of the pointer is `ldi`. `words` are those of any device's flash, modulo whose number addresses count. Source: own.
 pub fn is_fixed(words: &[u16], a: u16) -> bool
     requires { IsFlash words.now }
     ensures { result ≡ is_fixed words.now a }
@@ -124,7 +121,7 @@ pub fn is_fixed(words: &[u16], a: u16) -> bool
     let Some(register) = store_pointer(&instr) else {
         return false;
     };
-    // What the ways from one and from two words behind the next one tell: first those from the store itself and from behind it.
+    // The answers for the paths from one and from two words after the next one; the first ones start at the store and after it.
     let mut one = Some(PointerTold {
         low: None,
         high: None,

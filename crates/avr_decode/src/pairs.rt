@@ -1,11 +1,11 @@
-//! Bytes that two instructions name of a pair of registers.
+//! Constants that two instructions use with a register pair.
 
 ghost use Rattle.std.specs.Prelude.{◌≡◌, ◌<◌, IfSome};
 ghost use Rattle.avr_model.specs.Marks.{immediate_of, is_pair, other_side};
 
 use avr_model::instruction::{BinaryOp, ImmediateInstr, ImmediateOp, Instr};
 
-/// The instruction, where it is one of a register and a byte.
+/// The instruction, if it has a register and a byte as operands.
 pub fn immediate(instr: &Instr) -> Option<ImmediateInstr>
     ensures value { result ≡ immediate_of instr.now }
     ensures register { IfSome result (λ found. found.register < 32) }
@@ -27,8 +27,7 @@ pub fn is_pair(low: u16, high: u16) -> bool
     low % 2 == 0 && high == low + 1
 }
 
-/// The register with which `cpc` compares the high register of a pair, behind a `cpi` of the low one; none where the two
-/// instructions aren't these.
+/// The register with which `cpc` compares the high register of a pair after a `cpi` of the low one; `None` for other instructions.
 pub fn other_side(first: ImmediateInstr, next: &Instr) -> Option<u16>
     ensures value { result ≡ other_side first next.now }
     ensures register { IfSome result (λ side. side < 32) }

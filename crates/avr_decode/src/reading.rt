@@ -1,4 +1,4 @@
-//! What a program's words say at a word address.
+//! The decoded form of a program's words.
 
 ghost use Rattle.std.specs.Prelude.{◌≤◌, IfOk, length};
 ghost use Rattle.avr_model.specs.Devices.{IsFlash};
@@ -11,18 +11,18 @@ use crate::scratch::is_scratch;
 use avr_model::instruction::Instr;
 use std::alloc::{AllocError, Global};
 
-/// What the words of a program say at a word address.
+/// The decoded form of one word.
 #[derive(Clone, Copy)]
 pub struct Reading {
-    /// The instruction; none where the word is undefined.
+    /// The instruction; `None` if the word is undefined.
     pub instruction: Option<Instr>,
-    /// Whether it is a store whose pointer is sure to be loaded just before.
+    /// Whether it is a fixed store: its pointer is surely loaded just before.
     pub is_fixed: bool,
-    /// Whether a push there makes room for a compiler's small frame.
+    /// Whether a push there is a scratch push: it makes room for a compiler's small frame.
     pub is_scratch: bool,
 }
 
-/// How many words there are up to the last that isn't erased.
+/// The number of words up to the last one that is not erased.
 pub fn written(words: &[u16]) -> usize
     ensures within { result ≤ length words.now }
     ensures erased { AreErased words.now result (length words.now) }
@@ -35,8 +35,8 @@ pub fn written(words: &[u16]) -> usize
 }
 
 impl Reading {
-    /// What each of the words up to the last that isn't erased says. `words` are those of any device's flash, modulo whose
-    /// number addresses count.
+    /// The decoded form of each word up to the last one that is not erased. `words` are those of any device's flash, modulo whose number
+    /// addresses count.
     pub fn all(alloc: Global, words: &[u16]) -> Result<Vec<Reading>, AllocError>
         requires { IsFlash words.now }
         ensures { IfOk result (λ v. AreReadings words.now v.items) }

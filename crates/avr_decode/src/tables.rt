@@ -1,4 +1,4 @@
-//! Sites where an index is added to a table's address and an `ijmp` follows.
+//! The rule of jump tables: an index is added to a table's address and an `ijmp` follows.
 
 ghost use Rattle.std.specs.Prelude.{◌≡◌, ◌<◌, ◌≤◌, ◌+◌, ◌&&◌};
 ghost use Rattle.avr_model.specs.Devices.{IsFlash};
@@ -12,7 +12,7 @@ use crate::targets::far;
 use avr_model::device::{Device, WORDS};
 use avr_model::instruction::{ImmediateOp, Instr};
 
-// How many instructions lead from behind the sum to the `ijmp` at most, itself counted.
+// The greatest number of instructions from the sum to the `ijmp`, itself counted.
 const MOST: u8 = 16;
 
 /// `subi` of r30, which adds to the low byte of Z.
@@ -25,7 +25,7 @@ pub fn adds_low(instr: &Instr) -> bool
     }
 }
 
-// Whether an index is added to a table's address by word `at` and the next one, which is `sbci` of r31: it adds to the high byte of Z.
+// Whether word `at` and the next one, an `sbci` of r31, add an index to a table's address.
 fn adds(words: &[u16], at: usize) -> bool
     requires flash { IsFlash words.now }
     requires room { at < 65536 }
@@ -40,7 +40,7 @@ fn adds(words: &[u16], at: usize) -> bool
     }
 }
 
-// The word at which a way goes on behind the instruction of this size at word `at`; none where it leaves the way.
+// The word after the instruction of this size at word `at`; `None` if the path branches off.
 fn onward(at: u16, size: u16, instr: &Instr) -> Option<u16>
     requires inside { at < WORDS }
     requires size { size ≤ 2 }
@@ -53,7 +53,7 @@ fn onward(at: u16, size: u16, instr: &Instr) -> Option<u16>
     }
 }
 
-// The word of the `ijmp` to which at most `most` instructions lead from word `at`, itself counted.
+// The word of the `ijmp` that at most `most` instructions from word `at` reach, itself counted.
 #[tactic(auto, using(crate::proofs::JumpTables::none_left, crate::proofs::JumpTables::undefined, crate::proofs::JumpTables::ended, crate::proofs::JumpTables::left, crate::proofs::JumpTables::went_on))]
 fn ijmp_from(words: &[u16], most: u8, at: u16) -> Option<u16>
     requires flash { IsFlash words.now }
@@ -75,10 +75,9 @@ fn ijmp_from(words: &[u16], most: u8, at: u16) -> Option<u16>
     ijmp_from(words, most - 1, Device::of_words(words).wrap(next))
 }
 
-/// The word of the `ijmp` of a table site: word `a` is a `subi` of r30 and the next one an `sbci` of r31, and from there
-/// at most 16 instructions lead to the `ijmp`, itself counted, along `jmp` and `rjmp` and with no branch, skip, call,
-/// return or undefined word before it. None where no table site begins at `a`. `words` are those of any device's flash,
-/// modulo whose number addresses count. Source: own.
+/// The word of the `ijmp` of a table site, if one begins at `a`. Word `a` is a `subi` of r30 and the next one an `sbci` of r31. At most 16
+/// instructions lead from there to the `ijmp`, itself counted, along `jmp` and `rjmp` and without a branch, skip, call, return or undefined
+/// word. `words` are those of any device's flash, modulo whose number addresses count. Source: own.
 #[tactic(auto, using(crate::proofs::JumpTables::two_behind), unfolding(avr_model::specs::Sites::table_site))]
 pub fn table_site(words: &[u16], a: u16) -> Option<u16>
     requires { IsFlash words.now }

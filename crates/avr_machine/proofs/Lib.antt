@@ -11,3 +11,4 @@ pub mod Unheld
 pub mod Unpushed
 pub mod Quieting
 pub mod Loud
+pub mod Unflagged

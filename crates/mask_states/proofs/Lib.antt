@@ -5,5 +5,7 @@ pub mod Rows
 pub mod Few
 pub mod Steps
 pub mod Written
+pub mod Woken
+pub mod Staying
 pub mod Hashes
 pub mod AllLaws

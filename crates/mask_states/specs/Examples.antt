@@ -1,10 +1,14 @@
 -- Worked rows of the definitions, as a reader would do them by hand.
-use Rattle.std.specs.Prelude.{ℕ, ◌≡◌, ◌==◌, refl, true, false, [], ◌∷◌, Some, None, if◌then◌else◌}
+use Rattle.std.specs.Prelude.{ℕ, ◌≡◌, ◌==◌, refl, true, false, List, [], ◌∷◌, Some, None, if◌then◌else◌}
 use Rattle.std.specs.declared.cmp.Ordering.TheVariants.{Less, Greater}
-use Rattle.avr_model.specs.declared.device.Device.TheVariants.{M328}
+use Rattle.avr_model.specs.declared.device.Device.TheVariants.{M48, M328}
 use Rattle.avr_model.specs.Devices.{ramend}
 use Rattle.avr_model.specs.State.{filled}
-use Rattle.avr_model.specs.Vectors.{row_of}
+use Rattle.avr_model.specs.declared.assumption.Entry.{Entry}
+use Rattle.avr_model.specs.declared.assumption.Entry.TheVariants.{Masks, Never}
+use Rattle.avr_model.specs.Assumptions.{is_never}
+use Rattle.avr_model.specs.Bits.{all_below, number_of}
+use Rattle.avr_model.specs.Vectors.{are_among, row_of}
 use Rattle.bit_domain.specs.declared.bits.Tri.TheVariants.{Zero, Any}
 use Rattle.bit_domain.specs.Packed.{packed}
 use Rattle.bit_domain.specs.TriByte.{byte_of, byte_known, byte_any}
@@ -19,6 +23,7 @@ use Rattle.mask_states.specs.Keys.{offset_of, root_inst, entry_key, inst_numbers
 use Rattle.mask_states.specs.Order.{inst_cmp, node_cmp, same_node}
 use Rattle.mask_states.specs.Place.{SpIs, AtNode}
 use Rattle.mask_states.specs.Splits.{enable_tri, splits}
+use Rattle.mask_states.specs.Wakes.{may_enable_barred, may_enable_other, widened, without}
 
 -- ---- keys
 
@@ -72,7 +77,7 @@ one_node = refl
 -- ---- places
 
 -- a machine after reset is at the node at which the root begins
-at_reset : AtNode (ramend M328) (filled M328 0x55) (entry_key root_inst)
+at_reset : AtNode false (ramend M328) (filled M328 0x55) (entry_key root_inst)
 at_reset = record { pc = refl; enables = refl; i = refl; delay = refl; sp = (refl, refl) }
 
 -- SPH is written with the high byte of 0x08FF - 0x100, and SPL is still that of 0x08FF - 2
@@ -102,3 +107,55 @@ four_bits = refl
 no_enable_bits : splits 5 0x0100 byte_any ≡ 5 ∷ []
 unfolding numbers_of enable_tri packed row_of
 no_enable_bits = refl
+
+-- ---- what may be enabled
+
+less_enabled : are_among 1 5 ≡ true
+unfolding are_among all_below
+less_enabled = refl
+
+another_enabled : are_among 2 5 ≡ false
+unfolding are_among all_below
+another_enabled = refl
+
+-- the word 2, at which INT0 is entered, has a `never` line: all vectors but INT0
+abbrev no_INT0 : List Entry
+no_INT0 = Masks ∷ Never 2 ∷ []
+
+all_but_INT0 : widened M328 no_INT0 0 ≡ 0x1FFFFFE
+unfolding widened number_of is_never
+all_but_INT0 = refl
+
+-- INT0 stays where it may be enabled already
+with_INT0 : widened M328 no_INT0 1 ≡ 0x1FFFFFF
+unfolding widened number_of is_never
+with_INT0 = refl
+
+-- on the ATmega48PA the word 2 is INT1's
+all_but_INT1 : widened M48 no_INT0 0 ≡ 0x1FFFFFD
+unfolding widened number_of is_never
+all_but_INT1 = refl
+
+any_enables_INT0 : may_enable_barred M328 no_INT0 0x3D byte_any ≡ true
+unfolding may_enable_barred packed is_never
+any_enables_INT0 = refl
+
+two_enables_INT1_alone : may_enable_barred M328 no_INT0 0x3D (byte_known 2) ≡ false
+unfolding may_enable_barred packed is_never
+two_enables_INT1_alone = refl
+
+two_enables_another : may_enable_other M328 no_INT0 (λ a. a == 0x3D) (byte_known 2) ≡ true
+unfolding may_enable_other packed is_never
+two_enables_another = refl
+
+one_enables_no_other : may_enable_other M328 no_INT0 (λ a. a == 0x3D) (byte_known 1) ≡ false
+unfolding may_enable_other packed is_never
+one_enables_no_other = refl
+
+-- where INT1's enable bit reads 0, it leaves what may be enabled, and no set that says just what is enabled
+reads_zero : without true (Some 3) 7 ≡ 5
+unfolding number_of
+reads_zero = refl
+
+reads_zero_exactly : without false (Some 3) 5 ≡ 5
+reads_zero_exactly = refl

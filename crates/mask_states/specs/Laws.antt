@@ -1,17 +1,24 @@
 -- Laws of keys and of splits.
-use Rattle.std.specs.Prelude.{ℕ, ◌≡◌, ◌<◌, ◌≤◌, ◌^◌, ◌↔◌, ◌⊎◌, false, [], ◌∷◌, length, Contains, IsTrue}
+use Rattle.std.specs.Prelude.{ℕ, ◌-◌, Bool, true, List, Some, ◌≡◌, ◌<◌, ◌≤◌, ◌^◌, ◌↔◌, ◌⊎◌, false, [], ◌∷◌, length, Contains, IsTrue}
 use Rattle.std.specs.Cmp.{IsTotalOrder}
 use Rattle.std.specs.List.Sorted.{IsStrictlySortedBy}
 use Rattle.std.specs.Ordering.{nat_cmp}
 use Rattle.std.specs.declared.cmp.Ordering.TheVariants.{Less, Equal}
-use Rattle.avr_model.specs.Vectors.{has_enables}
+use Rattle.std.specs.Int.{bit_at}
+use Rattle.avr_model.specs.declared.device.Device.{Device}
+use Rattle.avr_model.specs.declared.assumption.Entry.{Entry}
+use Rattle.avr_model.specs.Masks.{enables_barred}
+use Rattle.avr_model.specs.Step.{enables_taken}
+use Rattle.avr_model.specs.Vectors.{enable_of, has_enables, is_enabled, with_enable, written_enables, are_among}
 use Rattle.bit_domain.specs.declared.bytes.TriByte.{TriByte}
-use Rattle.bit_domain.specs.TriByte.{IsWithin}
+use Rattle.bit_domain.specs.TriByte.{Has, IsWithin}
 use Rattle.mask_states.specs.declared.keys.InstKey.{InstKey}
 use Rattle.mask_states.specs.declared.keys.NodeKey.{NodeKey}
 use Rattle.mask_states.specs.Keys.{inst_numbers, node_numbers}
 use Rattle.mask_states.specs.Order.{inst_cmp, node_cmp, same_inst, same_node}
+use Rattle.mask_states.specs.Place.{AreAmong}
 use Rattle.mask_states.specs.Splits.{splits, IsWritten}
+use Rattle.mask_states.specs.Wakes.{may_enable_barred, may_enable_other, widened}
 
 -- keys with the same numbers are the same
 pub record KeysAreTheirNumbers : Type 0 where
@@ -32,6 +39,26 @@ pub record NodesGoByInstance : Type 0 where
   pub first : (a b : NodeKey) → inst_cmp a.inst b.inst ≡ Less → node_cmp a b ≡ Less
   pub rises : (a b : NodeKey) → node_cmp a b ≡ Less → (inst_cmp a.inst b.inst ≡ Less) ⊎ (a.inst ≡ b.inst)
   pub between : (a b c : NodeKey) → node_cmp a b ≡ Less → node_cmp b c ≡ Less → a.inst ≡ c.inst → b.inst ≡ a.inst
+
+-- What is enabled stays among what may be: by a step that takes an interrupt, by a write of one byte to both, where a bit reads 0, and by a
+-- byte that is stored through a pointer, which may wake what isn't barred; by one that can wake nothing it stays among the same.
+pub record EnablesStayAmong : Type 0 where
+  pub tested : (enables masks : ℕ) → IsTrue (are_among enables masks) ↔ AreAmong enables masks
+  pub enabled : (enables masks v : ℕ) → AreAmong enables masks → is_enabled enables v ≡ true → is_enabled masks v ≡ true
+  pub taken : (enables masks : ℕ) (clears : Bool) → AreAmong enables masks → AreAmong (enables_taken enables clears) (enables_taken masks clears)
+  pub written : (enables masks address byte : ℕ) → AreAmong enables masks → AreAmong (written_enables enables address byte) (written_enables masks address byte)
+  pub reads_zero : (enables masks address bit v : ℕ) → AreAmong enables masks → enable_of address bit ≡ Some v → bit_at enables (v - 2) ≡ 0
+      → AreAmong enables (with_enable masks v false)
+  pub wider : (device : Device) (A : List Entry) (masks : ℕ) → (AreAmong masks (widened device A masks)) × (widened device A masks < 2 ^ 25)
+  pub woken : (device : Device) (A : List Entry) (enables masks address byte : ℕ) → AreAmong enables masks → enables_barred device A address byte ≡ false
+      → AreAmong (written_enables enables address byte) (widened device A masks)
+  pub asleep : (device : Device) (A : List Entry) (reaches : ℕ → Bool) (value : TriByte) (enables masks address byte : ℕ) → AreAmong enables masks
+      → enables_barred device A address byte ≡ false → may_enable_other device A reaches value ≡ false → reaches address ≡ true → Has value byte
+      → AreAmong (written_enables enables address byte) masks
+  pub barred : (device : Device) (A : List Entry) (value : TriByte) (address byte : ℕ) → Has value byte → enables_barred device A address byte ≡ true
+      → may_enable_barred device A address value ≡ true
+  pub other : (device : Device) (A : List Entry) (p q : ℕ → Bool) (t u : TriByte) → ((a : ℕ) → p a ≡ true → q a ≡ true) → IsWithin t u
+      → may_enable_other device A p t ≡ true → may_enable_other device A q u ≡ true
 
 -- The splits are what the members of the byte leave: at most 16, ascending, more where the byte stands for more, and m alone at
 -- an address without enable bits.

@@ -3,6 +3,7 @@ pub mod Order
 pub mod Total
 pub mod Place
 pub mod Splits
+pub mod Wakes
 pub mod Laws
 pub mod Examples
 pub mod Hashes

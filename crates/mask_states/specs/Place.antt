@@ -1,5 +1,6 @@
 -- What a node's key says of a machine, in a frame with this base: the stack pointer after the frame's entry.
-use Rattle.std.specs.Prelude.{ℕ, ◌+◌, ◌≡◌, Bool, true, false}
+use Rattle.std.specs.Prelude.{ℕ, ◌+◌, ◌≡◌, ◌≤◌, ◌<◌, Bool, true, false}
+use Rattle.std.specs.Int.{bit_at}
 use Rattle.avr_model.specs.State.{State, minus16, low, high, i_flag}
 use Rattle.mask_states.specs.declared.keys.High.{High}
 use Rattle.mask_states.specs.declared.keys.High.TheVariants.{Known, Tag}
@@ -18,10 +19,19 @@ abbrev pub SpIs : ℕ → Bool → ℕ → SpForm → Type 0
 SpIs base is_open sp (Closed offset) = (is_open ≡ false) × (sp + offset ≡ base)
 SpIs base is_open sp (Open offset h) = (is_open ≡ true) × (low sp ≡ low (minus16 base offset)) × HighIs base h (high sp)
 
--- the machine is at this node; of the pick the machine knows nothing
-pub record AtNode (base : ℕ) (m : State) (key : NodeKey) : Type 0 where
+-- each vector that is enabled by the first is enabled by the second
+abbrev pub AreAmong : ℕ → ℕ → Type 0
+AreAmong enables masks = (k : ℕ) → k < 25 → bit_at enables k ≤ bit_at masks k
+
+-- The enable bits are the key's; where it says what may be enabled, they are among the key's.
+abbrev pub EnablesAre : Bool → ℕ → ℕ → Type 0
+EnablesAre false enables masks = enables ≡ masks
+EnablesAre true enables masks = AreAmong enables masks
+
+-- The machine is at this node, whose key says what is enabled, or what may be; of the pick the machine knows nothing.
+pub record AtNode (may : Bool) (base : ℕ) (m : State) (key : NodeKey) : Type 0 where
   pub pc : m.pc ≡ key.pc
-  pub enables : m.enables ≡ key.masks
+  pub enables : EnablesAre may m.enables key.masks
   pub i : i_flag m ≡ key.i
   pub delay : m.delay ≡ key.delay
   pub sp : SpIs base m.is_open m.sp key.sp

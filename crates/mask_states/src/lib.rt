@@ -4,6 +4,8 @@
 pub mod keys;
 pub mod laws;
 pub mod splits;
+pub mod waking;
 
 pub use keys::{EdgeKind, High, InstKey, Kind, NodeKey, SpForm};
 pub use splits::{Splits, split};
+pub use waking::{may_enable_barred, widened, without};
