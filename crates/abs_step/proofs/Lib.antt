@@ -4,6 +4,7 @@ pub mod Settled
 pub mod Picked
 pub mod Added
 pub mod Gathered
+pub mod Woken
 pub mod Cutting
 pub mod Slots
 pub mod Paired

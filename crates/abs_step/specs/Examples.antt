@@ -4,7 +4,8 @@ use Rattle.avr_model.specs.declared.assumption.Entry.TheVariants.{Jump, Store}
 use Rattle.avr_model.specs.Devices.{device_of}
 use Rattle.avr_model.specs.Bits.{any_below, all_below}
 use Rattle.avr_model.specs.Sites.{is_scratch, is_fixed, path_behind, is_loaded_behind, table_site, ijmp_from}
-use Rattle.avr_model.specs.Assumptions.{jump_line, store_line, is_proved, is_freed, is_never, is_frame, is_fixed_site}
+use Rattle.avr_model.specs.Assumptions.{jump_line, store_line, is_proved, is_freed, is_never, is_frame, is_fixed_site, has_masks}
+use Rattle.avr_model.specs.Masks.{admits_enables}
 use Rattle.avr_model.specs.Table.{decoded}
 use Rattle.avr_model.specs.Vectors.{row_of}
 use Rattle.bit_domain.specs.Packed.{packed}
@@ -32,7 +33,7 @@ use Rattle.local_rules.specs.Faults.{least}
 use Rattle.local_rules.specs.Raw.{Raw}
 use Rattle.local_rules.specs.Registers.{with_bits}
 use Rattle.local_rules.specs.Reads.{read_at}
-use Rattle.local_rules.specs.Writes.{written_at}
+use Rattle.local_rules.specs.Writes.{written_at, may_wake}
 use Rattle.local_rules.specs.Flow.{site}
 use Rattle.local_rules.specs.Local.{raw, may_come}
 
@@ -103,7 +104,7 @@ reads_a_slot = refl
 
 -- `st X, r16` of an unknown byte, X at 0x003D, where 0x003D and 0x005D are listed: it changes nothing, or the two enable bits
 stores_at_listed : enables (raw (firmware 0x930C 0xFFFF) (Store 0 (0x3D ∷ 0x5D ∷ []) ∷ []) (in_call (Closed 0)) (with_pair 26 (known 0x3D) (known 0))) ≡ 0 ∷ 0 ∷ 1 ∷ 2 ∷ 3 ∷ []
-unfolding raw table_site ijmp_from is_scratch is_fixed path_behind is_loaded_behind is_proved is_freed is_fixed_site store_line any_below all_below decoded device_of written_at numbers_of enable_tri row_of packed permits_below
+unfolding raw table_site ijmp_from is_scratch is_fixed path_behind is_loaded_behind is_proved is_freed is_fixed_site store_line any_below all_below decoded device_of written_at numbers_of enable_tri row_of packed permits_below may_wake admits_enables has_masks
 stores_at_listed = refl
 
 -- `ijmp` with Z at 5 goes to the one word of the line that Z permits

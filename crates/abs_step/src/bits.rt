@@ -1,5 +1,6 @@
 //! Bits of I/O, and the flags by their numbers.
 
+ghost use Rattle.avr_model.specs.Assumptions.{has_masks};
 ghost use Rattle.avr_model.specs.Effects as effects;
 ghost use Rattle.local_rules.specs.Registers as registers;
 ghost use Rattle.local_rules.specs.Local as rows;
@@ -29,7 +30,7 @@ pub fn bit_row(
     ensures { Adds nodes.old nodes.new result (rows.bit_row site.now.device site.now.key.now site.now.state.now (effects.port i) bit on) }
 {
     let address = port(i.widened());
-    let bits = read_at(site.device, site.key, site.state, address)
+    let bits = read_at(site.device, false, site.key, site.state, address)
         .bits
         .with(bit.get() as u8, if on { Tri::One } else { Tri::Zero });
     let write = ByteWrite {

@@ -1,6 +1,7 @@
 //! Data transfer: loads, stores, bytes of flash, and I/O.
 
 ghost use Rattle.std.specs.Prelude.{slice_set, if◌then◌else◌};
+ghost use Rattle.avr_model.specs.Assumptions.{has_masks};
 ghost use Rattle.local_rules.specs.Writes.{written_at};
 ghost use Rattle.local_rules.specs.Registers as registers;
 ghost use Rattle.local_rules.specs.Raw as raw;
@@ -30,10 +31,11 @@ pub fn load_row(
     d: Register,
     from: Indirect,
 ) -> Result<(), NodeFault>
-    ensures { Adds nodes.old nodes.new result (rows.loading site.now.device site.now.key.now site.now.state.now registers.now d (reads.read_pointed site.now.device site.now.key.now site.now.state.now (reads.pointed site.now.state.now from.r from.up))) }
+    ensures { Adds nodes.old nodes.new result (rows.loading site.now.device site.now.key.now site.now.state.now registers.now d (reads.read_pointed site.now.device (has_masks site.now.assumptions.now) site.now.key.now site.now.state.now (reads.pointed site.now.state.now from.r from.up))) }
 {
     let pointed = point(site.state, from.r, from.up);
-    match read_pointed(site.device, site.key, site.state, pointed) {
+    let may = site.assumptions.has_masks();
+    match read_pointed(site.device, may, site.key, site.state, pointed) {
         Some(value) => {
             let registers = set(registers, d, value);
             setting(nodes, site, &registers, site.state.flags)
@@ -50,9 +52,10 @@ pub fn read_row(
     d: Register,
     address: u16,
 ) -> Result<(), NodeFault>
-    ensures { Adds nodes.old nodes.new result (raw.going_to site.now.key.now (record site.now.state.now { registers = registers.set site.now.state.now d (reads.read_at site.now.device site.now.key.now site.now.state.now address) }) (raw.further site.now.device site.now.key.now words)) }
+    ensures { Adds nodes.old nodes.new result (raw.going_to site.now.key.now (record site.now.state.now { registers = registers.set site.now.state.now d (reads.read_at site.now.device (has_masks site.now.assumptions.now) site.now.key.now site.now.state.now address) }) (raw.further site.now.device site.now.key.now words)) }
 {
-    let read = read_at(site.device, site.key, site.state, address);
+    let may = site.assumptions.has_masks();
+    let read = read_at(site.device, may, site.key, site.state, address);
     let registers = set(&site.state.registers, d, read);
     let after = changed(site.alloc, site.state, &registers, site.state.flags)?;
     let pc = further(site.device, site.key, words);

@@ -1,13 +1,17 @@
 //! Change of flow: jumps, skips, calls and returns.
 
-ghost use Rattle.std.specs.Prelude.{◌≡◌, ◌<◌, map, filter, None, IfOk, IfErr, if◌then◌else◌};
-ghost use Rattle.avr_model.specs.Image.{WORDS};
-ghost use Rattle.avr_model.specs.Assumptions.{lists};
+ghost use Rattle.std.specs.Prelude.{◌≡◌, ◌<◌, ◌+◌, map, filter, None, IfOk, IfErr, if◌then◌else◌};
+ghost use Rattle.avr_model.specs.Image.{WORDS, word_at};
+ghost use Rattle.avr_model.specs.Assumptions.{lists, has_masks};
+ghost use Rattle.avr_model.specs.Effects as effects;
+ghost use Rattle.avr_model.specs.Table.{length_of};
 ghost use Rattle.bit_domain.specs.Tri.{tri_not};
+ghost use Rattle.bit_domain.specs.TriByte.{tri_at};
 ghost use Rattle.local_rules.specs.declared.local.NodeFault.TheVariants.{Memory};
 ghost use Rattle.local_rules.specs.Raw.{moves_to, Raw};
 ghost use Rattle.local_rules.specs.Registers as registers;
 ghost use Rattle.local_rules.specs.Raw as raw;
+ghost use Rattle.local_rules.specs.Reads as reads;
 ghost use Rattle.local_rules.specs.Flow as flow;
 ghost use Rattle.local_rules.specs.Flow.{words_on};
 ghost use Rattle.abs_step.specs.Adding.{Moving, Adds};
@@ -17,14 +21,14 @@ use crate::cuts::carry_branch;
 use crate::moves::Moves;
 use crate::site::Site;
 use crate::stack::room_row;
-use crate::successors::{add_copy, branch, off_table};
+use crate::successors::{add_copy, branch, branch_by, off_table};
 use abs_state::AbsState;
 use avr_model::device::Device;
-use avr_model::instruction::{Base, Bit};
+use avr_model::instruction::{Base, Bit, LowPort};
 use avr_model::listed::Listed;
 use bit_domain::Tri;
 use indirect_targets::targets_on;
-use local_reads::flow::{further, is_target};
+use local_reads::flow::{further, is_target, port_bit, reading_zero};
 use local_rows::arithmetic::carry_bit;
 use local_rows::registers::pair;
 use local_rows::status::flag_at;
@@ -51,7 +55,20 @@ pub(crate) fn flag_branch(
     }
     let flag = flag_at(site.key, site.state, n);
     let condition = if on { flag } else { flag.complement() };
-    branch(nodes, site, condition, taken, other)
+    branch(nodes, site, condition, words)
+}
+
+// The word past the next instruction, and that of the next one.
+fn skip_words(site: &Site<'_>) -> (u16, u16)
+    requires { site.now.key.now.pc < WORDS }
+    ensures past { result.0 ≡ raw.further site.now.device site.now.key.now (1 + length_of (word_at site.now.flash.now (site.now.key.now.pc + 1))) }
+    ensures next { result.1 ≡ raw.further site.now.device site.now.key.now 1 }
+{
+    let length = avr_decode::length(site.flash.word(site.key.pc + 1));
+    (
+        further(site.device, site.key, 1 + length),
+        further(site.device, site.key, 1),
+    )
 }
 
 // Past the next instruction where the condition holds.
@@ -61,14 +78,31 @@ pub(crate) fn skipping(
     condition: Tri,
 ) -> Result<(), NodeFault>
     requires word { site.now.key.now.pc < WORDS }
-    ensures { Adds nodes.old nodes.new result (flow.skipping site.now.device site.now.flash.now site.now.key.now site.now.state.now condition) }
+    ensures { Adds nodes.old nodes.new result (flow.skipping site.now.device site.now.flash.now site.now.key.now site.now.key.now site.now.state.now condition) }
 {
-    let length = avr_decode::length(site.flash.word(site.key.pc + 1));
-    let (past, next) = (
-        further(site.device, site.key, 1 + length),
-        further(site.device, site.key, 1),
-    );
-    branch(nodes, site, condition, past, next)
+    branch(nodes, site, condition, skip_words(site))
+}
+
+// Past the next instruction where a bit of an I/O address is 1 (`sbis`), or where it is 0 (`sbic`). Where it reads 0 the key may tell more.
+pub(crate) fn port_skip(
+    nodes: &mut Moves<'_>,
+    site: &Site<'_>,
+    port: LowPort,
+    bit: Bit,
+    on: bool,
+) -> Result<(), NodeFault>
+    requires word { site.now.key.now.pc < WORDS }
+    ensures { Adds nodes.old nodes.new result (if on then flow.skipping site.now.device site.now.flash.now site.now.key.now (flow.reading_zero (has_masks site.now.assumptions.now) site.now.key.now (effects.port port) bit) site.now.state.now (tri_at (reads.read_at site.now.device (has_masks site.now.assumptions.now) site.now.key.now site.now.state.now (effects.port port)).bits bit) else flow.skipping site.now.device site.now.flash.now (flow.reading_zero (has_masks site.now.assumptions.now) site.now.key.now (effects.port port) bit) site.now.key.now site.now.state.now (tri_not (tri_at (reads.read_at site.now.device (has_masks site.now.assumptions.now) site.now.key.now site.now.state.now (effects.port port)).bits bit))) }
+{
+    let may = site.assumptions.has_masks();
+    let is_one = port_bit(site.device, may, site.key, site.state, port, bit);
+    let zero = reading_zero(may, site.key, port, bit);
+    let words = skip_words(site);
+    if on {
+        branch_by(nodes, site, is_one, site.key, &zero, words)
+    } else {
+        branch_by(nodes, site, is_one.complement(), &zero, site.key, words)
+    }
 }
 
 // The listed words that the bits permit.

@@ -1,9 +1,10 @@
 //! Stores through a pointer.
 
 ghost use Rattle.std.specs.Prelude.{◌≡◌, Some, false, filter, length, IfOk, IfErr};
+ghost use Rattle.avr_model.specs.Assumptions.{store_line};
 ghost use Rattle.mask_states.specs.Keys.{offset_of};
 ghost use Rattle.local_rules.specs.declared.local.NodeFault.TheVariants.{Memory};
-ghost use Rattle.local_rules.specs.Raw.{Raw, next};
+ghost use Rattle.local_rules.specs.Raw.{Raw, next, nowhere};
 ghost use Rattle.local_rules.specs.Registers.{value};
 ghost use Rattle.local_rules.specs.Reads.{pointed};
 ghost use Rattle.local_rules.specs.Writes as writes;
@@ -16,8 +17,10 @@ use crate::successors::{add_copy, next};
 use abs_state::AbsState;
 use avr_model::instruction::{LowRegister, Register};
 use local_reads::pointers::{point, reaches};
+use local_reads::wakes::{PointerByte, may_enable_other};
 use local_rows::registers::value;
 use local_rules::local::NodeFault;
+use mask_states::{NodeKey, widened};
 use std::alloc::Global;
 
 /// An address as registers give it: that in registers `r` and `r + 1`, plus a number.
@@ -85,6 +88,70 @@ fn listed_writes(
     }
 }
 
+// Whether the pointer is known to be a slot of the running frame.
+fn is_own_slot(slot: Option<u16>, offset: u16) -> bool
+    ensures { result ≡ writes.is_own_slot slot offset }
+{
+    match slot {
+        Some(slot) => slot < offset,
+        None => false,
+    }
+}
+
+// Whether the byte may be meant for the enable bit of a vector that isn't barred.
+#[tactic(auto, unfolding(local_rules::specs::Writes::may_wake))]
+fn may_wake(site: &Site<'_>, write: &ByteWrite<'_>, to: &Indirect) -> bool
+    ensures { result ≡ writes.may_wake site.now.device site.now.assumptions.now site.now.state.now to.now.r to.now.up (pointed site.now.state.now to.now.r to.now.up) site.now.key.now.pc write.now.key write.now.value }
+{
+    if !site.assumptions.admits_enables(site.key.pc) {
+        return false;
+    }
+    let slot = point(site.state, to.r, to.up).frame;
+    if is_own_slot(slot, write.key.offset()) {
+        return false;
+    }
+    let byte = PointerByte {
+        device: site.device,
+        assumptions: site.assumptions,
+        state: site.state,
+        r: to.r,
+        up: to.up,
+        bits: write.value.bits,
+    };
+    may_enable_other(&byte)
+}
+
+// Where the byte may be meant for an enable bit: one successor more, in which each vector that isn't barred may be enabled.
+fn waking(
+    nodes: &mut Moves<'_>,
+    site: &Site<'_>,
+    write: &ByteWrite<'_>,
+    to: &Indirect,
+) -> Result<(), NodeFault>
+    ensures { Adds nodes.old nodes.new result (writes.waking (writes.may_wake site.now.device site.now.assumptions.now site.now.state.now to.now.r to.now.up (pointed site.now.state.now to.now.r to.now.up) site.now.key.now.pc write.now.key write.now.value) site.now.device site.now.assumptions.now write.now.key write.now.state.now nowhere) }
+{
+    if !may_wake(site, write, to) {
+        return Ok(());
+    }
+    let masks = widened(site.device, site.assumptions, write.key.masks);
+    let key = NodeKey { masks, ..write.key };
+    add_copy(nodes, site.alloc, key, write.state)
+}
+
+// At an unfixed site: the byte changes nothing that is known, is stored at a listed address, or may be meant for an enable bit.
+fn unfixed_write(
+    nodes: &mut Moves<'_>,
+    site: &Site<'_>,
+    write: &ByteWrite<'_>,
+    to: &Indirect,
+) -> Result<(), NodeFault>
+    ensures { Adds nodes.old nodes.new result (writes.waking (writes.may_wake site.now.device site.now.assumptions.now site.now.state.now to.now.r to.now.up (pointed site.now.state.now to.now.r to.now.up) site.now.key.now.pc write.now.key write.now.value) site.now.device site.now.assumptions.now write.now.key write.now.state.now (writes.listed_writes write.now.device write.now.pc write.now.key write.now.state.now (filter (λ a. writes.reaches site.now.state.now to.now.r to.now.up a) (store_line site.now.assumptions.now site.now.key.now.pc)) write.now.value)) }
+{
+    let addresses = site.assumptions.stores(site.key.pc);
+    listed_writes(nodes, site, write, to, addresses)?;
+    waking(nodes, site, write, to)
+}
+
 /// Register `source` is stored at an address that registers give as they are before the instruction.
 pub fn pointer_write(
     nodes: &mut Moves<'_>,
@@ -109,7 +176,6 @@ pub fn pointer_write(
             None => Err(NodeFault::UnknownPointer(site.key.pc)),
         }
     } else {
-        let addresses = site.assumptions.stores(site.key.pc);
-        listed_writes(nodes, site, &write, &to, addresses)
+        unfixed_write(nodes, site, &write, &to)
     }
 }

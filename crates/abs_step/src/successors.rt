@@ -130,20 +130,35 @@ pub fn setting(
     nodes.add(next(site.device, site.key), after)
 }
 
-/// One successor where the condition is known, else two.
-pub fn branch(
+/// One successor where the condition is known, else two, each with its key and its word.
+pub fn branch_by(
     nodes: &mut Moves<'_>,
     site: &Site<'_>,
     condition: Tri,
-    taken: u16,
-    other: u16,
+    taken: &NodeKey,
+    other: &NodeKey,
+    words: (u16, u16),
 ) -> Result<(), NodeFault>
-    ensures { Adds nodes.old nodes.new result (flow.branch condition site.now.key.now site.now.state.now taken other) }
+    requires taken { offset_of taken.now.sp ≡ offset_of site.now.key.now.sp }
+    requires other { offset_of other.now.sp ≡ offset_of site.now.key.now.sp }
+    ensures { Adds nodes.old nodes.new result (flow.branch_by condition taken.now other.now site.now.state.now words.0 words.1) }
 {
-    let (taken, other) = (off_table(site.key, taken), off_table(site.key, other));
+    let (taken, other) = (off_table(taken, words.0), off_table(other, words.1));
     match condition {
         Tri::One => add_copy(nodes, site.alloc, taken, site.state),
         Tri::Zero => add_copy(nodes, site.alloc, other, site.state),
         Tri::Any => add_two(nodes, site.alloc, other, taken, site.state),
     }
+}
+
+/// One successor where the condition is known, else two.
+pub fn branch(
+    nodes: &mut Moves<'_>,
+    site: &Site<'_>,
+    condition: Tri,
+    words: (u16, u16),
+) -> Result<(), NodeFault>
+    ensures { Adds nodes.old nodes.new result (flow.branch condition site.now.key.now site.now.state.now words.0 words.1) }
+{
+    branch_by(nodes, site, condition, site.key, site.key, words)
 }

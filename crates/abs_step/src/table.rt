@@ -10,8 +10,8 @@ ghost use Rattle.abs_step.specs.Leading.{LeadsOn};
 use crate::bits::{bit_row, flag_row};
 use crate::data_transfer::{known_write, load_row, lpm_row, read_row, store_row};
 use crate::flow::{
-    Outgoing, calling, flag_branch, indirect_call, jumping, relative_call, returning, skipping,
-    staying,
+    Outgoing, calling, flag_branch, indirect_call, jumping, port_skip, relative_call, returning,
+    skipping, staying,
 };
 use crate::moves::Moves;
 use crate::pointer_stores::{Indirect, pointer_write};
@@ -20,7 +20,7 @@ use crate::stack::{pop_row, push_row};
 use crate::successors::{going_to, setting};
 use avr_decode::{far, near};
 use avr_model::instruction::{BinaryOp, Instr, Pointer, Register};
-use local_reads::flow::{further, port, port_bit, register_bit};
+use local_reads::flow::{further, port, register_bit};
 use local_reads::pointers::step_before;
 use local_rows::registers::bits;
 use local_rows::rows::{binary_at, computed_by};
@@ -68,13 +68,8 @@ fn flow_row(
             let words = (device.wrap(near(key.pc, t.get())), further(device, key, 1));
             flag_branch(nodes, site, *n, false, words)
         }
-        Instr::Sbic(port, bit) => {
-            let condition = port_bit(device, key, state, *port, *bit).complement();
-            skipping(nodes, site, condition)
-        }
-        Instr::Sbis(port, bit) => {
-            skipping(nodes, site, port_bit(device, key, state, *port, *bit))
-        }
+        Instr::Sbic(port, bit) => port_skip(nodes, site, *port, *bit, false),
+        Instr::Sbis(port, bit) => port_skip(nodes, site, *port, *bit, true),
         Instr::Sbrc(r, bit) => {
             let condition = register_bit(state, *r, *bit).complement();
             skipping(nodes, site, condition)

@@ -2,7 +2,7 @@
 use Rattle.std.specs.Prelude.{ℕ, ◌+◌, ◌-◌, ◌≡◌, ◌<◌, ⊤, Bool, true, List, [], ◌∷◌, length, Some, Contains}
 use Rattle.avr_model.specs.Devices.{ramend, device_of}
 use Rattle.avr_model.specs.declared.assumption.Entry.{Entry}
-use Rattle.avr_model.specs.Assumptions.{has_pairs}
+use Rattle.avr_model.specs.Assumptions.{has_pairs, has_masks}
 use Rattle.avr_model.specs.declared.choice.Choice.{Choice}
 use Rattle.avr_model.specs.declared.choice.Choice.TheVariants.{Go, Take}
 use Rattle.avr_model.specs.Sreg.{flag}
@@ -69,7 +69,7 @@ AreLeft words A f memory (g ∷ gs) inst o = IsLeft words A f memory g inst o ×
 pub record Runs (words : List ℕ) (A : List Entry) (f : RankedFamily) (m : State) (g : Frame) (gs : List Frame) : Type 0 where
   pub device : m.device ≡ device_of words
   pub present : Contains f.nodes g.node
-  pub running : InFrameIn (has_pairs A) m g.origin g.node.key g.node.state
+  pub running : InFrameIn (has_pairs A) (has_masks A) m g.origin g.node.key g.node.state
   pub left : AreLeft words A f m.memory gs g.node.key.inst g.origin
 
 -- the machine has frames

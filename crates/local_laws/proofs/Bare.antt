@@ -1,8 +1,8 @@
 -- Nodes but for what they say of pairs: what the rows of the table ask for, and keep. A row ends some intervals before it writes.
-use Rattle.std.proofs.Common.{◌≡◌, ◌^◌, ◌<◌, ◌≤◌, Bool}
+use Rattle.std.proofs.Common.{◌≡◌, ◌+◌, ◌^◌, ◌<◌, ◌≤◌, Bool, true}
 use Rattle.avr_model.specs.Devices.{ramend}
 use Rattle.avr_model.specs.Image.{WORDS}
-use Rattle.avr_model.specs.State.{State, SIZE}
+use Rattle.avr_model.specs.State.{State, SIZE, BELOW}
 use Rattle.sp_domain.specs.Tags.{Origin, HasByteNumbers}
 use Rattle.pair_domain.specs.Facts.{is_followed}
 use Rattle.abs_state.specs.declared.state.AbsState.{AbsState}
@@ -28,14 +28,15 @@ pub record IsBare (k : NodeKey) (s : AbsState) : Type 0 where
   pub carry_bytes : HasByteNumbers s.flags.carry
   pub untagged : k.inst.kind ≡ Root → IsUntagged s
 
-pub record InBareFrame (m : State) (o : Origin) (k : NodeKey) (s : AbsState) : Type 0 where
+pub record InBareFrame (may : Bool) (m : State) (o : Origin) (k : NodeKey) (s : AbsState) : Type 0 where
   pub machine : IsMachine m
   pub node : IsBare k s
-  pub place : AtNode o.base m k
+  pub place : AtNode may o.base m k
   pub stands : Stands o s m
   pub facts : HoldsAt s.facts m.registers m.sreg
   pub root : k.inst.kind ≡ Root → o.base ≡ ramend m.device
   pub base_word : o.base < 65536
+  pub room : may ≡ true → offset_of k.sp + BELOW ≤ o.base
 
 pub bare : {followed : Bool} (k : NodeKey) (s : AbsState) → IsNodeIn followed k s → IsBare k s
 bare k s h =
@@ -51,7 +52,7 @@ bare k s h =
       untagged = h.untagged;
     }
 
-pub bare_frame : {followed : Bool} (m : State) (o : Origin) (k : NodeKey) (s : AbsState) → InFrameIn followed m o k s → InBareFrame m o k s
+pub bare_frame : {followed may : Bool} (m : State) (o : Origin) (k : NodeKey) (s : AbsState) → InFrameIn followed may m o k s → InBareFrame may m o k s
 bare_frame m o k s h =
     record {
       machine = h.machine;
@@ -61,6 +62,7 @@ bare_frame m o k s h =
       facts = h.facts;
       root = h.root;
       base_word = h.base_word;
+      room = h.room;
     }
 
 -- with what it says of pairs it is a node

@@ -21,7 +21,7 @@ use Rattle.avr_model.specs.declared.instruction.UnaryOp.TheVariants as unary
 use Rattle.avr_model.specs.declared.operation.Logic.TheVariants as logic
 use Rattle.avr_model.specs.declared.operation.Shift.TheVariants as shift
 use Rattle.avr_model.specs.declared.operation.Mul.TheVariants as product
-use Rattle.avr_model.specs.Assumptions.{jump_line, is_frame}
+use Rattle.avr_model.specs.Assumptions.{jump_line, is_frame, has_masks}
 use Rattle.avr_model.specs.Sreg.{flag}
 use Rattle.avr_model.specs.Written.{set_by_binary, set_by_immediate, written}
 use Rattle.avr_model.specs.Text.{far}
@@ -79,12 +79,12 @@ NamesAddress (i.Sbic a b) = ⊤
 NamesAddress (i.Sbis a b) = ⊤
 NamesAddress _ = ⊥
 
-module _ (m : State) (o : Origin) (k : NodeKey) (s : AbsState) (at : InBareFrame m o k s) (b1 b2 : ℕ) where
+module _ {may : Bool} (m : State) (o : Origin) (k : NodeKey) (s : AbsState) (at : InBareFrame may m o k s) (b1 b2 : ℕ) where
   register_number : (r l : ℕ) → byte_constant (bits s r) ≡ Some l → register m r ≡ l
   register_number r l some = constant_is (bits s r) (register m r) l some (register_byte m o k s at r) (register_bits m o k s at r)
 
   module _ (guarded : Bool) where
-    immediate_covered : (op : ImmediateOp) (d n : ℕ) → SparesAll s.flags.carry (set_by_immediate op d) → n < 256 → FollowsWhere m o s.facts k guarded b1 b2 (immediate_effect m op d n) (immediate_row m.device false k s op d n)
+    immediate_covered : (op : ImmediateOp) (d n : ℕ) → SparesAll s.flags.carry (set_by_immediate op d) → n < 256 → FollowsWhere may m o s.facts k guarded b1 b2 (immediate_effect m op d n) (immediate_row m.device false k s op d n)
     immediate_covered immediate.Cpi d n spares small =
         compare_covered m o k s at guarded b1 b2 (register m d) n (bits s d) (byte_known n) false Zero false (carry_tag.Less d n) (register_byte m o k s at d) small (register_bits m o k s at d)
         (has_known n small) refl tt (compared m.registers d n n refl)
@@ -96,7 +96,7 @@ module _ (m : State) (o : Origin) (k : NodeKey) (s : AbsState) (at : InBareFrame
         logic_covered m o k s at guarded b1 b2 logic.And d (register m d) n (bits s d) (byte_known n) (register_byte m o k s at d) small (register_bits m o k s at d) (has_known n small) spares.0
     immediate_covered immediate.Ldi d n spares small = moves m o k s at guarded b1 b2 d n (known n) (bits_make_values.stands o tag.None (byte_known n) n small tt (has_known n small)) spares.0
 
-    unary_covered : (op : UnaryOp) (d : ℕ) → Spares s.flags.carry d → FollowsWhere m o s.facts k guarded b1 b2 (unary_effect m op d) (unary_row m.device false k s op d)
+    unary_covered : (op : UnaryOp) (d : ℕ) → Spares s.flags.carry d → FollowsWhere may m o s.facts k guarded b1 b2 (unary_effect m op d) (unary_row m.device false k s op d)
     unary_covered unary.Com d spare = com_covered m o k s at guarded b1 b2 d
     unary_covered unary.Neg d spare =
         difference_covered m o k s at guarded b1 b2 d 0 (register m d) (byte_known 0) (bits s d) false Zero false tag.None carry_tag.None (omega arith) (register_byte m o k s at d)
@@ -108,7 +108,7 @@ module _ (m : State) (o : Origin) (k : NodeKey) (s : AbsState) (at : InBareFrame
     unary_covered unary.Ror d spare = shift_covered m o k s at guarded b1 b2 shift.Ror d
     unary_covered unary.Dec d spare = step_covered m o k s at guarded b1 b2 false d spare
 
-    binary_covered : (words : List ℕ) (op : BinaryOp) (d r : ℕ) → SparesAll s.flags.carry (set_by_binary op d) → FollowsWhere m o s.facts k guarded b1 b2 (binary_effect words m op d r) (binary_row m.device words false k s op d r)
+    binary_covered : (words : List ℕ) (op : BinaryOp) (d r : ℕ) → SparesAll s.flags.carry (set_by_binary op d) → FollowsWhere may m o s.facts k guarded b1 b2 (binary_effect words m op d r) (binary_row m.device words false k s op d r)
     binary_covered words binary.Cpc d r spares =
         compare_covered m o k s at guarded b1 b2 (register m d) (register m r) (bits s d) (bits s r) (carry m) (carry_bit s) true
         (less_kept (byte_constant (bits s d)) (byte_constant (bits s r)) s.flags.carry) (register_byte m o k s at d) (register_byte m o k s at r)
@@ -136,7 +136,7 @@ module _ (m : State) (o : Origin) (k : NodeKey) (s : AbsState) (at : InBareFrame
 
     -- ---- at a site with a `frame` line
 
-    framed_immediate_covered : (op : ImmediateOp) (d n : ℕ) → SparesAll s.flags.carry (set_by_immediate op d) → n < 256 → FollowsWhere m o s.facts k guarded b1 b2 (immediate_effect m op d n) (immediate_row m.device true k s op d n)
+    framed_immediate_covered : (op : ImmediateOp) (d n : ℕ) → SparesAll s.flags.carry (set_by_immediate op d) → n < 256 → FollowsWhere may m o s.facts k guarded b1 b2 (immediate_effect m op d n) (immediate_row m.device true k s op d n)
     framed_immediate_covered immediate.Cpi d n spares small = immediate_covered immediate.Cpi d n spares small
     framed_immediate_covered immediate.Sbci d n spares small = immediate_covered immediate.Sbci d n spares small
     framed_immediate_covered immediate.Subi d n spares small = framed_sub_covered m o k s at guarded b1 b2 d n (byte_known n) (Some n) small (has_known n small) (same_Some n)
@@ -144,11 +144,11 @@ module _ (m : State) (o : Origin) (k : NodeKey) (s : AbsState) (at : InBareFrame
     framed_immediate_covered immediate.Andi d n spares small = immediate_covered immediate.Andi d n spares small
     framed_immediate_covered immediate.Ldi d n spares small = immediate_covered immediate.Ldi d n spares small
 
-    immediate_line_covered : (line : Bool) (op : ImmediateOp) (d n : ℕ) → SparesAll s.flags.carry (set_by_immediate op d) → n < 256 → FollowsWhere m o s.facts k guarded b1 b2 (immediate_effect m op d n) (immediate_row m.device line k s op d n)
+    immediate_line_covered : (line : Bool) (op : ImmediateOp) (d n : ℕ) → SparesAll s.flags.carry (set_by_immediate op d) → n < 256 → FollowsWhere may m o s.facts k guarded b1 b2 (immediate_effect m op d n) (immediate_row m.device line k s op d n)
     immediate_line_covered true op d n spares small = framed_immediate_covered op d n spares small
     immediate_line_covered false op d n spares small = immediate_covered op d n spares small
 
-    framed_unary_covered : (op : UnaryOp) (d : ℕ) → Spares s.flags.carry d → FollowsWhere m o s.facts k guarded b1 b2 (unary_effect m op d) (unary_row m.device true k s op d)
+    framed_unary_covered : (op : UnaryOp) (d : ℕ) → Spares s.flags.carry d → FollowsWhere may m o s.facts k guarded b1 b2 (unary_effect m op d) (unary_row m.device true k s op d)
     framed_unary_covered unary.Com d spare = unary_covered unary.Com d spare
     framed_unary_covered unary.Neg d spare = unary_covered unary.Neg d spare
     framed_unary_covered unary.Swap d spare = unary_covered unary.Swap d spare
@@ -158,15 +158,15 @@ module _ (m : State) (o : Origin) (k : NodeKey) (s : AbsState) (at : InBareFrame
     framed_unary_covered unary.Ror d spare = unary_covered unary.Ror d spare
     framed_unary_covered unary.Dec d spare = framed_step_covered m o k s at guarded b1 b2 false d spare
 
-    unary_line_covered : (line : Bool) (op : UnaryOp) (d : ℕ) → Spares s.flags.carry d → FollowsWhere m o s.facts k guarded b1 b2 (unary_effect m op d) (unary_row m.device line k s op d)
+    unary_line_covered : (line : Bool) (op : UnaryOp) (d : ℕ) → Spares s.flags.carry d → FollowsWhere may m o s.facts k guarded b1 b2 (unary_effect m op d) (unary_row m.device line k s op d)
     unary_line_covered true op d spare = framed_unary_covered op d spare
     unary_line_covered false op d spare = unary_covered op d spare
 
     -- what two registers lead to that are followed, or aren't
     abbrev row_by : List ℕ → Bool → BinaryOp → ℕ → ℕ → Raw
-    row_by words framed op d r = going_by m.device k s (if framed then framed_binary s op d r else binary_after s op d r) (node_skipping m.device words k s (byte_equal (bits s d) (bits s r)))
+    row_by words framed op d r = going_by m.device k s (if framed then framed_binary s op d r else binary_after s op d r) (node_skipping m.device words k k s (byte_equal (bits s d) (bits s r)))
 
-    binary_line_covered : (words : List ℕ) (framed : Bool) (op : BinaryOp) (d r : ℕ) → SparesAll s.flags.carry (set_by_binary op d) → FollowsWhere m o s.facts k guarded b1 b2 (binary_effect words m op d r) (row_by words framed op d r)
+    binary_line_covered : (words : List ℕ) (framed : Bool) (op : BinaryOp) (d r : ℕ) → SparesAll s.flags.carry (set_by_binary op d) → FollowsWhere may m o s.facts k guarded b1 b2 (binary_effect words m op d r) (row_by words framed op d r)
     binary_line_covered words false op d r spares = binary_covered words op d r spares
     binary_line_covered words true binary.Cpc d r spares = binary_covered words binary.Cpc d r spares
     binary_line_covered words true binary.Sbc d r spares = binary_covered words binary.Sbc d r spares
@@ -190,7 +190,7 @@ listed_call : (A : List Entry) (pc : ℕ) (e : Effect) → unlisted_transfer A p
 unfolding unlisted_transfer
 listed_call A pc e h = h
 
-module _ (m : State) (o : Origin) (k : NodeKey) (s : AbsState) (at : InBareFrame m o k s) (b1 b2 : ℕ) (words : List ℕ) (A : List Entry) (scratch : Bool) where
+module _ (A : List Entry) (m : State) (o : Origin) (k : NodeKey) (s : AbsState) (at : InBareFrame (has_masks A) m o k s) (b1 b2 : ℕ) (words : List ℕ) (scratch : Bool) where
   bit_may : (r b : ℕ) → Permits (tri_at (bits s r) b) (from_bool (flag (register m r) b))
   bit_may r b = permits_flag (bits s r) (register m r) b (register_bits m o k s at r)
 
@@ -198,7 +198,7 @@ module _ (m : State) (o : Origin) (k : NodeKey) (s : AbsState) (at : InBareFrame
   abbrev pub RowIsCovered : Instr → Type 0
   RowIsCovered instr =
       (row_of m.device words A scratch k s instr).faults ≡ [] → IsUnflagged words A m instr (effect_of words m instr b1 b2)
-      → FollowsWhere m o s.facts k (not scratch) b1 b2 (effect_of words m instr b1 b2) (row_of m.device words A scratch k s instr)
+      → FollowsWhere (has_masks A) m o s.facts k (not scratch) b1 b2 (effect_of words m instr b1 b2) (row_of m.device words A scratch k s instr)
 
   -- Each row is covered, where those that name an address are.
   pub row_covered : b1 < 256 → (instr : Instr) → SparesAll s.flags.carry (written instr) → IsInstrSized instr → (scratch ≡ true → MakesRoom instr) → (NamesAddress instr → RowIsCovered instr) → RowIsCovered instr

@@ -3,6 +3,7 @@ use Rattle.std.proofs.Common.{◌≡◌, refl, subst, ℕ, ◌<◌, Bool, true, 
 use Rattle.avr_model.specs.Devices.{words_of, size_of, device_of}
 use Rattle.avr_model.specs.declared.assumption.Entry.{Entry}
 use Rattle.avr_model.specs.declared.instruction.Instr.{Instr}
+use Rattle.avr_model.specs.Assumptions.{has_masks}
 use Rattle.avr_model.specs.Sites.{instruction_at, is_scratch}
 use Rattle.avr_model.specs.Written.{written}
 use Rattle.avr_model.specs.State.{State, register}
@@ -32,8 +33,8 @@ use Rattle.local_laws.proofs.Targets.{scratch_makes_room}
 use Rattle.local_laws.proofs.Quiet.{Quiet}
 use Rattle.local_laws.proofs.Picks.{splits_at, at_quiet, in_picks, picked_at, all_covered}
 
-module _ (words : List ℕ) (A : List Entry) (m : State) (o : Origin) (k : NodeKey) (s : AbsState) (at : InBareFrame m o k s) (b1 b2 : ℕ) (small : b1 < 256)
-    (other : b2 < 256) (are : AreWords words) where
+module _ (words : List ℕ) (A : List Entry) (m : State) (o : Origin) (k : NodeKey) (s : AbsState) (at : InBareFrame (has_masks A) m o k s) (b1 b2 : ℕ) (small : b1 < 256)
+    (other : b2 < 256) (are : AreWords words) (told : m.device ≡ device_of words) where
   -- where the stack pointer isn't half written while an interrupt may come, and the frame isn't deeper than SRAM, the row decides
   not_hung : (hung : Bool) (instr : Option Instr) (r : Raw) → CoversStep words A m o k b1 b2 instr r → CoversStep words A m o k b1 b2 instr (untracked_if hung k.pc r)
   not_hung true None r h = λ clean. absurd (let e = clean in cc)
@@ -54,8 +55,8 @@ module _ (words : List ℕ) (A : List Entry) (m : State) (o : Origin) (k : NodeK
       let spares = forgotten_spares (written instr) s.flags.carry in
       let sized = sized_at words m.pc instr e in
       let row =
-      row_covered m o k t there b1 b2 words A (is_scratch words m.pc) small instr spares sized (λ scratch. scratch_makes_room words m.pc instr scratch e)
-      (addressed_covered words A m o k t there (is_scratch words m.pc) b1 b2 are_written are small instr spares) in
+      row_covered A m o k t there b1 b2 words (is_scratch words m.pc) small instr spares sized (λ scratch. scratch_makes_room words m.pc instr scratch e)
+      (λ names. addressed_covered words A m o k t there (is_scratch words m.pc) b1 b2 are_written are small instr spares names told) in
       λ clean unflagged. (row clean unflagged).leads (held words m o k s b1 b2 instr are small other sized at)
 
   at_instruction : (instr : Option Instr) → instruction_at words m.pc ≡ instr → CoversStep words A m o k b1 b2 instr (row_at m.device words A (is_scratch words m.pc) k s instr)
@@ -64,7 +65,7 @@ module _ (words : List ℕ) (A : List Entry) (m : State) (o : Origin) (k : NodeK
     where
       by : (f : Option PairFacts) → s.facts ≡ f → CoversStep words A m o k b1 b2 (Some instr) (row_by f m.device words A (is_scratch words m.pc) k s instr)
       by None is = plain_covered instr e
-      by (Some f) is = paired_covered words A m o k s at b1 b2 small other are f is instr e (plain_covered instr e)
+      by (Some f) is = paired_covered words A m o k s at b1 b2 small other are told f is instr e (plain_covered instr e)
 
   -- the machine's word is one of its device's flash
   is_fetched : instruction_at words m.pc ≡ fetched m.device words m.pc
@@ -75,13 +76,13 @@ module _ (words : List ℕ) (A : List Entry) (m : State) (o : Origin) (k : NodeK
   Covering r = CoversStep words A m o k b1 b2 (instruction_at words m.pc) r
 
   -- what the row says of the node, where the machine's word and device are those of the node
-  row_in_covered : m.device ≡ device_of words → Covering (row_in (device_of words) words A k s)
-  row_in_covered told =
+  row_in_covered : Covering (row_in (device_of words) words A k s)
+  row_in_covered =
       let here = subst (λ x. Covering (row_at m.device words A (is_scratch words m.pc) k s x)) is_fetched (at_instruction (instruction_at words m.pc) refl) in
       subst (λ pc. Covering (row_at (device_of words) words A (is_scratch words pc) k s (fetched (device_of words) words pc))) at.place.pc
       (subst (λ device. Covering (row_at device words A (is_scratch words m.pc) k s (fetched device words m.pc))) told here)
 
-module _ (words : List ℕ) (A : List Entry) (m : State) (o : Origin) (k : NodeKey) (s : AbsState) (at : InBareFrame m o k s) (b1 b2 : ℕ) (small : b1 < 256)
+module _ (words : List ℕ) (A : List Entry) (m : State) (o : Origin) (k : NodeKey) (s : AbsState) (at : InBareFrame (has_masks A) m o k s) (b1 b2 : ℕ) (small : b1 < 256)
     (other : b2 < 256) (are : AreWords words) (told : m.device ≡ device_of words) where
   abbrev Covers : Raw → Type 0
   Covers r = CoversStep words A m o k b1 b2 (instruction_at words m.pc) r
@@ -107,7 +108,7 @@ module _ (words : List ℕ) (A : List Entry) (m : State) (o : Origin) (k : NodeK
       quiet (Some t) =
           at_quiet (device_of words) words A (is_scratch words k.pc) (picking k x) t (fetched (device_of words) words k.pc) (splits_at words A k.pc k.pick jump e).1
 
-      found : (t : AbsState) × (pick_cut x s ≡ Some t) × InBareFrame m o (picking k x) t
+      found : (t : AbsState) × (pick_cut x s ≡ Some t) × InBareFrame (has_masks A) m o (picking k x) t
       found = picked_at m o k s at
 
       at_pick : CoversStep words A m o (picking k x) b1 b2 (instruction_at words m.pc) (row_picked x)
@@ -123,8 +124,8 @@ module _ (words : List ℕ) (A : List Entry) (m : State) (o : Origin) (k : NodeK
   covered : Covers (raw words A k s)
   unfolding raw
   covered =
-      not_hung words A m o k s at b1 b2 small other are (is_hung (device_of words) A k k.sp) (instruction_at words m.pc) _
-      (not_deep words A m o k s at b1 b2 small other are (nat_lt (size_of (device_of words)) (offset_of k.sp)) (offset_of k.sp) (instruction_at words m.pc) _
+      not_hung words A m o k s at b1 b2 small other are told (is_hung (device_of words) A k k.sp) (instruction_at words m.pc) _
+      (not_deep words A m o k s at b1 b2 small other are told (nat_lt (size_of (device_of words)) (offset_of k.sp)) (offset_of k.sp) (instruction_at words m.pc) _
       (splitting_covered (split_site words A k.pc k.pick) refl))
 
 pub local_parts_cover : LocalPartsCover

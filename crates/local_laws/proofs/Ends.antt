@@ -158,7 +158,7 @@ not_among (n ∷ ns) r e h =
     let parts = or_parts (n == r) (is_one_of ns r) e in
     ⊎_elim (λ same. let hit : (n == r) ≡ true = eq-eqb n r (sym same) in absurd (let no = sym hit ∙ parts.0 in cc)) (λ more. not_among ns r parts.1 more) (first_or_further n r ns h)
 
-pub held : (words : List ℕ) (m : State) (o : Origin) (k : NodeKey) (s : AbsState) (b1 b2 : ℕ) (instr : Instr) → AreWords words → b1 < 256 → b2 < 256 → IsInstrSized instr → InBareFrame m o k s
+pub held : {may : Bool} (words : List ℕ) (m : State) (o : Origin) (k : NodeKey) (s : AbsState) (b1 b2 : ℕ) (instr : Instr) → AreWords words → b1 < 256 → b2 < 256 → IsInstrSized instr → InBareFrame may m o k s
     → HoldsAt (before instr s).facts (with_registers m.registers (effect_of words m instr b1 b2).registers) (effect_of words m instr b1 b2).sreg
 held words m o k s b1 b2 instr are small1 small2 sized at =
     let e = effect_of words m instr b1 b2 in

@@ -15,7 +15,7 @@ use Rattle.avr_model.specs.declared.instruction.BinaryOp.{BinaryOp}
 use Rattle.avr_model.specs.declared.instruction.BinaryOp.TheVariants as binary
 use Rattle.avr_model.specs.declared.instruction.Pointer.{Pointer}
 use Rattle.pair_domain.specs.declared.facts.PairFacts.{PairFacts}
-use Rattle.avr_model.specs.Assumptions.{jump_line, is_frame, lists}
+use Rattle.avr_model.specs.Assumptions.{jump_line, is_frame, has_masks, lists}
 use Rattle.avr_model.specs.Text.{far, near}
 use Rattle.avr_model.specs.Sites.{is_scratch, base_register, pointer_register, instruction_at}
 use Rattle.avr_model.specs.Effects.{port}
@@ -40,7 +40,7 @@ use Rattle.local_rules.specs.declared.local.NodeFault.TheVariants.{UnresolvedJum
 use Rattle.local_rules.specs.Registers.{before, bits, value}
 use Rattle.local_rules.specs.FrameLines.{binary_at}
 use Rattle.local_rules.specs.Reads.{read_at, pointed, read_pointed}
-use Rattle.local_rules.specs.Flow.{flag_at, words_on, targets_by, targets_at, is_half_written, site, calling, indirect_call, relative_call, at_closed, returning, ret_exit, reti_exit, pushing, popping, making_room}
+use Rattle.local_rules.specs.Flow.{reading_zero, flag_at, words_on, targets_by, targets_at, is_half_written, site, calling, indirect_call, relative_call, at_closed, returning, ret_exit, reti_exit, pushing, popping, making_room}
 use Rattle.local_rules.specs.Local.{step_before, pointer_moved, row_of, row_at, row_by, paired_row, paired_binary, refining, storing, row_in, is_hung, fetched, picks, split_site, splitting, raw}
 use Rattle.local_laws.proofs.Members.{each_of, each_in_map, filter_passes}
 use Rattle.local_laws.specs.Laws.{LocalPartsFit}
@@ -144,7 +144,7 @@ module _ (device : Device) (words : List ℕ) (A : List Entry) (k : NodeKey) (s 
   row_fits scratch (i.Fmuls d r) fits = quiet_fits A k _ (refl, refl)
   row_fits scratch (i.Fmulsu d r) fits = quiet_fits A k _ (refl, refl)
   row_fits scratch (i.Binary op d r) fits =
-      quiet_fits A k _ (going_by_quiet device k s (binary_at (is_frame A k.pc) s op d r) _ (skipping_quiet device words k s (byte_equal (bits s d) (bits s r))))
+      quiet_fits A k _ (going_by_quiet device k s (binary_at (is_frame A k.pc) s op d r) _ (skipping_quiet device words k k s (byte_equal (bits s d) (bits s r))))
   row_fits scratch (i.Immediate op d n) fits = quiet_fits A k _ (refl, refl)
   row_fits scratch (i.Unary op d) fits = quiet_fits A k _ (refl, refl)
   row_fits scratch (i.Adiw d n) fits = quiet_fits A k _ (refl, refl)
@@ -153,13 +153,13 @@ module _ (device : Device) (words : List ℕ) (A : List Entry) (k : NodeKey) (s 
   row_fits scratch (i.Bclr n) fits = quiet_fits A k _ (flag_quiet device k s n false)
   row_fits scratch (i.Bld d b) fits = quiet_fits A k _ (refl, refl)
   row_fits scratch (i.Bst d b) fits = quiet_fits A k _ (refl, refl)
-  row_fits scratch (i.Ldd d b q) fits = quiet_fits A k _ (loading_quiet device k s s.registers d (read_pointed device k s (pointed s (base_register b) q)))
+  row_fits scratch (i.Ldd d b q) fits = quiet_fits A k _ (loading_quiet device k s s.registers d (read_pointed device (has_masks A) k s (pointed s (base_register b) q)))
   row_fits scratch (i.Std b q r) fits =
       quiet_fits A k _ (pointer_quiet device words A s (base_register b) q (pointed s (base_register b) q) k.pc (next device k) s (value s r))
   row_fits scratch (i.Lds d a) fits = quiet_fits A k _ (refl, refl)
   row_fits scratch (i.Sts a r) fits = quiet_fits A k _ (written_quiet device k.pc (at_word k (further device k 2)) s false a (value s r))
   row_fits scratch (i.Ld d p) fits =
-      quiet_fits A k _ (loading_quiet device k s (pointer_moved p s) d (read_pointed device k s (pointed s (pointer_register p) (step_before p))))
+      quiet_fits A k _ (loading_quiet device k s (pointer_moved p s) d (read_pointed device (has_masks A) k s (pointed s (pointer_register p) (step_before p))))
   row_fits scratch (i.St p r) fits =
       quiet_fits A k _ (pointer_quiet device words A s (pointer_register p) (step_before p) (pointed s (pointer_register p) (step_before p)) k.pc (next device k)
       (record s { registers = pointer_moved p s }) (value s r))
@@ -184,10 +184,10 @@ module _ (device : Device) (words : List ℕ) (A : List Entry) (k : NodeKey) (s 
       quiet_fits A k _ (flag_branch_quiet n k s (wrapped device (near k.pc target)) (further device k 1) _ (branch_quiet k s (flag_at k s n) (wrapped device (near k.pc target)) (further device k 1)))
   row_fits scratch (i.Brbc n target) fits =
       quiet_fits A k _ (flag_branch_quiet n k s (further device k 1) (wrapped device (near k.pc target)) _ (branch_quiet k s (tri_not (flag_at k s n)) (wrapped device (near k.pc target)) (further device k 1)))
-  row_fits scratch (i.Sbic a b) fits = quiet_fits A k _ (skipping_quiet device words k s (tri_not (tri_at (read_at device k s (port a)).bits b)))
-  row_fits scratch (i.Sbis a b) fits = quiet_fits A k _ (skipping_quiet device words k s (tri_at (read_at device k s (port a)).bits b))
-  row_fits scratch (i.Sbrc r b) fits = quiet_fits A k _ (skipping_quiet device words k s (tri_not (tri_at (bits s r) b)))
-  row_fits scratch (i.Sbrs r b) fits = quiet_fits A k _ (skipping_quiet device words k s (tri_at (bits s r) b))
+  row_fits scratch (i.Sbic a b) fits = quiet_fits A k _ (skipping_quiet device words (reading_zero (has_masks A) k (port a) b) k s (tri_not (tri_at (read_at device (has_masks A) k s (port a)).bits b)))
+  row_fits scratch (i.Sbis a b) fits = quiet_fits A k _ (skipping_quiet device words k (reading_zero (has_masks A) k (port a) b) s (tri_at (read_at device (has_masks A) k s (port a)).bits b))
+  row_fits scratch (i.Sbrc r b) fits = quiet_fits A k _ (skipping_quiet device words k k s (tri_not (tri_at (bits s r) b)))
+  row_fits scratch (i.Sbrs r b) fits = quiet_fits A k _ (skipping_quiet device words k k s (tri_at (bits s r) b))
   row_fits scratch i.Nop fits = quiet_fits A k _ (refl, refl)
   row_fits scratch i.Sleep fits = quiet_fits A k _ (refl, refl)
   row_fits scratch i.Break fits = quiet_fits A k _ (refl, refl)

@@ -32,7 +32,7 @@ use Rattle.local_rules.specs.declared.local.Exit.{Exit}
 use Rattle.local_rules.specs.declared.local.Node.{Node}
 use Rattle.local_rules.specs.Raw.{Raw, moves_to, all_of, untracked_if, at_word, off_table, turning_to, going_to as node_going_to, further as node_further}
 use Rattle.local_rules.specs.Registers.{value, bits, set, carry_bit}
-use Rattle.local_rules.specs.Flow.{branch, skipping as node_skipping, flag_at, with_value, where_carry, going_where, carry_branch, flag_branch, words_on, targets_by, jumping, is_half_written, at_closed, calling as node_calling, indirect_call, site, returning as node_returning, ret_exit, reti_exit}
+use Rattle.local_rules.specs.Flow.{branch, branch_by as node_branch_by, skipping as node_skipping, flag_at, with_value, where_carry, going_where, carry_branch, flag_branch, words_on, targets_by, jumping, is_half_written, at_closed, calling as node_calling, indirect_call, site, returning as node_returning, ret_exit, reti_exit}
 use Rattle.local_rules.specs.Cover.{stays, calls, leaves, IsReturn}
 use Rattle.local_laws.proofs.Bare.{InBareFrame}
 use Rattle.local_laws.proofs.Landing.{ArrivesWhere, FollowsWhere}
@@ -58,11 +58,11 @@ set_itself [] r = refl
 set_itself (x ∷ xs) zero = refl
 set_itself (x ∷ xs) (suc r) = ap (λ (ys : List ℕ). x ∷ ys) (set_itself xs r)
 
-module _ (m : State) (o : Origin) (k : NodeKey) (s : AbsState) (at : InBareFrame m o k s) (guarded : Bool) (b1 b2 : ℕ) where
-  pub going_covered : (pc pc' : ℕ) → wrapped m.device pc ≡ pc' → FollowsWhere m o s.facts k guarded b1 b2 (going_to m pc) (node_going_to k s pc')
+module _ {may : Bool} (m : State) (o : Origin) (k : NodeKey) (s : AbsState) (at : InBareFrame may m o k s) (guarded : Bool) (b1 b2 : ℕ) where
+  pub going_covered : (pc pc' : ℕ) → wrapped m.device pc ≡ pc' → FollowsWhere may m o s.facts k guarded b1 b2 (going_to m pc) (node_going_to k s pc')
   going_covered pc pc' is = only m o k s at guarded b1 b2 (going_to m pc) (record { key = at_word k pc'; state = s }) refl (goes_to m o k s at guarded pc pc' is)
 
-  turning_covered : (pc pc' : ℕ) → wrapped m.device pc ≡ pc' → FollowsWhere m o s.facts k guarded b1 b2 (going_to m pc) (turning_to k s pc')
+  turning_covered : (pc pc' : ℕ) → wrapped m.device pc ≡ pc' → FollowsWhere may m o s.facts k guarded b1 b2 (going_to m pc) (turning_to k s pc')
   turning_covered pc pc' is = only m o k s at guarded b1 b2 (going_to m pc) (record { key = off_table k pc'; state = s }) refl (turns_to m o k s at guarded pc pc' is)
 
   pub further_is : (n : ℕ) → further m n ≡ node_further m.device k n
@@ -76,22 +76,32 @@ module _ (m : State) (o : Origin) (k : NodeKey) (s : AbsState) (at : InBareFrame
 
   -- ---- branches and skips
 
+  -- each successor with its key
+  branch_keys : (t : Tri) (test : Bool) (j l : NodeKey) (taken taken' other other' : ℕ) → j.inst ≡ k.inst → l.inst ≡ k.inst
+      → (test ≡ true → ArrivesWhere may m o s.facts guarded (going_to m taken) (record { key = off_table j taken'; state = s }))
+      → (test ≡ false → ArrivesWhere may m o s.facts guarded (going_to m other) (record { key = off_table l other'; state = s })) → Permits t (from_bool test)
+      → FollowsWhere may m o s.facts k guarded b1 b2 (going_to m (if test then taken else other)) (node_branch_by t j l s taken' other')
+  branch_keys Zero true j l taken taken' other other' same same' goes goes' can = absurd (omega arith)
+  branch_keys Zero false j l taken taken' other other' same same' goes goes' can =
+      only m o k s at guarded b1 b2 (going_to m other) (record { key = off_table l other'; state = s }) same' (goes' refl)
+  branch_keys One true j l taken taken' other other' same same' goes goes' can =
+      only m o k s at guarded b1 b2 (going_to m taken) (record { key = off_table j taken'; state = s }) same (goes refl)
+  branch_keys One false j l taken taken' other other' same same' goes goes' can = absurd (omega arith)
+  branch_keys Any true j l taken taken' other other' same same' goes goes' can =
+      record {
+        leads = λ held. stays (record { key = off_table j taken'; state = s }) (second (record { key = off_table l other'; state = s }) (record { key = off_table j taken'; state = s }) []) same
+            ((goes refl).lands held);
+      }
+  branch_keys Any false j l taken taken' other other' same same' goes goes' can =
+      record {
+        leads = λ held. stays (record { key = off_table l other'; state = s }) (first_in (record { key = off_table l other'; state = s }) (record { key = off_table j taken'; state = s } ∷ [])) same'
+            ((goes' refl).lands held);
+      }
+
   branch_by : (t : Tri) (test : Bool) (taken taken' other other' : ℕ) → wrapped m.device taken ≡ taken' → wrapped m.device other ≡ other' → Permits t (from_bool test)
-      → FollowsWhere m o s.facts k guarded b1 b2 (going_to m (if test then taken else other)) (branch t k s taken' other')
-  branch_by Zero true taken taken' other other' is is' may = absurd (omega arith)
-  branch_by Zero false taken taken' other other' is is' may = turning_covered other other' is'
-  branch_by One true taken taken' other other' is is' may = turning_covered taken taken' is
-  branch_by One false taken taken' other other' is is' may = absurd (omega arith)
-  branch_by Any true taken taken' other other' is is' may =
-      record {
-        leads = λ held. stays (record { key = off_table k taken'; state = s }) (second (record { key = off_table k other'; state = s }) (record { key = off_table k taken'; state = s }) []) refl
-            ((turns_to m o k s at guarded taken taken' is).lands held);
-      }
-  branch_by Any false taken taken' other other' is is' may =
-      record {
-        leads = λ held. stays (record { key = off_table k other'; state = s }) (first_in (record { key = off_table k other'; state = s }) (record { key = off_table k taken'; state = s } ∷ [])) refl
-            ((turns_to m o k s at guarded other other' is').lands held);
-      }
+      → FollowsWhere may m o s.facts k guarded b1 b2 (going_to m (if test then taken else other)) (branch t k s taken' other')
+  branch_by t test taken taken' other other' is is' can =
+      branch_keys t test k k taken taken' other other' refl refl (λ e. turns_to m o k s at guarded taken taken' is) (λ e. turns_to m o k s at guarded other other' is') can
 
   flag_may : (n : ℕ) → Permits (flag_at k s n) (from_bool (flag m.sreg n))
   flag_may n = by_i (n == 7) refl
@@ -104,11 +114,11 @@ module _ (m : State) (o : Origin) (k : NodeKey) (s : AbsState) (at : InBareFrame
       by_i true e = let is : 7 ≡ n = grind (arith, nat_tests) in subst (λ x. Permits (if k.i then One else Zero) (from_bool (flag m.sreg x))) is (key_may k.i at.place.i)
       by_i false e = permits_flag s.flags.bits m.sreg n at.stands.flags.bits
 
-  brbs_by : (n t : ℕ) → FollowsWhere m o s.facts k guarded b1 b2 (branch_effect m (flag m.sreg n) t) (branch (flag_at k s n) k s (wrapped m.device (near k.pc t)) (node_further m.device k 1))
+  brbs_by : (n t : ℕ) → FollowsWhere may m o s.facts k guarded b1 b2 (branch_effect m (flag m.sreg n) t) (branch (flag_at k s n) k s (wrapped m.device (near k.pc t)) (node_further m.device k 1))
   brbs_by n t = branch_by (flag_at k s n) (flag m.sreg n) (near m.pc t) (wrapped m.device (near k.pc t)) (further m 1) (node_further m.device k 1) (goes_near t) (goes_further 1) (flag_may n)
 
   brbc_by : (n t : ℕ)
-      → FollowsWhere m o s.facts k guarded b1 b2 (branch_effect m (not (flag m.sreg n)) t) (branch (tri_not (flag_at k s n)) k s (wrapped m.device (near k.pc t)) (node_further m.device k 1))
+      → FollowsWhere may m o s.facts k guarded b1 b2 (branch_effect m (not (flag m.sreg n)) t) (branch (tri_not (flag_at k s n)) k s (wrapped m.device (near k.pc t)) (node_further m.device k 1))
   brbc_by n t =
       branch_by (tri_not (flag_at k s n)) (not (flag m.sreg n)) (near m.pc t) (wrapped m.device (near k.pc t)) (further m 1) (node_further m.device k 1)
       (goes_near t) (goes_further 1) (not_may (flag_at k s n) (flag m.sreg n) (flag_may n))
@@ -132,30 +142,30 @@ module _ (m : State) (o : Origin) (k : NodeKey) (s : AbsState) (at : InBareFrame
       )
 
   goes_where : (on : Bool) → flag m.sreg 0 ≡ on → (pc pc' : ℕ) → wrapped m.device pc ≡ pc'
-      → (to : Node) × ((going_where k (where_carry s.flags.carry s on) pc' ≡ moves_to (to ∷ [])) × ((to.key.inst ≡ k.inst) × ArrivesWhere m o s.facts guarded (going_to m pc) to))
+      → (to : Node) × ((going_where k (where_carry s.flags.carry s on) pc' ≡ moves_to (to ∷ [])) × ((to.key.inst ≡ k.inst) × ArrivesWhere may m o s.facts guarded (going_to m pc) to))
   goes_where on e pc pc' is =
       let cut = cut_by s.flags.carry refl at.node.formed.carry at.stands.less on e in (
         record { key = off_table k pc'; state = record s { registers = cut.0 } },
         (ap (λ (t : Option AbsState). going_where k t pc') cut.1.0, (refl, goes_cut m o k s at guarded pc pc' cut.0 is cut.1.1)),
       )
 
-  follows_one : (e : Effect) (r : Raw) → (to : Node) × ((r ≡ moves_to (to ∷ [])) × ((to.key.inst ≡ k.inst) × ArrivesWhere m o s.facts guarded e to)) → FollowsWhere m o s.facts k guarded b1 b2 e r
-  follows_one e r h = subst (FollowsWhere m o s.facts k guarded b1 b2 e) (sym h.1.0) (only m o k s at guarded b1 b2 e h.0 h.1.1.0 h.1.1.1)
+  follows_one : (e : Effect) (r : Raw) → (to : Node) × ((r ≡ moves_to (to ∷ [])) × ((to.key.inst ≡ k.inst) × ArrivesWhere may m o s.facts guarded e to)) → FollowsWhere may m o s.facts k guarded b1 b2 e r
+  follows_one e r h = subst (FollowsWhere may m o s.facts k guarded b1 b2 e) (sym h.1.0) (only m o k s at guarded b1 b2 e h.0 h.1.1.0 h.1.1.1)
 
-  follows_first : (e : Effect) (r q : Raw) → (to : Node) × ((r ≡ moves_to (to ∷ [])) × ((to.key.inst ≡ k.inst) × ArrivesWhere m o s.facts guarded e to))
-      → FollowsWhere m o s.facts k guarded b1 b2 e (all_of (r ∷ q ∷ []))
+  follows_first : (e : Effect) (r q : Raw) → (to : Node) × ((r ≡ moves_to (to ∷ [])) × ((to.key.inst ≡ k.inst) × ArrivesWhere may m o s.facts guarded e to))
+      → FollowsWhere may m o s.facts k guarded b1 b2 e (all_of (r ∷ q ∷ []))
   follows_first e r q h =
-      subst (λ (x : Raw). FollowsWhere m o s.facts k guarded b1 b2 e (all_of (x ∷ q ∷ []))) (sym h.1.0)
+      subst (λ (x : Raw). FollowsWhere may m o s.facts k guarded b1 b2 e (all_of (x ∷ q ∷ []))) (sym h.1.0)
       (record { leads = λ held. stays h.0 (Contains-append_left (h.0 ∷ []) (all_of (q ∷ [])).moves h.0 (first_in h.0 [])) h.1.1.0 (h.1.1.1.lands held) })
 
-  follows_second : (e : Effect) (r q : Raw) → (to : Node) × ((q ≡ moves_to (to ∷ [])) × ((to.key.inst ≡ k.inst) × ArrivesWhere m o s.facts guarded e to))
-      → FollowsWhere m o s.facts k guarded b1 b2 e (all_of (r ∷ q ∷ []))
+  follows_second : (e : Effect) (r q : Raw) → (to : Node) × ((q ≡ moves_to (to ∷ [])) × ((to.key.inst ≡ k.inst) × ArrivesWhere may m o s.facts guarded e to))
+      → FollowsWhere may m o s.facts k guarded b1 b2 e (all_of (r ∷ q ∷ []))
   follows_second e r q h =
-      subst (λ (x : Raw). FollowsWhere m o s.facts k guarded b1 b2 e (all_of (r ∷ x ∷ []))) (sym h.1.0)
+      subst (λ (x : Raw). FollowsWhere may m o s.facts k guarded b1 b2 e (all_of (r ∷ x ∷ []))) (sym h.1.0)
       (record { leads = λ held. stays h.0 (Contains-append_right r.moves (h.0 ∷ []) h.0 (first_in h.0 [])) h.1.1.0 (h.1.1.1.lands held) })
 
   carry_by : (t : Tri) (on : Bool) → flag m.sreg 0 ≡ on → (set' set'' clear clear' : ℕ) → wrapped m.device set' ≡ set'' → wrapped m.device clear ≡ clear' → Permits t (from_bool on)
-      → FollowsWhere m o s.facts k guarded b1 b2 (going_to m (if on then set' else clear)) (carry_branch t k s set'' clear')
+      → FollowsWhere may m o s.facts k guarded b1 b2 (going_to m (if on then set' else clear)) (carry_branch t k s set'' clear')
   carry_by One true e set' set'' clear clear' is is' may = follows_one _ _ (goes_where true e set' set'' is)
   carry_by One false e set' set'' clear clear' is is' may = absurd (omega arith)
   carry_by Zero true e set' set'' clear clear' is is' may = absurd (omega arith)
@@ -170,8 +180,8 @@ module _ (m : State) (o : Origin) (k : NodeKey) (s : AbsState) (at : InBareFrame
 
   -- flag 0 is C
   by_flag : (n : ℕ) (is_carry : Bool) → (n == 0) ≡ is_carry → (set' clear : ℕ) (e : Effect) (other : Raw)
-      → (0 ≡ n → FollowsWhere m o s.facts k guarded b1 b2 e (carry_branch (carry_bit s) k s set' clear)) → FollowsWhere m o s.facts k guarded b1 b2 e other
-      → FollowsWhere m o s.facts k guarded b1 b2 e (if is_carry then carry_branch (carry_bit s) k s set' clear else other)
+      → (0 ≡ n → FollowsWhere may m o s.facts k guarded b1 b2 e (carry_branch (carry_bit s) k s set' clear)) → FollowsWhere may m o s.facts k guarded b1 b2 e other
+      → FollowsWhere may m o s.facts k guarded b1 b2 e (if is_carry then carry_branch (carry_bit s) k s set' clear else other)
   by_flag n true is set' clear e other h g = h (grind (arith, nat_tests))
   by_flag n false is set' clear e other h g = g
 
@@ -180,35 +190,50 @@ module _ (m : State) (o : Origin) (k : NodeKey) (s : AbsState) (at : InBareFrame
   turned false x y = refl
 
   pub brbs_covered : (n t : ℕ)
-      → FollowsWhere m o s.facts k guarded b1 b2 (branch_effect m (flag m.sreg n) t)
+      → FollowsWhere may m o s.facts k guarded b1 b2 (branch_effect m (flag m.sreg n) t)
       (flag_branch n k s (wrapped m.device (near k.pc t)) (node_further m.device k 1) (branch (flag_at k s n) k s (wrapped m.device (near k.pc t)) (node_further m.device k 1)))
   brbs_covered n t =
       by_flag n (n == 0) refl (wrapped m.device (near k.pc t)) (node_further m.device k 1) _ _
-      (λ is. subst (λ (i : ℕ). FollowsWhere m o s.facts k guarded b1 b2 (branch_effect m (flag m.sreg i) t) (carry_branch (carry_bit s) k s (wrapped m.device (near k.pc t)) (node_further m.device k 1))) is
+      (λ is. subst (λ (i : ℕ). FollowsWhere may m o s.facts k guarded b1 b2 (branch_effect m (flag m.sreg i) t) (carry_branch (carry_bit s) k s (wrapped m.device (near k.pc t)) (node_further m.device k 1))) is
       (carry_by (carry_bit s) (flag m.sreg 0) refl (near m.pc t) (wrapped m.device (near k.pc t)) (further m 1) (node_further m.device k 1) (goes_near t) (goes_further 1) carry_permits))
       (brbs_by n t)
 
   pub brbc_covered : (n t : ℕ)
-      → FollowsWhere m o s.facts k guarded b1 b2 (branch_effect m (not (flag m.sreg n)) t)
+      → FollowsWhere may m o s.facts k guarded b1 b2 (branch_effect m (not (flag m.sreg n)) t)
       (flag_branch n k s (node_further m.device k 1) (wrapped m.device (near k.pc t)) (branch (tri_not (flag_at k s n)) k s (wrapped m.device (near k.pc t)) (node_further m.device k 1)))
   brbc_covered n t =
       by_flag n (n == 0) refl (node_further m.device k 1) (wrapped m.device (near k.pc t)) _ _
-      (λ is. subst (λ (i : ℕ). FollowsWhere m o s.facts k guarded b1 b2 (branch_effect m (not (flag m.sreg i)) t) (carry_branch (carry_bit s) k s (node_further m.device k 1) (wrapped m.device (near k.pc t)))) is
-      (subst (λ (pc : ℕ). FollowsWhere m o s.facts k guarded b1 b2 (going_to m pc) (carry_branch (carry_bit s) k s (node_further m.device k 1) (wrapped m.device (near k.pc t))))
+      (λ is. subst (λ (i : ℕ). FollowsWhere may m o s.facts k guarded b1 b2 (branch_effect m (not (flag m.sreg i)) t) (carry_branch (carry_bit s) k s (node_further m.device k 1) (wrapped m.device (near k.pc t)))) is
+      (subst (λ (pc : ℕ). FollowsWhere may m o s.facts k guarded b1 b2 (going_to m pc) (carry_branch (carry_bit s) k s (node_further m.device k 1) (wrapped m.device (near k.pc t))))
       (turned (flag m.sreg 0) (further m 1) (near m.pc t))
       (carry_by (carry_bit s) (flag m.sreg 0) refl (further m 1) (node_further m.device k 1) (near m.pc t) (wrapped m.device (near k.pc t)) (goes_further 1) (goes_near t) carry_permits)))
       (brbc_by n t)
 
-  pub skip_covered : (words : List ℕ) (test : Bool) (t : Tri) → Permits t (from_bool test) → FollowsWhere m o s.facts k guarded b1 b2 (skipping words m test) (node_skipping m.device words k s t)
-  skip_covered words test t may = by_test test (branch_by t test (further m (1 + length_of (word_at words (m.pc + 1)))) (node_further m.device k (1 + length_of (word_at words (k.pc + 1)))) (further m 1) (node_further m.device k 1)
-      (devices_are_alike.twice m.device (m.pc + (1 + length_of (word_at words (m.pc + 1)))) ∙ ap (λ pc. wrapped m.device (pc + (1 + length_of (word_at words (pc + 1))))) at.place.pc)
-      (goes_further 1) may)
+  -- past the next instruction with one key, and to it with the other
+  pub skip_keys : (words : List ℕ) (test : Bool) (t : Tri) (j l : NodeKey) → j.inst ≡ k.inst → l.inst ≡ k.inst
+      → ((pc pc' : ℕ) → wrapped m.device pc ≡ pc' → test ≡ true → ArrivesWhere may m o s.facts guarded (going_to m pc) (record { key = off_table j pc'; state = s }))
+      → ((pc pc' : ℕ) → wrapped m.device pc ≡ pc' → test ≡ false → ArrivesWhere may m o s.facts guarded (going_to m pc) (record { key = off_table l pc'; state = s }))
+      → Permits t (from_bool test)
+      → FollowsWhere may m o s.facts k guarded b1 b2 (skipping words m test)
+      (node_branch_by t j l s (node_further m.device k (1 + length_of (word_at words (k.pc + 1)))) (node_further m.device k 1))
+  skip_keys words test t j l same same' goes goes' can =
+      by_test test
+      (branch_keys t test j l (further m (1 + length_of (word_at words (m.pc + 1)))) (node_further m.device k (1 + length_of (word_at words (k.pc + 1)))) (further m 1) (node_further m.device k 1) same same'
+      (goes _ _ (devices_are_alike.twice m.device (m.pc + (1 + length_of (word_at words (m.pc + 1)))) ∙ ap (λ pc. wrapped m.device (pc + (1 + length_of (word_at words (pc + 1))))) at.place.pc))
+      (goes' _ _ (goes_further 1)) can)
     where
       -- the test stands inside the sum
-      by_test : (b : Bool) → FollowsWhere m o s.facts k guarded b1 b2 (going_to m (if b then further m (1 + length_of (word_at words (m.pc + 1))) else further m 1)) (node_skipping m.device words k s t)
-          → FollowsWhere m o s.facts k guarded b1 b2 (skipping words m b) (node_skipping m.device words k s t)
+      by_test : (b : Bool)
+          → FollowsWhere may m o s.facts k guarded b1 b2 (going_to m (if b then further m (1 + length_of (word_at words (m.pc + 1))) else further m 1))
+          (node_branch_by t j l s (node_further m.device k (1 + length_of (word_at words (k.pc + 1)))) (node_further m.device k 1))
+          → FollowsWhere may m o s.facts k guarded b1 b2 (skipping words m b)
+          (node_branch_by t j l s (node_further m.device k (1 + length_of (word_at words (k.pc + 1)))) (node_further m.device k 1))
       by_test true h = h
       by_test false h = h
+
+  pub skip_covered : (words : List ℕ) (test : Bool) (t : Tri) → Permits t (from_bool test) → FollowsWhere may m o s.facts k guarded b1 b2 (skipping words m test) (node_skipping m.device words k k s t)
+  skip_covered words test t can =
+      skip_keys words test t k k refl refl (λ pc pc' is e. turns_to m o k s at guarded pc pc' is) (λ pc pc' is e. turns_to m o k s at guarded pc pc' is) can
 
   -- ---- indirect transfers
 
@@ -222,7 +247,7 @@ module _ (m : State) (o : Origin) (k : NodeKey) (s : AbsState) (at : InBareFrame
       (register_bits m o k s at 30) (register_bits m o k s at 31)
 
   jump_by : (line : Option (List ℕ)) (found : Option (List ℕ)) → targets_by m.device line (bits s 30) (bits s 31) ≡ found → unless_listed line target ≡ None
-      → (jumping found k s).faults ≡ [] → FollowsWhere m o s.facts k guarded b1 b2 (going_to m (pair m 30 % WORDS)) (jumping found k s)
+      → (jumping found k s).faults ≡ [] → FollowsWhere may m o s.facts k guarded b1 b2 (going_to m (pair m 30 % WORDS)) (jumping found k s)
   jump_by line None e unflagged none = absurd (cc)
   jump_by line (Some targets) e unflagged none =
       record {
@@ -233,7 +258,7 @@ module _ (m : State) (o : Origin) (k : NodeKey) (s : AbsState) (at : InBareFrame
 
   pub ijmp_covered : (A : List Entry) → unless_listed (jump_line A m.pc) target ≡ None
       → (jumping (targets_by m.device (jump_line A k.pc) (bits s 30) (bits s 31)) k s).faults ≡ []
-      → FollowsWhere m o s.facts k guarded b1 b2 (going_to m (pair m 30 % WORDS)) (jumping (targets_by m.device (jump_line A k.pc) (bits s 30) (bits s 31)) k s)
+      → FollowsWhere may m o s.facts k guarded b1 b2 (going_to m (pair m 30 % WORDS)) (jumping (targets_by m.device (jump_line A k.pc) (bits s 30) (bits s 31)) k s)
   ijmp_covered A unflagged none =
       jump_by (jump_line A k.pc) (targets_by m.device (jump_line A k.pc) (bits s 30) (bits s 31)) refl
       (subst (λ pc. unless_listed (jump_line A pc) target ≡ None) at.place.pc unflagged) none
@@ -242,7 +267,7 @@ module _ (m : State) (o : Origin) (k : NodeKey) (s : AbsState) (at : InBareFrame
 
   -- a call can't be followed while the stack pointer is half written
   unless_open : (form : SpForm) (pc : ℕ) (r : Raw) (e : Effect) → (untracked_if (is_half_written form) pc r).faults ≡ []
-      → ((offset : ℕ) → form ≡ Closed offset → r.faults ≡ [] → FollowsWhere m o s.facts k guarded b1 b2 e r) → FollowsWhere m o s.facts k guarded b1 b2 e (untracked_if (is_half_written form) pc r)
+      → ((offset : ℕ) → form ≡ Closed offset → r.faults ≡ [] → FollowsWhere may m o s.facts k guarded b1 b2 e r) → FollowsWhere may m o s.facts k guarded b1 b2 e (untracked_if (is_half_written form) pc r)
   unless_open (Closed offset) pc r e none h = h offset refl none
   unless_open (Open offset high) pc r e none h = absurd (cc)
 
@@ -254,14 +279,14 @@ module _ (m : State) (o : Origin) (k : NodeKey) (s : AbsState) (at : InBareFrame
   call_is target target' back back' is is' = ap₂ call_to (sym (devices_are_alike.twice m.device target) ∙ ap (wrapped m.device) is) is'
 
   pub call_covered : (target target' back back' : ℕ) (targets : List ℕ) → guarded ≡ true → wrapped m.device target ≡ target' → back ≡ back' → Contains targets target'
-      → (node_calling k back' targets).faults ≡ [] → FollowsWhere m o s.facts k guarded b1 b2 (calling m target back) (node_calling k back' targets)
+      → (node_calling k back' targets).faults ≡ [] → FollowsWhere may m o s.facts k guarded b1 b2 (calling m target back) (node_calling k back' targets)
   call_covered target target' back back' targets guards is is' has none =
       unless_open k.sp k.pc _ (calling m target back) none
       (λ offset form free. record { leads = λ held. calls offset (site target' back') (in_map (λ t. site t back') target' targets has) form guards (call_is target target' back back' is is') })
 
   icall_by : (line : Option (List ℕ)) (found : Option (List ℕ)) → guarded ≡ true → targets_by m.device line (bits s 30) (bits s 31) ≡ found
       → unless_listed line target ≡ None → (indirect_call m.device found k).faults ≡ []
-      → FollowsWhere m o s.facts k guarded b1 b2 (calling m (pair m 30 % WORDS) (further m 1)) (indirect_call m.device found k)
+      → FollowsWhere may m o s.facts k guarded b1 b2 (calling m (pair m 30 % WORDS) (further m 1)) (indirect_call m.device found k)
   icall_by line None guards e unflagged none = unless_open k.sp k.pc _ _ none (λ offset form wrong. absurd (cc))
   icall_by line (Some targets) guards e unflagged none =
       call_covered (pair m 30 % WORDS) target (further m 1) (node_further m.device k 1) targets guards refl (further_is 1)
@@ -269,7 +294,7 @@ module _ (m : State) (o : Origin) (k : NodeKey) (s : AbsState) (at : InBareFrame
 
   pub icall_covered : (A : List Entry) → guarded ≡ true → unless_listed (jump_line A m.pc) target ≡ None
       → (indirect_call m.device (targets_by m.device (jump_line A k.pc) (bits s 30) (bits s 31)) k).faults ≡ []
-      → FollowsWhere m o s.facts k guarded b1 b2 (calling m (pair m 30 % WORDS) (further m 1)) (indirect_call m.device (targets_by m.device (jump_line A k.pc) (bits s 30) (bits s 31)) k)
+      → FollowsWhere may m o s.facts k guarded b1 b2 (calling m (pair m 30 % WORDS) (further m 1)) (indirect_call m.device (targets_by m.device (jump_line A k.pc) (bits s 30) (bits s 31)) k)
   icall_covered A guards unflagged none =
       icall_by (jump_line A k.pc) (targets_by m.device (jump_line A k.pc) (bits s 30) (bits s 31)) guards refl
       (subst (λ pc. unless_listed (jump_line A pc) target ≡ None) at.place.pc unflagged) none
@@ -278,24 +303,24 @@ module _ (m : State) (o : Origin) (k : NodeKey) (s : AbsState) (at : InBareFrame
 
   -- a row that needs a whole stack pointer
   pub closed : (form : SpForm) (pc : ℕ) (e : Effect) (go : ℕ → Raw) → (at_closed form pc go).faults ≡ []
-      → ((offset : ℕ) → form ≡ Closed offset → (go offset).faults ≡ [] → FollowsWhere m o s.facts k guarded b1 b2 e (go offset)) → FollowsWhere m o s.facts k guarded b1 b2 e (at_closed form pc go)
+      → ((offset : ℕ) → form ≡ Closed offset → (go offset).faults ≡ [] → FollowsWhere may m o s.facts k guarded b1 b2 e (go offset)) → FollowsWhere may m o s.facts k guarded b1 b2 e (at_closed form pc go)
   closed (Closed offset) pc e go none h = h offset refl none
   closed (Open offset high) pc e go none h = absurd (cc)
 
-  leave_by : (kind : Kind) (offset pc : ℕ) (x : Exit) (e : Effect) → k.inst.kind ≡ kind → k.sp ≡ Closed offset → IsReturn m b1 b2 x e → (node_returning x pc kind offset).faults ≡ []
-      → FollowsWhere m o s.facts k guarded b1 b2 e (node_returning x pc kind offset)
+  leave_by : (kind : Kind) (offset pc : ℕ) (x : Exit) (e : Effect) → k.inst.kind ≡ kind → k.sp ≡ Closed offset → IsReturn may m b1 b2 x e → (node_returning x pc kind offset).faults ≡ []
+      → FollowsWhere may m o s.facts k guarded b1 b2 e (node_returning x pc kind offset)
   leave_by kind (suc n) pc x e is form returns none = absurd (cc)
   leave_by Root zero pc x e is form returns none = absurd (cc)
   leave_by Call zero pc x e is form returns none = record { leads = λ held. leaves x refl (λ root. cc) form returns }
   leave_by (Vector v) zero pc x e is form returns none = record { leads = λ held. leaves x refl (λ root. cc) form returns }
 
-  leave_covered : (x : Exit) (e : Effect) → IsReturn m b1 b2 x e → (at_closed k.sp k.pc (node_returning x k.pc k.inst.kind)).faults ≡ []
-      → FollowsWhere m o s.facts k guarded b1 b2 e (at_closed k.sp k.pc (node_returning x k.pc k.inst.kind))
+  leave_covered : (x : Exit) (e : Effect) → IsReturn may m b1 b2 x e → (at_closed k.sp k.pc (node_returning x k.pc k.inst.kind)).faults ≡ []
+      → FollowsWhere may m o s.facts k guarded b1 b2 e (at_closed k.sp k.pc (node_returning x k.pc k.inst.kind))
   leave_covered x e returns none =
       closed k.sp k.pc e (node_returning x k.pc k.inst.kind) none (λ offset form free. leave_by k.inst.kind offset k.pc x e refl form returns free)
 
   pub ret_covered : (at_closed k.sp k.pc (node_returning (ret_exit k) k.pc k.inst.kind)).faults ≡ []
-      → FollowsWhere m o s.facts k guarded b1 b2 (returning m b1 b2) (at_closed k.sp k.pc (node_returning (ret_exit k) k.pc k.inst.kind))
+      → FollowsWhere may m o s.facts k guarded b1 b2 (returning m b1 b2) (at_closed k.sp k.pc (node_returning (ret_exit k) k.pc k.inst.kind))
   ret_covered =
       leave_covered (ret_exit k) (returning m b1 b2)
       (record {
@@ -312,7 +337,7 @@ module _ (m : State) (o : Origin) (k : NodeKey) (s : AbsState) (at : InBareFrame
       })
 
   pub reti_covered : (at_closed k.sp k.pc (node_returning (reti_exit k) k.pc k.inst.kind)).faults ≡ []
-      → FollowsWhere m o s.facts k guarded b1 b2 (reti_effect m b1 b2) (at_closed k.sp k.pc (node_returning (reti_exit k) k.pc k.inst.kind))
+      → FollowsWhere may m o s.facts k guarded b1 b2 (reti_effect m b1 b2) (at_closed k.sp k.pc (node_returning (reti_exit k) k.pc k.inst.kind))
   reti_covered =
       leave_covered (reti_exit k) (reti_effect m b1 b2)
       (record {

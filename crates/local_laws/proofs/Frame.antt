@@ -29,7 +29,7 @@ use Rattle.mask_states.specs.declared.keys.NodeKey.{NodeKey}
 use Rattle.mask_states.specs.declared.keys.SpForm.{SpForm}
 use Rattle.mask_states.specs.declared.keys.SpForm.TheVariants.{Closed, Open}
 use Rattle.mask_states.specs.Keys.{offset_of}
-use Rattle.mask_states.specs.Place.{SpIs}
+use Rattle.mask_states.specs.Place.{EnablesAre, SpIs}
 use Rattle.local_rules.specs.declared.local.Node.{Node}
 use Rattle.local_rules.specs.Raw.{moves_to, next, at_word, off_table, setting as node_setting, further as node_further}
 use Rattle.local_rules.specs.Registers.{value}
@@ -78,7 +78,7 @@ above_floor base sp d memory true (Open offset high) h lt live = live_above_none
 
 -- ---- a node that the machine is at
 
-module _ (m : State) (o : Origin) (k : NodeKey) (s : AbsState) (at : InBareFrame m o k s) where
+module _ {may : Bool} (m : State) (o : Origin) (k : NodeKey) (s : AbsState) (at : InBareFrame may m o k s) where
   pub register_stands : (r : ℕ) → ByteStands o (value s r) (register m r)
   register_stands r =
       ⊎_elim
@@ -107,12 +107,12 @@ module _ (m : State) (o : Origin) (k : NodeKey) (s : AbsState) (at : InBareFrame
   -- A successor at the same stack pointer, with the same slots, where nothing is pushed.
   pub frame_kept : (told : Option PairFacts) (guarded : Bool) (e : Effect) (to : Node) → e.pushes ≡ [] → to.key.sp ≡ k.sp → to.state.slots ≡ s.slots
       → sp_after e.sp e.stores ≡ m.sp → open_after e.is_open e.stores ≡ m.is_open
-      → e.pc ≡ to.key.pc → enables_after e.enables e.stores ≡ to.key.masks → flag (sreg_after e.sreg e.stores) 7 ≡ to.key.i → e.delay ≡ to.key.delay
+      → e.pc ≡ to.key.pc → EnablesAre may (enables_after e.enables e.stores) to.key.masks → flag (sreg_after e.sreg e.stores) 7 ≡ to.key.i → e.delay ≡ to.key.delay
       → RegistersStand o to.state.registers (registers_after (with_registers m.registers e.registers) e.stores)
       → FlagsStand o to.state.flags (sreg_after e.sreg e.stores)
       → LessHolds (registers_after (with_registers m.registers e.registers) e.stores) to.state.flags.carry (flag (sreg_after e.sreg e.stores) 0)
       → (HeldAt m told e → HoldsAt to.state.facts (registers_after (with_registers m.registers e.registers) e.stores) (sreg_after e.sreg e.stores))
-      → ArrivesWhere m o told guarded e to
+      → ArrivesWhere may m o told guarded e to
   frame_kept told guarded e to pushes sp slots sp_is open_is pc enables i delay registers flags less facts =
       record {
         lands = λ held. record {
@@ -136,41 +136,47 @@ module _ (m : State) (o : Origin) (k : NodeKey) (s : AbsState) (at : InBareFrame
 
   pub same_frame : (guarded : Bool) (e : Effect) (to : Node) → e.pushes ≡ [] → to.key.sp ≡ k.sp → to.state.slots ≡ s.slots
       → sp_after e.sp e.stores ≡ m.sp → open_after e.is_open e.stores ≡ m.is_open
-      → e.pc ≡ to.key.pc → enables_after e.enables e.stores ≡ to.key.masks → flag (sreg_after e.sreg e.stores) 7 ≡ to.key.i → e.delay ≡ to.key.delay
+      → e.pc ≡ to.key.pc → EnablesAre may (enables_after e.enables e.stores) to.key.masks → flag (sreg_after e.sreg e.stores) 7 ≡ to.key.i → e.delay ≡ to.key.delay
       → RegistersStand o to.state.registers (registers_after (with_registers m.registers e.registers) e.stores)
       → FlagsStand o to.state.flags (sreg_after e.sreg e.stores)
       → LessHolds (registers_after (with_registers m.registers e.registers) e.stores) to.state.flags.carry (flag (sreg_after e.sreg e.stores) 0)
       → (HeldAt m s.facts e → HoldsAt to.state.facts (registers_after (with_registers m.registers e.registers) e.stores) (sreg_after e.sreg e.stores))
-      → ArrivesWhere m o s.facts guarded e to
+      → ArrivesWhere may m o s.facts guarded e to
   same_frame = frame_kept s.facts
 
   -- the only successor
-  pub only : (guarded : Bool) (b1 b2 : ℕ) (e : Effect) (to : Node) → to.key.inst ≡ k.inst → ArrivesWhere m o s.facts guarded e to
-      → FollowsWhere m o s.facts k guarded b1 b2 e (moves_to (to ∷ []))
+  pub only : (guarded : Bool) (b1 b2 : ℕ) (e : Effect) (to : Node) → to.key.inst ≡ k.inst → ArrivesWhere may m o s.facts guarded e to
+      → FollowsWhere may m o s.facts k guarded b1 b2 e (moves_to (to ∷ []))
   only guarded b1 b2 e to inst at_node = record { leads = λ held. stays to (first_in to []) inst (at_node.lands held) }
 
   -- a row that sets registers and flags and goes on
   pub sets : (guarded : Bool) (b1 b2 : ℕ) (writes : List Write) (sreg : ℕ) (registers : List AbsByte) (flags : AbsFlags) → flag sreg 7 ≡ flag m.sreg 7
       → RegistersStand o registers (with_registers m.registers writes) → FlagsStand o flags sreg
       → LessHolds (with_registers m.registers writes) flags.carry (flag sreg 0)
-      → FollowsWhere m o s.facts k guarded b1 b2 (setting m writes sreg) (node_setting m.device k s registers flags)
+      → FollowsWhere may m o s.facts k guarded b1 b2 (setting m writes sreg) (node_setting m.device k s registers flags)
   sets guarded b1 b2 writes sreg registers flags i h g less =
       only guarded b1 b2 _ _ refl
       (same_frame guarded (setting m writes sreg) (record { key = next m.device k; state = record s { registers = registers; flags = flags } }) refl refl refl refl refl next_is at.place.enables (i ∙ at.place.i) refl h g less (λ held. held))
 
   -- a row that goes to a word, modulo the number of words, and changes nothing else
-  pub goes_to : (guarded : Bool) (pc pc' : ℕ) → wrapped m.device pc ≡ pc' → ArrivesWhere m o s.facts guarded (going_to m pc) (record { key = at_word k pc'; state = s })
+  pub goes_to : (guarded : Bool) (pc pc' : ℕ) → wrapped m.device pc ≡ pc' → ArrivesWhere may m o s.facts guarded (going_to m pc) (record { key = at_word k pc'; state = s })
   goes_to guarded pc pc' is =
       same_frame guarded (going_to m pc) (record { key = at_word k pc'; state = s }) refl refl refl refl refl is at.place.enables at.place.i refl at.stands.registers at.stands.flags at.stands.less (λ held. held)
 
-  -- the same off a jump table
-  pub turns_to : (guarded : Bool) (pc pc' : ℕ) → wrapped m.device pc ≡ pc' → ArrivesWhere m o s.facts guarded (going_to m pc) (record { key = off_table k pc'; state = s })
-  turns_to guarded pc pc' is =
-      same_frame guarded (going_to m pc) (record { key = off_table k pc'; state = s }) refl refl refl refl refl is at.place.enables at.place.i refl at.stands.registers at.stands.flags at.stands.less (λ held. held)
+  -- the same off a jump table, where the key may say otherwise what is enabled
+  pub turns_with : (guarded : Bool) (masks : ℕ) → EnablesAre may m.enables masks → (pc pc' : ℕ) → wrapped m.device pc ≡ pc'
+      → ArrivesWhere may m o s.facts guarded (going_to m pc) (record { key = off_table (record k { masks = masks }) pc'; state = s })
+  turns_with guarded masks enables pc pc' is =
+      same_frame guarded (going_to m pc) (record { key = off_table (record k { masks = masks }) pc'; state = s }) refl refl refl refl refl is enables at.place.i refl at.stands.registers
+      at.stands.flags at.stands.less (λ held. held)
+
+  -- the same where it says the same of that
+  pub turns_to : (guarded : Bool) (pc pc' : ℕ) → wrapped m.device pc ≡ pc' → ArrivesWhere may m o s.facts guarded (going_to m pc) (record { key = off_table k pc'; state = s })
+  turns_to guarded pc pc' is = turns_with guarded k.masks at.place.enables pc pc' is
 
   -- the same where some registers' ranges are cut
   pub goes_cut : (guarded : Bool) (pc pc' : ℕ) (values : List AbsByte) → wrapped m.device pc ≡ pc' → RegistersStand o values m.registers
-      → ArrivesWhere m o s.facts guarded (going_to m pc) (record { key = off_table k pc'; state = record s { registers = values } })
+      → ArrivesWhere may m o s.facts guarded (going_to m pc) (record { key = off_table k pc'; state = record s { registers = values } })
   goes_cut guarded pc pc' values is stand =
       same_frame guarded (going_to m pc) (record { key = off_table k pc'; state = record s { registers = values } }) refl refl refl refl refl is at.place.enables at.place.i refl stand
       at.stands.flags at.stands.less (λ held. held)

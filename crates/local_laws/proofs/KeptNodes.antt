@@ -31,12 +31,13 @@ use Rattle.abs_state.proofs.AllLaws.{writes_end_facts, ended_at}
 use Rattle.mask_states.specs.declared.keys.NodeKey.{NodeKey}
 use Rattle.mask_states.specs.declared.keys.High.{High}
 use Rattle.mask_states.specs.Splits.{splits}
+use Rattle.mask_states.specs.Wakes.{widened}
 use Rattle.local_rules.specs.declared.local.Node.{Node}
 use Rattle.local_rules.specs.declared.pointers.Pointed.{Pointed}
 use Rattle.local_rules.specs.Raw.{Raw, nowhere, one, all_of, off_table}
 use Rattle.local_rules.specs.Registers.{value, carry_bit, forgetting}
 use Rattle.local_rules.specs.Flow.{branch, part_of, with_value, where_carry, going_where, carry_branch, flag_branch}
-use Rattle.local_rules.specs.Writes.{opening, closing, sreg_written, written_at, fixed_write, pointer_write, high_part, closing_offset, flags_written, register_written, put_flags, reaches}
+use Rattle.local_rules.specs.Writes.{opening, closing, sreg_written, written_at, fixed_write, may_wake, waking, pointer_write, high_part, closing_offset, flags_written, register_written, put_flags, reaches}
 use Rattle.local_laws.proofs.Members.{each_of, each_in_map}
 use Rattle.local_laws.proofs.MonotoneValues.{set_other}
 
@@ -186,12 +187,16 @@ module _ (followed : Bool) where
   kept_fixed device None pc k s v sixteen h = kept_none
   kept_fixed device (Some a) pc k s v sixteen h = kept_written device pc k s false a v sixteen h
 
+  kept_waking : (b : Bool) (device : Device) (A : List Entry) (k : NodeKey) (s : AbsState) (r : Raw) → IsModeKept followed s → AllKept r → AllKept (waking b device A k s r)
+  kept_waking false device A k s r h all to j = all to j
+  kept_waking true device A k s r h all to j = ⊎_elim (all to) (kept_one _ s h to) (Contains-append_cases r.moves (record { key = record k { masks = widened device A k.masks }; state = s } ∷ []) to j)
+
   pub kept_pointer : (device : Device) (words : List ℕ) (A : List Entry) (was : AbsState) (r up : ℕ) (p : Pointed) (pc : ℕ) (k : NodeKey) (s : AbsState) (v : AbsByte)
       → HasSixteen s.facts → IsModeKept followed s → AllKept (pointer_write device words A was r up p pc k s v)
   kept_pointer device words A was r up p pc k s v sixteen h =
-      kept_if (is_fixed_site words A pc) _ _ (λ e. kept_fixed device p.constant pc k s v sixteen h) (λ e to j.
+      kept_if (is_fixed_site words A pc) _ _ (λ e. kept_fixed device p.constant pc k s v sixteen h) (λ e. kept_waking (may_wake device A was r up p pc k v) device A k s _ h (λ to j.
       ⊎_elim (kept_one k s h to) (kept_all (λ a. written_at device pc k s false a v) (filter (λ a. reaches was r up a) (store_line A pc)) (λ a. kept_written device pc k s false a v sixteen h) to)
-      (Contains-append_cases (one k s).moves (all_of (map (λ a. written_at device pc k s false a v) (filter (λ a. reaches was r up a) (store_line A pc)))).moves to j))
+      (Contains-append_cases (one k s).moves (all_of (map (λ a. written_at device pc k s false a v) (filter (λ a. reaches was r up a) (store_line A pc)))).moves to j)))
 
 -- ---- branches on C, where pairs aren't followed
 

@@ -44,7 +44,8 @@ use Rattle.local_rules.specs.Registers.{value, before, forgetting, going_by, bin
 use Rattle.local_rules.specs.FrameLines.{framed_binary, is_followed as is_followed_by}
 use Rattle.local_rules.specs.Reads.{pointed}
 use Rattle.local_rules.specs.Flow.{going_where, flag_at, skipping}
-use Rattle.local_rules.specs.Local.{step_before, pointer_moved, plain_row, paired_row, row_by, row_at, row_in, refining, storing, is_hung, fetched, may_be, below, picks, picking, picked_row, split_site, splitting, raw}
+use Rattle.local_rules.specs.Local.{step_before, pointer_moved, plain_row, paired_row, row_by, row_at, row_in, refining, storing, is_hung, fetched, below, picks, picking, picked_row, split_site, splitting, raw}
+use Rattle.local_rules.specs.Permitted.{may_be}
 use Rattle.local_rules.specs.Cover.{IsNodeIn}
 use Rattle.local_laws.proofs.Bare.{IsBare, bare, bare_key}
 use Rattle.local_laws.proofs.KeptNodes.{IsModeKept, none_kept, forgetting_kept, AllKept, kept_none, kept_if, kept_both, kept_branch, kept_where, kept_written, kept_pointer, flag_branch_none}
@@ -80,7 +81,7 @@ module _ (device : Device) (words : List ℕ) (A : List Entry) (scratch : Bool) 
   -- `cpse` computes nothing, with a line or without
   cpse_kept : (framed : Bool) (d r : ℕ) → AllKept false (going_by device k (before (i.Binary binary.Cpse d r) s)
       (if framed then framed_binary (before (i.Binary binary.Cpse d r) s) binary.Cpse d r else binary_after (before (i.Binary binary.Cpse d r) s) binary.Cpse d r)
-      (skipping device words k (before (i.Binary binary.Cpse d r) s) (byte_equal (value_at s.registers d).bits (value_at s.registers r).bits)))
+      (skipping device words k k (before (i.Binary binary.Cpse d r) s) (byte_equal (value_at s.registers d).bits (value_at s.registers r).bits)))
   cpse_kept true d r = kept_branch false (byte_equal (value_at s.registers d).bits (value_at s.registers r).bits) k (before (i.Binary binary.Cpse d r) s) _ _ (kept_before (i.Binary binary.Cpse d r))
   cpse_kept false d r = kept_branch false (byte_equal (value_at s.registers d).bits (value_at s.registers r).bits) k (before (i.Binary binary.Cpse d r) s) _ _ (kept_before (i.Binary binary.Cpse d r))
 

@@ -15,8 +15,8 @@ use Rattle.local_rules.specs.Cover as cover
 abbrev pub HeldAt : State → Option PairFacts → Effect → Type 0
 HeldAt m x e = HoldsAt x (with_registers m.registers e.registers) e.sreg
 
-pub record ArrivesWhere (m : State) (o : Origin) (x : Option PairFacts) (guarded : Bool) (e : Effect) (to : Node) : Type 0 where
-  pub lands : HeldAt m x e → cover.ArrivesAt m o guarded e to
+pub record ArrivesWhere (may : Bool) (m : State) (o : Origin) (x : Option PairFacts) (guarded : Bool) (e : Effect) (to : Node) : Type 0 where
+  pub lands : HeldAt m x e → cover.ArrivesAt may m o guarded e to
 
-pub record FollowsWhere (m : State) (o : Origin) (x : Option PairFacts) (k : NodeKey) (guarded : Bool) (b1 b2 : ℕ) (e : Effect) (r : Raw) : Type 0 where
-  pub leads : HeldAt m x e → cover.Follows m o k guarded b1 b2 e r
+pub record FollowsWhere (may : Bool) (m : State) (o : Origin) (x : Option PairFacts) (k : NodeKey) (guarded : Bool) (b1 b2 : ℕ) (e : Effect) (r : Raw) : Type 0 where
+  pub leads : HeldAt m x e → cover.Follows may m o k guarded b1 b2 e r

@@ -136,7 +136,7 @@ forgetting_less written flags carry s fits =
     }
 
 -- the machine is there too
-pub forgetting_at : (m : State) (o : Origin) (k : NodeKey) (s : AbsState) (written : List ℕ) (flags carry : Bool) → InBareFrame m o k s → InBareFrame m o k (forgetting written flags carry s)
+pub forgetting_at : {may : Bool} (m : State) (o : Origin) (k : NodeKey) (s : AbsState) (written : List ℕ) (flags carry : Bool) → InBareFrame may m o k s → InBareFrame may m o k (forgetting written flags carry s)
 forgetting_at m o k s written flags carry at =
     record {
       machine = at.machine;
@@ -173,6 +173,7 @@ forgetting_at m o k s written flags carry at =
           (writes_end_facts.less (is_one_of written) flags carry s.facts at.node.formed.facts) at.facts;
       root = at.root;
       base_word = at.base_word;
+      room = at.room;
     }
 
 -- ---- tags that speak of no register, and tags that speak of nothing else

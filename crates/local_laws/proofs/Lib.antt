@@ -15,11 +15,13 @@ pub mod CoverRows
 pub mod Machine
 pub mod EffectSizes
 pub mod Stays
+pub mod Enables
 pub mod ReadValues
 pub mod PointerReads
 pub mod SpWrites
 pub mod SplitMembers
 pub mod WriteValues
+pub mod Permitted
 pub mod PointerWrites
 pub mod CoverMemory
 pub mod Ends
@@ -28,6 +30,7 @@ pub mod Steps
 pub mod Members
 pub mod Joined
 pub mod MonotoneValues
+pub mod MonotonePermits
 pub mod MonotoneRaw
 pub mod MonotoneAlu
 pub mod MonotoneReads
@@ -46,6 +49,7 @@ pub mod FrameTags
 pub mod FrameMonotone
 pub mod FrameCover
 pub mod Hung
+pub mod OpenPairs
 pub mod AllLaws
 pub mod PlainRows
 pub mod PairedPlain

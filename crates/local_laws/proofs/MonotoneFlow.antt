@@ -15,6 +15,7 @@ use Rattle.avr_model.specs.declared.assumption.Entry.{Entry}
 use Rattle.avr_model.specs.Image.{WORDS, word_at}
 use Rattle.avr_model.specs.Table.{length_of}
 use Rattle.avr_model.specs.Assumptions.{jump_line, lists}
+use Rattle.avr_model.specs.Vectors.{enable_of}
 use Rattle.bit_domain.specs.declared.bits.Tri.{Tri}
 use Rattle.bit_domain.specs.declared.bits.Tri.TheVariants.{Zero, One, Any}
 use Rattle.bit_domain.specs.declared.bytes.TriByte.{TriByte}
@@ -40,15 +41,17 @@ use Rattle.mask_states.specs.declared.keys.Kind.TheVariants.{Root, Call, Vector}
 use Rattle.mask_states.specs.declared.keys.SpForm.{SpForm}
 use Rattle.mask_states.specs.declared.keys.SpForm.TheVariants.{Closed, Open}
 use Rattle.mask_states.specs.Keys.{offset_of}
+use Rattle.mask_states.specs.Wakes.{without}
+use Rattle.vector_table.proofs.AllLaws.{enables_are_vectors}
 use Rattle.local_rules.specs.declared.local.Exit.{Exit}
 use Rattle.local_rules.specs.declared.local.NodeFault.TheVariants.{UnresolvedJump, UntrackedSp, TooDeep}
 use Rattle.local_rules.specs.Raw.{Raw, moves_to, fails, enters, untracked_if, all_of, at_word, off_table, turning_to, further, next}
 use Rattle.local_rules.specs.Registers.{value, bits, set, carry_bit}
 use Rattle.local_rules.specs.Reads.{value_of}
-use Rattle.local_rules.specs.Flow.{branch, skipping, flag_at, part_of, with_value, where_carry, going_where, carry_branch, flag_branch, words_on, targets_by, targets_at, jumping, is_half_written, at_closed, pushed_slot, pushing, popping, making_room, site, calling, indirect_call, relative_call, returning}
+use Rattle.local_rules.specs.Flow.{branch, branch_by, skipping, reading_zero, flag_at, part_of, with_value, where_carry, going_where, carry_branch, flag_branch, words_on, targets_by, targets_at, jumping, is_half_written, at_closed, pushed_slot, pushing, popping, making_room, site, calling, indirect_call, relative_call, returning}
 use Rattle.local_laws.proofs.Members.{in_map, each_in_map, filter_more, filter_passes, not_empty, any_more}
 use Rattle.local_laws.proofs.MonotoneValues.{IsLess, IsSlotLess, AreSlotsLess, IsStateLess, free_less, any_bit_within, registers_set}
-use Rattle.local_laws.proofs.MonotoneRaw.{LeadsLess, fails_less, untracked_less, if_leads, nowhere_less, above_first, above_rest, none_less, both_less, turning_less, several_less, one_less, choose, choose_more, choose_each, enters_less, leaves_less, further_small, off_table_key}
+use Rattle.local_laws.proofs.MonotoneRaw.{IsKeyPlace, LeadsLess, nodes_at, fails_less, untracked_less, if_leads, nowhere_less, above_first, above_rest, none_less, both_less, turning_less, several_less, one_less, choose, choose_more, choose_each, enters_less, leaves_less, further_small, off_table_key}
 use Rattle.local_laws.proofs.MonotoneAlu.{reg, reg_bits, flag_bits}
 use Rattle.local_laws.proofs.MonotoneReads.{IsReadLess, slot_value}
 
@@ -222,10 +225,20 @@ room_by : (inst : InstKey) (b : Bool) (n pc : ℕ) (p q : Raw) → (b ≡ true �
 room_by inst true n pc p q h = h refl
 room_by inst false n pc p q h = fails_less inst (fails (TooDeep pc n)) (TooDeep pc n)
 
-branch_nodes : (x : Tri) (k : NodeKey) (s : AbsState) (taken other : ℕ) → branch x k s taken other ≡ moves_to (map (λ a. record { key = off_table k a; state = s }) (choose x other taken))
-branch_nodes Zero k s taken other = refl
-branch_nodes One k s taken other = refl
-branch_nodes Any k s taken other = refl
+branch_nodes : (x : Tri) (k l : NodeKey) (s : AbsState) (taken other : ℕ)
+    → branch_by x k l s taken other ≡ moves_to (nodes_at (λ (j : NodeKey). j) s (choose x (off_table l other) (off_table k taken)))
+branch_nodes Zero k l s taken other = refl
+branch_nodes One k l s taken other = refl
+branch_nodes Any k l s taken other = refl
+
+-- a vector that isn't enabled leaves enable bits
+without_small : (may : Bool) (v : Option ℕ) (masks : ℕ) → masks < 2 ^ 25 → without may v masks < 2 ^ 25
+without_small false v masks lt = lt
+without_small true None masks lt = lt
+without_small true (Some v) masks lt = enables_are_vectors.turned masks v false
+
+off_place : (inst : InstKey) (offset : ℕ) (k : NodeKey) (pc : ℕ) → IsKeyPlace inst offset k → pc < WORDS → IsKeyPlace inst offset (off_table k pc)
+off_place inst offset k pc at lt = record { key = off_table_key k pc at.key lt; same = at.same; at = at.at }
 
 -- calls lead to the same whatever the state
 sites_less : (inst : InstKey) (k : NodeKey) (back : ℕ) (xs ys : List ℕ) → ((z : ℕ) → Contains xs z → Contains ys z) → LeadsLess inst (calling k back xs) (calling k back ys)
@@ -252,10 +265,31 @@ module _ (device : Device) (k : NodeKey) (at : IsKey k) (s t : AbsState) (le : I
   words_less xs ys more small =
       several_less k.inst (offset_of k.sp) (off_table k) s t xs ys more (λ z i. record { key = off_table_key k z at (small z i); same = refl; at = refl }) le
 
+  abbrev IsPlace : NodeKey → Type 0
+  IsPlace j = IsKeyPlace k.inst (offset_of k.sp) j
+
+  pub here : IsPlace k
+  here = record { key = at; same = refl; at = refl }
+
+  -- the key where a bit reads 0
+  pub zero_place : (may : Bool) (a b : ℕ) → IsPlace (reading_zero may k a b)
+  zero_place may a b =
+      record {
+        key = record { word = at.word; small = at.small; masks = without_small may (enable_of a b) k.masks at.masks; fits = at.fits; pick = at.pick };
+        same = refl;
+        at = refl;
+      }
+
+  ways_less : (x y : Tri) (j l : NodeKey) (taken other : ℕ) → IsPlace j → IsPlace l → IsTriWithin x y → taken < WORDS → other < WORDS
+      → LeadsLess k.inst (branch_by x j l s taken other) (branch_by y j l t taken other)
+  ways_less x y j l taken other first second within a b =
+      subst₂ (LeadsLess k.inst) (sym (branch_nodes x j l s taken other)) (sym (branch_nodes y j l t taken other))
+      (several_less k.inst (offset_of k.sp) (λ (i : NodeKey). i) s t (choose x (off_table l other) (off_table j taken)) (choose y (off_table l other) (off_table j taken))
+      (λ z. choose_more x y (off_table l other) (off_table j taken) z within)
+      (choose_each IsPlace y (off_table l other) (off_table j taken) (off_place k.inst (offset_of k.sp) l other second b) (off_place k.inst (offset_of k.sp) j taken first a)) le)
+
   pub branch_less : (x y : Tri) (taken other : ℕ) → IsTriWithin x y → taken < WORDS → other < WORDS → LeadsLess k.inst (branch x k s taken other) (branch y k t taken other)
-  branch_less x y taken other within a b =
-      subst₂ (LeadsLess k.inst) (sym (branch_nodes x k s taken other)) (sym (branch_nodes y k t taken other))
-      (words_less (choose x other taken) (choose y other taken) (λ z. choose_more x y other taken z within) (choose_each (λ (z : ℕ). z < WORDS) y other taken b a))
+  branch_less x y taken other within a b = ways_less x y k k taken other here here within a b
 
   -- ---- branches on C
 
@@ -382,9 +416,9 @@ module _ (device : Device) (k : NodeKey) (at : IsKey k) (s t : AbsState) (le : I
   flag_less n set' clear p q lt lt' other =
       if_leads k.inst (n == 0) _ _ _ _ (carry_less (carry_bit s) (carry_bit t) set' clear (any_bit_within s.flags.bits t.flags.bits 0 (flag_bits device k at s t le)) lt lt') other
 
-  pub skipping_less : (words : List ℕ) (x y : Tri) → IsTriWithin x y → LeadsLess k.inst (skipping device words k s x) (skipping device words k t y)
-  skipping_less words x y within =
-      branch_less x y (further device k (1 + length_of (word_at words (k.pc + 1)))) (further device k 1) within (further_small device k (1 + length_of (word_at words (k.pc + 1)))) (further_small device k 1)
+  pub skipping_less : (words : List ℕ) (j l : NodeKey) (x y : Tri) → IsPlace j → IsPlace l → IsTriWithin x y → LeadsLess k.inst (skipping device words j l s x) (skipping device words j l t y)
+  skipping_less words j l x y first second within =
+      ways_less x y j l (further device j (1 + length_of (word_at words (j.pc + 1)))) (further device j 1) first second within (further_small device j (1 + length_of (word_at words (j.pc + 1)))) (further_small device j 1)
 
   pub flag_within : (n : ℕ) → IsTriWithin (flag_at k s n) (flag_at k t n)
   flag_within n =

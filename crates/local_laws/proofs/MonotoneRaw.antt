@@ -139,7 +139,7 @@ leaves_less inst x e = record { faultless = refl; moves = λ to i. absurd (none_
 
 -- ---- the moves and faults of several
 
-met_left : (inst : InstKey) (xs ys : List Node) (to : Node) → IsMetAbove inst xs to → IsMetAbove inst (xs ++ ys) to
+pub met_left : (inst : InstKey) (xs ys : List Node) (to : Node) → IsMetAbove inst xs to → IsMetAbove inst (xs ++ ys) to
 met_left inst xs ys to h =
     record {
       same = h.same;
@@ -147,7 +147,7 @@ met_left inst xs ys to h =
       below = record { state = h.below.state; present = Contains-append_left xs ys (record { key = to.key; state = h.below.state }) h.below.present; above = h.below.above };
     }
 
-met_right : (inst : InstKey) (xs ys : List Node) (to : Node) → IsMetAbove inst ys to → IsMetAbove inst (xs ++ ys) to
+pub met_right : (inst : InstKey) (xs ys : List Node) (to : Node) → IsMetAbove inst ys to → IsMetAbove inst (xs ++ ys) to
 met_right inst xs ys to h =
     record {
       same = h.same;

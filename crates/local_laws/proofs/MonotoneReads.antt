@@ -99,6 +99,14 @@ IsReadLess kind x y = (v : AbsByte) → x ≡ Some v → (w : AbsByte) × ((y �
 read_some : (kind : Kind) (v w : AbsByte) → IsLess kind v w → IsReadLess kind (Some v) (Some w)
 read_some kind v w h x e = let is : v ≡ x = cc in (w, (refl, subst (λ (y : AbsByte). IsLess kind y w) is h))
 
+if_read : (kind : Kind) (b : Bool) (x y x' y' : Option AbsByte) → IsReadLess kind x y → IsReadLess kind x' y' → IsReadLess kind (if b then x else x') (if b then y else y')
+if_read kind true x y x' y' h k = h
+if_read kind false x y x' y' h k = k
+
+if_under : (kind : Kind) (b : Bool) (x x' y : Option AbsByte) → IsReadLess kind x y → IsReadLess kind x' y → IsReadLess kind (if b then x else x') y
+if_under kind true x x' y h k = h
+if_under kind false x x' y h k = k
+
 -- the bits and the range of a value are those of another, or less
 sets_within : (kind : Kind) (v w : AbsByte) → IsLess kind v w → IsSetWithin (set_of v) (set_of w)
 sets_within kind v w h = record { bits = h.within.bits; low = h.within.low; high = h.within.high }
@@ -178,16 +186,6 @@ module _ (device : Device) (k : NodeKey) (at : IsKey k) (s t : AbsState) (le : I
   slot : (d : ℕ) → IsLess kind (value_of (slot_at s.slots d)) (value_of (slot_at t.slots d))
   slot d = slot_value kind (slot_at s.slots d) (slot_at t.slots d) (le.slots.each d)
 
-  pub read_less : (a : ℕ) → IsLess kind (read_at device k s a) (read_at device k t a)
-  unfolding read_at
-  read_less a =
-      if_less kind (nat_lt a 0x20) _ _ _ _ (reg device k at s t le a)
-      (if_less kind (a == SPL) _ _ _ _ (sp_low_less device kind k.sp)
-      (if_less kind (a == SPH) _ _ _ _ (sp_high_less device kind k.sp)
-      (if_less kind (a == SREG) _ _ _ _ (sreg_less k s t le.flags)
-      (if_less kind (nat_le a BELOW) _ _ _ _ (untagged_less kind (io_bits k.masks a) (io_bits k.masks a) (same_within (io_bits k.masks a)))
-      (slot_less device kind s t a slot)))))
-
   pub constants : (r : ℕ) → IsSameWhere (pair_constant s r) (pair_constant t r)
   constants r =
       pair_tells (byte_constant (bits s r)) (byte_constant (bits t r)) (byte_constant (bits s (r + 1))) (byte_constant (bits t (r + 1)))
@@ -201,68 +199,8 @@ module _ (device : Device) (k : NodeKey) (at : IsKey k) (s t : AbsState) (le : I
   pub pointed_constants : (r up : ℕ) → IsSameWhere (pointed s r up).constant (pointed t r up).constant
   pointed_constants r up = tells_by (raised up) refl (pair_constant s r) (pair_constant t r) (constants r)
 
-  pointed_frames : (r up : ℕ) → IsSameWhere (pointed s r up).frame (pointed t r up).frame
+  pub pointed_frames : (r up : ℕ) → IsSameWhere (pointed s r up).frame (pointed t r up).frame
   pointed_frames r up = tells_by (lowered up) refl (frame_of (value s r).tag (value s (r + 1)).tag) (frame_of (value t r).tag (value t (r + 1)).tag) (frames r)
-
-  -- by the number alone
-  number_less : (a : ℕ) → IsLess kind (read_number device k s a) (read_number device k t a)
-  number_less a =
-      if_less kind (nat_le a BELOW) _ _ _ _ (untagged_less kind (read_at device k s a).bits (read_at device k t a).bits (read_less a).within.bits) (range_less kind (read_at device k s a) (read_at device k t a) (read_less a))
-
-  constant_less : (f g : Option ℕ) → IsSameWhere f g → IsLess kind (read_constant device k s f) (read_constant device k t g)
-  constant_less None None h = unknown_same kind
-  constant_less (Some a) None h = below_unknown kind (read_number device k s a) (number_less a).good (number_less a).ranged
-  constant_less f (Some a) h = subst (λ (x : Option ℕ). IsLess kind (read_constant device k s x) (read_constant device k t (Some a))) (sym (h a refl)) (number_less a)
-
-  both_less : (f g : Option ℕ) (v w : AbsByte) → IsSameWhere f g → IsLess kind v w → IsReadLess kind (read_both device k s f v) (read_both device k t g w)
-  both_less None None v w h le = read_some kind v w le
-  both_less (Some a) None v w h le =
-      meet_under kind (read_number device k s a) v w le.good le.within.tag
-      (λ m e. sets_through m (set_of v) (set_of w) (ranges_hold.under (set_of (read_number device k s a)) (set_of v) m e).1 (sets_within kind v w le))
-  both_less f (Some a) v w h le =
-      subst (λ (x : Option ℕ). IsReadLess kind (read_both device k s x v) (read_both device k t (Some a) w)) (sym (h a refl))
-      (meet_both kind (read_number device k s a) (read_number device k t a) v w le (number_less a))
-
-  number_tag : (a : ℕ) → (read_number device k t a).tag ≡ tag.None
-  number_tag a = by (nat_le a BELOW)
-    where
-      by : (b : Bool) → (if b then untagged (read_at device k t a).bits else valued tag.None (set_of (read_at device k t a))).tag ≡ tag.None
-      by true = refl
-      by false = refl
-
-  -- the lesser reads a slot, and the greater by the number alone
-  slot_under : (f g : Option ℕ) (v : AbsByte) → IsSameWhere f g → IsTagOf kind v.tag → ByteFits v → IsReadLess kind (read_both device k s f v) (Some (read_constant device k t g))
-  slot_under None None v h good fit = read_some kind v unknown (below_unknown kind v good fit)
-  slot_under (Some a) None v h good fit = meet_under kind (read_number device k s a) v unknown good tt (under_any (read_number device k s a) v)
-  slot_under f (Some a) v h good fit =
-      subst (λ (x : Option ℕ). IsReadLess kind (read_both device k s x v) (Some (read_constant device k t (Some a)))) (sym (h a refl))
-      (meet_under kind (read_number device k s a) v (read_number device k t a) good (subst (IsTagWithin v.tag) (sym (number_tag a)) tt)
-      (λ m e. sets_through m (set_of (read_number device k s a)) (set_of (read_number device k t a)) (ranges_hold.under (set_of (read_number device k s a)) (set_of v) m e).0
-      (sets_within kind (read_number device k s a) (read_number device k t a) (number_less a))))
-
-  if_read : (b : Bool) (x y x' y' : Option AbsByte) → IsReadLess kind x y → IsReadLess kind x' y' → IsReadLess kind (if b then x else x') (if b then y else y')
-  if_read true x y x' y' h k = h
-  if_read false x y x' y' h k = k
-
-  if_under : (b : Bool) (x x' y : Option AbsByte) → IsReadLess kind x y → IsReadLess kind x' y → IsReadLess kind (if b then x else x') y
-  if_under true x x' y h k = h
-  if_under false x x' y h k = k
-
-  frame_less : (f g : Option ℕ) (p q : Option ℕ) → IsSameWhere f g → IsSameWhere p q → IsReadLess kind (read_frame device k s f p) (read_frame device k t g q)
-  frame_less f g None None h l = read_some kind _ _ (constant_less f g h)
-  frame_less f g (Some d) None h l =
-      if_under (nat_lt d (length s.slots)) (read_both device k s f (value_of (slot_at s.slots d))) (Some (read_constant device k s f)) (Some (read_constant device k t g))
-      (slot_under f g (value_of (slot_at s.slots d)) h (slot d).good (slot d).ranged) (read_some kind _ _ (constant_less f g h))
-  frame_less f g p (Some d) h l =
-      subst (λ (x : Option ℕ). IsReadLess kind (read_frame device k s f x) (read_frame device k t g (Some d))) (sym (l d refl))
-      (subst (λ (n : ℕ). IsReadLess kind (read_frame device k s f (Some d)) (if nat_lt d n then read_both device k t g (value_of (slot_at t.slots d)) else Some (read_constant device k t g)))
-      (le.slots.count ∙ sym le.slots.others)
-      (if_read (nat_lt d (length s.slots)) (read_both device k s f (value_of (slot_at s.slots d))) (read_both device k t g (value_of (slot_at t.slots d))) (Some (read_constant device k s f)) (Some (read_constant device k t g))
-      (both_less f g (value_of (slot_at s.slots d)) (value_of (slot_at t.slots d)) h (slot d)) (read_some kind _ _ (constant_less f g h))))
-
-  pub pointer_read : (r up : ℕ) → IsReadLess kind (read_pointed device k s (pointed s r up)) (read_pointed device k t (pointed t r up))
-  pointer_read r up =
-      frame_less (pointed s r up).constant (pointed t r up).constant (pointed s r up).frame (pointed t r up).frame (pointed_constants r up) (pointed_frames r up)
 
   pub loading_less : (vs ws : List AbsByte) (d : ℕ) (x y : Option AbsByte) → AreRegistersLess kind vs ws → IsReadLess kind x y
       → LeadsLess k.inst (loading device k s vs d x) (loading device k t ws d y)
@@ -272,3 +210,66 @@ module _ (device : Device) (k : NodeKey) (at : IsKey k) (s t : AbsState) (le : I
       let above = h v refl in
       subst (λ (z : Option AbsByte). LeadsLess k.inst (loading device k s vs d (Some v)) (loading device k t ws d z)) (sym above.1.0)
       (setting_less device k at s t le (slice_set vs d v) (slice_set ws d above.0) s.flags t.flags (registers_set kind vs ws registers d v above.0 above.1.1) le.flags)
+
+module _ (device : Device) (may : Bool) (k : NodeKey) (at : IsKey k) (s t : AbsState) (le : IsStateLess k.inst.kind (offset_of k.sp) s t) where
+  pub read_less : (a : ℕ) → IsLess k.inst.kind (read_at device may k s a) (read_at device may k t a)
+  unfolding read_at
+  read_less a =
+      if_less k.inst.kind (nat_lt a 0x20) _ _ _ _ (reg device k at s t le a)
+      (if_less k.inst.kind (a == SPL) _ _ _ _ (sp_low_less device k.inst.kind k.sp)
+      (if_less k.inst.kind (a == SPH) _ _ _ _ (sp_high_less device k.inst.kind k.sp)
+      (if_less k.inst.kind (a == SREG) _ _ _ _ (sreg_less k s t le.flags)
+      (if_less k.inst.kind (nat_le a BELOW) _ _ _ _ (untagged_less k.inst.kind (io_bits may k.masks a) (io_bits may k.masks a) (same_within (io_bits may k.masks a)))
+      (slot_less device k.inst.kind s t a (slot device k at s t le))))))
+
+  -- by the number alone
+  number_less : (a : ℕ) → IsLess k.inst.kind (read_number device may k s a) (read_number device may k t a)
+  number_less a =
+      if_less k.inst.kind (nat_le a BELOW) _ _ _ _ (untagged_less k.inst.kind (read_at device may k s a).bits (read_at device may k t a).bits (read_less a).within.bits) (range_less k.inst.kind (read_at device may k s a) (read_at device may k t a) (read_less a))
+
+  constant_less : (f g : Option ℕ) → IsSameWhere f g → IsLess k.inst.kind (read_constant device may k s f) (read_constant device may k t g)
+  constant_less None None h = unknown_same k.inst.kind
+  constant_less (Some a) None h = below_unknown k.inst.kind (read_number device may k s a) (number_less a).good (number_less a).ranged
+  constant_less f (Some a) h = subst (λ (x : Option ℕ). IsLess k.inst.kind (read_constant device may k s x) (read_constant device may k t (Some a))) (sym (h a refl)) (number_less a)
+
+  both_less : (f g : Option ℕ) (v w : AbsByte) → IsSameWhere f g → IsLess k.inst.kind v w → IsReadLess k.inst.kind (read_both device may k s f v) (read_both device may k t g w)
+  both_less None None v w h le = read_some k.inst.kind v w le
+  both_less (Some a) None v w h le =
+      meet_under k.inst.kind (read_number device may k s a) v w le.good le.within.tag
+      (λ m e. sets_through m (set_of v) (set_of w) (ranges_hold.under (set_of (read_number device may k s a)) (set_of v) m e).1 (sets_within k.inst.kind v w le))
+  both_less f (Some a) v w h le =
+      subst (λ (x : Option ℕ). IsReadLess k.inst.kind (read_both device may k s x v) (read_both device may k t (Some a) w)) (sym (h a refl))
+      (meet_both k.inst.kind (read_number device may k s a) (read_number device may k t a) v w le (number_less a))
+
+  number_tag : (a : ℕ) → (read_number device may k t a).tag ≡ tag.None
+  number_tag a = by (nat_le a BELOW)
+    where
+      by : (b : Bool) → (if b then untagged (read_at device may k t a).bits else valued tag.None (set_of (read_at device may k t a))).tag ≡ tag.None
+      by true = refl
+      by false = refl
+
+  -- the lesser reads a slot, and the greater by the number alone
+  slot_under : (f g : Option ℕ) (v : AbsByte) → IsSameWhere f g → IsTagOf k.inst.kind v.tag → ByteFits v → IsReadLess k.inst.kind (read_both device may k s f v) (Some (read_constant device may k t g))
+  slot_under None None v h good fit = read_some k.inst.kind v unknown (below_unknown k.inst.kind v good fit)
+  slot_under (Some a) None v h good fit = meet_under k.inst.kind (read_number device may k s a) v unknown good tt (under_any (read_number device may k s a) v)
+  slot_under f (Some a) v h good fit =
+      subst (λ (x : Option ℕ). IsReadLess k.inst.kind (read_both device may k s x v) (Some (read_constant device may k t (Some a)))) (sym (h a refl))
+      (meet_under k.inst.kind (read_number device may k s a) v (read_number device may k t a) good (subst (IsTagWithin v.tag) (sym (number_tag a)) tt)
+      (λ m e. sets_through m (set_of (read_number device may k s a)) (set_of (read_number device may k t a)) (ranges_hold.under (set_of (read_number device may k s a)) (set_of v) m e).0
+      (sets_within k.inst.kind (read_number device may k s a) (read_number device may k t a) (number_less a))))
+
+  frame_less : (f g : Option ℕ) (p q : Option ℕ) → IsSameWhere f g → IsSameWhere p q → IsReadLess k.inst.kind (read_frame device may k s f p) (read_frame device may k t g q)
+  frame_less f g None None h l = read_some k.inst.kind _ _ (constant_less f g h)
+  frame_less f g (Some d) None h l =
+      if_under k.inst.kind (nat_lt d (length s.slots)) (read_both device may k s f (value_of (slot_at s.slots d))) (Some (read_constant device may k s f)) (Some (read_constant device may k t g))
+      (slot_under f g (value_of (slot_at s.slots d)) h (slot device k at s t le d).good (slot device k at s t le d).ranged) (read_some k.inst.kind _ _ (constant_less f g h))
+  frame_less f g p (Some d) h l =
+      subst (λ (x : Option ℕ). IsReadLess k.inst.kind (read_frame device may k s f x) (read_frame device may k t g (Some d))) (sym (l d refl))
+      (subst (λ (n : ℕ). IsReadLess k.inst.kind (read_frame device may k s f (Some d)) (if nat_lt d n then read_both device may k t g (value_of (slot_at t.slots d)) else Some (read_constant device may k t g)))
+      (le.slots.count ∙ sym le.slots.others)
+      (if_read k.inst.kind (nat_lt d (length s.slots)) (read_both device may k s f (value_of (slot_at s.slots d))) (read_both device may k t g (value_of (slot_at t.slots d))) (Some (read_constant device may k s f)) (Some (read_constant device may k t g))
+      (both_less f g (value_of (slot_at s.slots d)) (value_of (slot_at t.slots d)) h (slot device k at s t le d)) (read_some k.inst.kind _ _ (constant_less f g h))))
+
+  pub pointer_read : (r up : ℕ) → IsReadLess k.inst.kind (read_pointed device may k s (pointed s r up)) (read_pointed device may k t (pointed t r up))
+  pointer_read r up =
+      frame_less (pointed s r up).constant (pointed t r up).constant (pointed s r up).frame (pointed t r up).frame (pointed_constants device k at s t le r up) (pointed_frames device k at s t le r up)

@@ -9,11 +9,13 @@ use Rattle.avr_model.specs.declared.instruction.Instr.{Instr}
 use Rattle.avr_model.specs.declared.instruction.Instr.TheVariants as i
 use Rattle.avr_model.specs.declared.instruction.BinaryOp.{BinaryOp}
 use Rattle.avr_model.specs.declared.instruction.BinaryOp.TheVariants as binary
+use Rattle.avr_model.specs.declared.instruction.Base.{Base}
+use Rattle.avr_model.specs.declared.instruction.Base.TheVariants as base_of
 use Rattle.avr_model.specs.declared.instruction.Pointer.{Pointer}
 use Rattle.avr_model.specs.declared.instruction.Pointer.TheVariants as pointer
 use Rattle.avr_model.specs.declared.operation.Logic.TheVariants as logic
 use Rattle.avr_model.specs.declared.operation.Mul.TheVariants as product
-use Rattle.avr_model.specs.Assumptions.{is_frame}
+use Rattle.avr_model.specs.Assumptions.{is_frame, has_masks}
 use Rattle.avr_model.specs.Text.{far, near}
 use Rattle.avr_model.specs.Sites.{base_register, pointer_register}
 use Rattle.avr_model.specs.Effects.{port}
@@ -30,16 +32,30 @@ use Rattle.local_rules.specs.Raw.{Raw, at_word, next, further}
 use Rattle.local_rules.specs.Registers.{value, bits, carry_bit, set, less_than, less_kept, or_nothing, pair_moved, going_by, binary_after}
 use Rattle.local_rules.specs.FrameLines.{is_followed, framed_binary}
 use Rattle.local_rules.specs.Reads.{read_at, pointed, pair_constant}
-use Rattle.local_rules.specs.Flow.{skipping, flag_at, ret_exit, reti_exit}
+use Rattle.local_rules.specs.Flow.{skipping, reading_zero, flag_at, ret_exit, reti_exit}
 use Rattle.local_rules.specs.Local.{binary_row, step_before, pointer_moved, bit_row, row_of}
 use Rattle.local_laws.proofs.MonotoneValues.{AreRegistersLess, IsStateLess, any_bit_within, constant_is, constant_tells, untagged_less, registers_set}
 use Rattle.local_laws.proofs.MonotoneRaw.{LeadsLess, further_small, word_key, next_key, going_less, on_less, setting_less}
 use Rattle.local_laws.proofs.MonotoneAlu.{with_7, pair_set, reg, reg_bits, flag_bits, kept_flags, setting_flags, setting_register, sum_less, compare_less, sub_less, sbc_less, or_nothing_within, logic_less, than_of, than_within, kept_of, kept_within, product_less, pair_less, wide_less, flag_less as one_flag_less}
 use Rattle.local_laws.proofs.FrameMonotone.{add_less, adc_less, framed_sub_less, immediate_line_less, unary_line_less}
-use Rattle.local_laws.proofs.MonotoneReads.{flash_less, read_less, constants, pointed_constants, pointer_read, loading_less}
+use Rattle.local_laws.proofs.MonotonePermits.{IsPairWithin}
+use Rattle.local_laws.proofs.MonotoneReads.{flash_less, read_less, constants, pointed_constants, pointed_frames, pointer_read, loading_less}
 use Rattle.local_laws.proofs.MonotoneWrites.{write_less, pointer_less}
-use Rattle.local_laws.proofs.MonotoneFlow.{calling_less, branch_less, flag_less, skipping_less, flag_within, jump_less, indirect_less, push_less, relative_less, pop_less, return_less}
+use Rattle.local_laws.proofs.MonotoneFlow.{calling_less, here, zero_place, branch_less, flag_less, skipping_less, flag_within, jump_less, indirect_less, push_less, relative_less, pop_less, return_less}
 use Rattle.local_laws.proofs.MonotoneFields.{InstrFits}
+
+base_small : (b : Base) → base_register b < 32
+base_small base_of.Y = omega arith
+base_small base_of.Z = omega arith
+
+pub pointer_small : (p : Pointer) → pointer_register p < 32
+pointer_small pointer.ZPlus = omega arith
+pointer_small pointer.MinusZ = omega arith
+pointer_small pointer.YPlus = omega arith
+pointer_small pointer.MinusY = omega arith
+pointer_small pointer.X = omega arith
+pointer_small pointer.XPlus = omega arith
+pointer_small pointer.MinusX = omega arith
 
 module _ (device : Device) (words : List ℕ) (A : List Entry) (k : NodeKey) (at : IsKey k) (s t : AbsState) (le : IsStateLess k.inst.kind (offset_of k.sp) s t) where
   abbrev kind : Kind
@@ -63,7 +79,7 @@ module _ (device : Device) (words : List ℕ) (A : List Entry) (k : NodeKey) (at
       (constant_tells (bits s r) (bits t r) (reg_bits device k at s t le r))
   binary_less binary.Add d r low = sum_less device k at s t le d (bits s r) (bits t r) Zero Zero (reg_bits device k at s t le r) (λ n p. p)
   binary_less binary.Cpse d r low =
-      skipping_less device k at s t le words (byte_equal (bits s d) (bits s r)) (byte_equal (bits t d) (bits t r))
+      skipping_less device k at s t le words k k (byte_equal (bits s d) (bits s r)) (byte_equal (bits t d) (bits t r)) (here device k at s t le) (here device k at s t le)
       (logic_is_monotone.tests (bits s d) (bits s r) (bits t d) (bits t r) (reg_bits device k at s t le d) (reg_bits device k at s t le r))
   binary_less binary.Cp d r low =
       compare_less device k at s t le (bits s d) (bits t d) (bits s r) (bits t r) Zero Zero false (less_than d (byte_constant (bits s r))) (less_than d (byte_constant (bits t r)))
@@ -87,7 +103,7 @@ module _ (device : Device) (words : List ℕ) (A : List Entry) (k : NodeKey) (at
 
   -- what two registers lead to that are followed, or aren't
   abbrev row_by : Bool → AbsState → BinaryOp → ℕ → ℕ → Raw
-  row_by framed u op d r = going_by device k u (if framed then framed_binary u op d r else binary_after u op d r) (skipping device words k u (byte_equal (bits u d) (bits u r)))
+  row_by framed u op d r = going_by device k u (if framed then framed_binary u op d r else binary_after u op d r) (skipping device words k k u (byte_equal (bits u d) (bits u r)))
 
   binary_line_less : (framed : Bool) (op : BinaryOp) (d r : ℕ) → d < 32 → LeadsLess k.inst (row_by framed s op d r) (row_by framed t op d r)
   binary_line_less false op d r low = binary_less op d r low
@@ -117,14 +133,21 @@ module _ (device : Device) (words : List ℕ) (A : List Entry) (k : NodeKey) (at
   moved_less pointer.XPlus = pair_less device k at s t le 26 true 1
   moved_less pointer.MinusX = pair_less device k at s t le 26 false 1
 
+  abbrev may : Bool
+  may = has_masks A
+
   bit_less : (a b : ℕ) (on : Bool) → LeadsLess k.inst (bit_row device k s a b on) (bit_row device k t a b on)
   bit_less a b on =
       write_less device (next device k) (next_key device k at) s t le k.pc false a _ _
-      (untagged_less kind _ _ (writes_cover.more (read_at device k s a).bits (read_at device k t a).bits b (if on then One else Zero) (if on then One else Zero)
-      (read_less device k at s t le a).within.bits (λ n p. p)))
+      (untagged_less kind _ _ (writes_cover.more (read_at device false k s a).bits (read_at device false k t a).bits b (if on then One else Zero) (if on then One else Zero)
+      (read_less device false k at s t le a).within.bits (λ n p. p)))
 
-  port_bit : (a b : ℕ) → IsTriWithin (tri_at (read_at device k s a).bits b) (tri_at (read_at device k t a).bits b)
-  port_bit a b = any_bit_within (read_at device k s a).bits (read_at device k t a).bits b (read_less device k at s t le a).within.bits
+  port_bit : (a b : ℕ) → IsTriWithin (tri_at (read_at device may k s a).bits b) (tri_at (read_at device may k t a).bits b)
+  port_bit a b = any_bit_within (read_at device may k s a).bits (read_at device may k t a).bits b (read_less device may k at s t le a).within.bits
+
+  -- what is said of a pointer
+  pub pair_less_at : (r : ℕ) → r < 32 → IsPairWithin s t r
+  pair_less_at r there = record { there = there; low = (reg device k at s t le r).within; high = (reg device k at s t le (r + 1)).within; facts = le.facts.within }
 
   -- ---- the whole table
 
@@ -153,24 +176,24 @@ module _ (device : Device) (words : List ℕ) (A : List Entry) (k : NodeKey) (at
       (kept_flags device k at s t le _ _
       (writes_cover.more s.flags.bits t.flags.bits 6 (tri_at (bits s d) b) (tri_at (bits t d) b) (flag_bits device k at s t le) (register_bit d b))
       (with_7 s.flags.bits 6 (tri_at (bits s d) b) (omega arith) le.flags.bit_7))
-  row_less scratch (i.Ldd d b q) fits = loading_less device k at s t le s.registers t.registers d _ _ le.registers (pointer_read device k at s t le (base_register b) q)
+  row_less scratch (i.Ldd d b q) fits = loading_less device k at s t le s.registers t.registers d _ _ le.registers (pointer_read device may k at s t le (base_register b) q)
   row_less scratch (i.Std b q r) fits =
       pointer_less device (next device k) (next_key device k at) s t le k.pc (value s r) (value t r) (reg device k at s t le r) words A s t (base_register b) q
       (pointed s (base_register b) q) (pointed t (base_register b) q) (pointed_constants device k at s t le (base_register b) q)
-      (reg_bits device k at s t le (base_register b)) (reg_bits device k at s t le (base_register b + 1))
+      (pointed_frames device k at s t le (base_register b) q) (pair_less_at (base_register b) (base_small b))
   row_less scratch (i.Lds d a) fits =
-      going_less device k at (record s { registers = set s d (read_at device k s a) }) (record t { registers = set t d (read_at device k t a) })
-      (record { registers = registers_set kind s.registers t.registers le.registers d _ _ (read_less device k at s t le a); flags = le.flags; slots = le.slots; facts = le.facts })
+      going_less device k at (record s { registers = set s d (read_at device may k s a) }) (record t { registers = set t d (read_at device may k t a) })
+      (record { registers = registers_set kind s.registers t.registers le.registers d _ _ (read_less device may k at s t le a); flags = le.flags; slots = le.slots; facts = le.facts })
       (further device k 2) (further_small device k 2)
   row_less scratch (i.Sts a r) fits =
       write_less device (at_word k (further device k 2)) (word_key k (further device k 2) at (further_small device k 2)) s t le k.pc false a (value s r) (value t r) (reg device k at s t le r)
   row_less scratch (i.Ld d p) fits =
-      loading_less device k at s t le (pointer_moved p s) (pointer_moved p t) d _ _ (moved_less p) (pointer_read device k at s t le (pointer_register p) (step_before p))
+      loading_less device k at s t le (pointer_moved p s) (pointer_moved p t) d _ _ (moved_less p) (pointer_read device may k at s t le (pointer_register p) (step_before p))
   row_less scratch (i.St p r) fits =
       pointer_less device (next device k) (next_key device k at) (record s { registers = pointer_moved p s }) (record t { registers = pointer_moved p t })
       (record { registers = moved_less p; flags = le.flags; slots = le.slots; facts = le.facts }) k.pc (value s r) (value t r) (reg device k at s t le r) words A s t (pointer_register p) (step_before p)
       (pointed s (pointer_register p) (step_before p)) (pointed t (pointer_register p) (step_before p)) (pointed_constants device k at s t le (pointer_register p) (step_before p))
-      (reg_bits device k at s t le (pointer_register p)) (reg_bits device k at s t le (pointer_register p + 1))
+      (pointed_frames device k at s t le (pointer_register p) (step_before p)) (pair_less_at (pointer_register p) (pointer_small p))
   row_less scratch (i.LpmZ d) fits = setting_register device k at s t le d _ _ (flash_less kind words (pair_constant s 30) (pair_constant t 30) (constants device k at s t le 30))
   row_less scratch (i.LpmZPlus d) fits =
       setting_less device k at s t le _ _ s.flags t.flags
@@ -179,7 +202,7 @@ module _ (device : Device) (words : List ℕ) (A : List Entry) (k : NodeKey) (at
   row_less scratch i.Lpm fits = setting_register device k at s t le 0 _ _ (flash_less kind words (pair_constant s 30) (pair_constant t 30) (constants device k at s t le 30))
   row_less scratch (i.Pop d) fits = pop_less device k at s t le d
   row_less scratch (i.Push r) fits = push_less device k at s t le scratch r
-  row_less scratch (i.In d a) fits = setting_register device k at s t le d _ _ (read_less device k at s t le (port a))
+  row_less scratch (i.In d a) fits = setting_register device k at s t le d _ _ (read_less device may k at s t le (port a))
   row_less scratch (i.Out a r) fits = write_less device (next device k) (next_key device k at) s t le k.pc true (port a) (value s r) (value t r) (reg device k at s t le r)
   row_less scratch (i.Cbi a b) fits = bit_less (port a) b false
   row_less scratch (i.Sbi a b) fits = bit_less (port a) b true
@@ -198,10 +221,12 @@ module _ (device : Device) (words : List ℕ) (A : List Entry) (k : NodeKey) (at
       flag_less device k at s t le n (further device k 1) (wrapped device (near k.pc target)) _ _ (further_small device k 1) (devices_are_alike.most device (near k.pc target))
       (branch_less device k at s t le (tri_not (flag_at k s n)) (tri_not (flag_at k t n)) (wrapped device (near k.pc target)) (further device k 1)
       (bits_cover.nots_within (flag_at k s n) (flag_at k t n) (flag_within device k at s t le n)) (devices_are_alike.most device (near k.pc target)) (further_small device k 1))
-  row_less scratch (i.Sbic a b) fits = skipping_less device k at s t le words _ _ (bits_cover.nots_within _ _ (port_bit (port a) b))
-  row_less scratch (i.Sbis a b) fits = skipping_less device k at s t le words _ _ (port_bit (port a) b)
-  row_less scratch (i.Sbrc r b) fits = skipping_less device k at s t le words _ _ (bits_cover.nots_within _ _ (register_bit r b))
-  row_less scratch (i.Sbrs r b) fits = skipping_less device k at s t le words _ _ (register_bit r b)
+  row_less scratch (i.Sbic a b) fits =
+      skipping_less device k at s t le words (reading_zero may k (port a) b) k _ _ (zero_place device k at s t le may (port a) b) (here device k at s t le) (bits_cover.nots_within _ _ (port_bit (port a) b))
+  row_less scratch (i.Sbis a b) fits =
+      skipping_less device k at s t le words k (reading_zero may k (port a) b) _ _ (here device k at s t le) (zero_place device k at s t le may (port a) b) (port_bit (port a) b)
+  row_less scratch (i.Sbrc r b) fits = skipping_less device k at s t le words k k _ _ (here device k at s t le) (here device k at s t le) (bits_cover.nots_within _ _ (register_bit r b))
+  row_less scratch (i.Sbrs r b) fits = skipping_less device k at s t le words k k _ _ (here device k at s t le) (here device k at s t le) (register_bit r b)
   row_less scratch i.Nop fits = on_less device k at s t le
   row_less scratch i.Sleep fits = on_less device k at s t le
   row_less scratch i.Break fits = on_less device k at s t le

@@ -29,7 +29,8 @@ use Rattle.mask_states.specs.Keys.{offset_of}
 use Rattle.local_rules.specs.declared.local.NodeFault.TheVariants.{UnresolvedJump, Unsupported}
 use Rattle.local_rules.specs.Raw.{Raw, nowhere, fails, all_of}
 use Rattle.local_rules.specs.Registers.{value, before}
-use Rattle.local_rules.specs.Local.{row_at, row_by, row_in, is_hung, fetched, may_be, below, picks, picking, picked_row, split_site, splitting, raw}
+use Rattle.local_rules.specs.Local.{row_at, row_by, row_in, is_hung, fetched, below, picks, picking, picked_row, split_site, splitting, raw}
+use Rattle.local_rules.specs.Permitted.{may_be}
 use Rattle.local_rules.specs.Cover.{IsNodeIn}
 use Rattle.local_laws.proofs.Bare.{IsBare, bare, node_of, bare_key}
 use Rattle.local_laws.proofs.Members.{fewer}

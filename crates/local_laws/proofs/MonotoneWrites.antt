@@ -1,21 +1,22 @@
 -- What a byte that is written changes: a greater state leads to more.
-use Rattle.std.proofs.Common.{◌≡◌, refl, sym, ap, subst, subst₂, ℕ, ◌+◌, ◌<◌, ◌≤◌, ◌==◌, ◌&&◌, nat_lt, nat_le, ⊎_elim, Bool, true, false, List, map, filter, Option, Some, None, if◌then◌else◌, arith, [], ◌∷◌}
-use Rattle.std.specs.Int.{bit_at}
+use Rattle.std.proofs.Common.{◌≡◌, refl, sym, ap, subst, subst₂, ℕ, ◌+◌, ◌<◌, ◌≤◌, ◌==◌, nat_lt, nat_le, ⊎_elim, Bool, true, false, not, List, map, filter, Option, Some, None, if◌then◌else◌, arith, [], ◌∷◌}
 use Rattle.std.proofs.lemmas.Bool.{cases_lt}
 use Rattle.std.proofs.lemmas.Bool.Decides.{nat_tests}
 use Rattle.std.proofs.lemmas.List.{get_or_past}
+use Rattle.std.proofs.lemmas.List.Elements.{Contains-append_cases}
+use Rattle.basics.specs.Items.{none_in}
 use Rattle.avr_model.proofs.AllLaws.{devices_are_alike}
 use Rattle.avr_model.specs.Devices.{size_of}
 use Rattle.avr_model.specs.declared.device.Device.{Device}
 use Rattle.avr_model.specs.declared.assumption.Entry.{Entry}
 use Rattle.avr_model.specs.Assumptions.{store_line, is_fixed_site}
+use Rattle.avr_model.specs.Masks.{admits_enables}
 use Rattle.avr_model.specs.State.{SPL, SPH, SREG, low, high, minus16}
 use Rattle.bit_domain.specs.declared.bits.Tri.{Tri}
 use Rattle.bit_domain.specs.declared.bits.Tri.TheVariants.{Zero, One, Any}
-use Rattle.bit_domain.specs.declared.bytes.TriByte.{TriByte}
 use Rattle.bit_domain.specs.Tri.{IsTriWithin}
 use Rattle.bit_domain.specs.TriByte.{tri_at, has, IsWithin, byte_constant}
-use Rattle.bit_domain.proofs.AllLaws.{bytes_are_their_bits, tests_tell_members, writes_cover, numbers_are_permitted}
+use Rattle.bit_domain.proofs.AllLaws.{bytes_are_their_bits, writes_cover, numbers_are_permitted}
 use Rattle.sp_domain.specs.declared.tags.Tag.{Tag}
 use Rattle.sp_domain.specs.declared.tags.Tag.TheVariants as tag
 use Rattle.sp_domain.specs.declared.slots.Slot.{Slot}
@@ -36,16 +37,20 @@ use Rattle.mask_states.specs.declared.keys.High.{High}
 use Rattle.mask_states.specs.declared.keys.High.TheVariants.{Known, Tag as Tagged}
 use Rattle.mask_states.specs.Keys.{offset_of}
 use Rattle.mask_states.specs.Splits.{splits, enable_tri}
-use Rattle.mask_states.proofs.AllLaws.{splits_are_writes}
+use Rattle.mask_states.specs.Wakes.{widened}
+use Rattle.mask_states.proofs.AllLaws.{splits_are_writes, enables_stay_among}
 use Rattle.local_rules.specs.declared.local.NodeFault.TheVariants.{UntrackedSp, TooDeep, UnknownPointer}
-use Rattle.local_rules.specs.Raw.{moves_to, one, fails}
+use Rattle.local_rules.specs.Raw.{Raw, moves_to, one, fails}
 use Rattle.local_rules.specs.Registers.{bits}
 use Rattle.local_rules.specs.declared.pointers.Pointed.{Pointed}
-use Rattle.local_rules.specs.Writes.{known_high, tagged_high, high_part, opening, root_closing, frame_closing, closing_offset, closing, is_entry_flags, flags_written, with_i, sreg_written, masks_written, hulled, register_written, put_flags, written_at, reaches, fixed_write, listed_writes, pointer_write}
+use Rattle.local_rules.specs.Permitted.{permits_number}
+use Rattle.local_rules.specs.Writes.{known_high, tagged_high, high_part, opening, root_closing, frame_closing, closing_offset, closing, is_entry_flags, flags_written, with_i, sreg_written, masks_written, hulled, register_written, put_flags, written_at, reaches, fixed_write, listed_writes, is_own_slot, may_wake, waking, pointer_write}
 use Rattle.abs_state.specs.Formed.{TagFits}
 use Rattle.local_rules.specs.Cover.{HighFitsKind, IsKey}
+use Rattle.local_laws.proofs.Members.{each_of}
+use Rattle.local_laws.proofs.MonotonePermits.{and_more, has_more, IsPairWithin, permits_more}
 use Rattle.local_laws.proofs.MonotoneValues.{IsTagOf, IsLess, AreFlagsLess, AreSlotsLess, IsSlotLess, IsStateLess, IsSameWhere, tells_by, tag_tells, free_less, constant_is, constant_tells, bit_within, bits_less, registers_set, ended_both, forgetting_both}
-use Rattle.local_laws.proofs.MonotoneRaw.{IsKeyPlace, LeadsLess, nodes_at, fails_less, if_leads, several_less, one_less, choose, choose_more, both_less, filtered_less}
+use Rattle.local_laws.proofs.MonotoneRaw.{IsKeyPlace, LeadsLess, nodes_at, met_left, met_right, fails_less, if_leads, several_less, one_less, choose, choose_more, both_less, filtered_less}
 
 -- ---- the high byte of the stack pointer
 
@@ -215,19 +220,24 @@ module _ (device : Device) (k : NodeKey) (at : IsKey k) (s t : AbsState) (le : I
 
 -- ---- through a pointer
 
-and_more : (a b c d : Bool) → (a ≡ true → c ≡ true) → (b ≡ true → d ≡ true) → a && b ≡ true → c && d ≡ true
-and_more true true c d f g e = λ i. f refl i && g refl i
-and_more true false c d f g e = cc
-and_more false b c d f g e = cc
-
-has_more : (b c : TriByte) (x : ℕ) → IsWithin b c → has b x ≡ true → has c x ≡ true
-has_more b c x le e =
-    (tests_tell_members.bytes c x).1 (λ i lt. bit_within b c i lt le (bit_at x i) ((tests_tell_members.bytes b x).0 e i lt))
-
 pub reaches_more : (s t : AbsState) (r up a : ℕ) → IsWithin (bits s r) (bits t r) → IsWithin (bits s (r + 1)) (bits t (r + 1)) → reaches s r up a ≡ true → reaches t r up a ≡ true
 reaches_more s t r up a lo hi =
     and_more (has (bits s r) (low (minus16 a up))) (has (bits s (r + 1)) (high (minus16 a up))) (has (bits t r) (low (minus16 a up))) (has (bits t (r + 1)) (high (minus16 a up)))
     (has_more (bits s r) (bits t r) (low (minus16 a up)) lo) (has_more (bits s (r + 1)) (bits t (r + 1)) (high (minus16 a up)) hi)
+
+-- a pointer that isn't known to be a slot in the lesser state isn't in the greater
+own_more : (f g : Option ℕ) (n : ℕ) → IsSameWhere f g → not (is_own_slot f n) ≡ true → not (is_own_slot g n) ≡ true
+own_more f None n same e = refl
+own_more f (Some d) n same e = subst (λ (x : Option ℕ). not (is_own_slot x n) ≡ true) (same d refl) e
+
+wakes_more : (device : Device) (A : List Entry) (s t : AbsState) (r up : ℕ) (p q : Pointed) (pc : ℕ) (k : NodeKey) (v w : AbsByte) → IsSameWhere p.frame q.frame
+    → IsPairWithin s t r → IsWithin v.bits w.bits → may_wake device A s r up p pc k v ≡ true → may_wake device A t r up q pc k w ≡ true
+unfolding may_wake
+wakes_more device A s t r up p q pc k v w slots within bits =
+    and_more _ _ _ _
+    (and_more (admits_enables A pc) _ (admits_enables A pc) _ (λ e. e) (own_more p.frame q.frame (offset_of k.sp) slots))
+    (enables_stay_among.other device A (λ a. permits_number s r (minus16 a up)) (λ a. permits_number t r (minus16 a up)) v.bits w.bits
+    (λ a. permits_more s t r (minus16 a up) within) bits)
 
 module _ (device : Device) (k : NodeKey) (at : IsKey k) (s t : AbsState) (le : IsStateLess k.inst.kind (offset_of k.sp) s t) (pc : ℕ) (v w : AbsByte) (h : IsLess k.inst.kind v w) where
   fixed_less : (f g : Option ℕ) → IsSameWhere f g → LeadsLess k.inst (fixed_write device f pc k s v) (fixed_write device g pc k t w)
@@ -242,10 +252,42 @@ module _ (device : Device) (k : NodeKey) (at : IsKey k) (s t : AbsState) (le : I
       (one_less k s t at le)
       (filtered_less k.inst (λ (a : ℕ). written_at device pc k s false a v) (λ (a : ℕ). written_at device pc k t false a w) p q addresses (λ a i. write_less device k at s t le pc false a v w h) (λ a i. more a))
 
+  woken_place : (A : List Entry) → IsKeyPlace k.inst (offset_of k.sp) (record k { masks = widened device A k.masks })
+  woken_place A =
+      record {
+        key = record { word = at.word; small = at.small; masks = (enables_stay_among.wider device A k.masks).1; fits = at.fits; pick = at.pick };
+        same = refl;
+        at = refl;
+      }
+
+  -- one more of the greater, or of both
+  waking_less : (A : List Entry) (b c : Bool) (p q : Raw) → (b ≡ true → c ≡ true) → LeadsLess k.inst p q → LeadsLess k.inst (waking b device A k s p) (waking c device A k t q)
+  waking_less A true false p q more rest e = let no : false ≡ true = more refl in absurd (cc)
+  waking_less A false false p q more rest e = rest e
+  waking_less A false true p q more rest e =
+      let a = rest e in
+      record { faultless = a.faultless; moves = λ to i. met_left k.inst q.moves _ to (a.moves to i); calls = a.calls; exit = a.exit }
+  waking_less A true true p q more rest e =
+      let a = rest e in
+      let woken : NodeKey = record k { masks = widened device A k.masks } in
+      let last = (several_less k.inst (offset_of k.sp) (λ (j : NodeKey). j) s t (woken ∷ []) (woken ∷ []) (λ x i. i)
+      (each_of (IsKeyPlace k.inst (offset_of k.sp)) woken [] (woken_place A) (λ x i. absurd (none_in x i))) le refl).moves in
+      record {
+        faultless = a.faultless;
+        moves = λ to i. ⊎_elim
+            (λ j. met_left k.inst q.moves (record { key = woken; state = t } ∷ []) to (a.moves to j))
+            (λ j. met_right k.inst q.moves (record { key = woken; state = t } ∷ []) to (last to j))
+            (Contains-append_cases p.moves (record { key = woken; state = s } ∷ []) to i);
+        calls = a.calls;
+        exit = a.exit;
+      }
+
   -- the pointer as it was in these states
-  pub pointer_less : (words : List ℕ) (A : List Entry) (was_s was_t : AbsState) (r up : ℕ) (p q : Pointed) → IsSameWhere p.constant q.constant
-      → IsWithin (bits was_s r) (bits was_t r) → IsWithin (bits was_s (r + 1)) (bits was_t (r + 1))
+  pub pointer_less : (words : List ℕ) (A : List Entry) (was_s was_t : AbsState) (r up : ℕ) (p q : Pointed) → IsSameWhere p.constant q.constant → IsSameWhere p.frame q.frame
+      → IsPairWithin was_s was_t r
       → LeadsLess k.inst (pointer_write device words A was_s r up p pc k s v) (pointer_write device words A was_t r up q pc k t w)
-  pointer_less words A was_s was_t r up p q tells lo hi =
+  pointer_less words A was_s was_t r up p q tells slots was =
       if_leads k.inst (is_fixed_site words A pc) _ _ _ _ (fixed_less p.constant q.constant tells)
-      (listed_less (λ a. reaches was_s r up a) (λ a. reaches was_t r up a) (store_line A pc) (λ a. reaches_more was_s was_t r up a lo hi))
+      (waking_less A (may_wake device A was_s r up p pc k v) (may_wake device A was_t r up q pc k w) _ _
+      (wakes_more device A was_s was_t r up p q pc k v w slots was h.within.bits)
+      (listed_less (λ a. reaches was_s r up a) (λ a. reaches was_t r up a) (store_line A pc) (λ a. reaches_more was_s was_t r up a was.low.bits was.high.bits)))

@@ -104,7 +104,7 @@ module _ (words : List ℕ) (m : State) (b1 b2 : ℕ) where
 
 -- ---- a refined row
 
-module _ (words : List ℕ) (are : AreWords words) (m : State) (o : Origin) (k : NodeKey) (s : AbsState) (at : InBareFrame m o k s) (b1 b2 : ℕ) (guarded : Bool)
+module _ {may : Bool} (words : List ℕ) (are : AreWords words) (m : State) (o : Origin) (k : NodeKey) (s : AbsState) (at : InBareFrame may m o k s) (b1 b2 : ℕ) (guarded : Bool)
     (instr : Instr) (has : HasRegisters instr) where
   abbrev effect : Effect
   effect = effect_of words m instr b1 b2
@@ -129,8 +129,8 @@ module _ (words : List ℕ) (are : AreWords words) (m : State) (o : Origin) (k :
           sym (ap (sreg_after effect.sreg) none),
         )
 
-    arrives_refined : (to : Node) (n : ℕ) → IsFormed to.state n → ArrivesAt m o guarded effect to
-        → (u : AbsState) × (refined (marks words) words instr s to.state ≡ Some u) × ArrivesAt m o guarded effect (record { key = to.key; state = u })
+    arrives_refined : (to : Node) (n : ℕ) → IsFormed to.state n → ArrivesAt may m o guarded effect to
+        → (u : AbsState) × (refined (marks words) words instr s to.state ≡ Some u) × ArrivesAt may m o guarded effect (record { key = to.key; state = u })
     arrives_refined to n formed lands =
         let behind : IsBehind o to.state (registers_set words m instr b1 b2) (sreg_set words m instr b1 b2) = record {
           registers = subst (RegistersStand o to.state.registers) (sym reached.0) lands.registers;
@@ -152,7 +152,7 @@ module _ (words : List ℕ) (are : AreWords words) (m : State) (o : Origin) (k :
           },
         )
 
-    pub refining_follows : (r : Raw) → ((to : Node) → Contains r.moves to → IsBare to.key to.state) → Follows m o k guarded b1 b2 effect r → Follows m o k guarded b1 b2 effect (refining words instr s r)
+    pub refining_follows : (r : Raw) → ((to : Node) → Contains r.moves to → IsBare to.key to.state) → Follows may m o k guarded b1 b2 effect r → Follows may m o k guarded b1 b2 effect (refining words instr s r)
     refining_follows r bares (stays to present inst lands) =
         let found = arrives_refined to (offset_of to.key.sp) (bares to present).formed lands in
         stays (record { key = to.key; state = found.0 }) (in_refined words instr s r.moves to found.0 present found.1) inst found.2
@@ -175,7 +175,7 @@ left_bare k s t h left =
       untagged = λ root. left.untagged (h.untagged root);
     }
 
-pub left_frame : (m : State) (o : Origin) (k : NodeKey) (s t : AbsState) → InBareFrame m o k s → IsLeftOf s t (offset_of k.sp) → StandsFor o t m → InBareFrame m o k t
+pub left_frame : {may : Bool} (m : State) (o : Origin) (k : NodeKey) (s t : AbsState) → InBareFrame may m o k s → IsLeftOf s t (offset_of k.sp) → StandsFor o t m → InBareFrame may m o k t
 left_frame m o k s t at left stands =
     record {
       machine = at.machine;
@@ -185,13 +185,14 @@ left_frame m o k s t at left stands =
       facts = stands.facts;
       root = at.root;
       base_word = at.base_word;
+      room = at.room;
     }
 
-module _ (m : State) (o : Origin) (k : NodeKey) (s : AbsState) (at : InBareFrame m o k s) (guarded : Bool) (b1 b2 : ℕ) where
+module _ {may : Bool} (m : State) (o : Origin) (k : NodeKey) (s : AbsState) (at : InBareFrame may m o k s) (guarded : Bool) (b1 b2 : ℕ) where
   -- a test has two ways on, each with what it leaves of the state
   pub two_ways : (test : Bool) (hit miss : Option AbsState) (taken taken' other other' : ℕ) → wrapped m.device taken ≡ taken' → wrapped m.device other ≡ other'
       → (t : AbsState) → (if test then hit else miss) ≡ Some t → IsLeftOf s t (offset_of k.sp) → StandsFor o t m
-      → Follows m o k guarded b1 b2 (going_to m (if test then taken else other)) (all_of (going_where k miss other' ∷ going_where k hit taken' ∷ []))
+      → Follows may m o k guarded b1 b2 (going_to m (if test then taken else other)) (all_of (going_where k miss other' ∷ going_where k hit taken' ∷ []))
   two_ways true hit miss taken taken' other other' is is' t e left stands =
       let to : Node = record { key = off_table k taken'; state = t } in
       let here : Contains (going_where k hit taken').moves to = subst (λ (x : Option AbsState). Contains (going_where k x taken').moves to) (sym e) (first_in to []) in

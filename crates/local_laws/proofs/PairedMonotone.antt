@@ -40,11 +40,11 @@ use Rattle.local_rules.specs.Local.{step_before, pointer_moved, plain_row, paire
 use Rattle.local_rules.specs.Cover.{IsKey}
 use Rattle.local_laws.proofs.Bare.{IsBare, bare_key}
 use Rattle.local_laws.proofs.Members.{each_of}
-use Rattle.local_laws.proofs.MonotoneAlu.{reg, reg_bits}
+use Rattle.local_laws.proofs.MonotoneAlu.{reg}
 use Rattle.local_laws.proofs.MonotoneFields.{InstrFits}
 use Rattle.local_laws.proofs.MonotoneRaw.{IsMetAbove, LeadsLess, nowhere_less, none_less, both_less, further_small, next_key}
-use Rattle.local_laws.proofs.MonotoneReads.{pointed_constants}
-use Rattle.local_laws.proofs.MonotoneRows.{row_less, moved_less}
+use Rattle.local_laws.proofs.MonotoneReads.{pointed_constants, pointed_frames}
+use Rattle.local_laws.proofs.MonotoneRows.{row_less, moved_less, pair_less_at, pointer_small}
 use Rattle.local_laws.proofs.MonotoneValues.{IsStateLess, AreRegistersLess, node_less, less_node, less_within, forgetting_both}
 use Rattle.local_laws.proofs.MonotoneWrites.{pointer_less}
 use Rattle.local_laws.proofs.PairedCover.{in_refined, left_bare}
@@ -275,7 +275,8 @@ module _ (device : Device) (words : List ℕ) (A : List Entry) (k : NodeKey) (s 
         subst (λ (y : Option AbsState). Less (storing device words A k s p r (Some u)) (storing device words A k t p r y)) (sym more.1)
         (pointer_less device (next device k) (next_key device k at) u more.0 (node_less k u more.0 lower upper more.2) k.pc (value s r) (value t r) (reg device k at s t le r) words A s t
         (pointer_register p) (step_before p) (pointed s (pointer_register p) (step_before p)) (pointed t (pointer_register p) (step_before p))
-        (pointed_constants device k at s t le (pointer_register p) (step_before p)) (reg_bits device k at s t le (pointer_register p)) (reg_bits device k at s t le (pointer_register p + 1)))
+        (pointed_constants device k at s t le (pointer_register p) (step_before p)) (pointed_frames device k at s t le (pointer_register p) (step_before p))
+        (pair_less_at device words A k at s t le (pointer_register p) (pointer_small p)))
 
     pub store_less : Less (paired_store device words A k s p r) (paired_store device words A k t p r)
     store_less = storing_less (refined (marks words) words instr s (moved s)) refl

@@ -1,8 +1,9 @@
 -- Where pairs are followed the row of each instruction covers the machine's step.
 use Rattle.std.proofs.Common.{◌≡◌, refl, sym, subst, ap, ap₂, ◌∙◌, ℕ, ◌+◌, ◌<◌, ◌==◌, Bool, true, false, not, List, [], ◌∷◌, ◌++◌, Option, Some, None, if◌then◌else◌, nat_lt, ltb-true}
 use Rattle.std.specs.Prelude.{⊤}
+use Rattle.avr_model.specs.Assumptions.{has_masks}
 use Rattle.avr_model.proofs.AllLaws.{devices_are_alike}
-use Rattle.avr_model.specs.Devices.{wrapped}
+use Rattle.avr_model.specs.Devices.{wrapped, device_of}
 use Rattle.avr_model.specs.Image.{word_at}
 use Rattle.avr_model.specs.Marks.{marks}
 use Rattle.avr_model.specs.Table.{length_of}
@@ -54,6 +55,7 @@ use Rattle.local_laws.proofs.MonotoneRows.{moved_less, row_less}
 use Rattle.local_laws.proofs.MonotoneValues.{AreRegistersLess, IsStateLess, node_less, less_node}
 use Rattle.local_laws.proofs.PairedCover.{is_before, refining_follows, two_ways}
 use Rattle.local_laws.proofs.PlainRows.{IsRefinedInstr}
+use Rattle.local_laws.proofs.Permitted.{pointer_pair, number_permitted}
 use Rattle.local_laws.proofs.PointerReads.{pointer_stands}
 use Rattle.local_laws.proofs.Sized.{sized_at}
 use Rattle.local_laws.proofs.SplitMembers.{are_written}
@@ -112,8 +114,8 @@ same_moved pointer.MinusX instr s = refl
 pub like_parts : (u s : AbsState) → u.flags ≡ s.flags → u.slots ≡ s.slots → u ≡ record s { registers = u.registers; facts = u.facts }
 like_parts u s flags slots = ap₂ (λ f l. record u { flags = f; slots = l }) flags slots
 
-module _ (words : List ℕ) (A : List Entry) (m : State) (o : Origin) (k : NodeKey) (s : AbsState) (at : InBareFrame m o k s) (b1 b2 : ℕ) (small : b1 < 256)
-    (other : b2 < 256) (are : AreWords words) (f : PairFacts) (followed : s.facts ≡ Some f) where
+module _ (words : List ℕ) (A : List Entry) (m : State) (o : Origin) (k : NodeKey) (s : AbsState) (at : InBareFrame (has_masks A) m o k s) (b1 b2 : ℕ) (small : b1 < 256)
+    (other : b2 < 256) (are : AreWords words) (told : m.device ≡ device_of words) (f : PairFacts) (followed : s.facts ≡ Some f) where
   abbrev scratch : Bool
   scratch = is_scratch words m.pc
 
@@ -130,7 +132,7 @@ module _ (words : List ℕ) (A : List Entry) (m : State) (o : Origin) (k : NodeK
   chosen cut false t e = e
 
   by_test : (cut : Bool → Option AbsState) (test : Bool) → Left cut test → (taken taken' past past' : ℕ) → wrapped m.device taken ≡ taken' → wrapped m.device past ≡ past'
-      → Follows m o k (not scratch) b1 b2 (going_to m (if test then taken else past)) (all_of (going_where k (cut false) past' ∷ going_where k (cut true) taken' ∷ []))
+      → Follows (has_masks A) m o k (not scratch) b1 b2 (going_to m (if test then taken else past)) (all_of (going_where k (cut false) past' ∷ going_where k (cut true) taken' ∷ []))
   by_test cut test h taken taken' past past' is is' =
       two_ways m o k s at (not scratch) b1 b2 test (cut true) (cut false) taken taken' past past' is is' h.0 (chosen cut test h.0 h.1.0) h.1.1.0 h.1.1.1
 
@@ -152,8 +154,8 @@ module _ (words : List ℕ) (A : List Entry) (m : State) (o : Origin) (k : NodeK
       (h.0, (h.1.0, (equals_are_cut.leaves d r b one two s h.0 (offset_of k.sp) at.node.formed h.1.0, h.1.1)))
 
   skip_is : (test : Bool) (r : Raw)
-      → Follows m o k (not scratch) b1 b2 (going_to m (if test then further m (1 + length_of (word_at words (m.pc + 1))) else further m 1)) r
-      → Follows m o k (not scratch) b1 b2 (skipping words m test) r
+      → Follows (has_masks A) m o k (not scratch) b1 b2 (going_to m (if test then further m (1 + length_of (word_at words (m.pc + 1))) else further m 1)) r
+      → Follows (has_masks A) m o k (not scratch) b1 b2 (skipping words m test) r
   skip_is true r h = h
   skip_is false r h = h
 
@@ -166,7 +168,7 @@ module _ (words : List ℕ) (A : List Entry) (m : State) (o : Origin) (k : NodeK
   near_is : (t : ℕ) → wrapped m.device (near m.pc t) ≡ wrapped m.device (near k.pc t)
   near_is t = goes_near m o k s at (not scratch) b1 b2 t
 
-  skip_by : (cut : Bool → Option AbsState) (test : Bool) → Left cut test → Follows m o k (not scratch) b1 b2 (skipping words m test) (cut_skip m.device words k (cut true) (cut false))
+  skip_by : (cut : Bool → Option AbsState) (test : Bool) → Left cut test → Follows (has_masks A) m o k (not scratch) b1 b2 (skipping words m test) (cut_skip m.device words k (cut true) (cut false))
   skip_by cut test h =
       skip_is test (cut_skip m.device words k (cut true) (cut false))
       (by_test cut test h (further m (1 + length_of (word_at words (m.pc + 1)))) (node_further m.device k (1 + length_of (word_at words (k.pc + 1)))) (further m 1) (node_further m.device k 1) past_is next_is)
@@ -183,7 +185,7 @@ module _ (words : List ℕ) (A : List Entry) (m : State) (o : Origin) (k : NodeK
   branch_not_by : (n t : ℕ) (low : Bool) → nat_lt n 7 ≡ low → (plain : Raw) → Covered (i.Brbc n t) plain
       → Covered (i.Brbc n t) (if low then cut_branch n k s (node_further m.device k 1) (wrapped m.device (near k.pc t)) else plain)
   branch_not_by n t true e plain h = λ clean unflagged.
-      subst (λ (pc : ℕ). Follows m o k (not scratch) b1 b2 (going_to m pc) (cut_branch n k s (node_further m.device k 1) (wrapped m.device (near k.pc t))))
+      subst (λ (pc : ℕ). Follows (has_masks A) m o k (not scratch) b1 b2 (going_to m pc) (cut_branch n k s (node_further m.device k 1) (wrapped m.device (near k.pc t))))
       (turned m o k s at (not scratch) b1 b2 (flag m.sreg n) (further m 1) (near m.pc t))
       (by_test (λ b. flag_cut n b s) (flag m.sreg n) (flag_left n (ltb-true n 7 e)) (further m 1) (node_further m.device k 1) (near m.pc t) (wrapped m.device (near k.pc t)) next_is (near_is t))
   branch_not_by n t false e plain h = h
@@ -197,7 +199,7 @@ module _ (words : List ℕ) (A : List Entry) (m : State) (o : Origin) (k : NodeK
     abbrev ended : AbsState
     ended = before instr s
 
-    there : InBareFrame m o k ended
+    there : InBareFrame (has_masks A) m o k ended
     there = forgetting_at m o k s (written instr) (sets_flags instr) (sets_carry instr) at
 
     abbrev moved_state : AbsState
@@ -228,8 +230,8 @@ module _ (words : List ℕ) (A : List Entry) (m : State) (o : Origin) (k : NodeK
 
     left_covered : Covered instr (row_with (record ended { registers = left.registers; facts = left.facts }))
     left_covered clean unflagged =
-        (st_covered words A m o k ended there scratch b1 b2 are_written p r left.registers left.facts (forgotten_spares (written instr) s.flags.carry) formed.count_registers formed.facts
-        found.2.registers unflagged.protected clean).leads found.2.facts
+        (st_covered words A m o k ended there scratch b1 b2 are_written told p r s left.registers left.facts (forgotten_spares (written instr) s.flags.carry) formed.count_registers formed.facts
+        (number_permitted m o k s at (pointer_register p) (step_before p) (pointer_pair p)) found.2.registers unflagged.protected clean).leads found.2.facts
 
     pub store_covered : Covered instr (paired_store m.device words A k s p r)
     store_covered =

@@ -28,7 +28,8 @@ use Rattle.mask_states.specs.declared.keys.Kind.{Kind}
 use Rattle.mask_states.specs.Keys.{offset_of}
 use Rattle.local_rules.specs.Raw.{Raw, all_of}
 use Rattle.local_rules.specs.Registers.{value, before}
-use Rattle.local_rules.specs.Local.{row_of, row_at, fetched, may_be, below, picks, picking, paired_row, row_by, unlined, split_site}
+use Rattle.local_rules.specs.Local.{row_of, row_at, fetched, below, picks, picking, paired_row, row_by, unlined, split_site}
+use Rattle.local_rules.specs.Permitted.{may_be}
 use Rattle.local_rules.specs.Cover.{Follows, stays, calls, leaves, CoversStep}
 use Rattle.local_laws.proofs.Bare.{IsBare, InBareFrame}
 use Rattle.local_laws.proofs.PairedCover.{left_bare}
@@ -166,7 +167,7 @@ picked_less kind offset byte s t le =
 
 -- ---- the machine is at one of them
 
-module _ (m : State) (o : Origin) (k : NodeKey) (s : AbsState) (at : InBareFrame m o k s) where
+module _ {may : Bool} (m : State) (o : Origin) (k : NodeKey) (s : AbsState) (at : InBareFrame may m o k s) where
   -- the byte that r30 has
   abbrev pub byte : ℕ
   byte = register m 30
@@ -183,7 +184,7 @@ module _ (m : State) (o : Origin) (k : NodeKey) (s : AbsState) (at : InBareFrame
       let high : nat_le byte (value s 30).high ≡ true = grind (arith, nat_tests, byte_stands.high) in
       in_filter (may_be (value s 30)) byte (below 256) (all_three _ _ _ ((tests_tell_members.bytes (value s 30).bits byte).1 byte_stands.bits) low high) (in_below 256 byte byte_small)
 
-  pub picked_at : (t : AbsState) × (pick_cut byte s ≡ Some t) × InBareFrame m o (picking k byte) t
+  pub picked_at : (t : AbsState) × (pick_cut byte s ≡ Some t) × InBareFrame may m o (picking k byte) t
   picked_at =
       let less : IsStateLess k.inst.kind (offset_of k.sp) (with_index byte s) (with_index byte s) =
       picked_less k.inst.kind (offset_of k.sp) byte s s (node_less k s s at.node at.node (states_are_ordered.same s)) in
@@ -200,6 +201,7 @@ module _ (m : State) (o : Origin) (k : NodeKey) (s : AbsState) (at : InBareFrame
           facts = found.1.1.facts;
           root = at.root;
           base_word = at.base_word;
+          room = at.room;
         },
       )
 
@@ -211,17 +213,17 @@ faultless_in f (y ∷ ys) x h clean =
     let none = both_empty (f y).faults (all_of (map f ys)).faults clean in
     ⊎_elim (λ e. subst (λ (z : ℕ). (f z).faults ≡ []) (sym e) none.0) (λ rest. faultless_in f ys x rest none.1) (first_or_further y x ys h)
 
-module _ (m : State) (o : Origin) (k : NodeKey) (guarded : Bool) (e : Effect) where
-  reached_in : (f : ℕ → Raw) (xs : List ℕ) (x : ℕ) → Contains xs x → ReachesNode m o None k guarded e (f x) → ReachesNode m o None k guarded e (all_of (map f xs))
+module _ {may : Bool} (m : State) (o : Origin) (k : NodeKey) (guarded : Bool) (e : Effect) where
+  reached_in : (f : ℕ → Raw) (xs : List ℕ) (x : ℕ) → Contains xs x → ReachesNode may m o None k guarded e (f x) → ReachesNode may m o None k guarded e (all_of (map f xs))
   reached_in f [] x h reached = absurd (none_in x h)
   reached_in f (y ∷ ys) x h reached =
       ⊎_elim
-      (λ same. by_first m o None k guarded e (f y) (map f ys) (subst (λ (z : ℕ). ReachesNode m o None k guarded e (f z)) same reached))
+      (λ same. by_first m o None k guarded e (f y) (map f ys) (subst (λ (z : ℕ). ReachesNode may m o None k guarded e (f z)) same reached))
       (λ rest. by_rest m o None k guarded e (f y) (map f ys) (reached_in f ys x rest reached))
       (first_or_further y x ys h)
 
   -- where nothing is called or left, what follows is reached
-  reached_by : (byte b1 b2 : ℕ) (r : Raw) → Quiet r → Follows m o (picking k byte) guarded b1 b2 e r → ReachesNode m o None k guarded e r
+  reached_by : (byte b1 b2 : ℕ) (r : Raw) → Quiet r → Follows may m o (picking k byte) guarded b1 b2 e r → ReachesNode may m o None k guarded e r
   reached_by byte b1 b2 r quiet (stays to present inst lands) = record { to = to; present = present; inst = inst; at_node = record { lands = λ held. lands } }
   reached_by byte b1 b2 r quiet (calls offset site present closed is made) = absurd (none_in site (subst (λ xs. Contains xs site) quiet.0 present))
   reached_by byte b1 b2 r quiet (leaves x is kind closed return) = absurd (let e = sym quiet.1 in let no = is in cc)

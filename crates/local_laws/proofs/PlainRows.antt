@@ -16,7 +16,7 @@ use Rattle.avr_model.specs.declared.instruction.UnaryOp.{UnaryOp}
 use Rattle.avr_model.specs.declared.instruction.UnaryOp.TheVariants as unary
 use Rattle.avr_model.specs.declared.instruction.Pointer.{Pointer}
 use Rattle.avr_model.specs.declared.instruction.Pointer.TheVariants as pointer
-use Rattle.avr_model.specs.Assumptions.{is_frame}
+use Rattle.avr_model.specs.Assumptions.{is_frame, has_masks}
 use Rattle.avr_model.specs.Sites.{base_register, pointer_register}
 use Rattle.avr_model.specs.Effects.{port}
 use Rattle.avr_model.specs.Text.{far}
@@ -42,7 +42,7 @@ use Rattle.local_rules.specs.Raw.{Raw, nowhere, one, untracked_if, off_table}
 use Rattle.local_rules.specs.Registers.{going_by, interrupts_row, flag_row, binary_after, immediate_after, unary_after}
 use Rattle.local_rules.specs.FrameLines.{is_followed, framed_binary, framed_immediate, framed_unary}
 use Rattle.local_rules.specs.Reads.{read_at, pointed, read_pointed}
-use Rattle.local_rules.specs.Flow.{branch, targets_at, jumping, at_closed, pushing, popping, making_room, indirect_call, relative_call, is_half_written, returning, ret_exit, reti_exit}
+use Rattle.local_rules.specs.Flow.{branch_by, reading_zero, targets_at, jumping, at_closed, pushing, popping, making_room, indirect_call, relative_call, is_half_written, returning, ret_exit, reti_exit}
 use Rattle.local_rules.specs.Local.{step_before, pointer_moved, loading, row_of}
 use Rattle.local_laws.proofs.Members.{each_of, each_in_map}
 use Rattle.local_laws.proofs.MonotoneValues.{set_other}
@@ -113,11 +113,11 @@ module _ (rs : List ℕ) (s : AbsState) where
   leaves_if true p q h g = h
   leaves_if false p q h g = g
 
-  leaves_branch : (t : Tri) (k : NodeKey) (taken other : ℕ) → Leaves (branch t k s taken other)
-  leaves_branch One k taken other = leaves_same (off_table k taken)
-  leaves_branch Zero k taken other = leaves_same (off_table k other)
-  leaves_branch Any k taken other =
-      each_of (λ (n : Node). AreOthersKept rs s n.state) (record { key = off_table k other; state = s }) (record { key = off_table k taken; state = s } ∷ []) same_state (leaves_same (off_table k taken))
+  leaves_branch : (t : Tri) (j k : NodeKey) (taken other : ℕ) → Leaves (branch_by t j k s taken other)
+  leaves_branch One j k taken other = leaves_same (off_table j taken)
+  leaves_branch Zero j k taken other = leaves_same (off_table k other)
+  leaves_branch Any j k taken other =
+      each_of (λ (n : Node). AreOthersKept rs s n.state) (record { key = off_table k other; state = s }) (record { key = off_table j taken; state = s } ∷ []) same_state (leaves_same (off_table j taken))
 
   leaves_by : (device : Device) (k : NodeKey) (c : Option Computed) (r : Raw) → ComputedKeeps c → Leaves r → Leaves (going_by device k s c r)
   leaves_by device k None r h g = g
@@ -277,7 +277,7 @@ module _ (device : Device) (words : List ℕ) (A : List Entry) (scratch : Bool) 
   row_leaves (i.Fmul d r) is = leaves_set _ s device _ _ refl (two_set s.registers 0 1 _ _)
   row_leaves (i.Fmuls d r) is = leaves_set _ s device _ _ refl (two_set s.registers 0 1 _ _)
   row_leaves (i.Fmulsu d r) is = leaves_set _ s device _ _ refl (two_set s.registers 0 1 _ _)
-  row_leaves (i.Binary op d r) is = leaves_by _ s device k _ _ (binary_line_keeps s (is_followed (is_frame A k.pc) d r) op d r) (leaves_branch _ s (byte_equal (value_at s.registers d).bits (value_at s.registers r).bits) k _ _)
+  row_leaves (i.Binary op d r) is = leaves_by _ s device k _ _ (binary_line_keeps s (is_followed (is_frame A k.pc) d r) op d r) (leaves_branch _ s (byte_equal (value_at s.registers d).bits (value_at s.registers r).bits) k k _ _)
   row_leaves (i.Immediate op d n) is = leaves_set _ s device _ _ refl (immediate_line_keeps s (is_frame A k.pc) op d n)
   row_leaves (i.Unary op d) is = leaves_set _ s device _ _ refl (unary_line_keeps s (is_frame A k.pc) op d)
   row_leaves (i.Adiw d n) is = leaves_set _ s device _ _ refl (two_set s.registers (2 * d) (2 * d + 1) _ _)
@@ -286,10 +286,10 @@ module _ (device : Device) (words : List ℕ) (A : List Entry) (scratch : Bool) 
   row_leaves (i.Bclr n) is = leaves_flag _ s device k n false
   row_leaves (i.Bld d b) is = leaves_set _ s device _ _ refl (one_set s.registers d _)
   row_leaves (i.Bst d b) is = leaves_set _ s device _ _ refl (none_set [] s.registers)
-  row_leaves (i.Ldd d b q) is = leaves_loading _ s device k s.registers d (read_pointed device k s (pointed s (base_register b) q)) (λ w. one_set s.registers d w)
+  row_leaves (i.Ldd d b q) is = leaves_loading _ s device k s.registers d (read_pointed device (has_masks A) k s (pointed s (base_register b) q)) (λ w. one_set s.registers d w)
   row_leaves (i.Lds d a) is = leaves_set _ s device _ _ refl (one_set s.registers d _)
   row_leaves (i.Ld d p) is =
-      leaves_loading _ s device k (pointer_moved p s) d (read_pointed device k s (pointed s (pointer_register p) (step_before p))) (λ w. more_set (moved_pair p) s.registers (pointer_moved p s) d w (pointer_set p s))
+      leaves_loading _ s device k (pointer_moved p s) d (read_pointed device (has_masks A) k s (pointed s (pointer_register p) (step_before p))) (λ w. more_set (moved_pair p) s.registers (pointer_moved p s) d w (pointer_set p s))
   row_leaves (i.LpmZ d) is = leaves_set _ s device _ _ refl (one_set s.registers d _)
   row_leaves (i.LpmZPlus d) is = leaves_set _ s device _ _ refl (more_set (30 ∷ 31 ∷ []) s.registers _ d _ (two_set s.registers 30 31 _ _))
   row_leaves i.Lpm is = leaves_set _ s device _ _ refl (one_set s.registers 0 _)
@@ -308,8 +308,8 @@ module _ (device : Device) (words : List ℕ) (A : List Entry) (scratch : Bool) 
   row_leaves (i.Call t) is = leaves_calling _ s (is_half_written k.sp) k.pc _ (leaves_none _ s)
   row_leaves (i.Rjmp t) is = leaves_same _ s _
   row_leaves (i.Rcall t) is = leaves_relative _ s device scratch k (wrapped device (far k.pc t))
-  row_leaves (i.Sbic a b) is = leaves_branch _ s (tri_not (tri_at (read_at device k s (port a)).bits b)) k _ _
-  row_leaves (i.Sbis a b) is = leaves_branch _ s (tri_at (read_at device k s (port a)).bits b) k _ _
+  row_leaves (i.Sbic a b) is = leaves_branch _ s (tri_not (tri_at (read_at device (has_masks A) k s (port a)).bits b)) (reading_zero (has_masks A) k (port a) b) k _ _
+  row_leaves (i.Sbis a b) is = leaves_branch _ s (tri_at (read_at device (has_masks A) k s (port a)).bits b) k (reading_zero (has_masks A) k (port a) b) _ _
   row_leaves i.Nop is = leaves_same _ s _
   row_leaves i.Sleep is = leaves_same _ s _
   row_leaves i.Break is = leaves_same _ s _

@@ -73,7 +73,7 @@ up_one w = omega arith
 down_one : (w : ℕ) → minus16 w (down_by false 1) ≡ wide_of false w 1
 down_one w = omega arith
 
-module _ (m : State) (o : Origin) (k : NodeKey) (s : AbsState) (at : InBareFrame m o k s) where
+module _ {may : Bool} (m : State) (o : Origin) (k : NodeKey) (s : AbsState) (at : InBareFrame may m o k s) where
   pub pair_small : (r : ℕ) → pair m r < 65536
   pair_small r = omega (arith, register_byte m o k s at r, register_byte m o k s at (r + 1))
 
@@ -101,7 +101,7 @@ module _ (m : State) (o : Origin) (k : NodeKey) (s : AbsState) (at : InBareFrame
   pub number_is : (r up a : ℕ) → (pointed s r up).constant ≡ Some a → plus16 (pair m r) up ≡ a
   number_is r up a e = raised_is (pair_constant s r) (pair m r) up a (pair_constant_is r) e
 
-  frame_is : (r up d : ℕ) → (pointed s r up).frame ≡ Some d → plus16 (pair m r) up ≡ minus16 o.base d
+  pub frame_is : (r up d : ℕ) → (pointed s r up).frame ≡ Some d → plus16 (pair m r) up ≡ minus16 o.base d
   frame_is r up d e =
       lowered_is (frame_of (value s r).tag (value s (r + 1)).tag) o.base (pair m r) up d
       (λ j is. pairs_are_true.frame o (value s r).tag (value s (r + 1)).tag (pair m r) j (pair_small r) (pair_holds r) is) e
@@ -110,17 +110,17 @@ module _ (m : State) (o : Origin) (k : NodeKey) (s : AbsState) (at : InBareFrame
 
   module _ (a input : ℕ) (small : input < 256) where
     -- by the number
-    number_stands : ByteStands o (read_number m.device k s a) (read m a input)
+    number_stands : ByteStands o (read_number m.device may k s a) (read m a input)
     number_stands = by (nat_le a BELOW)
       where
-        by : (b : Bool) → ByteStands o (if b then untagged (read_at m.device k s a).bits else valued tag.None (set_of (read_at m.device k s a))) (read m a input)
-        by true = untagged_stands o (read_at m.device k s a) (read m a input) (read_stands m o k s at a input small)
-        by false = range_stands o (read_at m.device k s a) (read m a input) (read_stands m o k s at a input small)
+        by : (b : Bool) → ByteStands o (if b then untagged (read_at m.device may k s a).bits else valued tag.None (set_of (read_at m.device may k s a))) (read m a input)
+        by true = untagged_stands o (read_at m.device may k s a) (read m a input) (read_stands m o k s at a input small)
+        by false = range_stands o (read_at m.device may k s a) (read m a input) (read_stands m o k s at a input small)
 
-    constant_stands : (c : Option ℕ) → ((x : ℕ) → c ≡ Some x → a ≡ x) → ByteStands o (read_constant m.device k s c) (read m a input)
+    constant_stands : (c : Option ℕ) → ((x : ℕ) → c ≡ Some x → a ≡ x) → ByteStands o (read_constant m.device may k s c) (read m a input)
     constant_stands None is = any_stands o (read m a input) (read_small m o k s at a input small)
     constant_stands (Some x) is =
-        subst (λ b. ByteStands o (read_constant m.device k s (Some b)) (read m a input)) (is x refl) number_stands
+        subst (λ b. ByteStands o (read_constant m.device may k s (Some b)) (read m a input)) (is x refl) number_stands
 
     slot_read_stands : (d : ℕ) → a ≡ minus16 o.base d → ByteStands o (value_of (slot_at s.slots d)) (read m a input)
     slot_read_stands d is =
@@ -136,24 +136,24 @@ module _ (m : State) (o : Origin) (k : NodeKey) (s : AbsState) (at : InBareFrame
         subst (λ (z : Option ByteSet). IsRead o (with_tag t z) x) (sym meet.1.0)
         (record { tag = holds; bits = meet.1.1.bits; low = meet.1.1.low; high = meet.1.1.high; small = meet.1.1.small })
 
-    both_stand : (c : Option ℕ) (v : AbsByte) → ((x : ℕ) → c ≡ Some x → a ≡ x) → ByteStands o v (read m a input) → IsRead o (read_both m.device k s c v) (read m a input)
+    both_stand : (c : Option ℕ) (v : AbsByte) → ((x : ℕ) → c ≡ Some x → a ≡ x) → ByteStands o v (read m a input) → IsRead o (read_both m.device may k s c v) (read m a input)
     both_stand None v is h = h
     both_stand (Some x) v is h =
-        subst (λ b. IsRead o (read_both m.device k s (Some b) v) (read m a input)) (is x refl)
-        (met v.tag (read m a input) (read_number m.device k s a) v h.tag number_stands h)
+        subst (λ b. IsRead o (read_both m.device may k s (Some b) v) (read m a input)) (is x refl)
+        (met v.tag (read m a input) (read_number m.device may k s a) v h.tag number_stands h)
 
     one_of : (b : Bool) (v w : Option AbsByte) → IsRead o v (read m a input) → IsRead o w (read m a input) → IsRead o (if b then v else w) (read m a input)
     one_of true v w h g = h
     one_of false v w h g = g
 
-    frame_stands : (c f : Option ℕ) → ((x : ℕ) → c ≡ Some x → a ≡ x) → ((d : ℕ) → f ≡ Some d → a ≡ minus16 o.base d) → IsRead o (read_frame m.device k s c f) (read m a input)
+    frame_stands : (c f : Option ℕ) → ((x : ℕ) → c ≡ Some x → a ≡ x) → ((d : ℕ) → f ≡ Some d → a ≡ minus16 o.base d) → IsRead o (read_frame m.device may k s c f) (read m a input)
     frame_stands c None is here = constant_stands c is
     frame_stands c (Some d) is here =
-        one_of (nat_lt d (length s.slots)) (read_both m.device k s c (value_of (slot_at s.slots d))) (Some (read_constant m.device k s c))
+        one_of (nat_lt d (length s.slots)) (read_both m.device may k s c (value_of (slot_at s.slots d))) (Some (read_constant m.device may k s c))
         (both_stand c (value_of (slot_at s.slots d)) is (slot_read_stands d (here d refl))) (constant_stands c is)
 
   -- what a read through a pointer gives stands for what is read there
-  pub pointed_stands : (r up input : ℕ) → input < 256 → IsRead o (read_pointed m.device k s (pointed s r up)) (read m (plus16 (pair m r) up) input)
+  pub pointed_stands : (r up input : ℕ) → input < 256 → IsRead o (read_pointed m.device may k s (pointed s r up)) (read m (plus16 (pair m r) up) input)
   pointed_stands r up input small =
       frame_stands (plus16 (pair m r) up) input small (pointed s r up).constant (pointed s r up).frame (number_is r up) (frame_is r up)
 

@@ -1,21 +1,22 @@
 -- A byte that is stored through a pointer: what the rows say covers what the machine does.
-use Rattle.std.proofs.Common.{◌≡◌, refl, sym, ◌∙◌, ap, subst, ℕ, ◌+◌, ◌<◌, Bool, true, false, not, ◌&&◌, ◌||◌, nat_lt, nat_le, if◌then◌else◌, ◌==◌, List, [], ◌∷◌, length, map, Option, Some, None, arith, eqb-true}
-use Rattle.std.proofs.lemmas.Bool.{or_parts, and_from}
+use Rattle.std.proofs.Common.{◌≡◌, refl, sym, ◌∙◌, ap, subst, ℕ, ◌+◌, ◌<◌, ◌≤◌, ltb-true, Bool, true, false, not, ◌&&◌, ◌||◌, nat_lt, nat_le, if◌then◌else◌, ◌==◌, List, [], ◌∷◌, length, map, Option, Some, None, arith, eqb-true}
+use Rattle.std.proofs.lemmas.Bool.{or_parts, and_from, and_parts}
 use Rattle.std.proofs.lemmas.Bool.Decides.{nat_tests}
 use Rattle.std.proofs.lemmas.List.Elements.{Contains-append_left, Contains-append_right}
 use Rattle.std.specs.List.{filter}
+use Rattle.basics.specs.Items.{first_in}
 use Rattle.basics.specs.Lists.{both_empty}
 use Rattle.avr_model.specs.declared.assumption.Entry.{Entry}
 use Rattle.avr_model.specs.declared.effect.Write.{Write}
 use Rattle.avr_model.specs.declared.effect.Effect.{Effect}
-use Rattle.avr_model.specs.Assumptions.{store_line, is_fixed_site, lists}
+use Rattle.avr_model.specs.Assumptions.{has_masks, store_line, is_fixed_site, lists}
+use Rattle.avr_model.specs.Devices.{device_of}
+use Rattle.avr_model.specs.Masks.{enables_barred, is_unlisted_site, admits_enables, is_flagged_write}
 use Rattle.avr_model.specs.Sreg.{flag}
-use Rattle.avr_model.specs.State.{State, pair, SPL, SPH, SREG, low, high, plus16, minus16}
+use Rattle.avr_model.specs.State.{State, BELOW, pair, SPL, SPH, SREG, low, high, plus16, minus16}
 use Rattle.avr_model.specs.Effects.{set}
-use Rattle.avr_model.specs.Step.{with_registers, unlisted}
-use Rattle.avr_model.specs.Vectors.{has_enables, is_protected}
-use Rattle.bit_domain.specs.TriByte.{Has}
-use Rattle.bit_domain.proofs.AllLaws.{tests_tell_members}
+use Rattle.avr_model.specs.Step.{with_registers, flagged_write}
+use Rattle.avr_model.specs.Vectors.{has_enables, is_core, is_protected, written_enables}
 use Rattle.sp_domain.specs.Tags.{Origin, LessHolds}
 use Rattle.sp_domain.proofs.AllLaws.{carries_are_ordered}
 use Rattle.pair_domain.specs.declared.facts.PairFacts.{PairFacts}
@@ -24,77 +25,113 @@ use Rattle.abs_state.specs.declared.values.AbsByte.{AbsByte}
 use Rattle.abs_state.specs.declared.state.AbsState.{AbsState}
 use Rattle.abs_state.specs.Stands.{ByteStands, RegistersStand}
 use Rattle.mask_states.specs.declared.keys.NodeKey.{NodeKey}
+use Rattle.mask_states.specs.Keys.{offset_of}
+use Rattle.mask_states.specs.Place.{AreAmong, EnablesAre}
+use Rattle.mask_states.specs.Wakes.{may_enable_other, widened}
+use Rattle.mask_states.proofs.AllLaws.{enables_stay_among}
+use Rattle.local_rules.specs.declared.local.Node.{Node}
 use Rattle.local_rules.specs.Raw.{Raw, at_word, one, all_of}
-use Rattle.local_rules.specs.Registers.{bits}
+use Rattle.local_rules.specs.Registers.{value}
 use Rattle.local_rules.specs.Reads.{pointed}
-use Rattle.local_rules.specs.Writes.{written_at, reaches, fixed_write, listed_writes, pointer_write}
+use Rattle.local_rules.specs.Permitted.{may_be, is_in_interval, permits_bytes, permits_number}
+use Rattle.local_rules.specs.Writes.{written_at, reaches, fixed_write, listed_writes, is_own_slot, may_wake, waking, pointer_write}
 use Rattle.local_laws.proofs.Bare.{InBareFrame}
-use Rattle.local_laws.proofs.Frame.{register_stands}
-use Rattle.local_laws.proofs.PointerReads.{pair_small, low_is, high_is, number_is}
+use Rattle.local_laws.proofs.Landing.{ArrivesWhere}
+use Rattle.local_laws.proofs.Enables.{none_above}
+use Rattle.local_laws.proofs.Permitted.{has_where_may}
+use Rattle.local_laws.proofs.PointerReads.{number_is, frame_is}
 use Rattle.local_laws.proofs.SplitMembers.{AreSplitsWritten}
-use Rattle.local_laws.proofs.WriteValues.{stored, ReachesNode, enables_kept, chosen, only, elsewhere, changes_none, less_still, facts_still, written}
+use Rattle.local_laws.proofs.WriteValues.{stored, ReachesNode, enables_stay, chosen, only, elsewhere, changes_none, less_still, facts_still, written}
 
-back_to : (w up : ℕ) → w < 65536 → w ≡ minus16 (plus16 w up) up
-back_to w up lt = omega arith
-
--- ---- addresses that aren't protected
+-- ---- addresses of no register, nor of the stack pointer or the status register
 
 pub record IsElsewhere (a : ℕ) : Type 0 where
   pub beyond : nat_lt a 0x20 ≡ false
   pub not_low : (a == SPL) ≡ false
   pub not_high : (a == SPH) ≡ false
   pub not_sreg : (a == SREG) ≡ false
-  pub no_enables : has_enables a ≡ false
 
 outside_test : (a : ℕ) → (nat_le 0x5D a && nat_le a 0x5F) ≡ false → ((a == SPL) ≡ false) × (((a == SPH) ≡ false) × ((a == SREG) ≡ false))
 outside_test a h = (grind (arith, nat_tests), (grind (arith, nat_tests), grind (arith, nat_tests)))
 
-elsewhere_is : (a : ℕ) → is_protected a ≡ false → IsElsewhere a
+elsewhere_is : (a : ℕ) → is_core a ≡ false → IsElsewhere a
 elsewhere_is a h =
-    let outer = or_parts (nat_lt a 0x20 || (nat_le 0x5D a && nat_le a 0x5F)) (has_enables a) h in
-    let inner = or_parts (nat_lt a 0x20) (nat_le 0x5D a && nat_le a 0x5F) outer.0 in
+    let inner = or_parts (nat_lt a 0x20) (nat_le 0x5D a && nat_le a 0x5F) h in
     let outside = outside_test a inner.1 in
-    record { beyond = inner.0; not_low = outside.0; not_high = outside.1.0; not_sreg = outside.1.1; no_enables = outer.1 }
+    record { beyond = inner.0; not_low = outside.0; not_high = outside.1.0; not_sreg = outside.1.1 }
+
+-- ---- what isn't flagged
+
+flag_none : (b : Bool) (a : ℕ) → (if b then Some a else None) ≡ None → b ≡ false
+flag_none true a e = absurd (cc)
+flag_none false a e = refl
+
+first_flag : (b x y : Bool) → (if b then x else y) ≡ false → b ≡ true → x ≡ false
+first_flag true x y e is = e
+first_flag false x y e is = absurd (cc)
+
+second_flag : (b x y : Bool) → (if b then x else y) ≡ false → b ≡ false → y ≡ false
+second_flag true x y e is = absurd (cc)
+second_flag false x y e is = e
+
+-- a protected address that isn't flagged is listed
+is_listed : (protected listed : Bool) → protected ≡ true → (protected && not listed) ≡ false → listed ≡ true
+is_listed true true is none = refl
+is_listed true false is none = absurd (cc)
+is_listed false listed is none = absurd (cc)
+
+-- the site is admitted by the line
+admitting : (A : List Entry) (site : ℕ) → admits_enables A site ≡ true → has_masks A ≡ true
+unfolding admits_enables
+admitting A site h = (and_parts (has_masks A) (is_unlisted_site (store_line A site)) h).0
+
+-- ---- what may wake a vector
+
+own_slot : (frame : Option ℕ) (offset : ℕ) → is_own_slot frame offset ≡ true → (d : ℕ) × ((frame ≡ Some d) × (d < offset))
+own_slot None offset h = absurd (cc)
+own_slot (Some d) offset h = (d, (refl, ltb-true d offset h))
+
+-- such a slot lies in SRAM or above it
+slot_above : (a base d offset : ℕ) → a ≡ minus16 base d → d < offset → offset + BELOW ≤ base → base < 65536 → BELOW < a
+slot_above a base d offset is lt room word = omega arith
+
+rest_false : (a b c : Bool) → a ≡ true → (a && b && c) ≡ false → (b && c) ≡ false
+rest_false true b c is none = none
+rest_false false b c is none = absurd (cc)
 
 -- ---- all of several
 
-module _ (m : State) (o : Origin) (known : Option PairFacts) (k : NodeKey) (guarded : Bool) (e : Effect) where
-  pub by_first : (r : Raw) (rs : List Raw) → ReachesNode m o known k guarded e r → ReachesNode m o known k guarded e (all_of (r ∷ rs))
+module _ {may : Bool} (m : State) (o : Origin) (known : Option PairFacts) (k : NodeKey) (guarded : Bool) (e : Effect) where
+  pub by_first : (r : Raw) (rs : List Raw) → ReachesNode may m o known k guarded e r → ReachesNode may m o known k guarded e (all_of (r ∷ rs))
   by_first r rs h = record { to = h.to; present = Contains-append_left r.moves (all_of rs).moves h.to h.present; inst = h.inst; at_node = h.at_node }
 
-  pub by_rest : (r : Raw) (rs : List Raw) → ReachesNode m o known k guarded e (all_of rs) → ReachesNode m o known k guarded e (all_of (r ∷ rs))
+  pub by_rest : (r : Raw) (rs : List Raw) → ReachesNode may m o known k guarded e (all_of rs) → ReachesNode may m o known k guarded e (all_of (r ∷ rs))
   by_rest r rs h = record { to = h.to; present = Contains-append_right r.moves (all_of rs).moves h.to h.present; inst = h.inst; at_node = h.at_node }
 
   -- one more item, which is kept or not, and is the address or not
   by_item : (f : ℕ → Raw) (p : ℕ → Bool) (a x : ℕ) (kept : List ℕ) (listed b c : Bool) → p x ≡ b → (x == a) ≡ c → (c || listed) ≡ true → p a ≡ true
-      → ((f a).faults ≡ [] → ReachesNode m o known k guarded e (f a))
-      → (listed ≡ true → (all_of (map f kept)).faults ≡ [] → ReachesNode m o known k guarded e (all_of (map f kept)))
-      → (all_of (map f (if b then x ∷ kept else kept))).faults ≡ [] → ReachesNode m o known k guarded e (all_of (map f (if b then x ∷ kept else kept)))
-  by_item f p a x kept listed true true met same found may h rest clean =
+      → ((f a).faults ≡ [] → ReachesNode may m o known k guarded e (f a))
+      → (listed ≡ true → (all_of (map f kept)).faults ≡ [] → ReachesNode may m o known k guarded e (all_of (map f kept)))
+      → (all_of (map f (if b then x ∷ kept else kept))).faults ≡ [] → ReachesNode may m o known k guarded e (all_of (map f (if b then x ∷ kept else kept)))
+  by_item f p a x kept listed true true met same found can h rest clean =
       let empty = both_empty (f x).faults (all_of (map f kept)).faults clean in
-      by_first (f x) (map f kept) (subst (λ y. (f y).faults ≡ [] → ReachesNode m o known k guarded e (f y)) (sym (eqb-true x a same)) h empty.0)
-  by_item f p a x kept listed true false met other found may h rest clean =
+      by_first (f x) (map f kept) (subst (λ y. (f y).faults ≡ [] → ReachesNode may m o known k guarded e (f y)) (sym (eqb-true x a same)) h empty.0)
+  by_item f p a x kept listed true false met other found can h rest clean =
       let empty = both_empty (f x).faults (all_of (map f kept)).faults clean in
       by_rest (f x) (map f kept) (rest found empty.1)
-  by_item f p a x kept listed false true unmet same found may h rest clean =
-      let met : p x ≡ true = ap p (eqb-true x a same) ∙ may in
+  by_item f p a x kept listed false true unmet same found can h rest clean =
+      let met : p x ≡ true = ap p (eqb-true x a same) ∙ can in
       absurd (cc)
-  by_item f p a x kept listed false false unmet other found may h rest clean = rest found clean
+  by_item f p a x kept listed false false unmet other found can h rest clean = rest found clean
 
   -- a listed address that can be met
-  by_listed : (f : ℕ → Raw) (p : ℕ → Bool) (a : ℕ) (xs : List ℕ) → lists xs a ≡ true → p a ≡ true → ((f a).faults ≡ [] → ReachesNode m o known k guarded e (f a))
-      → (all_of (map f (filter p xs))).faults ≡ [] → ReachesNode m o known k guarded e (all_of (map f (filter p xs)))
-  by_listed f p a [] listed may h clean = absurd (cc)
-  by_listed f p a (x ∷ xs) listed may h clean =
-      by_item f p a x (filter p xs) (lists xs a) (p x) (x == a) refl refl listed may h (λ found. by_listed f p a xs found may h) clean
+  by_listed : (f : ℕ → Raw) (p : ℕ → Bool) (a : ℕ) (xs : List ℕ) → lists xs a ≡ true → p a ≡ true → ((f a).faults ≡ [] → ReachesNode may m o known k guarded e (f a))
+      → (all_of (map f (filter p xs))).faults ≡ [] → ReachesNode may m o known k guarded e (all_of (map f (filter p xs)))
+  by_listed f p a [] listed can h clean = absurd (cc)
+  by_listed f p a (x ∷ xs) listed can h clean =
+      by_item f p a x (filter p xs) (lists xs a) (p x) (x == a) refl refl listed can h (λ found. by_listed f p a xs found can h) clean
 
--- a protected address that isn't flagged is listed
-is_listed : (protected listed : Bool) (a : ℕ) → protected ≡ true → (if protected && not listed then Some a else None) ≡ None → listed ≡ true
-is_listed true true a is none = refl
-is_listed true false a is none = absurd (cc)
-is_listed false listed a is none = absurd (cc)
-
-module _ (m : State) (o : Origin) (k : NodeKey) (s : AbsState) (at : InBareFrame m o k s) (guarded : Bool) (pc pc' : ℕ) (pc_is : pc ≡ pc') (writes : List Write)
+module _ {may : Bool} (m : State) (o : Origin) (k : NodeKey) (s : AbsState) (at : InBareFrame may m o k s) (guarded : Bool) (pc pc' : ℕ) (pc_is : pc ≡ pc') (writes : List Write)
     (registers : List AbsByte) (stand : RegistersStand o registers (with_registers m.registers writes))
     (less : LessHolds (with_registers m.registers writes) s.flags.carry (flag m.sreg 0)) (told : Option PairFacts) (told_fits : KnownFits told)
     (byte : ℕ) (small : byte < 256) (v : AbsByte) (stands : ByteStands o v byte) (count_values : length registers ≡ 32)
@@ -108,53 +145,141 @@ module _ (m : State) (o : Origin) (k : NodeKey) (s : AbsState) (at : InBareFrame
   abbrev effect : ℕ → Effect
   effect a = stored m pc writes false a byte
 
-  known_written : (a : ℕ) → (written_at m.device k.pc key state false a v).faults ≡ [] → ReachesNode m o told k guarded (effect a) (written_at m.device k.pc key state false a v)
+  known_written : (a : ℕ) → (written_at m.device k.pc key state false a v).faults ≡ [] → ReachesNode may m o told k guarded (effect a) (written_at m.device k.pc key state false a v)
   known_written = written m o k s at guarded pc pc' pc_is writes registers stand less told told_fits false byte small v stands count_values count members
 
   fixed_written : (a : ℕ) (c : Option ℕ) → ((x : ℕ) → c ≡ Some x → a ≡ x) → (fixed_write m.device c k.pc key state v).faults ≡ []
-      → ReachesNode m o told k guarded (effect a) (fixed_write m.device c k.pc key state v)
+      → ReachesNode may m o told k guarded (effect a) (fixed_write m.device c k.pc key state v)
   fixed_written a None is clean = absurd (cc)
-  fixed_written a (Some x) is clean = subst (λ b. ReachesNode m o told k guarded (effect b) (fixed_write m.device (Some x) k.pc key state v)) (sym (is x refl)) (known_written x clean)
+  fixed_written a (Some x) is clean = subst (λ b. ReachesNode may m o told k guarded (effect b) (fixed_write m.device (Some x) k.pc key state v)) (sym (is x refl)) (known_written x clean)
 
-  nothing_written : (a : ℕ) → is_protected a ≡ false → ReachesNode m o told k guarded (effect a) (one key state)
-  nothing_written a free =
+  -- at an address that none of these rows is about
+  elsewhere_written : (a masks : ℕ) → is_core a ≡ false → EnablesAre may (written_enables m.enables a byte) masks
+      → ArrivesWhere may m o told guarded (effect a) (record { key = record key { masks = masks }; state = state })
+  elsewhere_written a masks free enables =
       let is = elsewhere_is a free in
-      only m o k s at guarded pc pc' pc_is writes registers stand less told told_fits false (effect a) (record { key = key; state = state }) refl
-      (elsewhere m o k s at guarded pc pc' pc_is writes registers stand less told told_fits false a byte k.masks registers s.flags.carry told (carries_are_ordered.same s.flags.carry) is.not_low is.not_high is.not_sreg
-      (enables_kept m.enables a byte at.machine.enable_bits is.no_enables ∙ at.place.enables)
-      (changes_none m o k s at guarded pc pc' pc_is writes registers stand less told told_fits false a byte is.beyond)
+      elsewhere m o k s at guarded pc pc' pc_is writes registers stand less told told_fits false a byte masks registers s.flags.carry told (carries_are_ordered.same s.flags.carry) is.not_low is.not_high is.not_sreg
+      enables (changes_none m o k s at guarded pc pc' pc_is writes registers stand less told told_fits false a byte is.beyond)
       (less_still m o k s at guarded pc pc' pc_is writes registers stand less told told_fits false a byte is.beyond)
-      (facts_still m o k s at guarded pc pc' pc_is writes registers stand less told told_fits false a byte is.beyond is.not_sreg))
+      (facts_still m o k s at guarded pc pc' pc_is writes registers stand less told told_fits false a byte is.beyond is.not_sreg)
 
-  reached : (r up : ℕ) → reaches s r up (plus16 (pair m r) up) ≡ true
-  reached r up =
-      let back : pair m r ≡ minus16 (plus16 (pair m r) up) up = back_to (pair m r) up (pair_small m o k s at r) in
-      and_from _ _
-      ((tests_tell_members.bytes (bits s r) _).1 (subst (Has (bits s r)) (low_is m o k s at r ∙ ap low back) (register_stands m o k s at r).bits))
-      ((tests_tell_members.bytes (bits s (r + 1)) _).1 (subst (Has (bits s (r + 1))) (high_is m o k s at r ∙ ap high back) (register_stands m o k s at (r + 1)).bits))
+  nothing_written : (a : ℕ) → is_core a ≡ false → EnablesAre may (written_enables m.enables a byte) k.masks → ReachesNode may m o told k guarded (effect a) (one key state)
+  nothing_written a free enables =
+      only m o k s at guarded pc pc' pc_is writes registers stand less told told_fits false (effect a) (record { key = key; state = state }) refl (elsewhere_written a k.masks free enables)
 
-  -- the successors at the listed addresses that can be met
-  abbrev listed_ones : ℕ → ℕ → List ℕ → List Raw
-  listed_ones r up listed = map (λ a. written_at m.device k.pc key state false a v) (filter (λ a. reaches s r up a) listed)
+  kept_enables : (a : ℕ) → has_enables a ≡ false → EnablesAre may (written_enables m.enables a byte) k.masks
+  kept_enables a none = enables_stay m o k s at guarded pc pc' pc_is writes registers stand less told told_fits false byte small v stands count_values count a none
 
-  listed_by : (r up : ℕ) (listed : List ℕ) (b : Bool) → is_protected (plus16 (pair m r) up) ≡ b → unlisted listed (set (plus16 (pair m r) up) byte) ≡ None
-      → (listed_writes m.device k.pc key state (filter (λ a. reaches s r up a) listed) v).faults ≡ []
-      → ReachesNode m o told k guarded (effect (plus16 (pair m r) up)) (listed_writes m.device k.pc key state (filter (λ a. reaches s r up a) listed) v)
-  listed_by r up listed false is unflagged clean = by_first m o told k guarded (effect (plus16 (pair m r) up)) (one key state) (listed_ones r up listed) (nothing_written (plus16 (pair m r) up) is)
-  listed_by r up listed true is unflagged clean =
-      let a : ℕ = plus16 (pair m r) up in
-      by_rest m o told k guarded (effect a) (one key state) (listed_ones r up listed)
-      (by_listed m o told k guarded (effect a) (λ b. written_at m.device k.pc key state false b v) (λ b. reaches s r up b) a listed
-      (is_listed (is_protected a) (lists listed a) a is unflagged) (reached r up) (known_written a) clean)
+  -- ---- a store at a site that isn't fixed
 
-  -- a byte that is stored through a pointer, where the store isn't flagged
-  pub pointer_written : (words : List ℕ) (A : List Entry) (r up : ℕ)
-      → (is_fixed_site words A k.pc ≡ false → unlisted (store_line A k.pc) (set (plus16 (pair m r) up) byte) ≡ None)
-      → (pointer_write m.device words A s r up (pointed s r up) k.pc key state v).faults ≡ []
-      → ReachesNode m o told k guarded (effect (plus16 (pair m r) up)) (pointer_write m.device words A s r up (pointed s r up) k.pc key state v)
-  pointer_written words A r up unflagged clean =
-      let a : ℕ = plus16 (pair m r) up in
-      chosen m o k s at guarded pc pc' pc_is writes registers stand less told told_fits false (effect a) (is_fixed_site words A k.pc)
-      (fixed_write m.device (pointed s r up).constant k.pc key state v) (listed_writes m.device k.pc key state (filter (λ b. reaches s r up b) (store_line A k.pc)) v)
-      (λ is rest. fixed_written a (pointed s r up).constant (number_is m o k s at r up) rest)
-      (λ is rest. listed_by r up (store_line A k.pc) (is_protected a) refl (unflagged is) rest) clean
+  module _ (words : List ℕ) (A : List Entry) (mode : may ≡ has_masks A) (is_device : m.device ≡ device_of words) (was : AbsState) (r up : ℕ)
+      (permitted : permits_number was r (minus16 (plus16 (pair m r) up) up) ≡ true) where
+    abbrev a : ℕ
+    a = plus16 (pair m r) up
+
+    abbrev Reaches : Raw → Type 0
+    Reaches x = ReachesNode may m o told k guarded (effect a) x
+
+    reached : reaches was r up a ≡ true
+    reached =
+        let bytes = (and_parts (permits_bytes was r (minus16 a up)) (is_in_interval was.facts r (minus16 a up)) permitted).0 in
+        let both = and_parts (may_be (value was r) (low (minus16 a up))) (may_be (value was (r + 1)) (high (minus16 a up))) bytes in
+        and_from _ _ (has_where_may (value was r) (low (minus16 a up)) both.0) (has_where_may (value was (r + 1)) (high (minus16 a up)) both.1)
+
+    -- the successors at the listed addresses that can be met
+    abbrev listed_ones : List Raw
+    listed_ones = map (λ b. written_at m.device k.pc key state false b v) (filter (λ b. reaches was r up b) (store_line A k.pc))
+
+    abbrev listed : Raw
+    listed = listed_writes m.device k.pc key state (filter (λ b. reaches was r up b) (store_line A k.pc)) v
+
+    -- the successor in which vectors may be woken
+    abbrev woken : Node
+    woken = record { key = record key { masks = widened m.device A k.masks }; state = state }
+
+    by_none : is_core a ≡ false → EnablesAre may (written_enables m.enables a byte) k.masks → Reaches listed
+    by_none free enables = by_first m o told k guarded (effect a) (one key state) listed_ones (nothing_written a free enables)
+
+    -- ---- where the line doesn't admit it
+
+    listed_by : (b : Bool) → is_protected a ≡ b → (is_protected a && not (lists (store_line A k.pc) a)) ≡ false → listed.faults ≡ [] → Reaches listed
+    listed_by false is unflagged clean = let parts = or_parts (is_core a) (has_enables a) is in by_none parts.0 (kept_enables a parts.1)
+    listed_by true is unflagged clean =
+        by_rest m o told k guarded (effect a) (one key state) listed_ones
+        (by_listed m o told k guarded (effect a) (λ b. written_at m.device k.pc key state false b v) (λ b. reaches was r up b) a (store_line A k.pc)
+        (is_listed (is_protected a) (lists (store_line A k.pc) a) is unflagged) reached (known_written a) clean)
+
+    -- ---- where it does
+
+    module _ (admitted : admits_enables A k.pc ≡ true) (free : is_core a ≡ false) (unbarred : enables_barred m.device A a byte ≡ false) where
+      may_is : may ≡ true
+      may_is = mode ∙ admitting A k.pc admitted
+
+      among : AreAmong m.enables k.masks
+      among = subst (λ x. EnablesAre x m.enables k.masks) may_is at.place.enables
+
+      from_among : (masks : ℕ) → AreAmong (written_enables m.enables a byte) masks → EnablesAre may (written_enables m.enables a byte) masks
+      from_among masks h = subst (λ x. EnablesAre x (written_enables m.enables a byte) masks) (sym may_is) h
+
+      wakes : Reaches (waking true m.device A key state listed)
+      wakes =
+          record {
+            to = woken;
+            present = Contains-append_right listed.moves (woken ∷ []) woken (first_in woken []);
+            inst = refl;
+            at_node = elsewhere_written a (widened m.device A k.masks) free (from_among (widened m.device A k.masks) (enables_stay_among.woken m.device A m.enables k.masks a byte among unbarred));
+          }
+
+      own : is_own_slot (pointed s r up).frame (offset_of k.sp) ≡ true → EnablesAre may (written_enables m.enables a byte) k.masks
+      own is =
+          let slot = own_slot (pointed s r up).frame (offset_of k.sp) is in
+          kept_enables a (none_above a (slot_above a o.base slot.0 (offset_of k.sp) (frame_is m o k s at r up slot.0 slot.1.0) slot.1.1 (at.room may_is) at.base_word))
+
+      asleep : (own_slot other : Bool) → is_own_slot (pointed s r up).frame (offset_of k.sp) ≡ own_slot
+          → may_enable_other m.device A (λ b. permits_number was r (minus16 b up)) v.bits ≡ other → (not own_slot && other) ≡ false
+          → EnablesAre may (written_enables m.enables a byte) k.masks
+      asleep true other is is' none = own is
+      asleep false other is is' none =
+          from_among k.masks
+          (enables_stay_among.asleep m.device A (λ b. permits_number was r (minus16 b up)) v.bits m.enables k.masks a byte among unbarred (is' ∙ none) permitted stands.bits)
+
+      unless_woken : may_wake m.device A was r up (pointed s r up) k.pc key v ≡ false → EnablesAre may (written_enables m.enables a byte) k.masks
+      unfolding may_wake
+      unless_woken is =
+          asleep (is_own_slot (pointed s r up).frame (offset_of k.sp)) (may_enable_other m.device A (λ b. permits_number was r (minus16 b up)) v.bits) refl refl
+          (rest_false (admits_enables A k.pc) _ _ admitted is)
+
+      admitted_by : (b : Bool) → may_wake m.device A was r up (pointed s r up) k.pc key v ≡ b → Reaches (waking b m.device A key state listed)
+      admitted_by true is = wakes
+      admitted_by false is = by_none free (unless_woken is)
+
+    -- ---- both
+
+    still : (b : Bool) → Reaches listed → Reaches (waking b m.device A key state listed)
+    still true h = record { to = h.to; present = Contains-append_left listed.moves (woken ∷ []) h.to h.present; inst = h.inst; at_node = h.at_node }
+    still false h = h
+
+    listed_clean : (b : Bool) → (waking b m.device A key state listed).faults ≡ [] → listed.faults ≡ []
+    listed_clean true clean = clean
+    listed_clean false clean = clean
+
+    abbrev waken : Bool
+    waken = may_wake m.device A was r up (pointed s r up) k.pc key v
+
+    unfixed_by : (b : Bool) → admits_enables A k.pc ≡ b → is_flagged_write (device_of words) A k.pc a byte ≡ false → (waking waken m.device A key state listed).faults ≡ []
+        → Reaches (waking waken m.device A key state listed)
+    unfixed_by true is unflagged clean =
+        let parts = or_parts (is_core a) (enables_barred (device_of words) A a byte) (first_flag (admits_enables A k.pc) _ _ unflagged is) in
+        admitted_by is parts.0 (subst (λ d. enables_barred d A a byte ≡ false) (sym is_device) parts.1) waken refl
+    unfixed_by false is unflagged clean =
+        still waken (listed_by (is_protected a) refl (second_flag (admits_enables A k.pc) _ _ unflagged is) (listed_clean waken clean))
+
+    -- a byte that is stored through a pointer, where the store isn't flagged
+    pub pointer_written : (is_fixed_site words A k.pc ≡ false → flagged_write (device_of words) A k.pc (set a byte) ≡ None)
+        → (pointer_write m.device words A was r up (pointed s r up) k.pc key state v).faults ≡ []
+        → Reaches (pointer_write m.device words A was r up (pointed s r up) k.pc key state v)
+    pointer_written unflagged clean =
+        chosen m o k s at guarded pc pc' pc_is writes registers stand less told told_fits false (effect a) (is_fixed_site words A k.pc)
+        (fixed_write m.device (pointed s r up).constant k.pc key state v) (waking waken m.device A key state listed)
+        (λ is rest. fixed_written a (pointed s r up).constant (number_is m o k s at r up) rest)
+        (λ is rest. unfixed_by (admits_enables A k.pc) refl (flag_none (is_flagged_write (device_of words) A k.pc a byte) a (unflagged is)) rest) clean

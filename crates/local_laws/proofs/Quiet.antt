@@ -22,8 +22,8 @@ use Rattle.local_rules.specs.Raw.{Raw, untracked_if, too_deep_if}
 use Rattle.local_rules.specs.Registers.{carry_bit, going_by, interrupts_row, flag_row}
 use Rattle.local_rules.specs.declared.computed.Computed.{Computed}
 use Rattle.local_rules.specs.declared.pointers.Pointed.{Pointed}
-use Rattle.local_rules.specs.Writes.{opening, closing, sreg_written, written_at, fixed_write, pointer_write, high_part, closing_offset, flags_written, put_flags}
-use Rattle.local_rules.specs.Flow.{branch, where_carry, going_where, carry_branch, flag_branch, skipping, jumping, at_closed, pushing, popping, making_room}
+use Rattle.local_rules.specs.Writes.{opening, closing, sreg_written, written_at, fixed_write, may_wake, waking, pointer_write, high_part, closing_offset, flags_written, put_flags}
+use Rattle.local_rules.specs.Flow.{branch, branch_by, where_carry, going_where, carry_branch, flag_branch, skipping, jumping, at_closed, pushing, popping, making_room}
 use Rattle.local_rules.specs.Local.{loading}
 use Rattle.local_laws.specs.Laws.{LeadsToWords, AscendByEntry}
 
@@ -52,10 +52,13 @@ pub if_quiet : (b : Bool) (p q : Raw) → Quiet p → Quiet q → Quiet (if b th
 if_quiet true p q h k = h
 if_quiet false p q h k = k
 
+ways_quiet : (j k : NodeKey) (s : AbsState) (t : Tri) (taken other : ℕ) → Quiet (branch_by t j k s taken other)
+ways_quiet j k s Zero taken other = (refl, refl)
+ways_quiet j k s One taken other = (refl, refl)
+ways_quiet j k s Any taken other = (refl, refl)
+
 pub branch_quiet : (k : NodeKey) (s : AbsState) (t : Tri) (taken other : ℕ) → Quiet (branch t k s taken other)
-branch_quiet k s Zero taken other = (refl, refl)
-branch_quiet k s One taken other = (refl, refl)
-branch_quiet k s Any taken other = (refl, refl)
+branch_quiet k s t taken other = ways_quiet k k s t taken other
 
 where_quiet : (k : NodeKey) (o : Option AbsState) (pc : ℕ) → Quiet (going_where k o pc)
 where_quiet k None pc = (refl, refl)
@@ -69,8 +72,8 @@ carry_quiet k s Any set clear = (refl, refl)
 pub flag_branch_quiet : (n : ℕ) (k : NodeKey) (s : AbsState) (set clear : ℕ) (other : Raw) → Quiet other → Quiet (flag_branch n k s set clear other)
 flag_branch_quiet n k s set clear other h = if_quiet (n == 0) (carry_branch (carry_bit s) k s set clear) other (carry_quiet k s (carry_bit s) set clear) h
 
-pub skipping_quiet : (device : Device) (words : List ℕ) (k : NodeKey) (s : AbsState) (t : Tri) → Quiet (skipping device words k s t)
-skipping_quiet device words k s t = branch_quiet k s t _ _
+pub skipping_quiet : (device : Device) (words : List ℕ) (j k : NodeKey) (s : AbsState) (t : Tri) → Quiet (skipping device words j k s t)
+skipping_quiet device words j k s t = ways_quiet j k s t _ _
 
 pub going_by_quiet : (device : Device) (k : NodeKey) (s : AbsState) (c : Option Computed) (r : Raw) → Quiet r → Quiet (going_by device k s c r)
 going_by_quiet device k s None r q = q
@@ -112,9 +115,14 @@ fixed_quiet : (device : Device) (a : Option ℕ) (pc : ℕ) (k : NodeKey) (s : A
 fixed_quiet device None pc k s v = (refl, refl)
 fixed_quiet device (Some a) pc k s v = written_quiet device pc k s false a v
 
+waking_quiet : (b : Bool) (device : Device) (A : List Entry) (k : NodeKey) (s : AbsState) (r : Raw) → Quiet r → Quiet (waking b device A k s r)
+waking_quiet true device A k s r h = h
+waking_quiet false device A k s r h = h
+
 pub pointer_quiet : (device : Device) (words : List ℕ) (A : List Entry) (was : AbsState) (r up : ℕ) (p : Pointed) (pc : ℕ) (k : NodeKey) (s : AbsState) (v : AbsByte)
     → Quiet (pointer_write device words A was r up p pc k s v)
-pointer_quiet device words A was r up p pc k s v = if_quiet (is_fixed_site words A pc) _ _ (fixed_quiet device p.constant pc k s v) (refl, refl)
+pointer_quiet device words A was r up p pc k s v =
+    if_quiet (is_fixed_site words A pc) _ _ (fixed_quiet device p.constant pc k s v) (waking_quiet (may_wake device A was r up p pc k v) device A k s _ (refl, refl))
 
 pub jumping_quiet : (targets : Option (List ℕ)) (k : NodeKey) (s : AbsState) → Quiet (jumping targets k s)
 jumping_quiet None k s = (refl, refl)

@@ -11,9 +11,9 @@ use Rattle.local_laws.proofs.Machine.{io_value, io_small}
 use Rattle.avr_model.specs.Devices.{ramend}
 use Rattle.avr_model.specs.declared.device.Device.{Device}
 use Rattle.avr_model.specs.Sreg.{flag}
-use Rattle.avr_model.specs.Vectors.{enable_of}
+use Rattle.avr_model.specs.Vectors.{enable_of, has_enables}
 use Rattle.avr_model.specs.State.{State, register, read, io_byte, io_bit, sram_at, byte_in, is_live, is_sram, BELOW, SPL, SPH, SREG, low, high, minus16}
-use Rattle.vector_table.proofs.AllLaws.{numbers_are_their_bits}
+use Rattle.vector_table.proofs.AllLaws.{enables_are_vectors, numbers_are_their_bits}
 use Rattle.bit_domain.specs.Tri.{Permits, tri_bit}
 use Rattle.bit_domain.specs.TriByte.{Has, byte_any, byte_known, byte_with}
 use Rattle.bit_domain.proofs.AllLaws.{bytes_are_sets, writes_cover, permits-tri_bit}
@@ -32,10 +32,11 @@ use Rattle.mask_states.specs.declared.keys.Kind.{Kind}
 use Rattle.mask_states.specs.declared.keys.Kind.TheVariants.{Root, Call, Vector}
 use Rattle.mask_states.specs.declared.keys.SpForm.{SpForm}
 use Rattle.mask_states.specs.declared.keys.SpForm.TheVariants.{Closed, Open}
-use Rattle.mask_states.specs.Place.{SpIs}
+use Rattle.mask_states.specs.Place.{EnablesAre, SpIs}
 use Rattle.local_rules.specs.Registers.{with_bits}
-use Rattle.local_rules.specs.Reads.{sp_low, sp_high, flags_tag, sreg_value, io_tri, io_bits, value_of, slot_read, read_at}
+use Rattle.local_rules.specs.Reads.{sp_low, sp_high, flags_tag, sreg_value, enable_read, io_tri, io_bits, value_of, slot_read, read_at}
 use Rattle.local_laws.proofs.Bare.{InBareFrame}
+use Rattle.local_laws.proofs.Enables.{bit_permits, held_at}
 use Rattle.local_laws.proofs.Frame.{register_stands}
 use Rattle.local_laws.proofs.Alu.{register_byte}
 use Rattle.local_laws.proofs.Memory.{inside_if_live}
@@ -103,17 +104,29 @@ flag_permits sreg n on e =
 
 -- ---- I/O
 
-io_permits : (v : Option ℕ) (masks free : ℕ) → Permits (io_tri v masks) (io_bit v masks free)
-io_permits None masks free = tt
-io_permits (Some v) masks free = permits-tri_bit (bit_at masks (v - 2)) (bit_at-lt masks (v - 2))
+-- what is told of each enable bit of an address permits what it is
+abbrev pub IoReads : Bool → ℕ → ℕ → ℕ → Type 0
+IoReads may enables masks a = (b v : ℕ) → enable_of a b ≡ Some v → Permits (enable_read may (bit_at masks (v - 2))) (bit_at enables (v - 2))
 
-io_has : (masks a input : ℕ) → Has (io_bits masks a) (io_byte masks a input)
+pub io_reads : (may : Bool) (enables masks a : ℕ) → EnablesAre may enables masks → IoReads may enables masks a
+io_reads may enables masks a h = λ b v e. bit_permits may enables masks (v - 2) (omega (arith, enables_are_vectors.vector a b v e)) h
+
+-- where there are none nothing is told
+pub no_reads : (may : Bool) (enables masks a : ℕ) → has_enables a ≡ false → IoReads may enables masks a
+no_reads may enables masks a none = λ b v e. absurd (let no = sym (held_at a b v e).0 ∙ none in cc)
+
+io_permits : (may : Bool) (v : Option ℕ) (enables masks free : ℕ) → ((n : ℕ) → v ≡ Some n → Permits (enable_read may (bit_at masks (n - 2))) (bit_at enables (n - 2)))
+    → Permits (io_tri may v masks) (io_bit v enables free)
+io_permits may None enables masks free h = tt
+io_permits may (Some v) enables masks free h = h v refl
+
+pub io_has : (may : Bool) (enables masks a input : ℕ) → IoReads may enables masks a → Has (io_bits may masks a) (io_byte enables a input)
 unfolding io_byte
-io_has masks a input =
-    bytes_are_sets.built (λ b. io_tri (enable_of a b) masks) (io_byte masks a input) (λ b lt.
-    subst (Permits (io_tri (enable_of a b) masks))
-    (sym (numbers_are_their_bits.bits 8 (λ j. io_bit (enable_of a j) masks (bit_at input j)) (λ j h. io_value (enable_of a j) masks (bit_at input j) (bit_at-lt input j)) b lt))
-    (io_permits (enable_of a b) masks (bit_at input b)))
+io_has may enables masks a input h =
+    bytes_are_sets.built (λ b. io_tri may (enable_of a b) masks) (io_byte enables a input) (λ b lt.
+    subst (Permits (io_tri may (enable_of a b) masks))
+    (sym (numbers_are_their_bits.bits 8 (λ j. io_bit (enable_of a j) enables (bit_at input j)) (λ j l. io_value (enable_of a j) enables (bit_at input j) (bit_at-lt input j)) b lt))
+    (io_permits may (enable_of a b) enables masks (bit_at input b) (h b)))
 
 -- ---- SRAM
 
@@ -133,7 +146,7 @@ test_only : (o : Origin) (b : Bool) (v : AbsByte) (x : ℕ) → x < 256 → (b �
 test_only o true v x small h = h refl
 test_only o false v x small h = any_stands o x small
 
-module _ (m : State) (o : Origin) (k : NodeKey) (s : AbsState) (at : InBareFrame m o k s) where
+module _ {may : Bool} (m : State) (o : Origin) (k : NodeKey) (s : AbsState) (at : InBareFrame may m o k s) where
   byte_small : (a : ℕ) → byte_in m.memory.bytes a < 256
   unfolding byte_in
   byte_small a =
@@ -158,10 +171,9 @@ module _ (m : State) (o : Origin) (k : NodeKey) (s : AbsState) (at : InBareFrame
       (entry_holds o s.flags.entry m.sreg at.stands.flags.entry)
       (writes_cover.members s.flags.bits 7 (tri_bit (from_bool k.i)) m.sreg m.sreg at.stands.flags.bits (flag_permits m.sreg 7 k.i at.place.i) (λ j lt other. refl))
 
-  io_stands : (a input : ℕ) → ByteStands o (untagged (io_bits k.masks a)) (io_byte m.enables a input)
-  io_stands a input =
-      bits_make_values.stands o tag.None (io_bits k.masks a) (io_byte m.enables a input) (io_small m.enables a input) tt
-      (subst (λ masks. Has (io_bits masks a) (io_byte m.enables a input)) at.place.enables (io_has m.enables a input))
+  io_stands : (told : Bool) (a input : ℕ) → IoReads told m.enables k.masks a → ByteStands o (untagged (io_bits told k.masks a)) (io_byte m.enables a input)
+  io_stands told a input h =
+      bits_make_values.stands o tag.None (io_bits told k.masks a) (io_byte m.enables a input) (io_small m.enables a input) tt (io_has told m.enables k.masks a input h)
 
   -- the byte of a live address is that of SRAM
   pub live_read : (a input : ℕ) → is_live m.memory a ≡ true → read m a input ≡ sram_at m a
@@ -202,12 +214,16 @@ module _ (m : State) (o : Origin) (k : NodeKey) (s : AbsState) (at : InBareFrame
   kind_slot Call a input lt root = any_stands o (if is_sram m.device a then sram_at m a else input) (slot_small a input lt)
   kind_slot (Vector v) a input lt root = any_stands o (if is_sram m.device a then sram_at m a else input) (slot_small a input lt)
 
-  -- what a read of a known address gives
-  pub read_stands : (a input : ℕ) → input < 256 → ByteStands o (read_at m.device k s a) (read m a input)
+  -- what a read of a known address gives, where what it tells of enable bits permits them
+  pub read_stands_by : (told : Bool) (a input : ℕ) → input < 256 → IoReads told m.enables k.masks a → ByteStands o (read_at m.device told k s a) (read m a input)
   unfolding read read_at
-  read_stands a input lt =
+  read_stands_by told a input lt h =
       by_test o _ _ _ _ _ (register_stands m o k s at a)
       (by_test o (a == SPL) _ _ _ _ (low_stands m.device o at.base_word m.is_open m.sp at.machine.sp_word k.inst.kind k.sp at.root at.place.sp)
       (by_test o (a == SPH) _ _ _ _ (high_stands m.device o at.base_word m.is_open m.sp at.machine.sp_word k.inst.kind k.sp at.root at.place.sp)
       (by_test o (a == SREG) _ _ _ _ sreg_stands
-      (by_test o (nat_le a BELOW) _ _ _ _ (io_stands a input) (kind_slot k.inst.kind a input lt at.root)))))
+      (by_test o (nat_le a BELOW) _ _ _ _ (io_stands told a input h) (kind_slot k.inst.kind a input lt at.root)))))
+
+  -- what a read of a known address gives
+  pub read_stands : (a input : ℕ) → input < 256 → ByteStands o (read_at m.device may k s a) (read m a input)
+  read_stands a input lt = read_stands_by may a input lt (io_reads may m.enables k.masks a at.place.enables)

@@ -71,7 +71,7 @@ slot_read : (m : State) (o : Origin) (a input : ℕ) (slot : Slot AbsByte) → l
 slot_read m o a input Free count small h = any_stands o (read m a input) small
 slot_read m o a input (Guarded v) count small h = subst (ByteStands o v) (sym (live_read m a input count h.0)) h.1
 
-module _ (m : State) (o : Origin) (k : NodeKey) (s : AbsState) (at : InBareFrame m o k s) where
+module _ {may : Bool} (m : State) (o : Origin) (k : NodeKey) (s : AbsState) (at : InBareFrame may m o k s) where
   sp_is : (offset : ℕ) → k.sp ≡ Closed offset → m.sp + offset ≡ o.base
   sp_is offset form = (subst (SpIs o.base m.is_open m.sp) form at.place.sp).1
 
@@ -84,16 +84,16 @@ module _ (m : State) (o : Origin) (k : NodeKey) (s : AbsState) (at : InBareFrame
 
   module _ (guarded : Bool) (b1 b2 : ℕ) where
     -- a row that has room
-    with_room : (n : ℕ) (r : Raw) (e : Effect) → (if_room m.device n k.pc r).faults ≡ [] → FollowsWhere m o s.facts k guarded b1 b2 e r → FollowsWhere m o s.facts k guarded b1 b2 e (if_room m.device n k.pc r)
+    with_room : (n : ℕ) (r : Raw) (e : Effect) → (if_room m.device n k.pc r).faults ≡ [] → FollowsWhere may m o s.facts k guarded b1 b2 e r → FollowsWhere may m o s.facts k guarded b1 b2 e (if_room m.device n k.pc r)
     with_room n r e none h = by_room (nat_le n (size_of m.device)) none
       where
-        by_room : (fits : Bool) → (if fits then r else fails (TooDeep k.pc n)).faults ≡ [] → FollowsWhere m o s.facts k guarded b1 b2 e (if fits then r else fails (TooDeep k.pc n))
+        by_room : (fits : Bool) → (if fits then r else fails (TooDeep k.pc n)).faults ≡ [] → FollowsWhere may m o s.facts k guarded b1 b2 e (if fits then r else fails (TooDeep k.pc n))
         by_room true free = h
         by_room false wrong = absurd (cc)
 
     -- ---- pop
 
-    popped : (d offset : ℕ) → b1 < 256 → Spares s.flags.carry d → k.sp ≡ Closed offset → (popping m.device k s d offset).faults ≡ [] → FollowsWhere m o s.facts k guarded b1 b2 (pop_effect m d b1) (popping m.device k s d offset)
+    popped : (d offset : ℕ) → b1 < 256 → Spares s.flags.carry d → k.sp ≡ Closed offset → (popping m.device k s d offset).faults ≡ [] → FollowsWhere may m o s.facts k guarded b1 b2 (pop_effect m d b1) (popping m.device k s d offset)
     popped d zero small spare form none = absurd (cc)
     popped d (suc n) small spare form none =
         let sp = sp_is (suc n) form in
@@ -117,7 +117,7 @@ module _ (m : State) (o : Origin) (k : NodeKey) (s : AbsState) (at : InBareFrame
           };
         })
 
-    pub pop_covered : (d : ℕ) → b1 < 256 → Spares s.flags.carry d → (at_closed k.sp k.pc (popping m.device k s d)).faults ≡ [] → FollowsWhere m o s.facts k guarded b1 b2 (pop_effect m d b1) (at_closed k.sp k.pc (popping m.device k s d))
+    pub pop_covered : (d : ℕ) → b1 < 256 → Spares s.flags.carry d → (at_closed k.sp k.pc (popping m.device k s d)).faults ≡ [] → FollowsWhere may m o s.facts k guarded b1 b2 (pop_effect m d b1) (at_closed k.sp k.pc (popping m.device k s d))
     pop_covered d small spare none = closed m o k s at guarded b1 b2 k.sp k.pc (pop_effect m d b1) (popping m.device k s d) none (λ offset. popped d offset small spare)
 
   module _ (scratch : Bool) (b1 b2 : ℕ) where
@@ -131,7 +131,7 @@ module _ (m : State) (o : Origin) (k : NodeKey) (s : AbsState) (at : InBareFrame
       subst (ByteStands o (value s r)) (sym (pushed_byte m.device m.memory (minus16 m.sp 1) at.machine.count_bytes at.machine.count_live true m.sp (register m r) inside)) (register_stands m o k s at r),
     )
 
-    pushed : (r offset : ℕ) → k.sp ≡ Closed offset → (pushing m.device scratch k s r offset).faults ≡ [] → FollowsWhere m o s.facts k (not scratch) b1 b2 (push_effect m r) (pushing m.device scratch k s r offset)
+    pushed : (r offset : ℕ) → k.sp ≡ Closed offset → (pushing m.device scratch k s r offset).faults ≡ [] → FollowsWhere may m o s.facts k (not scratch) b1 b2 (push_effect m r) (pushing m.device scratch k s r offset)
     pushed r offset form none =
         let sp = sp_is offset form in
         let slots = count offset form in
@@ -156,13 +156,13 @@ module _ (m : State) (o : Origin) (k : NodeKey) (s : AbsState) (at : InBareFrame
         }))
 
     pub push_covered : (r : ℕ) → (at_closed k.sp k.pc (pushing m.device scratch k s r)).faults ≡ []
-        → FollowsWhere m o s.facts k (not scratch) b1 b2 (push_effect m r) (at_closed k.sp k.pc (pushing m.device scratch k s r))
+        → FollowsWhere may m o s.facts k (not scratch) b1 b2 (push_effect m r) (at_closed k.sp k.pc (pushing m.device scratch k s r))
     push_covered r none = closed m o k s at (not scratch) b1 b2 k.sp k.pc (push_effect m r) (pushing m.device scratch k s r) none (pushed r)
 
     -- ---- calls
 
     roomier : (target target' offset : ℕ) → wrapped m.device target ≡ target' → k.sp ≡ Closed offset → (making_room m.device k s target' offset).faults ≡ []
-        → FollowsWhere m o s.facts k (not scratch) b1 b2 (calling m target (further m 1)) (making_room m.device k s target' offset)
+        → FollowsWhere may m o s.facts k (not scratch) b1 b2 (calling m target (further m 1)) (making_room m.device k s target' offset)
     roomier target target' offset is form none =
         let sp = sp_is offset form in
         let slots = count offset form in
@@ -186,7 +186,7 @@ module _ (m : State) (o : Origin) (k : NodeKey) (s : AbsState) (at : InBareFrame
         }))
 
     rcall_by : (b : Bool) (target target' : ℕ) → b ≡ scratch → wrapped m.device target ≡ target' → (relative_call m.device b k s target').faults ≡ []
-        → FollowsWhere m o s.facts k (not scratch) b1 b2 (calling m target (further m 1)) (relative_call m.device b k s target')
+        → FollowsWhere may m o s.facts k (not scratch) b1 b2 (calling m target (further m 1)) (relative_call m.device b k s target')
     rcall_by true target target' small is none =
         closed m o k s at (not scratch) b1 b2 k.sp k.pc (calling m target (further m 1)) (making_room m.device k s target') none (λ offset form free. roomier target target' offset is form free)
     rcall_by false target target' small is none =
@@ -194,5 +194,5 @@ module _ (m : State) (o : Origin) (k : NodeKey) (s : AbsState) (at : InBareFrame
         (further_is m o k s at (not scratch) b1 b2 1) (first_in target' []) none
 
     pub rcall_covered : (target target' : ℕ) → wrapped m.device target ≡ target' → (relative_call m.device scratch k s target').faults ≡ []
-        → FollowsWhere m o s.facts k (not scratch) b1 b2 (calling m target (further m 1)) (relative_call m.device scratch k s target')
+        → FollowsWhere may m o s.facts k (not scratch) b1 b2 (calling m target (further m 1)) (relative_call m.device scratch k s target')
     rcall_covered target target' is none = rcall_by scratch target target' refl is none

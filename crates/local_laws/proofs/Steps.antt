@@ -1,6 +1,7 @@
 -- The local part in the words of a step.
 use Rattle.std.proofs.Common.{◌≡◌, ◌≢◌, refl, sym, ap₂, subst, ℕ, ◌<◌, ◌||◌, Bool, true, false, not, if◌then◌else◌, List, [], ◌∷◌, ◌++◌, Option, Some, None, Ok, Contains}
 use Rattle.local_laws.proofs.Stays.{done_is}
+use Rattle.avr_model.specs.Assumptions.{has_masks}
 use Rattle.avr_model.specs.declared.assumption.Entry.{Entry}
 use Rattle.avr_model.specs.declared.choice.Flag.{Flag}
 use Rattle.avr_model.specs.declared.effect.Effect.{Effect}
@@ -67,7 +68,7 @@ some_defined : (test : Bool) (flags : Option Flag) (m : State) (at pc : ℕ) →
 some_defined true flags m at pc e = flagged_defined flags m pc e
 some_defined false flags m at pc e = cc
 
-module _ {followed : Bool} (words : List ℕ) (A : List Entry) (m : State) (o : Origin) (k : NodeKey) (s : AbsState) (b1 b2 : ℕ) (at : InFrameIn followed m o k s) (small1 : b1 < 256) (small2 : b2 < 256) where
+module _ {followed : Bool} (words : List ℕ) (A : List Entry) (m : State) (o : Origin) (k : NodeKey) (s : AbsState) (b1 b2 : ℕ) (at : InFrameIn followed (has_masks A) m o k s) (small1 : b1 < 256) (small2 : b2 < 256) where
   is_defined : (r : Raw) (found : Option Instr) (pc : ℕ) → CoversStep words A m o k b1 b2 found r → r.faults ≡ [] → go words A m found b1 b2 ≢ Undefined pc
   is_defined r None pc covered none e = covered none
   is_defined r (Some instr) pc covered none e = some_defined _ _ _ m.pc pc e
@@ -78,8 +79,8 @@ module _ {followed : Bool} (words : List ℕ) (A : List Entry) (m : State) (o : 
     are_nodes to member = (nodes.nodes words A k s to at.node none member).1
 
     -- a raw successor lies below a joined one, which the machine is at too
-    lands_joined : (guarded : Bool) (e : Effect) (to : Node) → Contains (raw words A k s).moves to → to.key.inst ≡ k.inst → ArrivesAt m o guarded e to
-        → live_write m.memory (e.stores ++ e.pushes) ≡ None → all_inside m.device e.pushes ≡ true → IsStep m o k b1 b2 (joined (raw words A k s)) (after m guarded e)
+    lands_joined : (guarded : Bool) (e : Effect) (to : Node) → Contains (raw words A k s).moves to → to.key.inst ≡ k.inst → ArrivesAt (has_masks A) m o guarded e to
+        → live_write m.memory (e.stores ++ e.pushes) ≡ None → all_inside m.device e.pushes ≡ true → IsStep (has_masks A) m o k b1 b2 (joined (raw words A k s)) (after m guarded e)
     lands_joined guarded e to member inst lands unhit inside =
         let above = joins.above (raw words A k s).moves to are_nodes member in
         let whole : IsWithinBase o.base to.key.sp = within (record { key = to.key; state = above.state }) above.present in
@@ -90,13 +91,13 @@ module _ {followed : Bool} (words : List ℕ) (A : List Entry) (m : State) (o : 
         (known_is_ordered.less to.state.facts above.state.facts n.registers (flag n.sreg 0) (flag n.sreg 1) (flag n.sreg 4) above.above.facts lands.facts)
 
     follows_steps : (guarded : Bool) (e : Effect) → live_write m.memory (e.stores ++ e.pushes) ≡ None → all_inside m.device e.pushes ≡ true
-        → Follows m o k guarded b1 b2 e (raw words A k s) → IsStep m o k b1 b2 (joined (raw words A k s)) (after m guarded e)
+        → Follows (has_masks A) m o k guarded b1 b2 e (raw words A k s) → IsStep (has_masks A) m o k b1 b2 (joined (raw words A k s)) (after m guarded e)
     follows_steps guarded e unhit inside (stays to member inst lands) = lands_joined guarded e to member inst lands unhit inside
     follows_steps guarded e unhit inside (calls offset site member form guards is) = calls offset site member form (ap₂ (after m) guards is)
     follows_steps guarded e unhit inside (leaves x exit kind form returns) = leaves x guarded e exit kind form returns refl
 
     go_steps : (n : State) (found : Option Instr) → CoversStep words A m o k b1 b2 found (raw words A k s) → go words A m found b1 b2 ≡ Done n
-        → IsStep m o k b1 b2 (joined (raw words A k s)) n
+        → IsStep (has_masks A) m o k b1 b2 (joined (raw words A k s)) n
     go_steps n None covered e = absurd (covered none)
     go_steps n (Some instr) covered e =
         let effect = effect_of words m instr b1 b2 in
@@ -104,7 +105,7 @@ module _ {followed : Bool} (words : List ℕ) (A : List Entry) (m : State) (o : 
         let unflagged = flags_none m.pc (live_write m.memory (effect.stores ++ effect.pushes)) (protected_write words A m.pc instr effect) (unlisted_transfer A m.pc instr effect)
         (after m (not (is_scratch words m.pc)) effect) n passed.1 in
         let inside = inside_if_listed (all_inside m.device effect.pushes) (unlisted_transfer A m.pc instr effect) passed.0 unflagged.1.1.0 in
-        subst (IsStep m o k b1 b2 (joined (raw words A k s))) unflagged.1.1.1
+        subst (IsStep (has_masks A) m o k b1 b2 (joined (raw words A k s))) unflagged.1.1.1
         (follows_steps (not (is_scratch words m.pc)) effect unflagged.0 inside
         (covered none (record { protected = unflagged.1.0; listed = unflagged.1.1.0 })))
 
@@ -115,7 +116,7 @@ steps_are_covered joins nodes = record {
       is_defined words A m o k s b1 b2 at small1 small2 (raw words A k s) (instruction_at words m.pc) pc (local_parts_cover.covered words A m o k s b1 b2 are told at small1 small2) here.0;
   done = λ words A m n o k s l b1 b2 are told at small1 small2 there within e.
       let here = local_is words A k s l there in
-      subst (λ x. IsStep m o k b1 b2 x n) here.1
+      subst (λ x. IsStep (has_masks A) m o k b1 b2 x n) here.1
       (go_steps words A m o k s b1 b2 at small1 small2 joins nodes here.0 (subst (λ x. (to : Node) → Contains x.same to → IsWithinBase o.base to.key.sp) (sym here.1) within)
       n (instruction_at words m.pc) (local_parts_cover.covered words A m o k s b1 b2 are told at small1 small2) e);
 }

@@ -42,6 +42,7 @@ use Rattle.mask_states.specs.declared.keys.NodeKey.{NodeKey}
 use Rattle.mask_states.specs.declared.keys.High.{High}
 use Rattle.mask_states.specs.declared.keys.SpForm.TheVariants.{Closed, Open}
 use Rattle.mask_states.specs.Keys.{offset_of}
+use Rattle.mask_states.specs.Place.{EnablesAre}
 use Rattle.mask_states.specs.Splits.{splits}
 use Rattle.local_rules.specs.declared.local.Node.{Node}
 use Rattle.local_rules.specs.declared.local.NodeFault.TheVariants.{TooDeep}
@@ -49,6 +50,7 @@ use Rattle.local_rules.specs.Raw.{Raw, at_word, one, fails}
 use Rattle.local_rules.specs.Writes.{high_part, opening, closing_offset, closing, is_entry_flags, flags_written, with_i, sreg_written, masks_written, register_written as node_written, put_flags, written_at}
 use Rattle.local_laws.proofs.Bare.{InBareFrame}
 use Rattle.local_laws.proofs.Landing.{ArrivesWhere}
+use Rattle.local_laws.proofs.Enables.{IsIo, io_written, same_enables, written_both}
 use Rattle.local_laws.proofs.Frame.{second, set_stands, slot_kept, above_floor, frame_kept}
 use Rattle.local_rules.specs.Registers.{with_bits, forgotten}
 use Rattle.local_laws.proofs.Less.{less_set, forgotten_less, forgotten_spares}
@@ -72,11 +74,11 @@ stored m pc writes is_out a byte =
     }
 
 -- the effect leads to one of these nodes, in the same instance
-pub record ReachesNode (m : State) (o : Origin) (x : Option PairFacts) (k : NodeKey) (guarded : Bool) (e : Effect) (r : Raw) : Type 0 where
+pub record ReachesNode (may : Bool) (m : State) (o : Origin) (x : Option PairFacts) (k : NodeKey) (guarded : Bool) (e : Effect) (r : Raw) : Type 0 where
   pub to : Node
   pub present : Contains r.moves to
   pub inst : to.key.inst ≡ k.inst
-  pub at_node : ArrivesWhere m o x guarded e to
+  pub at_node : ArrivesWhere may m o x guarded e to
 
 -- ---- enable bits
 
@@ -168,7 +170,7 @@ set_other registers a byte r e =
 not_same : (a b : ℕ) → nat_lt a 0x20 ≡ true → 0x1F < b → (a == b) ≡ false
 not_same a b here above = ne_eqb a b (λ same. let lt : a < 0x20 = ltb-true a 0x20 here in omega arith)
 
-module _ (m : State) (o : Origin) (k : NodeKey) (s : AbsState) (at : InBareFrame m o k s) (guarded : Bool) (pc pc' : ℕ) (pc_is : pc ≡ pc') (writes : List Write)
+module _ {may : Bool} (m : State) (o : Origin) (k : NodeKey) (s : AbsState) (at : InBareFrame may m o k s) (guarded : Bool) (pc pc' : ℕ) (pc_is : pc ≡ pc') (writes : List Write)
     (registers : List AbsByte) (stand : RegistersStand o registers (with_registers m.registers writes))
     (less : LessHolds (with_registers m.registers writes) s.flags.carry (flag m.sreg 0)) (told : Option PairFacts) (told_fits : KnownFits told) (is_out : Bool) where
   abbrev key : NodeKey
@@ -177,21 +179,21 @@ module _ (m : State) (o : Origin) (k : NodeKey) (s : AbsState) (at : InBareFrame
   abbrev state : AbsState
   state = record s { registers = registers; facts = told }
 
-  pub only : (e : Effect) (to : Node) → to.key.inst ≡ k.inst → ArrivesWhere m o told guarded e to → ReachesNode m o told k guarded e (record { moves = to ∷ []; calls = []; exit = None; faults = [] })
+  pub only : (e : Effect) (to : Node) → to.key.inst ≡ k.inst → ArrivesWhere may m o told guarded e to → ReachesNode may m o told k guarded e (record { moves = to ∷ []; calls = []; exit = None; faults = [] })
   only e to inst lands = record { to = to; present = first_in to []; inst = inst; at_node = lands }
 
-  pub chosen : (e : Effect) (b : Bool) (r q : Raw) → (b ≡ true → r.faults ≡ [] → ReachesNode m o told k guarded e r) → (b ≡ false → q.faults ≡ [] → ReachesNode m o told k guarded e q)
-      → (if b then r else q).faults ≡ [] → ReachesNode m o told k guarded e (if b then r else q)
+  pub chosen : (e : Effect) (b : Bool) (r q : Raw) → (b ≡ true → r.faults ≡ [] → ReachesNode may m o told k guarded e r) → (b ≡ false → q.faults ≡ [] → ReachesNode may m o told k guarded e q)
+      → (if b then r else q).faults ≡ [] → ReachesNode may m o told k guarded e (if b then r else q)
   chosen e true r q h g clean = h refl clean
   chosen e false r q h g clean = g refl clean
 
   -- no byte of the stack pointer and not the status register
   pub elsewhere : (a byte masks : ℕ) (values : List AbsByte) (c : CarryTag) (x : Option PairFacts) → IsCarryWithin s.flags.carry c → (a == SPL) ≡ false → (a == SPH) ≡ false → (a == SREG) ≡ false
-      → written_enables m.enables a byte ≡ masks
+      → EnablesAre may (written_enables m.enables a byte) masks
       → RegistersStand o values (registers_after (with_registers m.registers writes) (set a byte))
       → LessHolds (registers_after (with_registers m.registers writes) (set a byte)) c (flag m.sreg 0)
       → (HoldsAt told (with_registers m.registers writes) m.sreg → HoldsAt x (registers_after (with_registers m.registers writes) (set a byte)) (sreg_after m.sreg (set a byte)))
-      → ArrivesWhere m o told guarded (stored m pc writes is_out a byte)
+      → ArrivesWhere may m o told guarded (stored m pc writes is_out a byte)
       (record { key = record key { masks = masks }; state = record s { registers = values; flags = record s.flags { carry = c }; facts = x } })
   elsewhere a byte masks values c x over not_low not_high not_sreg enables values_stand still known =
       let flags = values_say_less.flags o s.flags (record s.flags { carry = c }) m.sreg (record { entry = λ e. e; bits = λ x small has. has; carry = over }) at.stands.flags in
@@ -219,10 +221,34 @@ module _ (m : State) (o : Origin) (k : NodeKey) (s : AbsState) (at : InBareFrame
       subst₂ (HoldsAt told) (sym (not_chosen (nat_lt a 0x20) (slice_set (with_registers m.registers writes) a byte) (with_registers m.registers writes) beyond))
       (sym (not_chosen (a == SREG) byte m.sreg not_sreg)) held
 
+  -- one of the splits, where the enable bits are as it says
+  split_lands : (a byte left : ℕ) (v : AbsByte) → nat_lt a 0x20 ≡ false → (a == SPL) ≡ false → (a == SPH) ≡ false → (a == SREG) ≡ false
+      → Contains (splits k.masks a v.bits) left → EnablesAre may (written_enables m.enables a byte) left
+      → ReachesNode may m o told k guarded (stored m pc writes is_out a byte) (masks_written key state a v)
+  split_lands a byte left v beyond not_low not_high not_sreg present enables =
+      record {
+        to = record { key = record key { masks = left }; state = state };
+        present = in_map (λ masks. record { key = record key { masks = masks }; state = state }) left (splits k.masks a v.bits) present;
+        inst = refl;
+        at_node = elsewhere a byte left registers s.flags.carry told (carries_are_ordered.same s.flags.carry) not_low not_high not_sreg enables
+            (changes_none a byte beyond) (less_still a byte beyond) (facts_still a byte beyond not_sreg);
+      }
+
+  -- a byte at the address of enable bits, of which a split is told
+  pub split_written : (a byte left : ℕ) (v : AbsByte) → IsIo a → Contains (splits k.masks a v.bits) left → EnablesAre may (written_enables m.enables a byte) left
+      → ReachesNode may m o told k guarded (stored m pc writes is_out a byte) (written_at m.device k.pc key state is_out a v)
+  split_written a byte left v io present enables =
+      subst (ReachesNode may m o told k guarded (stored m pc writes is_out a byte)) (sym (io_written m.device k.pc key state is_out a v io))
+      (split_lands a byte left v io.0 io.1.0 io.1.1.0 io.1.1.1.0 present enables)
+
   module _ (byte : ℕ) (small : byte < 256) (v : AbsByte) (stands : ByteStands o v byte) (count_values : length registers ≡ 32)
       (count : length (with_registers m.registers writes) ≡ 32) where
+    -- a write of an address without enable bits
+    pub enables_stay : (a : ℕ) → has_enables a ≡ false → EnablesAre may (written_enables m.enables a byte) k.masks
+    enables_stay a none = same_enables may (written_enables m.enables a byte) m.enables k.masks (enables_kept m.enables a byte at.machine.enable_bits none) at.place.enables
+
     register_written : (a : ℕ) → nat_lt a 0x20 ≡ true → (a == SPL) ≡ false → (a == SPH) ≡ false → (a == SREG) ≡ false
-        → ArrivesWhere m o told guarded (stored m pc writes is_out a byte) (record { key = key; state = node_written state a v })
+        → ArrivesWhere may m o told guarded (stored m pc writes is_out a byte) (record { key = key; state = node_written state a v })
     register_written a here not_low not_high not_sreg =
         let lt : a < 0x20 = ltb-true a 0x20 here in
         let w : AbsByte = with_bits v.tag v.bits in
@@ -238,7 +264,7 @@ module _ (m : State) (o : Origin) (k : NodeKey) (s : AbsState) (at : InBareFrame
         (record { kept = λ r other. set_other old a byte r other; bytes = λ r inside. (new_stand r inside).small })
         (record { carry_kept = λ e. refl; others_kept = λ e. (refl, refl, refl) }) held)) in
         elsewhere a byte k.masks (slice_set registers a w) c (written_hull (slice_set registers a w) a left) (forgotten_less (a ∷ []) s.flags.carry) not_low not_high not_sreg
-        (enables_kept m.enables a byte at.machine.enable_bits (above_registers a lt) ∙ at.place.enables)
+        (enables_stay a (above_registers a lt))
         (subst (λ t. RegistersStand o (slice_set registers a w) (if t then slice_set (with_registers m.registers writes) a byte else with_registers m.registers writes)) (sym here)
         new_stand)
         (subst (λ t. LessHolds (if t then slice_set (with_registers m.registers writes) a byte else with_registers m.registers writes) c (flag m.sreg 0)) (sym here)
@@ -248,7 +274,7 @@ module _ (m : State) (o : Origin) (k : NodeKey) (s : AbsState) (at : InBareFrame
     -- ---- SPL
 
     closed_lands : (n : ℕ) → closing_offset m.device k.inst.kind k.sp v ≡ Some n
-        → ArrivesWhere m o told guarded (stored m pc writes is_out SPL byte) (record { key = record key { sp = Closed n }; state = record state { slots = resized n s.slots } })
+        → ArrivesWhere may m o told guarded (stored m pc writes is_out SPL byte) (record { key = record key { sp = Closed n }; state = record state { slots = resized n s.slots } })
     closed_lands n e =
         let at_base : n ≤ o.base → 256 * high m.sp + byte + n ≡ o.base = closes m.device o at.base_word m.is_open m.sp byte n small v stands k.inst.kind k.sp e at.place.sp at.root in
         record {
@@ -257,7 +283,7 @@ module _ (m : State) (o : Origin) (k : NodeKey) (s : AbsState) (at : InBareFrame
             place = λ within.
                 record {
                   pc = pc_is;
-                  enables = enables_kept m.enables SPL byte at.machine.enable_bits spl_holds_none ∙ at.place.enables;
+                  enables = enables_stay SPL spl_holds_none;
                   i = at.place.i;
                   delay = no_delay is_out false (flag byte 7) (not (i_flag m)) refl;
                   sp = (refl, at_base within);
@@ -274,7 +300,7 @@ module _ (m : State) (o : Origin) (k : NodeKey) (s : AbsState) (at : InBareFrame
         }
 
     closed_written : (n : Option ℕ) → closing_offset m.device k.inst.kind k.sp v ≡ n → (closing m.device n key state k.pc).faults ≡ []
-        → ReachesNode m o told k guarded (stored m pc writes is_out SPL byte) (closing m.device n key state k.pc)
+        → ReachesNode may m o told k guarded (stored m pc writes is_out SPL byte) (closing m.device n key state k.pc)
     closed_written None e clean = absurd (cc)
     closed_written (Some n) e clean =
         chosen (stored m pc writes is_out SPL byte) (nat_le n (size_of m.device)) (one (record key { sp = Closed n }) (record state { slots = resized n s.slots })) (fails (TooDeep k.pc n))
@@ -283,7 +309,7 @@ module _ (m : State) (o : Origin) (k : NodeKey) (s : AbsState) (at : InBareFrame
     -- ---- SPH
 
     opened_lands : (h : High) → high_part k.inst.kind v ≡ Some h
-        → ArrivesWhere m o told guarded (stored m pc writes is_out SPH byte) (record { key = record key { sp = Open (offset_of k.sp) h }; state = state })
+        → ArrivesWhere may m o told guarded (stored m pc writes is_out SPH byte) (record { key = record key { sp = Open (offset_of k.sp) h }; state = state })
     opened_lands h e =
         let place = opened o k.inst.kind v byte h m.is_open m.sp k.sp at.base_word small e stands at.place.sp in
         record {
@@ -292,7 +318,7 @@ module _ (m : State) (o : Origin) (k : NodeKey) (s : AbsState) (at : InBareFrame
             place = λ within.
                 record {
                   pc = pc_is;
-                  enables = enables_kept m.enables SPH byte at.machine.enable_bits sph_holds_none ∙ at.place.enables;
+                  enables = enables_stay SPH sph_holds_none;
                   i = at.place.i;
                   delay = no_delay is_out false (flag byte 7) (not (i_flag m)) refl;
                   sp = place;
@@ -308,7 +334,7 @@ module _ (m : State) (o : Origin) (k : NodeKey) (s : AbsState) (at : InBareFrame
         }
 
     opened_written : (h : Option High) → high_part k.inst.kind v ≡ h → (opening h key state k.pc).faults ≡ []
-        → ReachesNode m o told k guarded (stored m pc writes is_out SPH byte) (opening h key state k.pc)
+        → ReachesNode may m o told k guarded (stored m pc writes is_out SPH byte) (opening h key state k.pc)
     opened_written None e clean = absurd (cc)
     opened_written (Some h) e clean = only (stored m pc writes is_out SPH byte) _ refl (opened_lands h e)
 
@@ -317,10 +343,10 @@ module _ (m : State) (o : Origin) (k : NodeKey) (s : AbsState) (at : InBareFrame
     abbrev flagged : AbsState
     flagged = put_flags state (flags_written v)
 
-    sreg_lands : (on : Bool) → flag byte 7 ≡ on → ArrivesWhere m o told guarded (stored m pc writes is_out SREG byte) (record { key = with_i key is_out on; state = flagged })
+    sreg_lands : (on : Bool) → flag byte 7 ≡ on → ArrivesWhere may m o told guarded (stored m pc writes is_out SREG byte) (record { key = with_i key is_out on; state = flagged })
     sreg_lands on is =
         frame_kept m o k s at told guarded (stored m pc writes is_out SREG byte) (record { key = with_i key is_out on; state = flagged }) refl refl refl refl refl pc_is
-        (enables_kept m.enables SREG byte at.machine.enable_bits sreg_holds_none ∙ at.place.enables) is
+        (enables_stay SREG sreg_holds_none) is
         (delay_is is_out (flag byte 7) (i_flag m) on k.i is at.place.i) stand (flags_stand o v byte stands) tt
         (λ held. writes_end_facts.holds (λ r. false) true true told (with_registers m.registers writes) (with_registers m.registers writes) m.sreg byte
         (record { kept = λ r other. refl; bytes = λ r inside. (stand r inside).small }) (record { carry_kept = λ e. absurd (let no = e in cc); others_kept = λ e. absurd (let no = e in cc) }) held)
@@ -331,12 +357,12 @@ module _ (m : State) (o : Origin) (k : NodeKey) (s : AbsState) (at : InBareFrame
     flag_one : bit_at byte 7 ≡ 1 → flag byte 7 ≡ true
     flag_one e = ap (λ x. x == 1) e
 
-    sreg_by : (t : Tri) → Permits t (bit_at byte 7) → ReachesNode m o told k guarded (stored m pc writes is_out SREG byte) (sreg_written t key flagged is_out)
-    sreg_by Zero may = only (stored m pc writes is_out SREG byte) _ refl (sreg_lands false (flag_zero may))
-    sreg_by One may = only (stored m pc writes is_out SREG byte) _ refl (sreg_lands true (flag_one may))
-    sreg_by Any may = either (flag byte 7) refl
+    sreg_by : (t : Tri) → Permits t (bit_at byte 7) → ReachesNode may m o told k guarded (stored m pc writes is_out SREG byte) (sreg_written t key flagged is_out)
+    sreg_by Zero can = only (stored m pc writes is_out SREG byte) _ refl (sreg_lands false (flag_zero can))
+    sreg_by One can = only (stored m pc writes is_out SREG byte) _ refl (sreg_lands true (flag_one can))
+    sreg_by Any can = either (flag byte 7) refl
       where
-        either : (on : Bool) → flag byte 7 ≡ on → ReachesNode m o told k guarded (stored m pc writes is_out SREG byte) (sreg_written Any key flagged is_out)
+        either : (on : Bool) → flag byte 7 ≡ on → ReachesNode may m o told k guarded (stored m pc writes is_out SREG byte) (sreg_written Any key flagged is_out)
         either true is =
             record {
               to = record { key = with_i key is_out true; state = flagged };
@@ -355,25 +381,19 @@ module _ (m : State) (o : Origin) (k : NodeKey) (s : AbsState) (at : InBareFrame
     -- ---- enable bits, and all other addresses
 
     masks_lands : AreSplitsWritten → (a : ℕ) → nat_lt a 0x20 ≡ false → (a == SPL) ≡ false → (a == SPH) ≡ false → (a == SREG) ≡ false
-        → ReachesNode m o told k guarded (stored m pc writes is_out a byte) (masks_written key state a v)
+        → ReachesNode may m o told k guarded (stored m pc writes is_out a byte) (masks_written key state a v)
     masks_lands members a beyond not_low not_high not_sreg =
         let left : ℕ = written_enables k.masks a byte in
-        record {
-          to = record { key = record key { masks = left }; state = state };
-          present = in_map (λ masks. record { key = record key { masks = masks }; state = state }) left (splits k.masks a v.bits)
-              (members k.masks a v.bits left record { byte = byte; small = small; member = stands.bits; left = refl });
-          inst = refl;
-          at_node = elsewhere a byte left registers s.flags.carry told (carries_are_ordered.same s.flags.carry) not_low not_high not_sreg (ap (λ x. written_enables x a byte) at.place.enables)
-              (changes_none a byte beyond) (less_still a byte beyond) (facts_still a byte beyond not_sreg);
-        }
+        split_lands a byte left v beyond not_low not_high not_sreg (members k.masks a v.bits left record { byte = byte; small = small; member = stands.bits; left = refl })
+        (written_both may m.enables k.masks a byte at.place.enables)
 
-    at_address : (a b : ℕ) (r : Raw) → (a == b) ≡ true → ReachesNode m o told k guarded (stored m pc writes is_out b byte) r
-        → ReachesNode m o told k guarded (stored m pc writes is_out a byte) r
-    at_address a b r e h = subst (λ x. ReachesNode m o told k guarded (stored m pc writes is_out x byte) r) (sym (eqb-true a b e)) h
+    at_address : (a b : ℕ) (r : Raw) → (a == b) ≡ true → ReachesNode may m o told k guarded (stored m pc writes is_out b byte) r
+        → ReachesNode may m o told k guarded (stored m pc writes is_out a byte) r
+    at_address a b r e h = subst (λ x. ReachesNode may m o told k guarded (stored m pc writes is_out x byte) r) (sym (eqb-true a b e)) h
 
     -- a byte that is written to a known address
     pub written : AreSplitsWritten → (a : ℕ) → (written_at m.device k.pc key state is_out a v).faults ≡ []
-        → ReachesNode m o told k guarded (stored m pc writes is_out a byte) (written_at m.device k.pc key state is_out a v)
+        → ReachesNode may m o told k guarded (stored m pc writes is_out a byte) (written_at m.device k.pc key state is_out a v)
     unfolding written_at
     written members a clean =
         let e = stored m pc writes is_out a byte in

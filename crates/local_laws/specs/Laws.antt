@@ -5,7 +5,7 @@ use Rattle.std.specs.Ordering.{nat_cmp}
 use Rattle.avr_model.specs.Devices.{device_of, words_of, size_of}
 use Rattle.avr_model.specs.declared.device.Device.{Device}
 use Rattle.avr_model.specs.declared.assumption.Entry.{Entry}
-use Rattle.avr_model.specs.Assumptions.{is_never}
+use Rattle.avr_model.specs.Assumptions.{is_never, has_masks}
 use Rattle.avr_model.specs.Sites.{instruction_at}
 use Rattle.avr_model.specs.State.{State, IsReset}
 use Rattle.avr_model.specs.Vectors.{is_enabled, vector_word}
@@ -37,7 +37,7 @@ use Rattle.local_rules.specs.Order.{IsBelowOne, IsBelow}
 -- The local part of a node covers each step of the machine there, with the flash of its own device, whose words have 16 bits.
 pub record LocalPartsCover : Type 0 where
   pub covered : {followed : Bool} (words : List ℕ) (A : List Entry) (m : State) (o : Origin) (k : NodeKey) (s : AbsState) (b1 b2 : ℕ) → AreWords words → m.device ≡ device_of words
-      → InFrameIn followed m o k s → b1 < 256 → b2 < 256 → CoversStep words A m o k b1 b2 (instruction_at words m.pc) (raw words A k s)
+      → InFrameIn followed (has_masks A) m o k s → b1 < 256 → b2 < 256 → CoversStep words A m o k b1 b2 (instruction_at words m.pc) (raw words A k s)
 
 -- each joined successor is below one of its key, the calls are among those, and the return is the same
 pub record IsLocalWithin (l m : Local) : Type 0 where
@@ -80,6 +80,11 @@ pub record LocalPartsAreNodes : Type 0 where
   pub nodes : {followed : Bool} (words : List ℕ) (A : List Entry) (k : NodeKey) (s : AbsState) (to : Node) → IsNodeIn followed k s → (raw words A k s).faults ≡ []
       → Contains (raw words A k s).moves to → (to.key.inst ≡ k.inst) × IsNodeIn followed to.key to.state
 
+-- A stack pointer that is half written behind an instruction has the offset that it had before it.
+pub record OpenPairsStay : Type 0 where
+  pub stays : (words : List ℕ) (A : List Entry) (k : NodeKey) (s : AbsState) (to : Node) (offset : ℕ) (high : High) → (raw words A k s).faults ≡ []
+      → Contains (raw words A k s).moves to → to.key.sp ≡ Open offset high → offset ≡ offset_of k.sp
+
 -- one of these nodes has this key
 abbrev pub HasKey : List Node → NodeKey → Type 0
 HasKey nodes k = (n : Node) × (Contains nodes n × (n.key ≡ k))
@@ -118,8 +123,8 @@ pub record OpenPairsHang : Type 0 where
 -- successor may lie deeper than the base.
 pub record StepsAreCovered : Type 0 where
   pub defined : {followed : Bool} (words : List ℕ) (A : List Entry) (m : State) (o : Origin) (k : NodeKey) (s : AbsState) (l : Local) (b1 b2 pc : ℕ)
-      → AreWords words → m.device ≡ device_of words → InFrameIn followed m o k s → b1 < 256 → b2 < 256 → local words A k s ≡ Ok l → step words A m (Go b1 b2) ≢ Undefined pc
+      → AreWords words → m.device ≡ device_of words → InFrameIn followed (has_masks A) m o k s → b1 < 256 → b2 < 256 → local words A k s ≡ Ok l → step words A m (Go b1 b2) ≢ Undefined pc
   pub done : {followed : Bool} (words : List ℕ) (A : List Entry) (m n : State) (o : Origin) (k : NodeKey) (s : AbsState) (l : Local) (b1 b2 : ℕ)
-      → AreWords words → m.device ≡ device_of words → InFrameIn followed m o k s → b1 < 256 → b2 < 256 → local words A k s ≡ Ok l
+      → AreWords words → m.device ≡ device_of words → InFrameIn followed (has_masks A) m o k s → b1 < 256 → b2 < 256 → local words A k s ≡ Ok l
       → ((to : Node) → Contains l.same to → IsWithinBase o.base to.key.sp)
-      → step words A m (Go b1 b2) ≡ Done n → IsStep m o k b1 b2 l n
+      → step words A m (Go b1 b2) ≡ Done n → IsStep (has_masks A) m o k b1 b2 l n

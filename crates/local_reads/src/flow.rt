@@ -9,7 +9,7 @@ ghost use Rattle.bit_domain.specs.declared.bits.Tri.TheVariants.{Any};
 ghost use Rattle.local_rules.specs.Registers as registers;
 ghost use Rattle.local_rules.specs.Raw as raw;
 ghost use Rattle.local_rules.specs.Reads as reads;
-ghost use Rattle.local_rules.specs.Flow.{words_on};
+ghost use Rattle.local_rules.specs.Flow.{words_on, reading_zero};
 
 use crate::reads::read_at;
 use abs_state::AbsState;
@@ -18,7 +18,8 @@ use avr_model::instruction::{Base, Bit, LowPort, Register, Six};
 use bit_domain::{Tri, TriByte};
 use local_rows::registers::{bits, pair};
 use local_rows::transfer::base_register;
-use mask_states::NodeKey;
+use mask_states::{NodeKey, without};
+use vector_table::enable_of;
 
 // The data address of I/O address 0.
 const IO_START: u16 = 0x20;
@@ -38,13 +39,31 @@ pub fn port(address: Six) -> u16
     address.get() + IO_START
 }
 
-/// A bit of an I/O address, which `sbic` and `sbis` test.
-pub fn port_bit(device: Device, key: &NodeKey, state: &AbsState, address: LowPort, bit: Bit) -> Tri
-    ensures { result ≡ tri_at (reads.read_at device key.now state.now (effects.port address)).bits bit }
+/// A bit of an I/O address, which `sbic` and `sbis` test. The key says what is enabled, or what may be (`may`).
+pub fn port_bit(
+    device: Device,
+    may: bool,
+    key: &NodeKey,
+    state: &AbsState,
+    address: LowPort,
+    bit: Bit,
+) -> Tri
+    ensures { result ≡ tri_at (reads.read_at device may key.now state.now (effects.port address)).bits bit }
 {
-    read_at(device, key, state, port(address.widened()))
+    read_at(device, may, key, state, port(address.widened()))
         .bits
         .bit(bit.get() as u8)
+}
+
+/// The key where this bit of an I/O address reads 0: without the vector that it enables, where the key says what may be enabled (`may`).
+pub fn reading_zero(may: bool, key: &NodeKey, address: LowPort, bit: Bit) -> NodeKey
+    ensures { result ≡ reading_zero may key.now (effects.port address) bit }
+{
+    let vector = enable_of(port(address.widened()), bit.get() as u8);
+    NodeKey {
+        masks: without(may, vector, key.masks),
+        ..*key
+    }
 }
 
 /// A bit of a register, which `sbrc` and `sbrs` test.

@@ -2,21 +2,14 @@
 
 ghost use Rattle.std.specs.Prelude.{◌≡◌, IfOk, IfErr};
 ghost use Rattle.local_rules.specs.declared.local.NodeFault.TheVariants.{Memory};
-ghost use Rattle.local_rules.specs.Local.{may_be, picks};
+ghost use Rattle.local_rules.specs.Local.{picks};
 
-use crate::pointers::has;
-use abs_state::{AbsByte, AbsState};
+use crate::members::may_be;
+use abs_state::AbsState;
 use avr_model::instruction::Register;
 use local_rows::registers::value;
 use local_rules::local::NodeFault;
 use std::alloc::Global;
-
-// Whether the value may be this byte: its bits permit it, and it lies in the range.
-fn may_be(value: AbsByte, byte: u8) -> bool
-    ensures { result ≡ may_be value byte }
-{
-    has(value.bits, byte) && value.low <= byte && byte <= value.high
-}
 
 /// The bytes that r30 may hold, ascending.
 pub fn picks(alloc: Global, state: &AbsState) -> Result<Vec<u8>, NodeFault>

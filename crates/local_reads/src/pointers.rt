@@ -56,10 +56,10 @@ pub fn point(state: &AbsState, r: LowRegister, up: u16) -> Pointed
 }
 
 // What is read at a number: of a register or I/O the bits alone, and of a slot its range too, without a tag.
-fn read_number(device: Device, key: &NodeKey, state: &AbsState, address: u16) -> AbsByte
-    ensures { result ≡ read_number device key.now state.now address }
+fn read_number(device: Device, may: bool, key: &NodeKey, state: &AbsState, address: u16) -> AbsByte
+    ensures { result ≡ read_number device may key.now state.now address }
 {
-    let read = read_at(device, key, state, address);
+    let read = read_at(device, may, key, state, address);
     if address <= BELOW {
         AbsByte::untagged(read.bits)
     } else {
@@ -70,17 +70,19 @@ fn read_number(device: Device, key: &NodeKey, state: &AbsState, address: u16) ->
     }
 }
 
-/// What a read through a pointer gives: None where it can't be. A slot that isn't there is read by the number alone.
+/// What a read through a pointer gives: None where it can't be. A slot that isn't there is read by the number alone. The key says what is
+/// enabled, or what may be (`may`).
 pub fn read_pointed(
     device: Device,
+    may: bool,
     key: &NodeKey,
     state: &AbsState,
     pointed: Pointed,
 ) -> Option<AbsByte>
-    ensures { result ≡ reads.read_pointed device key.now state.now pointed }
+    ensures { result ≡ reads.read_pointed device may key.now state.now pointed }
 {
     let number = match pointed.constant {
-        Some(address) => Some(read_number(device, key, state, address)),
+        Some(address) => Some(read_number(device, may, key, state, address)),
         None => None,
     };
     match pointed.frame {

@@ -1,9 +1,10 @@
 //! What is known of a byte that is read from data space at a known address.
 
 ghost use Rattle.std.specs.Prelude.{◌≡◌};
+ghost use Rattle.std.specs.Int.{from_bool};
 ghost use Rattle.avr_model.specs.Vectors.{enable_of};
 ghost use Rattle.sp_domain.specs.Slots.{slot_at};
-ghost use Rattle.local_rules.specs.Reads.{io_tri, io_bits, value_of, slot_read, read_at};
+ghost use Rattle.local_rules.specs.Reads.{enable_read, io_tri, io_bits, value_of, slot_read, read_at};
 
 use crate::stack_pointer::sp_bytes;
 use abs_state::{AbsByte, AbsState};
@@ -17,23 +18,33 @@ use mask_states::{Kind, NodeKey};
 use sp_domain::Slot;
 use vector_table::{Masks, enable_of};
 
+// An enable bit is the key's. Where the key says what may be enabled (`may`), it is 0 or unknown.
+fn enable_read(may: bool, on: bool) -> Tri
+    ensures { result ≡ enable_read may (from_bool on) }
+{
+    if !may {
+        return tri_of(on);
+    }
+    if on { Tri::Any } else { Tri::Zero }
+}
+
 // One bit of an I/O address: an enable bit comes from the key, and no other one is known.
-fn io_tri(masks: Masks, address: u16, bit: u8) -> Tri
-    ensures { result ≡ io_tri (enable_of address bit) masks }
+fn io_tri(may: bool, masks: Masks, address: u16, bit: u8) -> Tri
+    ensures { result ≡ io_tri may (enable_of address bit) masks }
 {
     match enable_of(address, bit) {
-        Some(vector) => tri_of(masks.has(vector)),
+        Some(vector) => enable_read(may, masks.has(vector)),
         None => Tri::Any,
     }
 }
 
 // The bits of an I/O address.
-pub(crate) fn io_bits(masks: Masks, address: u16) -> TriByte
-    ensures { result ≡ io_bits masks address }
+pub(crate) fn io_bits(may: bool, masks: Masks, address: u16) -> TriByte
+    ensures { result ≡ io_bits may masks address }
 {
     let mut bits = TriByte::any();
     for bit in 0..8u8 {
-        bits = bits.with(bit, io_tri(masks, address, bit));
+        bits = bits.with(bit, io_tri(may, masks, address, bit));
     }
     bits
 }
@@ -60,17 +71,17 @@ fn slot_read(device: Device, kind: Kind, state: &AbsState, address: u16) -> AbsB
     }
 }
 
-/// What a read of a data address gives.
+/// What a read of a data address gives, at a node whose key says what is enabled, or what may be (`may`).
 #[tactic(auto, unfolding(local_rules::specs::Reads::read_at))]
-pub fn read_at(device: Device, key: &NodeKey, state: &AbsState, address: u16) -> AbsByte
-    ensures { result ≡ read_at device key.now state.now address }
+pub fn read_at(device: Device, may: bool, key: &NodeKey, state: &AbsState, address: u16) -> AbsByte
+    ensures { result ≡ read_at device may key.now state.now address }
 {
     match address {
         0..REGISTERS_END => value(state, Register::new(address)),
         SPL => sp_bytes(device, key.inst.kind, key.sp).0,
         SPH => sp_bytes(device, key.inst.kind, key.sp).1,
         SREG => sreg_value(key, state),
-        0..=BELOW => AbsByte::untagged(io_bits(key.masks, address)),
+        0..=BELOW => AbsByte::untagged(io_bits(may, key.masks, address)),
         _ => slot_read(device, key.inst.kind, state, address),
     }
 }

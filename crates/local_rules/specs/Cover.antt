@@ -7,8 +7,9 @@ use Rattle.avr_model.specs.declared.instruction.Instr.{Instr}
 use Rattle.avr_model.specs.Devices.{size_of, ramend, wrapped}
 use Rattle.avr_model.specs.Image.{WORDS}
 use Rattle.avr_model.specs.Sreg.{flag}
+use Rattle.avr_model.specs.Assumptions.{has_masks}
 use Rattle.avr_model.specs.Sites.{is_scratch}
-use Rattle.avr_model.specs.State.{State, SIZE, plus16}
+use Rattle.avr_model.specs.State.{State, SIZE, BELOW, plus16}
 use Rattle.avr_model.specs.Effects.{effect_of, calling, popped_word}
 use Rattle.avr_model.specs.Step.{after, all_inside, protected_write, unlisted_transfer}
 use Rattle.sp_domain.specs.Tags.{Origin, LessHolds, HasByteNumbers}
@@ -27,7 +28,7 @@ use Rattle.mask_states.specs.declared.keys.High.TheVariants.{Known, Tag}
 use Rattle.mask_states.specs.declared.keys.SpForm.{SpForm}
 use Rattle.mask_states.specs.declared.keys.SpForm.TheVariants.{Closed, Open}
 use Rattle.mask_states.specs.Keys.{offset_of, PickFits}
-use Rattle.mask_states.specs.Place.{AtNode}
+use Rattle.mask_states.specs.Place.{EnablesAre, AtNode}
 use Rattle.local_rules.specs.declared.local.Node.{Node}
 use Rattle.local_rules.specs.declared.local.Local.{Local}
 use Rattle.local_rules.specs.declared.local.CallSite.{CallSite}
@@ -85,15 +86,16 @@ IsNode k s = IsNodeIn false k s
 -- ---- where the machine is
 
 -- The machine is at the node, in a frame with this origin, the state stands for it, and what it says of pairs holds. The root's frame has the top
--- of the device's SRAM as its base.
-pub record InFrameIn (followed : Bool) (m : State) (o : Origin) (k : NodeKey) (s : AbsState) : Type 0 where
+-- of the device's SRAM as its base. Where keys say what may be enabled, the frame's slots lie in SRAM or above it, so that none is an enable bit.
+pub record InFrameIn (followed may : Bool) (m : State) (o : Origin) (k : NodeKey) (s : AbsState) : Type 0 where
   pub machine : IsMachine m
   pub node : IsNodeIn followed k s
-  pub place : AtNode o.base m k
+  pub place : AtNode may o.base m k
   pub stands : Stands o s m
   pub facts : HoldsAt s.facts m.registers m.sreg
   pub root : k.inst.kind ≡ Root → o.base ≡ ramend m.device
   pub base_word : o.base < 65536
+  pub room : may ≡ true → offset_of k.sp + BELOW ≤ o.base
 
 -- a closed offset is at most the base, and then also leaves the stack pointer in SRAM
 abbrev pub IsWithinBase : ℕ → SpForm → Type 0
@@ -113,9 +115,9 @@ pub record IsUnflagged (words : List ℕ) (A : List Entry) (m : State) (instr : 
   pub listed : unlisted_transfer A m.pc instr e ≡ None
 
 -- after the effect the machine is at the node, in a frame with this origin, and the node's state stands for it
-pub record ArrivesAt (m : State) (o : Origin) (guarded : Bool) (e : Effect) (to : Node) : Type 0 where
+pub record ArrivesAt (may : Bool) (m : State) (o : Origin) (guarded : Bool) (e : Effect) (to : Node) : Type 0 where
   pub inside : HasRoom m.device o.base to.key.sp → all_inside m.device e.pushes ≡ true
-  pub place : IsWithinBase o.base to.key.sp → AtNode o.base (after m guarded e) to.key
+  pub place : IsWithinBase o.base to.key.sp → AtNode may o.base (after m guarded e) to.key
   pub registers : RegistersStand o to.state.registers (after m guarded e).registers
   pub flags : FlagsStand o to.state.flags (after m guarded e).sreg
   pub less : LessHolds (after m guarded e).registers to.state.flags.carry (flag (after m guarded e).sreg 0)
@@ -125,24 +127,24 @@ pub record ArrivesAt (m : State) (o : Origin) (guarded : Bool) (e : Effect) (to 
       → SlotsStand o (after m guarded e).memory to.state.slots
 
 -- the effect is a return with this exit: it goes to the popped word, and keeps registers, flags 0 to 6 and memory
-pub record IsReturn (m : State) (b1 b2 : ℕ) (x : Exit) (e : Effect) : Type 0 where
+pub record IsReturn (may : Bool) (m : State) (b1 b2 : ℕ) (x : Exit) (e : Effect) : Type 0 where
   pub pc : e.pc ≡ wrapped m.device (popped_word m b1 b2)
   pub registers : e.registers ≡ []
   pub flags : e.sreg % 128 ≡ m.sreg % 128
   pub i : flag e.sreg 7 ≡ x.i
   pub sp : e.sp ≡ plus16 m.sp 2
   pub closed : e.is_open ≡ false
-  pub enables : e.enables ≡ x.masks
+  pub enables : EnablesAre may e.enables x.masks
   pub stores : e.stores ≡ []
   pub pushes : e.pushes ≡ []
   pub delay : e.delay ≡ x.delay
 
 -- the effect is covered: by a node of the same instance, by a call, or by the return
-pub data Follows (m : State) (o : Origin) (k : NodeKey) (guarded : Bool) (b1 b2 : ℕ) (e : Effect) (r : Raw) : Type 0 where
-  stays : (to : Node) → Contains r.moves to → to.key.inst ≡ k.inst → ArrivesAt m o guarded e to → Follows m o k guarded b1 b2 e r
+pub data Follows (may : Bool) (m : State) (o : Origin) (k : NodeKey) (guarded : Bool) (b1 b2 : ℕ) (e : Effect) (r : Raw) : Type 0 where
+  stays : (to : Node) → Contains r.moves to → to.key.inst ≡ k.inst → ArrivesAt may m o guarded e to → Follows may m o k guarded b1 b2 e r
   calls : (offset : ℕ) (site : CallSite) → Contains r.calls site → k.sp ≡ Closed offset → guarded ≡ true → e ≡ calling m site.entry site.back
-      → Follows m o k guarded b1 b2 e r
-  leaves : (x : Exit) → r.exit ≡ Some x → k.inst.kind ≢ Root → k.sp ≡ Closed 0 → IsReturn m b1 b2 x e → Follows m o k guarded b1 b2 e r
+      → Follows may m o k guarded b1 b2 e r
+  leaves : (x : Exit) → r.exit ≡ Some x → k.inst.kind ≢ Root → k.sp ≡ Closed 0 → IsReturn may m b1 b2 x e → Follows may m o k guarded b1 b2 e r
 
 -- Where the local part has no fault, there is an instruction, and its effect is covered unless it is flagged for a protected address or an
 -- unlisted word.
@@ -150,13 +152,13 @@ abbrev pub CoversStep : List ℕ → List Entry → State → Origin → NodeKey
 CoversStep words A m o k b1 b2 None r = r.faults ≡ [] → ⊥
 CoversStep words A m o k b1 b2 (Some instr) r =
     r.faults ≡ [] → IsUnflagged words A m instr (effect_of words m instr b1 b2)
-    → Follows m o k (not (is_scratch words m.pc)) b1 b2 (effect_of words m instr b1 b2) r
+    → Follows (has_masks A) m o k (not (is_scratch words m.pc)) b1 b2 (effect_of words m instr b1 b2) r
 
 -- a step of the machine is one that the local part has
-pub data IsStep (m : State) (o : Origin) (k : NodeKey) (b1 b2 : ℕ) (l : Local) (n : State) : Type 0 where
-  stays : (to : Node) → Contains l.same to → to.key.inst ≡ k.inst → AtNode o.base n to.key → Stands o to.state n → HoldsAt to.state.facts n.registers n.sreg
-      → IsStep m o k b1 b2 l n
+pub data IsStep (may : Bool) (m : State) (o : Origin) (k : NodeKey) (b1 b2 : ℕ) (l : Local) (n : State) : Type 0 where
+  stays : (to : Node) → Contains l.same to → to.key.inst ≡ k.inst → AtNode may o.base n to.key → Stands o to.state n → HoldsAt to.state.facts n.registers n.sreg
+      → IsStep may m o k b1 b2 l n
   calls : (offset : ℕ) (site : CallSite) → Contains l.calls site → k.sp ≡ Closed offset → n ≡ after m true (calling m site.entry site.back)
-      → IsStep m o k b1 b2 l n
-  leaves : (x : Exit) (guarded : Bool) (e : Effect) → l.exit ≡ Some x → k.inst.kind ≢ Root → k.sp ≡ Closed 0 → IsReturn m b1 b2 x e
-      → n ≡ after m guarded e → IsStep m o k b1 b2 l n
+      → IsStep may m o k b1 b2 l n
+  leaves : (x : Exit) (guarded : Bool) (e : Effect) → l.exit ≡ Some x → k.inst.kind ≢ Root → k.sp ≡ Closed 0 → IsReturn may m b1 b2 x e
+      → n ≡ after m guarded e → IsStep may m o k b1 b2 l n

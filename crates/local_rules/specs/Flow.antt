@@ -6,6 +6,7 @@ use Rattle.avr_model.specs.Devices.{size_of, width}
 use Rattle.avr_model.specs.Image.{word_at}
 use Rattle.avr_model.specs.Table.{length_of}
 use Rattle.avr_model.specs.Assumptions.{jump_line, lists}
+use Rattle.avr_model.specs.Vectors.{enable_of}
 use Rattle.bit_domain.specs.declared.bits.Tri.{Tri}
 use Rattle.bit_domain.specs.declared.bits.Tri.TheVariants.{Zero, One, Any}
 use Rattle.bit_domain.specs.declared.bytes.TriByte.{TriByte}
@@ -23,6 +24,7 @@ use Rattle.mask_states.specs.declared.keys.Kind.{Kind}
 use Rattle.mask_states.specs.declared.keys.Kind.TheVariants.{Root, Call, Vector}
 use Rattle.mask_states.specs.declared.keys.SpForm.{SpForm}
 use Rattle.mask_states.specs.declared.keys.SpForm.TheVariants.{Closed, Open}
+use Rattle.mask_states.specs.Wakes.{without}
 use Rattle.local_rules.specs.declared.local.CallSite.{CallSite}
 use Rattle.local_rules.specs.declared.local.Exit.{Exit}
 use Rattle.local_rules.specs.declared.local.NodeFault.TheVariants.{UnresolvedJump, UntrackedSp, TooDeep}
@@ -32,15 +34,23 @@ use Rattle.local_rules.specs.Reads.{value_of}
 
 -- ---- branches and skips
 
--- one successor where the condition is known, else two; the state tells nothing of the condition
-abbrev pub branch : Tri → NodeKey → AbsState → ℕ → ℕ → Raw
-branch One k s taken other = turning_to k s taken
-branch Zero k s taken other = turning_to k s other
-branch Any k s taken other = moves_to (record { key = off_table k other; state = s } ∷ record { key = off_table k taken; state = s } ∷ [])
+-- one successor where the condition is known, else two, each with its key; the state tells nothing of the condition
+abbrev pub branch_by : Tri → NodeKey → NodeKey → AbsState → ℕ → ℕ → Raw
+branch_by One k l s taken other = turning_to k s taken
+branch_by Zero k l s taken other = turning_to l s other
+branch_by Any k l s taken other = moves_to (record { key = off_table l other; state = s } ∷ record { key = off_table k taken; state = s } ∷ [])
 
--- past the next instruction, of one word or two
-abbrev pub skipping : Device → List ℕ → NodeKey → AbsState → Tri → Raw
-skipping device words k s t = branch t k s (further device k (1 + length_of (word_at words (k.pc + 1)))) (further device k 1)
+abbrev pub branch : Tri → NodeKey → AbsState → ℕ → ℕ → Raw
+branch t k s taken other = branch_by t k k s taken other
+
+-- past the next instruction, of one word or two, with one key, and to it with the other
+abbrev pub skipping : Device → List ℕ → NodeKey → NodeKey → AbsState → Tri → Raw
+skipping device words k l s t = branch_by t k l s (further device k (1 + length_of (word_at words (k.pc + 1)))) (further device k 1)
+
+-- The key where this bit of an address reads 0. Where it is the enable bit of a vector, and the key says what may be enabled, that vector
+-- isn't.
+abbrev pub reading_zero : Bool → NodeKey → ℕ → ℕ → NodeKey
+reading_zero may k a b = record k { masks = without may (enable_of a b) k.masks }
 
 -- flag n, where I is in the key
 abbrev pub flag_at : NodeKey → AbsState → ℕ → Tri

@@ -2,7 +2,8 @@
 use Rattle.std.specs.Prelude.{ℕ, ◌≡◌, true, false, List, [], ◌∷◌, None, map, replicate, refl, slice_set}
 use Rattle.avr_model.specs.declared.assumption.Entry.{Entry}
 use Rattle.avr_model.specs.declared.assumption.Entry.TheVariants.{Prove, Free, Never, Frame}
-use Rattle.avr_model.specs.Assumptions.{store_line, is_proved, is_freed, is_never, is_frame, is_fixed_site}
+use Rattle.avr_model.specs.Assumptions.{store_line, is_proved, is_freed, is_never, is_frame, is_fixed_site, has_masks}
+use Rattle.avr_model.specs.Masks.{admits_enables}
 use Rattle.avr_model.specs.Bits.{any_below, all_below}
 use Rattle.avr_model.specs.Devices.{device_of}
 use Rattle.avr_model.specs.Sites.{is_scratch, is_fixed, path_behind, is_loaded_behind, table_site, ijmp_from}
@@ -26,6 +27,7 @@ use Rattle.local_rules.specs.declared.local.NodeFault.{NodeFault}
 use Rattle.local_rules.specs.declared.local.NodeFault.TheVariants.{UntrackedSp, UnknownPointer}
 use Rattle.local_rules.specs.Raw.{Raw}
 use Rattle.local_rules.specs.Registers.{with_bits}
+use Rattle.local_rules.specs.Writes.{may_wake}
 use Rattle.local_rules.specs.Local.{raw, may_come}
 
 -- ---- `frame` lines
@@ -154,7 +156,7 @@ unfolding raw table_site ijmp_from is_scratch is_fixed path_behind is_loaded_beh
 is_fixed_by_words = refl
 
 is_freed_there : leads (storing (Free 2 ∷ [])) ≡ (3 ∷ [], [])
-unfolding raw table_site ijmp_from is_scratch is_fixed path_behind is_loaded_behind is_proved is_freed is_fixed_site store_line any_below all_below decoded length_of device_of packed
+unfolding raw table_site ijmp_from is_scratch is_fixed path_behind is_loaded_behind is_proved is_freed is_fixed_site store_line any_below all_below decoded length_of device_of packed may_wake admits_enables has_masks
 is_freed_there = refl
 
 is_freed_elsewhere : leads (storing (Free 1 ∷ [])) ≡ ([], UnknownPointer 2 ∷ [])

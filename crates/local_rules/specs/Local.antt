@@ -18,7 +18,7 @@ use Rattle.avr_model.specs.Marks.{marks}
 use Rattle.avr_model.specs.Text.{far, near}
 use Rattle.avr_model.specs.Image.{word_at}
 use Rattle.avr_model.specs.Table.{length_of}
-use Rattle.avr_model.specs.Assumptions.{jump_line, is_never, is_frame}
+use Rattle.avr_model.specs.Assumptions.{jump_line, is_never, is_frame, has_masks}
 use Rattle.avr_model.specs.Bits.{any_below}
 use Rattle.avr_model.specs.Vectors.{is_enabled, vector_word}
 use Rattle.avr_model.specs.Sites.{instruction_at, is_scratch, table_site, base_register, pointer_register}
@@ -47,15 +47,16 @@ use Rattle.local_rules.specs.Faults.{least}
 use Rattle.local_rules.specs.Raw.{Raw, nowhere, fails, all_of, untracked_if, too_deep_if, at_word, next, further, going_to, going_on, setting}
 use Rattle.local_rules.specs.Registers.{value, bits, set, going_with, going_by, before, pair_copied, bit_loaded, bit_stored, product_row, wide_row, pair_moved, flag_row}
 use Rattle.local_rules.specs.FrameLines.{binary_at, immediate_at, unary_at}
+use Rattle.local_rules.specs.Permitted.{may_be}
 use Rattle.local_rules.specs.Reads.{read_at, pointed, pair_constant, read_pointed, flash_value}
 use Rattle.local_rules.specs.Writes.{written_at, pointer_write}
-use Rattle.local_rules.specs.Flow.{branch, skipping, flag_at, flag_branch, going_where, targets_at, jumping, at_closed, pushing, popping, relative_call, calling, indirect_call, returning, ret_exit, reti_exit}
+use Rattle.local_rules.specs.Flow.{branch, skipping, reading_zero, flag_at, flag_branch, going_where, targets_at, jumping, at_closed, pushing, popping, relative_call, calling, indirect_call, returning, ret_exit, reti_exit}
 
 -- ---- registers
 
 -- `cpse` skips where the registers are equal
 abbrev pub binary_row : Device → List ℕ → Bool → NodeKey → AbsState → BinaryOp → ℕ → ℕ → Raw
-binary_row device words line k s op d r = going_by device k s (binary_at line s op d r) (skipping device words k s (byte_equal (bits s d) (bits s r)))
+binary_row device words line k s op d r = going_by device k s (binary_at line s op d r) (skipping device words k k s (byte_equal (bits s d) (bits s r)))
 
 abbrev pub immediate_row : Device → Bool → NodeKey → AbsState → ImmediateOp → ℕ → ℕ → Raw
 immediate_row device line k s op d n = going_with device k s (immediate_at line s op d n)
@@ -90,8 +91,8 @@ abbrev pub loading : Device → NodeKey → AbsState → List AbsByte → ℕ �
 loading device k s registers d None = nowhere
 loading device k s registers d (Some v) = setting device k s (slice_set registers d v) s.flags
 
-abbrev pub load_row : Device → NodeKey → AbsState → ℕ → Pointer → Raw
-load_row device k s d p = loading device k s (pointer_moved p s) d (read_pointed device k s (pointed s (pointer_register p) (step_before p)))
+abbrev pub load_row : Device → Bool → NodeKey → AbsState → ℕ → Pointer → Raw
+load_row device may k s d p = loading device k s (pointer_moved p s) d (read_pointed device may k s (pointed s (pointer_register p) (step_before p)))
 
 abbrev pub store_row : Device → List ℕ → List Entry → NodeKey → AbsState → Pointer → ℕ → Raw
 store_row device words A k s p r =
@@ -101,9 +102,9 @@ store_row device words A k s p r =
 abbrev pub std_row : Device → List ℕ → List Entry → NodeKey → AbsState → ℕ → ℕ → ℕ → Raw
 std_row device words A k s b q r = pointer_write device words A s b q (pointed s b q) k.pc (next device k) s (value s r)
 
--- one bit of an I/O address is turned on or off
+-- One bit of an I/O address is turned on or off. The other enable bits there stay, so the byte has them as the key does.
 abbrev pub bit_row : Device → NodeKey → AbsState → ℕ → ℕ → Bool → Raw
-bit_row device k s a b on = written_at device k.pc (next device k) s false a (untagged (byte_with (read_at device k s a).bits b (if on then One else Zero)))
+bit_row device k s a b on = written_at device k.pc (next device k) s false a (untagged (byte_with (read_at device false k s a).bits b (if on then One else Zero)))
 
 -- ---- the whole table, in three parts
 
@@ -123,27 +124,29 @@ flow_row device words A scratch k s (i.Brbs n t) =
 flow_row device words A scratch k s (i.Brbc n t) =
     flag_branch n k s (further device k 1) (wrapped device (near k.pc t))
     (branch (tri_not (flag_at k s n)) k s (wrapped device (near k.pc t)) (further device k 1))
-flow_row device words A scratch k s (i.Sbic a b) = skipping device words k s (tri_not (tri_at (read_at device k s (port a)).bits b))
-flow_row device words A scratch k s (i.Sbis a b) = skipping device words k s (tri_at (read_at device k s (port a)).bits b)
-flow_row device words A scratch k s (i.Sbrc r b) = skipping device words k s (tri_not (tri_at (bits s r) b))
-flow_row device words A scratch k s (i.Sbrs r b) = skipping device words k s (tri_at (bits s r) b)
+flow_row device words A scratch k s (i.Sbic a b) =
+    skipping device words (reading_zero (has_masks A) k (port a) b) k s (tri_not (tri_at (read_at device (has_masks A) k s (port a)).bits b))
+flow_row device words A scratch k s (i.Sbis a b) =
+    skipping device words k (reading_zero (has_masks A) k (port a) b) s (tri_at (read_at device (has_masks A) k s (port a)).bits b)
+flow_row device words A scratch k s (i.Sbrc r b) = skipping device words k k s (tri_not (tri_at (bits s r) b))
+flow_row device words A scratch k s (i.Sbrs r b) = skipping device words k k s (tri_at (bits s r) b)
 -- nop, sleep, break and wdr
 flow_row device words A scratch k s _ = going_on device k s
 
 -- loads, stores and I/O
 abbrev pub memory_row : Device → List ℕ → List Entry → Bool → NodeKey → AbsState → Instr → Raw
-memory_row device words A scratch k s (i.Ldd d b q) = loading device k s s.registers d (read_pointed device k s (pointed s (base_register b) q))
+memory_row device words A scratch k s (i.Ldd d b q) = loading device k s s.registers d (read_pointed device (has_masks A) k s (pointed s (base_register b) q))
 memory_row device words A scratch k s (i.Std b q r) = std_row device words A k s (base_register b) q r
-memory_row device words A scratch k s (i.Lds d a) = going_to k (record s { registers = set s d (read_at device k s a) }) (further device k 2)
+memory_row device words A scratch k s (i.Lds d a) = going_to k (record s { registers = set s d (read_at device (has_masks A) k s a) }) (further device k 2)
 memory_row device words A scratch k s (i.Sts a r) = written_at device k.pc (at_word k (further device k 2)) s false a (value s r)
-memory_row device words A scratch k s (i.Ld d p) = load_row device k s d p
+memory_row device words A scratch k s (i.Ld d p) = load_row device (has_masks A) k s d p
 memory_row device words A scratch k s (i.St p r) = store_row device words A k s p r
 memory_row device words A scratch k s (i.LpmZ d) = setting device k s (set s d (flash_value words (pair_constant s 30))) s.flags
 memory_row device words A scratch k s (i.LpmZPlus d) = setting device k s (slice_set (pair_moved s 30 true 1) d (flash_value words (pair_constant s 30))) s.flags
 memory_row device words A scratch k s i.Lpm = setting device k s (set s 0 (flash_value words (pair_constant s 30))) s.flags
 memory_row device words A scratch k s (i.Pop d) = at_closed k.sp k.pc (popping device k s d)
 memory_row device words A scratch k s (i.Push r) = at_closed k.sp k.pc (pushing device scratch k s r)
-memory_row device words A scratch k s (i.In d a) = setting device k s (set s d (read_at device k s (port a))) s.flags
+memory_row device words A scratch k s (i.In d a) = setting device k s (set s d (read_at device (has_masks A) k s (port a))) s.flags
 memory_row device words A scratch k s (i.Out a r) = written_at device k.pc (next device k) s true (port a) (value s r)
 memory_row device words A scratch k s (i.Cbi a b) = bit_row device k s (port a) b false
 memory_row device words A scratch k s (i.Sbi a b) = bit_row device k s (port a) b true
@@ -253,10 +256,6 @@ abbrev pub fetched : Device → List ℕ → ℕ → Option Instr
 fetched device words pc = if nat_lt pc (words_of device) then instruction_at words pc else None
 
 -- ---- jump tables
-
--- the bits permit the byte, and it lies in the range
-abbrev pub may_be : AbsByte → ℕ → Bool
-may_be v byte = (has v.bits byte && nat_le v.low byte) && nat_le byte v.high
 
 -- the numbers below n, ascending
 unfoldable pub below : ℕ → List ℕ

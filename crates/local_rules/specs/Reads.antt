@@ -7,7 +7,7 @@ use Rattle.avr_model.specs.Image.{byte_at}
 use Rattle.avr_model.specs.Vectors.{enable_of}
 use Rattle.avr_model.specs.State.{BELOW, SPL, SPH, SREG, low, high, plus16, minus16}
 use Rattle.bit_domain.specs.declared.bits.Tri.{Tri}
-use Rattle.bit_domain.specs.declared.bits.Tri.TheVariants.{Any}
+use Rattle.bit_domain.specs.declared.bits.Tri.TheVariants.{Zero, One, Any}
 use Rattle.bit_domain.specs.declared.bytes.TriByte.{TriByte}
 use Rattle.bit_domain.specs.Tri.{tri_bit}
 use Rattle.bit_domain.specs.TriByte.{byte_of, byte_any, byte_with, byte_constant}
@@ -61,13 +61,24 @@ flags_tag false = tag.None
 abbrev pub sreg_value : NodeKey → AbsState → AbsByte
 sreg_value k s = with_bits (flags_tag s.flags.entry) (byte_with s.flags.bits 7 (tri_bit (from_bool k.i)))
 
--- enable bits come from the key, and no other bit of I/O is known
-abbrev pub io_tri : Option ℕ → ℕ → Tri
-io_tri None masks = Any
-io_tri (Some v) masks = tri_bit (bit_at masks (v - 2))
+-- a bit that is 0 where it isn't among what may be 1, and else unknown
+abbrev pub loosened : Tri → Tri
+loosened Zero = Zero
+loosened One = Any
+loosened Any = Any
 
-abbrev pub io_bits : ℕ → ℕ → TriByte
-io_bits masks a = byte_of (λ b. io_tri (enable_of a b) masks)
+-- An enable bit is the key's; where the key says what may be enabled, it is 0 or unknown.
+abbrev pub enable_read : Bool → ℕ → Tri
+enable_read false bit = tri_bit bit
+enable_read true bit = loosened (tri_bit bit)
+
+-- enable bits come from the key, and no other bit of I/O is known
+abbrev pub io_tri : Bool → Option ℕ → ℕ → Tri
+io_tri may None masks = Any
+io_tri may (Some v) masks = enable_read may (bit_at masks (v - 2))
+
+abbrev pub io_bits : Bool → ℕ → ℕ → TriByte
+io_bits may masks a = byte_of (λ b. io_tri may (enable_of a b) masks)
 
 abbrev pub value_of : Slot AbsByte → AbsByte
 value_of Free = unknown
@@ -79,14 +90,14 @@ slot_read device Root s a = if nat_le a (ramend device) then value_of (slot_at s
 slot_read device Call s a = unknown
 slot_read device (Vector v) s a = unknown
 
--- what a read of a known address gives
-unfoldable pub read_at : Device → NodeKey → AbsState → ℕ → AbsByte
-read_at device k s a =
+-- what a read of a known address gives, at a node whose key says what is enabled, or what may be
+unfoldable pub read_at : Device → Bool → NodeKey → AbsState → ℕ → AbsByte
+read_at device may k s a =
     if nat_lt a 0x20 then value s a
     else (if a == SPL then sp_low device k.inst.kind k.sp
     else (if a == SPH then sp_high device k.inst.kind k.sp
     else (if a == SREG then sreg_value k s
-    else (if nat_le a BELOW then untagged (io_bits k.masks a)
+    else (if nat_le a BELOW then untagged (io_bits may k.masks a)
     else slot_read device k.inst.kind s a))))
 
 -- ---- through a pointer
@@ -117,27 +128,27 @@ pointed s r up =
     }
 
 -- by its number alone: without a tag, and of a register or I/O the bits alone; a slot keeps its range
-abbrev pub read_number : Device → NodeKey → AbsState → ℕ → AbsByte
-read_number device k s a = if nat_le a BELOW then untagged (read_at device k s a).bits else valued tag.None (set_of (read_at device k s a))
+abbrev pub read_number : Device → Bool → NodeKey → AbsState → ℕ → AbsByte
+read_number device may k s a = if nat_le a BELOW then untagged (read_at device may k s a).bits else valued tag.None (set_of (read_at device may k s a))
 
-abbrev pub read_constant : Device → NodeKey → AbsState → Option ℕ → AbsByte
-read_constant device k s None = unknown
-read_constant device k s (Some a) = read_number device k s a
+abbrev pub read_constant : Device → Bool → NodeKey → AbsState → Option ℕ → AbsByte
+read_constant device may k s None = unknown
+read_constant device may k s (Some a) = read_number device may k s a
 
 -- a slot, with what is known by the number; none where the two have no meet
-abbrev pub read_both : Device → NodeKey → AbsState → Option ℕ → AbsByte → Option AbsByte
-read_both device k s None v = Some v
-read_both device k s (Some a) v = with_tag v.tag (set_meet (set_of (read_number device k s a)) (set_of v))
+abbrev pub read_both : Device → Bool → NodeKey → AbsState → Option ℕ → AbsByte → Option AbsByte
+read_both device may k s None v = Some v
+read_both device may k s (Some a) v = with_tag v.tag (set_meet (set_of (read_number device may k s a)) (set_of v))
 
 -- A slot that isn't there is read by the number alone.
-abbrev pub read_frame : Device → NodeKey → AbsState → Option ℕ → Option ℕ → Option AbsByte
-read_frame device k s constant None = Some (read_constant device k s constant)
-read_frame device k s constant (Some d) =
-    if nat_lt d (length s.slots) then read_both device k s constant (value_of (slot_at s.slots d)) else Some (read_constant device k s constant)
+abbrev pub read_frame : Device → Bool → NodeKey → AbsState → Option ℕ → Option ℕ → Option AbsByte
+read_frame device may k s constant None = Some (read_constant device may k s constant)
+read_frame device may k s constant (Some d) =
+    if nat_lt d (length s.slots) then read_both device may k s constant (value_of (slot_at s.slots d)) else Some (read_constant device may k s constant)
 
 -- what a read through a pointer gives; none where it can't be
-abbrev pub read_pointed : Device → NodeKey → AbsState → Pointed → Option AbsByte
-read_pointed device k s p = read_frame device k s p.constant p.frame
+abbrev pub read_pointed : Device → Bool → NodeKey → AbsState → Pointed → Option AbsByte
+read_pointed device may k s p = read_frame device may k s p.constant p.frame
 
 -- the byte of flash at a known address, on the device of these words
 abbrev pub flash_value : List ℕ → Option ℕ → AbsByte

@@ -1,9 +1,10 @@
 -- What a byte that is written to data space changes. Source: own.
-use Rattle.std.specs.Prelude.{ℕ, ◌+◌, ◌*◌, ◌-◌, ◌%◌, ◌==◌, ◌&&◌, Bool, true, false, not, nat_lt, nat_le, if◌then◌else◌, List, [], ◌∷◌, map, filter, Option, Some, None, slice_set}
+use Rattle.std.specs.Prelude.{ℕ, ◌+◌, ◌*◌, ◌-◌, ◌%◌, ◌==◌, ◌&&◌, Bool, true, false, not, nat_lt, nat_le, if◌then◌else◌, List, [], ◌∷◌, ◌++◌, map, filter, Option, Some, None, slice_set}
 use Rattle.avr_model.specs.declared.device.Device.{Device}
 use Rattle.avr_model.specs.declared.assumption.Entry.{Entry}
 use Rattle.avr_model.specs.Devices.{size_of, ramend}
 use Rattle.avr_model.specs.Assumptions.{store_line, is_fixed_site}
+use Rattle.avr_model.specs.Masks.{admits_enables}
 use Rattle.avr_model.specs.State.{SPL, SPH, SREG, low, high, minus16}
 use Rattle.bit_domain.specs.declared.bits.Tri.{Tri}
 use Rattle.bit_domain.specs.declared.bits.Tri.TheVariants.{Zero, One, Any}
@@ -24,6 +25,8 @@ use Rattle.mask_states.specs.declared.keys.High.{High}
 use Rattle.mask_states.specs.declared.keys.High.TheVariants.{Known, Tag as Tagged}
 use Rattle.mask_states.specs.Keys.{offset_of}
 use Rattle.mask_states.specs.Splits.{splits}
+use Rattle.mask_states.specs.Wakes.{may_enable_other, widened}
+use Rattle.local_rules.specs.Permitted.{permits_number}
 use Rattle.local_rules.specs.declared.local.NodeFault.TheVariants.{UntrackedSp, TooDeep, UnknownPointer}
 use Rattle.local_rules.specs.Raw.{Raw, moves_to, one, fails, all_of}
 use Rattle.abs_state.specs.Ended.{ended, written_hull}
@@ -146,9 +149,26 @@ fixed_write device (Some a) pc k s v = written_at device pc k s false a v
 abbrev pub listed_writes : Device → ℕ → NodeKey → AbsState → List ℕ → AbsByte → Raw
 listed_writes device pc k s addresses v = all_of (one k s ∷ map (λ a. written_at device pc k s false a v) addresses)
 
+-- the pointer is known to be a slot of the running frame
+abbrev pub is_own_slot : Option ℕ → ℕ → Bool
+is_own_slot None offset = false
+is_own_slot (Some d) offset = nat_lt d offset
+
+-- The byte may be meant for the enable bit of a vector that isn't barred: the line `masks` admits the site, the pointer isn't known to be a
+-- slot of the running frame, and permits an address at which the byte may have 1 at such a bit.
+unfoldable pub may_wake : Device → List Entry → AbsState → ℕ → ℕ → Pointed → ℕ → NodeKey → AbsByte → Bool
+may_wake device A was r up p pc k v =
+    admits_enables A pc && not (is_own_slot p.frame (offset_of k.sp))
+    && may_enable_other device A (λ a. permits_number was r (minus16 a up)) v.bits
+
+-- one successor more, in which each vector that isn't barred may be enabled: it doesn't go by the state
+abbrev pub waking : Bool → Device → List Entry → NodeKey → AbsState → Raw → Raw
+waking false device A k s r = r
+waking true device A k s r = record r { moves = r.moves ++ record { key = record k { masks = widened device A k.masks }; state = s } ∷ [] }
+
 -- A byte v is stored through registers r and r + 1 plus a number, as they were in the state `was`.
 abbrev pub pointer_write : Device → List ℕ → List Entry → AbsState → ℕ → ℕ → Pointed → ℕ → NodeKey → AbsState → AbsByte → Raw
 pointer_write device words A was r up p pc k s v =
     if is_fixed_site words A pc
     then fixed_write device p.constant pc k s v
-    else listed_writes device pc k s (filter (λ a. reaches was r up a) (store_line A pc)) v
+    else waking (may_wake device A was r up p pc k v) device A k s (listed_writes device pc k s (filter (λ a. reaches was r up a) (store_line A pc)) v)

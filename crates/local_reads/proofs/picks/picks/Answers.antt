@@ -1,6 +1,7 @@
 use Rattle.std.proofs.Common.{◌≡◌, ◌∙◌, sym, ap, rules, ℕ, Bool, List, [], ◌∷◌, ◌++◌}
 use Rattle.local_rules.specs.Registers.{value}
-use Rattle.local_rules.specs.Local.{below, may_be}
+use Rattle.local_rules.specs.Local.{below}
+use Rattle.local_rules.specs.Permitted.{may_be}
 use Rattle.local_reads.proofs.Picked.{passes_next, stops_next}
 use Rattle.local_reads.proofs.picks.picks.Goals as goal
 use Rattle.local_reads.proofs.picks.picks.Goals.{then-may_be+else-is_err, else-may_be}

@@ -1,6 +1,7 @@
 use Rattle.std.proofs.Common.{◌≡◌, filter}
 use Rattle.local_rules.specs.Registers.{value}
-use Rattle.local_rules.specs.Local.{below, may_be}
+use Rattle.local_rules.specs.Local.{below}
+use Rattle.local_rules.specs.Permitted.{may_be}
 use Rattle.local_reads.proofs.picks.picks.Given as goal
 
 abbrev pub invariant-loop-byte : goal.invariant-loop-byte

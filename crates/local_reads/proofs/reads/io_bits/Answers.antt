@@ -7,9 +7,9 @@ use Rattle.local_reads.proofs.reads.io_bits.Goals as goal
 
 pub loop-bit-preserved : goal.loop-bit-preserved
 loop-bit-preserved c =
-    one_more c.loop-bit.bits c.with-bits.result c.loop-bit.bit c.io_tri.result (λ i. io_tri (enable_of c.args.address i) c.args.masks) c.loop-bit-test.true
+    one_more c.loop-bit.bits c.with-bits.result c.loop-bit.bit c.io_tri.result (λ i. io_tri c.args.may (enable_of c.args.address i) c.args.masks) c.loop-bit-test.true
     c.loop-bit.invariant c.io_tri.ensures c.with-bits.ensures
 
 pub returns : goal.returns
 returns c =
-    bytes_are_their_bits.built c.loop-bit.bits (λ i. io_tri (enable_of c.args.address i) c.args.masks) (λ i lt. c.loop-bit.invariant i (omega arith))
+    bytes_are_their_bits.built c.loop-bit.bits (λ i. io_tri c.args.may (enable_of c.args.address i) c.args.masks) (λ i lt. c.loop-bit.invariant i (omega arith))

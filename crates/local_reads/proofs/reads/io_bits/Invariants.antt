@@ -6,4 +6,4 @@ use Rattle.local_reads.proofs.reads.io_bits.Given as goal
 
 -- the bits so far are those of the address
 abbrev pub invariant-loop-bit : goal.invariant-loop-bit
-invariant-loop-bit l = (i : ℕ) → i < l.bit → tri_at l.bits i ≡ io_tri (enable_of l.address i) l.masks
+invariant-loop-bit l = (i : ℕ) → i < l.bit → tri_at l.bits i ≡ io_tri l.may (enable_of l.address i) l.masks

@@ -1,0 +1,57 @@
+//! Stores through a pointer that may enable a vector.
+
+ghost use Rattle.std.specs.Prelude.{◌≡◌};
+ghost use Rattle.avr_model.specs.State.{minus16};
+ghost use Rattle.avr_model.specs.Vectors.{row_of};
+ghost use Rattle.mask_states.specs.Wakes.{may_enable_other};
+ghost use Rattle.local_rules.specs.Permitted as permitted;
+ghost use Rattle.local_reads.specs.Waking.{may_enable_reached};
+
+use crate::members::permits_number;
+use abs_state::AbsState;
+use avr_model::device::Device;
+use avr_model::instruction::LowRegister;
+use bit_domain::{Tri, TriByte};
+use vector_table::{Assumptions, is_barred, row};
+
+/// A byte that is stored through a pointer.
+#[derive(Clone, Copy)]
+pub struct PointerByte<'a> {
+    /// The device.
+    pub device: Device,
+    /// What is assumed of the firmware.
+    pub assumptions: &'a Assumptions,
+    /// What is known before the store.
+    pub state: &'a AbsState,
+    /// The first register of the pointer.
+    pub r: LowRegister,
+    /// What is added to the pointer for the address, modulo 65,536.
+    pub up: u16,
+    /// The bits of the byte.
+    pub bits: TriByte,
+}
+
+// Whether the byte may go to the address of vector `v`'s enable bit, and have 1 there.
+fn may_enable(byte: &PointerByte<'_>, v: u8) -> bool
+    ensures { result ≡ may_enable_reached (row_of v) (λ a. permitted.permits_number byte.now.state.now byte.now.r (minus16 a byte.now.up)) byte.now.bits }
+{
+    match row(v) {
+        Some(row) => {
+            let number = row.address.wrapping_sub(byte.up);
+            permits_number(byte.state, byte.r, number) && byte.bits.bit(row.bit) != Tri::Zero
+        }
+        None => false,
+    }
+}
+
+/// Whether the byte may have 1 at the enable bit of a vector that isn't barred, at an address that the pointer permits.
+pub fn may_enable_other(byte: &PointerByte<'_>) -> bool
+    ensures { result ≡ may_enable_other byte.now.device byte.now.assumptions.now (λ a. permitted.permits_number byte.now.state.now byte.now.r (minus16 a byte.now.up)) byte.now.bits }
+{
+    for v in 2..27 {
+        if may_enable(byte, v) && !is_barred(byte.device, byte.assumptions, v) {
+            return true;
+        }
+    }
+    false
+}
