@@ -12,7 +12,7 @@ use Rattle.avr_model.specs.declared.choice.Choice.{Choice}
 use Rattle.avr_model.specs.declared.choice.Choice.TheVariants.{Go, Take}
 use Rattle.avr_model.specs.declared.effect.Effect.{Effect}
 use Rattle.avr_model.specs.Sreg.{flag}
-use Rattle.avr_model.specs.Assumptions.{is_never}
+use Rattle.avr_model.specs.Assumptions.{is_never, has_masks}
 use Rattle.avr_model.specs.Vectors.{is_enabled, vector_word, WATCHDOG}
 use Rattle.avr_model.specs.Sites.{instruction_at, is_scratch}
 use Rattle.avr_model.specs.State.{State, i_flag}
@@ -29,7 +29,7 @@ use Rattle.local_rules.specs.Raw.{Raw, untracked_if}
 use Rattle.local_rules.specs.Local.{raw, is_hung}
 use Rattle.local_rules.specs.Cover.{Follows, stays, calls, leaves, CoversStep}
 use Rattle.local_rules.specs.Machine.{IsMachine, AreWords}
-use Rattle.local_laws.proofs.AllLaws.{local_parts_fit, open_pairs_hang}
+use Rattle.local_laws.proofs.AllLaws.{local_parts_fit, open_pairs_hang, enabled_too, taken_both}
 use Rattle.local_laws.specs.Laws.{LocalPartsCover, MachinesStay, LiveBytesStay}
 use Rattle.edge_rules.specs.Edges.{raw_of, IsFaultless, Enters, by_call, by_interrupt, called_inst, vector_inst}
 use Rattle.edge_rules.specs.Families.{RankedFamily, IsSoundFamily}
@@ -100,7 +100,7 @@ module _ (cover : LocalPartsCover) (machines : MachinesStay) (live : LiveBytesSt
           devices_are_alike.same m.device site.entry
           (subst (λ device. site.entry < words_of device) (sym runs.device) ((local_parts_fit.fit words A g.node.key g.node.state).calls site member).0)
 
-      follows_on : (guarded : Bool) (e : Effect) → Follows m g.origin g.node.key guarded b1 b2 e (raw_of words A g.node) → StepGoesOn (Follow words A f (Go b1 b2) g gs) m guarded e
+      follows_on : (guarded : Bool) (e : Effect) → Follows (has_masks A) m g.origin g.node.key guarded b1 b2 e (raw_of words A g.node) → StepGoesOn (Follow words A f (Go b1 b2) g gs) m guarded e
       follows_on guarded e (stays to member inst lands) = frames_local live words A f sound m g gs runs b1 b2 guarded e to faultless member inst lands
       follows_on guarded e (calls offset site member form on same) =
           let k = g.node.key in
@@ -147,7 +147,7 @@ module _ (cover : LocalPartsCover) (machines : MachinesStay) (live : LiveBytesSt
         let enters : Enters words A g.node (kind.Interrupt v clears) (vector_inst words k v clears) k.pc = by_interrupt closed.0 v clears faultless closed.1 i delay enabled allowed clearable in
         subst (λ pc. StepGoesOn (Follow words A f (Take v clears) g gs) m true (record (entering m v clears) { pushes = way_back m.sp pc })) (sym place.pc)
         (frames_enter live words A f sound m g gs runs (kind.Interrupt v clears) (vector_inst words k v clears) k.pc closed.0 closed.1 enters
-        (vector_word m.device v) (m.sreg % 128) (enables_taken m.enables clears) (vector_is v on) (omega arith) (flag_cleared m.sreg) (ap (λ masks. enables_taken masks clears) place.enables)
+        (vector_word m.device v) (m.sreg % 128) (enables_taken m.enables clears) (vector_is v on) (omega arith) (flag_cleared m.sreg) (taken_both (has_masks A) m.enables k.masks clears place.enables)
         (Take v clears) (λ state above. interrupted v clears state _ enters above))
 
     taken : (v : ℕ) (clears t : Bool) → may_take m v clears ≡ t → IsFineFor (Follow words A f (Take v clears) g gs) (if t then take A m (entering m v clears) else Illegal)
@@ -156,7 +156,7 @@ module _ (cover : LocalPartsCover) (machines : MachinesStay) (live : LiveBytesSt
         let k = g.node.key in
         let place = runs.running.place in
         let all = all_four (is_enabled m.enables v) (i_flag m) m.delay (not clears || (v == WATCHDOG)) legal in
-        let enabled : is_enabled k.masks v ≡ true = ap (λ masks. is_enabled masks v) (sym place.enables) ∙ all.0 in
+        let enabled : is_enabled k.masks v ≡ true = enabled_too (has_masks A) m.enables k.masks v place.enables all.0 in
         let i : k.i ≡ true = sym place.i ∙ all.1 in
         let delay : k.delay ≡ false = sym place.delay ∙ all.2 in
         let e = entering m v clears in

@@ -8,7 +8,8 @@ use Rattle.avr_model.specs.declared.choice.Choice.{Choice}
 use Rattle.avr_model.specs.declared.choice.Choice.TheVariants.{Go}
 use Rattle.avr_model.specs.declared.effect.Effect.{Effect}
 use Rattle.avr_model.specs.Sreg.{flag}
-use Rattle.avr_model.specs.State.{State, Memory, minus16, plus16}
+use Rattle.avr_model.specs.Assumptions.{has_masks}
+use Rattle.avr_model.specs.State.{State, Memory, BELOW, minus16, plus16}
 use Rattle.avr_model.specs.Effects.{way_back, going_to}
 use Rattle.avr_model.specs.Step.{after, all_inside, live_write, registers_after, with_registers, sreg_after, sp_after, open_after, enables_after}
 use Rattle.sp_domain.specs.Tags.{Origin, LessHolds}
@@ -23,16 +24,17 @@ use Rattle.abs_state.proofs.AllLaws.{states_are_ordered, values_say_less, slots_
 use Rattle.mask_states.specs.declared.keys.InstKey.{InstKey}
 use Rattle.mask_states.specs.declared.keys.EdgeKind.{EdgeKind}
 use Rattle.mask_states.specs.declared.keys.Kind.TheVariants.{Root}
+use Rattle.mask_states.specs.declared.keys.High.{High}
 use Rattle.mask_states.specs.declared.keys.SpForm.{SpForm}
 use Rattle.mask_states.specs.declared.keys.SpForm.TheVariants.{Closed, Open}
 use Rattle.mask_states.specs.Keys.{entry_key, offset_of}
-use Rattle.mask_states.specs.Place.{SpIs}
+use Rattle.mask_states.specs.Place.{EnablesAre, SpIs}
 use Rattle.local_rules.specs.declared.local.Node.{Node}
 use Rattle.local_rules.specs.declared.local.Exit.{Exit}
 use Rattle.local_rules.specs.Cover.{IsWithinBase, HasRoom, ArrivesAt, IsReturn}
 use Rattle.local_rules.specs.Machine.{IsMachine, floor_of}
 use Rattle.local_laws.specs.Laws.{LiveBytesStay}
-use Rattle.local_laws.proofs.AllLaws.{joins_are_least, local_parts_are_nodes, local_parts_fit}
+use Rattle.local_laws.proofs.AllLaws.{joins_are_least, local_parts_are_nodes, local_parts_fit, open_pairs_stay}
 use Rattle.edge_rules.specs.Edges.{raw_of, IsFaultless, Enters, by_call, by_interrupt, returned_key, moving, entering, returning}
 use Rattle.edge_rules.specs.Families.{RankedFamily, IsCovered, IsSoundFamily}
 use Rattle.edge_rules.specs.Frames.{Frame, AreLeft, Runs, Change, moved, returned_to, HasNext}
@@ -100,8 +102,14 @@ module _ (live : LiveBytesStay) (words : List ℕ) (A : List Entry) (f : RankedF
     base_at base (Closed offset) room = omega (arith, room.0, room.1)
     base_at base (Open offset high) room = tt
 
+    -- a successor's slots lie in SRAM or above it: a closed one has room, and an open one has the offset from before
+    place_at : (to : Node) → Contains f.nodes to → to.key.inst ≡ g.node.key.inst → (form : SpForm) → to.key.sp ≡ form
+        → ((offset : ℕ) (high : High) → form ≡ Open offset high → offset ≡ offset_of g.node.key.sp) → has_masks A ≡ true → offset_of form + BELOW ≤ g.origin.base
+    place_at to present inst (Closed offset) is stays may = omega (arith, in_bound, small, sound.offsets to offset present is, ap f.need_of inst)
+    place_at to present inst (Open offset high) is stays may = omega (arith, runs.running.room may, stays offset high refl)
+
     module _ (b1 b2 : ℕ) (guarded : Bool) (e : Effect) where
-      pub frames_local : (to : Node) → IsFaultless words A g.node → Contains (raw_of words A g.node).moves to → to.key.inst ≡ g.node.key.inst → ArrivesAt m g.origin guarded e to
+      pub frames_local : (to : Node) → IsFaultless words A g.node → Contains (raw_of words A g.node).moves to → to.key.inst ≡ g.node.key.inst → ArrivesAt (has_masks A) m g.origin guarded e to
           → StepGoesOn (Follow words A f (Go b1 b2) g gs) m guarded e
       frames_local to faultless member inst lands =
           let moves = (raw_of words A g.node).moves in
@@ -136,6 +144,7 @@ module _ (live : LiveBytesStay) (words : List ℕ) (A : List Entry) (f : RankedF
                       facts = facts_less to.state cov.state n (states_are_ordered.through to.state joined.state cov.state joined.above cov.above) lands.facts;
                       root = subst (λ (i : InstKey). i.kind ≡ Root → g.origin.base ≡ ramend m.device) (sym inst) runs.running.root;
                       base_word = runs.running.base_word;
+                      room = λ may. place_at node cov.present inst to.key.sp refl (λ offset high is. open_pairs_stay.stays words A g.node.key g.node.state to offset high faultless member is) may;
                     };
                     left = subst (λ i. AreLeft words A f n.memory gs i g.origin) (sym inst) left;
                   },
@@ -190,7 +199,7 @@ module _ (live : LiveBytesStay) (words : List ℕ) (A : List Entry) (f : RankedF
             left_kept words A f sound m.memory n (minus16 m.sp 2) kept gs g.node.key.inst g.origin (omega (arith, room, top, few, sp)) runs.left,
           )
 
-      module _ (target sreg enables : ℕ) (to : wrapped m.device target ≡ inst.entry) (flags : sreg % 128 ≡ m.sreg % 128) (i : flag sreg 7 ≡ inst.i) (masks : enables ≡ inst.masks) where
+      module _ (target sreg enables : ℕ) (to : wrapped m.device target ≡ inst.entry) (flags : sreg % 128 ≡ m.sreg % 128) (i : flag sreg 7 ≡ inst.i) (masks : EnablesAre (has_masks A) enables inst.masks) where
         pub frames_enter : (c : Choice)
             → ((state : AbsState) → IsStateWithin (entered g.node.state) state → Change words A g gs c (record { node = record { key = entry_key inst; state = state }; origin = entry_origin }) (g ∷ gs))
             → StepGoesOn (Follow words A f c g gs) m true (entry_effect m target sreg enables back)
@@ -221,6 +230,7 @@ module _ (live : LiveBytesStay) (words : List ℕ) (A : List Entry) (f : RankedF
                         (entries_are_true.facts g.node.state m.registers (flag m.sreg 0) (flag m.sreg 1) (flag m.sreg 4) (flag n.sreg 0) (flag n.sreg 1) (flag n.sreg 4) runs.running.facts);
                     root = λ kind. absurd (not_root enters kind);
                     base_word = omega arith;
+                    room = λ may. omega (arith, room, top, few);
                   };
                   left = left_by n.memory (kept_by true (entry_effect m target sreg enables back) miss) (way_pushed m.device m.memory m.sp back runs.running.machine.count_bytes runs.running.machine.count_live top room);
                 },
@@ -230,7 +240,7 @@ module _ (live : LiveBytesStay) (words : List ℕ) (A : List Entry) (f : RankedF
 
     -- ---- a return
 
-    module _ (b1 b2 : ℕ) (guarded : Bool) (e : Effect) (x : Exit) (faultless : IsFaultless words A g.node) (exit : (raw_of words A g.node).exit ≡ Some x) (form : g.node.key.sp ≡ Closed 0) (is : IsReturn m b1 b2 x e) where
+    module _ (b1 b2 : ℕ) (guarded : Bool) (e : Effect) (x : Exit) (faultless : IsFaultless words A g.node) (exit : (raw_of words A g.node).exit ≡ Some x) (form : g.node.key.sp ≡ Closed 0) (is : IsReturn (has_masks A) m b1 b2 x e) where
       abbrev returned_state : State
       returned_state = after m guarded e
 
@@ -245,6 +255,12 @@ module _ (live : LiveBytesStay) (words : List ℕ) (A : List Entry) (f : RankedF
 
       still_closed : returned_state.is_open ≡ false
       still_closed = ap₂ open_after is.closed is.stores
+
+      -- the slots of the frame that goes on lie in SRAM or above it
+      caller_room : (h : Frame) (hs : List Frame) → AreLeft words A f m.memory hs h.node.key.inst h.origin → Contains f.nodes h.node → (offset : ℕ) → h.node.key.sp ≡ Closed offset
+          → offset_of h.node.key.sp + BELOW ≤ h.origin.base
+      caller_room h hs left present offset closed =
+          omega (arith, ap offset_of closed, sound.offsets h.node offset present closed, within words A f sound m.memory hs h.node.key.inst h.origin left, sound.small)
 
       pops : (hs : List Frame) → gs ≡ hs → g.node.key.inst.kind ≢ Root → AreLeft words A f m.memory hs g.node.key.inst g.origin
           → live_write m.memory (e.stores ++ e.pushes) ≡ None → Follow words A f (Go b1 b2) g gs returned_state
@@ -285,7 +301,7 @@ module _ (live : LiveBytesStay) (words : List ℕ) (A : List Entry) (f : RankedF
                       (way_read m g.origin.base was.back b1 b2 runs.running.machine.count_live sp low_base node.word
                       record { low_byte = was.low_byte; high_byte = was.high_byte; low_live = was.low_live; high_live = was.high_live })
                       ∙ devices_are_alike.same m.device was.back (on_machine (λ device. was.back < words_of device) (back_inside was.enters));
-                  enables = ap₂ enables_after is.enables is.stores;
+                  enables = subst (λ ws. EnablesAre (has_masks A) (enables_after e.enables ws) x.masks) (sym is.stores) is.enables;
                   i = ap (λ s. flag s 7) same_sreg ∙ is.i;
                   delay = is.delay;
                   sp = subst (SpIs h.origin.base n.is_open n.sp) (sym was.closed) (still_closed, omega (arith, raised_sp, was.place, low_base, few, sp));
@@ -294,6 +310,7 @@ module _ (live : LiveBytesStay) (words : List ℕ) (A : List Entry) (f : RankedF
                 facts = facts_less back.0 cov.state n cov.above (subst₂ (HoldsAt back.0.facts) (sym same_registers) (sym same_sreg) back.6);
                 root = λ kind. root_base words A f n.memory hs h.node.key.inst h.origin (left_kept words A f sound m.memory n.memory (g.origin.base + 2) kept hs h.node.key.inst h.origin (omega (arith, was.place)) left.1) kind ∙ ap ramend (sym runs.device);
                 base_word = omega (arith, base_inside words A f sound m.memory hs h.node.key.inst h.origin left.1, devices_are_alike.most_bytes (device_of words));
+                room = λ may. caller_room h hs left.1 was.present was.offset was.closed;
               };
               left = left_kept words A f sound m.memory n.memory (g.origin.base + 2) kept hs h.node.key.inst h.origin (omega (arith, was.place)) left.1;
             },
