@@ -1,14 +1,12 @@
 -- Where a store's byte goes: to an address that its aim reaches, and at its slot.
-use Rattle.std.proofs.Common.{◌≡◌, ◌∙◌, refl, sym, ap, subst, ℕ, zero, suc, ◌+◌, ◌-◌, ◌*◌, ◌/◌, ◌<◌, ◌≤◌, ◌&&◌, ⊎_elim, Bool, true, false, nat_lt, nat_le, if◌then◌else◌, List, slice_index, Option, Some, None, arith}
+use Rattle.std.proofs.Common.{◌≡◌, ◌∙◌, refl, sym, ap, subst, ℕ, zero, suc, ◌+◌, ◌-◌, ◌*◌, ◌<◌, ◌≤◌, ◌&&◌, ⊎_elim, Bool, true, false, nat_lt, nat_le, if◌then◌else◌, Option, Some, None, arith}
 use Rattle.std.specs.Prelude.{⊤}
-use Rattle.std.proofs.lemmas.Bool.{cases_lt, and_from}
+use Rattle.std.proofs.lemmas.Bool.{cases_lt}
 use Rattle.std.proofs.lemmas.Bool.Decides.{nat_tests}
-use Rattle.basics.specs.Booleans.{all_three}
 use Rattle.std.proofs.lemmas.Option.{same_Some}
-use Rattle.local_laws.proofs.AllLaws.{constant_is, lowered_is, raised_is, word_is}
+use Rattle.local_laws.proofs.AllLaws.{IsEven, bare_frame, base_pair, may_stand, pair_permitted, constant_is, lowered_is, raised_is, word_is}
 use Rattle.avr_model.specs.declared.device.Device.{Device}
 use Rattle.avr_model.specs.declared.instruction.Base.{Base}
-use Rattle.avr_model.specs.declared.instruction.Base.TheVariants as base_of
 use Rattle.avr_model.specs.declared.instruction.Pointer.{Pointer}
 use Rattle.avr_model.specs.declared.instruction.Pointer.TheVariants as pointer
 use Rattle.avr_model.specs.Devices.{ramend}
@@ -17,28 +15,21 @@ use Rattle.avr_model.specs.Sites.{base_register, pointer_register}
 use Rattle.avr_model.specs.State.{State, register, pair, low, high, plus16, minus16}
 use Rattle.avr_model.specs.Effects as effects
 use Rattle.bit_domain.specs.TriByte.{byte_constant}
-use Rattle.bit_domain.proofs.AllLaws.{tests_tell_members}
 use Rattle.sp_domain.specs.Tags.{Origin, TagHolds, frame_of}
 use Rattle.sp_domain.specs.Laws.{PairHolds}
 use Rattle.sp_domain.proofs.AllLaws.{pairs_are_true}
-use Rattle.abs_state.specs.declared.values.AbsByte.{AbsByte}
 use Rattle.abs_state.specs.declared.state.AbsState.{AbsState}
 use Rattle.abs_state.specs.Stands.{ByteStands}
-use Rattle.abs_state.specs.Laws.{HoldsAt}
-use Rattle.pair_domain.specs.declared.facts.PairFacts.{PairFacts}
-use Rattle.pair_domain.specs.Facts.{interval_at}
-use Rattle.pair_domain.specs.Intervals.{InInterval}
-use Rattle.pair_domain.specs.Tags.{pair_number}
-use Rattle.basics.specs.Numbers.{test_from_at_most}
 use Rattle.mask_states.specs.declared.keys.NodeKey.{NodeKey}
 use Rattle.mask_states.specs.declared.keys.Kind.{Kind}
 use Rattle.mask_states.specs.declared.keys.Kind.TheVariants.{Root, Call, Vector}
 use Rattle.local_rules.specs.declared.pointers.Pointed.{Pointed}
 use Rattle.local_rules.specs.Registers.{value, bits}
 use Rattle.local_rules.specs.Reads.{pair_constant, pointed}
-use Rattle.local_rules.specs.Local.{step_before, may_be}
+use Rattle.local_rules.specs.Local.{step_before}
+use Rattle.local_rules.specs.Permitted.{may_be}
 use Rattle.local_rules.specs.Cover.{InFrameIn}
-use Rattle.clear_laws.specs.Aims.{Span, Reach, Aim, or_number, least_below, greatest_below, first_byte, last_byte, spanning, pair_span, raised, lowered, pointer_reach, is_in_interval, permits_bytes, permits_number, slot_at_number, slot_aimed, at_number}
+use Rattle.clear_laws.specs.Aims.{Span, Reach, Aim, or_number, least_below, greatest_below, first_byte, last_byte, spanning, pair_span, raised, lowered, pointer_reach, permits_number, slot_at_number, slot_aimed, at_number}
 use Rattle.clear_laws.specs.Aims.reach as reach
 
 -- ---- the least and the greatest number that passes a test
@@ -91,12 +82,6 @@ greatest_at p (suc n) x lt h = by (greatest_at p n x) (p n) refl
         (λ over. let same : n ≡ x = omega (arith, lt, over) in absurd (let no : false ≡ true = sym is ∙ ap p same ∙ h in cc)) (cases_lt x n)
 
 -- ---- a byte between its least and its greatest
-
-may_stand : (o : Origin) (v : AbsByte) (x : ℕ) → ByteStands o v x → may_be v x ≡ true
-may_stand o v x stands =
-    let low : nat_le v.low x ≡ true = grind (arith, nat_tests, stands.low) in
-    let high : nat_le x v.high ≡ true = grind (arith, nat_tests, stands.high) in
-    all_three _ _ _ ((tests_tell_members.bytes v.bits x).1 stands.bits) low high
 
 -- the address is within the span
 pub record IsInSpan (span : Span) (a : ℕ) : Type 0 where
@@ -183,28 +168,7 @@ number_slot device (Some x) base a d top is e = by (nat_le x (ramend device)) re
     by true at e = fold (ramend device) base a d x (top_small device) top (grind (arith, nat_tests)) (same_Some _ d e) (is x refl)
     by false at e = absurd (cc)
 
-base_small : (b : Base) → base_register b + 1 < 32
-base_small base_of.Y = omega arith
-base_small base_of.Z = omega arith
-
--- the register of a low byte
-abbrev pub IsEven : ℕ → Type 0
-IsEven r = 2 * (r / 2) ≡ r
-
-base_even : (b : Base) → IsEven (base_register b)
-base_even base_of.Y = refl
-base_even base_of.Z = refl
-
--- what is known of pairs holds of their numbers
-in_interval : (facts : Option PairFacts) (registers : List ℕ) (sreg r : ℕ) → IsEven r → r + 1 < 32 → HoldsAt facts registers sreg
-    → is_in_interval facts r (slice_index registers r + 256 * slice_index registers (r + 1)) ≡ true
-in_interval None registers sreg r even there holds = refl
-in_interval (Some f) registers sreg r even there holds =
-    let within : InInterval (interval_at f.intervals (r / 2)) (pair_number registers r) =
-    subst (λ x. InInterval (interval_at f.intervals (r / 2)) (pair_number registers x)) even (holds.intervals (r / 2) (omega (arith, there))) in
-    and_from _ _ (test_from_at_most _ _ within.low) (test_from_at_most _ _ within.high)
-
-module _ {followed : Bool} (m : State) (o : Origin) (k : NodeKey) (s : AbsState) (at : InFrameIn followed m o k s) where
+module _ {followed may : Bool} (m : State) (o : Origin) (k : NodeKey) (s : AbsState) (at : InFrameIn followed may m o k s) where
   stands : (r : ℕ) → r < 32 → ByteStands o (value s r) (register m r)
   stands r lt = at.stands.registers r lt
 
@@ -232,16 +196,8 @@ module _ {followed : Bool} (m : State) (o : Origin) (k : NodeKey) (s : AbsState)
     high_is : register m (r + 1) ≡ high (pair m r)
     high_is = omega (arith, (stands r first_there).small)
 
-    bytes_permitted : permits_bytes s r (pair m r) ≡ true
-    bytes_permitted =
-        and_from _ _ (ap (may_be (value s r)) (sym low_is) ∙ may_stand o (value s r) (register m r) (stands r first_there))
-        (ap (may_be (value s (r + 1))) (sym high_is) ∙ may_stand o (value s (r + 1)) (register m (r + 1)) (stands (r + 1) there))
-
-    pub pair_permitted : IsEven r → permits_number s r (pair m r) ≡ true
-    pair_permitted even = and_from _ _ bytes_permitted (in_interval s.facts m.registers m.sreg r even there at.facts)
-
     permitted_back : IsEven r → (p : ℕ) → p ≡ pair m r → permits_number s r p ≡ true
-    permitted_back even p same = ap (permits_number s r) same ∙ pair_permitted even
+    permitted_back even p same = ap (permits_number s r) same ∙ pair_permitted m o k s (bare_frame m o k s at) r (there, even)
 
     pair_holds : PairHolds o (value s r).tag (value s (r + 1)).tag (pair m r)
     pair_holds =
@@ -284,7 +240,7 @@ module _ {followed : Bool} (m : State) (o : Origin) (k : NodeKey) (s : AbsState)
   pub displaced : (b : Base) (q : ℕ)
       → IsAimed o.base (record { reach = raised (pair_span s (base_register b)) q; slot = slot_aimed m.device k.inst.kind (pointed s (base_register b) q) })
       (plus16 (pair m (base_register b)) q)
-  displaced b q = displaced_at (base_register b) (base_small b) q
+  displaced b q = displaced_at (base_register b) (base_pair b).0 q
 
   plain : (r : ℕ) → r + 1 < 32 → IsAimed o.base (record { reach = raised (pair_span s r) 0; slot = slot_aimed m.device k.inst.kind (pointed s r 0) }) (pair m r)
   plain r there =
@@ -321,7 +277,7 @@ module _ {followed : Bool} (m : State) (o : Origin) (k : NodeKey) (s : AbsState)
   -- ---- and the pointer is permitted
 
   pub displaced_permitted : (b : Base) (q : ℕ) → permits_number s (base_register b) (minus16 (plus16 (pair m (base_register b)) q) q) ≡ true
-  displaced_permitted b q = permitted_back (base_register b) (base_small b) (base_even b) _ (back_by (pair m (base_register b)) q (pair_small (base_register b) (base_small b)))
+  displaced_permitted b q = permitted_back (base_register b) (base_pair b).0 (base_pair b).1 _ (back_by (pair m (base_register b)) q (pair_small (base_register b) (base_pair b).0))
 
   plain_permitted : (r : ℕ) → r + 1 < 32 → IsEven r → permits_number s r (minus16 (pair m r) 0) ≡ true
   plain_permitted r there even = permitted_back r there even _ (back_none (pair m r) (pair_small r there))

@@ -13,13 +13,14 @@ use Rattle.avr_model.specs.declared.device.Device.{Device}
 use Rattle.avr_model.specs.declared.effect.Effect.{Effect}
 use Rattle.avr_model.specs.declared.instruction.Instr.{Instr}
 use Rattle.avr_model.specs.declared.instruction.Instr.TheVariants as i
-use Rattle.avr_model.specs.Assumptions.{store_line, is_never, is_fixed_site, lists}
+use Rattle.avr_model.specs.Assumptions.{is_never, is_fixed_site}
+use Rattle.avr_model.specs.Masks.{is_flagged_write}
 use Rattle.avr_model.specs.Devices.{ramend, device_of}
 use Rattle.avr_model.specs.Sites.{instruction_at, is_scratch}
 use Rattle.avr_model.specs.State.{BELOW, State, is_live}
-use Rattle.avr_model.specs.Vectors.{is_protected, vector_word}
+use Rattle.avr_model.specs.Vectors.{vector_word}
 use Rattle.avr_model.specs.Effects.{effect_of}
-use Rattle.avr_model.specs.Step.{Overflow, Flagged, after, all_inside, live_write, unlisted, protected_write, unlisted_transfer, is_pointer_store, is_indirect, is_unlisted, flag_by, flagged_or, may_take, go, step}
+use Rattle.avr_model.specs.Step.{Overflow, Flagged, after, all_inside, live_write, flagged_write, protected_write, unlisted_transfer, is_pointer_store, is_indirect, is_unlisted, flag_by, flagged_or, may_take, go, step}
 use Rattle.pair_domain.specs.Facts.{is_followed}
 use Rattle.abs_state.specs.declared.state.AbsState.{AbsState}
 use Rattle.mask_states.specs.declared.keys.NodeKey.{NodeKey}
@@ -33,7 +34,7 @@ use Rattle.clear_laws.specs.StepLaws.{PlacesHaveCauses}
 use Rattle.clear_laws.proofs.Below.{any_found, found_below}
 use Rattle.clear_laws.proofs.Kept.{Holding}
 use Rattle.clear_laws.proofs.Told.{clear_nodes_are_told}
-use Rattle.clear_laws.proofs.Unflagged.{IsSafe, IsStore, writes, by_instruction, inside, IsTaken, taken_here}
+use Rattle.clear_laws.proofs.Unflagged.{IsSafe, IsStore, flagged_by_write, writes, by_instruction, inside, IsTaken, taken_here}
 
 -- ---- which case a flag is of
 
@@ -103,12 +104,12 @@ module _ (words : List ℕ) (A : List Entry) (f : RankedFamily) (n : Node) where
         let same : last - (last - a) ≡ a = omega (arith, le) in
         never_both _ (any_found (λ d. may_write n.state instr (last - d)) (last - a) f.bound (omega (arith, le, lt)) (ap (may_write n.state instr) same ∙ may)) dead
 
-    unflagged : (a : ℕ) → may_write n.state instr a ≡ true → a ≤ BELOW → is_flagged_address words A n.key.pc instr a ≡ false
+    unflagged : (a : ℕ) → may_write n.state instr a ≡ true → a ≤ BELOW → is_flagged_address words A n.key.pc n.state instr a ≡ false
     unflagged a may low =
-        never (is_flagged_address words A n.key.pc instr a)
+        never (is_flagged_address words A n.key.pc n.state instr a)
         (λ flagged. never_both _ (any_found (may_write_protected words A n.key.pc n.state instr) a 256 (omega (arith, low)) (and_from _ _ flagged may)) free)
 
-    harmless_address : (a : ℕ) → a < 65536 → may_write n.state instr a ≡ true → is_address_harmless words A f.bound n.key.pc instr a ≡ true
+    harmless_address : (a : ℕ) → a < 65536 → may_write n.state instr a ≡ true → is_address_harmless words A f.bound n.key.pc n.state instr a ≡ true
     harmless_address a small may =
         ⊎_elim
         (λ above.
@@ -183,9 +184,10 @@ module _ (words : List ℕ) (A : List Entry) (f : RankedFamily) (sound : IsSound
         by_store : Store → may_write_protected words A m.pc g.node.state instr x ≡ true
         by_store w =
             let t =
-            flagged_of (is_pointer_store instr) (is_fixed_site words A m.pc) (is_protected w.address && not (lists (store_line A m.pc) w.address)) w.address x
-            (sym (ap (λ ws. if is_pointer_store instr && not (is_fixed_site words A m.pc) then unlisted (store_line A m.pc) ws else None) w.stores) ∙ e) in
-            subst (λ a. may_write_protected words A m.pc g.node.state instr a ≡ true) t.1 (and_from (is_flagged_address words A m.pc instr w.address) _ t.0 w.may)
+            flagged_of (is_pointer_store instr) (is_fixed_site words A m.pc) (is_flagged_write (device_of words) A m.pc w.address w.byte) w.address x
+            (sym (ap (λ ws. if is_pointer_store instr && not (is_fixed_site words A m.pc) then flagged_write (device_of words) A m.pc ws else None) w.stores) ∙ e) in
+            subst (λ a. may_write_protected words A m.pc g.node.state instr a ≡ true) t.1
+            (and_from (is_flagged_address words A m.pc g.node.state instr w.address) _ (flagged_by_write words A instr m.pc g.node.state w.address w.byte w.has_byte t.0) w.may)
 
     written_unlisted : (x : ℕ) → unlisted_transfer A m.pc instr effect ≡ Some x → (IsClear words A f g.node → ⊥) → not (is_transfer_listed words A m.pc g.node.state instr) ≡ true
     unfolding unlisted_transfer

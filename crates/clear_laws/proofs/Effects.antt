@@ -13,9 +13,12 @@ use Rattle.avr_model.specs.declared.instruction.UnaryOp.TheVariants as unary
 use Rattle.avr_model.specs.declared.effect.Effect.{Effect}
 use Rattle.avr_model.specs.Devices.{wrapped}
 use Rattle.avr_model.specs.Text.{far}
-use Rattle.avr_model.specs.State.{State, BELOW}
+use Rattle.avr_model.specs.State.{State, BELOW, register}
 use Rattle.avr_model.specs.Effects.{set, port, way_back, binary_effect, immediate_effect, unary_effect, effect_of}
 use Rattle.avr_model.specs.Step.{is_pointer_store}
+use Rattle.bit_domain.specs.declared.bits.Tri.TheVariants.{Any}
+use Rattle.bit_domain.specs.TriByte.{Has, byte_any}
+use Rattle.bit_domain.proofs.AllLaws.{bytes_are_sets}
 use Rattle.abs_state.specs.declared.state.AbsState.{AbsState}
 use Rattle.sp_domain.specs.Tags.{Origin}
 use Rattle.mask_states.specs.declared.keys.NodeKey.{NodeKey}
@@ -23,6 +26,8 @@ use Rattle.mask_states.specs.declared.keys.SpForm.{SpForm}
 use Rattle.mask_states.specs.declared.keys.SpForm.TheVariants.{Closed, Open}
 use Rattle.local_rules.specs.declared.local.CallSite.{CallSite}
 use Rattle.local_rules.specs.declared.local.NodeFault.{NodeFault}
+use Rattle.local_rules.specs.Registers.{bits}
+use Rattle.local_laws.proofs.AllLaws.{bare_frame, register_stands}
 use Rattle.local_rules.specs.Raw.{Raw, enters, fails, untracked_if}
 use Rattle.local_rules.specs.Flow.{is_half_written, at_closed, indirect_call, relative_call, targets_at}
 use Rattle.local_rules.specs.Local.{row_of}
@@ -30,6 +35,7 @@ use Rattle.local_rules.specs.Cover.{InFrameIn}
 use Rattle.clear_laws.specs.Held.{is_push}
 use Rattle.basics.specs.Numbers.{equals_itself}
 use Rattle.clear_laws.specs.Aims.{Aim, may_write, aim_of}
+use Rattle.clear_laws.specs.Clear.{stored_bits}
 use Rattle.clear_laws.proofs.Ports.{PortFits}
 use Rattle.clear_laws.proofs.Rows.{pushes}
 use Rattle.clear_laws.proofs.Aims.{IsAimed, displaced, by_pointer, direct, displaced_permitted, pointer_permitted}
@@ -43,7 +49,7 @@ IsSpWhole sp = (offset : ℕ) × (sp ≡ Closed offset)
 pub data Does (device : Device) (m : State) (base : ℕ) (k : NodeKey) (s : AbsState) (instr : Instr) (e : Effect) (row guarded_row : Raw) : Type 0 where
   nothing : e.stores ≡ [] → e.pushes ≡ [] → Does device m base k s instr e row guarded_row
   to_port : (a byte : ℕ) → a ≤ BELOW → is_pointer_store instr ≡ false → e.stores ≡ set a byte → e.pushes ≡ [] → Does device m base k s instr e row guarded_row
-  by_aim : (a byte : ℕ) (aim : Aim) → aim_of device k s instr ≡ Some aim → IsAimed base aim a → may_write s instr a ≡ true → e.stores ≡ set a byte → e.pushes ≡ []
+  by_aim : (a byte : ℕ) (aim : Aim) → aim_of device k s instr ≡ Some aim → IsAimed base aim a → may_write s instr a ≡ true → Has (stored_bits s instr) byte → e.stores ≡ set a byte → e.pushes ≡ []
       → Does device m base k s instr e row guarded_row
   pushing : (byte : ℕ) → is_push instr ≡ true → pushes instr ≡ true → (row.faults ≡ [] → IsSpWhole k.sp) → e.is_open ≡ false → e.stores ≡ []
       → e.pushes ≡ set m.sp byte → Does device m base k s instr e row guarded_row
@@ -121,10 +127,16 @@ module _ (words : List ℕ) (m : State) where
 
 -- ---- the table, where the row is that of a state t of which the node may have forgotten something
 
-module _ {followed : Bool} (words : List ℕ) (A : List Entry) (m : State) (o : Origin) (k : NodeKey) (s t : AbsState) (at : InFrameIn followed m o k s) (scratch : Bool) (b1 b2 : ℕ) where
+module _ {followed may : Bool} (words : List ℕ) (A : List Entry) (m : State) (o : Origin) (k : NodeKey) (s t : AbsState) (at : InFrameIn followed may m o k s) (scratch : Bool) (b1 b2 : ℕ) where
   abbrev DoesBy : Device → Instr → Type 0
   DoesBy device instr =
       Does device m o.base k s instr (effect_of words m instr b1 b2) (row_of device words A scratch k t instr) (row_of device words A false k t instr)
+
+  holds : (r : ℕ) → Has (bits s r) (register m r)
+  holds r = (register_stands m o k s (bare_frame m o k s at) r).bits
+
+  any_holds : (x : ℕ) → Has byte_any x
+  any_holds x = bytes_are_sets.built (λ i. Any) x (λ i lt. tt)
 
   does_by : (instr : Instr) → PortFits instr → DoesBy m.device instr
   does_by (i.Movw d r) fits = nothing refl refl
@@ -143,11 +155,11 @@ module _ {followed : Bool} (words : List ℕ) (A : List Entry) (m : State) (o : 
   does_by (i.Bld d b) fits = nothing refl refl
   does_by (i.Bst d b) fits = nothing refl refl
   does_by (i.Ldd d b q) fits = nothing refl refl
-  does_by (i.Std b q r) fits = by_aim _ _ _ refl (displaced m o k s at b q) (displaced_permitted m o k s at b q) refl refl
+  does_by (i.Std b q r) fits = by_aim _ _ _ refl (displaced m o k s at b q) (displaced_permitted m o k s at b q) (holds r) refl refl
   does_by (i.Lds d a) fits = nothing refl refl
-  does_by (i.Sts a r) fits = by_aim _ _ _ refl (direct m o k s at a) (equals_itself a) refl refl
+  does_by (i.Sts a r) fits = by_aim _ _ _ refl (direct m o k s at a) (equals_itself a) (any_holds _) refl refl
   does_by (i.Ld d p) fits = nothing refl refl
-  does_by (i.St p r) fits = by_aim _ _ _ refl (by_pointer m o k s at p) (pointer_permitted m o k s at p) refl refl
+  does_by (i.St p r) fits = by_aim _ _ _ refl (by_pointer m o k s at p) (pointer_permitted m o k s at p) (holds r) refl refl
   does_by (i.LpmZ d) fits = nothing refl refl
   does_by (i.LpmZPlus d) fits = nothing refl refl
   does_by i.Lpm fits = nothing refl refl

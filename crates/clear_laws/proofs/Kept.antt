@@ -25,14 +25,13 @@ use Rattle.local_rules.specs.declared.local.Node.{Node}
 use Rattle.local_rules.specs.declared.local.Exit.{Exit}
 use Rattle.local_rules.specs.Local.{joined_onto}
 use Rattle.local_rules.specs.Machine.{IsMachine}
-use Rattle.local_laws.proofs.AllLaws.{joins_are_least, above_if_live}
+use Rattle.local_laws.proofs.AllLaws.{joins_are_least, open_pairs_stay, above_if_live}
 use Rattle.edge_rules.specs.declared.edge.Edge.{Edge}
 use Rattle.edge_rules.specs.Edges.{raw_of, IsFaultless, Enters, by_call, by_interrupt, returned_key, IsEdge, moving, returning}
 use Rattle.edge_rules.specs.Families.{RankedFamily, IsSoundFamily}
 use Rattle.edge_rules.specs.Frames.{Frame, AreLeft, Runs, Change, moved, called, returned_to, interrupted}
 use Rattle.clear_laws.specs.Held.{MayHold, kept, pushed}
 use Rattle.clear_laws.proofs.Bases.{within}
-use Rattle.clear_laws.proofs.Opens.{open_moves_keep}
 use Rattle.clear_laws.proofs.Effects.{IsSpWhole}
 use Rattle.clear_laws.proofs.Steps.{Fresh, ComesFrom, IsLiveAbove, comes_by_go, comes_by_take, is_above}
 
@@ -114,7 +113,7 @@ module _ (words : List ℕ) (A : List Entry) (f : RankedFamily) (sound : IsSound
       offset_kept : (offset : ℕ) (high : High) → to.key.sp ≡ Open offset high → offset ≡ offset_of g.node.key.sp
       offset_kept offset high e =
           let from = joins_are_least.keys (raw_of words A g.node).moves to member in
-          open_moves_keep words A g.node.key g.node.state from.0 from.1.0 offset high (ap (λ (k : NodeKey). k.sp) from.1.1 ∙ e)
+          open_pairs_stay.stays words A g.node.key g.node.state from.0 offset high faultless from.1.0 (ap (λ (k : NodeKey). k.sp) from.1.1 ∙ e)
 
       -- a pushed byte is at the slot that this move adds
       new_slot : (d : ℕ) → Fresh words A g n (Go b1 b2) (g.origin.base - d) → is_live n.memory (g.origin.base - d) ≡ true → MayHold words A f.nodes to.key d

@@ -3,7 +3,6 @@ pub mod Ports
 pub mod Aims
 pub mod Effects
 pub mod Bases
-pub mod Opens
 pub mod Rows
 pub mod Steps
 pub mod Kept

@@ -154,7 +154,7 @@ module _ (words : List ℕ) (A : List Entry) (f : RankedFamily) (sound : IsSound
         → Fresh words A g n (Go b1 b2) a
     fresh a inside guarded at (nothing stores pushes) = absurd (subst (λ ws. IsPushedAt ws a) pushes at)
     fresh a inside guarded at (to_port b byte low plain stores pushes) = absurd (subst (λ ws. IsPushedAt ws a) pushes at)
-    fresh a inside guarded at (by_aim b byte aim is aimed may stores pushes) = absurd (subst (λ ws. IsPushedAt ws a) pushes at)
+    fresh a inside guarded at (by_aim b byte aim is aimed may has stores pushes) = absurd (subst (λ ws. IsPushedAt ws a) pushes at)
     fresh a inside guarded at (pushing byte push plain closes closed stores pushes) =
         let form = closes (row plain).faultless in
         let sp = at_sp form.0 form.1 in

@@ -97,9 +97,9 @@ module _ (words : List ℕ) (A : List Entry) (f : RankedFamily) (n : Node) (held
       over = nat_lt top span.first
 
       abbrev single : Bool
-      single = (span.first == span.last) && nat_le span.first BELOW && not (is_flagged_address words A n.key.pc instr span.first)
+      single = (span.first == span.last) && nat_le span.first BELOW && not (is_flagged_address words A n.key.pc n.state instr span.first)
 
-      by_span : aim.reach ≡ reach.Within span → is_span_harmless words A f.bound n.key.pc instr span ≡ true → IsHarmless words A f n instr aim
+      by_span : aim.reach ≡ reach.Within span → is_span_harmless words A f.bound n.key.pc n.state instr span ≡ true → IsHarmless words A f n instr aim
       by_span is h = ⊎_elim (λ first. ⊎_elim by_under by_over (or_cases under over first)) by_single (or_cases (under || over) single h)
         where
           by_under : under ≡ true → IsHarmless words A f n instr aim
@@ -112,29 +112,29 @@ module _ (words : List ℕ) (A : List Entry) (f : RankedFamily) (n : Node) (held
 
           by_single : single ≡ true → IsHarmless words A f n instr aim
           by_single t =
-              let outer = and_parts ((span.first == span.last) && nat_le span.first BELOW) (not (is_flagged_address words A n.key.pc instr span.first)) t in
+              let outer = and_parts ((span.first == span.last) && nat_le span.first BELOW) (not (is_flagged_address words A n.key.pc n.state instr span.first)) t in
               let inner = and_parts (span.first == span.last) (nat_le span.first BELOW) outer.0 in
               let same : span.first ≡ span.last = eqb-true span.first span.last inner.0 in
               one_register span.first (is ∙ ap reach.Within (one_span span same))
-              (at_most_from_test span.first BELOW inner.1) (not-true (is_flagged_address words A n.key.pc instr span.first) outer.1)
+              (at_most_from_test span.first BELOW inner.1) (not-true (is_flagged_address words A n.key.pc n.state instr span.first) outer.1)
 
-    by_reach : (r : Reach) → aim.reach ≡ r → is_reach_harmless words A f.bound n.key.pc instr r ≡ true → IsHarmless words A f n instr aim
+    by_reach : (r : Reach) → aim.reach ≡ r → is_reach_harmless words A f.bound n.key.pc n.state instr r ≡ true → IsHarmless words A f n instr aim
     by_reach reach.Nothing is h = no_address is
     by_reach (reach.Within span) is h = by_span span is h
     by_reach reach.Beyond is h = absurd (cc)
 
     abbrev is_fine : ℕ → Bool
-    is_fine a = not (may_write n.state instr a) || is_address_harmless words A f.bound n.key.pc instr a
+    is_fine a = not (may_write n.state instr a) || is_address_harmless words A f.bound n.key.pc n.state instr a
 
     by_addresses : are_addresses_harmless words A f.bound n.key.pc n.state instr ≡ true → IsHarmless words A f n instr aim
     by_addresses h =
         let parts = and_parts (is_followed n.state.facts) (all_below 65536 is_fine) h in
         each_address parts.0
-        (λ a small may. passes (may_write n.state instr a) (is_address_harmless words A f.bound n.key.pc instr a) may (below_each is_fine 65536 a parts.1 small))
+        (λ a small may. passes (may_write n.state instr a) (is_address_harmless words A f.bound n.key.pc n.state instr a) may (below_each is_fine 65536 a parts.1 small))
 
     -- the three tests
     abbrev by_span_test : Bool
-    by_span_test = is_reach_harmless words A f.bound n.key.pc instr aim.reach
+    by_span_test = is_reach_harmless words A f.bound n.key.pc n.state instr aim.reach
 
     abbrev by_each_test : Bool
     by_each_test = are_addresses_harmless words A f.bound n.key.pc n.state instr
@@ -154,8 +154,8 @@ module _ (words : List ℕ) (A : List Entry) (f : RankedFamily) (n : Node) (held
         ⊎_elim (λ e. ⊎_elim (by_reach aim.reach refl) by_addresses (or_cases by_span_test by_each_test e)) (by_slot frees aim.slot refl)
         (or_cases (by_span_test || by_each_test) by_slot_test h)
 
-    reach_told : (r : Reach) → aim.reach ≡ r → is_reach_harmless words A f.bound n.key.pc instr r ≡ true → is_aim_harmless words A f.bound n.key n.state instr held (Some aim) ≡ true
-    reach_told r is h = first_of by_span_test by_each_test by_slot_test (ap (is_reach_harmless words A f.bound n.key.pc instr) is ∙ h)
+    reach_told : (r : Reach) → aim.reach ≡ r → is_reach_harmless words A f.bound n.key.pc n.state instr r ≡ true → is_aim_harmless words A f.bound n.key n.state instr held (Some aim) ≡ true
+    reach_told r is h = first_of by_span_test by_each_test by_slot_test (ap (is_reach_harmless words A f.bound n.key.pc n.state instr) is ∙ h)
 
     told : Holds → IsHarmless words A f n instr aim → is_aim_harmless words A f.bound n.key n.state instr held (Some aim) ≡ true
     told holds (no_address is) = reach_told reach.Nothing is refl
@@ -166,11 +166,11 @@ module _ (words : List ℕ) (A : List Entry) (f : RankedFamily) (n : Node) (held
     told holds (one_register a is low free) =
         let span : Span = record { first = a; last = a } in
         reach_told (reach.Within span) is
-        (third_of (under span) (over span) (single span) (all_three (a == a) (nat_le a BELOW) (is_flagged_address words A n.key.pc instr a) (equals_itself a) (test_from_at_most a BELOW low) free))
+        (third_of (under span) (over span) (single span) (all_three (a == a) (nat_le a BELOW) (is_flagged_address words A n.key.pc n.state instr a) (equals_itself a) (test_from_at_most a BELOW low) free))
     told holds (each_address followed h) =
         second_of by_span_test by_each_test by_slot_test
         (and_from (is_followed n.state.facts) (all_below 65536 is_fine) followed
-        (each_below is_fine 65536 (λ a small. may_pass (may_write n.state instr a) (is_address_harmless words A f.bound n.key.pc instr a) (h a small))))
+        (each_below is_fine 65536 (λ a small. may_pass (may_write n.state instr a) (is_address_harmless words A f.bound n.key.pc n.state instr a) (h a small))))
     told holds (free_slot d is lt none) =
         third_of by_span_test by_each_test by_slot_test
         (ap (is_slot_harmless (offset_of n.key.sp) held) is

@@ -2,7 +2,7 @@
 use Rattle.std.proofs.Common.{◌≡◌, ◌≢◌, refl, sym, ap, ap₂, ◌∙◌, subst, ℕ, ◌+◌, ◌-◌, ◌%◌, ◌<◌, ◌≤◌, ◌==◌, Bool, true, false, not, ◌&&◌, ◌||◌, nat_le, nat_lt, ◌⊎◌, inl, inr, ⊎_elim, if◌then◌else◌, List, [], ◌∷◌, ◌++◌, Option, Some, None, arith}
 use Rattle.std.specs.List.{list_any}
 use Rattle.std.proofs.lemmas.Bool.Decides.{nat_tests}
-use Rattle.std.proofs.lemmas.Bool.{false_from_ne_true as never, and_from, and_parts, or_cases, not-true, cases_lt}
+use Rattle.std.proofs.lemmas.Bool.{false_from_ne_true as never, and_from, and_left, and_parts, or_cases, or_from, or_left, or_parts, or_right, not-true, cases_lt}
 use Rattle.basics.specs.Booleans.{never_both, left_of_and}
 use Rattle.basics.specs.Numbers.{less_from_test, at_most_from_test}
 use Rattle.frame_laws.proofs.AllLaws.{vector_inside, vector_small}
@@ -16,33 +16,37 @@ use Rattle.avr_model.specs.declared.choice.Choice.TheVariants.{Take}
 use Rattle.avr_model.specs.declared.choice.Flag.{Flag}
 use Rattle.avr_model.specs.declared.effect.Effect.{Effect}
 use Rattle.avr_model.specs.declared.effect.Write.{Write}
-use Rattle.avr_model.specs.Assumptions.{jump_line, store_line, is_never, is_fixed_site, lists}
+use Rattle.avr_model.specs.Assumptions.{jump_line, store_line, is_never, is_fixed_site, lists, has_masks}
+use Rattle.avr_model.specs.Masks.{is_barred, enables_barred, admits_enables, is_flagged_write}
 use Rattle.avr_model.specs.Devices.{ramend, wrapped, device_of}
 use Rattle.avr_model.specs.Image.{WORDS}
 use Rattle.avr_model.specs.Sites.{instruction_at, is_scratch}
 use Rattle.avr_model.specs.State.{BELOW, State, Memory, is_live, i_flag, minus16, register, pair, low, high}
-use Rattle.avr_model.specs.Vectors.{Vector, vectors, has_enables, is_protected, is_enabled, vector_word, WATCHDOG}
+use Rattle.avr_model.specs.Vectors.{Vector, vectors, has_enables, is_core, is_protected, is_enabled, vector_word, WATCHDOG}
 use Rattle.avr_model.specs.Effects.{set, effect_of, way_back}
-use Rattle.avr_model.specs.Step.{Illegal, Overflow, Flagged, after, all_inside, live_write, unlisted, protected_write, unless_listed, unlisted_transfer, is_pointer_store, is_indirect, is_unlisted, flag_by, flagged_or, may_take, entering, never_target, take, go}
-use Rattle.bit_domain.specs.TriByte.{has}
+use Rattle.avr_model.specs.Step.{Illegal, Overflow, Flagged, after, all_inside, live_write, flagged_write, protected_write, unless_listed, unlisted_transfer, is_pointer_store, is_indirect, is_unlisted, flag_by, flagged_or, may_take, entering, never_target, take, go}
+use Rattle.bit_domain.specs.declared.bytes.TriByte.{TriByte}
+use Rattle.bit_domain.specs.TriByte.{Has, has}
 use Rattle.mask_states.specs.declared.keys.NodeKey.{NodeKey}
 use Rattle.mask_states.specs.declared.keys.SpForm.{SpForm}
 use Rattle.mask_states.specs.declared.keys.SpForm.TheVariants.{Closed, Open}
 use Rattle.mask_states.specs.Keys.{offset_of}
+use Rattle.mask_states.specs.Wakes.{may_enable, may_enable_barred}
+use Rattle.mask_states.proofs.AllLaws.{enables_stay_among}
 use Rattle.pair_domain.specs.declared.facts.PairFacts.{PairFacts}
-use Rattle.abs_state.specs.declared.values.AbsByte.{AbsByte}
 use Rattle.abs_state.specs.declared.state.AbsState.{AbsState}
 use Rattle.abs_state.specs.Stands.{ByteStands}
 use Rattle.local_rules.specs.Registers.{value, before}
-use Rattle.local_rules.specs.Local.{row_of, is_hung, may_be}
-use Rattle.local_laws.proofs.AllLaws.{open_pairs_hang, above_if_live}
+use Rattle.local_rules.specs.Local.{row_of, is_hung}
+use Rattle.local_rules.specs.Permitted.{may_be}
+use Rattle.local_laws.proofs.AllLaws.{open_pairs_hang, above_if_live, bare_frame, enabled_too, none_above, has_where_may, pair_permitted}
 use Rattle.edge_rules.specs.Families.{RankedFamily, IsSoundFamily}
 use Rattle.edge_rules.specs.Frames.{Frame, Runs}
 use Rattle.clear_laws.specs.Aims.{Aim, permits_number, may_write, aim_of}
-use Rattle.clear_laws.specs.Clear.{IsClear, IsHarmless, no_address, under_stack, above_memory, one_register, each_address, free_slot, is_flagged_address, is_address_harmless, permits_by, AreTargetsListed}
+use Rattle.clear_laws.specs.Clear.{IsClear, IsHarmless, no_address, under_stack, above_memory, one_register, each_address, free_slot, stored_bits, is_guarded, is_flagged_address, is_address_harmless, permits_by, AreTargetsListed}
 use Rattle.clear_laws.proofs.Memory.{inside_if_live}
 use Rattle.clear_laws.proofs.Ports.{ports_fit}
-use Rattle.clear_laws.proofs.Aims.{IsStoreReached, IsAimed, pair_permitted}
+use Rattle.clear_laws.proofs.Aims.{IsStoreReached, IsAimed}
 use Rattle.clear_laws.proofs.Bases.{base_inside}
 use Rattle.clear_laws.proofs.Effects.{IsSpWhole, Does, nothing, to_port, by_aim, pushing, entering as enters, does}
 use Rattle.clear_laws.proofs.Rows.{row_of_pushing, not_hung}
@@ -61,10 +65,6 @@ not_flagged true pc None None (Some c) x flag ha hb hc = absurd (cc)
 
 -- ---- transfers
 
--- what a byte may be its bits permit
-has_where_may : (v : AbsByte) (x : ℕ) → may_be v x ≡ true → has v.bits x ≡ true
-has_where_may v x h = left_of_and _ _ (left_of_and _ _ h)
-
 -- a number that bits, ranges and interval permit is one that a transfer counts
 counted : (facts : Option PairFacts) (s : AbsState) (r p : ℕ) → permits_number s r p ≡ true → permits_by facts s r p ≡ true
 counted None s r p h =
@@ -81,9 +81,9 @@ goes_listed device s (Some listed) z all small may =
 
 -- ---- protected writes
 
-none_stored : (b : Bool) (listed : List ℕ) → (if b then unlisted listed [] else None) ≡ None
-none_stored true listed = refl
-none_stored false listed = refl
+none_stored : (device : Device) (A : List Entry) (site : ℕ) (b : Bool) → (if b then flagged_write device A site [] else None) ≡ None
+none_stored device A site true = refl
+none_stored device A site false = refl
 
 protected_by : (stores fixed protected : Bool) (a : ℕ) → (stores && not fixed && protected) ≡ false
     → (if stores && not fixed then (if protected then Some a else None) else None) ≡ None
@@ -92,47 +92,77 @@ protected_by true true protected a h = refl
 protected_by true false true a h = absurd (cc)
 protected_by true false false a h = refl
 
+-- a write of a byte is flagged only at an address that is guarded against what the byte may be
+guarded_write : (device : Device) (A : List Entry) (site : ℕ) (value : TriByte) (a byte : ℕ) → Has value byte → is_flagged_write device A site a byte ≡ true
+    → is_guarded device A site value a ≡ true
+guarded_write device A site value a byte has = by (admits_enables A site)
+  where
+    by : (b : Bool) → (if b then is_core a || enables_barred device A a byte else is_protected a && not (lists (store_line A site) a)) ≡ true
+        → (if b then is_core a || may_enable_barred device A a value else is_protected a && not (lists (store_line A site) a)) ≡ true
+    by true h =
+        ⊎_elim (λ core. or_left (is_core a) _ core) (λ barred. or_right (is_core a) _ (enables_stay_among.barred device A value a byte has barred))
+        (or_cases (is_core a) (enables_barred device A a byte) h)
+    by false h = h
+
 module _ (words : List ℕ) (A : List Entry) (instr : Instr) (pc : ℕ) where
   nothing_protected : (e : Effect) → e.stores ≡ [] → protected_write words A pc instr e ≡ None
   unfolding protected_write
   nothing_protected e none =
-      ap (λ ws. if is_pointer_store instr && not (is_fixed_site words A pc) then unlisted (store_line A pc) ws else None) none
-      ∙ none_stored (is_pointer_store instr && not (is_fixed_site words A pc)) (store_line A pc)
+      ap (λ ws. if is_pointer_store instr && not (is_fixed_site words A pc) then flagged_write (device_of words) A pc ws else None) none
+      ∙ none_stored (device_of words) A pc (is_pointer_store instr && not (is_fixed_site words A pc))
 
-  one_protected : (e : Effect) (a byte : ℕ) → e.stores ≡ set a byte → is_flagged_address words A pc instr a ≡ false → protected_write words A pc instr e ≡ None
+  -- what is no store through a pointer isn't flagged for that
+  store_alone : (e : Effect) → is_pointer_store instr ≡ false → protected_write words A pc instr e ≡ None
   unfolding protected_write
-  one_protected e a byte stores free =
-      ap (λ ws. if is_pointer_store instr && not (is_fixed_site words A pc) then unlisted (store_line A pc) ws else None) stores
-      ∙ protected_by (is_pointer_store instr) (is_fixed_site words A pc) (is_protected a && not (lists (store_line A pc) a)) a free
+  store_alone e plain = ap (λ b. if b && not (is_fixed_site words A pc) then flagged_write (device_of words) A pc e.stores else None) plain
 
--- all enable bits lie below SRAM
-abbrev all_low : List Vector → Bool
-all_low [] = true
-all_low (r ∷ rs) = nat_le r.address 255 && all_low rs
+  -- a flagged write is one to an address that may be flagged
+  pub flagged_by_write : (s : AbsState) (a byte : ℕ) → Has (stored_bits s instr) byte
+      → (is_pointer_store instr && not (is_fixed_site words A pc) && is_flagged_write (device_of words) A pc a byte) ≡ true → is_flagged_address words A pc s instr a ≡ true
+  flagged_by_write s a byte has h =
+      let parts = and_parts (is_pointer_store instr && not (is_fixed_site words A pc)) (is_flagged_write (device_of words) A pc a byte) h in
+      and_from _ _ parts.0 (guarded_write (device_of words) A pc (stored_bits s instr) a byte has parts.1)
 
-none_high : (rs : List Vector) (a : ℕ) → 255 < a → all_low rs ≡ true → list_any (λ (r : Vector). r.address == a) rs ≡ false
-none_high [] a lt low = refl
-none_high (r ∷ rs) a lt low =
-    let first : (r.address == a) ≡ false = grind (arith, nat_tests) in
-    let rest = none_high rs a lt (grind arith) in
-    grind arith
+  one_protected : (s : AbsState) (e : Effect) (a byte : ℕ) → Has (stored_bits s instr) byte → e.stores ≡ set a byte → is_flagged_address words A pc s instr a ≡ false
+      → protected_write words A pc instr e ≡ None
+  unfolding protected_write
+  one_protected s e a byte has stores free =
+      ap (λ ws. if is_pointer_store instr && not (is_fixed_site words A pc) then flagged_write (device_of words) A pc ws else None) stores
+      ∙ protected_by (is_pointer_store instr) (is_fixed_site words A pc) (is_flagged_write (device_of words) A pc a byte) a
+      (never (is_pointer_store instr && not (is_fixed_site words A pc) && is_flagged_write (device_of words) A pc a byte)
+      (λ h. never_both _ (flagged_by_write s a byte has h) free))
 
-no_enables : (a : ℕ) → 255 < a → has_enables a ≡ false
-unfolding has_enables
-no_enables a lt = none_high vectors a lt refl
+no_core : (a : ℕ) → 255 < a → is_core a ≡ false
+no_core a lt = grind (arith, nat_tests)
 
-pub unprotected : (a : ℕ) → 255 < a → is_protected a ≡ false
-unprotected a lt = let none = no_enables a lt in grind (arith, nat_tests)
+-- where no enable bit stands, none is barred
+none_barred : (rs : List Vector) (a : ℕ) (p q : Vector → Bool) → list_any (λ (r : Vector). r.address == a) rs ≡ false
+    → list_any (λ (r : Vector). (r.address == a) && p r && q r) rs ≡ false
+none_barred [] a p q none = refl
+none_barred (r ∷ rs) a p q none =
+    let parts = or_parts (r.address == a) (list_any (λ (r : Vector). r.address == a) rs) none in
+    or_from _ _ (and_left ((r.address == a) && p r) (q r) (and_left (r.address == a) (p r) parts.0)) (none_barred rs a p q parts.1)
 
-and_false : (a b c d : Bool) → c ≡ false → (a && b && (c && d)) ≡ false
-and_false a b c d h = grind arith
+no_barred : (device : Device) (A : List Entry) (a : ℕ) (value : TriByte) → 255 < a → may_enable_barred device A a value ≡ false
+unfolding may_enable_barred has_enables
+no_barred device A a value lt = none_barred vectors a (λ (r : Vector). may_enable value r) (λ (r : Vector). is_barred device A r.number) (none_above a lt)
+
+pub unguarded : (device : Device) (A : List Entry) (site : ℕ) (value : TriByte) (a : ℕ) → 255 < a → is_guarded device A site value a ≡ false
+unguarded device A site value a lt = by (admits_enables A site)
+  where
+    by : (b : Bool) → (if b then is_core a || may_enable_barred device A a value else is_protected a && not (lists (store_line A site) a)) ≡ false
+    by true = or_from _ _ (no_core a lt) (no_barred device A a value lt)
+    by false = and_left _ _ (or_from _ _ (no_core a lt) (none_above a lt))
+
+and_false : (a b c : Bool) → c ≡ false → (a && b && c) ≡ false
+and_false a b c h = grind arith
 
 -- ---- what a store writes
 
 -- a write to this address isn't flagged
-record IsFreeToWrite (words : List ℕ) (A : List Entry) (memory : Memory) (pc : ℕ) (instr : Instr) (a : ℕ) : Type 0 where
+record IsFreeToWrite (words : List ℕ) (A : List Entry) (memory : Memory) (pc : ℕ) (s : AbsState) (instr : Instr) (a : ℕ) : Type 0 where
   dead : is_live memory a ≡ false
-  free : is_flagged_address words A pc instr a ≡ false
+  free : is_flagged_address words A pc s instr a ≡ false
 
 both_ends : (a b : ℕ) → b ≤ a → a ≤ b → b ≡ a
 both_ends a b h g = omega arith
@@ -208,45 +238,45 @@ module _ (words : List ℕ) (A : List Entry) (f : RankedFamily) (sound : IsSound
       ∙ ap (λ device. vector_word device v) runs.device
 
   -- above the first addresses of data space nothing is protected
-  high_free : (instr : Instr) (a : ℕ) → 255 < a → is_flagged_address words A k.pc instr a ≡ false
-  high_free instr a lt = and_false (is_pointer_store instr) (not (is_fixed_site words A k.pc)) (is_protected a) (not (lists (store_line A k.pc) a)) (unprotected a lt)
+  high_free : (instr : Instr) (a : ℕ) → 255 < a → is_flagged_address words A k.pc g.node.state instr a ≡ false
+  high_free instr a lt = and_false (is_pointer_store instr) (not (is_fixed_site words A k.pc)) _ (unguarded (device_of words) A k.pc (stored_bits g.node.state instr) a lt)
 
   -- a harmless address
   abbrev under : ℕ → Bool
   under a = nat_lt BELOW a && nat_le (a + f.bound) top
 
   abbrev outside : Instr → ℕ → Bool
-  outside instr a = nat_le a BELOW && not (is_flagged_address words A k.pc instr a)
+  outside instr a = nat_le a BELOW && not (is_flagged_address words A k.pc g.node.state instr a)
 
-  under_free : (instr : Instr) (a : ℕ) → BELOW < a → a + f.bound ≤ top → IsFreeToWrite words A m.memory k.pc instr a
+  under_free : (instr : Instr) (a : ℕ) → BELOW < a → a + f.bound ≤ top → IsFreeToWrite words A m.memory k.pc g.node.state instr a
   under_free instr a low high =
       record { dead = never (is_live m.memory a) (λ live. omega (arith, high, holds.above a live, holds.depth)); free = high_free instr a (omega (arith, low)) }
 
-  over_free : (instr : Instr) (a : ℕ) → top < a → IsFreeToWrite words A m.memory k.pc instr a
+  over_free : (instr : Instr) (a : ℕ) → top < a → IsFreeToWrite words A m.memory k.pc g.node.state instr a
   over_free instr a over = record { dead = never (is_live m.memory a) (λ live. omega (arith, over, inside a live)); free = high_free instr a (omega (arith, over)) }
 
-  below_free : (instr : Instr) (a : ℕ) → a ≤ BELOW → is_flagged_address words A k.pc instr a ≡ false → IsFreeToWrite words A m.memory k.pc instr a
+  below_free : (instr : Instr) (a : ℕ) → a ≤ BELOW → is_flagged_address words A k.pc g.node.state instr a ≡ false → IsFreeToWrite words A m.memory k.pc g.node.state instr a
   below_free instr a low free = record { dead = never (is_live m.memory a) (λ live. omega (arith, low, above_if_live m.memory.live a live)); free = free }
 
-  address_free : (instr : Instr) (a : ℕ) → is_address_harmless words A f.bound k.pc instr a ≡ true → IsFreeToWrite words A m.memory k.pc instr a
+  address_free : (instr : Instr) (a : ℕ) → is_address_harmless words A f.bound k.pc g.node.state instr a ≡ true → IsFreeToWrite words A m.memory k.pc g.node.state instr a
   address_free instr a h = ⊎_elim (λ first. ⊎_elim by_under by_over (or_cases (under a) (nat_lt top a) first)) by_outside (or_cases (under a || nat_lt top a) (outside instr a) h)
     where
-      by_under : under a ≡ true → IsFreeToWrite words A m.memory k.pc instr a
+      by_under : under a ≡ true → IsFreeToWrite words A m.memory k.pc g.node.state instr a
       by_under t =
           let parts = and_parts (nat_lt BELOW a) (nat_le (a + f.bound) top) t in
           under_free instr a (less_from_test BELOW a parts.0) (at_most_from_test (a + f.bound) top parts.1)
 
-      by_over : nat_lt top a ≡ true → IsFreeToWrite words A m.memory k.pc instr a
+      by_over : nat_lt top a ≡ true → IsFreeToWrite words A m.memory k.pc g.node.state instr a
       by_over t = over_free instr a (less_from_test top a t)
 
-      by_outside : outside instr a ≡ true → IsFreeToWrite words A m.memory k.pc instr a
+      by_outside : outside instr a ≡ true → IsFreeToWrite words A m.memory k.pc g.node.state instr a
       by_outside t =
-          let parts = and_parts (nat_le a BELOW) (not (is_flagged_address words A k.pc instr a)) t in
-          below_free instr a (at_most_from_test a BELOW parts.0) (not-true (is_flagged_address words A k.pc instr a) parts.1)
+          let parts = and_parts (nat_le a BELOW) (not (is_flagged_address words A k.pc g.node.state instr a)) t in
+          below_free instr a (at_most_from_test a BELOW parts.0) (not-true (is_flagged_address words A k.pc g.node.state instr a) parts.1)
 
   -- a harmless store
   harmless_free : (instr : Instr) (aim : Aim) (a : ℕ) → IsAimed g.origin.base aim a → may_write g.node.state instr a ≡ true → IsHarmless words A f g.node instr aim
-      → IsFreeToWrite words A m.memory k.pc instr a
+      → IsFreeToWrite words A m.memory k.pc g.node.state instr a
   harmless_free instr aim a aimed may (no_address is) = absurd (subst (λ r. IsStoreReached r a) is aimed.reach)
   harmless_free instr aim a aimed may (under_stack span is low high) =
       let within = subst (λ r. IsStoreReached r a) is aimed.reach in
@@ -257,7 +287,7 @@ module _ (words : List ℕ) (A : List Entry) (f : RankedFamily) (sound : IsSound
   harmless_free instr aim a aimed may (one_register b is low free) =
       let within = subst (λ r. IsStoreReached r a) is aimed.reach in
       let same = both_ends a b within.first within.last in
-      below_free instr a (omega (arith, same, low)) (subst (λ x. is_flagged_address words A k.pc instr x ≡ false) same free)
+      below_free instr a (omega (arith, same, low)) (subst (λ x. is_flagged_address words A k.pc g.node.state instr x ≡ false) same free)
   harmless_free instr aim a aimed may (each_address followed each) =
       ⊎_elim (λ lt. address_free instr a (each a lt may)) (λ over. over_free instr a (omega (arith, over, top_small))) (cases_lt a 65536)
   harmless_free instr aim a aimed may (free_slot d is lt none) =
@@ -284,6 +314,7 @@ module _ (words : List ℕ) (A : List Entry) (f : RankedFamily) (sound : IsSound
       pub at : aim_of (device_of words) k g.node.state instr ≡ Some aim
       pub aimed : IsAimed g.origin.base aim address
       pub may : may_write g.node.state instr address ≡ true
+      pub has_byte : Has (stored_bits g.node.state instr) byte
       pub stores : effect.stores ≡ set address byte
       pub pushes : effect.pushes ≡ []
 
@@ -293,11 +324,11 @@ module _ (words : List ℕ) (A : List Entry) (f : RankedFamily) (sound : IsSound
     here : instruction_at words k.pc ≡ Some instr
     here = subst (λ p. instruction_at words p ≡ Some instr) runs.running.place.pc is
 
-    one_safe : (a byte : ℕ) → is_live m.memory a ≡ false → is_flagged_address words A m.pc instr a ≡ false → effect.stores ≡ set a byte → effect.pushes ≡ [] → IsSafe
-    one_safe a byte dead free stores pushes =
+    one_safe : (a byte : ℕ) → Has (stored_bits g.node.state instr) byte → is_live m.memory a ≡ false → is_flagged_address words A m.pc g.node.state instr a ≡ false → effect.stores ≡ set a byte → effect.pushes ≡ [] → IsSafe
+    one_safe a byte has dead free stores pushes =
         record {
           live = ap₂ (λ ss ps. live_write m.memory (ss ++ ps)) stores pushes ∙ one_write m.memory a byte dead;
-          protected = one_protected words A instr m.pc effect a byte stores free;
+          protected = one_protected words A instr m.pc g.node.state effect a byte has stores free;
         }
 
     sorted : Does (device_of words) m g.origin.base k g.node.state instr effect (row_of (device_of words) words A (is_scratch words k.pc) k state instr)
@@ -310,9 +341,12 @@ module _ (words : List ℕ) (A : List Entry) (f : RankedFamily) (sound : IsSound
         })
     sorted (to_port a byte low plain stores pushes) =
         inl
-        (one_safe a byte (never (is_live m.memory a) (λ live. omega (arith, low, above_if_live m.memory.live a live)))
-        (ap (λ b. b && not (is_fixed_site words A m.pc) && (is_protected a && not (lists (store_line A m.pc) a))) plain) stores pushes)
-    sorted (by_aim a byte aim at aimed may stores pushes) = inr (record { address = a; byte = byte; aim = aim; at = at; aimed = aimed; may = may; stores = stores; pushes = pushes })
+        (record {
+          live = ap₂ (λ ss ps. live_write m.memory (ss ++ ps)) stores pushes ∙ one_write m.memory a byte (never (is_live m.memory a) (λ live. omega (arith, low, above_if_live m.memory.live a live)));
+          protected = store_alone words A instr m.pc effect plain;
+        })
+    sorted (by_aim a byte aim at aimed may has stores pushes) =
+        inr (record { address = a; byte = byte; aim = aim; at = at; aimed = aimed; may = may; has_byte = has; stores = stores; pushes = pushes })
     sorted (pushing byte push plain closes closed stores pushes) =
         let form = closes (row_of_pushing words A k g.node.state instr here (sound.faultless g.node runs.present) plain).faultless in
         inl
@@ -339,7 +373,7 @@ module _ (words : List ℕ) (A : List Entry) (f : RankedFamily) (sound : IsSound
         harmless : IsStore → IsSafe
         harmless w =
             let free = harmless_free instr w.aim w.address w.aimed w.may (clear.store instr w.aim here w.at) in
-            one_safe w.address w.byte free.dead (subst (λ p. is_flagged_address words A p instr w.address ≡ false) (sym runs.running.place.pc) free.free) w.stores w.pushes
+            one_safe w.address w.byte w.has_byte free.dead (subst (λ p. is_flagged_address words A p g.node.state instr w.address ≡ false) (sym runs.running.place.pc) free.free) w.stores w.pushes
 
     stands : (r : ℕ) → r < 32 → ByteStands g.origin (value g.node.state r) (register m r)
     stands r lt = runs.running.stands.registers r lt
@@ -352,7 +386,7 @@ module _ (words : List ℕ) (A : List Entry) (f : RankedFamily) (sound : IsSound
         (subst (λ device. unless_listed (jump_line A k.pc) (wrapped device (pair m 30 % WORDS)) ≡ None) (sym runs.device)
         (goes_listed (device_of words) g.node.state (jump_line A k.pc) (pair m 30) all
         (omega (arith, (stands 30 (omega arith)).small, (stands 31 (omega arith)).small))
-        (pair_permitted m g.origin k g.node.state runs.running 30 (omega arith) refl)))
+        (pair_permitted m g.origin k g.node.state (bare_frame m g.origin k g.node.state runs.running) 30 (omega arith, refl))))
 
   module _ (clear : IsClear words A f g.node) (flag : Flag) where
     -- what goes to no indirect word isn't unlisted
@@ -381,7 +415,7 @@ module _ (words : List ℕ) (A : List Entry) (f : RankedFamily) (sound : IsSound
       let place = runs.running.place in
       let all = all_four (is_enabled m.enables v) (i_flag m) m.delay (not clears || (v == WATCHDOG)) legal in
       let form =
-      whole_where_taken (device_of words) A k v k.sp refl (sym place.i ∙ all.1) (sym place.delay ∙ all.2) (ap (λ masks. is_enabled masks v) (sym place.enables) ∙ all.0)
+      whole_where_taken (device_of words) A k v k.sp refl (sym place.i ∙ all.1) (sym place.delay ∙ all.2) (enabled_too (has_masks A) m.enables k.masks v place.enables all.0)
       allowed (not_hung words A k g.node.state (sound.faultless g.node runs.present)) in
       let e = entering m v clears in
       not_flagged (all_inside m.device e.pushes || is_unlisted (never_target A e.pc)) m.pc (live_write m.memory e.pushes) None (never_target A e.pc) (after m true (entering m v clears)) flag
@@ -412,6 +446,6 @@ module _ (words : List ℕ) (A : List Entry) (f : RankedFamily) (sound : IsSound
         is = refl;
         i = sym place.i ∙ all.1;
         delay = sym place.delay ∙ all.2;
-        enabled = ap (λ masks. is_enabled masks v) (sym place.enables) ∙ all.0;
+        enabled = enabled_too (has_masks A) m.enables k.masks v place.enables all.0;
         never = line;
       }

@@ -8,8 +8,6 @@ use Rattle.avr_model.specs.declared.instruction.Pointer.TheVariants as pointer
 use Rattle.avr_model.specs.Devices.{ramend}
 use Rattle.avr_model.specs.Sites.{base_register, pointer_register}
 use Rattle.avr_model.specs.State.{low, high, minus16}
-use Rattle.pair_domain.specs.declared.facts.PairFacts.{PairFacts}
-use Rattle.pair_rules.specs.Told.{interval_of}
 use Rattle.abs_state.specs.declared.values.AbsByte.{AbsByte}
 use Rattle.abs_state.specs.declared.state.AbsState.{AbsState}
 use Rattle.mask_states.specs.declared.keys.NodeKey.{NodeKey}
@@ -18,7 +16,8 @@ use Rattle.mask_states.specs.declared.keys.Kind.TheVariants.{Root, Call, Vector}
 use Rattle.local_rules.specs.declared.pointers.Pointed.{Pointed}
 use Rattle.local_rules.specs.Registers.{value}
 use Rattle.local_rules.specs.Reads.{pointed}
-use Rattle.local_rules.specs.Local.{step_before, may_be}
+use Rattle.local_rules.specs.Local.{step_before}
+pub use Rattle.local_rules.specs.Permitted.{may_be, is_between, is_in_interval, permits_bytes, permits_number}
 pub use Rattle.clear_laws.specs.declared.stores.Span.{Span}
 pub use Rattle.clear_laws.specs.declared.stores.Reach.{Reach}
 pub use Rattle.clear_laws.specs.declared.stores.Reach.TheVariants as reach
@@ -78,23 +77,7 @@ pointer_reach pointer.X s = raised (pair_span s 26) 0
 pointer_reach pointer.XPlus s = raised (pair_span s 26) 0
 pointer_reach pointer.MinusX s = lowered (pair_span s 26)
 
--- ---- the numbers that a pair permits, and the addresses that these are
-
-abbrev pub is_between : ℕ → ℕ → ℕ → Bool
-is_between low high p = nat_le low p && nat_le p high
-
--- where pairs are followed, the number lies in the interval of registers r and r + 1
-abbrev pub is_in_interval : Option PairFacts → ℕ → ℕ → Bool
-is_in_interval None r p = true
-is_in_interval (Some f) r p = is_between (interval_of f r).low (interval_of f r).high p
-
--- bits and ranges permit that registers r and r + 1 hold this number
-abbrev pub permits_bytes : AbsState → ℕ → ℕ → Bool
-permits_bytes s r p = may_be (value s r) (low p) && may_be (value s (r + 1)) (high p)
-
--- and it lies in their interval
-abbrev pub permits_number : AbsState → ℕ → ℕ → Bool
-permits_number s r p = permits_bytes s r p && is_in_interval s.facts r p
+-- ---- the addresses that a pointer permits
 
 -- The byte of a store may go to this address, below 65,536: its pointer permits a number which gives it, with what is added to the pointer
 -- modulo 65,536.

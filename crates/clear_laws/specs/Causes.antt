@@ -18,9 +18,9 @@ use Rattle.clear_laws.specs.Clear.{IsClear, is_flagged_address, is_transfer_list
 
 -- ---- the addresses of a store
 
--- the byte of a store may go to this address, and that is flagged: it is protected, the site isn't fixed, and no `store` line of the site lists it
+-- the byte of a store may go to this address, and that may be flagged as a protected one
 abbrev pub may_write_protected : List ℕ → List Entry → ℕ → AbsState → Instr → ℕ → Bool
-may_write_protected words A pc s instr a = is_flagged_address words A pc instr a && may_write s instr a
+may_write_protected words A pc s instr a = is_flagged_address words A pc s instr a && may_write s instr a
 
 -- there is such an address; none is above 255
 abbrev pub may_write_some_protected : List ℕ → List Entry → ℕ → AbsState → Instr → Bool

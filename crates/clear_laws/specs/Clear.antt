@@ -1,5 +1,5 @@
 -- Nodes at which no step can be flagged. Source: own.
-use Rattle.std.specs.Prelude.{ℕ, ⊤, ◌+◌, ◌++◌, ◌∷◌, ◌≡◌, ◌≢◌, ◌<◌, ◌≤◌, ◌&&◌, ◌||◌, ◌==◌, Bool, true, false, not, nat_lt, nat_le, List, Option, Some, None, Contains}
+use Rattle.std.specs.Prelude.{ℕ, ⊤, ◌+◌, ◌++◌, ◌∷◌, ◌≡◌, ◌≢◌, ◌<◌, ◌≤◌, ◌&&◌, ◌||◌, ◌==◌, Bool, true, false, not, nat_lt, nat_le, if◌then◌else◌, List, Option, Some, None, Contains}
 use Rattle.avr_model.specs.declared.assumption.Entry.{Entry}
 use Rattle.avr_model.specs.declared.choice.Choice.{Choice}
 use Rattle.avr_model.specs.declared.choice.Choice.TheVariants.{Take}
@@ -8,20 +8,24 @@ use Rattle.avr_model.specs.declared.choice.Flag.TheVariants.{Live, Protected, Tr
 use Rattle.avr_model.specs.declared.choice.Stop.TheVariants as stop
 use Rattle.avr_model.specs.declared.device.Device.{Device}
 use Rattle.avr_model.specs.declared.instruction.Instr.{Instr}
+use Rattle.avr_model.specs.declared.instruction.Instr.TheVariants as i
 use Rattle.avr_model.specs.Assumptions.{jump_line, store_line, is_never, is_fixed_site, lists}
 use Rattle.avr_model.specs.Bits.{all_below}
+use Rattle.avr_model.specs.Masks.{admits_enables}
 use Rattle.avr_model.specs.Devices.{ramend, wrapped, device_of}
 use Rattle.avr_model.specs.Sites.{instruction_at}
 use Rattle.avr_model.specs.State.{State, IsReset, BELOW, low, high}
 use Rattle.avr_model.specs.Step.{is_pointer_store, is_indirect}
 use Rattle.avr_model.specs.Run.{IsRun, stop_of}
-use Rattle.avr_model.specs.Vectors.{is_protected, is_enabled, vector_word}
-use Rattle.bit_domain.specs.TriByte.{has}
+use Rattle.avr_model.specs.Vectors.{is_core, is_protected, is_enabled, vector_word}
+use Rattle.bit_domain.specs.declared.bytes.TriByte.{TriByte}
+use Rattle.bit_domain.specs.TriByte.{has, byte_any}
 use Rattle.pair_domain.specs.declared.facts.PairFacts.{PairFacts}
 use Rattle.pair_domain.specs.Facts.{is_followed}
 use Rattle.abs_state.specs.declared.state.AbsState.{AbsState}
 use Rattle.mask_states.specs.declared.keys.NodeKey.{NodeKey}
 use Rattle.mask_states.specs.Keys.{offset_of}
+use Rattle.mask_states.specs.Wakes.{may_enable_barred}
 use Rattle.local_rules.specs.declared.local.Node.{Node}
 use Rattle.local_rules.specs.Registers.{bits}
 use Rattle.edge_rules.specs.Families.{RankedFamily}
@@ -31,16 +35,31 @@ use Rattle.clear_laws.specs.Held.{MayHold}
 
 -- ---- stores
 
--- The address is flagged as protected: it is protected, this is `st` or `std`, the site isn't fixed, and no `store` line of the site lists it.
-abbrev pub is_flagged_address : List ℕ → List Entry → ℕ → Instr → ℕ → Bool
-is_flagged_address words A pc instr a =
-    is_pointer_store instr && not (is_fixed_site words A pc) && (is_protected a && not (lists (store_line A pc) a))
+-- what is known of the byte that a pointer store stores
+abbrev pub stored_bits : AbsState → Instr → TriByte
+stored_bits s (i.Std b q r) = bits s r
+stored_bits s (i.St p r) = bits s r
+stored_bits s _ = byte_any
+
+-- A write of a byte of this kind to this address is flagged at the unfixed site: the address is protected, and no `store` line of the site
+-- lists it. Where the line `masks` admits the site: it is that of a register, of the stack pointer or of the status register, or the byte may
+-- have 1 at an enable bit of a barred vector.
+abbrev pub is_guarded : Device → List Entry → ℕ → TriByte → ℕ → Bool
+is_guarded device A site value a =
+    if admits_enables A site
+    then is_core a || may_enable_barred device A a value
+    else is_protected a && not (lists (store_line A site) a)
+
+-- The address may be flagged as protected: this is `st` or `std`, the site isn't fixed, and a write of its byte to the address is flagged.
+abbrev pub is_flagged_address : List ℕ → List Entry → ℕ → AbsState → Instr → ℕ → Bool
+is_flagged_address words A pc s instr a =
+    is_pointer_store instr && not (is_fixed_site words A pc) && is_guarded (device_of words) A pc (stored_bits s instr) a
 
 -- The address is harmless: it lies in SRAM below what the stack can reach, or above SRAM, or below SRAM and isn't flagged.
-abbrev pub is_address_harmless : List ℕ → List Entry → ℕ → ℕ → Instr → ℕ → Bool
-is_address_harmless words A bound pc instr a =
+abbrev pub is_address_harmless : List ℕ → List Entry → ℕ → ℕ → AbsState → Instr → ℕ → Bool
+is_address_harmless words A bound pc s instr a =
     (nat_lt BELOW a && nat_le (a + bound) (ramend (device_of words))) || nat_lt (ramend (device_of words)) a
-    || (nat_le a BELOW && not (is_flagged_address words A pc instr a))
+    || (nat_le a BELOW && not (is_flagged_address words A pc s instr a))
 
 -- A store with this aim writes no live byte and no flagged address: there is no address; all lie in SRAM below what the stack can reach; all
 -- lie above SRAM; there is one, below SRAM, that isn't flagged; or the address is a slot, below the offset, that may hold no live byte. Where
@@ -50,10 +69,10 @@ pub data IsHarmless (words : List ℕ) (A : List Entry) (f : RankedFamily) (n : 
   under_stack : (span : Span) → aim.reach ≡ reach.Within span → BELOW < span.first → span.last + f.bound ≤ ramend (device_of words)
       → IsHarmless words A f n instr aim
   above_memory : (span : Span) → aim.reach ≡ reach.Within span → ramend (device_of words) < span.first → IsHarmless words A f n instr aim
-  one_register : (a : ℕ) → aim.reach ≡ reach.Within (record { first = a; last = a }) → a ≤ BELOW → is_flagged_address words A n.key.pc instr a ≡ false
+  one_register : (a : ℕ) → aim.reach ≡ reach.Within (record { first = a; last = a }) → a ≤ BELOW → is_flagged_address words A n.key.pc n.state instr a ≡ false
       → IsHarmless words A f n instr aim
   each_address : is_followed n.state.facts ≡ true
-      → ((a : ℕ) → a < 65536 → may_write n.state instr a ≡ true → is_address_harmless words A f.bound n.key.pc instr a ≡ true) → IsHarmless words A f n instr aim
+      → ((a : ℕ) → a < 65536 → may_write n.state instr a ≡ true → is_address_harmless words A f.bound n.key.pc n.state instr a ≡ true) → IsHarmless words A f n instr aim
   free_slot : (d : ℕ) → aim.slot ≡ Some d → d < offset_of n.key.sp → (MayHold words A f.nodes n.key d → ⊥) → IsHarmless words A f n instr aim
 
 -- ---- transfers
@@ -113,20 +132,20 @@ pub record EndsByTake (words : List ℕ) (A : List Entry) (nodes : List Node) (m
 
 -- ---- the same as a test
 
-abbrev pub is_span_harmless : List ℕ → List Entry → ℕ → ℕ → Instr → Span → Bool
-is_span_harmless words A bound pc instr span =
+abbrev pub is_span_harmless : List ℕ → List Entry → ℕ → ℕ → AbsState → Instr → Span → Bool
+is_span_harmless words A bound pc s instr span =
     (nat_lt BELOW span.first && nat_le (span.last + bound) (ramend (device_of words))) || nat_lt (ramend (device_of words)) span.first
-    || ((span.first == span.last) && nat_le span.first BELOW && not (is_flagged_address words A pc instr span.first))
+    || ((span.first == span.last) && nat_le span.first BELOW && not (is_flagged_address words A pc s instr span.first))
 
-abbrev pub is_reach_harmless : List ℕ → List Entry → ℕ → ℕ → Instr → Reach → Bool
-is_reach_harmless words A bound pc instr reach.Nothing = true
-is_reach_harmless words A bound pc instr (reach.Within span) = is_span_harmless words A bound pc instr span
-is_reach_harmless words A bound pc instr reach.Beyond = false
+abbrev pub is_reach_harmless : List ℕ → List Entry → ℕ → ℕ → AbsState → Instr → Reach → Bool
+is_reach_harmless words A bound pc s instr reach.Nothing = true
+is_reach_harmless words A bound pc s instr (reach.Within span) = is_span_harmless words A bound pc s instr span
+is_reach_harmless words A bound pc s instr reach.Beyond = false
 
 -- pairs are followed, and each address to which the byte may go is harmless
 abbrev pub are_addresses_harmless : List ℕ → List Entry → ℕ → ℕ → AbsState → Instr → Bool
 are_addresses_harmless words A bound pc s instr =
-    is_followed s.facts && all_below 65536 (λ a. not (may_write s instr a) || is_address_harmless words A bound pc instr a)
+    is_followed s.facts && all_below 65536 (λ a. not (may_write s instr a) || is_address_harmless words A bound pc s instr a)
 
 -- below an offset, where `held` tells the slots that may hold a live byte
 abbrev pub is_slot_harmless : ℕ → (ℕ → Bool) → Option ℕ → Bool
@@ -136,7 +155,7 @@ is_slot_harmless offset held (Some d) = nat_lt d offset && not (held d)
 abbrev pub is_aim_harmless : List ℕ → List Entry → ℕ → NodeKey → AbsState → Instr → (ℕ → Bool) → Option Aim → Bool
 is_aim_harmless words A bound k s instr held None = true
 is_aim_harmless words A bound k s instr held (Some aim) =
-    (is_reach_harmless words A bound k.pc instr aim.reach || are_addresses_harmless words A bound k.pc s instr) || is_slot_harmless (offset_of k.sp) held aim.slot
+    (is_reach_harmless words A bound k.pc s instr aim.reach || are_addresses_harmless words A bound k.pc s instr) || is_slot_harmless (offset_of k.sp) held aim.slot
 
 abbrev pub is_target_listed : Device → AbsState → List ℕ → ℕ → Bool
 is_target_listed device s listed z = not (permits_pair s 30 z) || lists listed (wrapped device z)

@@ -16,8 +16,8 @@ use Rattle.avr_model.specs.declared.assumption.Entry.{Entry}
 use Rattle.avr_model.specs.declared.instruction.Instr.{Instr}
 use Rattle.avr_model.specs.Sites.{instruction_at}
 use Rattle.avr_model.specs.Step.{is_pointer_store, is_indirect}
-use Rattle.avr_model.specs.Assumptions.{is_fixed_site, store_line, lists}
-use Rattle.avr_model.specs.Vectors.{is_protected}
+use Rattle.avr_model.specs.Assumptions.{is_fixed_site}
+use Rattle.avr_model.specs.Devices.{device_of}
 use Rattle.abs_state.specs.declared.state.AbsState.{AbsState}
 use Rattle.mask_states.specs.declared.keys.NodeKey.{NodeKey}
 use Rattle.local_rules.specs.declared.local.Node.{Node}
@@ -25,9 +25,9 @@ use Rattle.edge_rules.specs.Families.{RankedFamily}
 use Rattle.edge_laws.proofs.ExpansionLaws.{filled_or_missing}
 use Rattle.certificate.specs.Claims.{Claim}
 use Rattle.certificate.specs.Valid.{family_of}
-use Rattle.clear_laws.specs.Clear.{IsClear, MayBeFlagged, is_transfer_listed, is_flagged_address}
+use Rattle.clear_laws.specs.Clear.{IsClear, MayBeFlagged, is_transfer_listed, stored_bits, is_guarded, is_flagged_address}
 use Rattle.clear_laws.specs.Causes.{may_write_protected, may_write_live, IsCause}
-use Rattle.clear_laws.proofs.AllLaws.{not_listed, unprotected}
+use Rattle.clear_laws.proofs.AllLaws.{not_listed, unguarded}
 use Rattle.clear_laws.specs.Reach.{is_on}
 use Rattle.clear_laws.specs.declared.slots.Asks.{Asks}
 use Rattle.clear_laws.specs.declared.place.FlaggedPlace.{FlaggedPlace}
@@ -229,16 +229,15 @@ module _ (words : List ℕ) (A : List Entry) (c : Claim) (nodes : List Node) (as
         transfer = (λ h. absurd (never_true h), λ cause. absurd (none_without (λ s y. not (is_transfer_listed words A pc s y)) is cause));
       }
 
-  -- only the first 256 addresses are protected
+  -- only the first 256 addresses are guarded
   protected_small : (s : AbsState) (instr : Instr) (a : ℕ) → may_write_protected words A pc s instr a ≡ true → a < 256
   protected_small s instr a h =
       ⊎_elim (λ lt. lt)
-      (λ over. absurd (never_both (is_protected a) (flagged_parts (left_of_and (is_flagged_address words A pc instr a) _ h)) (unprotected a (omega (arith, over))))) (cases_lt a 256)
-    where
-      flagged_parts : is_flagged_address words A pc instr a ≡ true → is_protected a ≡ true
-      flagged_parts e =
-          let parts = and_parts (is_pointer_store instr && not (is_fixed_site words A pc)) (is_protected a && not (lists (store_line A pc) a)) e in
-          left_of_and (is_protected a) _ parts.1
+      (λ over.
+      absurd
+      (never_both (is_guarded (device_of words) A pc (stored_bits s instr) a)
+      (and_parts (is_pointer_store instr && not (is_fixed_site words A pc)) _ (left_of_and (is_flagged_address words A pc s instr a) _ h)).1
+      (unguarded (device_of words) A pc (stored_bits s instr) a (omega (arith, over))))) (cases_lt a 256)
 
   module _ (instr : Instr) (is : instruction_at words pc ≡ Some instr) (protected : List ℕ) (live : Bool)
       (exact : (a : ℕ) → Contains protected a ↔ IsProtectedAt words A nodes asks pc instr (length asks) a) (sorted : IsStrictlySortedBy nat_cmp protected)

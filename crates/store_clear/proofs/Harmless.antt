@@ -43,9 +43,9 @@ over low high p up h g small less le = omega arith
 under : (low high p up : ℕ) → low ≤ p → p ≤ high → high < 65536 → up < 65536 → plus16 low up ≤ plus16 high up → plus16 p up ≤ plus16 high up
 under low high p up h g small less le = omega arith
 
-module _ (words : List ℕ) (A : List Entry) (bound pc : ℕ) (instr : Instr) where
+module _ (words : List ℕ) (A : List Entry) (bound pc : ℕ) (instr : Instr) (s : AbsState) where
   abbrev is_harmless : ℕ → Bool
-  is_harmless a = is_address_harmless words A bound pc instr a
+  is_harmless a = is_address_harmless words A bound pc s instr a
 
   abbrev top : ℕ
   top = ramend (device_of words)
@@ -63,7 +63,7 @@ module _ (words : List ℕ) (A : List Entry) (bound pc : ℕ) (instr : Instr) wh
       (λ t. let above = less_from_test top first t in or_left _ _ (or_right _ _ (test_from_less top a (omega (arith, above, le)))))
       (or_cases (nat_lt BELOW first && nat_le (last + bound) top) (nat_lt top first) parts.1)
 
-  module _ (s : AbsState) (least most r up : ℕ) (follows : (p : ℕ) → is_in_interval s.facts r p ≡ is_between least most p) where
+  module _ (least most r up : ℕ) (follows : (p : ℕ) → is_in_interval s.facts r p ≡ is_between least most p) where
     -- the numbers of the interval up to this one lead to harmless addresses, where the bytes permit them
     abbrev pub Scanned : ℕ → Type 0
     Scanned n = (p : ℕ) → least ≤ p → p < n → is_number_harmless words A bound pc s instr r up p ≡ true
@@ -146,13 +146,13 @@ others words A bound pc s f follows (i.Std b q r) std sts st = absurd (std b q r
 others words A bound pc s f follows (i.Sts a r) std sts st = absurd (sts a r refl)
 others words A bound pc s f follows (i.St p r) std sts st = absurd (st p r refl)
 others words A bound pc s f follows instr std sts st =
-    and_from (is_followed s.facts) _ (ap is_followed follows) (all_of_none (is_address_harmless words A bound pc instr))
+    and_from (is_followed s.facts) _ (ap is_followed follows) (all_of_none (is_address_harmless words A bound pc s instr))
 
 pub direct : (words : List ℕ) (A : List Entry) (bound pc : ℕ) (s : AbsState) (f : PairFacts) → s.facts ≡ Some f → (a : ℕ) (r : Operand 0 31)
-    → are_addresses_harmless words A bound pc s (i.Sts a r) ≡ is_address_harmless words A bound pc (i.Sts a r) a
-direct words A bound pc s f follows a r = ap₂ (λ b c. b && c) (ap is_followed follows) (⊎_elim (λ lt. all_of_one (is_address_harmless words A bound pc (i.Sts a r)) a lt) past (cases_lt a 65536))
+    → are_addresses_harmless words A bound pc s (i.Sts a r) ≡ is_address_harmless words A bound pc s (i.Sts a r) a
+direct words A bound pc s f follows a r = ap₂ (λ b c. b && c) (ap is_followed follows) (⊎_elim (λ lt. all_of_one (is_address_harmless words A bound pc s (i.Sts a r)) a lt) past (cases_lt a 65536))
   where
-    past : 65536 ≤ a → all_below 65536 (λ x. not (a == x) || is_address_harmless words A bound pc (i.Sts a r) x) ≡ is_address_harmless words A bound pc (i.Sts a r) a
+    past : 65536 ≤ a → all_below 65536 (λ x. not (a == x) || is_address_harmless words A bound pc s (i.Sts a r) x) ≡ is_address_harmless words A bound pc s (i.Sts a r) a
     past far =
         let above = test_from_less (ramend (device_of words)) a (omega (arith, far, devices_are_alike.most_bytes (device_of words))) in
-        all_past (is_address_harmless words A bound pc (i.Sts a r)) a far ∙ sym (or_left _ _ (or_right _ _ above))
+        all_past (is_address_harmless words A bound pc s (i.Sts a r)) a far ∙ sym (or_left _ _ (or_right _ _ above))

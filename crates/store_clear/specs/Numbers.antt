@@ -17,9 +17,9 @@ is_range_harmless device bound first last =
 
 -- the bytes of registers r and r + 1 don't permit the number, or the address is harmless that it gives with `up` added modulo 65,536
 abbrev pub is_number_harmless : List ℕ → List Entry → ℕ → ℕ → AbsState → Instr → ℕ → ℕ → ℕ → Bool
-is_number_harmless words A bound pc s instr r up p = not (permits_bytes s r p) || is_address_harmless words A bound pc instr (plus16 p up)
+is_number_harmless words A bound pc s instr r up p = not (permits_bytes s r p) || is_address_harmless words A bound pc s instr (plus16 p up)
 
 -- each address is harmless that a permitted number of registers r and r + 1 gives, with `up` added modulo 65,536
 abbrev pub are_numbers_harmless : List ℕ → List Entry → ℕ → ℕ → AbsState → Instr → ℕ → ℕ → Bool
 are_numbers_harmless words A bound pc s instr r up =
-    all_below 65536 (λ a. not (permits_number s r (minus16 a up)) || is_address_harmless words A bound pc instr a)
+    all_below 65536 (λ a. not (permits_number s r (minus16 a up)) || is_address_harmless words A bound pc s instr a)

@@ -1,26 +1,18 @@
 //! Where a store's byte goes.
 
 ghost use Rattle.std.specs.Prelude.{◌≡◌};
-ghost use Rattle.local_rules.specs.Local as rows;
-ghost use Rattle.clear_laws.specs.Aims.{first_byte, last_byte, pair_span, raised, lowered, pointer_reach, permits_bytes, permits_number, slot_aimed, aim_of};
+ghost use Rattle.clear_laws.specs.Aims.{first_byte, last_byte, pair_span, raised, lowered, pointer_reach, slot_aimed, aim_of};
 
 use abs_state::{AbsByte, AbsState};
 use avr_model::device::Device;
 use avr_model::instruction::{Instr, LowRegister, Pointer};
 use clear_laws::stores::{Aim, Reach, Span};
-use local_reads::pointers::{has, point, step_before};
+use local_reads::members::may_be;
+use local_reads::pointers::{point, step_before};
 use local_rows::registers::pair;
 use local_rows::transfer::{base_register, pointer_register};
 use local_rules::Pointed;
 use mask_states::{Kind, NodeKey};
-use pair_told::told::interval_of;
-
-// Whether the value may be this byte: its bits permit it, and it lies in the range.
-pub(crate) fn may_be(value: AbsByte, byte: u8) -> bool
-    ensures { result ≡ rows.may_be value byte }
-{
-    has(value.bits, byte) && value.low <= byte && byte <= value.high
-}
 
 // The least byte that the value may be.
 fn first_byte(value: AbsByte) -> Option<u8>
@@ -99,28 +91,6 @@ fn pointer_reach(pointer: Pointer, state: &AbsState) -> Reach
     match pointer {
         Pointer::MinusZ | Pointer::MinusY | Pointer::MinusX => lowered(span),
         Pointer::ZPlus | Pointer::YPlus | Pointer::X | Pointer::XPlus => raised(span, 0),
-    }
-}
-
-// Whether the bits and ranges of the registers permit this number.
-pub(crate) fn permits_bytes(state: &AbsState, r: LowRegister, number: u16) -> bool
-    ensures { result ≡ permits_bytes state.now r number }
-{
-    let (low, high) = pair(state, r);
-    may_be(low, (number % 256) as u8) && may_be(high, (number / 256) as u8)
-}
-
-// Whether the registers may hold this number, by bits and ranges, and where pairs are followed also by their interval.
-pub(crate) fn permits_number(state: &AbsState, r: LowRegister, number: u16) -> bool
-    ensures { result ≡ permits_number state.now r number }
-{
-    let permitted = permits_bytes(state, r, number);
-    match state.facts.get() {
-        None => permitted,
-        Some(facts) => {
-            let interval = interval_of(&facts, r.widened());
-            permitted && (interval.low <= number && number <= interval.high)
-        }
     }
 }
 

@@ -5,23 +5,25 @@ ghost use Rattle.avr_model.specs.Assumptions as assumed;
 ghost use Rattle.avr_model.specs.Devices.{device_of, size_of};
 ghost use Rattle.avr_model.specs.Sites.{instruction_at};
 ghost use Rattle.avr_model.specs.Step as steps;
-ghost use Rattle.clear_laws.specs.Clear.{is_flagged_address, is_address_harmless, is_reach_harmless, is_aim_harmless, permits_pair, is_target_listed, are_targets_listed, is_transfer_listed, is_clear_by};
+ghost use Rattle.clear_laws.specs.Clear.{stored_bits, is_guarded, is_flagged_address, is_address_harmless, is_reach_harmless, is_aim_harmless, permits_pair, is_target_listed, are_targets_listed, is_transfer_listed, is_clear_by};
 ghost use Rattle.clear_laws.specs.Needs.{meets};
 
-use crate::aims::{aim, permits_number};
+use crate::aims::aim;
 use crate::numbers::are_addresses_harmless;
 use crate::store::Store;
 use abs_state::AbsState;
 use avr_model::device::BELOW;
 use avr_model::instruction::{Base, Instr, LowRegister};
+use bit_domain::TriByte;
 use clear_laws::slots::Asks;
 use clear_laws::stores::{Aim, Reach, Span};
 use flash_image::Flash;
+use local_reads::members::permits_number;
 use local_reads::pointers::has;
-use local_rows::registers::pair;
+use local_rows::registers::{bits, pair};
 use local_rows::transfer::base_register;
-use mask_states::NodeKey;
-use vector_table::{Assumptions, is_protected};
+use mask_states::{NodeKey, may_enable_barred};
+use vector_table::{Assumptions, is_core, is_protected};
 
 // Whether this is `ijmp` or `icall`.
 pub(crate) fn is_indirect(instr: &Instr) -> bool
@@ -41,21 +43,45 @@ fn lists(items: &[u16], item: u16) -> bool
     items.iter().any(|other| *other == item)
 }
 
-// Whether a write of this address at this word is flagged for a protected one.
+// What is known of the byte that a pointer store stores.
+fn stored_bits(state: &AbsState, instr: &Instr) -> TriByte
+    ensures { result ≡ stored_bits state.now instr.now }
+{
+    match instr {
+        Instr::Std(_, _, r) => bits(state, *r),
+        Instr::St(_, r) => bits(state, *r),
+        _ => TriByte::any(),
+    }
+}
+
+// Whether a write of the store's byte to this address is flagged for a protected one, at a site that isn't fixed.
+fn is_guarded(store: &Store<'_>, address: u16) -> bool
+    ensures { result ≡ is_guarded (device_of store.now.flash.now) store.now.assumptions.now store.now.pc (stored_bits store.now.state.now store.now.instr.now) address }
+{
+    let assumptions = store.assumptions;
+    if assumptions.admits_enables(store.pc) {
+        let value = stored_bits(store.state, store.instr);
+        let device = store.flash.device();
+        is_core(address) || may_enable_barred(device, assumptions, address, &value)
+    } else {
+        is_protected(address) && !lists(assumptions.stores(store.pc), address)
+    }
+}
+
+// Whether a write of this address at this word may be flagged for a protected one.
 pub(crate) fn is_flagged_address(store: &Store<'_>, address: u16) -> bool
-    ensures { result ≡ is_flagged_address store.now.flash.now store.now.assumptions.now store.now.pc store.now.instr.now address }
+    ensures { result ≡ is_flagged_address store.now.flash.now store.now.assumptions.now store.now.pc store.now.state.now store.now.instr.now address }
 {
     let is_store = matches!(store.instr, Instr::Std(..) | Instr::St(..));
     let fixed = store.flash.is_fixed_site(store.assumptions, store.pc);
-    let protected = is_protected(address);
-    let listed = lists(store.assumptions.stores(store.pc), address);
-    is_store && !fixed && (protected && !listed)
+    let guarded = is_guarded(store, address);
+    is_store && !fixed && guarded
 }
 
 // Whether a byte at this address isn't one that was pushed, and a write of it isn't flagged, where the stack takes at most this many bytes.
 pub(crate) fn is_address_harmless(store: &Store<'_>, bound: u16, address: u16) -> bool
     requires { bound ≤ size_of (device_of store.now.flash.now) }
-    ensures { result ≡ is_address_harmless store.now.flash.now store.now.assumptions.now bound store.now.pc store.now.instr.now address }
+    ensures { result ≡ is_address_harmless store.now.flash.now store.now.assumptions.now bound store.now.pc store.now.state.now store.now.instr.now address }
 {
     let ramend = store.flash.device().ramend();
     (BELOW < address && address <= ramend - bound)
@@ -66,7 +92,7 @@ pub(crate) fn is_address_harmless(store: &Store<'_>, bound: u16, address: u16) -
 // Whether a store to one of these addresses writes neither a live byte nor a flagged address.
 fn is_reach_harmless(store: &Store<'_>, bound: u16, reach: Reach) -> bool
     requires { bound ≤ size_of (device_of store.now.flash.now) }
-    ensures { result ≡ is_reach_harmless store.now.flash.now store.now.assumptions.now bound store.now.pc store.now.instr.now reach }
+    ensures { result ≡ is_reach_harmless store.now.flash.now store.now.assumptions.now bound store.now.pc store.now.state.now store.now.instr.now reach }
 {
     match reach {
         Reach::Nothing => true,

@@ -6,12 +6,12 @@ ghost use Rattle.clear_laws.specs.Aims.{is_between, is_in_interval};
 ghost use Rattle.clear_laws.specs.Clear.{are_addresses_harmless};
 ghost use Rattle.store_clear.specs.Numbers.{is_range_harmless, is_number_harmless, are_numbers_harmless};
 
-use crate::aims::permits_bytes;
 use crate::need::is_address_harmless;
 use crate::store::Store;
 use avr_model::device::BELOW;
 use avr_model::instruction::{Instr, LowRegister};
 use flash_image::Flash;
+use local_reads::members::permits_bytes;
 use local_reads::pointers::step_before;
 use local_rows::transfer::{base_register, pointer_register};
 use pair_domain::{Interval, PairFacts};

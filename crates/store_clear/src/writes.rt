@@ -5,12 +5,12 @@ ghost use Rattle.avr_model.specs.Devices.{device_of, size_of};
 ghost use Rattle.clear_laws.specs.Aims.{may_write};
 ghost use Rattle.clear_laws.specs.Causes.{may_write_protected, may_write_some_protected, may_write_stack, may_write_live};
 
-use crate::aims::permits_number;
 use crate::need::{is_flagged_address, is_indirect};
 use crate::store::Store;
 use abs_state::AbsState;
 use avr_model::instruction::Instr;
 use flash_image::Flash;
+use local_reads::members::permits_number;
 use local_reads::pointers::step_before;
 use local_rows::transfer::{base_register, pointer_register};
 

@@ -1,5 +1,5 @@
 use Rattle.std.proofs.Common.{sym, ◌∙◌}
-use Rattle.local_rules.specs.Local.{may_be}
+use Rattle.local_rules.specs.Permitted.{may_be}
 use Rattle.store_clear.proofs.Scans.{least_none, least_more, least_found}
 use Rattle.store_clear.proofs.aims.first_byte.Goals as goal
 

@@ -1,5 +1,5 @@
 use Rattle.std.proofs.Common.{◌≡◌, None}
-use Rattle.local_rules.specs.Local.{may_be}
+use Rattle.local_rules.specs.Permitted.{may_be}
 use Rattle.clear_laws.specs.Aims.{least_below}
 use Rattle.store_clear.proofs.aims.first_byte.Given as goal
 

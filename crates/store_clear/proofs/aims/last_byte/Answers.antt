@@ -1,5 +1,5 @@
 use Rattle.std.proofs.Common.{◌≡◌, ◌-◌, ◌+◌, suc, sym, ap, ◌∙◌, arith}
-use Rattle.local_rules.specs.Local.{may_be}
+use Rattle.local_rules.specs.Permitted.{may_be}
 use Rattle.clear_laws.specs.Aims.{greatest_below}
 use Rattle.store_clear.proofs.Scans.{greatest_more, greatest_here, greatest_none}
 use Rattle.store_clear.proofs.aims.last_byte.Goals as goal

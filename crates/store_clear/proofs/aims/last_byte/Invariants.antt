@@ -1,5 +1,5 @@
 use Rattle.std.proofs.Common.{◌≡◌, ◌-◌}
-use Rattle.local_rules.specs.Local.{may_be}
+use Rattle.local_rules.specs.Permitted.{may_be}
 use Rattle.clear_laws.specs.Aims.{greatest_below}
 use Rattle.store_clear.proofs.aims.last_byte.Given as goal
 

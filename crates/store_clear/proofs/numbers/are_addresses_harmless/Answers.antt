@@ -10,7 +10,7 @@ returns-in-Sts c =
     let words = c.args.store.now.flash.now in
     let A = c.args.store.now.assumptions.now in
     c.is_address_harmless.ensures
-    ∙ ap (λ (x : Instr). is_address_harmless words A c.args.bound c.args.store.now.pc x c.in-Sts.address) c.in-Sts.is
+    ∙ ap (λ (x : Instr). is_address_harmless words A c.args.bound c.args.store.now.pc c.args.store.now.state.now x c.in-Sts.address) c.in-Sts.is
     ∙ sym (direct words A c.args.bound c.args.store.now.pc c.args.store.now.state.now c.in-Some.facts follows c.in-Sts.address c.in-Sts.field-1)
     ∙ sym (ap (are_addresses_harmless words A c.args.bound c.args.store.now.pc c.args.store.now.state.now) c.in-Sts.is)
 
