@@ -4,7 +4,7 @@ use Rattle.std.specs.List.{AllByRecursion}
 use Rattle.std.proofs.lemmas.Bool.{false≢true, and_parts}
 use Rattle.std.proofs.lemmas.Bool.Decides.{nat_tests}
 use Rattle.avr_model.specs.declared.assumption.Entry.{Entry}
-use Rattle.avr_model.specs.declared.assumption.Entry.TheVariants.{Pairs, Jump, Store, Prove, Free, Never, Frame}
+use Rattle.avr_model.specs.declared.assumption.Entry.TheVariants.{Pairs, Masks, Jump, Store, Prove, Free, Never, Frame}
 use Rattle.avr_model.specs.Assumptions.{is_before, is_line, has_line, has_pairs}
 use Rattle.vector_table.specs.Entries.{AreEntries, is_before_first, are_in_order}
 use Rattle.indirect_targets.proofs.AllLaws.{pushed, none_are_entries}
@@ -32,6 +32,7 @@ other_pushed (x ∷ xs) e other = ap (λ (b : Bool). is_line 0 0 x || b) (other_
 pub mode_kept : (es : List Entry) (e : Entry) → is_admitted (has_pairs es) e ≡ true → has_pairs (es ++ e ∷ []) ≡ has_pairs es
 unfolding has_pairs
 mode_kept es Pairs h = line_stays es (Pairs ∷ []) h ∙ sym h
+mode_kept es Masks h = other_pushed es Masks refl
 mode_kept es (Jump site words) h = other_pushed es (Jump site words) refl
 mode_kept es (Store site addresses) h = other_pushed es (Store site addresses) refl
 mode_kept es (Prove site) h = other_pushed es (Prove site) refl
@@ -44,6 +45,7 @@ mode_kept es (Frame site) h = other_pushed es (Frame site) refl
 -- nothing is before it
 not_before : (x y : Entry) → is_before x y ≡ true → is_line 0 0 y ≡ false
 not_before x Pairs e = absurd (grind (arith, nat_tests, e))
+not_before x Masks e = refl
 not_before x (Jump site words) e = refl
 not_before x (Store site addresses) e = refl
 not_before x (Prove site) e = refl
@@ -61,6 +63,7 @@ none_behind x (y ∷ ys) e =
 pub all_other : (es : List Entry) → has_line 0 es 0 ≡ false → AllByRecursion (λ e. is_admitted false e ≡ true) es
 all_other [] h = tt
 all_other (Pairs ∷ xs) h = absurd (false≢true (sym h))
+all_other (Masks ∷ xs) h = (refl, all_other xs h)
 all_other (Jump site words ∷ xs) h = (refl, all_other xs h)
 all_other (Store site addresses ∷ xs) h = (refl, all_other xs h)
 all_other (Prove site ∷ xs) h = (refl, all_other xs h)
@@ -70,6 +73,7 @@ all_other (Frame site ∷ xs) h = (refl, all_other xs h)
 
 any_entry : (e : Entry) → is_admitted true e ≡ true
 any_entry Pairs = refl
+any_entry Masks = refl
 any_entry (Jump site words) = refl
 any_entry (Store site addresses) = refl
 any_entry (Prove site) = refl
@@ -112,6 +116,7 @@ pub record BeginsWith (version : Version) (es : List Entry) : Type 0 where
 
 behind_first : (x : Entry) (xs : List Entry) → are_in_order (x ∷ xs) ≡ true → has_line 0 (x ∷ xs) 0 ≡ true → BeginsWith Three (x ∷ xs)
 behind_first Pairs xs order e = record { rest = xs; all = refl; admitted = all_entries xs }
+behind_first Masks xs order e = absurd (false≢true (sym (none_behind Masks xs order) ∙ e))
 behind_first (Jump site words) xs order e = absurd (false≢true (sym (none_behind (Jump site words) xs order) ∙ e))
 behind_first (Store site addresses) xs order e = absurd (false≢true (sym (none_behind (Store site addresses) xs order) ∙ e))
 behind_first (Prove site) xs order e = absurd (false≢true (sym (none_behind (Prove site) xs order) ∙ e))

@@ -6,7 +6,7 @@ use Rattle.std.proofs.lemmas.Bool.Decides.{nat_tests}
 use Rattle.std.proofs.lemmas.List.{map-append}
 use Rattle.std.specs.Prelude.{Contains, ◌≢◌, codes}
 use Rattle.avr_model.specs.declared.assumption.Entry.{Entry}
-use Rattle.avr_model.specs.declared.assumption.Entry.TheVariants.{Pairs, Jump, Store, Prove, Free, Never, Frame}
+use Rattle.avr_model.specs.declared.assumption.Entry.TheVariants.{Pairs, Masks, Jump, Store, Prove, Free, Never, Frame}
 use Rattle.indirect_targets.specs.Reading.{entry_in}
 use Rattle.cert_format.specs.LineReading.{inst_in, node_in}
 use Rattle.sb_base.specs.Lines.{words_of, spaced}
@@ -108,6 +108,7 @@ stand_words k (w ∷ ws) some h = k.words_stand w ws h
 
 entry_some : (e : Entry) → entry_words e ≢ []
 entry_some Pairs h = cc
+entry_some Masks h = cc
 entry_some (Jump site words) h = cc
 entry_some (Store site words) h = cc
 entry_some (Prove site) h = cc

@@ -4,7 +4,7 @@ use Rattle.std.specs.Prelude.{ℕ, zero, suc, ◌+◌, ◌-◌, ◌&&◌, nat_le
 use Rattle.std.specs.Ordering.{is_lt}
 use Rattle.std.specs.Str.{bytes_eq}
 use Rattle.avr_model.specs.declared.assumption.Entry.{Entry}
-use Rattle.avr_model.specs.declared.assumption.Entry.TheVariants.{Pairs, Jump, Store, Prove, Free, Never, Frame}
+use Rattle.avr_model.specs.declared.assumption.Entry.TheVariants.{Pairs, Masks, Jump, Store, Prove, Free, Never, Frame}
 use Rattle.avr_model.specs.State.{SIZE}
 use Rattle.sb_base.specs.Digits.{dec_answer}
 use Rattle.sb_base.specs.declared.digits.DigitFault.{DigitFault}
@@ -68,6 +68,7 @@ count_by text = count_in (words_of text)
 -- the line `pairs` is one of the third version alone
 abbrev pub is_admitted : Bool → Entry → Bool
 is_admitted third Pairs = third
+is_admitted third Masks = true
 is_admitted third (Jump site words) = true
 is_admitted third (Store site addresses) = true
 is_admitted third (Prove site) = true

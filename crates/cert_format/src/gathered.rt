@@ -89,6 +89,7 @@ fn is_admitted(list: &Assumptions, entry: &Entry) -> bool
 {
     match entry {
         Entry::Pairs => list.has_pairs(),
+        Entry::Masks => true,
         Entry::Jump(_, _) | Entry::Store(_, _) => true,
         Entry::Prove(_) | Entry::Free(_) | Entry::Never(_) | Entry::Frame(_) => true,
     }

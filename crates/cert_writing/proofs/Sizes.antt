@@ -241,6 +241,7 @@ items_few is_item items e =
 
 entry_short : (e : Entry) → is_entry e ≡ true → taken (entry_words e) + 1 ≤ 400
 entry_short entry.Pairs e = omega arith
+entry_short entry.Masks e = omega arith
 entry_short (entry.Jump site words) e =
     let few = items_few is_word words (and_parts (is_word site) (are_items is_word words) e).1 in
     omega (arith, numbers_long (site ∷ words), few)

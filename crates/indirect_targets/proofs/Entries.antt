@@ -11,13 +11,13 @@ use Rattle.std.proofs.lemmas.Option.{same_Some, none-some}
 use Rattle.line_reading.proofs.AllLaws.{map_some, bind_some, no_words}
 use Rattle.avr_model.specs.Vectors.{Vector, vectors, has_enables, is_protected}
 use Rattle.avr_model.specs.declared.assumption.Entry.{Entry}
-use Rattle.avr_model.specs.declared.assumption.Entry.TheVariants.{Pairs, Jump, Store, Prove, Free, Never, Frame}
+use Rattle.avr_model.specs.declared.assumption.Entry.TheVariants.{Pairs, Masks, Jump, Store, Prove, Free, Never, Frame}
 use Rattle.sb_base.specs.Digits.{hex_digits}
 use Rattle.line_reading.specs.Reading.{◌>>=◌, hex_at, is_over}
 use Rattle.line_reading.specs.Words.{IsWord, WordLaws}
 use Rattle.vector_table.specs.Entries.{is_entry, is_word, ascends}
 use Rattle.indirect_targets.specs.Exact.{EntryWords}
-use Rattle.indirect_targets.specs.Reading.{numbers_in, listed_in, alone_in, pairs_in, alone_by, numbered_in, admitted, entry_in}
+use Rattle.indirect_targets.specs.Reading.{numbers_in, listed_in, alone_in, bare_in, alone_by, numbered_in, admitted, entry_in}
 use Rattle.indirect_targets.specs.Spelling.{number_words, entry_words}
 
 -- ---- the numbers of an entry fit four digits
@@ -52,6 +52,7 @@ all_short p small (n ∷ ns) h = let b = and_parts (p n) (list_all p ns) h in (s
 -- the site and the items
 abbrev numbers : Entry → List ℕ
 numbers Pairs = []
+numbers Masks = []
 numbers (Jump site words) = site ∷ words
 numbers (Store site addresses) = site ∷ addresses
 numbers (Prove site) = site ∷ []
@@ -68,6 +69,7 @@ items_short p small site ns h =
 
 entry_short : (e : Entry) → is_entry e ≡ true → AreShort (numbers e)
 entry_short Pairs h = tt
+entry_short Masks h = tt
 entry_short (Jump site words) h = items_short is_word word_small site words h
 entry_short (Store site addresses) h = items_short is_protected protected_small site addresses h
 entry_short (Prove site) h = (word_small site h, tt)
@@ -127,9 +129,11 @@ kind_takes k kind make words w ws e is read =
     let s = map_some (alone_in ws) make e read in
     kind_is w ws (number_words (s.0 ∷ [])) kind is (alone_takes k ws s.0 s.1) ∙ sym (words s.0) ∙ ap entry_words s.2
 
-pairs_takes : (w : List ℕ) (ws : List (List ℕ)) (e : Entry) → bytes_eq w (codes "pairs") ≡ true → pairs_in ws ≡ Some e → w ∷ ws ≡ entry_words e
-pairs_takes w ws e is read = elim (chosen (is_over ws) _ _ (Some e) read) [
-  | inl h ↦ kind_is w ws [] (codes "pairs") is (no_words ws h.0) ∙ ap entry_words (same_Some Pairs e h.1)
+-- the words of an entry that is a word alone
+bare_takes : (kind : List ℕ) (entry : Entry) → entry_words entry ≡ kind ∷ [] → (w : List ℕ) (ws : List (List ℕ)) (e : Entry)
+    → bytes_eq w kind ≡ true → bare_in entry ws ≡ Some e → w ∷ ws ≡ entry_words e
+bare_takes kind entry words w ws e is read = elim (chosen (is_over ws) _ _ (Some e) read) [
+  | inl h ↦ kind_is w ws [] kind is (no_words ws h.0) ∙ sym words ∙ ap entry_words (same_Some entry e h.1)
   | inr h ↦ absurd (none-some e h.1)
 ]
 
@@ -153,16 +157,19 @@ numbered_takes : WordLaws → (ws : List (List ℕ)) (e : Entry) → numbered_in
 unfolding numbered_in
 numbered_takes k [] e is = absurd (none-some e is)
 numbered_takes k (w ∷ ws) e is = elim (chosen (bytes_eq w (codes "pairs")) _ _ (Some e) is) [
-  | inl pairs ↦ pairs_takes w ws e pairs.0 pairs.1
-  | inr more ↦ elim (chosen (bytes_eq w (codes "jump")) _ _ (Some e) more.1) [
-    | inl jump ↦
-        let l = map_some (listed_in ws) _ e jump.1 in
-        kind_is w ws (number_words (l.0.0 ∷ l.0.1)) (codes "jump") jump.0 (listed_takes k ws l.0 l.1) ∙ ap entry_words l.2
-    | inr other ↦ elim (chosen (bytes_eq w (codes "store")) _ _ (Some e) other.1) [
-      | inl store ↦
-          let l = map_some (listed_in ws) _ e store.1 in
-          kind_is w ws (number_words (l.0.0 ∷ l.0.1)) (codes "store") store.0 (listed_takes k ws l.0 l.1) ∙ ap entry_words l.2
-      | inr neither ↦ alone_by_takes k w ws e neither.1
+  | inl pairs ↦ bare_takes (codes "pairs") Pairs refl w ws e pairs.0 pairs.1
+  | inr next ↦ elim (chosen (bytes_eq w (codes "masks")) _ _ (Some e) next.1) [
+    | inl masks ↦ bare_takes (codes "masks") Masks refl w ws e masks.0 masks.1
+    | inr more ↦ elim (chosen (bytes_eq w (codes "jump")) _ _ (Some e) more.1) [
+      | inl jump ↦
+          let l = map_some (listed_in ws) _ e jump.1 in
+          kind_is w ws (number_words (l.0.0 ∷ l.0.1)) (codes "jump") jump.0 (listed_takes k ws l.0 l.1) ∙ ap entry_words l.2
+      | inr other ↦ elim (chosen (bytes_eq w (codes "store")) _ _ (Some e) other.1) [
+        | inl store ↦
+            let l = map_some (listed_in ws) _ e store.1 in
+            kind_is w ws (number_words (l.0.0 ∷ l.0.1)) (codes "store") store.0 (listed_takes k ws l.0 l.1) ∙ ap entry_words l.2
+        | inr neither ↦ alone_by_takes k w ws e neither.1
+      ]
     ]
   ]
 ]
@@ -170,6 +177,7 @@ numbered_takes k (w ∷ ws) e is = elim (chosen (bytes_eq w (codes "pairs")) _ _
 numbered_taken : WordLaws → (e : Entry) → is_entry e ≡ true → numbered_in (entry_words e) ≡ Some e
 unfolding numbered_in alone_by
 numbered_taken k Pairs h = refl
+numbered_taken k Masks h = refl
 numbered_taken k (Jump site words) h = ap (option_map (λ l. Jump l.0 l.1)) (listed_taken k site words (entry_short (Jump site words) h))
 numbered_taken k (Store site addresses) h = ap (option_map (λ l. Store l.0 l.1)) (listed_taken k site addresses (entry_short (Store site addresses) h))
 numbered_taken k (Prove site) h = ap (option_map (λ s. Prove s)) (alone_taken k site (word_small site h))
@@ -203,6 +211,7 @@ are_words k (n ∷ ns) h = (k.hex_word n 4 h.0, are_words k ns h.1)
 
 pub entry_is_words : WordLaws → (e : Entry) → is_entry e ≡ true → AllByRecursion IsWord (entry_words e)
 entry_is_words k Pairs h = (((refl, (refl, (refl, (refl, (refl, tt))))), (refl, (refl, (refl, (refl, (refl, tt)))))), tt)
+entry_is_words k Masks h = (((refl, (refl, (refl, (refl, (refl, tt))))), (refl, (refl, (refl, (refl, (refl, tt)))))), tt)
 entry_is_words k (Jump site words) h = (((refl, (refl, (refl, (refl, tt)))), (refl, (refl, (refl, (refl, tt))))), are_words k (site ∷ words) (entry_short (Jump site words) h))
 entry_is_words k (Store site addresses) h =
     (((refl, (refl, (refl, (refl, (refl, tt))))), (refl, (refl, (refl, (refl, (refl, tt)))))), are_words k (site ∷ addresses) (entry_short (Store site addresses) h))

@@ -7,7 +7,7 @@ use Rattle.basics.specs.Lists.{nil_not_cons, same_head_and_tail, chosen}
 use Rattle.std.proofs.lemmas.Option.{same_Some, none-some}
 use Rattle.sb_base.proofs.Splitting.{lines_at, joined_lines}
 use Rattle.avr_model.specs.declared.assumption.Entry.{Entry}
-use Rattle.avr_model.specs.declared.assumption.Entry.TheVariants.{Pairs, Jump, Store, Prove, Free, Never, Frame}
+use Rattle.avr_model.specs.declared.assumption.Entry.TheVariants.{Pairs, Masks, Jump, Store, Prove, Free, Never, Frame}
 use Rattle.sb_base.specs.Answers.{Answers}
 use Rattle.sb_base.specs.Lines.{TextLine, lines_of, words_of, joined, bytes_of, spaced, Lacks}
 use Rattle.line_reading.specs.Reading.{then_at}
@@ -25,6 +25,7 @@ use Rattle.indirect_targets.proofs.Lists.{FollowsPart, follows, pushed, none_are
 
 words_again : WordLaws → (e : Entry) → is_entry e ≡ true → words_of (spaced (entry_words e)) ≡ entry_words e
 words_again k Pairs h = k.words_stand _ _ (entry_is_words k Pairs h)
+words_again k Masks h = k.words_stand _ _ (entry_is_words k Masks h)
 words_again k (Jump site words) h = k.words_stand _ _ (entry_is_words k (Jump site words) h)
 words_again k (Store site addresses) h = k.words_stand _ _ (entry_is_words k (Store site addresses) h)
 words_again k (Prove site) h = k.words_stand _ _ (entry_is_words k (Prove site) h)

@@ -3,7 +3,7 @@ use Rattle.std.specs.Prelude.{◌≡◌, ℕ, ◌==◌, List, [], ◌∷◌, ◌
 use Rattle.std.specs.List.{flat_map}
 use Rattle.avr_model.specs.Vectors.{has_enables}
 use Rattle.avr_model.specs.declared.assumption.Entry.{Entry}
-use Rattle.avr_model.specs.declared.assumption.Entry.TheVariants.{Pairs, Jump, Store, Prove, Free, Never, Frame}
+use Rattle.avr_model.specs.declared.assumption.Entry.TheVariants.{Pairs, Masks, Jump, Store, Prove, Free, Never, Frame}
 use Rattle.bit_domain.specs.declared.bits.Tri.TheVariants.{Zero, Any}
 use Rattle.bit_domain.specs.Numbers.{numbers_of, targets_of}
 use Rattle.bit_domain.specs.Packed.{packed}
@@ -18,11 +18,11 @@ abbrev text : List (List ℕ) → List ℕ
 text ls = flat_map (λ l. l ++ 10 ∷ []) ls
 
 abbrev each_kind : List Entry
-each_kind = Pairs ∷ Jump 4 (5 ∷ 16383 ∷ []) ∷ Store 4 (0 ∷ 93 ∷ []) ∷ Prove 4 ∷ Free 4 ∷ Never 4 ∷ Frame 4 ∷ Prove 16383 ∷ []
+each_kind = Pairs ∷ Masks ∷ Jump 4 (5 ∷ 16383 ∷ []) ∷ Store 4 (0 ∷ 93 ∷ []) ∷ Prove 4 ∷ Free 4 ∷ Never 4 ∷ Frame 4 ∷ Prove 16383 ∷ []
 
 abbrev each_text : List ℕ
 each_text =
-    text (codes "pairs" ∷ codes "jump 0004 0005 3FFF" ∷ codes "store 0004 0000 005D" ∷ codes "prove 0004" ∷ codes "free 0004" ∷ codes "never 0004" ∷ codes "frame 0004"
+    text (codes "pairs" ∷ codes "masks" ∷ codes "jump 0004 0005 3FFF" ∷ codes "store 0004 0000 005D" ∷ codes "prove 0004" ∷ codes "free 0004" ∷ codes "never 0004" ∷ codes "frame 0004"
     ∷ codes "prove 3FFF" ∷ [])
 
 spelled : text_of each_kind ≡ each_text
@@ -62,6 +62,23 @@ pairs_twice = refl
 pairs_behind : entries_in (text (codes "jump 0000 0005" ∷ codes "pairs" ∷ [])) ≡ Err (Order 2)
 unfolding entries_from with_line next_by entry_in numbered_in alone_by
 pairs_behind = refl
+
+-- `masks` stands once, behind `pairs` and before all other lines
+masks_twice : entries_in (text (codes "pairs" ∷ codes "masks" ∷ codes "masks" ∷ [])) ≡ Err (Order 3)
+unfolding entries_from with_line next_by entry_in numbered_in alone_by
+masks_twice = refl
+
+masks_behind : entries_in (text (codes "jump 0000 0005" ∷ codes "masks" ∷ [])) ≡ Err (Order 2)
+unfolding entries_from with_line next_by entry_in numbered_in alone_by
+masks_behind = refl
+
+pairs_behind_masks : entries_in (text (codes "masks" ∷ codes "pairs" ∷ [])) ≡ Err (Order 2)
+unfolding entries_from with_line next_by entry_in numbered_in alone_by
+pairs_behind_masks = refl
+
+more_than_masks : entries_in (text (codes "masks 0000" ∷ [])) ≡ Err (Malformed 1)
+unfolding entries_from with_line next_by entry_in numbered_in alone_by
+more_than_masks = refl
 
 -- it names no site
 more_than_pairs : entries_in (text (codes "pairs 0000" ∷ [])) ≡ Err (Malformed 1)

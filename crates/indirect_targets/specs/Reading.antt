@@ -3,7 +3,7 @@ use Rattle.std.specs.Prelude.{ℕ, ◌+◌, nat_lt, List, [], ◌∷◌, ◌++�
 use Rattle.std.specs.Option.{option_map}
 use Rattle.std.specs.Str.{bytes_eq}
 use Rattle.avr_model.specs.declared.assumption.Entry.{Entry}
-use Rattle.avr_model.specs.declared.assumption.Entry.TheVariants.{Pairs, Jump, Store, Prove, Free, Never, Frame}
+use Rattle.avr_model.specs.declared.assumption.Entry.TheVariants.{Pairs, Masks, Jump, Store, Prove, Free, Never, Frame}
 use Rattle.sb_base.specs.Lines.{TextLine, lines_of, words_of}
 use Rattle.line_reading.specs.Reading.{◌>>=◌, hex_at, is_over, then_at}
 use Rattle.vector_table.specs.Entries.{is_entry, is_above_last, most_entries}
@@ -25,9 +25,9 @@ listed_in ws = hex_at 4 ws >>= λ site. option_map (λ ns. (site.0, ns)) (number
 abbrev pub alone_in : List (List ℕ) → Option ℕ
 alone_in ws = hex_at 4 ws >>= λ site. if is_over site.1 then Some site.0 else None
 
--- nothing behind `pairs`
-abbrev pub pairs_in : List (List ℕ) → Option Entry
-pairs_in ws = if is_over ws then Some Pairs else None
+-- nothing behind a line without a site
+abbrev pub bare_in : Entry → List (List ℕ) → Option Entry
+bare_in entry ws = if is_over ws then Some entry else None
 
 -- the entry of a kind that names a site alone
 unfoldable pub alone_by : List ℕ → List (List ℕ) → Option Entry
@@ -41,10 +41,11 @@ alone_by kind ws =
 unfoldable pub numbered_in : List (List ℕ) → Option Entry
 numbered_in [] = None
 numbered_in (w ∷ ws) =
-    if bytes_eq w (codes "pairs") then pairs_in ws
+    if bytes_eq w (codes "pairs") then bare_in Pairs ws
+    else (if bytes_eq w (codes "masks") then bare_in Masks ws
     else (if bytes_eq w (codes "jump") then option_map (λ l. Jump l.0 l.1) (listed_in ws)
     else (if bytes_eq w (codes "store") then option_map (λ l. Store l.0 l.1) (listed_in ws)
-    else alone_by w ws))
+    else alone_by w ws)))
 
 -- an entry that a list can hold
 abbrev pub admitted : Entry → Option Entry

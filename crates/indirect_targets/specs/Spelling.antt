@@ -2,7 +2,7 @@
 use Rattle.std.specs.Prelude.{ℕ, List, [], ◌∷◌, map, codes}
 use Rattle.std.specs.List.{flat_map}
 use Rattle.avr_model.specs.declared.assumption.Entry.{Entry}
-use Rattle.avr_model.specs.declared.assumption.Entry.TheVariants.{Pairs, Jump, Store, Prove, Free, Never, Frame}
+use Rattle.avr_model.specs.declared.assumption.Entry.TheVariants.{Pairs, Masks, Jump, Store, Prove, Free, Never, Frame}
 use Rattle.sb_base.specs.Digits.{hex_digits}
 use Rattle.sb_base.specs.Lines.{line}
 
@@ -10,9 +10,10 @@ use Rattle.sb_base.specs.Lines.{line}
 abbrev pub number_words : List ℕ → List (List ℕ)
 number_words numbers = map (λ n. hex_digits n 4) numbers
 
--- the words of an entry's line: its kind, its site, and its items; `pairs` is a word alone
+-- the words of an entry's line: its kind, its site, and its items; `pairs` and `masks` are a word alone
 abbrev pub entry_words : Entry → List (List ℕ)
 entry_words Pairs = codes "pairs" ∷ []
+entry_words Masks = codes "masks" ∷ []
 entry_words (Jump site words) = codes "jump" ∷ number_words (site ∷ words)
 entry_words (Store site addresses) = codes "store" ∷ number_words (site ∷ addresses)
 entry_words (Prove site) = codes "prove" ∷ number_words (site ∷ [])

@@ -13,7 +13,7 @@ ghost use Rattle.vector_table.specs.Entries.{ascends, is_word};
 ghost use Rattle.indirect_targets.specs.declared.fault.AssumeText.{AssumeText};
 ghost use Rattle.indirect_targets.specs.declared.fault.AssumeText.TheVariants as fault;
 ghost use Rattle.indirect_targets.specs.Exact.{IsListDue, IsListDueUnlessMemory};
-ghost use Rattle.indirect_targets.specs.Reading.{numbers_in, listed_in, alone_by, numbered_in, entry_in, with_line, entries_in};
+ghost use Rattle.indirect_targets.specs.Reading.{numbers_in, listed_in, bare_in, alone_by, numbered_in, entry_in, with_line, entries_in};
 
 use crate::fault::AssumeText;
 use crate::laws::reading_is_exact;
@@ -60,6 +60,13 @@ fn listed_of(alloc: Global, words: &mut Words<'_>, jump: bool) -> Result<Option<
     }
 }
 
+// This entry, where no word is behind its kind.
+fn bare_of(entry: Entry, words: &mut Words<'_>) -> Option<Entry>
+    ensures { result ≡ bare_in entry words.old }
+{
+    if is_over(words) { Some(entry) } else { None }
+}
+
 // The entry of a kind that names a site alone.
 #[tactic(auto, unfolding(crate::specs::Reading::alone_by))]
 fn alone_by(kind: &[u8], words: &mut Words<'_>) -> Option<Entry>
@@ -92,11 +99,9 @@ fn numbered_of(alloc: Global, text: &[u8]) -> Result<Option<Entry>, AllocError>
         return Ok(None);
     };
     if kind == b"pairs".as_slice() {
-        if is_over(&mut words) {
-            Ok(Some(Entry::Pairs))
-        } else {
-            Ok(None)
-        }
+        Ok(bare_of(Entry::Pairs, &mut words))
+    } else if kind == b"masks".as_slice() {
+        Ok(bare_of(Entry::Masks, &mut words))
     } else if kind == b"jump".as_slice() {
         listed_of(alloc, &mut words, true)
     } else if kind == b"store".as_slice() {
@@ -147,7 +152,7 @@ fn is_entry(entry: &Entry) -> bool
     ensures { result ≡ entries.is_entry entry.now }
 {
     match entry {
-        Entry::Pairs => true,
+        Entry::Pairs | Entry::Masks => true,
         Entry::Jump(site, words) => {
             let words = words.as_slice();
             *site < WORDS && is_listable(words) && are_all_words(words)
@@ -217,7 +222,7 @@ fn read_lines(alloc: Global, text: &[u8]) -> Result<Assumptions, AssumeText>
 
 /// Reads the assumption list whose text this is.
 ///
-/// The text has a line for each entry: `pairs`, `jump SITE WORD ...`, `store SITE ADDRESS ...`, `prove SITE`, `free SITE`,
+/// The text has a line for each entry: `pairs`, `masks`, `jump SITE WORD ...`, `store SITE ADDRESS ...`, `prove SITE`, `free SITE`,
 /// `never SITE` or `frame SITE`, with word addresses and protected addresses in four upper-case hexadecimal digits, single
 /// spaces, and a line feed behind each line. Where it is the text of no list, the first line at which none can go on is told: `Malformed` where that line
 /// isn't of its form or is line 4,097, else `Order`. Source: own.

@@ -44,6 +44,7 @@ fn write_entry(out: &mut LineWriter, entry: &Entry) -> Result<(), AllocError>
 {
     match entry {
         Entry::Pairs => out.word(b"pairs"),
+        Entry::Masks => out.word(b"masks"),
         Entry::Jump(site, words) => write_words(out, b"jump", *site, words.as_slice()),
         Entry::Store(site, addresses) => write_words(out, b"store", *site, addresses.as_slice()),
         Entry::Prove(site) => write_words(out, b"prove", *site, &[]),

@@ -71,6 +71,25 @@ pub static TEXTS: [(&str, &[Text]); 3] = [
             Text(Start::Nothing, b"pairs\npairs\n", Err(AssumeText::Order(2))),
             Text(
                 Start::Nothing,
+                b"masks\njump 0000 0005\nframe 0000\n",
+                Ok(3),
+            ),
+            Text(Start::Nothing, b"pairs\nmasks\nnever 0000\n", Ok(3)),
+            Text(Start::Nothing, b"masks\npairs\n", Err(AssumeText::Order(2))),
+            Text(Start::Nothing, b"masks\nmasks\n", Err(AssumeText::Order(2))),
+            Text(
+                Start::Nothing,
+                b"jump 0000 0005\nmasks\n",
+                Err(AssumeText::Order(2)),
+            ),
+            Text(
+                Start::Nothing,
+                b"masks 0000\n",
+                Err(AssumeText::Malformed(1)),
+            ),
+            Text(Start::Nothing, b"mask\n", Err(AssumeText::Malformed(1))),
+            Text(
+                Start::Nothing,
                 b"jump 0000 0005\npairs\n",
                 Err(AssumeText::Order(2)),
             ),

@@ -11,8 +11,8 @@ use sp_domain::CarryTag;
 pub const LATER: &[Piece] = &[
     (b"stackcert 2\n", b"", 0, b""),
     (b"bound 4\n", b"", 0, b""),
-    (b"assume 5\n", b"", 0, b""),
-    (b"jump 0003 0004 0005\n", b"", 0, b""),
+    (b"assume 6\n", b"", 0, b""),
+    (b"masks\njump 0003 0004 0005\n", b"", 0, b""),
     (
         b"prove 0004\nfree 0005\nnever 0006\nframe 0006\n",
         b"",
@@ -53,12 +53,12 @@ pub const LATER: &[Piece] = &[
     (b"end\n", b"", 0, b""),
 ];
 
-/// A certificate with the line `pairs`, and what can be known of pairs in each kind.
+/// A certificate with the lines `pairs` and `masks`, and what can be known of pairs in each kind.
 pub const PAIRS: &[Piece] = &[
     (b"stackcert 3\n", b"", 0, b""),
     (b"bound 4\n", b"", 0, b""),
-    (b"assume 2\n", b"", 0, b""),
-    (b"pairs\n", b"", 0, b""),
+    (b"assume 3\n", b"", 0, b""),
+    (b"pairs\nmasks\n", b"", 0, b""),
     (b"prove 0004\n", b"", 0, b""),
     (b"instances 2\n", b"", 0, b""),
     (b"inst root 0000 0000000 0 rank 2 need 4\n", b"", 0, b""),
