@@ -8,6 +8,7 @@ use Rattle.avr_model.specs.declared.choice.Flag.{Flag}
 use Rattle.avr_model.specs.declared.choice.StepResult.TheVariants as answer
 use Rattle.avr_model.specs.declared.assumption.Entry.{Entry}
 use Rattle.avr_model.specs.declared.instruction.Instr.{Instr}
+use Rattle.avr_model.specs.Assumptions.{has_masks}
 use Rattle.avr_model.specs.Devices.{device_of}
 use Rattle.avr_model.specs.Sites.{instruction_at}
 use Rattle.avr_model.specs.State.{State, filled, depth_of_state}
@@ -17,7 +18,7 @@ use Rattle.stimulus.specs.Driving.{machine_after}
 use Rattle.stimulus.specs.Laws.{DepthIsKept}
 use Rattle.trial_runs.proofs.AllLaws.{depth_from_reset}
 use Rattle.witness_search.specs.declared.waypoint.Waypoint.{Waypoint}
-use Rattle.witness_search.specs.Waypoints.{interrupt_of, due_at, pick_due, due_left}
+use Rattle.witness_search.specs.Waypoints.{fits_way, interrupt_of, due_at, pick_due, due_left}
 use Rattle.witness_search.specs.Trials.{trial_by}
 use Rattle.witness_search.specs.Attempts.{IsAttempted}
 use Rattle.witness_search.proofs.Leading.{Leads, leads_on, after_leads, ends_there, stops_there, run_by, never_reached, holds_depth, done_if}
@@ -41,21 +42,21 @@ module _ (words : List ℕ) (A : List Entry) where
   take_legal m v clears true is = told_legal _ _ _ m.pc
   take_legal m v clears false is = absurd cc
 
-  picked : (fill : ℕ) (w : Waypoint) (m : State) (b : Bool) → due_at w m ≡ b → result_of (step words A m (if b then interrupt_of w else Go fill fill)) ≢ answer.Illegal
-  picked fill w m true is = take_legal m w.vector w.clears (may_take m w.vector w.clears) (last_of_four (m.pc == w.pc) (m.enables == w.masks) (m.sp + w.depth == w.end) (may_take m w.vector w.clears) is)
-  picked fill w m false is = go_legal m (instruction_at words m.pc) fill fill
+  picked : (may : Bool) (fill : ℕ) (w : Waypoint) (m : State) (b : Bool) → due_at may w m ≡ b → result_of (step words A m (if b then interrupt_of w else Go fill fill)) ≢ answer.Illegal
+  picked may fill w m true is = take_legal m w.vector w.clears (may_take m w.vector w.clears) (last_of_four (m.pc == w.pc) (fits_way may m.enables w.masks) (m.sp + w.depth == w.end) (may_take m w.vector w.clears) is)
+  picked may fill w m false is = go_legal m (instruction_at words m.pc) fill fill
 
-  pick_legal : (fill : ℕ) (ws : List Waypoint) (m : State) → result_of (step words A m (pick_due fill ws m)) ≢ answer.Illegal
-  pick_legal fill [] m = go_legal m (instruction_at words m.pc) fill fill
-  pick_legal fill (w ∷ ws) m = picked fill w m (due_at w m) refl
+  pick_legal : (may : Bool) (fill : ℕ) (ws : List Waypoint) (m : State) → result_of (step words A m (pick_due may fill ws m)) ≢ answer.Illegal
+  pick_legal may fill [] m = go_legal m (instruction_at words m.pc) fill fill
+  pick_legal may fill (w ∷ ws) m = picked may fill w m (due_at may w m) refl
 
 bytes_if : (fill : ℕ) (w : Waypoint) (b : Bool) → fill < 256 → HasBytes (if b then interrupt_of w else Go fill fill)
 bytes_if fill w true byte = tt
 bytes_if fill w false byte = (byte, byte)
 
-pick_bytes : (fill : ℕ) → fill < 256 → (ws : List Waypoint) (m : State) → HasBytes (pick_due fill ws m)
-pick_bytes fill byte [] m = (byte, byte)
-pick_bytes fill byte (w ∷ ws) m = bytes_if fill w (due_at w m) byte
+pick_bytes : (may : Bool) (fill : ℕ) → fill < 256 → (ws : List Waypoint) (m : State) → HasBytes (pick_due may fill ws m)
+pick_bytes may fill byte [] m = (byte, byte)
+pick_bytes may fill byte (w ∷ ws) m = bytes_if fill w (due_at may w m) byte
 
 pub longer : (before : List Choice) (c : Choice) → length (before ++ c ∷ []) ≡ length before + 1
 longer before c = length-append before (c ∷ [])
@@ -84,14 +85,20 @@ left_if : (w : Waypoint) (ws : List Waypoint) (b : Bool) → ((if b then ws else
 left_if w ws true = inr (omega arith)
 left_if w ws false = inl refl
 
-fewer : (ws : List Waypoint) (m : State) → (due_left ws m ≡ ws) ⊎ (length (due_left ws m) < length ws)
-fewer [] m = inl refl
-fewer (w ∷ ws) m = left_if w ws (due_at w m)
+fewer : (may : Bool) (ws : List Waypoint) (m : State) → (due_left may ws m ≡ ws) ⊎ (length (due_left may ws m) < length ws)
+fewer may [] m = inl refl
+fewer may (w ∷ ws) m = left_if w ws (due_at may w m)
 
 module _ (words : List ℕ) (A : List Entry) (points : List Waypoint) (bound fill : ℕ) where
+  abbrev pub Picks : List Waypoint → State → Choice
+  Picks = pick_due (has_masks A) fill
+
+  abbrev pub Leaves : List Waypoint → State → List Waypoint
+  Leaves = due_left (has_masks A)
+
   -- choices of the trial lead from one place to another
   abbrev pub Goes : List Waypoint → Machine → List Choice → List Waypoint → Machine → Type 0
-  Goes ws m cs left end = Leads (pick_due fill) due_left words A bound ws m cs left end
+  Goes ws m cs left end = Leads Picks Leaves words A bound ws m cs left end
 
   abbrev pub Start : Machine
   Start = starting (filled (device_of words) fill)
@@ -99,9 +106,9 @@ module _ (words : List ℕ) (A : List Entry) (points : List Waypoint) (bound fil
   fewer_left : (ws : List Waypoint) (m : Machine) (cs : List Choice) (left : List Waypoint) (end : Machine) → Goes ws m cs left end → (left ≡ ws) ⊎ (length left < length ws)
   fewer_left ws m [] left end h = inl h.0
   fewer_left ws m (c ∷ cs) left end h =
-      elim (fewer_left (due_left ws m.state) (moved_on m (Done h.2)) cs left end h.4) [
-        | inl same ↦ elim (fewer ws m.state) [ inl kept ↦ inl (same ∙ kept) | inr less ↦ inr (subst (λ (xs : List Waypoint). length xs < length ws) (sym same) less) ]
-        | inr less ↦ elim (fewer ws m.state) [ inl kept ↦ inr (subst (λ (xs : List Waypoint). length left < length xs) kept less) | inr more ↦ inr (omega (arith, less, more)) ]
+      elim (fewer_left (Leaves ws m.state) (moved_on m (Done h.2)) cs left end h.4) [
+        | inl same ↦ elim (fewer (has_masks A) ws m.state) [ inl kept ↦ inl (same ∙ kept) | inr less ↦ inr (subst (λ (xs : List Waypoint). length xs < length ws) (sym same) less) ]
+        | inr less ↦ elim (fewer (has_masks A) ws m.state) [ inl kept ↦ inr (subst (λ (xs : List Waypoint). length left < length xs) kept less) | inr more ↦ inr (omega (arith, less, more)) ]
       ]
 
   same_left : (ws : List Waypoint) (m : Machine) (cs : List Choice) (left : List Waypoint) (end : Machine) → Goes ws m cs left end → length left ≡ length ws → left ≡ ws
@@ -109,15 +116,15 @@ module _ (words : List ℕ) (A : List Entry) (points : List Waypoint) (bound fil
 
   -- one choice more
   pub goes_on : (ws : List Waypoint) (m : Machine) (cs : List Choice) (left : List Waypoint) (end next : Machine) (c : Choice) (after : List Waypoint) (now : List Choice) → Goes ws m cs left end → end.depth < bound
-      → c ≡ pick_due fill left end.state → after ≡ due_left left end.state → result_of (step words A end.state c) ≡ answer.Done → next ≡ moved_on end (step words A end.state c) → now ≡ cs ++ c ∷ []
+      → c ≡ Picks left end.state → after ≡ Leaves left end.state → result_of (step words A end.state c) ≡ answer.Done → next ≡ moved_on end (step words A end.state c) → now ≡ cs ++ c ∷ []
       → Goes ws m now after next
   goes_on ws m cs left end next c after now h low picks leaves done moves is =
-      let d = done_if (step words A end.state (pick_due fill left end.state)) (ap (λ (x : Choice). result_of (step words A end.state x)) (sym picks) ∙ done) in
-      let one = leads_on (pick_due fill) due_left words A bound ws m cs left end d.0 h low d.1 in
+      let d = done_if (step words A end.state (Picks left end.state)) (ap (λ (x : Choice). result_of (step words A end.state x)) (sym picks) ∙ done) in
+      let one = leads_on Picks Leaves words A bound ws m cs left end d.0 h low d.1 in
       let there : next ≡ moved_on end (Done d.0) = moves ∙ ap (λ (x : Choice). moved_on end (step words A end.state x)) picks ∙ ap (moved_on end) d.1 in
       subst (λ (xs : List Choice). Goes ws m xs after next) (sym (is ∙ ap (λ (x : Choice). cs ++ x ∷ []) picks))
-      (subst (λ (x : Machine). Goes ws m (cs ++ pick_due fill left end.state ∷ []) after x) (sym there)
-      (subst (λ (xs : List Waypoint). Goes ws m (cs ++ pick_due fill left end.state ∷ []) xs (moved_on end (Done d.0))) (sym leaves) one))
+      (subst (λ (x : Machine). Goes ws m (cs ++ Picks left end.state ∷ []) after x) (sym there)
+      (subst (λ (xs : List Waypoint). Goes ws m (cs ++ Picks left end.state ∷ []) xs (moved_on end (Done d.0))) (sym leaves) one))
 
   -- the trial came to a machine with so many waypoints left, and goes on from there
   pub record IsMarked (mid : Machine) (count : ℕ) (left : List Waypoint) (end : Machine) : Type 0 where
@@ -133,7 +140,7 @@ module _ (words : List ℕ) (A : List Entry) (points : List Waypoint) (bound fil
       record { before = cs; between = []; there = left; first = subst (λ (x : Machine). Goes points Start cs left x) (sym is) h; last = (refl, sym is); many = many }
 
   pub marked_on : (mid end next : Machine) (count : ℕ) (left after : List Waypoint) (c : Choice) → IsMarked mid count left end → end.depth < bound
-      → c ≡ pick_due fill left end.state → after ≡ due_left left end.state → result_of (step words A end.state c) ≡ answer.Done → next ≡ moved_on end (step words A end.state c)
+      → c ≡ Picks left end.state → after ≡ Leaves left end.state → result_of (step words A end.state c) ≡ answer.Done → next ≡ moved_on end (step words A end.state c)
       → IsMarked mid count after next
   marked_on mid end next count left after c m low picks leaves done moves =
       record {
@@ -152,7 +159,7 @@ module _ (words : List ℕ) (A : List Entry) (points : List Waypoint) (bound fil
     Trial = trial_by steps words A points bound fill
 
     trial_runs : IsRun words A Trial (filled (device_of words) fill)
-    trial_runs = run_by (pick_due fill) due_left words A bound (pick_bytes fill byte) (pick_legal words A fill) steps points Start
+    trial_runs = run_by Picks Leaves words A bound (pick_bytes (has_masks A) fill byte) (pick_legal words A (has_masks A) fill) steps points Start
 
     depth_is : (machine_after words A Trial Start).depth ≡ depth_of words A Trial (filled (device_of words) fill)
     depth_is = depth_from_reset law words A fill Start Trial (machine_after words A Trial Start) (machine_after words A Trial Start).depth refl trial_runs refl refl
@@ -176,24 +183,24 @@ module _ (words : List ℕ) (A : List Entry) (points : List Waypoint) (bound fil
         → IfSome found (λ x. (x ≡ cs) × (end.depth ≡ bound)) → IfNone found (end.depth ≢ bound) → IsAttempted steps words A points bound fill found
     ended cs left end found h room over =
         let after : end ≡ machine_after words A cs Start =
-        sym (after_leads (pick_due fill) due_left words A bound points Start cs [] left end h) ∙ ap (λ (xs : List Choice). machine_after words A xs Start) (append-nil cs) in
-        told cs end found (ends_there (pick_due fill) due_left words A bound steps points Start cs left end h room over) after
+        sym (after_leads Picks Leaves words A bound points Start cs [] left end h) ∙ ap (λ (xs : List Choice). machine_after words A xs Start) (append-nil cs) in
+        told cs end found (ends_there Picks Leaves words A bound steps points Start cs left end h room over) after
 
     pub stopped : (cs : List Choice) (left : List Waypoint) (end next : Machine) (c : Choice) (now : List Choice) (found : Option (List Choice)) → Goes points Start cs left end → length cs < steps → end.depth < bound
-        → c ≡ pick_due fill left end.state → result_of (step words A end.state c) ≢ answer.Done → next ≡ moved_on end (step words A end.state c) → now ≡ cs ++ c ∷ []
+        → c ≡ Picks left end.state → result_of (step words A end.state c) ≢ answer.Done → next ≡ moved_on end (step words A end.state c) → now ≡ cs ++ c ∷ []
         → IfSome found (λ x. (x ≡ now) × (next.depth ≡ bound)) → IfNone found (next.depth ≢ bound) → IsAttempted steps words A points bound fill found
     stopped cs left end next c now found h room low picks ne moves is =
-        let all : cs ++ pick_due fill left end.state ∷ [] ≡ Trial =
-        stops_there (pick_due fill) due_left words A bound steps points Start cs left end h room low (subst (λ (x : Choice). result_of (step words A end.state x) ≢ answer.Done) picks ne) in
+        let all : cs ++ Picks left end.state ∷ [] ≡ Trial =
+        stops_there Picks Leaves words A bound steps points Start cs left end h room low (subst (λ (x : Choice). result_of (step words A end.state x) ≢ answer.Done) picks ne) in
         let now_is : now ≡ Trial = is ∙ ap (λ (x : Choice). cs ++ x ∷ []) picks ∙ all in
         let after : next ≡ machine_after words A now Start =
-        moves ∙ sym (after_leads (pick_due fill) due_left words A bound points Start cs (c ∷ []) left end h) ∙ ap (λ (xs : List Choice). machine_after words A xs Start) (sym is) in
+        moves ∙ sym (after_leads Picks Leaves words A bound points Start cs (c ∷ []) left end h) ∙ ap (λ (xs : List Choice). machine_after words A xs Start) (sym is) in
         told now next found now_is after
 
     -- ---- a trial that comes to the state of its mark again after one choice more
 
     pub repeated : (mid end next : Machine) (count : ℕ) (left after : List Waypoint) (c : Choice) → IsMarked mid count left end → end.depth < bound
-        → c ≡ pick_due fill left end.state → after ≡ due_left left end.state → result_of (step words A end.state c) ≡ answer.Done → next ≡ moved_on end (step words A end.state c)
+        → c ≡ Picks left end.state → after ≡ Leaves left end.state → result_of (step words A end.state c) ≡ answer.Done → next ≡ moved_on end (step words A end.state c)
         → next.state ≡ mid.state → length after ≡ count → IsAttempted steps words A points bound fill None
     repeated mid end next count left after c m low picks leaves done moves same many =
         let more : Goes m.there mid (m.between ++ c ∷ []) after next = goes_on m.there mid m.between left end next c after (m.between ++ c ∷ []) m.last low picks leaves done moves refl in
@@ -201,7 +208,7 @@ module _ (words : List ℕ) (A : List Entry) (points : List Waypoint) (bound fil
         subst (λ (xs : List Waypoint). Goes m.there mid (m.between ++ c ∷ []) xs next) (same_left m.there mid (m.between ++ c ∷ []) after next more (many ∙ m.many)) more in
         let cycle = cycle_of m.between c in
         let round : Goes m.there mid (cycle.0 ∷ cycle.1) m.there next = subst (λ (xs : List Choice). Goes m.there mid xs m.there next) cycle.2 back in
-        let held = holds_depth (pick_due fill) due_left words A bound points Start m.before m.there mid m.first (omega arith) in
+        let held = holds_depth Picks Leaves words A bound points Start m.before m.there mid m.first (omega arith) in
         let still = still_low mid end next (step words A end.state c) moves done low round.0 held same in
-        let less = never_reached (pick_due fill) due_left words A bound steps points Start m.before m.there mid cycle.0 cycle.1 next m.first round still same in
+        let less = never_reached Picks Leaves words A bound steps points Start m.before m.there mid cycle.0 cycle.1 next m.first round still same in
         λ deep. omega (arith, less, depth_is, deep)

@@ -2,6 +2,7 @@
 use Rattle.std.specs.Prelude.{ℕ, ◌≡◌, List, [], ◌∷◌, ◌++◌, Option, Some, None, Contains}
 use Rattle.avr_model.specs.declared.choice.Choice.{Choice}
 use Rattle.avr_model.specs.declared.assumption.Entry.{Entry}
+use Rattle.avr_model.specs.Assumptions.{has_masks}
 use Rattle.avr_model.specs.Devices.{device_of}
 use Rattle.avr_model.specs.State.{filled}
 use Rattle.avr_model.specs.Run.{starting, depth_of}
@@ -17,7 +18,7 @@ fills = 0x00 ∷ 0xFF ∷ 0x55 ∷ 0xAA ∷ 0x01 ∷ 0x80 ∷ 0x7F ∷ 0xFE ∷ 
 
 -- The choices of the trial with this fill byte: from reset, until the depth is the bound or more, or a stop, or after so many steps.
 abbrev pub trial_by : ℕ → List ℕ → List Entry → List Waypoint → ℕ → ℕ → List Choice
-trial_by steps words A points bound fill = choices_by (pick_due fill) due_left words A bound steps points (starting (filled (device_of words) fill))
+trial_by steps words A points bound fill = choices_by (pick_due (has_masks A) fill) (due_left (has_masks A)) words A bound steps points (starting (filled (device_of words) fill))
 
 unfoldable pub trial_of : List ℕ → List Entry → List Waypoint → ℕ → ℕ → List Choice
 trial_of words A points bound fill = trial_by most_choices words A points bound fill

@@ -20,12 +20,12 @@ use witness_replay::Schedule;
 
 // The next choice of a trial, and the waypoints that are left then: the next waypoint's interrupt where it is due, and else an
 // instruction with the fill byte as its input.
-fn next<'a>(rest: &'a [Waypoint], menu: &Menu, fill: u8) -> (Choice, &'a [Waypoint])
-    ensures choice { result.0 ≡ taken fill rest.now menu.now }
-    ensures left { result.1.now ≡ left_after rest.now menu.now }
+fn next<'a>(may: bool, rest: &'a [Waypoint], menu: &Menu, fill: u8) -> (Choice, &'a [Waypoint])
+    ensures choice { result.0 ≡ taken may fill rest.now menu.now }
+    ensures left { result.1.now ≡ left_after may rest.now menu.now }
 {
     if let Some((point, after)) = rest.split_first() {
-        if is_due(point, menu) {
+        if is_due(may, point, menu) {
             return (Choice::Take(point.vector, point.clears), after);
         }
     }
@@ -57,6 +57,7 @@ fn attempt(
     ensures { IfOk result (IsAttempted steps task.now.flash.now task.now.assumptions.now points.now bound fill) }
 {
     depth_is_kept();
+    let may = task.assumptions.has_masks();
     let mut machine = Machine::start(task.flash.device(), fill);
     let mut rest = points;
     let mut choices = Vec::new(task.alloc);
@@ -65,7 +66,7 @@ fn attempt(
         if bound <= machine.depth() {
             return Ok(found(choices, &machine, bound));
         }
-        let (choice, left) = next(rest, &machine.menu(), fill);
+        let (choice, left) = next(may, rest, &machine.menu(), fill);
         rest = left;
         choices.push(choice)?;
         match machine.step(task.flash, task.assumptions, choice) {

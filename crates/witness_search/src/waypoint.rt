@@ -1,7 +1,7 @@
 //! Interrupts of a chain of entries, and where they are due.
 
 ghost use Rattle.std.specs.Prelude.{◌≡◌};
-ghost use Rattle.witness_search.specs.Waypoints.{is_due};
+ghost use Rattle.witness_search.specs.Waypoints.{fits_way, is_due};
 
 use avr_machine::{Choice, Menu};
 use vector_table::Masks;
@@ -11,7 +11,7 @@ use vector_table::Masks;
 pub struct Waypoint {
     /// The program counter.
     pub pc: u16,
-    /// The enable bits.
+    /// The enable bits, or where keys say what may be enabled, those among which they are.
     pub masks: Masks,
     /// How many bytes the stack pointer is below its place at reset.
     pub depth: u16,
@@ -23,12 +23,23 @@ pub struct Waypoint {
     pub clears: bool,
 }
 
-/// Whether the menu is that of the waypoint, and has its interrupt.
-pub fn is_due(point: &Waypoint, menu: &Menu) -> bool
-    ensures { result ≡ is_due point.now menu.now }
+// Whether the enable bits are those of the way, or where keys say what may be enabled (`may`), are among them.
+fn fits_way(may: bool, enables: Masks, masks: Masks) -> bool
+    ensures { result ≡ fits_way may enables masks }
+{
+    if may {
+        enables.is_among(masks)
+    } else {
+        enables.bits() == masks.bits()
+    }
+}
+
+/// Whether the menu is that of the waypoint, and has its interrupt. `may` is whether keys say what may be enabled.
+pub fn is_due(may: bool, point: &Waypoint, menu: &Menu) -> bool
+    ensures { result ≡ is_due may point.now menu.now }
 {
     menu.pc == point.pc
-        && menu.masks.bits() == point.masks.bits()
+        && fits_way(may, menu.masks, point.masks)
         && u32::from(menu.sp) + u32::from(point.depth) == u32::from(point.end)
         && menu.has(Choice::Take(point.vector, point.clears))
 }
