@@ -1,4 +1,4 @@
-//! Operations on one byte's bits.
+//! Operations on the bits of one byte. `s` is the status register before; each returns the one after.
 
 ghost use Rattle.std.specs.Prelude.{◌≡◌};
 ghost use Rattle.abs_alu.specs.Bitwise.{abs_logic, abs_com, abs_step_one, shift_bits, abs_shift};
@@ -10,7 +10,7 @@ use bit_domain::bytes::TriByte;
 use bit_domain::logic::{and, eor, equal, not, or};
 use bit_domain::sums::{add, sub};
 
-/// AND, ANDI, OR, ORI and EOR, with the register after it, where it was `s`. C and H are kept.
+/// AND, ANDI, OR, ORI and EOR. C and H stay.
 pub fn logic(op: Logic, a: TriByte, b: TriByte, s: TriByte) -> (TriByte, TriByte)
     ensures { result ≡ abs_logic op a b s }
 {
@@ -22,7 +22,7 @@ pub fn logic(op: Logic, a: TriByte, b: TriByte, s: TriByte) -> (TriByte, TriByte
     (r, after_result(r, s.bit(0), Tri::Zero, s))
 }
 
-/// COM: each bit turned, with the register after it, where it was `s`. H is kept.
+/// COM: complements each bit. H stays.
 pub fn com(a: TriByte, s: TriByte) -> (TriByte, TriByte)
     ensures { result ≡ abs_com a s }
 {
@@ -30,7 +30,7 @@ pub fn com(a: TriByte, s: TriByte) -> (TriByte, TriByte)
     (r, after_result(r, Tri::One, Tri::Zero, s))
 }
 
-/// INC where `up`, else DEC, with the register after it, where it was `s`. C and H are kept.
+/// INC if `up`, otherwise DEC. C and H stay.
 pub fn step_one(up: bool, a: TriByte, s: TriByte) -> (TriByte, TriByte)
     ensures { result ≡ abs_step_one up a s }
 {
@@ -46,14 +46,14 @@ pub fn step_one(up: bool, a: TriByte, s: TriByte) -> (TriByte, TriByte)
     (r, after_result(r, s.bit(0), overflow, s))
 }
 
-// Each bit one place down, with a new top bit.
+// Shifts each bit one place down, with a new top bit.
 fn shifted(a: TriByte, top: Tri) -> TriByte
     ensures { result ≡ shift_bits a top }
 {
     TriByte::new(a.known >> 1, a.value >> 1).with(7, top)
 }
 
-/// LSR, ROR and ASR: the byte one place down, with the register after it, where it was `s`. C is the old bit 0, and H is kept.
+/// LSR, ROR and ASR: shifts one place down. C is the old bit 0, and H stays.
 pub fn shift(op: Shift, a: TriByte, s: TriByte) -> (TriByte, TriByte)
     ensures { result ≡ abs_shift op a s }
 {

@@ -7,7 +7,7 @@ use bit_domain::bits::Tri;
 use bit_domain::bytes::TriByte;
 use bit_domain::logic::equal;
 
-// The register with these flags, with S as N xor V. T and I stay.
+// The status register with these flags, with S as N xor V. T and I stay.
 pub(crate) fn with_flags(
     s: TriByte,
     carry: Tri,
@@ -33,7 +33,7 @@ pub(crate) fn is_zero(r: TriByte) -> Tri
     equal(r, TriByte::of(0))
 }
 
-// The register after a result, with these C and V. H is kept.
+// The status register after a result, with these C and V. H stays.
 pub(crate) fn after_result(r: TriByte, carry: Tri, overflow: Tri, s: TriByte) -> TriByte
     ensures { result ≡ result_flags carry overflow r s }
 {

@@ -1,9 +1,9 @@
-//! The law of the operations, as the contract of a function that does nothing.
+//! The law of the operations: the contract of a function with an empty body.
 
 ghost use Rattle.abs_alu.specs.Laws.{SumsCover, BitwiseCovers, ProductsCover, WordsCover, OperationsAreMonotone};
 
-/// A sum or difference of bytes or of a word, a bit operation, step or shift, and a product stand for the machine's at each choice of
-/// what the operands stand for; and operands that stand for more have an answer that stands for more.
+/// Each operation is sound: its result stands for the machine's for each choice of members. It is monotone: greater operands have a greater
+/// result.
 pub fn operations_cover()
     ensures sums { SumsCover }
     ensures bitwise { BitwiseCovers }

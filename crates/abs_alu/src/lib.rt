@@ -1,6 +1,6 @@
-//! The arithmetic of the AVR instruction set on bytes of three-valued bits. An answer stands for the machine's answer at
-//! each choice of the bytes and flags that the operands stand for. The status register is a byte of three-valued bits too.
-//! Rules: own, bit by bit with the three-valued bits of Regehr, Reid and Webb; flags: Instruction Set Manual DS40002198.
+//! The arithmetic of the AVR instruction set on three-valued bytes. A result stands for the machine's for each choice of members of the
+//! operands and flags. The status register is a three-valued byte too. Rules: own, bit by bit with the three-valued bits of Regehr, Reid
+//! and Webb; flags: Instruction Set Manual DS40002198. Tests: `value_tables`.
 #![tactic(auto)]
 
 pub mod bitwise;

@@ -8,8 +8,8 @@ use avr_model::operation::Mul;
 use bit_domain::bits::Tri;
 use bit_domain::bytes::TriByte;
 
-/// MUL, MULS, MULSU, FMUL, FMULS and FMULSU: low and high byte of the product, with the register after it, where it was
-/// `s`. It is exact where both operands are known; else the product, C and Z are unknown. The other flags are kept.
+/// MUL, MULS, MULSU, FMUL, FMULS and FMULSU: low and high byte of the product, and the status register after it. Exact if both operands are
+/// known; otherwise the product, C and Z are unknown. Other flags stay.
 pub fn mul(op: Mul, a: TriByte, b: TriByte, s: TriByte) -> ((TriByte, TriByte), TriByte)
     ensures { result ≡ abs_mul op a b s }
 {

@@ -1,4 +1,4 @@
-//! Sums and differences of bytes.
+//! Sums and differences of bytes. `s` is the status register before; each returns the one after.
 
 ghost use Rattle.std.specs.Prelude.{◌≡◌};
 ghost use Rattle.abs_alu.specs.Sums.{abs_add, abs_sub};
@@ -7,7 +7,7 @@ use crate::flags::{is_zero, with_flags};
 use bit_domain::bits::Tri;
 use bit_domain::bytes::TriByte;
 
-/// ADD and ADC: `a` plus `b` and a carry, with the register after it, where it was `s`.
+/// ADD and ADC: `a` plus `b` and a carry.
 pub fn add(a: TriByte, b: TriByte, carry: Tri, s: TriByte) -> (TriByte, TriByte)
     ensures { result ≡ abs_add a b carry s }
 {
@@ -24,8 +24,8 @@ pub fn add(a: TriByte, b: TriByte, carry: Tri, s: TriByte) -> (TriByte, TriByte)
     (sum.bits, flags)
 }
 
-/// SUB, SUBI, CP, CPI and NEG, and with `keep_zero` SBC, SBCI and CPC: `a` less `b` and a borrow, with the register after
-/// it, where it was `s`. With `keep_zero` Z is set only where it was.
+/// SUB, SUBI, CP, CPI and NEG, and with `keep_zero` SBC, SBCI and CPC: `a` less `b` and a borrow. With `keep_zero` Z is set only if it was
+/// set before.
 pub fn sub(a: TriByte, b: TriByte, borrow: Tri, keep_zero: bool, s: TriByte) -> (TriByte, TriByte)
     ensures { result ≡ abs_sub a b borrow keep_zero s }
 {

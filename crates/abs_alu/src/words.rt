@@ -8,8 +8,8 @@ use bit_domain::bits::Tri;
 use bit_domain::bytes::TriByte;
 use bit_domain::sums::{add, sub};
 
-/// ADIW where `up`, else SBIW: the word of low and high byte `a` plus or less `k`, with the register after it, where it was
-/// `s`. Z says that the whole word is 0, and H is kept.
+/// ADIW if `up`, otherwise SBIW: the word of low and high byte `a` plus or less `k`, and the status register after it; `s` is the one
+/// before. Z says that the whole word is 0, and H stays.
 pub fn wide(up: bool, a: (TriByte, TriByte), k: u8, s: TriByte) -> ((TriByte, TriByte), TriByte)
     ensures { result ≡ abs_wide up a k s }
 {

@@ -7,7 +7,7 @@ ghost use Rattle.avr_model.specs.Bitwise.{logic_of, flags_of_result, step_of, st
 use crate::sreg::{FlagOutcome, Sreg};
 use avr_model::operation::{Logic, Shift};
 
-// The register with these C and V, with N and Z of a result, and with H kept.
+// The status register with these C and V, with N and Z of a result. H stays.
 fn of_result(carry: bool, overflow: bool, result_byte: u8, s: Sreg) -> Sreg
     ensures { result.0 ≡ flags_of_result carry overflow result_byte s.0 }
 {
@@ -20,8 +20,7 @@ fn of_result(carry: bool, overflow: bool, result_byte: u8, s: Sreg) -> Sreg
     })
 }
 
-/// AND, OR and EOR of two bytes, and their flags: V is cleared, and C is kept.
-/// Source: Instruction Set Manual, AND, ANDI, OR, ORI and EOR.
+/// AND, OR and EOR of two bytes, and their flags: V is cleared, and C stays. Source: Instruction Set Manual, AND, ANDI, OR, ORI and EOR.
 pub fn logic(op: Logic, a: u8, b: u8, s: Sreg) -> (u8, Sreg)
     ensures value { result.0 ≡ logic_of op a b }
     ensures flags { result.1.0 ≡ flags_of_result (flag s.0 0) false (logic_of op a b) s.0 }
@@ -34,8 +33,7 @@ pub fn logic(op: Logic, a: u8, b: u8, s: Sreg) -> (u8, Sreg)
     (r, of_result(s.carry(), false, r, s))
 }
 
-/// COM, which turns each bit: V is cleared, and C is set.
-/// Source: Instruction Set Manual, COM.
+/// COM, which complements each bit: V is cleared, and C is set. Source: Instruction Set Manual, COM.
 pub fn com(a: u8, s: Sreg) -> (u8, Sreg)
     ensures value { result.0 ≡ 255 - a }
     ensures flags { result.1.0 ≡ flags_of_result true false (255 - a) s.0 }
@@ -43,8 +41,7 @@ pub fn com(a: u8, s: Sreg) -> (u8, Sreg)
     (!a, of_result(true, false, !a, s))
 }
 
-/// INC where `up` holds, and else DEC: V says that the signed byte wrapped, and C is kept.
-/// Source: Instruction Set Manual, INC and DEC.
+/// INC if `up`, otherwise DEC: V says that the signed byte wrapped, and C stays. Source: Instruction Set Manual, INC and DEC.
 pub fn step_one(up: bool, a: u8, s: Sreg) -> (u8, Sreg)
     ensures value { result.0 ≡ step_of up a }
     ensures flags { result.1.0 ≡ flags_of_result (flag s.0 0) (step_overflows up (step_of up a)) (step_of up a) s.0 }
@@ -69,8 +66,7 @@ fn top(op: Shift, a: u8, s: Sreg) -> u8
     }
 }
 
-/// LSR, ROR and ASR: the byte one place down. C is the bit that falls out, and V is N xor C.
-/// Source: Instruction Set Manual, LSR, ROR and ASR.
+/// LSR, ROR and ASR: shifts one place down. C is the bit shifted out, and V is N xor C. Source: Instruction Set Manual, LSR, ROR and ASR.
 pub fn shift(op: Shift, a: u8, s: Sreg) -> (u8, Sreg)
     ensures value { result.0 ≡ shift_of op a s.0 }
     ensures flags { result.1.0 ≡ flags_of_shift a (shift_of op a s.0) s.0 }

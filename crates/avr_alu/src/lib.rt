@@ -1,5 +1,5 @@
-//! The arithmetic of the AVR instruction set: results and status flags, for all operands, as the tables of
-//! `avr_model` state them. Source: Instruction Set Manual DS40002198.
+//! The arithmetic of the AVR instruction set: results and status flags for all operands, as the tables of `avr_model` state them. Source:
+//! Instruction Set Manual DS40002198. Tests: `value_tables`.
 #![tactic(auto)]
 
 pub mod bitwise;

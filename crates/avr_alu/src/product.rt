@@ -20,7 +20,7 @@ fn word(op: Mul, a: u8, b: u8) -> u16
     }
 }
 
-// Whether the operation is a fractional one, which doubles the product.
+// Whether the operation is fractional, which doubles the product.
 fn is_doubled(op: Mul) -> bool
     ensures { result ≡ is_fractional op }
 {
@@ -30,9 +30,8 @@ fn is_doubled(op: Mul) -> bool
     }
 }
 
-/// MUL, MULS, MULSU, FMUL, FMULS and FMULSU: the product of two bytes in 16 bits. C is bit 15 of the product before a
-/// fractional operation doubles it, Z says that the result is 0, and the other flags are kept.
-/// Source: Instruction Set Manual, MUL to FMULSU.
+/// MUL, MULS, MULSU, FMUL, FMULS and FMULSU: the product of two bytes in 16 bits. C is bit 15 of the product before doubling, Z says that
+/// the result is 0, and other flags stay. Source: Instruction Set Manual, MUL to FMULSU.
 pub fn mul(op: Mul, a: u8, b: u8, s: Sreg) -> (u16, Sreg)
     ensures value { result.0 ≡ result_of op a b }
     ensures flags { result.1.0 ≡ flags_of_product op a b s.0 }

@@ -5,8 +5,8 @@ ghost use Rattle.avr_model.specs.Sreg.{with_flags, flag};
 
 use bitflags::{Flag, Flags, bitflag_items};
 
-/// The status register: the flags C, Z, N, V, S, H, T and I in bits 0 to 7.
-/// Source: Instruction Set Manual DS40002198, "Status Register (SREG)".
+/// The status register: the flags C, Z, N, V, S, H, T and I in bits 0 to 7. Source: Instruction Set Manual DS40002198, "Status Register
+/// (SREG)".
 #[derive(Clone, Copy)]
 pub struct Sreg(pub u8);
 
@@ -104,7 +104,7 @@ impl Sreg {
         self.contains(Sreg::H)
     }
 
-    // The register with the flags of an operation, and with S as N xor V. T and I are kept.
+    // The register with the flags of an operation, with S as N xor V. T and I stay.
     pub(crate) fn with_outcome(self, outcome: FlagOutcome) -> Sreg
         ensures { result.0
             ≡ with_flags outcome.carry outcome.zero outcome.negative outcome.overflow outcome.half_carry self.0 }
@@ -120,7 +120,7 @@ impl Sreg {
     }
 }
 
-// What an operation says of the flags that it may change.
+// The flags that an operation may change.
 #[derive(Clone, Copy)]
 pub(crate) struct FlagOutcome {
     pub(crate) carry: bool,

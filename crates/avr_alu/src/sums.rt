@@ -5,8 +5,8 @@ ghost use Rattle.avr_model.specs.Sums.{sum_of, flags_of_sum, difference_of, flag
 
 use crate::sreg::{FlagOutcome, Sreg};
 
-/// ADD and ADC: the sum of `a`, `b` and a carry. C and H are the carries out of bits 7 and 3, V is signed overflow.
-/// Source: Instruction Set Manual, ADD and ADC.
+/// ADD and ADC: the sum of `a`, `b` and a carry. C and H are the carries out of bits 7 and 3, V is signed overflow. Source: Instruction Set
+/// Manual, ADD and ADC.
 pub fn add(a: u8, b: u8, carry: bool, s: Sreg) -> (u8, Sreg)
     ensures value { result.0 ≡ sum_of a b carry % 256 }
     ensures flags { result.1.0 ≡ flags_of_sum a b carry s.0 }
@@ -24,9 +24,8 @@ pub fn add(a: u8, b: u8, carry: bool, s: Sreg) -> (u8, Sreg)
     (r, flags)
 }
 
-/// SUB, SUBI, CP, CPI and NEG, and with `keep_zero` SBC, SBCI and CPC: `a` less `b` and a borrow. C and H are the
-/// borrows into bits 7 and 3, V is signed overflow. Where `keep_zero` holds, Z is cleared or kept, and never set.
-/// Source: Instruction Set Manual, SUB, SBC, CP, CPC and NEG.
+/// SUB, SUBI, CP, CPI and NEG, and with `keep_zero` SBC, SBCI and CPC: `a` less `b` and a borrow. C and H are the borrows into bits 7 and
+/// 3, V is signed overflow. With `keep_zero` Z is cleared or kept, never set. Source: Instruction Set Manual, SUB, SBC, CP, CPC and NEG.
 pub fn sub(a: u8, b: u8, borrow: bool, keep_zero: bool, s: Sreg) -> (u8, Sreg)
     ensures value { result.0 ≡ difference_of a b borrow }
     ensures flags { result.1.0 ≡ flags_of_difference a b borrow keep_zero s.0 }

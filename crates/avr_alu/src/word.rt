@@ -5,15 +5,14 @@ ghost use Rattle.avr_model.specs.Wide.{wide_of, flags_of_wide};
 
 use crate::sreg::{FlagOutcome, Sreg};
 
-/// ADIW where `up` holds, and else SBIW: a word plus or minus `k`. C is the carry or borrow of 16 bits, V is signed
-/// overflow of 16 bits, and N is bit 15.
-/// Source: Instruction Set Manual, ADIW and SBIW, whose `k` is 0 to 63; here it may be any byte.
+/// ADIW if `up`, otherwise SBIW: a word plus or minus `k`. C is the carry or borrow of 16 bits, V is signed overflow of 16 bits, and N is
+/// bit 15. Source: Instruction Set Manual, ADIW and SBIW, whose `k` is 0 to 63; here it may be any byte.
 pub fn wide(up: bool, a: u16, k: u8, s: Sreg) -> (u16, Sreg)
     ensures value { result.0 ≡ wide_of up a k }
     ensures flags { result.1.0 ≡ flags_of_wide up a k s.0 }
 {
     let k = u16::from(k);
-    // Whether bit 15 fell is the carry of a sum and the overflow of a difference, and the other way round whether it rose.
+    // A fall of bit 15 is the carry of a sum and the overflow of a difference; a rise is the reverse.
     let (r, carry, overflow) = if up {
         let r = a.wrapping_add(k);
         (r, !r & a, r & !a)

@@ -20,10 +20,10 @@ use round_laws::laws::rounds_are_reached;
 use std::alloc::{AllocError, Global};
 use vector_table::Assumptions;
 
-/// Why the bound of a certificate is as great as it is, by its family, which meets the conditions: the deepest chain over the nodes that
-/// are reached from reset, each link with the bytes that it adds and a shortest way to its place. The parts add up to the least need of
-/// the root over these nodes, which is at most the bound, and the bound itself where the rounds end with this certificate. Time is linear
-/// in nodes and edges, but for finding nodes by their keys. Source: own.
+/// Explains the bound of a certificate from its family, which meets the conditions: the deepest chain over the nodes reached from reset,
+/// each link with the bytes that it adds and a shortest path to its place. The bytes add up to the root's least need over these nodes,
+/// which is at most the bound; it is the bound if the rounds end with this certificate. Time is linear in nodes and edges, apart from
+/// look-ups of nodes by key. Source: own.
 pub fn explain_family(
     task: &Task<'_>,
     certificate: &Certificate,
@@ -53,7 +53,7 @@ pub fn explain_family(
     })
 }
 
-/// The explanation of a certificate where all conditions hold but that on its schedule. Its family is worked out first.
+/// Explains a certificate whose conditions hold except the one on its schedule. Computes its family first.
 pub fn explain(
     alloc: Global,
     flash: &Flash,

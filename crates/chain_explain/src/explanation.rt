@@ -3,20 +3,20 @@
 use avr_model::listed::Listed;
 use mask_states::InstKey;
 
-/// One link of the deepest chain: an instance, the place in it, and the way to that place.
+/// One link of the deepest chain: an instance, a place in it, and the path to it.
 #[derive(Drop)]
 pub struct Part {
     /// The instance.
     pub inst: InstKey,
     /// The word address of the place.
     pub pc: u16,
-    /// How many bytes the link adds: the offset at its place, and two for the return address where the chain goes on.
+    /// The bytes that the link adds: the offset at its place, and two for the return address if the chain continues.
     pub adds: u16,
-    /// The word addresses of a shortest way within the instance to the place, both ends included.
+    /// The word addresses of a shortest path within the instance to the place, both ends included.
     pub walk: Listed<u16>,
 }
 
-/// The deepest chain over the nodes of a certificate that are reached, link by link from the root on, and how deep it is.
+/// The deepest chain over the reached nodes of a certificate, link by link from the root, and its depth.
 #[derive(Drop)]
 pub struct Explanation {
     pub(crate) least: u16,
@@ -26,14 +26,14 @@ pub struct Explanation {
 impl Explanation {
     ghost use Rattle.std.specs.Prelude.{◌≡◌, ◌<◌, length, slice_get, Some};
 
-    /// The least need of the root over the reached nodes, in bytes: what the parts add up to.
+    /// The root's least need over the reached nodes, in bytes: the sum of the parts.
     pub fn least(&self) -> u16
         ensures { result ≡ self.now.least }
     {
         self.least
     }
 
-    /// How many parts there are.
+    /// The number of parts.
     pub fn count(&self) -> usize
         ensures { result ≡ length self.now.parts }
     {

@@ -1,4 +1,5 @@
-//! Where the bytes of a bound go: the deepest chain of a certificate's reached nodes, with a shortest way to each place. Source: own.
+//! Explanation of a bound: the deepest chain of a certificate's reached nodes, with a shortest path to each place. Source: own. Tests: the
+//! rows `explain_..` of `tests/end_to_end`.
 #![tactic(auto)]
 
 pub mod explaining;

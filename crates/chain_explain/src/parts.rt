@@ -15,7 +15,7 @@ use mask_states::NodeKey;
 use nesting_bound::Link;
 use std::alloc::AllocError;
 
-// How many bytes a link at this node adds.
+// The bytes that a link at this node adds.
 fn adds(key: &NodeKey, kind: Option<EdgeKind>) -> u16
     requires { offset_of key.now.sp ≤ SIZE }
     ensures { result ≡ adds_by (offset_of key.now.sp) kind }

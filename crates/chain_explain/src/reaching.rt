@@ -18,7 +18,7 @@ use mask_states::{InstKey, NodeKey};
 use shortest_walk::reached;
 use std::alloc::{AllocError, Global};
 
-// One mark for each node, by its number: whether edges reach it. The node at reset is there.
+// Whether edges reach each node, by its number, from the one at reset, which exists.
 pub(crate) fn marks_of(task: &Task<'_>, family: &Worked) -> Result<Vec<bool>, AllocError>
     requires few { length family.now.nodes ≤ 65536 }
     requires landings { AreLandings task.now.flash.now task.now.assumptions.now family.now.nodes family.now.landings }
@@ -32,7 +32,7 @@ pub(crate) fn marks_of(task: &Task<'_>, family: &Worked) -> Result<Vec<bool>, Al
     reached(task.alloc, &graph, &[root as u32])
 }
 
-// The marked nodes, in their order.
+// The marked nodes, in order.
 pub(crate) fn kept(alloc: Global, nodes: &Filled, marks: &[bool]) -> Result<Filled, AllocError>
     requires { length marks.now ≡ length nodes.now }
     ensures { IfOk result (λ kept. kept ≡ kept_by marks.now nodes.now) }
@@ -49,7 +49,7 @@ pub(crate) fn kept(alloc: Global, nodes: &Filled, marks: &[bool]) -> Result<Fill
     Ok(Filled::new(kept))
 }
 
-// In which ways each of the marked nodes enters instances, where each instance that a node enters has its first node.
+// The entries of each marked node. Each instance that a node enters has its first node.
 pub(crate) fn kept_ways(
     task: &Task<'_>,
     family: &Worked,

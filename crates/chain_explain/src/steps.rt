@@ -1,4 +1,4 @@
-//! Where the edges of a family lead, by the numbers of its nodes.
+//! The edges of a family by the numbers of its nodes.
 
 ghost use Rattle.std.specs.Prelude.{◌≡◌, IfOk, map};
 ghost use Rattle.chain_explain.specs.Moves.{at_of, leads_by};
@@ -7,14 +7,14 @@ use avr_model::listed::Listed;
 use call_graph::Landing;
 use std::alloc::{AllocError, Global};
 
-// At which nodes edges land so.
+// The nodes of these landings.
 fn numbers(alloc: Global, landings: &[Landing]) -> Result<Vec<u32>, AllocError>
     ensures { IfOk result (λ numbers. numbers.items ≡ map at_of landings.now) }
 {
     landings.iter().map(|landing| landing.at).collect(alloc)
 }
 
-// By node, to which nodes its edges lead, where the edges of each node land so.
+// By node, the nodes to which its edges lead.
 pub(crate) fn leads(
     alloc: Global,
     landings: &[Listed<Landing>],

@@ -1,4 +1,4 @@
-//! The way to a place within its instance.
+//! The path to a place within its instance.
 
 ghost use Rattle.std.specs.Prelude.{ℕ, [], ◌≡◌, ◌+◌, ◌-◌, ◌<◌, ◌≤◌, Contains, length, map, slice_get, slice_index_or, Some, IfOk};
 ghost use Rattle.local_rules.specs.declared.local.Node.{Node};
@@ -15,7 +15,7 @@ use mask_states::NodeKey;
 use shortest_walk::shortest_walk;
 use std::alloc::{AllocError, Global};
 
-// To which nodes of its instance a node moves whose edges land so, counted from this number on.
+// The nodes of its instance to which a node moves, by their landings, counted from this number on.
 fn counted_from(alloc: Global, low: usize, landings: &[Landing]) -> Result<Listed<u32>, AllocError>
     requires { (j : ℕ) → Contains (moves_of landings.now) j → low ≤ j }
     ensures { IfOk result (λ found. found ≡ map (λ j. j - low) (moves_of landings.now)) }
@@ -50,7 +50,7 @@ fn portion(
     Ok(portion)
 }
 
-// The program counters of the nodes of these numbers, counted from this one on.
+// The program counters of the nodes of these numbers.
 fn words(
     alloc: Global,
     nodes: &Filled,
@@ -68,8 +68,8 @@ fn words(
     Ok(words)
 }
 
-// The words of the first of the shortest ways to the node of this key, which is reached, within its instance. Time is linear in the
-// nodes and edges of the instance.
+// The words of the first of the shortest paths to the node of this key, which is reached, within its instance. Time is linear in the nodes
+// and edges of the instance.
 pub(crate) fn way(
     task: &Task<'_>,
     family: &Worked,

@@ -1,4 +1,4 @@
-//! The words of the command line, read by `clap`.
+//! Parsing of the command line by `clap`. Tests: the rows `usage_..` of `tests/end_to_end`.
 #![tactic(auto)]
 
 mod line;

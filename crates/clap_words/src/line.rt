@@ -1,4 +1,4 @@
-//! The command line as `clap` has it.
+//! The command line as `clap` defines it.
 
 ghost use Rattle.std.specs.Prelude.{◌≡◌, IfOk, false};
 ghost use Rattle.clap.specs.Words.{App, app_of, rule_of};
@@ -8,13 +8,13 @@ ghost use Rattle.clap_words.specs.Lines.{rule_by, with_rules, with_commands, lin
 use clap::{Arg, ArgAction, Command};
 use std::alloc::{AllocError, Global};
 
-// What an argument is.
+// The kind of an argument.
 pub(crate) enum ArgumentKind {
-    // A name that has to stand there.
+    // A required name.
     Name,
     // An option that takes the next word.
     Value,
-    // An option that takes none.
+    // An option without a value.
     Flag,
 }
 
@@ -30,7 +30,7 @@ const STEPS: (&str, ArgumentKind) = ("steps", ArgumentKind::Value);
 
 const TRIALS: (&str, ArgumentKind) = ("trials", ArgumentKind::Value);
 
-// The commands, each with its arguments in their order.
+// The commands, each with its arguments in order.
 static COMMANDS: [(&str, &[(&str, ArgumentKind)]); 10] = [
     ("check", &[FIRMWARE, SECOND, ASSUME, DEVICE]),
     ("analyse", &[FIRMWARE, ASSUME, DEVICE, STEPS]),

@@ -1,4 +1,4 @@
-//! The command that words are.
+//! From words to a command.
 
 ghost use Rattle.std.specs.Prelude.{◌≡◌, IfOk, map};
 ghost use Rattle.std.specs.Option.{option_map};
@@ -24,7 +24,7 @@ fn is_option(word: &str) -> bool
         || word == "--why"
 }
 
-// Whether the word is empty, or begins with `-` and is none of the options.
+// Whether the word is empty, or begins with `-` and is no option.
 fn is_refused(word: &str) -> bool
     ensures { result ≡ is_refused word.now }
 {
@@ -44,8 +44,8 @@ fn has_refused(words: &[&str]) -> bool
     }
 }
 
-/// The command that the words are, if they are one. An empty word is refused first, and one that begins with `-` and is none of the
-/// options; of the rest `clap` decides, and the numbers are read where it takes the words.
+/// The command that the words are, if any. Words that are empty, or begin with `-` and are no option, are refused first. `clap` decides
+/// over the rest, and numbers are parsed if it accepts the words.
 pub fn command_of<'a>(
     alloc: Global,
     words: &'a [&'a str],

@@ -10,7 +10,7 @@ use crate::size::{ChoiceCount, Size};
 use avr_model::device::Device;
 use sb_base::read_dec;
 
-/// What the program is to do for a firmware of which device, with the names of the files.
+/// What the program does, for which device, with the names of the files.
 #[derive(Clone, Copy)]
 pub enum Command<'a> {
     /// Judges a certificate for a firmware.
@@ -34,7 +34,7 @@ pub enum Command<'a> {
         schedule: &'a str,
         assume: Option<&'a str>,
     },
-    /// Judges a certificate for a firmware, and tells what it shows, in lines of text or as JSON.
+    /// Judges a certificate for a firmware, and reports needs, in lines or as JSON.
     Report {
         device: Device,
         firmware: &'a str,
@@ -42,20 +42,20 @@ pub enum Command<'a> {
         assume: Option<&'a str>,
         json: bool,
     },
-    /// Judges a certificate for a firmware, and tells where the bytes of its bound go.
+    /// Judges a certificate for a firmware, and prints where the bytes of its bound go.
     Explain {
         device: Device,
         firmware: &'a str,
         certificate: &'a str,
         assume: Option<&'a str>,
     },
-    /// Judges a certificate for a firmware, and tells whether no step can be flagged. It has no assumption file.
+    /// Judges a certificate for a firmware, and prints whether no step can be flagged. It has no assumption file.
     Clear {
         device: Device,
         firmware: &'a str,
         certificate: &'a str,
     },
-    /// Judges a certificate for a firmware, and tells where a step may be flagged, also with what may happen there.
+    /// Judges a certificate for a firmware, and prints where a step may be flagged, also with causes.
     Premises {
         device: Device,
         firmware: &'a str,
@@ -63,7 +63,7 @@ pub enum Command<'a> {
         assume: Option<&'a str>,
         why: bool,
     },
-    /// Judges a certificate for a firmware, and writes it, with the schedule that one of so many guided trials finds where it has none.
+    /// Judges a certificate for a firmware, and writes it, with the schedule of one of so many guided trials if it has none.
     Attain {
         device: Device,
         firmware: &'a str,
@@ -86,7 +86,7 @@ pub enum Command<'a> {
 }
 
 impl<'a> Command<'a> {
-    /// The device that it is for.
+    /// The device of the firmware.
     pub fn device(&self) -> Device
         ensures { result ≡ device_for (command_seen self.now) }
     {
@@ -122,7 +122,7 @@ impl<'a> Command<'a> {
         }
     }
 
-    /// The name of the certificate, the schedule or the devices, which is read next.
+    /// The name of the second file: certificate, schedule or devices.
     pub fn second(&self) -> Option<&'a str>
         ensures { name_of (command_seen self.now) Second ≡ text_of result }
     {
@@ -157,21 +157,21 @@ impl<'a> Command<'a> {
     }
 }
 
-// Whether no option is there but `--assume`, `--device` and `--steps`.
+// Whether only `--assume`, `--device` and `--steps` are given, at most.
 fn is_stepping(line: &CommandLine<'_>) -> bool
     ensures { result ≡ is_stepping (line_of line.now) }
 {
     line.trials.is_none() && !line.json && !line.why
 }
 
-// Whether no option is there but `--assume` and `--device`.
+// Whether only `--assume` and `--device` are given, at most.
 fn is_plain(line: &CommandLine<'_>) -> bool
     ensures { result ≡ is_plain (line_of line.now) }
 {
     line.steps.is_none() && is_stepping(line)
 }
 
-// The number of rounds, if there is one.
+// The limit on rounds, if given.
 fn steps_in(word: Option<&str>) -> Option<Option<u64>>
     ensures { result ≡ steps_in (text_of word.entry) }
 {
@@ -184,7 +184,7 @@ fn steps_in(word: Option<&str>) -> Option<Option<u64>>
     }
 }
 
-// The number of choices of a simulated run: 200,000 where none is said, and at most 16,777,216.
+// The number of choices of a simulated run: 200,000 by default, at most 16,777,216.
 fn choices_in(word: Option<&str>) -> Option<ChoiceCount>
     ensures { result ≡ choices_in (text_of word.entry) }
 {
@@ -200,7 +200,7 @@ fn choices_in(word: Option<&str>) -> Option<ChoiceCount>
     }
 }
 
-// The number of trials: 64 where none is said, and at most 65,536.
+// The number of trials: 64 by default, at most 65,536.
 fn trials_in(word: Option<&str>) -> Option<u32>
     ensures { result ≡ trials_in (text_of word.entry) }
 {
@@ -229,7 +229,7 @@ fn size_in(word: &str) -> Option<Size>
     }
 }
 
-// The device of a name that there may be; without one it is the ATmega328P.
+// The device of a name, if given; the ATmega328P by default.
 fn device_in(word: Option<&str>) -> Option<Device>
     ensures { result ≡ device_in (text_of word.entry) }
 {
@@ -483,7 +483,7 @@ fn called<'a>(word: &str, line: CommandLine<'a>) -> Option<Command<'a>>
     }
 }
 
-// The line with all these words more, if each can stand where it does. At most twelve can.
+// The line with all these words added, if each can stand where it does. At most twelve can.
 fn line_with<'a>(line: CommandLine<'a>, words: &'a [&'a str]) -> Option<CommandLine<'a>>
     ensures { option_map line_of result ≡ then_words (Some (line_of line.entry)) (map (λ w. w.now) words.now) }
 {
@@ -493,9 +493,8 @@ fn line_with<'a>(line: CommandLine<'a>, words: &'a [&'a str]) -> Option<CommandL
     }
 }
 
-/// The command that the words are, if they are one. The first is its name. Of the others, `--assume`, `--steps`, `--device`
-/// and `--trials` take the next word, each option stands at most once and only where the command has it, and what is left are
-/// the names in order.
+/// The command that the words are, if any. The first word is its name. `--assume`, `--steps`, `--device` and `--trials` take the next word.
+/// Each option stands at most once and only if the command has it. The remaining words are the names in order.
 pub fn command_of<'a>(words: &'a [&'a str]) -> Option<Command<'a>>
     ensures { option_map command_seen result ≡ command_of (map (λ w. w.now) words.now) }
 {

@@ -1,4 +1,4 @@
-//! The commands of the program, and the words that they are.
+//! The commands of the program, and which words are one. Tests: `text_tables`.
 #![tactic(auto)]
 
 mod command;

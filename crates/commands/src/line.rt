@@ -1,4 +1,4 @@
-//! What stands behind a command's name.
+//! The words after a command's name.
 
 ghost use Rattle.std.specs.Prelude.{◌≡◌, Some};
 ghost use Rattle.std.specs.Option.{option_map};
@@ -96,7 +96,7 @@ impl<'a> CommandLine<'a> {
         }
     }
 
-    // The line with a name behind those before, of which there are at most two.
+    // The line with a name appended, of which there are at most two.
     fn with_name(self, word: &'a str) -> Option<CommandLine<'a>>
         ensures { option_map line_of result ≡ named (text_of self.entry.first) (text_of self.entry.second) (line_of self.entry) word.entry.now }
     {
@@ -156,7 +156,7 @@ impl<'a> CommandLine<'a> {
         }
     }
 
-    /// The line with one word more, if it can stand there.
+    /// The line with one word added, if it can stand there.
     pub fn with_word(self, word: &'a str) -> Option<CommandLine<'a>>
         ensures { option_map line_of result ≡ with_word (line_of self.entry) word.entry.now }
     {

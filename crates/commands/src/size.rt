@@ -4,7 +4,7 @@ ghost use Rattle.std.specs.Prelude.{◌≡◌, ◌≤◌, ℕ};
 
 use std::marker::Model;
 
-/// How many functions the image of `demo` has: 1 to 2,000.
+/// The number of functions of the image of `demo`: 1 to 2,000.
 #[derive(Clone, Copy)]
 pub struct Size {
     count: u32,
@@ -40,7 +40,7 @@ impl Size {
     }
 }
 
-/// How many choices a simulated run has unless a stop comes before: at most 16,777,216.
+/// The greatest number of choices of a simulated run, at most 16,777,216; a stop ends it earlier.
 #[derive(Clone, Copy)]
 pub struct ChoiceCount {
     count: u32,

@@ -19,20 +19,20 @@ use std::marker::Model;
 /// What kind of source asks for interrupts.
 #[derive(Drop)]
 pub enum SourceKind {
-    /// A timer, which asks again and again.
+    /// A timer, which requests again and again.
     Timer,
-    /// A receiver, which asks once for each of its 1 to 64 bytes.
+    /// A receiver, which requests once for each of its 1 to 64 bytes.
     Bytes(Listed<u8>),
 }
 
-/// An interrupt source. Its request number n, counted from 0, stands from step `first` + n × `period` on until it is taken.
+/// An interrupt source. Its request number n, counted from 0, is pending from step `first` + n × `period` until it is taken.
 #[derive(Drop)]
 pub struct Source {
     /// The vector, 2 to 26.
     pub vector: u8,
-    /// The step from which the first request stands, at most 16,777,216.
+    /// The step of the first request, at most 16,777,216.
     pub first: u32,
-    /// How many steps lie between two requests, 1 to 16,777,216.
+    /// The steps between two requests, 1 to 16,777,216.
     pub period: u32,
     /// Timer or receiver.
     pub kind: SourceKind,
@@ -49,7 +49,7 @@ impl Source {
         }
     }
 
-    // Whether it is a timer, or where `timers` says no, whether it is a receiver.
+    // Whether it is a timer if `timers`, otherwise whether it is a receiver.
     pub(crate) fn is_of(&self, timers: bool) -> bool
         ensures { result ≡ is_of timers self.now.kind }
     {
@@ -69,8 +69,7 @@ impl Source {
         }
     }
 
-    // The byte that instructions read after request number `n` was taken, where it was this one before: a receiver's byte `n`,
-    // or 0 where it has none.
+    // The input byte after request number `n` was taken: a receiver's byte `n`, or 0 if it has none; for a timer the byte before.
     pub(crate) fn input_after(&self, n: u32, input: u8) -> u8
         ensures { result ≡ input_after self.now.kind n input }
     {
@@ -80,7 +79,7 @@ impl Source {
         }
     }
 
-    /// Whether a request stands at this step, where so many were taken before. No request is dropped.
+    /// Whether a request is pending at this step, after so many were taken. No request is dropped.
     pub fn is_due(&self, taken: u32, step: u32) -> bool
         ensures { result ≡ is_due self.now taken step }
     {
@@ -89,7 +88,7 @@ impl Source {
     }
 }
 
-/// A byte that fills registers and SRAM at reset, and up to 32 interrupt sources. Seen as these.
+/// A fill byte for registers and SRAM at reset, and up to 32 interrupt sources; contracts see these.
 #[derive(Drop)]
 pub struct Devices {
     fill: u8,
@@ -104,12 +103,12 @@ impl Model for Devices {
     ghost view = { λ d. record { fill = d.fill; sources = d.sources.items } };
 }
 
-/// Why a text is that of no devices, or isn't read.
+/// Why a text is refused, or not read.
 #[derive(Clone, Copy, Drop)]
 pub enum DevicesFault {
-    /// No devices' text goes on with the line at this offset; or a line is missing, and this is the text's length.
+    /// No text of devices goes on with the line at this offset; or a line is missing, and this is the text's length.
     Malformed(usize),
-    /// Want of memory.
+    /// Out of memory.
     Memory,
 }
 
@@ -143,10 +142,8 @@ impl Devices {
         Devices { fill, sources }
     }
 
-    /// Reads the devices whose text this is.
-    ///
-    /// `Malformed` comes exactly where the text is that of none, with the offset of the first line at which none can go on, or
-    /// with the text's length where a line is missing. Source: own.
+    /// Parses a text of devices. `Malformed` is returned exactly when the text is none, with the offset of the first line at which none can
+    /// go on, or with the text's length if a line is missing. Source: own.
     pub fn read(alloc: Global, text: &[u8]) -> Result<Devices, DevicesFault>
         ensures exact { Answers (λ d. d) fault.Memory result (setup_in text.now) }
         ensures told { IsSetupDueUnlessMemory text.now result }
@@ -156,21 +153,21 @@ impl Devices {
         read_setup(alloc, text)
     }
 
-    /// The byte that registers and SRAM hold at first.
+    /// The fill byte of registers and SRAM.
     pub fn fill(&self) -> u8
         ensures { result ≡ self.now.fill }
     {
         self.fill
     }
 
-    /// How many sources there are.
+    /// The number of sources.
     pub fn count(&self) -> usize
         ensures { result ≡ length self.now.sources }
     {
         self.sources.len()
     }
 
-    /// The source of this number, counted from 0. None exactly where there is none.
+    /// The source of this number, counted from 0; `None` if there is none.
     pub fn source(&self, n: usize) -> Option<&Source>
         ensures { option_map (λ s. s.now) result ≡ slice_get self.now.sources n }
     {
@@ -193,7 +190,7 @@ impl Devices {
         self.sources[n].is_timer()
     }
 
-    /// Whether a request of source `n`, of which so many were taken, stands at this step.
+    /// Whether a request of source `n`, of which so many were taken, is pending at this step.
     pub fn due(&self, n: usize, taken: u32, step: u32) -> bool
         requires { n < length self.now.sources }
         ensures { option_map (λ s. is_due s taken step) (slice_get self.now.sources n) ≡ Some result }

@@ -9,7 +9,7 @@ use crate::devices::Devices;
 use avr_machine::{Choice, Menu};
 use std::marker::Model;
 
-/// When a hook is asked.
+/// The moment at which a hook is called.
 #[derive(Clone, Copy)]
 pub struct Moment<'a> {
     /// The number of steps so far.
@@ -18,9 +18,8 @@ pub struct Moment<'a> {
     pub taken: &'a [u32],
 }
 
-/// A closure that chooses a source of some devices. It may be asked at every menu and every moment with a count for each
-/// source of these devices, and answers a source whose interrupt stands in the menu, or none: `new` asks for this, and each
-/// call of a hook asks for it again. Seen as the devices and the closure.
+/// A closure that chooses a source of some devices. `new` requires, and each call again, that it may be called on every menu and moment
+/// with a count for each source, and returns a source whose interrupt is in the menu, or none. Contracts see the devices and the closure.
 #[derive(Drop)]
 pub struct Hook<'a, F> {
     devices: &'a Devices,
@@ -55,7 +54,7 @@ impl<'a, F: Fn(&Moment<'_>, &Menu) -> Option<usize>> Hook<'a, F> {
     }
 }
 
-// Whether source `n` is a timer, or else a receiver, is due and has its interrupt in the menu.
+// Whether source `n` is of this kind (timer or receiver), is pending, and has its interrupt in the menu.
 fn is_ready(devices: &Devices, timers: bool, moment: &Moment<'_>, menu: &Menu, n: usize) -> bool
     requires { n < length moment.now.taken.now }
     ensures { result ≡ is_ready devices.now (stands_in menu.now) timers moment.now.taken.now moment.now.step n }
@@ -69,7 +68,7 @@ fn is_ready(devices: &Devices, timers: bool, moment: &Moment<'_>, menu: &Menu, n
     }
 }
 
-// The first source in the text's order that is a timer, or else a receiver, is due and has its interrupt in the menu.
+// The first source of this kind in the text's order that is pending and has its interrupt in the menu.
 #[tactic(auto, using(crate::proofs::Ready::first_here, crate::proofs::Ready::first_later, crate::proofs::Ready::first_none))]
 pub(crate) fn first_due(
     devices: &Devices,

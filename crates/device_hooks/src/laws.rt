@@ -1,12 +1,12 @@
-//! Laws of devices' texts and of the runs that devices choose. Each function does nothing; its contract is the law.
+//! Laws of texts of devices and of simulated runs: contracts of functions with an empty body.
 
 ghost use Rattle.device_hooks.specs.Exact.{ReadSetupIsSpelled, SpelledSetupIsRead, RefusedSetupIsStuck, SetupsHaveOneText};
 ghost use Rattle.device_hooks.specs.Laws.{SimulationsAreRuns, SimulationsAreBounded};
 
 use line_reading::laws::word_laws;
 
-/// What is read of a text is spelled so, all that is spelled is read, and a text that is refused is stuck at the line that is
-/// told. No text is that of two setups.
+/// What is read is spelled so, all that is spelled is read, and a refused text is stuck at the reported line. No text is that of two
+/// setups.
 pub fn reading_is_exact()
     ensures read { ReadSetupIsSpelled }
     ensures spelled { SpelledSetupIsRead }
@@ -16,7 +16,7 @@ pub fn reading_is_exact()
     word_laws();
 }
 
-/// A run that devices choose is a run of the machine from reset, and so it is no deeper than a bound of all runs.
+/// A simulated run is a run of the machine from reset, so it is no deeper than a bound of all runs.
 pub fn simulations_are_runs()
     ensures runs { SimulationsAreRuns }
     ensures bounded { SimulationsAreBounded }

@@ -1,4 +1,4 @@
-//! Device hooks: timers and receivers that choose what the machine does next, and the run that they choose.
+//! Device hooks: timers and receivers that choose what the machine does next, and the run that they choose. Tests: `machine_tables`.
 #![tactic(auto)]
 
 pub mod devices;

@@ -1,4 +1,4 @@
-//! What is known of a run so far.
+//! The progress of a run.
 
 ghost use Rattle.std.specs.Prelude.{◌≡◌, ◌≤◌, ◌<◌, length, Some, IfOk};
 ghost use Rattle.std.specs.List.{All};
@@ -12,7 +12,7 @@ use avr_machine::{Choice, Menu};
 use std::alloc::{AllocError, Global};
 use std::marker::Model;
 
-// How many steps a run has so far, how often each source was taken, and the byte that instructions read.
+// The steps so far, how often each source was taken, and the current input byte.
 #[derive(Drop)]
 pub(crate) struct Progress {
     step: u32,
@@ -40,7 +40,7 @@ impl Progress {
         })
     }
 
-    // What the first hook answers now, or where that is none the second one.
+    // The first hook's answer, or the second one's if that is none.
     pub(crate) fn answer<
         F: Fn(&Moment<'_>, &Menu) -> Option<usize>,
         G: Fn(&Moment<'_>, &Menu) -> Option<usize>,
@@ -61,7 +61,7 @@ impl Progress {
         }
     }
 
-    // The choice that an answer stands for.
+    // The choice for an answer.
     pub(crate) fn choice(&self, devices: &Devices, answer: Option<usize>) -> Choice
         ensures { result ≡ choice_on devices.now self.now answer }
     {
@@ -75,7 +75,7 @@ impl Progress {
         }
     }
 
-    // One step later, with this answer.
+    // The progress one step later, after this answer.
     pub(crate) fn pass(&mut self, devices: &Devices, answer: Option<usize>)
         requires room { self.old.step < most_steps }
         requires few { All (λ k. k ≤ self.old.step) self.old.taken }

@@ -1,4 +1,4 @@
-//! The reader of devices' texts.
+//! The parser of texts of devices.
 
 ghost use Rattle.std.specs.Prelude.{◌≡◌, ◌≤◌, ◌<◌, [], length, IfOk, IfSome};
 ghost use Rattle.std.specs.Option.{option_map};
@@ -16,16 +16,16 @@ use sb_base::{LineReader, Words, read_hex};
 use std::alloc::{AllocError, Global};
 use witness_replay::read_fill;
 
-// The most lines of sources.
+// The greatest number of lines of sources.
 const MOST_SOURCES: u32 = 32;
 
-// The most bytes of a receiver.
+// The greatest number of bytes of a receiver.
 const MOST_BYTES: usize = 64;
 
 // The greatest first step and the greatest period.
 const MOST_STEPS: u64 = 16_777_216;
 
-// When a source asks: its vector, first step and period.
+// The timing of a source: its vector, first step and period.
 #[derive(Clone, Copy)]
 struct Times {
     vector: u8,
@@ -33,7 +33,7 @@ struct Times {
     period: u32,
 }
 
-// The three numbers behind a source's kind.
+// The three numbers after a source's kind.
 #[tactic(auto, unfolding(crate::specs::Reading::times_at))]
 fn times_of(words: &mut Words<'_>) -> Option<Times>
     ensures { option_map (λ t. (t, words.new)) result ≡ times_at words.old }
@@ -52,7 +52,7 @@ fn times_of(words: &mut Words<'_>) -> Option<Times>
     }
 }
 
-// The bytes of all words that are left, in two digits each. None where a word is no such byte.
+// The bytes of all words that are left, in two digits each; `None` if a word is no such byte.
 #[tactic(auto, using(crate::proofs::Bytes::bytes_more, crate::proofs::Bytes::no_byte, crate::proofs::Bytes::bytes_end))]
 fn bytes_of(alloc: Global, words: &mut Words<'_>) -> Result<Option<Vec<u8>>, AllocError>
     ensures { IfOk result (λ o. option_map (λ v. v.items) o ≡ bytes_in words.old) }
@@ -67,7 +67,7 @@ fn bytes_of(alloc: Global, words: &mut Words<'_>) -> Result<Option<Vec<u8>>, All
     Ok(Some(bytes))
 }
 
-// The words behind `timer`.
+// Parses the words after `timer`.
 fn timer_of(words: &mut Words<'_>) -> Option<Source>
     ensures { result ≡ timer_in words.old }
 {
@@ -79,7 +79,7 @@ fn timer_of(words: &mut Words<'_>) -> Option<Source>
     }
 }
 
-// The source with these times and bytes, of which it has 1 to 64.
+// Makes the source with this timing and these bytes, of which there are 1 to 64.
 fn receiver_by(times: Times, bytes: Vec<u8>) -> Option<Source>
     ensures { result ≡ receiver_by times bytes.items }
 {
@@ -101,7 +101,7 @@ fn source(times: Times, kind: SourceKind) -> Source
     }
 }
 
-// The words behind `bytes`.
+// Parses the words after `bytes`.
 fn receiver_of(alloc: Global, words: &mut Words<'_>) -> Result<Option<Source>, AllocError>
     ensures { IfOk result (λ o. o ≡ receiver_in words.old) }
 {
@@ -115,7 +115,7 @@ fn receiver_of(alloc: Global, words: &mut Words<'_>) -> Result<Option<Source>, A
     }
 }
 
-// The source of a line.
+// Parses the source of a line.
 #[tactic(auto, unfolding(crate::specs::Reading::source_in))]
 fn source_of(alloc: Global, text: &[u8]) -> Result<Option<Source>, AllocError>
     ensures { IfOk result (λ o. o ≡ source_in (words_of text.now)) }
@@ -133,7 +133,7 @@ fn source_of(alloc: Global, text: &[u8]) -> Result<Option<Source>, AllocError>
     }
 }
 
-// The source of a line, or none where it is `end`. So many lines are left for sources.
+// Parses a line: a source, or none for `end`. So many lines are left for sources.
 #[tactic(auto, unfolding(crate::specs::Reading::part_by))]
 fn part_of(alloc: Global, text: &[u8], left: u32) -> Result<Option<Option<Source>>, AllocError>
     ensures exact { IfOk result (λ o. o ≡ part_by left text.now) }
@@ -152,7 +152,7 @@ fn part_of(alloc: Global, text: &[u8], left: u32) -> Result<Option<Option<Source
     }
 }
 
-// Reads a source, or none where the line is `end`.
+// Reads a source, or none if the line is `end`.
 #[tactic(auto, unfolding(line_reading::specs::Reading::line_by))]
 fn read_part(
     alloc: Global,
@@ -175,8 +175,7 @@ fn read_part(
     }
 }
 
-// Reads the lines up to `end`, and puts their sources into an empty list. The list isn't owned here, so that no end of the
-// function has to drop it.
+// Reads the lines up to `end` into an empty list. The list is borrowed, so that no exit of the function has to drop it.
 #[tactic(auto, using(crate::proofs::Loop::front_step, crate::proofs::Loop::front_end, crate::proofs::Loop::front_fault))]
 fn read_sources(
     alloc: Global,
@@ -196,7 +195,7 @@ fn read_sources(
     Ok(())
 }
 
-// Reads the lines of a setup, behind which there has to be nothing.
+// Reads the lines of a setup, after which nothing may follow.
 #[tactic(auto, unfolding(crate::specs::Reading::setup_at))]
 fn read_lines(alloc: Global, reader: &mut LineReader<'_>) -> Result<Devices, DevicesFault>
     ensures { Answers (λ d. d) fault.Memory result (malformed (setup_at reader.old)) }
@@ -214,7 +213,7 @@ fn read_lines(alloc: Global, reader: &mut LineReader<'_>) -> Result<Devices, Dev
     told.and(Ok(Devices::new(fill, sources)))
 }
 
-// Reads a text, all of it.
+// Reads a whole text.
 #[tactic(auto, unfolding(crate::specs::Reading::setup_in))]
 pub(crate) fn read_setup(alloc: Global, text: &[u8]) -> Result<Devices, DevicesFault>
     ensures { Answers (λ d. d) fault.Memory result (setup_in text.now) }

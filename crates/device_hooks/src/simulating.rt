@@ -1,4 +1,4 @@
-//! The run that devices choose by themselves.
+//! Simulation by devices alone.
 
 ghost use Rattle.std.specs.Prelude.{◌≡◌, ◌≤◌, ℕ, IfOk};
 ghost use Rattle.avr_model.specs.Run.{Bounded};
@@ -15,10 +15,10 @@ use stimulus::laws::depth_is_kept;
 use vector_table::Assumptions;
 use witness_replay::ReplayReport;
 
-/// Runs the machine of the flash's device from reset, with the devices' fill byte in its registers and SRAM, by what the devices
-/// ask for: at each step the interrupt of the first due timer that may be taken, else of the first such receiver, else an
-/// instruction. The run ends at its first stop, else after exactly `steps` choices, at most 16,777,216; it takes no memory for
-/// its choices. Where all runs have a bound, it has that bound.
+/// Runs the machine of the flash's device from reset, with the devices' fill byte in registers and SRAM. At each step it enters the
+/// interrupt of the first pending timer that may be taken, otherwise of the first such receiver, otherwise it executes an instruction. The
+/// run ends at its first stop, or after exactly `steps` choices, at most 16,777,216. It allocates nothing for its choices. A bound of all
+/// runs bounds it.
 pub fn simulation(
     alloc: Global,
     devices: &Devices,

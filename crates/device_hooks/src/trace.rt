@@ -1,4 +1,4 @@
-//! What a run that hooks choose leaves.
+//! The result of a run that hooks choose.
 
 ghost use Rattle.std.specs.Prelude.{◌≡◌, ◌<◌, ◌++◌, ◌∷◌, [], length, OnOk, OnErr, IsTrue, ◌↔◌};
 ghost use Rattle.device_hooks.specs.Spelling.{most_steps};
@@ -17,8 +17,7 @@ pub struct Repeated {
     pub count: u32,
 }
 
-/// The choices of a run in order. Seen as their list; kept by runs of equal choices, whose number decides how much memory they
-/// take.
+/// The choices of a run in order. Contracts see their list. Stored as runs of equal choices, whose number determines the memory.
 #[derive(Drop)]
 pub struct Choices {
     runs: Vec<Repeated>,
@@ -37,7 +36,7 @@ impl Model for Choices {
 /// The choices of a run, the machine's depth at its end, and how it ends.
 #[derive(Drop)]
 pub struct DeviceTrace {
-    /// The choices in order. One that met a stop is the last.
+    /// The choices in order. A choice that met a stop is the last.
     pub choices: Choices,
     /// The machine's greatest depth so far, in bytes.
     pub depth: u16,
@@ -73,7 +72,7 @@ impl Choices {
         &self.runs
     }
 
-    /// Another choice behind the last, of which there are fewer than 16,777,216. None is lost for want of memory.
+    /// Appends a choice to fewer than 16,777,216. None is lost if memory runs out.
     pub fn push(&mut self, choice: Choice) -> Result<(), AllocError>
         requires few { length self.old < most_steps }
         ensures ok { OnOk result (self.new ≡ self.old ++ choice ∷ []) }

@@ -21,12 +21,12 @@ use flash_image::Flash;
 use std::alloc::{AllocError, Global};
 use vector_table::Assumptions;
 
-// What is told of a run.
+// The record of a run.
 #[derive(Drop)]
 pub(crate) struct WalkedRun {
-    // Its choices, or none where they weren't to be kept.
+    // The choices, or none if they are not kept.
     pub(crate) choices: Choices,
-    // Its done steps.
+    // The steps done.
     pub(crate) steps: u32,
     // The stop that was met, or `End`.
     pub(crate) stop: Stop,
@@ -69,7 +69,7 @@ fn choose<F: Fn(&Moment<'_>, &Menu) -> Option<usize>, G: Fn(&Moment<'_>, &Menu) 
     choice
 }
 
-// Puts the choice behind the others, if they are to be kept.
+// Appends the choice, if choices are kept.
 fn keep(choices: &mut Choices, keeps: bool, choice: Choice) -> Result<(), AllocError>
     requires few { keeps ≡ true → length choices.old < most_steps }
     ensures { OnOk result (choices.new ≡ kept_on keeps choices.old choice) }
@@ -80,7 +80,7 @@ fn keep(choices: &mut Choices, keeps: bool, choice: Choice) -> Result<(), AllocE
     Ok(())
 }
 
-// Steps the machine by the hooks' choices up to the first stop, else so many times, and tells the choices if `keeps` says so.
+// Steps the machine by the hooks' choices up to the first stop, or so many times. Returns the choices if `keeps`.
 pub(crate) fn walk<
     F: Fn(&Moment<'_>, &Menu) -> Option<usize>,
     G: Fn(&Moment<'_>, &Menu) -> Option<usize>,
@@ -124,11 +124,9 @@ pub(crate) fn walk<
     })
 }
 
-/// Steps the machine by the hooks' answers: at each moment the interrupt of the source that the first hook answers, else of the
-/// one that the second answers, else an instruction with the byte that the devices give as its input. The run ends at its first
-/// stop, else after exactly `steps` choices, at most 16,777,216.
-///
-/// After want of memory the machine is where some first choices left it.
+/// Steps the machine by the hooks' answers. At each moment it enters the interrupt of the first hook's source, otherwise of the second
+/// one's; otherwise it executes an instruction with the devices' byte as input. The run ends at its first stop, or after exactly `steps`
+/// choices, at most 16,777,216. If memory runs out, the machine is where some first choices left it.
 pub fn simulate<
     F: Fn(&Moment<'_>, &Menu) -> Option<usize>,
     G: Fn(&Moment<'_>, &Menu) -> Option<usize>,

@@ -1,4 +1,4 @@
-//! The graph, instance by instance.
+//! The graph of instances, instance by instance.
 
 ghost use Rattle.std.specs.Prelude.{◌≡◌, ◌++◌, ◌<◌, ◌≤◌, length, map, Some, IfOk, OnOk, Contains, slice_get};
 ghost use Rattle.local_rules.specs.declared.local.Node.{Node};
@@ -15,14 +15,14 @@ use mask_states::SpForm;
 use nesting_bound::{Entered, Graph, GraphInst, Place};
 use std::alloc::AllocError;
 
-// The places and the edges of an instance, as far as they are listed.
+// The places and edges of an instance found so far.
 #[derive(Drop)]
 struct Parts {
     offsets: Vec<Place>,
     entered: Vec<Entered>,
 }
 
-// The edges of the graph for the ways in which the node of this place enters instances.
+// The edges of the graph for the entries of the node of this place.
 fn add_entries(
     nodes: &Filled,
     numbering: &Numbering,
@@ -46,8 +46,7 @@ fn add_entries(
     Ok(())
 }
 
-// The place of the node of this number, which enters instances in these ways, and the edges of the graph for them. A node with a
-// half-written stack pointer has none.
+// The place of the node of this number, with the edges for its entries. A node with a half-written stack pointer has none.
 fn add_node(
     nodes: &Filled,
     numbering: &Numbering,
@@ -72,7 +71,7 @@ fn add_node(
     Ok(())
 }
 
-// The instance of this number, with its places and edges, where nodes enter instances in these ways.
+// The instance of this number, with its places and edges, from the entries of the nodes.
 fn instance(
     task: &Task<'_>,
     nodes: &Filled,
@@ -103,8 +102,7 @@ fn instance(
     })
 }
 
-/// The graph of a family of 1 to 65,536 nodes, which enter instances in these ways, where each instance that one of them enters has its
-/// first node.
+/// The graph of a family of 1 to 65,536 nodes with these entries. Each instance that one of them enters has its first node.
 pub fn graph_of(
     task: &Task<'_>,
     nodes: &Filled,

@@ -24,8 +24,8 @@ pub struct Deepest {
     pub links: Listed<Link>,
 }
 
-/// The deepest chain of nodes that meet the conditions on a certificate and enter instances in these ways, with the least needs, and the
-/// root's need, which is at most the bound.
+/// The deepest chain of nodes that meet the conditions on a certificate and have these entries, with the least needs and the root's need,
+/// which is at most the bound.
 pub fn deepest_chain(
     task: &Task<'_>,
     certificate: &Certificate,

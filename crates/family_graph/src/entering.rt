@@ -1,4 +1,4 @@
-//! In which ways nodes enter instances.
+//! Entries of nodes into instances.
 
 ghost use Rattle.std.specs.Prelude.{◌≡◌, ◌++◌, ◌<◌, Contains, length, IfOk, OnOk};
 ghost use Rattle.call_graph.specs.declared.landing.Landing as landing_type;
@@ -12,7 +12,7 @@ use edge_rules::edge::is_entry;
 use mask_states::{EdgeKind, InstKey};
 use std::alloc::{AllocError, Global};
 
-/// A way into an instance.
+/// An entry into an instance.
 #[derive(Clone, Copy)]
 pub struct Entering {
     /// By a call or an interrupt.
@@ -21,7 +21,7 @@ pub struct Entering {
     pub inst: InstKey,
 }
 
-// The way of an edge that lands so, if it enters an instance.
+// The entry of an edge with this landing, if it enters an instance.
 fn add_way(ways: &mut Listed<Entering>, nodes: &Filled, landing: &Landing) -> Result<(), AllocError>
     requires { landing.now.at < length nodes.now }
     ensures { OnOk result (ways.new ≡ ways.old ++ way_of nodes.now landing.now) }
@@ -35,7 +35,7 @@ fn add_way(ways: &mut Listed<Entering>, nodes: &Filled, landing: &Landing) -> Re
     Ok(())
 }
 
-// The ways of edges that land so.
+// The entries of edges with these landings.
 fn ways_of(
     alloc: Global,
     nodes: &Filled,
@@ -51,7 +51,7 @@ fn ways_of(
     Ok(ways)
 }
 
-/// In which ways each node of a family enters instances, by its number, where each instance that one of them enters has its first node.
+/// The entries of each node of a family, by its number. Each instance that one of them enters has its first node.
 pub fn entered_by(task: &Task<'_>, family: &Worked) -> Result<Listed<Listed<Entering>>, AllocError>
     requires landings { AreLandings task.now.flash.now task.now.assumptions.now family.now.nodes family.now.landings }
     requires peopled { IsPeopled task.now.flash.now task.now.assumptions.now family.now.nodes }

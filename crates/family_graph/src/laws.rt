@@ -1,4 +1,4 @@
-//! Laws of the graphs of families and of their deepest chains, each as the contract of a function that does nothing but call others.
+//! Laws of graphs of families and of their deepest chains: contracts of functions that only call others.
 
 ghost use Rattle.family_graph.specs.Laws.{GraphsAreAlike, DeepestChainsAreOne, DeepestChainsAreBounded};
 
@@ -19,7 +19,7 @@ pub fn deepest_chains_are_one()
     chains_are_one();
 }
 
-/// A certificate whose conditions hold of a family has a bound that the root's least need over the family doesn't pass.
+/// The root's least need over the family of a certificate whose conditions hold is at most the bound.
 pub fn deepest_chains_are_bounded()
     ensures { DeepestChainsAreBounded }
 {}

@@ -1,5 +1,5 @@
-//! The family of a certificate; which instance of a family of nodes enters which, as the graph that needs are worked out from; and the
-//! deepest chain of entries. Source: own.
+//! The family of a certificate, its graph of instances, from which needs are computed, and the deepest chain. Source: own. Tests:
+//! `family_tables`.
 #![tactic(auto)]
 
 pub mod building;

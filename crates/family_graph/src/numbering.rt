@@ -27,7 +27,7 @@ fn ends_with(insts: &[InstKey], inst: &InstKey) -> bool
     }
 }
 
-// Puts the instance of the next node behind the others, unless it is the last of them. Its number.
+// Appends the instance of the next node, unless it is the last one already. Returns its number.
 fn put(insts: &mut Vec<InstKey>, inst: &InstKey) -> Result<u32, AllocError>
     requires { length insts.old.items < 65536 }
     ensures grows { OnOk result (Grows insts.old.items inst.now insts.new.items) }

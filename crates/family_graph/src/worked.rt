@@ -11,9 +11,8 @@ use certificate::laws::claims_are_seeds;
 use edge_laws::expansions::filled_or_missing;
 use std::alloc::AllocError;
 
-/// The family of a certificate, at most 65,536 nodes, where all conditions hold but that on its schedule: its nodes with their states,
-/// which meet these conditions, and where their edges land. The local part of a node is worked out twice, and once more for each node
-/// that comes from it.
+/// The family of a certificate, at most 65,536 nodes, if all conditions hold except the one on its schedule: its nodes with their states,
+/// and where their edges land. The local part of a node is computed twice, and once more for each node that comes from it.
 pub fn worked_of(task: &Task<'_>, certificate: &Certificate) -> Result<Worked, AllocError>
     requires { IsSound task.now.flash.now task.now.assumptions.now certificate.now }
     ensures filled { IfOk result (λ family. IsFilled task.now.flash.now task.now.assumptions.now certificate.now.nodes family.nodes) }

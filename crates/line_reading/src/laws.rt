@@ -5,16 +5,14 @@ ghost use Rattle.line_reading.specs.Appending.{AppendingLaws};
 
 use sb_base::laws::spelling;
 
-/// Numbers, words and lines that are written are read, and what is read was written so. The function does nothing; its
-/// contract is these laws.
+/// Numbers, words and lines that are written are read back, and what is read was written so. The body is empty; the contract is these laws.
 pub fn word_laws()
     ensures { WordLaws }
 {
     spelling();
 }
 
-/// Lines that are written are appended, and what is cut short is a part. The function does nothing; its contract is these
-/// laws.
+/// Written lines are appended, and a text cut short is a prefix. The body is empty; the contract is these laws.
 pub fn appending_laws()
     ensures { AppendingLaws }
 {

@@ -1,4 +1,4 @@
-//! The bytes of a word, from its front.
+//! The bytes of a word, read from its front.
 
 ghost use Rattle.std.specs.Prelude.{◌≡◌, ◌≤◌, ◌<◌, ◌^◌, Some, None, if◌then◌else◌, IfSome};
 ghost use Rattle.std.specs.Option.{option_map};
@@ -22,7 +22,7 @@ impl<'a> Model for Letters<'a> {
     ghost view = { λ l. l.rest.now };
 }
 
-// The number that each byte stands for as an upper-case hexadecimal digit: 16 where it is no such digit.
+// The value of each byte as an upper-case hexadecimal digit; 16 if it is none.
 static DIGITS: [u8; 256] = [
     16, 16, 16, 16, 16, 16, 16, 16, 16, 16, 16, 16, 16, 16, 16, 16, 16, 16, 16, 16, 16, 16, 16, 16,
     16, 16, 16, 16, 16, 16, 16, 16, 16, 16, 16, 16, 16, 16, 16, 16, 16, 16, 16, 16, 16, 16, 16, 16,
@@ -37,7 +37,7 @@ static DIGITS: [u8; 256] = [
     16, 16, 16, 16, 16, 16, 16, 16, 16, 16, 16, 16, 16, 16,
 ];
 
-// The number that an upper-case hexadecimal digit stands for; none where the byte is no such digit.
+// The value of an upper-case hexadecimal digit; `None` if the byte is none.
 fn digit_of(byte: u8) -> Option<u8>
     ensures value { result ≡ (if is_hex byte then Some (digit_of byte) else None) }
     ensures small { IfSome result (λ n. n < 16) }
@@ -54,7 +54,7 @@ impl<'a> Letters<'a> {
         Letters { rest: word }
     }
 
-    /// The next byte.
+    /// Reads the next byte.
     pub fn next(&mut self) -> Option<u8>
         ensures { option_map (λ b. (b, self.new)) result ≡ letter_at self.old }
     {
@@ -63,7 +63,7 @@ impl<'a> Letters<'a> {
         Some(*first)
     }
 
-    /// The next bytes, as a number in so many upper-case hexadecimal digits.
+    /// Reads the next bytes as a number in so many upper-case hexadecimal digits.
     #[tactic(auto, unfolding(crate::specs::Letters::digits_at))]
     pub fn digits(&mut self, count: usize) -> Option<u32>
         requires some { 1 ≤ count }
@@ -84,7 +84,7 @@ impl<'a> Letters<'a> {
         }
     }
 
-    /// The next two bytes, as a number in two upper-case hexadecimal digits.
+    /// Reads the next two bytes as a number in two upper-case hexadecimal digits.
     #[tactic(auto, using(crate::proofs::Digits::no_letter, crate::proofs::Digits::one_letter, crate::proofs::Digits::two_letters))]
     pub fn byte(&mut self) -> Option<u8>
         ensures { option_map (λ n. (n, self.new)) result ≡ digits_at 2 self.old }
@@ -101,7 +101,7 @@ impl<'a> Letters<'a> {
         Some(16 * high + low)
     }
 
-    /// What is left, all of it.
+    /// The rest of the word.
     pub fn rest(&self) -> &'a [u8]
         ensures { result.now ≡ self.now }
     {

@@ -1,5 +1,5 @@
-//! What the readers of all texts share: words of a line with numbers in them, and lines that have to be whole. Each
-//! reading is a function in `specs/Reading.antt`, which the calls here compute.
+//! What all readers of texts share: words of a line with numbers in them, and whole lines. Each reading is a function in
+//! `specs/Reading.antt`, which the calls here compute. Tests: `text_tables`.
 #![tactic(auto)]
 
 pub mod laws;
@@ -12,11 +12,11 @@ ghost use Rattle.line_reading.specs.Reading.{hex_at, dec_at, word_at, is_over, t
 pub use letters::Letters;
 use sb_base::{LineReader, Words, read_dec, read_hex};
 
-/// The line at this offset isn't of its form, or is missing.
+/// The line at this offset is not of its form, or is missing.
 #[derive(Clone, Copy)]
 pub struct Malformed(pub usize);
 
-/// The next word, as a number in so many upper-case hexadecimal digits.
+/// Reads the next word as a number in so many upper-case hexadecimal digits.
 pub fn hex_word(words: &mut Words<'_>, digits: usize) -> Option<u32>
     requires some { 1 ≤ digits }
     requires few { digits ≤ 8 }
@@ -29,7 +29,7 @@ pub fn hex_word(words: &mut Words<'_>, digits: usize) -> Option<u32>
     }
 }
 
-/// The next word, as a canonical decimal of at most `most`.
+/// Reads the next word as a canonical decimal of at most `most`.
 pub fn dec_word(words: &mut Words<'_>, most: u64) -> Option<u64>
     ensures exact { option_map (λ n. (n, words.new)) result ≡ dec_at most words.old }
     ensures small { IfSome result (λ n. n ≤ most) }
@@ -40,7 +40,7 @@ pub fn dec_word(words: &mut Words<'_>, most: u64) -> Option<u64>
     }
 }
 
-/// The next word, which has to be this one.
+/// Reads the next word, which must be this one.
 pub fn expect_word(words: &mut Words<'_>, text: &[u8]) -> Option<()>
     ensures { option_map (λ u. (u, words.new)) result ≡ word_at text.now words.old }
 {
@@ -58,7 +58,7 @@ pub fn is_over(words: &mut Words<'_>) -> bool
     words.next().is_none()
 }
 
-/// The text of the next line, which stays the next one. None exactly where no line is left or the next isn't whole.
+/// Peeks at the text of the next line. `None` exactly when no line is left or the next is not whole.
 pub fn peek_text<'a>(reader: &LineReader<'a>) -> Option<&'a [u8]>
     ensures { option_map (λ t. t.now) result ≡ text_in reader.now.rest }
 {
@@ -66,8 +66,7 @@ pub fn peek_text<'a>(reader: &LineReader<'a>) -> Option<&'a [u8]>
     if line.whole { Some(line.text) } else { None }
 }
 
-/// What was found in the next line, which is then passed over. Where nothing was found the line is refused, and the reader
-/// stays before it.
+/// Passes over the next line if something was found in it. Otherwise refuses the line, and the reader stays before it.
 pub fn take_line<T>(reader: &mut LineReader<'_>, found: Option<T>) -> Result<T, Malformed>
     ensures exact { ReadsAt (λ x. x) reader.new result (taken found reader.old (passed reader.old)) }
 {
@@ -80,7 +79,7 @@ pub fn take_line<T>(reader: &mut LineReader<'_>, found: Option<T>) -> Result<T, 
     }
 }
 
-/// The next line, which has to be whole and this text. A refusal leaves the reader before it.
+/// Reads the next line, which must be whole and equal to this text. A refusal leaves the reader before it.
 #[tactic(auto, unfolding(crate::specs::Reading::line_by))]
 pub fn take_text(reader: &mut LineReader<'_>, text: &[u8]) -> Result<(), Malformed>
     ensures exact { ReadsAt (λ u. u) reader.new result (line_by (this_by text.now) reader.old) }

@@ -15,12 +15,12 @@ use crate::depth_first::read;
 use crate::graph::{Entered, Graph, GraphInst, Link, Place};
 use std::alloc::{AllocError, Global};
 
-/// How a chain goes on from an instance.
+/// How a chain continues from an instance.
 #[derive(Clone, Copy)]
 pub enum Turn {
     /// It ends at this place.
     Ends(Place),
-    /// It goes by this edge.
+    /// It follows this edge.
     Enters(Entered),
 }
 
@@ -41,7 +41,7 @@ fn best_place(places: &[Place], need: u32) -> Option<Place>
     best
 }
 
-// The word at which the instance begins.
+// The word of the instance's entry.
 fn entry(instances: &[GraphInst], inst: u32) -> u16
     ensures { result ≡ entry_of (slice_get instances.now inst) }
 {
@@ -51,7 +51,7 @@ fn entry(instances: &[GraphInst], inst: u32) -> u16
     }
 }
 
-// Whether the first edge comes before the second: by node, kind, target and instance.
+// Whether the first edge precedes the second: by node, kind, target and instance.
 fn is_before(instances: &[GraphInst], a: &Entered, b: &Entered) -> bool
     ensures { result ≡ is_lt (edge_cmp instances.now a.now b.now) }
 {
@@ -65,7 +65,7 @@ fn is_before(instances: &[GraphInst], a: &Entered, b: &Entered) -> bool
         .is_lt()
 }
 
-// The first of the edges below which the stack becomes so deep. In 64 bits no sum is too great.
+// The first of the edges below which the stack becomes so deep. In 64 bits no sum overflows.
 fn best_edge(
     instances: &[GraphInst],
     needs: &[u32],
@@ -88,7 +88,7 @@ fn best_edge(
     best
 }
 
-// How the chain goes on from the instance.
+// How the chain continues from the instance.
 fn goes_on(instances: &[GraphInst], needs: &[u32], inst: u32) -> Turn
     requires least { AreLeastNeeds instances.now needs.now }
     requires within { inst < length instances.now }
@@ -106,9 +106,9 @@ fn goes_on(instances: &[GraphInst], needs: &[u32], inst: u32) -> Turn
     }
 }
 
-/// The deepest chain. It starts at the root, and in each instance ends at the least node whose offset is the instance's need, if
-/// there is one. Else it goes by the least edge whose offset + 2 + need is: by node, calls before interrupts, calls by target and
-/// interrupts by vector, the one that keeps its own enable bit before the one that clears it. Source: own.
+/// The deepest chain. It starts at the root. In each instance it ends at the least node whose offset is the instance's need, if there is
+/// one. Otherwise it follows the least edge whose offset + 2 + need is: by node, calls before interrupts, calls by target and interrupts by
+/// vector, the one that keeps its own enable bit before the one that clears it. Source: own.
 pub fn chain(alloc: Global, graph: &Graph, composed: &Composed) -> Result<Vec<Link>, AllocError>
     requires graph { IsGraph graph.now.instances }
     requires least { IsLeast graph.now.instances composed.now.ranks composed.now.needs }

@@ -1,4 +1,4 @@
-//! The least ranks and needs, or the instance that is named where some reach themselves.
+//! The least ranks and needs, or the named cycle.
 
 ghost use Rattle.std.specs.Prelude.{ℕ, ◌≡◌, ◌<◌, None, IfOk, IfErr, MatchOption, length};
 ghost use Rattle.nesting_bound.specs.Graph.{IsGraph, ReachesBy};
@@ -18,7 +18,7 @@ use std::alloc::{AllocError, Global};
 /// The least rank and the least need of each instance.
 #[derive(Drop)]
 pub struct Composed {
-    /// By instance, how many entries lie between it and one that enters none: its rank is above that of each that it enters.
+    /// By instance, the greatest number of entries between it and one that enters none. Its rank is above that of each instance it enters.
     pub ranks: Listed<u32>,
     /// By instance, how many bytes the stack pointer may fall below its base, with all that it enters.
     pub needs: Listed<u32>,
@@ -27,7 +27,7 @@ pub struct Composed {
 impl Composed {
     ghost use Rattle.std.specs.Prelude.{◌≡◌, slice_index};
 
-    /// The need of an instance, 0 where there is none of this number.
+    /// The need of an instance; 0 if there is no such instance.
     pub fn need(&self, inst: u32) -> u32
         ensures { result ≡ slice_index self.now.needs inst }
     {
@@ -39,7 +39,7 @@ impl Composed {
     }
 }
 
-// The ranks and needs of a table in which all is settled; none where something is missing.
+// The ranks and needs of a settled table; `None` if something is missing.
 fn settled(alloc: Global, table: &[Option<Found>]) -> Result<Option<Composed>, AllocError>
     ensures { IfOk result (λ found. MatchOption found (IsInstMissing table.now) (λ c. AreFound table.now (length table.now) c.ranks c.needs)) }
 {
@@ -60,7 +60,7 @@ fn settled(alloc: Global, table: &[Option<Found>]) -> Result<Option<Composed>, A
     }))
 }
 
-// What a table tells in which all is settled that can be: the least ranks and needs, or the instance that is named.
+// The result of a table in which all is settled that can be: the least ranks and needs, or the named instance.
 fn told(
     alloc: Global,
     instances: &[GraphInst],
@@ -83,10 +83,10 @@ fn told(
     }
 }
 
-/// The least ranks and needs: the rank of an instance is above that of each that it enters, and its need is at least the offset of
-/// each of its nodes, and offset + 2 + need of each instance that it enters. `Cycle` comes exactly where an instance reaches itself
-/// by one or more entries. It names one of the least vector of which an instance does, else one of the least entry, and of those
-/// the one with the least number. Source: own.
+/// The least ranks and needs. The rank of an instance is above that of each instance it enters. Its need is at least the offset of each of
+/// its nodes, and offset + 2 + need of each instance it enters. `Cycle` is returned exactly when an instance reaches itself by one or more
+/// entries. It names one of the least such vector, otherwise one of the least entry, and of those the one with the least number. Source:
+/// own.
 pub fn compose(alloc: Global, graph: &Graph) -> Result<Composed, ComposeFault>
     requires { IsGraph graph.now.instances }
     ensures ok { IfOk result (λ c. IsLeast graph.now.instances c.ranks c.needs) }
@@ -99,7 +99,7 @@ pub fn compose(alloc: Global, graph: &Graph) -> Result<Composed, ComposeFault>
     told(alloc, instances, table.as_slice(), walked.component)
 }
 
-/// The least ranks and needs of a graph in which no instance reaches itself, so that none is named.
+/// The least ranks and needs of an acyclic graph.
 pub fn compose_acyclic(alloc: Global, graph: &Graph) -> Result<Composed, AllocError>
     requires graph { IsGraph graph.now.instances }
     requires acyclic { (at : ℕ) → IsNamed graph.now.instances at → ⊥ }

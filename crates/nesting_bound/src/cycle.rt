@@ -1,4 +1,4 @@
-//! Which instance is named where some reach themselves.
+//! Which instance a cycle is named by.
 
 ghost use Rattle.std.specs.Prelude.{◌≡◌, ◌⊎◌, ◌+◌, ◌<◌, ◌≤◌, Contains, IfOk, IfSome, length, slice_index, true, false};
 ghost use Rattle.nesting_bound.specs.declared.graph.Entered.{Entered};
@@ -14,7 +14,7 @@ use crate::reach::reaches_itself;
 use mask_states::{InstKey, Kind};
 use std::alloc::{AllocError, Global};
 
-// Whether the first is named before the second, wherever they stand: vectors by number, then all else by entry.
+// Whether the first is named before the second: vectors by number, then all others by entry.
 fn is_earlier(a: &InstKey, b: &InstKey) -> bool
     ensures yes { result ≡ true → (group_of a.now.kind < group_of b.now.kind) ⊎ ((group_of a.now.kind ≡ group_of b.now.kind) × (number_of a.now.kind a.now.entry < number_of b.now.kind b.now.entry)) }
     ensures no { result ≡ false → (group_of b.now.kind < group_of a.now.kind) ⊎ ((group_of b.now.kind ≡ group_of a.now.kind) × (number_of b.now.kind b.now.entry ≤ number_of a.now.kind a.now.entry)) }
@@ -38,7 +38,7 @@ fn is_earlier(a: &InstKey, b: &InstKey) -> bool
     }
 }
 
-// The greatest number of those to which these edges lead, 0 where there are none.
+// The greatest number among the targets of these edges; 0 if there are none.
 fn highest(edges: &[Entered], numbers: &[u32]) -> u32
     ensures { (e : Entered) → Contains edges.now e → slice_index numbers.now e.into ≤ result }
 {
@@ -49,7 +49,7 @@ fn highest(edges: &[Entered], numbers: &[u32]) -> u32
     most
 }
 
-// Whether instance i may reach itself: it wasn't settled, and it enters one whose number is not below its own.
+// Whether instance i may reach itself: it is not settled, and enters one whose number is not below its own.
 fn is_candidate(graph: &[GraphInst], table: &[Option<Found>], numbers: &[u32], i: usize) -> bool
     requires sound { IsSoundTable graph.now table.now }
     requires layers { AreLayers graph.now numbers.now }
@@ -62,7 +62,7 @@ fn is_candidate(graph: &[GraphInst], table: &[Option<Found>], numbers: &[u32], i
     highest(graph[i].entered.as_slice(), numbers) >= read(numbers, i)
 }
 
-// Whether instance i is named after the best so far, or is not.
+// Whether instance i is named after the best so far, or not at all.
 fn is_behind(graph: &[GraphInst], best: Option<u32>, i: usize) -> bool
     requires graph { IsGraph graph.now }
     requires within { i < length graph.now }
@@ -84,7 +84,7 @@ fn is_behind(graph: &[GraphInst], best: Option<u32>, i: usize) -> bool
     }
 }
 
-// The first that is named of the candidates.
+// The candidate that is named first.
 fn first_candidate(graph: &[GraphInst], table: &[Option<Found>], numbers: &[u32]) -> Option<usize>
     requires sound { IsSoundTable graph.now table.now }
     requires layers { AreLayers graph.now numbers.now }
@@ -103,7 +103,7 @@ fn first_candidate(graph: &[GraphInst], table: &[Option<Found>], numbers: &[u32]
     best
 }
 
-// An instance that reaches itself: where the numbers are components, the one that is named.
+// An instance that reaches itself. If the numbers are components, it is the named one.
 fn guess(
     alloc: Global,
     graph: &[GraphInst],
@@ -126,7 +126,7 @@ fn guess(
     }
 }
 
-// The same numbers, if no instance enters one of a greater number, else one number for all.
+// These numbers if no instance enters one of a greater number, otherwise one number for all.
 fn layers(alloc: Global, graph: &[GraphInst], numbers: Vec<u32>) -> Result<Vec<u32>, AllocError>
     ensures { IfOk result (λ layers. AreLayers graph.now layers.items) }
 {
@@ -138,8 +138,8 @@ fn layers(alloc: Global, graph: &[GraphInst], numbers: Vec<u32>) -> Result<Vec<u
     Ok(numbers)
 }
 
-/// The instance that is named, if one reaches itself. The table holds what was settled. Any numbers serve; where they are the
-/// instances' components, one instance alone is asked what it reaches.
+/// The named instance, if one reaches itself. `table` holds what was settled. Any numbers are sound; with component numbers only one
+/// instance is searched.
 pub fn first_named(
     alloc: Global,
     graph: &[GraphInst],

@@ -1,4 +1,4 @@
-//! A walk over the instances that goes along each edge once, and finds which lie on common cycles (Tarjan 1972).
+//! Strongly connected components by depth-first search (Tarjan 1972).
 
 ghost use Rattle.std.specs.Prelude.{◌≡◌, slice_index};
 ghost use Rattle.nesting_bound.specs.Graph.{IsGraph};
@@ -9,44 +9,44 @@ use std::alloc::{AllocError, Global};
 // No component yet.
 const OPEN: u32 = u32::MAX;
 
-// Where the walk stands in an instance: at the edge of this number.
+// The state of the walk in an instance: its next edge.
 #[derive(Clone, Copy)]
 struct Visit {
     inst: u32,
     edge: usize,
 }
 
-// What the walk has found. Its numbers are tested where they are used, and so no contract speaks of them.
+// The state of the search. Its numbers are tested where they are used, so no contract speaks of them.
 #[derive(Drop)]
 struct Walk {
-    // By instance, when the walk came to it, from 1 on; 0 before.
+    // By instance, when the search reached it, from 1 on; 0 before.
     begun: Vec<u32>,
-    // By instance, when the walk came to the first open one that is known to be reached from it.
+    // By instance, when the search reached the first open one known to be reachable from it.
     lowest: Vec<u32>,
     // By instance, the number of its component.
     component: Vec<u32>,
-    // The instances that have no component yet, as the walk came to them.
+    // The open instances, which have no component yet, in the order of the search.
     open: Vec<u32>,
-    // The way from where the walk set out to where it stands.
+    // The path from the start to the current instance.
     visits: Vec<Visit>,
-    // The instances as they got their components.
+    // The instances in the order in which they got components.
     order: Vec<u32>,
-    // How many instances were begun.
+    // The number of instances begun.
     time: u32,
-    // How many components there are.
+    // The number of components.
     count: u32,
 }
 
-/// The instances as a walk leaves them.
+/// The result of the search.
 #[derive(Drop)]
 pub struct Walked {
-    /// Each instance behind those that it enters, but for cycles.
+    /// The instances in an order in which each comes after those it enters, except for cycles.
     pub order: Vec<u32>,
-    /// By instance, a number that instances on one cycle have in common, not below that of any that it enters.
+    /// By instance, its component's number, which is not below that of any instance it enters.
     pub component: Vec<u32>,
 }
 
-/// The number at a place, 0 where there is none.
+/// The number at an index; 0 if there is none.
 pub fn read(list: &[u32], i: usize) -> u32
     ensures { result ≡ slice_index list.now i }
 {
@@ -65,7 +65,7 @@ fn edge(graph: &[GraphInst], visit: Visit) -> Option<Entered> {
 }
 
 impl Walk {
-    // Comes to an instance, unless it came there before.
+    // Visits an instance, unless it was visited.
     fn begin(&mut self, inst: u32) -> Result<(), AllocError> {
         if read(&self.begun, inst as usize) != 0 {
             return Ok(());
@@ -78,13 +78,13 @@ impl Walk {
         Ok(())
     }
 
-    // An instance reaches an open one to which the walk came then.
+    // Records that an instance reaches an open one, visited then.
     fn lower(&mut self, inst: u32, time: u32) {
         let lowest = read(&self.lowest, inst as usize);
         write(&mut self.lowest, inst as usize, lowest.min(time));
     }
 
-    // Goes along one edge.
+    // Follows one edge.
     fn enter(&mut self, visit: Visit, into: u32) -> Result<(), AllocError> {
         let edge = visit.edge.saturating_add(1);
         self.visits.push(Visit { edge, ..visit })?;
@@ -97,7 +97,7 @@ impl Walk {
         self.begin(into)
     }
 
-    // The open instances from this one on are a component.
+    // Makes the open instances from this one on a component.
     fn close(&mut self, inst: u32) -> Result<(), AllocError> {
         for _ in 0..self.open.len() {
             let Some(last) = self.open.pop() else {
@@ -113,7 +113,7 @@ impl Walk {
         Ok(())
     }
 
-    // Goes back to where it came from.
+    // Returns to the instance before.
     fn leave(&mut self, inst: u32) -> Result<(), AllocError> {
         let lowest = read(&self.lowest, inst as usize);
         if lowest == read(&self.begun, inst as usize) {
@@ -125,7 +125,7 @@ impl Walk {
         Ok(())
     }
 
-    // Walks until it is back.
+    // Walks until the path is empty.
     fn go(&mut self, graph: &[GraphInst]) -> Result<(), AllocError> {
         for _ in 0..u64::MAX {
             let Some(visit) = self.visits.pop() else {
@@ -140,7 +140,7 @@ impl Walk {
         Ok(())
     }
 
-    // Walks from each instance in turn.
+    // Searches from each instance in turn.
     fn go_over(&mut self, graph: &[GraphInst]) -> Result<(), AllocError>
         requires { IsGraph graph.now }
     {
@@ -152,7 +152,7 @@ impl Walk {
     }
 }
 
-/// Walks over all instances.
+/// Searches all instances.
 pub fn walk_all(alloc: Global, graph: &[GraphInst]) -> Result<Walked, AllocError>
     requires { IsGraph graph.now }
 {

@@ -2,12 +2,12 @@
 
 use std::alloc::AllocError;
 
-/// Why `compose` gives no ranks.
+/// Why `compose` returns no ranks.
 #[derive(Drop)]
 pub enum ComposeFault {
     /// The instance with this number reaches itself.
     Cycle(u32),
-    /// There was no memory.
+    /// Out of memory.
     Memory,
 }
 

@@ -1,4 +1,4 @@
-//! How deep calls and interrupts nest: the rank and the need of each instance, or that one reaches itself.
+//! Nesting of calls and interrupts: the rank and need of each instance, or the named cycle. Tests: `family_tables`.
 #![tactic(auto)]
 
 pub mod chaining;

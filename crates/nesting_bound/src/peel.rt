@@ -1,4 +1,4 @@
-//! Ranks and needs, from the instances that enter none up.
+//! Ranks and needs, from the instances that enter none upwards.
 
 ghost use Rattle.std.specs.Prelude.{◌≡◌, ℕ, ◌+◌, ◌*◌, ◌<◌, ◌≤◌, Contains, None, Some, IfSome, IfNone, IfOk, max, length, true, false};
 ghost use Rattle.nesting_bound.specs.declared.graph.Entered.{Entered};
@@ -11,7 +11,7 @@ use crate::found::Found;
 use crate::graph::{Entered, GraphInst, Place};
 use std::alloc::{AllocError, Global};
 
-// The greatest offset, 0 where there is none.
+// The greatest offset; 0 if there is none.
 fn greatest(places: &[Place]) -> u32
     ensures above { (p : Place) → Contains places.now p → p.offset ≤ result }
     ensures least { (m : ℕ) → ((p : Place) → Contains places.now p → p.offset ≤ m) → result ≤ m }
@@ -23,7 +23,7 @@ fn greatest(places: &[Place]) -> u32
     most
 }
 
-// The least above what the instance has and enters, if all that it enters is found.
+// The least rank and need above those of an instance's nodes and of the instances it enters, if all of these are known.
 fn settle(inst: &GraphInst, table: &[Option<Found>]) -> Option<Found>
     requires small { (j : ℕ) (x : Found) → at table.now j ≡ Some x → IsSmall x 65537 }
     requires within { (e : Entered) → Contains inst.now.entered e → e.into < length table.now }
@@ -49,7 +49,7 @@ fn settle(inst: &GraphInst, table: &[Option<Found>]) -> Option<Found>
     Some(found)
 }
 
-// Settles one instance, if that can be done; whether it was.
+// Settles one instance if possible. Returns whether it did.
 fn visit(graph: &[GraphInst], table: &mut [Option<Found>], i: usize) -> bool
     requires graph { IsGraph graph.now }
     requires sound { IsSoundTable graph.now table.old }
@@ -68,7 +68,7 @@ fn visit(graph: &[GraphInst], table: &mut [Option<Found>], i: usize) -> bool
     }
 }
 
-// Looks at each instance once; whether one was settled.
+// Visits each instance once. Returns whether one was settled.
 fn pass(graph: &[GraphInst], table: &mut [Option<Found>]) -> bool
     requires graph { IsGraph graph.now }
     requires sound { IsSoundTable graph.now table.old }
@@ -82,7 +82,7 @@ fn pass(graph: &[GraphInst], table: &mut [Option<Found>]) -> bool
     grew
 }
 
-// Looks at instances in this order.
+// Visits instances in this order.
 fn settle_in(graph: &[GraphInst], table: &mut [Option<Found>], order: &[u32])
     requires graph { IsGraph graph.now }
     requires sound { IsSoundTable graph.now table.old }
@@ -96,8 +96,8 @@ fn settle_in(graph: &[GraphInst], table: &mut [Option<Found>], order: &[u32])
     }
 }
 
-/// Settles instances until none is left that enters settled ones alone. Any order serves; where each instance stands behind those
-/// that it enters, one look at each is enough, and one more shows that nothing is left.
+/// Settles instances until none is left that enters settled ones alone. Any order is sound. If each instance comes after those it enters,
+/// one pass suffices, and one more shows that nothing is left.
 pub fn peel(
     alloc: Global,
     graph: &[GraphInst],

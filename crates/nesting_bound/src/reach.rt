@@ -1,4 +1,4 @@
-//! Which instances one reaches.
+//! Reachability of an instance from itself.
 
 ghost use Rattle.std.specs.Prelude.{◌≡◌, ◌<◌, Contains, IfOk, OnOk, length, true, false};
 ghost use Rattle.nesting_bound.specs.declared.graph.Entered.{Entered};
@@ -8,7 +8,7 @@ ghost use Rattle.nesting_bound.specs.Reach.{IsSpread};
 use crate::graph::{Entered, GraphInst};
 use std::alloc::{AllocError, Global};
 
-// Marks what the instance enters, and puts what is new on the stack.
+// Marks what the instance enters, and pushes what is new.
 fn spread(inst: &GraphInst, seen: &mut [bool], stack: &mut Vec<u32>) -> Result<(), AllocError>
     requires { (e : Entered) → Contains inst.now.entered e → e.into < length seen.old }
     ensures { OnOk result (IsSpread inst.now.entered seen.old stack.old.items seen.new stack.new.items) }

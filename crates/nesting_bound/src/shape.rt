@@ -1,4 +1,4 @@
-//! Tests of what `compose` and `chain` ask of a graph.
+//! Tests of the preconditions of `compose` and `chain`.
 
 ghost use Rattle.std.specs.Prelude.{◌≡◌, ◌<◌, ◌≤◌, Contains, true, false};
 ghost use Rattle.avr_model.specs.State as model;
@@ -14,7 +14,7 @@ const MOST_INSTANCES: usize = 65_537;
 
 const GREATEST_OFFSET: u16 = SIZE;
 
-// Whether each offset is small enough.
+// Whether each offset is at most 2,048.
 fn are_low(places: &[Place]) -> bool
     ensures yes { result ≡ true → (p : Place) → Contains places.now p → p.offset ≤ model.SIZE }
     ensures no { result ≡ false → (p : Place) × Contains places.now p × (model.SIZE < p.offset) }
@@ -27,7 +27,7 @@ fn are_low(places: &[Place]) -> bool
     true
 }
 
-// Whether each offset is small enough, and each edge leads into one of so many instances.
+// Whether each offset is at most 2,048, and each edge enters one of so many instances.
 fn lead_inside(edges: &[Entered], count: usize) -> bool
     ensures yes { result ≡ true → (e : Entered) → Contains edges.now e → (e.offset ≤ model.SIZE) × (e.into < count) }
     ensures no { result ≡ false → (e : Entered) × Contains edges.now e × ((e.offset ≤ model.SIZE) × (e.into < count) → ⊥) }
@@ -43,7 +43,7 @@ fn lead_inside(edges: &[Entered], count: usize) -> bool
     true
 }
 
-// Whether there is such an instance, with a place.
+// Whether this instance exists and has a place.
 fn has_place(instances: &[GraphInst], inst: u32) -> bool
     ensures yes { result ≡ true → HasSome instances.now inst }
     ensures no { result ≡ false → HasSome instances.now inst → ⊥ }
@@ -56,7 +56,7 @@ fn has_place(instances: &[GraphInst], inst: u32) -> bool
     !here.offsets.as_slice().is_empty()
 }
 
-// Whether each edge leads into an instance with a place.
+// Whether each edge enters an instance with a place.
 fn lead_to_places(instances: &[GraphInst], edges: &[Entered]) -> bool
     ensures yes { result ≡ true → (e : Entered) → Contains edges.now e → HasSome instances.now e.into }
     ensures no { result ≡ false → (e : Entered) × Contains edges.now e × (HasSome instances.now e.into → ⊥) }
@@ -70,7 +70,7 @@ fn lead_to_places(instances: &[GraphInst], edges: &[Entered]) -> bool
 }
 
 impl Graph {
-    /// Whether `compose` takes it: 1 to 65,537 instances, each that is entered among them, and each offset at most 2,048.
+    /// Whether `compose` accepts the graph: 1 to 65,537 instances, all entered ones among them, each offset at most 2,048.
     pub fn is_composable(&self) -> bool
         ensures yes { result ≡ true → IsGraph self.now.instances }
         ensures no { result ≡ false → IsGraph self.now.instances → ⊥ }
@@ -95,7 +95,7 @@ impl Graph {
         true
     }
 
-    /// Whether the root and each instance that is entered have a place, as `chain` asks.
+    /// Whether the root and each entered instance have a place, as `chain` requires.
     pub fn has_places(&self) -> bool
         ensures yes { result ≡ true → HavePlaces self.now.instances }
         ensures no { result ≡ false → HavePlaces self.now.instances → ⊥ }

@@ -1,23 +1,23 @@
-//! The laws, each as the contract of a function that does nothing.
+//! Laws: contracts of functions with an empty body.
 
 ghost use Rattle.pair_cut_laws.specs.Laws.{FlagsAreCut, BitsAreCut, EqualsAreCut, PicksAreCut};
 
-/// A state behind a branch on a flag keeps the machines whose flag is so, says more, and more is left of more.
+/// Branches on a flag: the state after it keeps each machine whose flag is so, is below the state before, and is monotone in it.
 pub fn flags_are_cut()
     ensures { FlagsAreCut }
 {}
 
-/// The same of a skip on a bit of a register.
+/// Skips on a bit of a register: as for branches.
 pub fn bits_are_cut()
     ensures { BitsAreCut }
 {}
 
-/// The same of a skip where two registers are equal; of more, more is left where intervals lie in the hulls of their registers.
+/// Skips on equal registers: as for branches; monotone if intervals lie in the hulls of their registers.
 pub fn equals_are_cut()
     ensures { EqualsAreCut }
 {}
 
-/// The same of the pick of a jump table's entry.
+/// Picks of a jump table's entry: as for branches.
 pub fn picks_are_cut()
     ensures { PicksAreCut }
 {}

@@ -1,4 +1,4 @@
-//! Laws of the states behind a test: each keeps the machine that comes out so, says more, and more is left of more. Source: own.
+//! Laws of the states after a test: each keeps every machine with this outcome, is below the state before, and is monotone. Source: own.
 #![tactic(auto)]
 
 pub mod laws;

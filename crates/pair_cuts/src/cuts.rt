@@ -1,4 +1,4 @@
-//! The states behind a test, where its outcome is known.
+//! States after a test with a known outcome.
 
 ghost use Rattle.std.specs.Prelude.{◌≡◌, ◌<◌};
 ghost use Rattle.std.specs.Int.{from_bool};
@@ -18,7 +18,7 @@ use sp_domain::CarryTag;
 
 // ---- a number that is k, or isn't
 
-// The number at a place is `k` where `equal`, else it isn't.
+// Cuts a place to the number `k` if `equal`, otherwise to the other numbers.
 fn same_cut(state: &mut AbsState, place: CutPlace, equal: bool, k: u8) -> bool
     ensures { left_in result state.new ≡ same_cut place equal k state.old }
 {
@@ -36,7 +36,7 @@ fn same_cut(state: &mut AbsState, place: CutPlace, equal: bool, k: u8) -> bool
 
 // ---- flags
 
-// What is left of a byte that is below `k`, or that isn't.
+// The part of a byte's range below `k`, or from `k` on.
 fn below_part(below: bool, k: u8) -> Option<Interval>
     ensures { result ≡ below_part below k }
 {
@@ -53,7 +53,7 @@ fn below_part(below: bool, k: u8) -> Option<Interval>
     })
 }
 
-// C tells whether a register is below a number.
+// Cuts by C, which says whether a register is below a number.
 fn less_cut(state: &mut AbsState, n: u8, on: bool) -> bool
     ensures { left_in result state.new ≡ less_cut n on state.old }
 {
@@ -66,7 +66,7 @@ fn less_cut(state: &mut AbsState, n: u8, on: bool) -> bool
     }
 }
 
-// Z tells whether a register or a pair is 0.
+// Cuts by Z, which says whether a register or a pair is 0.
 fn zero_cut(state: &mut AbsState, n: u8, on: bool) -> bool
     ensures { left_in result state.new ≡ zero_cut n on state.old }
 {
@@ -91,7 +91,7 @@ fn side_place(side: Side) -> CutPlace
     }
 }
 
-// The least and the greatest byte that it may be.
+// The least and the greatest byte of a value.
 fn side_range(registers: &[AbsByte; 32], side: Side) -> (u8, u8)
     ensures { ranged result.0 result.1 ≡ side_range registers.now side }
 {
@@ -104,7 +104,7 @@ fn side_range(registers: &[AbsByte; 32], side: Side) -> (u8, u8)
     }
 }
 
-// The right side of a comparison of pairs: a pair, where its two registers are one.
+// The right side of a comparison of pairs: a pair if its two registers are one.
 fn pair_place(side: Side, p: u8) -> CutPlace
     ensures { result ≡ pair_place side p }
 {
@@ -114,7 +114,7 @@ fn pair_place(side: Side, p: u8) -> CutPlace
     }
 }
 
-// Its interval: of a pair what is known, else from the least bytes to the greatest.
+// The interval of a side: of a pair the known one, otherwise from the least bytes to the greatest.
 fn pair_range(state: &AbsState, place: CutPlace, side: Side, p: u8) -> Interval
     ensures { result ≡ pair_range state.now place side p }
 {
@@ -153,7 +153,7 @@ fn both_cut(
     narrow_at(state, right, j)
 }
 
-// C, Z and S tell how two sides compare.
+// Cuts by C, Z and S of a comparison of two sides.
 fn compare_cut(state: &mut AbsState, n: u8, on: bool) -> bool
     ensures { left_in result state.new ≡ compare_cut n on state.old }
 {
@@ -197,7 +197,7 @@ fn compare_cut(state: &mut AbsState, n: u8, on: bool) -> bool
     }
 }
 
-// Whether a bit that is known so far may be on, or off.
+// Whether a three-valued bit may be on, or off.
 fn may_be(bit: Tri, on: bool) -> bool
     ensures { result ≡ permits bit (from_bool on) }
 {
@@ -208,7 +208,7 @@ fn may_be(bit: Tri, on: bool) -> bool
     }
 }
 
-// The bits where bit `i`, from 0 to 7, is on, or off; none where it is known to be the other.
+// The bits with bit `i`, from 0 to 7, on or off; `None` if it is known to be the other.
 fn bit_known(bits: TriByte, i: u8, on: bool) -> Option<TriByte>
     requires { i < 8 }
     ensures { result ≡ bit_known bits i on }
@@ -221,8 +221,8 @@ fn bit_known(bits: TriByte, i: u8, on: bool) -> Option<TriByte>
     }
 }
 
-/// Cuts a state to where flag `n`, from 0 to 6, is on, or off: to what C tells of a register, Z of a register or a pair, and C, Z and S of two
-/// sides that were compared. Gives whether anything is left; the state is of no use where nothing is. Source: own.
+/// Cuts a state to the outcome that flag `n`, from 0 to 6, is on or off, by the tags of flags: what C says of a register, Z of a register
+/// or pair, and C, Z and S of two sides. Returns whether anything is left; otherwise the state is of no use. Source: own.
 pub fn flag_cut(state: &mut AbsState, n: u8, on: bool) -> bool
     requires { n < 7 }
     ensures { left_in result state.new ≡ flag_cut n on state.old }
@@ -245,7 +245,7 @@ pub fn flag_cut(state: &mut AbsState, n: u8, on: bool) -> bool
 
 // ---- one bit of a register
 
-// The byte where bit `bit`, from 0 to 7, is on, or off.
+// The byte with bit `bit`, from 0 to 7, on or off.
 fn with_bit(value: AbsByte, bit: u8, on: bool) -> Option<AbsByte>
     requires { bit < 8 }
     ensures { result ≡ with_tag value.tag (with_bit bit on (set_of value)) }
@@ -254,7 +254,7 @@ fn with_bit(value: AbsByte, bit: u8, on: bool) -> Option<AbsByte>
     AbsByte { bits, ..value }.narrow(0, 255)
 }
 
-// The pair with this bit of register `r`.
+// The pair with this bit of register `r` on or off.
 fn byte_with_bit(pair: PairBytes, r: u8, bit: u8, on: bool) -> Option<PairBytes>
     requires { bit < 8 }
     ensures { result ≡ byte_left r (with_bit bit on) pair }
@@ -268,8 +268,8 @@ fn byte_with_bit(pair: PairBytes, r: u8, bit: u8, on: bool) -> Option<PairBytes>
     }
 }
 
-/// Cuts a state to where bit `bit`, from 0 to 7, of register `r`, from 0 to 31, is on, or off. Gives whether anything is left; the state is of
-/// no use where nothing is. Source: own.
+/// Cuts a state to the outcome that bit `bit`, from 0 to 7, of register `r`, from 0 to 31, is on or off. Returns whether anything is left;
+/// otherwise the state is of no use. Source: own.
 pub fn bit_cut(state: &mut AbsState, r: u8, bit: u8, on: bool) -> bool
     requires { bit < 8 }
     ensures { left_in result state.new ≡ bit_cut r bit on state.old }
@@ -278,10 +278,10 @@ pub fn bit_cut(state: &mut AbsState, r: u8, bit: u8, on: bool) -> bool
     put(state, r / 2, byte_with_bit(pair, r, bit, on))
 }
 
-/// ---- `cpse`
+// ---- `cpse`
 
-/// Cuts a state to where registers `d` and `r`, from 0 to 31, are equal, or aren't: a known one tells of the other. Gives whether anything is
-/// left; the state is of no use where nothing is. Source: own.
+/// Cuts a state to the outcome that registers `d` and `r`, from 0 to 31, are equal or not; a known one cuts the other. Returns whether
+/// anything is left; otherwise the state is of no use. Source: own.
 pub fn equal_cut(state: &mut AbsState, d: u8, r: u8, are_equal: bool) -> bool
     ensures { left_in result state.new ≡ equal_cut d r are_equal state.old }
 {
@@ -297,10 +297,10 @@ pub fn equal_cut(state: &mut AbsState, d: u8, r: u8, are_equal: bool) -> bool
     }
 }
 
-/// ---- the pick of a jump table's entry
+// ---- the pick of a jump table's entry
 
-/// Picks this byte as that of register 30, with its tag as it was, and cuts the interval of its pair. Gives whether anything is left; the state
-/// is of no use where nothing is. Source: own.
+/// Picks this byte as the value of register 30, whose tag stays, and cuts the interval of its pair. Returns whether anything is left;
+/// otherwise the state is of no use. Source: own.
 pub fn pick_cut(state: &mut AbsState, byte: u8) -> bool
     ensures { left_in result state.new ≡ pick_cut byte state.old }
 {

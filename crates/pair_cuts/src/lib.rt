@@ -1,5 +1,5 @@
-//! What the outcome of a test tells of registers and pairs, where pairs are followed: the states behind branches on flags, skips on a bit,
-//! `cpse`, and the pick of a jump table's entry. Source: own.
+//! Refinement by tests, if pairs are followed: the states after branches on flags, skips on a bit, `cpse`, and the pick of a jump table's
+//! entry. Source: own. Tests: `crates/node_table`.
 #![tactic(auto)]
 
 pub mod cuts;

@@ -1,4 +1,4 @@
-//! What the outcome of a comparison tells of the intervals of its two sides.
+//! The intervals of the two sides of a comparison, by its outcome.
 
 ghost use Rattle.std.specs.Prelude.{◌≡◌, ◌<◌};
 ghost use Rattle.pair_domain.specs.Intervals.{interval_from};
@@ -12,19 +12,19 @@ use pair_domain::Interval;
 pub enum Outcome {
     /// The left number is below the right one.
     Below,
-    /// It isn't.
+    /// The left number is not below the right one.
     NotBelow,
     /// The two are equal.
     Equal,
-    /// They aren't.
+    /// The two are not equal.
     NotEqual,
-    /// The left number is below the right one, both read as signed numbers.
+    /// The left number is below the right one, as signed numbers.
     Less,
-    /// It isn't.
+    /// The left number is not below the right one, as signed numbers.
     NotLess,
 }
 
-// The numbers from `low` to `high`; none where there are none.
+// The numbers from `low` to `high`; `None` if there are none.
 fn interval_from(low: u32, high: u16) -> Option<Interval>
     ensures { result ≡ interval_from low high }
 {
@@ -38,7 +38,7 @@ fn interval_from(low: u32, high: u16) -> Option<Interval>
     }
 }
 
-// The numbers of `x` where they aren't those of `y`, which tells something where it has one member alone.
+// The numbers of `x` that may differ from one of `y`: only a single member of `y` excludes any.
 pub(crate) fn off(x: Interval, y: Interval) -> Option<Interval>
     ensures { result ≡ off x y }
 {
@@ -69,7 +69,7 @@ fn part_of(x: Interval, low: u32, end: u32) -> Option<Interval>
     interval_from(u32::from(x.low).max(low), high as u16)
 }
 
-// The least interval that holds both, where they are there.
+// The hull of both, if they exist.
 fn either(a: Option<Interval>, b: Option<Interval>) -> Option<Interval>
     ensures { result ≡ either a b }
 {
@@ -98,7 +98,7 @@ fn left_less(half: u16, x: Interval, y: Interval) -> Option<Interval>
     }
 }
 
-// Those that may not be: from the signed least number of `y` on.
+// The numbers of `x` that may not be signed below one of `y`: from the signed least number of `y` on.
 fn left_not_less(half: u16, x: Interval, y: Interval) -> Option<Interval>
     ensures { result ≡ left_not_less half x y }
 {
@@ -116,7 +116,7 @@ fn left_not_less(half: u16, x: Interval, y: Interval) -> Option<Interval>
 }
 
 impl Outcome {
-    // The outcome that flag `n` tells where it is `on`; none of flags but C, Z and S.
+    // The outcome that flag `n` reports if it is `on`; `None` for flags other than C, Z and S.
     pub(crate) fn of(n: u8, on: bool) -> Option<Outcome>
         ensures { result ≡ outcome_of n on }
     {
@@ -131,7 +131,7 @@ impl Outcome {
         }
     }
 
-    // What is left of the left interval, by both; of the signed numbers there are twice `half`, which isn't 0.
+    // What is left of the left interval. There are twice `half` signed numbers; `half` is not 0.
     pub(crate) fn left(self, half: u16, x: Interval, y: Interval) -> Option<Interval>
         requires { 0 < half }
         ensures { result ≡ left_part self half x y }
@@ -151,7 +151,7 @@ impl Outcome {
         }
     }
 
-    // What is left of the right interval, by both.
+    // What is left of the right interval.
     pub(crate) fn right(self, x: Interval, y: Interval) -> Option<Interval>
         ensures { result ≡ right_part self x y }
     {

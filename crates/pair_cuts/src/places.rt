@@ -11,7 +11,7 @@ use abs_state::{AbsByte, AbsState, PairBytes};
 use pair_domain::facts::interval_at;
 use pair_domain::{Interval, PairFacts};
 
-/// What something is told of by the outcome of a test. Source: own.
+/// What a tag of flags names. Source: own.
 #[derive(Clone, Copy)]
 pub enum CutPlace {
     /// No register that is followed.
@@ -22,7 +22,7 @@ pub enum CutPlace {
     Pair(u8),
 }
 
-// What is known of pairs; nothing, where they aren't followed.
+// The facts on pairs; none known if pairs are not followed.
 pub(crate) fn facts_of(state: &AbsState) -> PairFacts
     ensures { result ≡ known_or_nothing state.now.facts }
 {
@@ -32,7 +32,7 @@ pub(crate) fn facts_of(state: &AbsState) -> PairFacts
     }
 }
 
-// The value of register `r`; any byte, where there is no such register.
+// The value of register `r`; any byte if there is no such register.
 pub(crate) fn value_at(registers: &[AbsByte; 32], r: u8) -> AbsByte
     ensures { result ≡ abs_values.value_at registers.now r }
 {
@@ -44,7 +44,7 @@ pub(crate) fn value_at(registers: &[AbsByte; 32], r: u8) -> AbsByte
     }
 }
 
-// The numbers that may stand at a place.
+// The numbers that a place may hold.
 pub(crate) fn range_at(state: &AbsState, place: CutPlace) -> Interval
     ensures { result ≡ range_at state.now place }
 {
@@ -77,7 +77,7 @@ pub(crate) fn bytes_at(state: &AbsState, n: u8) -> PairBytes
     }
 }
 
-// Writes both registers and the interval of pair `2 * n`; nothing, where there is no such pair.
+// Writes both registers and the interval of pair `2 * n`; does nothing if there is no such pair.
 fn set_pair(registers: &mut [AbsByte; 32], intervals: &mut [Interval; 16], n: u8, pair: PairBytes)
     ensures registers { registers.new ≡ set_pair registers.old n pair }
     ensures intervals { intervals.new ≡ slice_set intervals.old n pair.interval }
@@ -90,7 +90,7 @@ fn set_pair(registers: &mut [AbsByte; 32], intervals: &mut [Interval; 16], n: u8
     }
 }
 
-// Writes back what is left of pair `2 * n`, where pairs are followed. Gives whether anything is left.
+// Writes back what is left of pair `2 * n`, if pairs are followed. Returns whether anything is left.
 pub(crate) fn put(state: &mut AbsState, n: u8, left: Option<PairBytes>) -> bool
     ensures { left_in result state.new ≡ put state.old n left }
 {
@@ -122,7 +122,7 @@ fn narrow_byte(pair: PairBytes, r: u8, interval: Interval) -> Option<PairBytes>
     }
 }
 
-// Cuts a place to an interval. Gives whether anything is left.
+// Cuts a place to an interval. Returns whether anything is left.
 pub(crate) fn narrow_at(state: &mut AbsState, place: CutPlace, interval: Interval) -> bool
     ensures { left_in result state.new ≡ narrow_at place interval state.old }
 {
@@ -139,7 +139,7 @@ pub(crate) fn narrow_at(state: &mut AbsState, place: CutPlace, interval: Interva
     }
 }
 
-// Cuts a place to what is left of it. Gives whether anything is left.
+// Cuts a place to what is left of it. Returns whether anything is left.
 pub(crate) fn narrow_to(state: &mut AbsState, place: CutPlace, left: Option<Interval>) -> bool
     ensures { left_in result state.new ≡ narrow_to place left state.old }
 {

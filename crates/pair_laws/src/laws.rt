@@ -1,23 +1,23 @@
-//! Laws of what instructions do to what is known of pairs, each as the contract of a function that does nothing.
+//! Laws of the transfer function of the pair domain: contracts of functions with an empty body.
 
 ghost use Rattle.pair_laws.specs.Laws.{OperandsFit, ValuesAreCovered, RefinedHolds, RefinedIsOrdered};
 
-/// The registers of an instruction that is decoded are there.
+/// The registers of a decoded instruction exist.
 pub fn operands_fit()
     ensures { OperandsFit }
 {}
 
-/// The plain rules' values are above those that are told.
+/// The values of the plain rules are above the refined ones.
 pub fn values_are_covered()
     ensures { ValuesAreCovered }
 {}
 
-/// A machine for which the states before and behind an instruction stand is one for which the refined one stands.
+/// Refinement is sound: if the states before and after an instruction stand for a machine, so does the refined one.
 pub fn refined_holds()
     ensures { RefinedHolds }
 {}
 
-/// A refined state says more than the plain one, is refined to more from more, and is one that the analysis works with.
+/// Refinement is below the plain state, is monotone, and yields states that the analysis works with.
 pub fn refined_is_ordered()
     ensures { RefinedIsOrdered }
 {}

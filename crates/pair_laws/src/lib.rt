@@ -1,4 +1,4 @@
-//! Laws of what instructions do to what is known of pairs: it stays true, and of more less is told. Source: own.
+//! Laws of the transfer function of the pair domain: it is sound and monotone. Source: own.
 #![tactic(auto)]
 
 pub mod laws;

@@ -1,5 +1,5 @@
-//! What an instruction does to what is known of pairs of registers, as rules: what its writes end, what it tells, and how the state that
-//! the plain rules leave is refined by it. Source: own.
+//! The transfer function of the pair domain, as definitions: facts that writes end, the interval and tags after an instruction, and how the
+//! state of the plain rules is refined. Source: own.
 #![tactic(auto)]
 
 pub mod told;

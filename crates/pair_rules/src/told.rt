@@ -1,15 +1,15 @@
-//! What an instruction tells of a pair of registers.
+//! The interval of a pair after an instruction.
 
 use avr_model::instruction::Pair;
 use pair_domain::Interval;
 
-/// What an instruction tells of the number of a pair behind it. Pair n is the registers 2n and 2n + 1.
+/// The interval of one pair after an instruction. Pair n is registers 2n and 2n + 1.
 #[derive(Clone, Copy)]
 pub enum Told {
-    /// Nothing.
+    /// No information.
     Nothing,
-    /// The number of this pair lies in this interval, which is another pair's, or was its own.
+    /// This pair lies in this interval, copied from another pair or its own.
     Kept(Pair, Interval),
-    /// The number of this pair lies in this interval, which is computed and so is widened to marks.
+    /// This pair lies in this interval, which is computed and so is widened to thresholds.
     Computed(Pair, Interval),
 }

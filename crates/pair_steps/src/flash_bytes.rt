@@ -1,4 +1,4 @@
-//! Bytes of flash at the numbers that a pair of registers may hold.
+//! Bytes of flash that a partly known pointer may read.
 
 ghost use Rattle.std.specs.Prelude.{◌≡◌, ◌<◌, if◌then◌else◌, Some, None};
 ghost use Rattle.abs_state.specs.Values.{set_of};
@@ -8,14 +8,14 @@ ghost use Rattle.pair_rules.specs.Flash as bytes;
 use abs_state::{AbsByte, PairBytes};
 use flash_image::Flash;
 
-// Whether the bits permit the byte, and it lies in the range.
+// Whether bits and range permit the byte.
 fn permits_byte(value: AbsByte, byte: u8) -> bool
     ensures { result ≡ bytes.set_permits (set_of value) byte }
 {
     value.low <= byte && byte <= value.high && value.bits.has(byte)
 }
 
-// Whether the number lies in the interval of the pair, and both bytes permit it.
+// Whether the pair may hold the number: its interval and both bytes permit it.
 fn permits(pair: PairBytes, number: u16) -> bool
     ensures { result ≡ bytes.pair_permits (sets pair) number }
 {
@@ -25,7 +25,7 @@ fn permits(pair: PairBytes, number: u16) -> bool
         && permits_byte(pair.high, (number / 256) as u8)
 }
 
-// A value joined with those before it.
+// Joins a value to an optional one.
 fn joined_with(joined: Option<AbsByte>, value: AbsByte) -> AbsByte
     ensures { result ≡ bytes.joined_with joined value }
 {
@@ -35,8 +35,8 @@ fn joined_with(joined: Option<AbsByte>, value: AbsByte) -> AbsByte
     }
 }
 
-/// The join of the bytes of flash at the numbers that the pair permits, none where it permits none; and none at all where these are more
-/// than 64, or not all in flash.
+/// The join of the bytes of flash at the numbers that the pair permits; the inner option is none if it permits none. `None` if there are
+/// more than 64, or some outside flash.
 #[tactic(auto, using(avr_model::proofs::AllLaws::devices_are_alike))]
 pub fn joined(flash: &Flash, pair: PairBytes) -> Option<Option<AbsByte>>
     ensures { result ≡ (if bytes.few_in_flash flash.now (bytes.pair_permits (sets pair)) then Some (bytes.flash_joined flash.now (bytes.pair_permits (sets pair))) else None) }

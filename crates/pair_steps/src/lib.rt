@@ -1,4 +1,4 @@
-//! What an instruction does to what is known of pairs of registers: the state that the plain rules leave is refined. Source: own.
+//! The transfer function of the pair domain as code: refines the state of the plain rules. Source: own. Tests: `crates/node_table`.
 #![tactic(auto)]
 
 mod flash_bytes;

@@ -1,4 +1,4 @@
-//! The state that the plain rules leave, refined by what an instruction tells.
+//! Refinement of the state of the plain rules.
 
 ghost use Rattle.std.specs.Prelude.{◌≡◌};
 ghost use Rattle.avr_model.specs.Marks.{marks};
@@ -15,7 +15,7 @@ use pair_domain::{Interval, PairFacts};
 use pair_rules::Told;
 use pair_told::{hull_by, told_by};
 
-// Cuts the interval of a pair, and nothing else. Gives whether something is left.
+// Cuts the interval of a pair, and nothing else. Returns whether anything is left.
 fn meet_pair(state: &mut AbsState, n: Pair, interval: Interval) -> bool
     ensures { left_in result state.new ≡ cut_state (λ p. refined.meet_pair p interval) state.old n }
 {
@@ -33,7 +33,7 @@ fn meet_pair(state: &mut AbsState, n: Pair, interval: Interval) -> bool
     true
 }
 
-// Cuts the state to what is told. Gives whether something is left.
+// Cuts the state to an interval of one pair. Returns whether anything is left.
 fn cut_told(flash: &Flash, told: &Told, state: &mut AbsState) -> bool
     ensures { left_in result state.new ≡ refined.cut_told (marks flash.now) told.now state.old }
 {
@@ -46,8 +46,8 @@ fn cut_told(flash: &Flash, told: &Told, state: &mut AbsState) -> bool
     }
 }
 
-/// Refines what the plain rules leave of the state `before` an instruction by what it tells of pairs of registers; of a store, before its
-/// byte is stored. Gives whether a machine gets there. Where pairs aren't followed nothing changes.
+/// Refines the state after an instruction, from the state `before` it; for a store, before its byte is stored. Returns whether anything is
+/// left. Does nothing if pairs are not followed.
 pub fn refine(flash: &Flash, instr: &Instr, before: &AbsState, after: &mut AbsState) -> bool
     ensures { left_in result after.new ≡ refined.refined (marks flash.now) flash.now instr.now before.now after.old }
 {

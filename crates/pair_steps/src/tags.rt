@@ -1,4 +1,4 @@
-//! The tags of flags that an instruction gives, from the state before it.
+//! Tags of flags after an instruction, from the state before it.
 
 ghost use Rattle.std.specs.Prelude.{◌≡◌, ◌==◌, ◌+◌, ◌&&◌, if◌then◌else◌};
 ghost use Rattle.pair_domain.specs.Tags.{IsNear};
@@ -12,7 +12,7 @@ use pair_domain::{CompareTag, Facts, PairFacts, Side, SumTag, ZeroTag};
 use pair_told::told::{interval_of, is_odd, value_at};
 use pair_told::{sets_carry, sets_flags};
 
-// A byte from `low` to `high` is added to register `d` where `up`, else taken off it, where that is a low byte.
+// The sum tag after a byte from `low` to `high` is added to register `d` if `up`, otherwise subtracted; only for a low byte.
 fn sum_of_byte(facts: &PairFacts, up: bool, d: Register, low: u8, high: u8) -> SumTag
     ensures tag { result ≡ (if up then given.sum_of_add facts.now d low high else given.sum_of_sub facts.now d low high) }
     ensures near { IsNear result }
@@ -114,7 +114,7 @@ fn zero_of(facts: &PairFacts, instr: &Instr) -> ZeroTag
     }
 }
 
-/// Gives the tags of the instruction to what its writes left, from the registers and facts before it.
+/// Sets the tags of the instruction in what its writes left, from the registers and facts before it.
 pub fn tag(registers: &[AbsByte; 32], facts: &PairFacts, instr: &Instr, left: &mut Facts)
     ensures { left.new ≡ given.tagged registers.now facts.now instr.now left.old }
 {

@@ -1,4 +1,4 @@
-//! Values of registers of which more is told where pairs are followed.
+//! Values of registers that are more exact if pairs are followed.
 
 ghost use Rattle.std.specs.Prelude.{◌≡◌, ◌<◌, ◌-◌, ◌==◌, if◌then◌else◌};
 ghost use Rattle.bit_domain.specs.TriByte.{tri_at};
@@ -14,7 +14,7 @@ use flash_image::Flash;
 use pair_domain::PairFacts;
 use pair_told::told::{interval_at, value_at};
 
-// Bit `k`, from 0 to 7, of the byte whose bits are one place up.
+// Bit `k`, from 0 to 7, of the byte shifted one place up.
 fn doubled_bit(bits: TriByte, low: Tri, k: u8) -> Tri
     requires { k < 8 }
     ensures { result ≡ (if k == 0 then low else tri_at bits (k - 1)) }
@@ -22,7 +22,7 @@ fn doubled_bit(bits: TriByte, low: Tri, k: u8) -> Tri
     if k == 0 { low } else { bits.bit(k - 1) }
 }
 
-// Each bit one place up, with a new lowest bit.
+// Shifts each bit one place up, with a new lowest bit.
 fn doubled(bits: TriByte, low: Tri) -> TriByte
     ensures { result ≡ values.doubled bits low }
 {
@@ -33,14 +33,14 @@ fn doubled(bits: TriByte, low: Tri) -> TriByte
     up
 }
 
-// Register `d` has another value.
+// Sets register `d`.
 fn set(state: &mut AbsState, d: Register, value: AbsByte)
     ensures { state.new ≡ values.with_value state.old d value }
 {
     state.registers[usize::from(d.get())] = value;
 }
 
-// What the two operations leave where a register is both operands.
+// The result of an operation with one register as both operands.
 fn double(before: &AbsState, op: BinaryOp, d: Register, after: &mut AbsState)
     ensures { after.new ≡ values.doubled_by before.now op d after.old }
 {
@@ -53,7 +53,7 @@ fn double(before: &AbsState, op: BinaryOp, d: Register, after: &mut AbsState)
     set(after, d, AbsByte::untagged(bits));
 }
 
-// What is known of Z.
+// The interval and bytes of Z.
 fn z_of(before: &AbsState, facts: &PairFacts) -> PairBytes
     ensures { sets result ≡ values.z_of before.now facts.now }
 {
@@ -64,7 +64,7 @@ fn z_of(before: &AbsState, facts: &PairFacts) -> PairBytes
     }
 }
 
-// Register `d` is the join of the bytes of flash at the numbers that Z permits, where these are few; none where there are none.
+// Sets register `d` to the join of the bytes of flash that Z permits, if these are few; returns whether there are any.
 fn read_flash(
     flash: &Flash,
     before: &AbsState,
@@ -84,7 +84,8 @@ fn read_flash(
     }
 }
 
-/// Sets the values of registers of which more is told, from the state and facts before the instruction. Gives whether a machine gets there.
+/// Sets the values of registers that are more exact with pairs, from the state and facts before the instruction. Returns whether anything
+/// is left.
 pub fn retell(
     flash: &Flash,
     before: &AbsState,

@@ -9,14 +9,14 @@ use abs_state::{AbsByte, hull_written};
 use avr_model::instruction::{BinaryOp, ImmediateOp, Instr, Pair, Pointer, Register};
 use pair_domain::Facts;
 
-// The interval of the pair of a register is the hull of its bytes.
+// Sets the interval of a register's pair to the hull of its bytes.
 fn hull(facts: &mut Facts, registers: &[AbsByte; 32], r: Register)
     ensures { facts.new ≡ written_hull registers.now r facts.old }
 {
     hull_written(facts, registers, usize::from(r.get()));
 }
 
-// The same of both registers of a pair.
+// Sets it for both registers of a pair.
 fn hull_pair(facts: &mut Facts, registers: &[AbsByte; 32], n: Pair)
     ensures { facts.new ≡ all_hulled registers.now (2 * n ∷ (2 * n + 1) ∷ []) facts.old }
 {
@@ -24,7 +24,7 @@ fn hull_pair(facts: &mut Facts, registers: &[AbsByte; 32], n: Pair)
     hull(facts, registers, Register::new(2 * n.get() + 1));
 }
 
-// The same of a pointer that moves.
+// Sets it for a pointer that moves.
 fn hull_pointer(facts: &mut Facts, registers: &[AbsByte; 32], pointer: Pointer)
     ensures { facts.new ≡ all_hulled registers.now (moved_pair pointer) facts.old }
 {
@@ -46,7 +46,7 @@ fn hull_binary(facts: &mut Facts, registers: &[AbsByte; 32], op: BinaryOp, d: Re
     }
 }
 
-/// The interval of each pair that the instruction writes other than through a data address is the hull of its bytes.
+/// Sets the interval of each pair that the instruction writes, other than through a data address, to the hull of its bytes.
 pub fn hull_by(facts: &mut Facts, registers: &[AbsByte; 32], instr: &Instr)
     ensures { facts.new ≡ all_hulled registers.now (written instr.now) facts.old }
 {

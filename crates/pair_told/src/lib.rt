@@ -1,4 +1,5 @@
-//! What an instruction tells of a pair of registers, and what its writes leave of the pairs' intervals: their hulls. Source: own.
+//! The transfer function of the pair domain for one pair: the interval after an instruction, and the hulls of written pairs. Source: own.
+//! Tests: `crates/node_table`.
 #![tactic(auto)]
 
 pub mod flags_set;

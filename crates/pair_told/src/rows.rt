@@ -1,4 +1,4 @@
-//! What sums, differences and products tell of a pair. Where the numbers would wrap in part nothing is told.
+//! Intervals of sums, differences and products. Unknown if the numbers would wrap in part.
 
 ghost use Rattle.std.specs.Prelude.{◌≡◌, if◌then◌else◌};
 ghost use Rattle.pair_domain.specs.Rows as rows;
@@ -21,7 +21,7 @@ fn modulo(low: u64, high: u64) -> Option<Interval>
     }
 }
 
-/// The numbers of an interval, and a byte where `up`, else less it.
+/// The numbers of an interval plus a byte if `up`, otherwise less it.
 pub fn moved(interval: Interval, up: bool, number: u8) -> Option<Interval>
     ensures { result ≡ (if up then rows.moved_up interval number else rows.moved_down interval number) }
 {
@@ -36,7 +36,7 @@ pub fn moved(interval: Interval, up: bool, number: u8) -> Option<Interval>
     )
 }
 
-/// The numbers of an interval, and a byte from `low` to `high` on the high byte where `up`, else off it.
+/// The numbers of an interval with a byte from `low` to `high` added to the high byte if `up`, otherwise subtracted.
 pub fn paged(interval: Interval, up: bool, low: u8, high: u8) -> Option<Interval>
     ensures { result ≡ (if up then rows.pages_up interval low high else rows.pages_down interval low high) }
 {
@@ -49,8 +49,8 @@ pub fn paged(interval: Interval, up: bool, low: u8, high: u8) -> Option<Interval
     }
 }
 
-/// The numbers of the pair whose high byte is `d`, and a byte from `low` to `high` on it with the carry that the sum left, where `up`;
-/// else less the byte and the borrow that the difference left. None under another tag.
+/// The numbers of the pair with high byte `d` after its high byte gets a byte from `low` to `high` and the carry of the sum if `up`,
+/// otherwise loses the byte and the borrow of the difference. `None` under another tag.
 pub fn carried(tag: SumTag, up: bool, d: Register, low: u8, high: u8) -> Option<Interval>
     ensures { result ≡ (if up then carried tag d low high else borrowed tag d low high) }
 {

@@ -1,4 +1,4 @@
-//! What an instruction tells of the number of a pair, from the state before it.
+//! Transfer function of the pair domain: the interval of one pair after an instruction, from the state before it.
 
 ghost use Rattle.std.specs.Prelude.{◌≡◌, ◌/◌, if◌then◌else◌};
 ghost use Rattle.pair_domain.specs.Rows as rows;
@@ -12,7 +12,7 @@ use avr_model::instruction::{BinaryOp, ImmediateOp, Instr, Pair, Pointer, Regist
 use pair_domain::{Interval, PairFacts};
 use pair_rules::Told;
 
-/// What is known of a register.
+/// The value of a register.
 pub fn value_at(registers: &[AbsByte; 32], r: Register) -> AbsByte
     ensures { result ≡ value_at registers.now r }
 {
@@ -26,28 +26,28 @@ pub fn interval_at(facts: &PairFacts, n: Pair) -> Interval
     facts.intervals[usize::from(n.get())]
 }
 
-/// The pair with this register.
+/// The pair of this register.
 pub fn pair_of(r: Register) -> Pair
     ensures { result ≡ r / 2 }
 {
     Pair::new(r.get() / 2)
 }
 
-/// The interval of the pair with this register.
+/// The interval of the pair of this register.
 pub fn interval_of(facts: &PairFacts, r: Register) -> Interval
     ensures { result ≡ interval_of facts.now r }
 {
     interval_at(facts, pair_of(r))
 }
 
-/// Whether this is the register of a high byte.
+/// Whether this register is a high byte.
 pub fn is_odd(r: Register) -> bool
     ensures { result ≡ is_odd r }
 {
     r.get() % 2 == 1
 }
 
-// Of a pair, where something is computed.
+// A computed interval of a pair, if there is one.
 fn computed(n: Pair, interval: Option<Interval>) -> Told
     ensures { result ≡ computed n interval }
 {
@@ -57,7 +57,7 @@ fn computed(n: Pair, interval: Option<Interval>) -> Told
     }
 }
 
-// Of the pair with this register, where that is its high byte.
+// A computed interval of this register's pair, if the register is its high byte.
 fn computed_high(d: Register, interval: Option<Interval>) -> Told
     ensures { result ≡ computed_high d interval }
 {
@@ -68,14 +68,14 @@ fn computed_high(d: Register, interval: Option<Interval>) -> Told
     }
 }
 
-// Of a pair that grows by a number where `up`, else falls.
+// The interval of a pair that grows by a number if `up`, otherwise falls.
 fn told_wide(facts: &PairFacts, n: Pair, up: bool, number: u8) -> Told
     ensures { result ≡ computed n (if up then rows.moved_up (interval_at facts.now.intervals n) number else rows.moved_down (interval_at facts.now.intervals n) number) }
 {
     computed(n, moved(interval_at(facts, n), up, number))
 }
 
-// Of the pointer of a load or store, which moves by one, unless the instruction sets a register of it: `d`, or 32.
+// The interval of the pointer of a load or store, which moves by one, unless the instruction sets one of its registers: `d`, or 32.
 fn told_pointer(facts: &PairFacts, d: u16, pointer: Pointer) -> Told
     ensures { result ≡ told_pointer facts.now d pointer }
 {
@@ -110,7 +110,7 @@ fn told_binary(
         BinaryOp::Adc => computed_high(d, carried(facts.sum, true, d, low, high)),
         BinaryOp::Sub => computed_high(d, paged(interval_of(facts, d), false, low, high)),
         BinaryOp::Sbc => computed_high(d, carried(facts.sum, false, d, low, high)),
-        // The pair keeps its interval where a register is its own AND or OR.
+        // The pair keeps its interval if a register is combined with itself by AND or OR.
         BinaryOp::And | BinaryOp::Or if d == r => Told::Kept(pair_of(d), interval_of(facts, d)),
         BinaryOp::Mul => {
             let value = value_at(registers, d);
@@ -130,7 +130,7 @@ fn told_immediate(facts: &PairFacts, op: ImmediateOp, d: Register, number: u8) -
     }
 }
 
-/// What the instruction tells of a pair, from the registers and facts before it.
+/// The interval of one pair after the instruction, from the registers and facts before it.
 pub fn told_by(registers: &[AbsByte; 32], facts: &PairFacts, instr: &Instr) -> Told
     ensures { result ≡ told_by registers.now facts.now instr.now }
 {

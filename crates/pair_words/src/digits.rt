@@ -1,4 +1,4 @@
-//! Numbers in so many upper-case hexadecimal digits.
+//! Numbers in a fixed count of upper-case hexadecimal digits.
 
 ghost use Rattle.std.specs.Prelude.{◌≡◌, ◌∷◌, []};
 ghost use Rattle.sb_base.specs.Digits.{hex_digits};

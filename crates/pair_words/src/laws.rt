@@ -1,10 +1,10 @@
-//! Laws of the words on pairs. The function does nothing; its contract is the laws.
+//! The law of the words on pairs: the contract of a function with an empty body.
 
 ghost use Rattle.pair_words.specs.Laws.{FactsWords};
 
 use line_reading::laws::word_laws;
 
-/// The words of what is known of pairs are read as it, and words that are read are its words.
+/// The words of facts are read as these facts, and words that are read are their words.
 pub fn facts_words()
     ensures { FactsWords }
 {

@@ -1,4 +1,4 @@
-//! The words of certificates on pairs of registers: the one spelling of what is known of them, its reader and its writer. Source: own.
+//! The words of certificates on register pairs: their one spelling, reader and writer. Source: own. Tests: `text_tables`.
 #![tactic(auto)]
 
 pub mod digits;

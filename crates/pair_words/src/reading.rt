@@ -31,7 +31,7 @@ fn pair_of(letters: &mut Letters<'_>) -> Option<u8>
     }
 }
 
-// A pair and two ends, behind which nothing stands.
+// A pair and two ends, at the end of a word.
 #[tactic(auto, unfolding(crate::specs::Reading::ends_in))]
 fn ends_of(letters: &mut Letters<'_>) -> Option<(u8, u32, u32)>
     ensures exact { result ≡ ends_in letters.old }
@@ -47,7 +47,7 @@ fn ends_of(letters: &mut Letters<'_>) -> Option<(u8, u32, u32)>
     }
 }
 
-// The sum tag of a word.
+// Parses the sum tag of a word.
 #[tactic(auto, unfolding(crate::specs::Reading::sum_in))]
 fn sum_of(word: &[u8]) -> Option<SumTag>
     ensures exact { result ≡ sum_in word.now }
@@ -69,7 +69,7 @@ fn sum_of(word: &[u8]) -> Option<SumTag>
     }
 }
 
-// The right side of a comparison.
+// Parses the right side of a comparison.
 #[tactic(auto, unfolding(crate::specs::Reading::side_at))]
 fn side_of(letters: &mut Letters<'_>) -> Option<Side>
     ensures { option_map (λ s. (s, letters.new)) result ≡ side_at letters.old }
@@ -84,7 +84,7 @@ fn side_of(letters: &mut Letters<'_>) -> Option<Side>
     }
 }
 
-// The compare tag of a word.
+// Parses the compare tag of a word.
 #[tactic(auto, unfolding(crate::specs::Reading::compare_in, crate::specs::Reading::compare_by, crate::specs::Reading::compare_behind))]
 fn compare_of(word: &[u8]) -> Option<CompareTag>
     ensures { result ≡ compare_in word.now }
@@ -106,7 +106,7 @@ fn compare_of(word: &[u8]) -> Option<CompareTag>
     }
 }
 
-// The number, where nothing stands behind it.
+// The number, if nothing follows it.
 fn alone(number: Option<u8>, letters: &Letters<'_>) -> Option<u8>
     ensures { result ≡ alone (option_map (λ r. (r, letters.now)) number) }
 {
@@ -114,7 +114,7 @@ fn alone(number: Option<u8>, letters: &Letters<'_>) -> Option<u8>
     if letters.is_end() { Some(number) } else { None }
 }
 
-// The zero tag of a word.
+// Parses the zero tag of a word.
 #[tactic(auto, unfolding(crate::specs::Reading::zero_in))]
 fn zero_of(word: &[u8]) -> Option<ZeroTag>
     ensures { result ≡ zero_in word.now }
@@ -135,7 +135,7 @@ fn zero_of(word: &[u8]) -> Option<ZeroTag>
     }
 }
 
-// An interval that lies within the hull and isn't it.
+// An interval within the hull that differs from it.
 #[tactic(auto, unfolding(crate::specs::Reading::inside_at))]
 fn inside_of(letters: &mut Letters<'_>, hull: Interval) -> Option<Interval>
     ensures { option_map (λ i. (i, letters.new)) result ≡ inside_at hull letters.old }
@@ -150,7 +150,7 @@ fn inside_of(letters: &mut Letters<'_>, hull: Interval) -> Option<Interval>
     }
 }
 
-// The interval of a pair with this hull: that behind its number where this stands next, else the hull.
+// The interval of a pair with this hull: the one after its number if this comes next, otherwise the hull.
 #[tactic(auto, unfolding(crate::specs::Reading::interval_at))]
 fn interval_of(letters: &mut Letters<'_>, pair: u8, hull: Interval) -> Option<Interval>
     ensures { option_map (λ i. (i, letters.new)) result ≡ interval_at pair hull letters.old }
@@ -179,7 +179,7 @@ fn intervals_behind(letters: &mut Letters<'_>, hulls: &[Interval; 16]) -> Option
     Some(intervals)
 }
 
-// The intervals of a word.
+// Parses the intervals of a word.
 #[tactic(auto, unfolding(crate::specs::Reading::intervals_in))]
 fn intervals_of(word: &[u8], hulls: &[Interval; 16]) -> Option<[Interval; 16]>
     ensures { result ≡ intervals_in hulls.now word.now }
@@ -199,8 +199,8 @@ fn intervals_of(word: &[u8], hulls: &[Interval; 16]) -> Option<[Interval; 16]>
     }
 }
 
-/// What is known of pairs by the next four words, where the bytes of the registers make up these hulls: sum tag, compare tag, zero tag
-/// and intervals. None exactly where they are those of nothing that these hulls admit.
+/// Parses the facts on pairs from the next four words: sum tag, compare tag, zero tag and intervals. `hulls` are those of the registers'
+/// bytes. `None` exactly when the words are no spelling under these hulls.
 #[tactic(auto, unfolding(crate::specs::Reading::facts_at))]
 pub fn facts_of(words: &mut Words<'_>, hulls: &[Interval; 16]) -> Option<PairFacts>
     ensures exact { option_map (λ f. (f, words.new)) result ≡ facts_at hulls.now words.old }

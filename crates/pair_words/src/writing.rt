@@ -9,7 +9,7 @@ use pair_domain::{CompareTag, Interval, PairFacts, Side, SumTag, ZeroTag};
 use sb_base::LineWriter;
 use std::alloc::{AllocError, Global};
 
-// A letter, a pair and two ends.
+// Writes a letter, a pair and two ends.
 fn ends_word(letter: u8, pair: u8, low: u32, high: u32) -> [u8; 13]
     ensures { result ≡ letter ∷ ends_text pair low high }
 {
@@ -85,7 +85,7 @@ fn write_zero(out: &mut LineWriter, zero: ZeroTag) -> Result<(), AllocError>
     }
 }
 
-// Appends a pair with its interval where this isn't the hull.
+// Appends a pair with its interval if it differs from the hull.
 #[tactic(auto, using(crate::proofs::Numerals::joined_three))]
 fn append_interval(
     text: &mut Vec<u8>,
@@ -104,7 +104,7 @@ fn append_interval(
     text.extend_from_slice(&[r.0, r.1, l.0, l.1, l.2, l.3, h.0, h.1, h.2, h.3])
 }
 
-// Appends all pairs whose intervals aren't the hulls.
+// Appends all pairs whose intervals differ from the hulls.
 fn append_intervals(
     text: &mut Vec<u8>,
     hulls: &[Interval; 16],
@@ -118,7 +118,7 @@ fn append_intervals(
     Ok(())
 }
 
-// Writes the intervals that aren't the hulls.
+// Writes the intervals that differ from the hulls.
 fn write_intervals(
     out: &mut LineWriter,
     alloc: Global,
@@ -135,7 +135,7 @@ fn write_intervals(
     }
 }
 
-/// Writes what is known of pairs, where the bytes of the registers make up these hulls: sum tag, compare tag, zero tag and intervals.
+/// Writes the facts on pairs as four words: sum tag, compare tag, zero tag and intervals. `hulls` are those of the registers' bytes.
 pub fn write_facts(
     out: &mut LineWriter,
     alloc: Global,

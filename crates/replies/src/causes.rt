@@ -1,4 +1,4 @@
-//! The lines in place of a certificate, and that of an image whose certificate is measured.
+//! The lines printed if there is no certificate, and the line of `demo`.
 
 ghost use Rattle.std.specs.Prelude.{◌≡◌, [], ◌∷◌, IfOk, OnOk, Some, codes};
 ghost use Rattle.sb_base.specs.Digits.{hex_digits};
@@ -13,7 +13,7 @@ use round_rules::Refusal;
 use sb_base::LineWriter;
 use std::alloc::{AllocError, Global};
 
-// The text of the instruction at a word, or the word in digits where it is none on the device.
+// The text of the instruction at a word, or the word in digits if it is none on the device.
 pub(crate) fn put_instruction(
     alloc: Global,
     line: &mut LineWriter,
@@ -31,7 +31,7 @@ pub(crate) fn put_instruction(
     }
 }
 
-// A cause, and the word at which it is.
+// A cause, and its word.
 fn put_cause(line: &mut LineWriter, number: &[u8], name: &[u8], at: u16) -> Result<(), AllocError>
     ensures { OnOk result (line.new ≡ with_words line.old (codes "refused" ∷ number.now ∷ name.now ∷ codes "at" ∷ hex_digits at 4 ∷ [])) }
 {
@@ -40,7 +40,7 @@ fn put_cause(line: &mut LineWriter, number: &[u8], name: &[u8], at: u16) -> Resu
     put_address(line, b"at", at)
 }
 
-// The words in place of a certificate; none for want of memory.
+// The words of a refusal; `None` if memory runs out.
 fn put_why_not(
     alloc: Global,
     line: &mut LineWriter,
@@ -85,8 +85,7 @@ fn put_why_not(
     }
 }
 
-/// The line in place of a certificate: the cause for which there is none, or the number of rounds that don't suffice; none for want of
-/// memory.
+/// The line printed if there is no certificate: the cause, or the number of rounds that do not suffice; `None` if memory runs out.
 pub fn why_not(alloc: Global, flash: &Flash, refusal: &Refusal) -> Result<Vec<u8>, AllocError>
     ensures { IfOk result (λ v. why_not_text flash.now refusal.now ≡ Some v.items) }
 {
@@ -95,7 +94,7 @@ pub fn why_not(alloc: Global, flash: &Flash, refusal: &Refusal) -> Result<Vec<u8
     ended(line)
 }
 
-/// The size of an image, and how many nodes and instances its certificate has, with the bound.
+/// The size of an image, the nodes and instances of its certificate, and the bound.
 pub fn demo_text(alloc: Global, size: u32, certificate: &Certificate) -> Result<Vec<u8>, AllocError>
     ensures { IfOk result (λ v. v.items ≡ demo_text size certificate.now) }
 {

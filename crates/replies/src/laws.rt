@@ -1,4 +1,4 @@
-//! What is proved of the definitions alone, each as the contract of a function that does nothing.
+//! Laws of replies: contracts of functions with an empty body.
 
 ghost use Rattle.replies.specs.Headline.{RepliesAreOne, AcceptingRepliesHold, RepliesAreExact, PlacesSayTheSame, CausesSayTheSame};
 
@@ -16,10 +16,13 @@ use round_solutions::laws::answers_are_one;
 use witness_replay::laws::replays_are_runs;
 use witness_search::laws::trials_are_due;
 
-/// What was read of a command's files has one answer. Where a certificate is accepted, the bound holds of what was read, and where one is
-/// written, it is the least one, or the accepted one with a schedule that reaches its bound, short enough to be read again; an explanation tells where the bytes of the bound go; where all nodes are clear,
-/// no run is flagged, and else runs are flagged at the words that are told alone, and as it is told; a run that devices choose keeps each bound that is accepted. Where the files read as values, a certificate
-/// is accepted exactly where it is valid, and the status of an analysis says how the rounds end.
+/// What was read of a command's files has one answer.
+/// - If a certificate is accepted, the bound holds for what was read.
+/// - If one is written, it is the least one, or the accepted one with a schedule that reaches its bound, short enough to be read again.
+/// - An explanation says where the bytes of the bound go.
+/// - If all nodes are clear, no run is flagged; otherwise runs are flagged only at the printed words, for the printed causes.
+/// - A simulated run keeps each accepted bound.
+/// - If the files parse, a certificate is accepted exactly when it is valid, and the status of an analysis says how the rounds end.
 pub fn replies_are_claims()
     ensures one { RepliesAreOne }
     ensures holds { AcceptingRepliesHold }
@@ -45,7 +48,7 @@ pub fn replies_are_claims()
     trials_are_led();
 }
 
-/// Names that say the same give the same texts of words at which a step may be flagged, without and with what may happen there.
+/// Equivalent names give the same texts of places, with and without causes.
 pub fn same_names_give_same_places()
     ensures places { PlacesSayTheSame }
     ensures causes { CausesSayTheSame }

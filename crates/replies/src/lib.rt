@@ -1,4 +1,5 @@
-//! What the program answers: the lines that it prints, and the one answer to a command in terms of what was read of its files.
+//! What the program answers: the printed lines, and the one answer to a command in terms of what was read of its files. Tests:
+//! `tests/end_to_end`.
 #![tactic(auto)]
 
 pub mod causes;

@@ -1,4 +1,4 @@
-//! What is told of the words at which a step may be flagged.
+//! The lines of places at which a step may be flagged.
 
 ghost use Rattle.std.specs.Prelude.{◌≡◌, ◌≤◌, IfOk, OnOk, false, map, take};
 ghost use Rattle.std.specs.List.{flat_map};
@@ -17,7 +17,7 @@ use reports::{write_name, write_words};
 use sb_base::LineWriter;
 use std::alloc::{AllocError, Global};
 
-/// A firmware, and the names of its words.
+/// A firmware with the names of its words.
 #[derive(Clone, Copy)]
 pub struct Program<'a> {
     /// The firmware.
@@ -26,7 +26,7 @@ pub struct Program<'a> {
     pub names: &'a Names,
 }
 
-/// A firmware of which no step can be flagged, and the bound of its certificate.
+/// The line of a firmware of which no step can be flagged, with its certificate's bound.
 pub fn clear_text(alloc: Global, bound: u16) -> Result<Vec<u8>, AllocError>
     ensures { IfOk result (λ v. v.items ≡ clear_text bound) }
 {
@@ -43,7 +43,7 @@ fn put_place(alloc: Global, line: &mut LineWriter, flash: &Flash, pc: u16) -> Re
     put_instruction(alloc, line, flash, pc)
 }
 
-/// The number of the least node that may flag a step, its word, and the instruction there.
+/// The line of the least node that may flag a step: its number, its word, and the instruction there.
 pub fn unclear_text(alloc: Global, flash: &Flash, node: u32, pc: u16) -> Result<Vec<u8>, AllocError>
     ensures { IfOk result (λ v. v.items ≡ unclear_text flash.now node pc) }
 {
@@ -53,14 +53,14 @@ pub fn unclear_text(alloc: Global, flash: &Flash, node: u32, pc: u16) -> Result<
     ended(line)
 }
 
-// A word, and the word whose name it stands under: the greatest that has one, of this word and those before it, or 0.
+// A word, and the greatest named word up to it, or 0.
 #[derive(Clone, Copy)]
 struct Reached {
     pc: u16,
     named: u16,
 }
 
-// Where to look from for the name of a word: from the last word, unless that is behind it.
+// The word from which to search for a name: the last one, unless that is beyond this word.
 #[tactic(auto, using(crate::proofs::Sites::up_first))]
 fn before(names: &Names, last: Reached, pc: u16) -> Reached
     requires { least_name names.now last.named ≡ name_up_to names.now last.pc }
@@ -74,7 +74,7 @@ fn before(names: &Names, last: Reached, pc: u16) -> Reached
     }
 }
 
-// Goes on from the last word to another. It looks at the words between them alone, so that all places together cost what flash has words.
+// Advances from the last word to another. It visits the words between them alone, so all places together visit each word of flash once.
 #[tactic(auto, using(crate::proofs::Sites::up_there))]
 fn reach(names: &Names, last: Reached, pc: u16) -> Reached
     requires { least_name names.now last.named ≡ name_up_to names.now last.pc }
@@ -95,7 +95,7 @@ fn reach(names: &Names, last: Reached, pc: u16) -> Reached
     }
 }
 
-// Writes a word at which a step may be flagged, the instruction there, and the name under which it stands.
+// Writes a place: its word, its instruction and its name.
 fn put_named(
     out: &mut LineWriter,
     alloc: Global,
@@ -110,7 +110,7 @@ fn put_named(
     write_name(out, program.names, place.named)
 }
 
-// Writes the lines of such words. Where they ascend, each goes on from the one before.
+// Writes the lines of places. If they ascend, each search goes on from the one before.
 fn write_places(
     out: &mut LineWriter,
     alloc: Global,
@@ -130,7 +130,7 @@ fn write_places(
     Ok(())
 }
 
-// Writes the lines of words of vectors.
+// Writes the lines of vectors' words.
 fn write_nevers(out: &mut LineWriter, nevers: &[u16]) -> Result<(), AllocError>
     requires { out.old.begun ≡ false }
     ensures { OnOk result (out.new ≡ with_text out.old (flat_map never_text nevers.now)) }
@@ -152,8 +152,7 @@ fn write_count(out: &mut LineWriter, bound: u16, count: u64) -> Result<(), Alloc
     out.end_line()
 }
 
-/// The bound of a certificate; the words at which a step may be flagged, each with its instruction and the name under which it stands; and the
-/// words of vectors that may be taken, though it is said that they never are.
+/// The bound of a certificate; the places, each with instruction and name; and the words of vectors with a `never` line that may be taken.
 pub fn premises_text(
     alloc: Global,
     program: &Program<'_>,
@@ -171,14 +170,14 @@ pub fn premises_text(
     Ok(out.finish())
 }
 
-// Writes a word, where this holds.
+// Writes a word, if this holds.
 fn write_where(out: &mut LineWriter, holds: bool, word: &[u8]) -> Result<(), AllocError>
     ensures { OnOk result (out.new ≡ with_words out.old (word_where holds word.now)) }
 {
     if holds { out.word(word) } else { Ok(()) }
 }
 
-// At most the first eight of them.
+// At most the first eight.
 #[tactic(auto, using(crate::proofs::Sites::few_first))]
 fn first_eight(addresses: &[u16]) -> &[u16]
     ensures { result.now ≡ take 8 addresses.now }
@@ -190,7 +189,7 @@ fn first_eight(addresses: &[u16]) -> &[u16]
     }
 }
 
-// Writes the protected addresses that a store may write, of which at most eight are shown.
+// Writes the protected addresses that a store may write, at most eight.
 #[tactic(auto, using(crate::proofs::Sites::some_written, crate::proofs::Sites::none_protected))]
 fn write_protected(out: &mut LineWriter, addresses: &[u16]) -> Result<(), AllocError>
     ensures { OnOk result (out.new ≡ with_words out.old (protected_words addresses.now)) }
@@ -204,7 +203,7 @@ fn write_protected(out: &mut LineWriter, addresses: &[u16]) -> Result<(), AllocE
     write_where(out, has_more, b"..")
 }
 
-// Writes what may happen at a word.
+// Writes the causes at a place.
 #[tactic(auto, using(crate::proofs::Sites::three_written))]
 fn write_causes(out: &mut LineWriter, place: &FlaggedPlace) -> Result<(), AllocError>
     ensures { OnOk result (out.new ≡ with_words out.old (cause_words place.now)) }
@@ -214,7 +213,7 @@ fn write_causes(out: &mut LineWriter, place: &FlaggedPlace) -> Result<(), AllocE
     write_where(out, place.transfer, b"transfer")
 }
 
-// Writes the lines of words at which a step may be flagged, with what may happen there. Where they ascend, each goes on from the one before.
+// Writes the lines of places with their causes. If they ascend, each search goes on from the one before.
 fn write_whys(
     out: &mut LineWriter,
     alloc: Global,
@@ -235,7 +234,7 @@ fn write_whys(
     Ok(())
 }
 
-/// The same text as that of the words alone, with what may happen at each of them behind its name.
+/// The text of the places, with their causes after their names.
 pub fn why_text(
     alloc: Global,
     program: &Program<'_>,

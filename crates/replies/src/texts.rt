@@ -1,4 +1,4 @@
-//! The lines that are printed.
+//! The printed lines.
 
 ghost use Rattle.std.specs.Prelude.{◌≡◌, ◌<◌, [], ◌∷◌, IfOk, OnOk, Some, codes, decimal};
 ghost use Rattle.std.specs.Option.{option_map};
@@ -41,7 +41,7 @@ fn three_words(
     ended(line)
 }
 
-/// Words that are no command.
+/// The line for words that are no command.
 pub fn usage(alloc: Global) -> Result<Vec<u8>, AllocError>
     ensures { IfOk result (λ v. v.items ≡ usage) }
 {
@@ -50,21 +50,21 @@ pub fn usage(alloc: Global) -> Result<Vec<u8>, AllocError>
     ended(line)
 }
 
-/// The file that can't be read.
+/// The line for a file that cannot be read.
 pub fn read_fault(alloc: Global, name: &str) -> Result<Vec<u8>, AllocError>
     ensures { IfOk result (λ v. v.items ≡ read_fault name.now) }
 {
     three_words(alloc, b"read", b"fault", name.as_bytes())
 }
 
-/// The file that is longer than its cap.
+/// The line for a file beyond its cap.
 pub fn too_long(alloc: Global, name: &str) -> Result<Vec<u8>, AllocError>
     ensures { IfOk result (λ v. v.items ≡ too_long name.now) }
 {
     three_words(alloc, b"too", b"long", name.as_bytes())
 }
 
-/// The number of a raw file's refusal.
+/// The refusal of a raw file, by number.
 pub fn raw_fault(alloc: Global, number: u64) -> Result<Vec<u8>, AllocError>
     ensures { IfOk result (λ v. v.items ≡ raw_fault number) }
 {
@@ -73,7 +73,7 @@ pub fn raw_fault(alloc: Global, number: u64) -> Result<Vec<u8>, AllocError>
     ended(line)
 }
 
-// The words that name what a test of an ELF file refuses; none for want of memory.
+// The words of the refusal of an ELF file; `None` if memory runs out.
 fn put_refusal(line: &mut LineWriter, fault: &ElfFault) -> Result<(), AllocError>
     ensures { OnOk result (IsRefusalWritten line.old line.new (refusal_of fault.now)) }
 {
@@ -92,7 +92,7 @@ fn put_refusal(line: &mut LineWriter, fault: &ElfFault) -> Result<(), AllocError
     }
 }
 
-/// The refusal of an ELF file; none for want of memory.
+/// The refusal of an ELF file; `None` if memory runs out.
 pub fn elf_refused(alloc: Global, fault: &ElfFault) -> Result<Vec<u8>, AllocError>
     ensures { IfOk result (λ v. option_map elf_refused (refusal_of fault.now) ≡ Some v.items) }
 {
@@ -102,7 +102,7 @@ pub fn elf_refused(alloc: Global, fault: &ElfFault) -> Result<Vec<u8>, AllocErro
     ended(line)
 }
 
-/// The least word behind the device's flash that a firmware fills.
+/// The line for a firmware beyond the device's flash, with the least such word.
 pub fn firmware_outside(alloc: Global, word: u16) -> Result<Vec<u8>, AllocError>
     ensures { IfOk result (λ v. v.items ≡ firmware_outside word) }
 {
@@ -141,7 +141,7 @@ pub(crate) fn put_number(line: &mut LineWriter, name: &[u8], number: u64) -> Res
     line.dec(number)
 }
 
-// A word, and a word of flash in digits: an address, or what stands there.
+// A word, and a word of flash in digits: an address, or its content.
 pub(crate) fn put_address(line: &mut LineWriter, name: &[u8], word: u16) -> Result<(), AllocError>
     ensures { OnOk result (line.new ≡ with_words line.old (name.now ∷ hex_digits word 4 ∷ [])) }
 {
@@ -149,7 +149,7 @@ pub(crate) fn put_address(line: &mut LineWriter, name: &[u8], word: u16) -> Resu
     line.hex(u32::from(word), 4)
 }
 
-// The words that name the refused line; none for want of memory.
+// The words of a refusal of an assumption file; `None` if memory runs out.
 fn put_assumption_fault(line: &mut LineWriter, fault: &AssumeText) -> Result<(), AllocError>
     ensures { OnOk result (AreWritten line.old line.new (assumption_words fault.now)) }
 {
@@ -160,7 +160,7 @@ fn put_assumption_fault(line: &mut LineWriter, fault: &AssumeText) -> Result<(),
     }
 }
 
-/// The refusal of an assumption file; none for want of memory.
+/// The refusal of an assumption file; `None` if memory runs out.
 pub fn assumptions_refused(alloc: Global, fault: &AssumeText) -> Result<Vec<u8>, AllocError>
     ensures { IfOk result (λ v. assumptions_refused fault.now ≡ Some v.items) }
 {
@@ -170,7 +170,7 @@ pub fn assumptions_refused(alloc: Global, fault: &AssumeText) -> Result<Vec<u8>,
     ended(line)
 }
 
-// The word of a limit that is passed.
+// The word of an exceeded limit.
 pub(crate) fn limit_word(limit: Limit) -> &'static [u8]
     ensures { result.now ≡ limit_word limit }
 {
@@ -180,7 +180,7 @@ pub(crate) fn limit_word(limit: Limit) -> &'static [u8]
     }
 }
 
-// The words that name the refused line, or the limit that is passed; none for want of memory.
+// The words of a refusal of a certificate's text; `None` if memory runs out.
 fn put_certificate_fault(line: &mut LineWriter, fault: &CertFault) -> Result<(), AllocError>
     ensures { OnOk result (AreWritten line.old line.new (certificate_words fault.now)) }
 {
@@ -192,7 +192,7 @@ fn put_certificate_fault(line: &mut LineWriter, fault: &CertFault) -> Result<(),
     }
 }
 
-/// The refusal of a certificate's text; none for want of memory.
+/// The refusal of a certificate's text; `None` if memory runs out.
 pub fn certificate_refused(alloc: Global, fault: &CertFault) -> Result<Vec<u8>, AllocError>
     ensures { IfOk result (λ v. certificate_refused fault.now ≡ Some v.items) }
 {
@@ -218,21 +218,21 @@ fn three_words_and_number(
     ended(line)
 }
 
-/// The offset of the refused line of a schedule.
+/// The line for a malformed schedule, with the offset of its line.
 pub fn schedule_malformed(alloc: Global, at: usize) -> Result<Vec<u8>, AllocError>
     ensures { IfOk result (λ v. v.items ≡ schedule_malformed at) }
 {
     three_words_and_number(alloc, b"schedule", b"malformed", b"at", at as u64)
 }
 
-/// The number of the illegal choice of a schedule.
+/// The line for an illegal choice of a schedule, with its number.
 pub fn schedule_illegal(alloc: Global, step: u32) -> Result<Vec<u8>, AllocError>
     ensures { IfOk result (λ v. v.items ≡ schedule_illegal step) }
 {
     three_words_and_number(alloc, b"schedule", b"illegal", b"step", u64::from(step))
 }
 
-/// The refusal of the text of devices; none for want of memory.
+/// The refusal of a text of devices; `None` if memory runs out.
 pub fn devices_refused(alloc: Global, fault: &DevicesFault) -> Result<Vec<u8>, AllocError>
     ensures { IfOk result (λ v. devices_refused fault.now ≡ Some v.items) }
 {
@@ -244,14 +244,14 @@ pub fn devices_refused(alloc: Global, fault: &DevicesFault) -> Result<Vec<u8>, A
     }
 }
 
-// Whether a certificate has a schedule that attains its bound.
+// Whether a schedule of the certificate attains its bound.
 fn witness_word(attained: bool) -> &'static [u8]
     ensures { result.now ≡ witness_word attained }
 {
     if attained { b"attained" } else { b"open" }
 }
 
-/// The bound of a certificate that is accepted, and whether it has a schedule that attains it.
+/// The line of an accepted certificate: its bound, and whether a schedule attains it.
 pub fn accepted(alloc: Global, bound: u16, attained: bool) -> Result<Vec<u8>, AllocError>
     ensures { IfOk result (λ v. v.items ≡ accepted bound attained) }
 {
@@ -275,7 +275,7 @@ fn put_inst(
     put_number(line, word, u64::from(number))
 }
 
-// The words behind `rejected`, the first one the reason's number.
+// The words after `rejected`, the reason's number first.
 fn put_reason(alloc: Global, line: &mut LineWriter, reason: &Reason) -> Result<(), AllocError>
     ensures { OnOk result (line.new ≡ with_words line.old (reason_words reason.now)) }
 {
@@ -298,7 +298,7 @@ fn put_reason(alloc: Global, line: &mut LineWriter, reason: &Reason) -> Result<(
     }
 }
 
-/// The reason for which a certificate is refused.
+/// The line of a rejected certificate.
 pub fn rejected(alloc: Global, reason: &Reason) -> Result<Vec<u8>, AllocError>
     ensures { IfOk result (λ v. v.items ≡ rejected reason.now) }
 {
@@ -308,7 +308,7 @@ pub fn rejected(alloc: Global, reason: &Reason) -> Result<Vec<u8>, AllocError>
     ended(line)
 }
 
-/// A certificate whose schedule doesn't attain its bound.
+/// The line of a certificate whose schedule does not attain its bound.
 pub fn witness_rejected(alloc: Global) -> Result<Vec<u8>, AllocError>
     ensures { IfOk result (λ v. v.items ≡ witness_rejected) }
 {
@@ -337,7 +337,7 @@ fn put_stop(line: &mut LineWriter, stop: Stop) -> Result<(), AllocError>
     }
 }
 
-/// What a replay tells.
+/// The line of a replay.
 pub fn run_text(alloc: Global, report: &ReplayReport) -> Result<Vec<u8>, AllocError>
     ensures { IfOk result (λ v. v.items ≡ run_text (record { steps = report.now.steps; depth = report.now.depth; stop = report.now.stop })) }
 {

@@ -88,8 +88,8 @@ fn write_sum(out: &mut LineWriter, bound: u16, explanation: &Explanation) -> Res
     out.end_line()
 }
 
-/// The explanation of a certificate with this bound as lines: what its links add up to, and for each link the instance with the name of its
-/// entry, the word of the place, the bytes that it adds, and the words of a shortest way to the place.
+/// The text of an explanation of a certificate with this bound: the sum of its links, and for each link the instance with the name of its
+/// entry, the word of the place, the bytes that it adds, and the words of a shortest path to the place.
 pub fn explanation_text(
     alloc: Global,
     bound: u16,

@@ -38,7 +38,7 @@ fn fits_value(
     }
 }
 
-// The room that static data leaves.
+// The room beside static data.
 fn room_value(device: Device, static_end: Option<u16>) -> Value
     ensures { view result ≡ room_data device static_end }
 {
@@ -58,7 +58,7 @@ fn static_value(static_end: Option<u16>) -> Value
     }
 }
 
-// Whether there is a schedule that attains the bound.
+// Whether a schedule attains the bound.
 fn witness_value(alloc: Global, certificate: &Certificate) -> Result<Value, AllocError>
     ensures { IfOk result (λ v. view v ≡ witness_data certificate.now.witness) }
 {
@@ -94,7 +94,7 @@ fn kind_value(alloc: Global, kind: Kind) -> Result<Value, AllocError>
     }
 }
 
-// Puts what is told of an instance into an object that has nothing yet.
+// Adds the members of an instance to an empty object.
 fn put_members(
     members: &mut Map<String, Value>,
     alloc: Global,
@@ -122,7 +122,7 @@ fn put_members(
     serde_json::put(members, alloc, "need", Value::from(inst.need))
 }
 
-// Writes what stands before a value, and the value.
+// Writes the text before a value, and the value.
 fn put_text(
     out: &mut Vec<u8>,
     alloc: Global,
@@ -138,7 +138,7 @@ fn put_text(
     Ok(())
 }
 
-// The same of a value that is dropped before the next is made.
+// Writes them for a value that is dropped before the next is made.
 fn put(out: &mut Vec<u8>, alloc: Global, before: &[u8], value: Value) -> Result<(), AllocError>
     requires { has_float (view value) ≡ false }
     ensures { OnOk result (out.new.items ≡ out.old.items ++ (before.now ++ compact_text (view value))) }
@@ -166,7 +166,7 @@ fn put_inst(
     }
 }
 
-// Writes the instances, divided by commas.
+// Writes the instances, separated by commas.
 fn put_insts(
     out: &mut Vec<u8>,
     alloc: Global,
@@ -185,7 +185,7 @@ fn put_insts(
     Ok(())
 }
 
-// What is reported: a certificate of firmware on a device, with the names of its words and the end of its static data.
+// The input of a report: a certificate of firmware on a device, the names of its words and the end of its static data.
 #[derive(Clone, Copy)]
 struct Reported<'a> {
     device: Device,
@@ -217,8 +217,8 @@ fn put_report(out: &mut Vec<u8>, alloc: Global, told: &Reported<'_>) -> Result<(
     Ok(())
 }
 
-/// The report of a certificate as one JSON object without spaces, and a line feed. It tells what the lines tell; what isn't there
-/// is null. Each part is written before the next is made, so that it takes little more memory than its text.
+/// The report of a certificate as one JSON object without spaces, and a line feed. It has the same content as the lines; what is absent is
+/// null. Each part is written before the next is made, so that it takes little more memory than its text.
 pub fn report_json(
     alloc: Global,
     device: Device,

@@ -1,14 +1,14 @@
-//! Laws of reports, each as the contract of a function that does nothing.
+//! Laws of reports: contracts of functions with an empty body.
 
 ghost use Rattle.reports.specs.Laws.{NamesThatSayTheSame, ExplanationsSayTheSame, AsciiNamesStay};
 
-/// Names that say the same give the same reports, and the same texts of explanations.
+/// Equivalent names give the same reports and texts of explanations.
 pub fn same_names_give_same_reports()
     ensures reports { NamesThatSayTheSame }
     ensures explanations { ExplanationsSayTheSame }
 {}
 
-/// Names of ASCII characters stand in JSON as they are.
+/// ASCII names stand in JSON as they are.
 pub fn ascii_names_stay()
     ensures { AsciiNamesStay }
 {}

@@ -1,5 +1,5 @@
-//! Reports of a certificate: its bound, whether the stack fits beside static data, and what each instance needs, by name; and the text
-//! of its explanation. Source: own.
+//! Reports of a certificate: its bound, whether the stack fits beside static data, the need of each instance by name, and the text of its
+//! explanation. Source: own. Tests: `report_tables`.
 #![tactic(auto)]
 
 mod explained;

@@ -5,14 +5,14 @@ ghost use Rattle.reports.specs.Report.{room, fits, fits_word};
 
 use avr_model::device::Device;
 
-// How many bytes of SRAM are left behind static data that ends at this data address.
+// The bytes of SRAM left after static data that ends at this data address.
 pub(crate) fn room(device: Device, static_end: u16) -> u16
     ensures { result ≡ room device static_end }
 {
     (device.ramend() + 1).saturating_sub(static_end)
 }
 
-// Whether a stack of so many bytes doesn't meet the static data.
+// Whether a stack of so many bytes stays clear of static data.
 fn fits(device: Device, bound: u16, static_end: u16) -> bool
     ensures { result ≡ fits device bound static_end }
 {

@@ -27,7 +27,7 @@ fn write_bound(out: &mut LineWriter, bound: u16) -> Result<(), AllocError>
     out.end_line()
 }
 
-// Writes whether there is a schedule that attains the bound.
+// Writes whether a schedule attains the bound.
 fn write_witness(out: &mut LineWriter, certificate: &Certificate) -> Result<(), AllocError>
     ensures { OnOk result (out.new ≡ with_end (with_words out.old (witness_line certificate.now.witness))) }
 {
@@ -62,7 +62,7 @@ fn write_static(
     out.end_line()
 }
 
-/// Writes the name of a word, or a hyphen where it has none.
+/// Writes the name of a word, or a hyphen if it has none.
 pub fn write_name(out: &mut LineWriter, names: &Names, word: u16) -> Result<(), AllocError>
     ensures { OnOk result (out.new ≡ with_word out.old (name_word (least_name names.now word))) }
 {
@@ -122,9 +122,8 @@ fn write_heading(
     write_static(out, device, certificate.bound(), static_end)
 }
 
-/// The report of a certificate as lines: its bound, whether a schedule attains it, how much room the stack has in a device's
-/// SRAM behind static data that ends at the data address `static_end`, and the instances with the names of their entries and
-/// their needs in bytes.
+/// The report of a certificate as lines: its bound, whether a schedule attains it, the room of the stack in a device's SRAM after static
+/// data that ends at the data address `static_end`, and the instances with the names of their entries and their needs in bytes.
 pub fn report_text(
     alloc: Global,
     device: Device,

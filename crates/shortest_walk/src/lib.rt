@@ -1,4 +1,4 @@
-//! Which nodes of a graph are reached, and the first of the shortest walks to one.
+//! Reachability in a numbered graph, and the first of the shortest walks. Tests: `tests/end_to_end`, the rows of `explain`.
 #![tactic(auto)]
 
 mod distances;
