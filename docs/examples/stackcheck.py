@@ -1,8 +1,9 @@
-"""An extra script of PlatformIO: the build fails where the stack may not fit."""
+"""An extra script of PlatformIO: the build fails if the stack may not fit, or if a place is left to review."""
 
 Import("env")  # noqa: F821
 
+env.Append(CCFLAGS=["-gdwarf-2"])  # noqa: F821
 env.AddPostAction(  # noqa: F821
     "$BUILD_DIR/${PROGNAME}.elf",
-    env.VerboseAction("stackcheck $TARGET --spec $PROJECT_DIR/stack.spec --margin 64", "Checking the stack of $TARGET"),  # noqa: F821
+    env.VerboseAction('stackcheck "$TARGET" --spec "$PROJECT_DIR/stack.spec" --margin 64', "Checking the stack of $TARGET"),  # noqa: F821
 )

@@ -2,6 +2,8 @@
 
 import re
 
+import verdict
+from outcome import Refused
 from places import readable
 
 WORD = re.compile(r"\b([0-9A-F]{4})\b")
@@ -20,24 +22,24 @@ def line(kind, text, place=None):
 def source(outcome, text):
     """The path and line of the first word address of a text; None where it has none or nothing tells it."""
     word = WORD.search(text)
-    found = outcome.lines.source(2 * int(word[1], 16)) if word else None
+    found = outcome.firmware.lines.source(2 * int(word[1], 16)) if word else None
     return (readable(found[0]), found[1]) if found else None
 
 
-def told(outcome, is_to_be_judged):
+def told(outcome, words):
     """What fails, each with its place, and the result."""
-    if outcome.refusal:
-        place = outcome.places_of_refusal[0] if outcome.places_of_refusal else ""
-        yield line("error", f"no bound of the stack: {outcome.refusal}; cause: {outcome.cause}; cure: {outcome.cure}", source(outcome, place))
+    if isinstance(outcome, Refused):
+        place = outcome.places[0] if outcome.places else ""
+        told = "; ".join([f"cause: {outcome.cause}", *outcome.reasons])
+        yield line("error", f"no bound of the stack: {outcome.refusal}; {told}; cure: {outcome.cure}", source(outcome, place))
         return
-    flagged = getattr(outcome, "flagged", None)
-    if flagged:
-        yield line("error", flagged, source(outcome, flagged))
+    if outcome.flagged:
+        yield line("error", outcome.flagged, source(outcome, outcome.flagged))
     if not outcome.keeps:
         yield line("error", f"the stack is too deep: {outcome.bound} bytes, and {outcome.rule}")
     if outcome.grows_too_much:
         yield line("error", f"the stack has grown from {outcome.difference.before} to {outcome.bound} bytes")
-    for it in outcome.unjudged if is_to_be_judged else ():
+    for it in verdict.left(outcome, words):
         place = (it.path, it.source[1]) if it.source else None
-        yield line("error", f"a step may be flagged here, and no line `keeps` judges it: {it.title}, {it.count()}", place)
-    yield line("notice", f"stack: {outcome.bound} bytes at most ({outcome.witness}), {outcome.room - outcome.bound} left")
+        yield line("error", f"to review: {it.title}" + (f", {it.count()}" if it.words else "") + "".join(f"; {why}" for why in it.why()), place)
+    yield line("notice", f"stack: {verdict.first(outcome)}; {outcome.witness}, {outcome.room - outcome.bound} bytes left")

@@ -59,8 +59,8 @@ class Graph:
             self.settle(it)
 
     def add(self, instance):
-        symbol = self.outcome.elf.symbol_at(2 * instance.entry)
-        instance.name = self.outcome.instance(instance.kind, instance.entry, symbol.name if symbol and symbol.address == 2 * instance.entry else None)
+        symbol = self.outcome.firmware.elf.symbol_at(2 * instance.entry)
+        instance.name = self.outcome.firmware.instance(instance.kind, instance.entry, symbol.name if symbol and symbol.address == 2 * instance.entry else None)
         self.by_key[instance.kind, instance.entry, instance.enables, instance.flag] = len(self.instances)
         self.instances.append(instance)
 
@@ -76,7 +76,7 @@ class Graph:
             self.interrupts(instance, int(enables, 16), offset)
 
     def calls(self, instance, word, enables, flag, offset):
-        targets = called(self.outcome.elf, word, self.lines)
+        targets = called(self.outcome.firmware.elf, word, self.lines)
         if targets is None:  # a pointer that the analysis knows: whatever this place could enter
             targets = {it.entry for it in self.instances if it.kind == "call" and it.rank < instance.rank}
         for target in targets:
@@ -87,7 +87,7 @@ class Graph:
     def interrupts(self, instance, enables, offset):
         for vector in VECTORS:
             if enables >> vector - 2 & 1:
-                entry = self.outcome.device.vector_word(vector)
+                entry = self.outcome.firmware.device.vector_word(vector)
                 for number in self.handlers(vector, entry, enables):
                     if self.fits(instance, number, offset):
                         instance.enter(number, offset + RETURN, True)

@@ -7,7 +7,9 @@ import opcodes
 from devices import VECTORS
 from elf import Symbol
 from names import SpecFault
-from targets import addresses_loaded, constructors, tables, taken, words_in_data
+from targets import addresses_loaded, constructors, slots, starts, tables, taken, taken_elsewhere, words_in_data
+
+LOOK_BACK = 16  # instructions before a transfer in which its table is looked for
 
 
 def or_none(make, elf):
@@ -69,13 +71,48 @@ def table_of_jumps(elf, site):
     return found
 
 
+def before(elf, site, count):
+    """Up to so many (word, opcode) of a function before a word, the last one first."""
+    symbol = elf.symbol_at(2 * site)
+    words = [it for it in opcodes.words_of(elf, symbol) if it[0] < site] if symbol else []
+    return words[:-count - 1:-1]
+
+
+def of_flash_table(elf, site):
+    """The functions of the table in flash from which a transfer's pointer is loaded, as far as a mask before it limits the index; none where it isn't one."""
+    words = before(elf, site, LOOK_BACK)
+    if not any(opcodes.is_lpm(opcode) for _, opcode in words[:6]):
+        return set()
+    table = next((it for at, _ in words if (it := opcodes.table_added(elf, at)) is not None and 0 < it < elf.flash_end), None)
+    if table is None or table % 2:
+        return set()
+    masks = [opcode & 15 | opcode >> 4 & 0xF0 for _, opcode in words if opcode & 0xF000 == 0x7000]
+    known, found = starts(elf), set()
+    for word in range(table // 2, table // 2 + (masks[0] + 1 if masks else 256)):
+        if elf.word(word) not in known:
+            break
+        found.add(elf.word(word))
+    return found
+
+
+def of_pointer(elf, device, site):
+    """The functions that a call through a pointer may reach: of tables of virtual functions only those in the slot from which the pointer is loaded."""
+    if not elf.code or not slots(elf):
+        return addressed(elf, device)
+    words = [opcode for _, opcode in before(elf, site, 4)]
+    if len(words) > 3 and opcodes.is_lds(words[0], 31) and opcodes.is_lds(words[1], 30):
+        return taken_elsewhere(elf)
+    slot = opcodes.slot_loaded(words)
+    return addressed(elf, device) if slot is None else taken_elsewhere(elf) | slots(elf).get(slot, set())
+
+
 def targets(elf, device, site):
     """Where the indirect transfer at a word may go by all that the file tells; `exit` where it tells nothing."""
     symbol = elf.symbol_at(2 * site)
     if symbol and symbol.name == "__tablejump2__":
         begin, end = elf.all.get("__dtors_start", 0), elf.all.get("__dtors_end", 0)
         return or_none(constructors, elf) | or_none(tables, elf) | {elf.word(at // 2) for at in range(begin, end, 2)}
-    found = table_of_jumps(elf, site) or addressed(elf, device)
+    found = table_of_jumps(elf, site) or of_flash_table(elf, site) or of_pointer(elf, device, site)
     return found or {it.address // 2 for name in ("exit", "_exit") for it in elf.named(name)}
 
 
@@ -87,12 +124,17 @@ def may_be_entered(elf, site, word):
     return symbol.address == 2 * word != 0 or caller.name == "__tablejump2__" or caller.address == symbol.address != 0
 
 
+def is_helper(name):
+    """Whether a function is one of the compiler's own; a handler, whose name begins alike, is none."""
+    return name.startswith("__") and not name.startswith("__vector_")
+
+
 def indirect(elf):
     """The words of all calls and jumps through a pointer but those of the compiler's own helpers and of tables in their own function."""
     for words in code(elf):
         for at, opcode in words:
             symbol = elf.symbol_at(2 * at) if opcodes.is_indirect(opcode) else None
-            if opcodes.is_indirect(opcode) and not (symbol and symbol.name.startswith("__")) and not table_of_jumps(elf, at):
+            if opcodes.is_indirect(opcode) and not (symbol and is_helper(symbol.name)) and not table_of_jumps(elf, at):
                 yield at
 
 

@@ -60,7 +60,7 @@ def without(work, lines, folder):
     return {int(line.split()[1], 16) for line in told if line.startswith("at ")}
 
 
-def closers(outcome, work, causes, folder):
+def closers(firmware, work, causes, folder):
     """For places at which a store may write a few protected registers and nothing else, the line of a spec that takes them off the list: tried, by word."""
     found, few = {}, [word for word, it in sorted(causes.items()) if it.is_few() and work.lines.may_add(word, "store", it.addresses)]
     for word in few[:MOST_TRIED]:
@@ -68,6 +68,6 @@ def closers(outcome, work, causes, folder):
         lines.add(word, "store", causes[word].addresses)
         left = without(work, lines, folder)
         if left is not None and word not in left:
-            found[word] = line_of_spec(outcome, lines, word, "store") or lines.line(word, "store")
+            found[word] = line_of_spec(firmware, lines, word, "store") or lines.line(word, "store")
     work.program()  # whose assumption file the trials wrote anew
     return found

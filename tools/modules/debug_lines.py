@@ -1,9 +1,14 @@
-"""Source lines of byte addresses, from the debug information of an ELF file: DWARF line tables of versions 2 to 4, and stabs."""
+"""Source lines of byte addresses, from the debug information of an ELF file: DWARF line tables of versions 2 to 5, and stabs."""
 
 import os
 import shutil
 import struct
 import subprocess
+
+
+PATH, FOLDER = 1, 2  # what a list of version 5 tells of a file
+STRING, BLOCK, STRP, UDATA, LINE_STRP = 0x08, 0x09, 0x0E, 0x0F, 0x1F  # forms of its values
+SIZES = {0x0B: 1, 0x05: 2, 0x06: 4, 0x07: 8, 0x1E: 16}  # bytes of its numbers, by their forms
 
 
 class Reader:
@@ -31,29 +36,66 @@ class Reader:
                 return value - (1 << shift) if is_signed and byte & 0x40 else value
 
 
-def dwarf_rows(data):
-    """Yields (begin, end, file, line) of each row of the line tables. A table of another version is passed over."""
+def dwarf_rows(data, texts=b"", line_texts=b""):
+    """Yields (begin, end, file, line) of each row of the line tables. A table of another version is passed over. Texts are those of `.debug_str` and
+    `.debug_line_str`, to which version 5 refers."""
     at = 0
     while at + 4 <= len(data):
         reader = Reader(data, at)
         at += 4 + reader.take("I")
         version = reader.take("H")
-        if 2 <= version <= 4:
-            yield from unit_rows(reader, at, version)
+        if 2 <= version <= 5:
+            yield from unit_rows(reader, at, version, (texts, line_texts))
+
+
+def formed(reader, form, texts):
+    """A value of version 5 by its form; nothing of one that isn't needed here."""
+    if form == STRING:
+        return reader.text()
+    if form in (STRP, LINE_STRP):
+        return Reader(texts[form == LINE_STRP], reader.take("I")).text()
+    if form == UDATA:
+        return reader.number()
+    if form in SIZES:
+        value = int.from_bytes(reader.data[reader.at:reader.at + SIZES[form]], "little")
+        reader.at += SIZES[form]
+        return value
+    if form == BLOCK:
+        size = reader.number()
+        reader.at += size
+        return None
+    raise ValueError
+
+
+def listed(reader, texts):
+    """The folders or files of a head of version 5: name and number of the folder."""
+    forms = [(reader.number(), reader.number()) for _ in range(reader.take("B"))]
+    found = []
+    for _ in range(reader.number()):
+        values = {kind: formed(reader, form, texts) for kind, form in forms}
+        found.append((values.get(PATH) or "", values.get(FOLDER) or 0))
+    return found
 
 
 class Header:
     """What the head of a line table tells; the reader stands behind it."""
 
-    def __init__(self, reader, version):
+    def __init__(self, reader, version, texts):
+        if version == 5:
+            reader.at += 2  # the sizes of an address and of a segment selector
         length = reader.take("I")
         start = reader.at + length
         self.step = reader.take("B")
-        if version == 4:
+        if version >= 4:
             reader.take("B")
         reader.take("B")
         self.base, self.span, self.special = reader.take("b"), reader.take("B"), reader.take("B")
         self.lengths = [reader.take("B") for _ in range(self.special - 1)]
+        if version == 5:
+            self.folders = [name for name, _ in listed(reader, texts)]
+            self.files = [os.path.join(self.folders[folder] if folder < len(self.folders) else "", name) for name, folder in listed(reader, texts)]
+            reader.at = start
+            return
         self.folders = [""]
         while folder := reader.text():
             self.folders.append(folder)
@@ -113,9 +155,9 @@ class Place:
         return self.head.files[self.file] if self.file < len(self.head.files) else ""
 
 
-def unit_rows(reader, end, version):
+def unit_rows(reader, end, version, texts):
     """Yields the rows of one line table: each reaches up to the next one, or to the end of its sequence."""
-    head = Header(reader, version)
+    head = Header(reader, version, texts)
     place, last = Place(head), None
     while reader.at < end:
         code = reader.take("B")
@@ -167,7 +209,7 @@ class Lines:
         self.has_vectors = elf.all.get("__vectors") == 0
         self.places = {}
         try:
-            self.hold(dwarf_rows(elf.section(".debug_line")))
+            self.hold(dwarf_rows(*(elf.section(it) for it in (".debug_line", ".debug_str", ".debug_line_str"))))
             self.hold(stab_rows(elf.section(".stab"), elf.section(".stabstr"), lambda at: elf.extent(elf.symbol_at(at))[1]))
         except (struct.error, ValueError, IndexError):
             pass  # damaged debug information tells what was read so far

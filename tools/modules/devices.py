@@ -55,6 +55,16 @@ REGISTERS = {
 }
 NAME_OF = {address: name for name, address in REGISTERS.items()}
 
+# The register and the bit that enable each vector: from INT0 on, by number.
+ENABLES = dict(enumerate([
+    ("EIMSK", 0), ("EIMSK", 1), ("PCICR", 0), ("PCICR", 1), ("PCICR", 2), ("WDTCSR", 6), ("TIMSK2", 1), ("TIMSK2", 2), ("TIMSK2", 0), ("TIMSK1", 5),
+    ("TIMSK1", 1), ("TIMSK1", 2), ("TIMSK1", 0), ("TIMSK0", 1), ("TIMSK0", 2), ("TIMSK0", 0), ("SPCR", 7), ("UCSR0B", 7), ("UCSR0B", 5), ("UCSR0B", 6),
+    ("ADCSRA", 3), ("EECR", 3), ("ACSR", 3), ("TWCR", 0), ("SPMCSR", 7),
+], start=2))
+MASKS = frozenset(REGISTERS[name] for name, _ in ENABLES.values())  # addresses of registers that enable interrupts
+MCUCR, IVSEL = 0x55, 1  # the register that moves the vectors, and its bit
+WITHOUT_IVSEL = ("atmega48pa",)
+
 
 def device_of(elf, path, asked):
     """The device that the file was linked for, and the one as which it is taken."""

@@ -10,7 +10,7 @@ def edges(graph):
     return sorted({(it.name, graph.instances[entry.other].name, entry.is_interrupt) for it in graph.instances for entry in it.entries.values()})
 
 
-def text(outcome, graph, found):
+def text(graph, found):
     lines = ["digraph stack {", "  rankdir=LR;", '  node [shape=box, style=filled, fontname="Helvetica", fillcolor="#dce8f5"];']
     for it in found:
         colour = ', fillcolor="#f8dcc4"' if it.is_handler else ""

@@ -8,7 +8,7 @@ FLASH = 0x8000  # bytes
 CODE_END = 0x800000  # from here on addresses are of data
 SRAM, EEPROM = 0x800100, 0x810000  # where sections of data in SRAM begin, and what lies behind them
 ALLOCATED = 2  # a flag of sections that take memory
-FUNCTION, FILE_NAME = 2, 4  # types of symbols
+OBJECT, FUNCTION, FILE_NAME = 1, 2, 4  # types of symbols
 ABSOLUTE = 0xFFF1  # the section number of symbols that are no place in a section
 BOUNDS = ("__ctors_", "__dtors_", "__trampolines_", "__vector_default", "_etext", "__TEXT_REGION", "__data_load")  # the linker's own marks
 
@@ -48,7 +48,8 @@ def what_else(data):
 
 
 class Elf:
-    """`path` is the file's name, `flash` has 32,768 bytes (FF where nothing is placed), `code` the symbols of code by address, `all` the addresses of all names."""
+    """`path` is the file's name, `flash` has 32,768 bytes (FF where nothing is placed), `code` the symbols of code by address, `all` the addresses of all names,
+    `objects` address and size of those of data."""
 
     def __init__(self, path):
         self.path, self.lines, self.inlined = path, None, None
@@ -86,7 +87,7 @@ class Elf:
         return b"" if header is None or header[1] == 8 else self.data[header[4]:header[4] + header[5]]
 
     def read_symbols(self):
-        self.code, self.all = [], {}
+        self.code, self.all, self.objects = [], {}, {}
         file = ""
         for table in (it for it in self.headers if it[1] == 2):
             names = self.headers[table[6]][4]
@@ -97,6 +98,8 @@ class Elf:
                     file = name
                 elif name and section:
                     self.all.setdefault(name, address)
+                    if kind == OBJECT:
+                        self.objects[name] = address, size
                     if address < CODE_END and section != ABSOLUTE and kind in (0, FUNCTION) and not name.startswith((".", *BOUNDS)):
                         self.code.append(Symbol(name, address, size, kind == FUNCTION, file if info >> 4 == 0 else ""))
         self.code.sort(key=lambda it: (it.address, not it.is_function, it.name))

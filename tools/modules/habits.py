@@ -3,7 +3,13 @@
 import argparse
 import os
 import sys
+import traceback
 
+from devices import Misuse
+from elf import NoElf
+from program import NoProgram
+
+FAULTS = (Misuse, NoElf, NoProgram, OSError, UnicodeDecodeError)  # what is told in words, with status 3
 HERE = os.path.dirname(os.path.realpath(__file__))
 DONE, MISUSE, INTERRUPTED, CLOSED_PIPE = 0, 3, 130, 141
 
@@ -56,8 +62,19 @@ class Words(argparse.ArgumentParser):
         sys.exit(MISUSE)
 
 
+def nowhere():
+    """Lets what is still printed go nowhere, so that Python's own last write can't fail."""
+    os.dup2(os.open(os.devnull, os.O_WRONLY), sys.stdout.fileno())
+
+
+def of_itself(fault):
+    """A fault of the tool itself, with its place."""
+    last = traceback.extract_tb(fault.__traceback__)[-1]
+    return f"a fault of this tool itself, and no answer: {type(fault).__name__}: {fault} ({os.path.basename(last.filename)}:{last.lineno})"
+
+
 def run(main):
-    """Calls a tool's `main` and ends with its status; a closed pipe and an interrupt from the keyboard end without a trace of the calls."""
+    """Calls a tool's `main` and ends with its status; a closed pipe, an interrupt from the keyboard and a fault end without a trace of the calls."""
     try:
         try:
             status = main()
@@ -65,9 +82,16 @@ def run(main):
             status = end.code
         sys.stdout.flush()
     except BrokenPipeError:
-        os.dup2(os.open(os.devnull, os.O_WRONLY), sys.stdout.fileno())
+        nowhere()
         status = CLOSED_PIPE
     except KeyboardInterrupt:
-        os.dup2(os.open(os.devnull, os.O_WRONLY), sys.stdout.fileno())
+        nowhere()
         status = INTERRUPTED
+    except OSError as fault:
+        nowhere()
+        print(f"{os.path.basename(sys.argv[0])}: {in_words(fault)}", file=sys.stderr)
+        status = MISUSE
+    except Exception as fault:  # any other status would say something of the firmware
+        print(f"{os.path.basename(sys.argv[0])}: {of_itself(fault)}", file=sys.stderr)
+        status = MISUSE
     sys.exit(status)

@@ -25,7 +25,7 @@ def bound_without(outcome, assumed, word, folder):
     paths = [os.path.join(folder, name) for name in ("never.assume", "never.cert")]
     with open(paths[0], "w", encoding="ascii") as file:
         file.write(with_never(assumed, word))
-    program = Program(outcome.path, outcome.device.name, paths[0])
+    program = Program(outcome.firmware.path, outcome.firmware.device.name, paths[0])
     status, text = program.call("analyse")
     if status != OK:
         return None
@@ -37,7 +37,7 @@ def bound_without(outcome, assumed, word, folder):
 
 def costs(outcome, assumed, vectors, folder):
     """What each of these vectors costs, the dearest first."""
-    found = [Cost(outcome.handler(it), bound_without(outcome, assumed, outcome.device.vector_word(it), folder)) for it in vectors]
+    found = [Cost(outcome.firmware.handler(it), bound_without(outcome, assumed, outcome.firmware.device.vector_word(it), folder)) for it in vectors]
     return sorted(found, key=lambda it: (outcome.bound if it.without is None else it.without, it.name))
 
 

@@ -1,12 +1,10 @@
 """The lines of an assumption file by site and kind, and the line of a spec that says the same by names."""
 
-import re
-
 import opcodes
 from devices import NAME_OF, VECTORS
 from names import SpecFault, function, shown
 from sites import SITES, STORES
-from spec import KINDS, MOST_ITEMS, NOWHERE, PAIRS, Spec, assumption_line
+from spec import KINDS, MASKS, MOST_ITEMS, NOWHERE, PAIRS, Spec, assumption_line, words_of
 
 
 class Lines:
@@ -51,6 +49,9 @@ class Lines:
         """Adds the line `pairs`, at the head of all others."""
         return self.add(NOWHERE, PAIRS)
 
+    def has_masks(self):
+        return self.has(NOWHERE, MASKS)
+
     def put(self, site, kind, items):
         self.items[site, KINDS.index(kind)] = set(items)
 
@@ -82,7 +83,7 @@ def is_named(elf, name, symbol):
 def name_of(elf, symbol):
     """The name by which a spec finds a function; None where it has none of its own."""
     names = (shown(symbol), symbol.name, f"{symbol.file}:{symbol.name}")
-    return next((it for it in names if not re.search(r"\s", it) and is_named(elf, it, symbol)), None)
+    return next((it for it in names if "#" not in it and len(words_of(it)) == 1 and is_named(elf, it, symbol)), None)
 
 
 def item_of(elf, kind, item):

@@ -2,7 +2,9 @@
 
 import json
 
+import verdict
 from habits import version
+from outcome import Refused
 
 
 def cause(it):
@@ -11,31 +13,33 @@ def cause(it):
 
 def place(it):
     return {"source": it.path, "line": it.source[1] if it.source else None, "title": it.title, "text": it.code, "words": [f"{word:04X}" for word in it.words],
-            "may": cause(it.cause), "closed_by": it.closers, "judged": it.judged.why if it.judged else None}
+            "kind": sorted(set(it.kinds.values())), "ordinary": it.is_ordinary(), "may": cause(it.cause), "closed_by": it.closers,
+            "judged": it.judged.why if it.judged else None}
 
 
 def versions(outcome):
-    return {"stackcheck": version(), "certificate": outcome.certificate.split("\n", 1)[0] if outcome.certificate else None}
+    return {"stackcheck": version(), "certificate": None if isinstance(outcome, Refused) else outcome.certificate.split("\n", 1)[0]}
 
 
 def common(outcome):
-    return {"firmware": outcome.path, "device": outcome.device.name, "linked_for": outcome.linked_for, "versions": versions(outcome),
+    firmware = outcome.firmware
+    return {"firmware": firmware.path, "device": firmware.device.name, "linked_for": firmware.linked_for, "versions": versions(outcome),
             "given": outcome.assumed.splitlines(),
-            "assumed": [{"spec": it.spec, "line": it.words, "place": it.place} for it in getattr(outcome, "written", [])]}
+            "assumed": [{"spec": it.spec, "line": it.words, "place": it.place} for it in outcome.written]}
 
 
 def refused(outcome):
-    return {"bound": None, "refusal": {"text": outcome.refusal, "places": outcome.places_of_refusal, "cause": outcome.cause, "cure": outcome.cure,
-                                       "spec": getattr(outcome, "cure_lines", [])}, "needs": []}
+    return {"bound": None, "refusal": {"text": outcome.refusal, "places": outcome.places, "cause": outcome.cause, "reasons": outcome.reasons, "cure": outcome.cure,
+                                       "spec": outcome.cure_lines}, "needs": []}
 
 
 def accepted(outcome):
     found = {
-        "bound": outcome.bound, "witness": outcome.witness, "seen": getattr(outcome, "seen", None), "flagged": getattr(outcome, "flagged", None),
-        "room": outcome.room, "margin": outcome.room - outcome.bound, "keeps": outcome.keeps, "rule": outcome.rule or None, "refusal": None,
+        "bound": outcome.bound, "holds": verdict.holds(outcome), "witness": outcome.witness, "seen": outcome.seen, "flagged": outcome.flagged,
+        "heap": outcome.heap, "room": outcome.room, "margin": outcome.room - outcome.bound, "keeps": outcome.keeps, "rule": outcome.rule or None, "refusal": None,
         "chain": [{"adds": it.count, "place": it.text} for it in outcome.chain],
         "needs": [{"name": it.name, "own": it.own, "calls": it.calls, "interrupts": it.all, "handler": it.is_handler} for it in outcome.table],
-        "places": None if outcome.places is None else [place(it) for it in outcome.entries]}
+        "places": None if outcome.premises is None else [place(it) for it in outcome.entries]}
     if outcome.costs is not None:
         found["interrupts"] = [{"name": it.name, "without": it.without} for it in outcome.costs]
     if outcome.difference:
@@ -45,4 +49,4 @@ def accepted(outcome):
 
 
 def text(outcome):
-    return json.dumps({**common(outcome), **(refused(outcome) if outcome.refusal else accepted(outcome))}, indent=1) + "\n"
+    return json.dumps({**common(outcome), **(refused(outcome) if isinstance(outcome, Refused) else accepted(outcome))}, indent=1) + "\n"

@@ -1,54 +1,65 @@
 """Looks for the lines of an assumption file under which a firmware has a bound that no trial run shows to be empty.
 
-Each line is safe: `pairs` and `frame` assume nothing; a run that leaves the targets of a `jump` line, writes a register that no `store` line
-lists, or takes the vector of a `never` line is flagged there, and `premises` lists these places; a line that lists too much costs bytes of the
-bound at most.
-`at_refusal` says which function writes lines for which refusal.
+Each line is safe: `pairs`, `masks` and `frame` assume nothing; a run that leaves the targets of a `jump` line, writes a register that no `store`
+line lists, or takes the vector of a `never` line is flagged there, and `premises` lists these places; a line that lists too much costs bytes of
+the bound at most.
+`at_refusal` says which function writes lines for which refusal, `add_own` which lines a list of places asks for.
 """
 
 import os
+from typing import Callable, Dict, Iterable, List, Optional, Set, Tuple
 
 import candidates
+import causes
 import opcodes
 from cures import REFUSAL
-from devices import VECTORS
+from devices import MASKS as ENABLING, VECTORS
+from firmware import Firmware
 from lines import Lines
-from program import OK, REFUSED, NoProgram, Program
+from node_values import Nodes
+from program import DEVICES, OK, REFUSED, NoProgram, Program
 from sites import frames_of
-from spec import is_unhandled
-from trials import Trials, handled
+from spec import MASKS, NOWHERE, is_unhandled
+from trials import Run, Stop, Trials, handled
 
 ROUNDS = 64
+MOST_TRIED = 8  # lines that are tried one by one where they aren't accepted together
 TABLES = "__tablejump2__"
+R0 = 0  # a register that no compiled store means
 
 
 class Analysis:
     """Calls of the program on a firmware under lines, which may grow."""
 
-    def __init__(self, outcome, folder, text):
-        self.outcome, self.folder, self.lines = outcome, folder, Lines(text)
-        self.elf, self.device = outcome.elf, outcome.device
+    def __init__(self, firmware: Firmware, folder: str, text: str) -> None:
+        self.firmware, self.folder, self.lines = firmware, folder, Lines(text)
+        self.elf, self.device = firmware.elf, firmware.device
 
-    def program(self, lines=None):
+    def program(self, lines: Optional[Lines] = None) -> Program:
         """The program under the lines so far, or under others."""
         path = os.path.join(self.folder, "assumptions")
         text = (lines or self.lines).text()
         with open(path, "w", encoding="ascii") as file:
             file.write(text)
-        return Program(self.outcome.path, self.device.name, path if text else None)
+        return Program(self.firmware.path, self.device.name, path if text else None)
 
-    def analyse(self, lines=None):
+    def analyse(self, lines: Optional[Lines] = None) -> Tuple[bool, str]:
         """Whether there is a certificate, and the text of it or of the refusal."""
         status, text = self.program(lines).call("analyse")
         if status not in (OK, REFUSED):
             raise NoProgram(f"analyse: status {status}: {text.strip()}")
         return status == OK, text
 
-    def trials(self, folder):
-        """Trial runs that take each vector that has a handler and no `never` line."""
-        return Trials(self.program(), folder, [it for it in handled(self.elf, self.device) if not self.lines.has(self.device.vector_word(it), "never")])
+    def trials(self, folder: str) -> Trials:
+        """Trial runs that take each vector that has a handler, and each that a `never` line of this tool names."""
+        has_handler, vectors = handled(self.elf, self.device), []
+        for vector in VECTORS:
+            word = self.device.vector_word(vector)
+            if not self.lines.is_given(word, "never") and (vector in has_handler or self.lines.has(word, "never")):
+                vectors.append(vector)
+        return Trials(self.program(), folder, self.elf, self.device, vectors)
 
-    def admit(self, stop):
+    def admit(self, stop: Stop) -> Optional[str]:
         """The kind of the line that admits a stop, which is added; None where no line may."""
         if stop.kind == "live" or stop.kind == "transfer" and self.lines.has(stop.other, "never"):
             return None
@@ -66,58 +77,221 @@ class Analysis:
 class Mending(Analysis):
     """Adds lines until nothing changes. `refusal` is the last one, or None; `stop` the flagged step of a trial run that no line admits, or None."""
 
-    def __init__(self, outcome, folder, text, count):
-        super().__init__(outcome, folder, text)
-        self.count, self.refusal, self.certificate, self.stop, self.deepest = count, None, None, None, None
-        self.pinned = set()  # sites and targets that a trial run went to
-        self.notes = []
+    def __init__(self, firmware: Firmware, folder: str, text: str, count: Optional[int]) -> None:
+        super().__init__(firmware, folder, text)
+        self.count = count
+        self.refusal: Optional[str] = None
+        self.certificate: Optional[str] = None
+        self.stop: Optional[Stop] = None
+        self.deepest: Optional[int] = None
+        self.deepest_run: Optional[Run] = None
+        self.pinned: Set[Tuple[int, int]] = set()  # sites and targets that a trial run went to
+        self.tried: Set[Tuple[int, str]] = set()  # lines under which no bound was found
+        self.notes: List[Tuple[int, str]] = []
+        self.before_masks = self.lines
 
-    def copy(self):
+    def copy(self) -> "Mending":
         """The same with lines of its own, for a look at what another step would do."""
-        other = Mending(self.outcome, self.folder, "", self.count)
-        other.lines, other.pinned, other.refusal = self.lines.copy(), set(self.pinned), self.refusal
+        other = Mending(self.firmware, self.folder, "", self.count)
+        other.lines, other.pinned, other.tried = self.lines.copy(), set(self.pinned), set(self.tried)
+        other.refusal, other.certificate = self.refusal, self.certificate
         return other
 
-    def run(self, is_plain):
-        """Analyses and tries the firmware, with lines of its own, of which `pairs` is the first, unless it is asked for plain answers."""
-        begin = 0
-        if not is_plain:
-            self.lines.add_pairs()
-        for left in range(ROUNDS, -1, -1):
-            is_accepted, text = self.analyse()
-            self.refusal, self.certificate, self.stop = (None, text, None) if is_accepted else (text.strip(), None, None)
-            if is_accepted:
-                begin = self.try_from(begin)
-            if not left or is_plain or not (self.at_stop() if is_accepted else self.at_refusal(self.refusal)):
-                break
-        if self.certificate and not is_plain:
+    def run(self, is_plain: bool) -> None:
+        """Analyses and tries the firmware, with lines of its own unless it is asked for plain answers."""
+        if is_plain:
+            self.analyse_once()
+            if self.certificate:
+                self.try_from(0)
+            return
+        self.lines.add_pairs()
+        if self.begin_with_masks():
+            self.mend()
+            if self.refusal:
+                self.without_masks()
+        else:
+            self.mend()
+        if self.certificate and not self.lines.has_masks():
             self.trim()
 
-    def try_from(self, begin):
-        """Trial runs from a number on, and all of them where none is flagged; the number of the first that is."""
+    def analyse_once(self) -> bool:
+        is_accepted, text = self.analyse()
+        self.refusal, self.certificate, self.stop = (None, text, None) if is_accepted else (text.strip(), None, None)
+        return is_accepted
+
+    def settle(self) -> bool:
+        """Analyses the firmware and adds lines for refusals until there is a bound or nothing helps; whether there is a bound."""
+        for _ in range(ROUNDS):
+            if self.analyse_once():
+                return True
+            if not self.at_refusal(self.refusal):
+                return False
+        return False
+
+    def mend(self) -> None:
+        """Adds lines for refusals, for places and for what trial runs show, until nothing changes."""
+        begin = 0
+        for _ in range(ROUNDS):
+            if not self.certificate and not self.settle():
+                return
+            if self.add_own():
+                continue
+            begin = self.try_from(begin)
+            if not self.at_stop():
+                return
+            self.certificate = None
+
+    def begin_with_masks(self) -> bool:
+        """Writes `masks`, with `never` lines for the vectors that have no handler, where the program knows the line; whether it does."""
+        if self.lines.has_masks():
+            return False
+        self.before_masks = self.lines.copy()
+        self.lines.add(NOWHERE, MASKS)
+        self.add_never()
+        status, _ = self.program().call("simulate", os.devnull)  # which reads the assumption file first
+        if status != DEVICES:
+            self.lines = self.before_masks
+        return status == DEVICES
+
+    def without_masks(self) -> None:
+        """Where the line `masks` alone leads to a refusal: takes it back at the stores that lead there, or leaves it out."""
+        plain = self.copy()
+        plain.lines, plain.tried = self.before_masks.copy(), set()
+        plain.certificate = plain.refusal = None
+        plain.mend()
+        if plain.refusal:
+            self.use(plain)
+            return
+        wild = set(plain.wild_stores())
+        for sites in self.groups(wild):
+            partly = plain.copy()
+            partly.lines.add(NOWHERE, MASKS)
+            partly.add_never()
+            for site in sites:
+                partly.lines.add(site, "store", {R0})
+            partly.certificate = partly.refusal = None
+            partly.mend()
+            if not partly.refusal:
+                self.use(partly)
+                return
+        self.use(plain)
+
+    def groups(self, wild: Set[int]) -> Iterable[Set[int]]:
+        """Stores that may lead to a refusal of handlers: those of the handler that is named with what it calls, then those of all handlers."""
+        found = REFUSAL.match(self.refusal or "")
+        entry = opcodes.jump_target(self.elf, int(found[4], 16)) if found and found[1] == "3" and found[4] else None
+        entries = [] if entry is None else [{entry}]
+        entries.append({it for it in (opcodes.jump_target(self.elf, self.device.vector_word(vector)) for vector in VECTORS) if it is not None})
+        last: Set[int] = set()
+        for begins in entries:
+            reached = set(begins).union(*(candidates.reached(self.elf, it) for it in begins))
+            sites = {it for it in wild if (symbol := self.elf.symbol_at(2 * it)) and symbol.address // 2 in reached}
+            if sites and sites != last:
+                yield sites
+                last = sites
+
+    def use(self, other: "Mending") -> None:
+        """Goes on with what another look has found."""
+        self.lines, self.pinned, self.tried, self.notes = other.lines, other.pinned, other.tried, other.notes
+        self.refusal, self.certificate, self.stop = other.refusal, other.certificate, other.stop
+        self.deepest, self.deepest_run = other.deepest, other.deepest_run
+
+    def told(self) -> Optional[List[str]]:
+        """What `premises --why` lists of the certificate; None where the program has no such command."""
+        path = os.path.join(self.folder, "told")
+        with open(path, "w", encoding="ascii") as file:
+            file.write(self.certificate or "")
+        lines = self.program().lines("premises", path, "--why")
+        return None if lines is None else lines[1:]
+
+    def wild_stores(self) -> List[int]:
+        """The words of stores that may write a register that enables interrupts."""
+        return [word for word, it in causes.by_word(self.told() or []).items() if it.addresses and (it.more or it.addresses & ENABLING)]
+
+    def add_own(self) -> bool:
+        """Adds lines that the list of places asks for: `prove` where a pointer is one constant, `store` where it may be few registers; whether one was."""
+        told = causes.by_word(self.told() or [])
+        if not told:
+            return False
+        nodes = Nodes(self.elf, self.certificate)
+        fixed = [word for word, it in told.items() if it.addresses and nodes.fixed(word) and self.is_open(word, "prove")]
+        if self.add_all(fixed, "prove", {}):
+            return True
+        few = {word: it.addresses for word, it in told.items()
+               if it.is_few() and (len(it.addresses) == 1 or it.addresses <= ENABLING) and self.is_open(word, "store", it.addresses)}
+        return self.add_all(sorted(few), "store", few)
+
+    def is_open(self, word: int, kind: str, items: Iterable[int] = ()) -> bool:
+        """Whether a line may be added at a store, and wasn't tried before."""
+        others = ("free", "prove") if kind == "store" else ("free", "prove", "store")
+        return (word, kind) not in self.tried and not any(self.lines.has(word, it) for it in others) and self.lines.may_add(word, kind, items)
+
+    def add_all(self, sites: List[int], kind: str, items: Dict[int, Set[int]]) -> bool:
+        """Adds lines of a kind at these sites, all together or else those that are accepted one by one; whether one was added."""
+        if not sites:
+            return False
+
+        def add(chosen: Iterable[int]) -> Callable[[Lines], None]:
+            return lambda lines: [lines.add(it, kind, items.get(it, ())) for it in chosen] and None
+
+        self.tried |= {(it, kind) for it in sites}
+        if self.attempt(add(sites)):
+            return True
+        return len(sites) > 1 and any([self.attempt(add([it])) for it in sites[:MOST_TRIED]])
+
+    def attempt(self, change: Callable[[Lines], None]) -> bool:
+        """Goes on with changed lines, and those that cure what comes of them, where there is a bound then."""
+        other = self.copy()
+        change(other.lines)
+        if not other.settle():
+            return False
+        other.stop, other.deepest, other.deepest_run = self.stop, self.deepest, self.deepest_run
+        self.use(other)
+        return True
+
+    def try_from(self, begin: int) -> int:
+        """Trial runs from a number on, and all of them where none asks for a line; the number of the first that does."""
         trials = self.trials(self.folder)
-        number, self.stop = trials.first_flagged(self.count, begin)
-        if begin and self.stop is None:
+        number, self.stop = begin, None
+        while True:
+            number, stop = trials.first_flagged(self.count, number)
+            if stop is None:
+                break
+            self.stop = self.stop or stop
+            if self.may_admit(stop):
+                self.stop = stop
+                break
+            number += 1
+        if begin and stop is None:
             return self.try_from(0)
-        self.deepest = trials.deepest
+        self.deepest, self.deepest_run = trials.deepest, trials.deepest_run
         return number
 
-    def at_stop(self):
+    def may_admit(self, stop: Stop) -> bool:
+        """Whether a line may admit a flagged step: not a write of a live byte, nor a transfer that no program means."""
+        if stop.kind == "live" or stop.kind == "transfer" and self.lines.has(stop.other, "never"):
+            return False
+        return stop.kind != "transfer" or candidates.may_be_entered(self.elf, stop.word, stop.other)
+
+    def at_stop(self) -> bool:
         """Adds the line that admits the flagged step of a trial run; whether there is one."""
-        if self.stop is None or self.stop.kind == "transfer" and not candidates.may_be_entered(self.elf, self.stop.word, self.stop.other):
+        if self.stop is None or not self.may_admit(self.stop):
             return False
         kind = self.admit(self.stop)
         if kind == "jump":
             self.pinned.add((self.stop.word, self.stop.other))
         return kind is not None
 
-    def at_refusal(self, text):
+    def at_refusal(self, text: str) -> bool:
         """Adds lines of the kind that most likely cures a refusal; whether something was added."""
         number, _, _, place, _ = REFUSAL.match(text).groups()
         word = int(place, 16) if place else None
         if number == "1":
-            return self.add_targets([word])
+            return self.add_targets([word, *candidates.indirect(self.elf)])
         if number == "8":
+            if self.lines.has(word, "prove") and not self.lines.is_given(word, "prove"):
+                self.lines.drop(word, "prove")
+                return True
             return self.add_free(word)
         if number == "4" and candidates.is_start_up(self.elf, word) and self.add_never():
             return True
@@ -125,7 +299,7 @@ class Mending(Analysis):
             return True
         return self.add_targets(candidates.indirect(self.elf)) or number == "2" and self.narrow() or number == "3" and self.add_proofs(word, text)
 
-    def add_targets(self, sites):
+    def add_targets(self, sites: Iterable[int]) -> bool:
         """A `jump` line with all that is known for each of these sites that has none."""
         is_new = False
         for site in sites:
@@ -138,7 +312,7 @@ class Mending(Analysis):
                 self.notes.append((site, f"{len(found)} functions may be called here, and a line has at most 64"))
         return is_new
 
-    def narrow(self):
+    def narrow(self) -> bool:
         """Takes from the `jump` lines of this tool what leads back to where it is called from; whether something was taken."""
         is_new = False
         for site, kind in self.lines.written():
@@ -152,10 +326,10 @@ class Mending(Analysis):
                 is_new = True
         return is_new
 
-    def add_free(self, site):
+    def add_free(self, site: int) -> bool:
         return not self.lines.has(site, "prove") and self.lines.add(site, "free")
 
-    def add_proofs(self, vector, text):
+    def add_proofs(self, vector: int, text: str) -> bool:
         """`prove` lines for the stores of a handler whose pointers the analysis knows then, where another answer comes of it than the refusal's text."""
         symbol = self.elf.symbol_at(2 * (opcodes.jump_target(self.elf, vector) or 0))
         sites = opcodes.sites(self.elf, symbol, opcodes.is_pointer_store) if symbol else []
@@ -174,23 +348,20 @@ class Mending(Analysis):
         self.lines = proved
         return True
 
-    def add_never(self):
+    def add_never(self) -> bool:
         """A `never` line for each vector that leads to the compiler's default, which begins the program anew."""
         found = [self.device.vector_word(it) for it in VECTORS if is_unhandled(self.elf, self.device, it)]
         return any([self.lines.add(it, "never") for it in found])
 
-    def add_frames(self):
+    def add_frames(self) -> bool:
         """`frame` lines where a function gives its frame back in a way that isn't followed without them."""
         found = {it for symbol in candidates.with_whole(self.elf).code for it in frames_of(self.elf, symbol)}
         return any([self.lines.add(it, "frame") for it in sorted(found)])
 
-    def trim(self):
+    def trim(self) -> None:
         """Drops the `never` lines of this tool that no node needs, as `premises` tells."""
         written = {site for site, kind in self.lines.written() if kind == "never"}
-        certificate = os.path.join(self.folder, "trimmed")
-        with open(certificate, "w", encoding="ascii") as file:
-            file.write(self.certificate)
-        told = self.program().lines("premises", certificate) if written else None
+        told = self.told() if written else None
         if told is None:
             return
         fewer = self.lines.copy()

@@ -4,12 +4,18 @@ import difflib
 import re
 
 from cxx_names import qualified, without_parameters, written
+from devices import VECTORS
 
+HANDLERS = {name: f"__vector_{number - 1}" for number, name in VECTORS.items()}  # the functions of handlers, by the names of their vectors
 CLONE = re.compile(r"(\.(part|constprop|isra|lto_priv|cold)(\.\d+)?|\.\d+)+$")  # what the compiler puts behind the name of a function that it has copied or cut
 
 
 class SpecFault(Exception):
     """A line of a spec that says nothing of this firmware; the text has the line's number."""
+
+
+class Missing(SpecFault):
+    """A function that isn't in this build."""
 
 
 def base(name):
@@ -60,7 +66,8 @@ def of_cxx(elf, name):
 
 
 def named(elf, name):
-    """The symbols that a name means, and its clones: those of this name, else those of C++ that are written so."""
+    """The symbols that a name means, and its clones: those of this name, else those of C++ that are written so. A vector's name means its handler."""
+    name = HANDLERS.get(name, name)
     found = elf.named(name)
     file, _, own = name.rpartition(":") if "::" not in name else ("", "", name)
     clones = [it for it in elf.code if it.name != own and base(it.name) == own and (not file or it.file in (file, ""))]
@@ -74,7 +81,7 @@ def functions(elf, name):
     """The symbols of a function: its own and its clones', one for each address."""
     own, clones = named(elf, name)
     if not own and not clones:
-        raise SpecFault(f"there is no function {name}{near(elf, name)}")
+        raise Missing(f"there is no function {name}{near(elf, name)}")
     if len({it.address for it in own}) > 1 and len({written(base(it.name)) or it.name for it in own}) == 1 and len({it.file for it in own}) > 1:
         raise SpecFault(f"several functions are called {name}: write FILE:{name}, with one of {', '.join(sorted(it.file or '-' for it in own))}")
     if len({written(base(it.name)) for it in own}) > 1:

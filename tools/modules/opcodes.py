@@ -101,3 +101,42 @@ def pair_loaded(elf, word):
         byte = lambda opcode: opcode & 15 | (opcode >> 4) & 0xF0  # noqa: E731
         return -(byte(low) | byte(high) << 8) % 0x10000
     return None
+
+
+def is_lpm(opcode):
+    return opcode == 0x95C8 or opcode & 0xFE0E == 0x9004
+
+
+def is_lds(opcode, register):
+    """Whether an instruction loads a register from a fixed address."""
+    return opcode == 0x9000 | register << 4
+
+
+def table_added(elf, word):
+    """The number that a pair of `subi`, `sbci` (or `ldi`, `ldi`) at a word adds to a pair of registers, or loads; None where these aren't there."""
+    low, high = elf.word(word), elf.word(word + 1)
+    byte = lambda opcode: opcode & 15 | opcode >> 4 & 0xF0  # noqa: E731
+    if (low >> 4 & 15) + 1 != high >> 4 & 15 or low >> 4 & 1:
+        return None
+    if low & 0xF000 == 0x5000 and high & 0xF000 == 0x4000:
+        return -(byte(low) | byte(high) << 8) % 0x10000
+    return byte(low) | byte(high) << 8 if is_ldi(low) and is_ldi(high) else None
+
+
+def displacement(opcode, register):
+    """The displacement with which a register is loaded through Y or Z, 0 for `ld r, Z` and `ld r, Z+`; None of another instruction."""
+    if opcode >> 4 & 31 != register:
+        return None
+    if opcode & 0xD200 == 0x8000:
+        return opcode & 7 | opcode >> 7 & 0x18 | opcode >> 8 & 0x20
+    return 0 if opcode & 0xFE0F == 0x9001 else None
+
+
+def slot_loaded(words):
+    """The slot of a table from which a transfer's pointer is loaded, by the instructions before it, the last one first; None where it isn't so loaded."""
+    if len(words) >= 3 and words[0] == 0x2DE0:  # mov r30, r0
+        high, low = displacement(words[1], 31), displacement(words[2], 0)
+        steps = words[2] & 0xFE0F == 0x9001  # `ld r0, Z+`, behind which the high byte is at Z
+        if low is not None and high == (low if steps else low + 1):
+            return low // 2
+    return None

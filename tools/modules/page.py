@@ -5,6 +5,9 @@ from html import escape
 
 import flame
 import needs
+import verdict as verdicts
+from outcome import Refused
+from places import unjudged
 
 STYLE = """
 body { font: 15px/1.5 system-ui, "Segoe UI", Helvetica, Arial, sans-serif; color: #1d2430; background: #fff; max-width: 64rem; margin: 2rem auto; padding: 0 1.2rem; }
@@ -51,7 +54,7 @@ def keys(parts):
 
 def memory(outcome):
     """SRAM from its first byte to its last: static data, what is left, the stack."""
-    device = outcome.device
+    device = outcome.firmware.device
     static, left = device.sram() - outcome.room, outcome.room - outcome.bound
     if left >= 0:
         parts = [(static, STATIC, "static data"), (left, LEFT, "left"), (outcome.bound, STACK, "stack, at most")]
@@ -114,9 +117,10 @@ def place_row(it):
 
 def places(outcome):
     """The places that must be judged, and those that were."""
-    if outcome.places is None:
+    if outcome.premises is None:
         return
-    yield f"<h2>Where a step may be flagged<small>{len(outcome.unjudged)} of {len(outcome.entries)} not judged</small></h2>"
+    yield (f"<h2>Where a step may be flagged<small>{len(unjudged(outcome, False))} to review, {len(outcome.entries)} in all, "
+           f"{sum(it.judged is not None for it in outcome.entries)} judged</small></h2>")
     if not outcome.entries:
         yield "<p>Nowhere: the bound holds of every run.</p>"
         return
@@ -139,22 +143,20 @@ def changes(outcome):
 
 def verdict(outcome):
     """The colour of a bound, and what is wrong with it."""
-    if getattr(outcome, "flagged", None):
+    if outcome.flagged:
         return "red", f"this bound may say nothing: {outcome.flagged}"
     if not outcome.keeps:
         return "red", f"too deep ({outcome.rule})"
     if outcome.grows_too_much:
         return "red", f"it has grown by {outcome.difference.grown()} bytes"
-    if outcome.places is None:
-        return "amber", "fits; the places where a step may be flagged aren't listed"
-    if outcome.unjudged:
-        return "amber", f"fits, where the places below keep it: {len(outcome.unjudged)} of {len(outcome.entries)} aren't judged"
-    return "green", "fits, and each place where a step may be flagged was judged" if outcome.entries else "fits, in every run"
+    is_amber = outcome.premises is None or unjudged(outcome, False)
+    text = verdicts.holds(outcome)
+    return "amber" if is_amber else "green", f"fits; the bound {'' if text.startswith('holds') else 'holds '}{text}"
 
 
 def accepted(outcome):
     colour, text = verdict(outcome)
-    seen = getattr(outcome, "seen", None)
+    seen = outcome.seen
     yield (f'<p class="verdict {colour}"><b>{outcome.bound} bytes</b> at most ({outcome.witness}){"" if seen is None else f", {seen} seen"}; '
            f"{outcome.room} bytes of room, {outcome.room - outcome.bound} left: {with_code(text)}</p>")
     yield from memory(outcome)
@@ -169,16 +171,17 @@ def accepted(outcome):
 
 def refused(outcome):
     yield f'<p class="verdict red">There is no bound: <code>{escape(outcome.refusal)}</code></p><dl>'
-    rows = [("Place", "; ".join(outcome.places_of_refusal) or "none"), ("Usual cause", outcome.cause), ("What helps", outcome.cure)]
-    rows += [("Lines for a spec", "; ".join(f"`{it}`" for it in outcome.cure_lines))] if getattr(outcome, "cure_lines", None) else []
+    rows = [("Place", "; ".join(outcome.places) or "none"), ("Usual cause", outcome.cause), *([("Here", "; ".join(outcome.reasons))] if outcome.reasons else []), ("What helps", outcome.cure)]
+    rows += [("Lines for a spec", "; ".join(f"`{it}`" for it in outcome.cure_lines))] if outcome.cure_lines else []
     yield from (f"<dt>{name}</dt><dd>{with_code(text)}</dd>" for name, text in rows)
     yield "</dl>"
 
 
 def html(outcome):
-    name = escape(os.path.basename(outcome.path))
-    taken = f", linked for {outcome.linked_for}" if outcome.linked_for not in (None, outcome.device.name) else ""
+    firmware = outcome.firmware
+    name = escape(os.path.basename(firmware.path))
+    taken = f", linked for {firmware.linked_for}" if firmware.linked_for not in (None, firmware.device.name) else ""
     return "\n".join([
         '<!DOCTYPE html>', f'<html lang="en"><head><meta charset="utf-8"><title>Stack of {name}</title>', f"<style>{STYLE}</style></head><body>",
-        f"<h1>Stack of {name}</h1>", f'<p class="what">{escape(outcome.device.name)}{escape(taken)}</p>',
-        *(refused(outcome) if outcome.refusal else accepted(outcome)), "</body></html>", ""])
+        f"<h1>Stack of {name}</h1>", f'<p class="what">{escape(firmware.device.name)}{escape(taken)}</p>',
+        *(refused(outcome) if isinstance(outcome, Refused) else accepted(outcome)), "</body></html>", ""])

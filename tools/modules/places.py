@@ -1,11 +1,17 @@
-"""The places at which a step may be flagged, as they can be judged: by source lines, library functions, and the loops of the start-up code."""
+"""The places at which a step may be flagged, as they can be judged: by source lines, library functions, and the loops of the start-up code.
+
+A place is ordinary where a correct program may be flagged at it, one of memory safety where only a store that leaves its object is, and a given one
+where the spec itself says what may happen there.
+"""
 
 import os
 
 import debug_lines
 import sites
 from causes import Cause
+from devices import MASKS
 from elf import CODE_END, SRAM
+from node_values import Nodes
 from names import shown
 from spec import START_UP
 
@@ -13,6 +19,10 @@ MOST_WORDS = 4  # word addresses that one entry prints
 START = ("__do_clear_bss", "__do_copy_data")
 ST_X_R1, ST_X_R0 = 0x921D, 0x920D
 XL, XH = 26, 27
+CALLS, STORES, VECTORS, MOVES = "calls", "stores", "vectors", "moves"  # kinds of ordinary places
+SAFETY, GIVEN = "memory safety", "given"
+ORDINARY = (CALLS, STORES, VECTORS, MOVES)
+WORDS = {CALLS: "call", STORES: "store", VECTORS: "vector", MOVES: "write of MCUCR", SAFETY: "memory safety", GIVEN: "given line"}
 
 
 class Place:
@@ -20,10 +30,14 @@ class Place:
     a spec that close it, and the line that judges it."""
 
     def __init__(self, key, title, source=None):
-        self.key, self.title, self.source, self.words, self.judged = key, title, source, [], None
-        self.cause, self.closers = Cause(), []
+        self.key, self.title, self.source, self.words, self.judged, self.warned = key, title, source, [], None, []
+        self.cause, self.closers, self.kinds, self.may_enable = Cause(), [], {}, False
         self.path = readable(source[0]) if source else None
         self.code = line_of(self.path, source[1]) if source else None
+
+    def is_ordinary(self):
+        """Whether a correct program may be flagged here."""
+        return any(it in ORDINARY for it in self.kinds.values())
 
     def count(self):
         many = f"{len(self.words)} instruction{'' if len(self.words) == 1 else 's'}"
@@ -37,6 +51,7 @@ class Place:
         """Yields what may happen there, and the lines that close it."""
         if self.cause:
             yield str(self.cause)
+        yield from self.warned
         yield from (f"closed by: {it}" for it in self.closers)
 
     def __str__(self):
@@ -93,7 +108,7 @@ def start_up(elf, word):
 
 def entry_of(outcome, word, found):
     """The entry to which a word belongs, which is made with its first one."""
-    elf, filled = outcome.elf, start_up(outcome.elf, word)
+    elf, filled = outcome.firmware.elf, start_up(outcome.firmware.elf, word)
     symbol, source = elf.symbol_at(2 * word), debug_lines.of(elf).source(2 * word)
     if filled and not source and (symbol is None or symbol.name in START):
         entry = found.setdefault(START_UP, Place(START_UP, "start-up"))
@@ -106,27 +121,64 @@ def entry_of(outcome, word, found):
     return found.setdefault(name, Place(name, what))
 
 
-def put(outcome, entry, word):
+def may_enable(nodes, word, cause):
+    """Whether a store may write a register that enables interrupts, as far as the list or the certificate tells."""
+    return bool(cause.addresses & MASKS) or cause.more and any(nodes.may_write(word, it) for it in sorted(MASKS))
+
+
+def kind_of(outcome, nodes, word):
+    """What kind of place a word is, by what may happen there and by whose line speaks of it."""
+    cause, lines = outcome.causes.get(word, Cause()), outcome.own
+    if cause.transfer or not cause:
+        return GIVEN if lines.is_given(word, "jump") else CALLS
+    if not may_enable(nodes, word, cause):
+        return SAFETY
+    if lines.is_given(word, "store"):
+        return GIVEN
+    return SAFETY if lines.has_masks() and not lines.has(word, "store") else STORES
+
+
+def put(outcome, nodes, entry, word):
     """Notes a word and what may happen there in its entry."""
     entry.words.append(word)
+    entry.kinds[word] = kind_of(outcome, nodes, word)
+    entry.may_enable = entry.may_enable or entry.kinds[word] == SAFETY and bool(outcome.own.sites("never")) and may_enable(nodes, word, outcome.causes.get(word, Cause()))
     entry.cause.join(outcome.causes.get(word, Cause()))
     if word in outcome.closers:
         entry.closers.append(outcome.closers[word])
 
 
+def entry_of_vector(outcome, word):
+    """The entry of a vector that a `never` line names."""
+    vector = outcome.firmware.handler(outcome.firmware.device.vector_at(word))
+    is_given = outcome.own.is_given(word, "never")
+    entry = Place(vector, f"{vector}: " + ("a `never` line says that it isn't entered" if is_given else "it has no handler, and may be enabled"))
+    entry.kinds[word] = GIVEN if is_given else VECTORS
+    return entry
+
+
 def entries(outcome):
-    """The entries of what `premises` lists, in the order of their first words."""
-    found = {}
-    for line in outcome.places or ():
+    """The entries of what `premises` lists, in the order of their first words, and of writes that move the vectors."""
+    found, nodes = {}, Nodes(outcome.firmware.elf, outcome.certificate)
+    for line in outcome.premises or ():
         kind, word = line.split()[:2]
         if kind == "never":
-            vector = outcome.handler(outcome.device.vector_at(int(word, 16)))
-            found[vector] = Place(vector, f"{vector}: a `never` line says that it isn't entered")
+            found[line] = entry_of_vector(outcome, int(word, 16))
         elif kind == "at":
-            put(outcome, entry_of(outcome, int(word, 16), found), int(word, 16))
+            put(outcome, nodes, entry_of(outcome, int(word, 16), found), int(word, 16))
         else:
             found[line] = Place(line, line)
+    for word, text in outcome.warnings.items():
+        entry = entry_of(outcome, word, found)
+        entry.words += [] if word in entry.words else [word]
+        entry.kinds[word] = MOVES
+        entry.warned.append(text)
     return list(found.values())
+
+
+def count_of(outcome, kinds):
+    """How many places are of these kinds."""
+    return sum(it in kinds for entry in outcome.entries for it in entry.kinds.values())
 
 
 def words_of(elf, keep):
@@ -150,7 +202,7 @@ def judge(outcome, keeps):
     """Notes at each entry the line that judges it, and returns the lines that judge none."""
     idle = []
     for keep in keeps:
-        judged = [it for it in outcome.entries if is_of(outcome.elf, keep, it)]
+        judged = [it for it in outcome.entries if is_of(outcome.firmware.elf, keep, it)]
         for it in judged:
             it.judged = it.judged or keep
         if not judged:
@@ -158,20 +210,34 @@ def judge(outcome, keeps):
     return idle
 
 
-def unjudged(outcome):
-    return [it for it in outcome.entries if not it.judged]
+def unjudged(outcome, is_strict):
+    """The entries that have to be looked at and aren't judged: the ordinary ones, or all where it is asked for all."""
+    return [it for it in outcome.entries if not it.judged and (is_strict or it.is_ordinary())]
+
+
+def counted(outcome):
+    """How many places of each kind there are."""
+    kinds = [(kind, count_of(outcome, (kind,))) for kind in WORDS]
+    told = [f"{count} of memory safety" if kind == SAFETY else f"{count} {WORDS[kind]}{'' if count == 1 else 's'}" for kind, count in kinds if count]
+    return f" ({', '.join(told)})" if told else ""
 
 
 def told(outcome):
-    """Yields what is printed of the places, those that were judged apart."""
-    if outcome.places is None:
+    """Yields what is printed of the places: ordinary ones, those of memory safety, and those that were judged."""
+    if outcome.premises is None:
         return
-    left, judged = unjudged(outcome), [it for it in outcome.entries if it.judged]
-    count = len(outcome.places)
-    yield f"places where a step may be flagged: {count}" + (f", in {len(outcome.entries)} entries" if len(outcome.entries) > 1 else "")
-    for it in left:
-        yield str(it)
-        yield from (f"  {why}" for why in it.why())
+    left = [it for it in outcome.entries if not it.judged]
+    groups = (("to review, since a correct program may be flagged there", [it for it in left if it.is_ordinary()]),
+              ("of memory safety, or of what the spec says itself", [it for it in left if not it.is_ordinary()]))
+    count = sum(len(it.kinds) for it in outcome.entries)
+    yield f"places where a step may be flagged: {count}{counted(outcome)}"
+    for heading, entries_of in groups:
+        if entries_of:
+            yield f"{heading}:"
+        for it in entries_of:
+            yield str(it)
+            yield from (f"  {why}" for why in it.why())
+    judged = [it for it in outcome.entries if it.judged]
     if judged:
         yield f"judged by the spec: {len(judged)}"
         yield from (f"{it}; {it.judged.why}" for it in judged)

@@ -3,7 +3,7 @@
 import os
 import subprocess
 
-OK, REJECTED, USAGE, SCHEDULE, REFUSED = 0, 1, 2, 9, 10
+OK, REJECTED, USAGE, SCHEDULE, REFUSED, DEVICES = 0, 1, 2, 9, 10, 14
 UNBUILT = 70  # the launcher's, where no proved program stands that is of its sources
 HERE = os.path.dirname(os.path.realpath(__file__))
 

@@ -11,13 +11,13 @@ import machine_report
 import needs
 import places
 from devices import VECTORS, Misuse
+from outcome import Refused
 from page import html
 from spec import Spec
 
-UNJUDGED = 5  # a status
 FILES = {"json": lambda outcome: machine_report.text(outcome),
-         "csv": lambda outcome: needs.as_csv(outcome.table) if outcome.graph else None,
-         "dot": lambda outcome: dot.text(outcome, outcome.graph, outcome.table) if outcome.graph else None,
+         "csv": lambda outcome: None if isinstance(outcome, Refused) else needs.as_csv(outcome.table),
+         "dot": lambda outcome: None if isinstance(outcome, Refused) else dot.text(outcome.graph, outcome.table),
          "page": lambda outcome: html(outcome)}
 
 
@@ -28,7 +28,9 @@ def add_words(words, count):
     words.add_argument("--diff")
     words.add_argument("--grow", type=count)
     words.add_argument("--interrupts", action="store_true")
-    words.add_argument("--judged", action="store_true")
+    asked = words.add_mutually_exclusive_group()
+    asked.add_argument("--judged", action="store_true")
+    asked.add_argument("--accept-places", action="store_true")
     words.add_argument("--github", action="store_true")
 
 
@@ -39,13 +41,6 @@ def check_words(words):
         raise Misuse("one file alone can be `-`, which is printed in place of the text")
 
 
-def prepare(outcome):
-    """What stands there where there is no bound."""
-    outcome.graph, outcome.table, outcome.entries, outcome.idle_keeps, outcome.unjudged = None, [], [], [], []
-    outcome.costs = outcome.difference = None
-    outcome.grows_too_much = False
-
-
 def assumed(certificate):
     """The assumption file under which a certificate was accepted."""
     lines = certificate.splitlines()[2:]
@@ -54,16 +49,14 @@ def assumed(certificate):
 
 def complete(outcome, words, folder):
     """Works out what is told beside a bound."""
-    prepare(outcome)
-    if outcome.refusal:
+    if isinstance(outcome, Refused):
         return
-    spec = Spec(outcome.elf, outcome.spec, outcome.device)
+    spec = Spec(outcome.firmware.elf, outcome.spec, outcome.firmware.device)
     idle_lines.check(outcome, spec)
     outcome.graph = call_graph.Graph(outcome)
     outcome.table = call_graph.needs(outcome.graph)
     outcome.entries = places.entries(outcome)
     outcome.idle_keeps = places.judge(outcome, spec.keeps)
-    outcome.unjudged = places.unjudged(outcome)
     if words.interrupts:
         vectors = [it for it in VECTORS if any(other.kind == f"v{it}" for other in outcome.graph.instances)]
         outcome.costs = interrupts.costs(outcome, assumed(outcome.certificate), vectors, folder)
@@ -89,8 +82,10 @@ def verdict(outcome, words):
     """What is printed in front where the growth or a place fails."""
     if outcome.grows_too_much:
         yield f"TOO MUCH: the bound has grown by {outcome.difference.grown()} bytes, and {words.grow} are the most"
-    if words.judged and outcome.unjudged:
-        yield f"NOT JUDGED: {len(outcome.unjudged)} of the {len(outcome.entries)} entries below"
+    if outcome.heap:
+        yield f"HEAP: {outcome.heap} is linked, and takes from the same room, which this doesn't count"
+    if words.judged and (left := places.unjudged(outcome, True)):
+        yield f"NOT JUDGED: {len(left)} of the {len(outcome.entries)} entries below"
 
 
 def write(outcome, words):
@@ -112,11 +107,13 @@ def show(outcome, words, text):
     printed = write(outcome, words)
     sys.stdout.write(text if printed is None else printed)
     if words.github:
-        print("\n".join(annotations.told(outcome, words.judged)))
+        print("\n".join(annotations.told(outcome, words)))
 
 
-def status(outcome, words, status):
-    """The status with what is told here: the growth is a limit too, and an unjudged place counts where nothing else fails."""
-    if status == 0 and outcome.grows_too_much:
-        return 1
-    return UNJUDGED if status == 0 and words.judged and outcome.unjudged else status
+def schedule(outcome):
+    """The run that is as deep as the bound: the certificate's schedule, or the files of a trial run with the command that does it again."""
+    lines = outcome.certificate.splitlines()
+    if "witness attained" in lines:
+        begin = lines.index("witness attained") + 1
+        return "".join(f"{it}\n" for it in lines[begin:-1])
+    return outcome.deepest.text if outcome.deepest else None

@@ -1,18 +1,20 @@
 """Reads a spec, whose lines name sites by functions, and makes the lines of an assumption file from it."""
 
+import re
+
 import opcodes
 import sites
 from devices import REGISTERS, VECTORS
-from names import SpecFault
+from names import Missing, SpecFault
 from sites import AT_LINE
 from targets import targets
 
 MOST_ITEMS, MOST_LINES = 64, 4096
-PAIRS, NOWHERE = "pairs", -1  # the line that stands at no site and before all others
-KINDS = (PAIRS, "jump", "store", "prove", "free", "never", "frame")  # as they stand at one site
-FORMS = {PAIRS: "", "jump": "FUNCTION N ..", "store": "FUNCTION N ..", "prove": "FUNCTION N", "free": "FUNCTION N", "never": "VECTOR", "frame": "FUNCTION",
+PAIRS, MASKS, NOWHERE = "pairs", "masks", -1  # the lines that stand at no site and before all others
+KINDS = (PAIRS, MASKS, "jump", "store", "prove", "free", "never", "frame")  # as they stand at one site
+FORMS = {PAIRS: "", MASKS: "", "jump": "FUNCTION N ..", "store": "FUNCTION N ..", "prove": "FUNCTION N", "free": "FUNCTION N", "never": "VECTOR", "frame": "FUNCTION",
          "keeps": "FUNCTION:LINE"}
-UNASSUMED = (PAIRS, "frame")  # those that assume nothing
+UNASSUMED = (PAIRS, MASKS, "frame")  # those that assume nothing
 AT_SITES = ("jump", "store", "prove", "free")  # those whose site may be told by a source line
 START_UP = "@startup"
 
@@ -111,7 +113,7 @@ def read_line(elf, device, words):
         raise SpecFault(f"{kind} is none of {', '.join(KINDS)} and keeps")
     if not is_of_form(kind, rest):
         raise SpecFault(f"`{kind} {FORMS[kind]}".rstrip() + "` is wanted")
-    if kind == PAIRS:
+    if kind in (PAIRS, MASKS):
         return kind, {NOWHERE}, set()
     if kind == "never":
         return kind, vectors(elf, device, rest[0]), set()
@@ -145,19 +147,22 @@ class Spec:
         self.lines, self.keeps = [], []
         above = ""
         for number, line in enumerate(text.splitlines(), start=1):
-            line, _, comment = line.partition("#")
+            line, _, comment = re.sub(r"^\s*\?", " ? ", line).partition("#")
             words, comment = words_of(line), comment.strip()
+            is_optional = words[:1] == ["?"]
+            words = words[is_optional:]
             try:
                 if words[:1] == ["keeps"]:
                     self.keeps.append(read_keep(elf, number, words, comment or above))
                 elif words:
                     self.lines.append(Line(number, " ".join(words), *read_line(elf, device, words)))
             except SpecFault as fault:
-                raise SpecFault(f"line {number}: {fault}") from None
+                if not (is_optional and isinstance(fault, Missing)):
+                    raise SpecFault(f"line {number}: {fault}") from None
             above = comment if not words else ""
 
     def text(self):
-        """The text of the assumption file. Lines on one site are one line, and those of `pairs` too."""
+        """The text of the assumption file. Lines on one site are one line, and those of `pairs` and of `masks` too."""
         lines, number = {}, 0
         for line in self.lines:
             number = line.number

@@ -1,5 +1,6 @@
 """Where an indirect transfer may go: functions, constructors of static objects, tables of `switch`, virtual functions, and what has its address taken."""
 
+import functools
 import struct
 
 import opcodes
@@ -70,21 +71,55 @@ def addresses_loaded(elf):
             del halves[:-NEAR]
 
 
-def words_in_data(elf):
-    """Numbers of two bytes at each place of the image of initialised data, and of what stands in flash between the vectors and the code."""
+def words_in_data(elf, but=()):
+    """Numbers of two bytes at each place of the image of initialised data, and of what stands in flash between the vectors and the code; those
+    that begin within one of some spans of addresses are left out."""
     for address, size, offset in elf.loaded:
         if SRAM <= address < SRAM + 0x10000:
             data = elf.data[offset:offset + size]
-            yield from (struct.unpack_from("<H", data, at)[0] for at in range(len(data) - 1))
+            yield from (struct.unpack_from("<H", data, at)[0] for at in range(len(data) - 1)
+                        if not any(begin <= address + at < end for begin, end in but))
     code = min((it.address for it in elf.code if it.is_function or it.name == "__init"), default=0)
     for at in range(elf.all.get("__trampolines_start", 2), elf.all.get("__ctors_start", code)):
         yield struct.unpack_from("<H", elf.flash, at)[0]
 
 
+def starts(elf):
+    """The words of the functions that something may call through a pointer."""
+    return {it.address // 2 for it in elf.code if it.is_function and base(it.name) not in NONE and not it.name.startswith("__")}
+
+
 def taken(elf):
     """The words of the functions whose address is taken: by a pair of `ldi`, in the image of initialised data, or in a table in flash."""
-    starts = {it.address // 2 for it in elf.code if it.is_function and base(it.name) not in NONE and not it.name.startswith("__")}
-    return starts & {*addresses_loaded(elf), *words_in_data(elf)}
+    return starts(elf) & {*addresses_loaded(elf), *words_in_data(elf)}
+
+
+def tables_of_virtual(elf):
+    """Yields the address and the words of each table of virtual functions."""
+    for name, (address, size) in elf.objects.items():
+        data = elf.at_data_address(address, size) if name.startswith("_ZTV") and size else None
+        if data:
+            yield address, [struct.unpack_from("<H", data, at)[0] for at in range(0, len(data) - 1, 2)]
+
+
+@functools.lru_cache(maxsize=None)
+def slots(elf):
+    """The functions by the slots in which a table of virtual functions has them. A table has two words in front, and so has each part of a base."""
+    found, known = {}, starts(elf)
+    for _, words in tables_of_virtual(elf):
+        begins = [2] + [at + 2 for at, word in enumerate(words) if at > 1 and (word == 0 or word > 0xF000)]
+        for at, word in enumerate(words):
+            for begin in begins if word in known else ():
+                if at >= begin:
+                    found.setdefault(at - begin, set()).add(word)
+    return found
+
+
+@functools.lru_cache(maxsize=None)
+def taken_elsewhere(elf):
+    """The functions whose address is taken elsewhere than in a table of virtual functions."""
+    spans = [(address, address + 2 * len(words)) for address, words in tables_of_virtual(elf)]
+    return starts(elf) & {*addresses_loaded(elf), *words_in_data(elf, spans)}
 
 
 def targets(elf, words):

@@ -2,9 +2,9 @@
 
 import candidates
 import opcodes
-from devices import NAME_OF
+from devices import NAME_OF, VECTORS
 from lines import Lines, spec_line
-from spec import NOWHERE, PAIRS, UNASSUMED
+from spec import MASKS, NOWHERE, PAIRS, UNASSUMED, is_unhandled
 from targets import constructors, tables
 
 MOST_OTHERS = 8  # vectors that are tried behind the first that lets itself in
@@ -28,30 +28,43 @@ def names_of_tables(elf, items):
     return " ".join(found) if found and set().union(*(known[it] for it in found)) == items else None
 
 
-def line_of_spec(outcome, lines, site, kind):
+def line_of_spec(firmware, lines, site, kind):
     """The line of a spec for a line of an assumption file; None where it has none."""
-    names = names_of_tables(outcome.elf, lines.of(site, kind)) if kind == "jump" else None
-    return spec_line(outcome.elf, outcome.device, lines, site, kind, names)
+    names = names_of_tables(firmware.elf, lines.of(site, kind)) if kind == "jump" else None
+    return spec_line(firmware.elf, firmware.device, lines, site, kind, names)
 
 
-def written(outcome, lines):
-    """The lines that weren't given: `pairs` first, and the `frame` lines as one."""
-    if lines.has_pairs() and not lines.is_given(NOWHERE, PAIRS):
-        yield Written(PAIRS, PAIRS, "on which no bound rests")
+def own_never(firmware, lines):
+    """The vectors of the `never` lines that weren't given, by number; and whether they are all that have no handler."""
+    found = [firmware.device.vector_at(site) for site, kind in lines.written() if kind == "never"]
+    return found, found == [it for it in VECTORS if is_unhandled(firmware.elf, firmware.device, it)]
+
+
+def written(firmware, lines):
+    """The lines that weren't given: `pairs` and `masks` first, the `frame` lines as one, and `never` lines of all vectors without a handler too."""
+    for kind in (PAIRS, MASKS):
+        if lines.has(NOWHERE, kind) and not lines.is_given(NOWHERE, kind):
+            yield Written(kind, kind, "on which no bound rests")
     frames = [site for site, kind in lines.written() if kind == "frame"]
     if frames:
         yield Written("frame @frames", ", ".join(lines.line(it, "frame") for it in frames), f"at {len(frames)} places; no bound rests on it")
+    vectors, is_all = own_never(firmware, lines)
+    is_all = is_all and len(vectors) > 1
+    if is_all:
+        yield Written("never @unhandled", ", ".join(lines.line(firmware.device.vector_word(it), "never") for it in vectors),
+                      f"of {len(vectors)} vectors that have no handler")
     for site, kind in lines.written():
-        if kind not in UNASSUMED:
-            place = outcome.place_of_line(kind, site)
-            yield Written(line_of_spec(outcome, lines, site, kind), lines.line(site, kind), f"at {site:04X} {place}")
+        if kind not in UNASSUMED and not (kind == "never" and is_all):
+            place = firmware.place_of_line(kind, site)
+            more = ", which says that it enables no interrupt" if kind == "store" and lines.of(site, kind) == {0} else ""
+            yield Written(line_of_spec(firmware, lines, site, kind), lines.line(site, kind), f"at {site:04X} {place}{more}")
 
 
-def text_of_stop(outcome, stop):
+def text_of_stop(firmware, stop):
     """A flagged step: its kind, the word, the address or target, and the place."""
     other = f" {stop.other:04X}" if stop.other is not None else ""
-    name = f" ({NAME_OF[stop.other]})" if stop.kind == "protected" else f" ({outcome.place(stop.other)})" if stop.kind == "transfer" else ""
-    return f"{stop.kind} {stop.word:04X}{other}{name} at {outcome.place(stop.word)}"
+    name = f" ({NAME_OF[stop.other]})" if stop.kind == "protected" else f" ({firmware.place(stop.other)})" if stop.kind == "transfer" else ""
+    return f"{stop.kind} {stop.word:04X}{other}{name} at {firmware.place(stop.word)}"
 
 
 def why_not(stop):
@@ -59,7 +72,7 @@ def why_not(stop):
     return "no line admits it: " + ("a live byte of the stack is written" if stop.kind == "live" else "a `never` line names this vector")
 
 
-def line_that_admits(outcome, work, stop):
+def line_that_admits(firmware, work, stop):
     """The kind and the items of the line that admits a flagged step, whether or not a line was given there; None where there is none."""
     free = work.copy()
     free.lines.given = set()
@@ -67,42 +80,47 @@ def line_that_admits(outcome, work, stop):
     return (kind, free.lines.of(stop.word, kind)) if kind else None
 
 
-def flagged(outcome, work):
+def flagged(firmware, work):
     """The one line that stands before a bound that says nothing of a run beyond a flagged step."""
-    stop, found = work.stop, line_that_admits(outcome, work, work.stop)
-    told = f"FLAGGED: a trial run ends with {text_of_stop(outcome, stop)}; the bound speaks of what comes before; "
+    stop = work.stop
+    if stop.kind == "transfer" and work.lines.has(stop.other, "never") and not work.lines.is_given(stop.other, "never"):
+        vector = firmware.device.vector_at(stop.other)
+        return (f"FLAGGED: a trial run takes {VECTORS[vector]}, which is enabled and has no handler, at {firmware.place(stop.word)}: the program begins "
+                "anew there, and the bound speaks of what comes before; write a handler, or don't enable it")
+    told = f"FLAGGED: a trial run ends with {text_of_stop(firmware, stop)}; the bound speaks of what comes before; "
+    found = line_that_admits(firmware, work, stop)
     if found is None:
         return told + why_not(stop)
     kind, items = found
     line = Lines()
     line.put(stop.word, kind, items)
-    return told + f"admitted by: {line_of_spec(outcome, line, stop.word, kind) or line.line(stop.word, kind)}"
+    return told + f"admitted by: {line_of_spec(firmware, line, stop.word, kind) or line.line(stop.word, kind)}"
 
 
-def lines_for(outcome, work, name):
+def lines_for(firmware, work, name):
     """The lines of a spec that this tool would write for a refusal of this cause, with all candidates."""
     more = work.copy()
     more.lines.given = set(more.lines.items)
     if name == "division" and more.lines.add_pairs() or name in BY_LINES and more.at_refusal(work.refusal):
-        return [it.spec or it.words for it in written(outcome, more.lines)]
+        return [it.spec or it.words for it in written(firmware, more.lines)]
     return []
 
 
-def others(outcome, work, name, word):
+def others(firmware, work, name, word):
     """The other places of the same kind, as far as the file or the program tells them."""
-    elf = outcome.elf
+    elf = firmware.elf
     if name in ("recursion", "put"):
         found = [it.address // 2 for it in elf.code if it.is_function and it.address // 2 in candidates.reached(elf, it.address // 2)]
     elif name == "written flash":
         found = [at for words in candidates.code(elf) for at, opcode in words if opcode == opcodes.SPM]
     elif name in ("re-entry", "noblock", "merged"):
-        return [f"{at:04X} {outcome.handler(vector)}" for at, vector in other_vectors(outcome, work)]
+        return [f"{at:04X} {firmware.handler(vector)}" for at, vector in other_vectors(firmware, work)]
     else:
-        return [f"{at:04X} {outcome.place(at)}: {note}" for at, note in work.notes]
-    return [f"{at:04X} {outcome.place(at)}" for at in sorted(set(found) - {word})]
+        return [f"{at:04X} {firmware.place(at)}: {note}" for at, note in work.notes]
+    return [f"{at:04X} {firmware.place(at)}" for at in sorted(set(found) - {word})]
 
 
-def other_vectors(outcome, work):
+def other_vectors(firmware, work):
     """Yields word and number of the vectors that let themselves in, beside the first: each with the ones before it left out."""
     probe, text = work.copy(), work.refusal
     for _ in range(MOST_OTHERS):

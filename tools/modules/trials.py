@@ -1,75 +1,136 @@
-"""Runs of a firmware on the simulator of `stackbound`, in search of steps that are flagged."""
+"""Runs of a firmware on the simulator of `stackbound`, in search of steps that are flagged and of how deep the stack goes."""
 
 import os
 import re
-import time
+from typing import Iterator, List, NamedTuple, Optional, Tuple
 
 import opcodes
 from candidates import start
-from devices import VECTORS
-from program import OK, SCHEDULE, USAGE
+from devices import VECTORS, Device
+from elf import Elf
+from program import OK, SCHEDULE, USAGE, Program
 
 STOP = re.compile(r"steps (\d+) depth (\d+) stop (\w+)(?: ([0-9A-F]{4}))?(?: ([0-9A-F]{4}))?")
 FLAGGED = ("live", "protected", "transfer")
 BYTES = (0x00, 0xFF, 0x55, 0xAA, 0x01, 0x20)
-LONG = 60_000  # steps of a run
+LONG = 60_000  # steps of a run of the tool `flagged`
 MOST_TAKES = 40
-SECONDS, LEAST, MOST = 0.5, 4, 12  # how long the runs behind a bound go on, and how many there are at least and at most
-DEVICE_LINES = 32
-PERIODS = ((0, 23), (50, 997), (1000, 9973))  # the first step at which a timer asks, and how many steps lie between two times
+DEVICE_LINES, MOST_RECEIVED = 32, 64
 
 
 class Stop:
     """A stop: its kind, the word of the step, and the address or target."""
 
-    def __init__(self, kind, word, other):
+    def __init__(self, kind: str, word: int, other: Optional[int]) -> None:
         self.kind, self.word, self.other = kind, word, other
 
-    def key(self):
+    def key(self) -> Tuple[str, int, Optional[int]]:
         return self.kind, self.word, self.other
 
 
-def handled(elf, device):
+class Kind(NamedTuple):
+    """A trial run behind a bound: how many steps, `timers` (all vectors ask again and again), `bytes` (those that receive bring bytes) or `polls`
+    (inputs change without interrupts), the first request, the steps between two, and which byte comes first."""
+
+    steps: int
+    what: str
+    first: int
+    period: int
+    turn: int
+
+
+# Their number is fixed, so that two machines say the same. The first is long enough for start-up code that waits.
+KINDS = (
+    Kind(3_000_000, "timers", 1000, 9973, 0),
+    Kind(400_000, "bytes", 300, 331, 8),
+    Kind(400_000, "polls", 0, 61, 8),
+    Kind(100_000, "timers", 0, 23, 1),
+    Kind(400_000, "bytes", 2000, 1009, 0),
+    Kind(400_000, "polls", 0, 997, 0),
+    Kind(200_000, "timers", 50, 397, 2),
+    Kind(400_000, "bytes", 500, 4001, 24),
+    Kind(200_000, "polls", 0, 7, 3),
+    Kind(200_000, "timers", 5, 61, 3),
+    Kind(400_000, "bytes", 700, 157, 40),
+    Kind(400_000, "timers", 2000, 2003, 5),
+)
+
+
+class Run(NamedTuple):
+    """A run as it can be done again: the command of `stackbound`, its file's text and the options behind it."""
+
+    command: str
+    text: str
+    options: Tuple[str, ...]
+
+
+def handled(elf: Elf, device: Device) -> List[int]:
     """The vectors that don't lead to the compiler's default."""
     default = {it.address for it in elf.named("__bad_interrupt")}
     return [it for it in VECTORS if (target := opcodes.jump_target(elf, device.vector_word(it))) is not None and target != start(elf) and 2 * target not in default]
 
 
+def told_apart(elf: Elf, device: Device) -> List[int]:
+    """The bytes that the firmware tells apart, ascending: those that it compares with, and some that any may."""
+    found = {0x00, 0xFF, 0x55, 0xAA, 0x01, 0x80, 0x7F, 0xFE}
+    for word in range(min(device.words, (elf.flash_end + 1) // 2)):
+        opcode = elf.word(word)
+        byte = opcode & 15 | opcode >> 4 & 0xF0
+        if opcode & 0xF000 == 0x3000:
+            found |= {byte, (byte - 1) % 256}
+        elif opcode & 0xF000 == 0x5000:
+            found.add(byte)
+        elif opcode & 0xFC08 == 0xFC00 or opcode & 0xFD00 == 0x9900:
+            found |= {1 << (opcode & 7), 0xFF ^ 1 << (opcode & 7)}
+    return sorted(found)
+
+
+def is_receiver(vector: int) -> bool:
+    """Whether a vector's interrupt comes from outside, with a byte."""
+    return not VECTORS[vector].startswith(("TIMER", "WDT"))
+
+
 class Trials:
-    """Runs on one program, whose files are made in a folder. `deepest` is how deep they went before a flagged step; None where none was done."""
+    """Runs on one program, whose files are made in a folder. `deepest` is how deep they went before a flagged step, `deepest_run` the run; None
+    where none was done."""
 
-    def __init__(self, program, folder, vectors):
+    def __init__(self, program: Program, folder: str, elf: Elf, device: Device, vectors: List[int]) -> None:
         self.program, self.folder, self.vectors = program, folder, vectors
-        self.has_simulate, self.deepest = True, None
+        self.has_simulate = True
+        self.deepest: Optional[int] = None
+        self.deepest_run: Optional[Run] = None
+        self.bytes = told_apart(elf, device)
 
-    def answer(self, command, text, *words):
-        path = os.path.join(self.folder, command)
+    def answer(self, run: Run) -> Tuple[int, str]:
+        path = os.path.join(self.folder, run.command)
         with open(path, "w", encoding="ascii") as file:
-            file.write(text)
-        return self.program.call(command, path, *words)
+            file.write(run.text)
+        return self.program.call(run.command, path, *run.options)
 
-    def stop(self, status, text):
+    def stop(self, status: int, text: str, run: Run) -> Optional[Stop]:
         found = STOP.match(text) if status == OK else None
         if not found:
             return None
-        self.deepest = max(self.deepest or 0, int(found[2]))
+        if self.deepest is None or int(found[2]) > self.deepest:
+            self.deepest, self.deepest_run = int(found[2]), run
         return Stop(found[3], int(found[4], 16), int(found[5], 16) if found[5] else None) if found[3] in FLAGGED else None
 
-    def devices(self, byte, lines):
+    def devices(self, fill: int, lines: List[str], steps: int) -> Optional[Stop]:
         """The stop of a run with these timers and receivers; None also where the program has no `simulate`."""
-        text = "\n".join(["devices 1", f"fill {byte:02X}", *lines[:DEVICE_LINES], "end", ""])
-        status, text = self.answer("simulate", text, "--steps", str(LONG))
+        text = "\n".join(["devices 1", f"fill {fill:02X}", *lines[:DEVICE_LINES], "end", ""])
+        run = Run("simulate", text, ("--steps", str(steps)))
+        status, text = self.answer(run)
         self.has_simulate = self.has_simulate and status != USAGE
-        return self.stop(status, text)
+        return self.stop(status, text, run)
 
-    def simulated(self, byte):
+    def simulated(self, byte: int) -> Iterator[Optional[Stop]]:
         """Yields the stops of runs that take each vector whenever it may be taken: by `simulate`, where the program has it."""
         for first in (0, 50, 1000):
-            yield self.devices(byte, [f"timer {vector} {first + 7 * n} {23 + 10 * n}" for n, vector in enumerate(self.vectors)])
+            yield self.devices(byte, [f"timer {vector} {first + 7 * n} {23 + 10 * n}" for n, vector in enumerate(self.vectors)], LONG)
             if not self.has_simulate:
                 return
 
-    def legal(self, byte, takes):
+    def legal(self, byte: int, takes: List[Tuple[int, int]]) -> Tuple[Optional[Stop], Optional[int]]:
         """The stop of a schedule with these takes (step, vector) and a long run behind them; the number of the first take that isn't legal."""
         lines, at, numbers = ["schedule 1", f"fill {byte:02X}"], 0, {}
         for number, (step, vector) in enumerate(takes):
@@ -78,12 +139,13 @@ class Trials:
             numbers[step + number] = number
             lines.append(f"take {vector} 0")
             at = step
-        status, text = self.answer("run", "\n".join([*lines, f"go {LONG - at} {byte:02X} {byte:02X}", "end", ""]))
+        run = Run("run", "\n".join([*lines, f"go {LONG - at} {byte:02X} {byte:02X}", "end", ""]), ())
+        status, text = self.answer(run)
         if status == SCHEDULE and text.startswith("schedule illegal step "):
             return None, numbers.get(int(text.split()[3]), -1)
-        return self.stop(status, text), None
+        return self.stop(status, text, run), None
 
-    def replayed(self, byte):
+    def replayed(self, byte: int) -> Iterator[Optional[Stop]]:
         """Yields the stops of schedules: none, each vector alone at several steps, and then all that could be taken, one behind the other."""
         yield self.legal(byte, [])[0]
         taken = []
@@ -104,27 +166,53 @@ class Trials:
                 return
             takes = takes[:illegal] + takes[illegal + 1:] if illegal >= 0 else []
 
-    def stops(self):
+    def stops(self) -> Iterator[Stop]:
         for byte in BYTES:
             yield from (it for it in self.replayed(byte) if it)
             if self.has_simulate:
                 yield from (it for it in self.simulated(byte) if it)
 
-    def short(self, number):
-        """The stop of a run of those behind a bound, by its number: every other one a schedule without interrupts, in which all inputs are one byte."""
-        round_of, is_plain = divmod(number, 2)
-        if is_plain or not self.has_simulate:
-            return self.legal(BYTES[(round_of + 1) % len(BYTES)], [])[0]
-        (first, period), byte = PERIODS[round_of % len(PERIODS)], BYTES[round_of % len(BYTES)]
-        timers = [f"timer {vector} {first + 7 * n} {period + 10 * n}" for n, vector in enumerate(self.vectors)]
-        inputs = " ".join(f"{it:02X}" for it in (*BYTES[round_of % len(BYTES):], *BYTES, 0x0D, 0x41, 0x80, 0x7F))
-        return self.devices(byte, timers + [f"bytes {vector} {first + 13 * n} {3 * period} {inputs}" for n, vector in enumerate(self.vectors)])
+    def turned(self, kind: Kind) -> List[int]:
+        """The bytes that the firmware tells apart, from another one on in each run."""
+        at = kind.turn % len(self.bytes)
+        return self.bytes[at:] + self.bytes[:at]
 
-    def first_flagged(self, count=None, begin=0):
-        """The number and the stop of the first of these runs that is flagged, from a number on: `count` of them, else as many as fit in the time."""
-        number, end = begin, time.monotonic() + SECONDS
-        while number < count if count is not None else number < LEAST or time.monotonic() < end and number < MOST:
+    def polled(self, kind: Kind) -> Optional[Stop]:
+        """The stop of a schedule without interrupts, in which the inputs are one byte after the other."""
+        found, last = self.turned(kind), ""
+        lines, counts = ["schedule 1", f"fill {found[0]:02X}"], []
+        for number in range(kind.steps // kind.period):
+            pair = f"{found[number % len(found)]:02X} {found[(number // 3 + 1) % len(found)]:02X}"
+            if pair == last:  # two neighbours differ
+                counts[-1] += kind.period
+            else:
+                lines.append(pair)
+                counts.append(kind.period)
+            last = pair
+        lines[2:] = [f"go {count} {pair}" for count, pair in zip(counts, lines[2:])]
+        run = Run("run", "\n".join([*lines, "end", ""]), ())
+        return self.stop(*self.answer(run), run)
+
+    def asked(self, kind: Kind) -> Optional[Stop]:
+        """The stop of a run with timers and receivers: all vectors as timers, or those whose interrupt brings a byte as receivers."""
+        found, lines = self.turned(kind), []
+        received = " ".join(f"{found[n % len(found)]:02X}" for n in range(MOST_RECEIVED))
+        for n, vector in enumerate(self.vectors):
+            first, period = kind.first + 7 * n, kind.period + 10 * n
+            if kind.what == "bytes" and is_receiver(vector):
+                lines.append(f"bytes {vector} {first} {period} {received}")
+            else:
+                lines.append(f"timer {vector} {first} {period if kind.what == 'timers' else 3 * period}")
+        return self.devices(found[0], lines, kind.steps)
+
+    def short(self, number: int) -> Optional[Stop]:
+        """The stop of a run of those behind a bound, by its number."""
+        kind = KINDS[number % len(KINDS)]
+        return self.polled(kind) if kind.what == "polls" or not self.has_simulate else self.asked(kind)
+
+    def first_flagged(self, count: Optional[int] = None, begin: int = 0) -> Tuple[int, Optional[Stop]]:
+        """The number and the stop of the first of these runs that is flagged, from a number on."""
+        for number in range(begin, len(KINDS) if count is None else count):
             if stop := self.short(number):
                 return number, stop
-            number += 1
-        return number, None
+        return len(KINDS) if count is None else count, None

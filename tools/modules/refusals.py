@@ -1,0 +1,187 @@
+"""What leads to a refusal in this firmware, by functions and source lines."""
+
+from typing import Any, Dict, Iterator, List, Optional, Set, Tuple
+
+import candidates
+import opcodes
+from cures import REFUSAL
+from devices import ENABLES, REGISTERS, VECTORS
+from firmware import Firmware
+from telling import line_of_spec
+from trials import handled
+
+OUT_SREG, RETI, SBI = 0xBE0F, 0x9518, 0x9A00
+MOST_REASONS, NEAR, GUARD = 8, 5, 6
+SET_AGAIN = ("its own enable bit is set again before it ends, while interrupts are let in",
+             "set the bit again only behind its `cli()`, or where it can't run; a bound asks that no step does so meanwhile, whatever variables say")
+
+
+class Step:
+    """A way from one function to another: the place, and the line of an assumption file where it is a `jump` line that this tool wrote."""
+
+    def __init__(self, site: int, target: int, own: Optional[str]) -> None:
+        self.site, self.target, self.own = site, target, own
+
+
+def steps(firmware: Firmware, work: Any) -> Dict[int, List[Step]]:
+    """By its first word, what each function enters: by name, and by `jump` lines."""
+    elf = firmware.elf
+    found: Dict[int, List[Step]] = {}
+    for symbol in elf.code:
+        held = found.setdefault(symbol.address // 2, [])
+        for at, opcode in opcodes.words_of(elf, symbol):
+            call, jump = opcodes.call_target(elf, at), opcodes.jump_target(elf, at)
+            target = jump if call is None else call
+            other = elf.symbol_at(2 * target) if target is not None else None
+            if other and (other.address != symbol.address or call == symbol.address // 2):
+                held.append(Step(at, other.address // 2, None))
+            elif opcodes.is_indirect(opcode):
+                own = None if work.lines.is_given(at, "jump") else line_of_spec(firmware, work.lines, at, "jump") or "jump"
+                held += [Step(at, it, own) for it in sorted(work.lines.of(at, "jump"))]
+    return found
+
+
+def way_back(graph: Dict[int, List[Step]], word: int) -> List[Tuple[int, Step]]:
+    """A shortest way from a function to itself; nothing where there is none."""
+    came: Dict[int, Tuple[int, Step]] = {}
+    left = [word]
+    while left:
+        at = left.pop(0)
+        for it in graph.get(at, ()):
+            if it.target == word:
+                way = [(at, it)]
+                while way[0][0] != word:
+                    way.insert(0, came[way[0][0]])
+                return way
+            if it.target not in came:
+                came[it.target] = at, it
+                left.append(it.target)
+    return []
+
+
+def of_recursion(firmware: Firmware, work: Any, word: int) -> Iterator[str]:
+    """The way on which a function comes back to itself, with the `jump` lines of this tool on it."""
+    for at, it in way_back(steps(firmware, work), word):
+        how = f", by a line of this tool, which lists all that may be called: `{it.own}`" if it.own else ""
+        yield f"{firmware.function(at)} enters {firmware.function(it.target)} at {firmware.place(it.site)}{how}"
+
+
+def reached(graph: Dict[int, List[Step]], word: int) -> Set[int]:
+    """A function with all that it enters."""
+    found, left = {word}, [word]
+    while left:
+        for it in graph.get(left.pop(), ()):
+            if it.target not in found:
+                found.add(it.target)
+                left.append(it.target)
+    return found
+
+
+def written_address(firmware: Firmware, work: Any, word: int) -> Optional[int]:
+    """The data address that an instruction writes; None where it isn't known."""
+    opcode = firmware.elf.word(word)
+    if opcode & 0xFE0F == 0x9200:
+        return firmware.elf.word(word + 1)
+    if opcode & 0xF800 == 0xB800:
+        return (opcode & 15 | opcode >> 5 & 0x30) + 0x20
+    if opcode & 0xFF00 == SBI:
+        return (opcode >> 3 & 31) + 0x20
+    listed = work.lines.of(word, "store")
+    return min(listed) if len(listed) == 1 else None
+
+
+def may_set(elf: Any, word: int, bit: int, begin: int) -> bool:
+    """Whether a write may set a bit, by what was done to the register just before: `ori`, `andi` or `ldi`."""
+    opcode = elf.word(word)
+    if opcode & 0xFF00 == SBI:
+        return opcode & 7 == bit
+    register = opcode >> 4 & 31
+    for at, other in candidates.before(elf, word, NEAR):
+        if at < begin:
+            break
+        byte, is_same = other & 15 | other >> 4 & 0xF0, 16 + (other >> 4 & 15) == register
+        if is_same and (0xE000 == other & 0xF000 or byte >> bit & 1 and other & 0xF000 == 0x6000 or not byte >> bit & 1 and other & 0xF000 == 0x7000):
+            return other & 0xF000 != 0x7000 and bool(byte >> bit & 1)
+    return register != 1  # r1 is 0 in compiled code
+
+
+def setters(firmware: Firmware, work: Any, functions: Set[int], vector: int) -> Iterator[int]:
+    """The words in some functions that may set a vector's enable bit."""
+    name, bit = ENABLES[vector]
+    for symbol in firmware.elf.code:
+        if symbol.address // 2 in functions:
+            for at, _ in opcodes.words_of(firmware.elf, symbol):
+                if written_address(firmware, work, at) == REGISTERS[name] and may_set(firmware.elf, at, bit, symbol.address // 2):
+                    yield at
+
+
+def openers(firmware: Firmware, functions: Set[int], entry: int) -> Iterator[Tuple[int, str]]:
+    """The words in some functions that let interrupts in, with the instruction; the end of the handler itself isn't one."""
+    for symbol in firmware.elf.code:
+        if symbol.address // 2 not in functions:
+            continue
+        words = list(opcodes.words_of(firmware.elf, symbol))
+        for n, (at, opcode) in enumerate(words):
+            if opcode == opcodes.SEI:
+                yield at, "sei"
+            elif opcode & 0xFE0F == OUT_SREG and not is_own_end(words, n, symbol.address // 2 == entry):
+                yield at, f"out SREG, r{opcode >> 4 & 31}"
+            elif opcode == RETI and symbol.address // 2 != entry:
+                yield at, "reti"
+
+
+def is_own_end(words: List[Tuple[int, int]], n: int, is_handler: bool) -> bool:
+    """Whether a write of SREG gives back the flags at a handler's end, or is the middle of a move of the stack pointer."""
+    after = [opcode for _, opcode in words[n + 1:n + 12]]
+    if after[:1] and after[0] & 0xFE0F == 0xBE0D:  # out SPL
+        return True
+    return is_handler and RETI in after
+
+
+def is_guarded(elf: Any, word: int) -> bool:
+    """Whether a variable's value decides, a few instructions before, whether a word is come to."""
+    words = candidates.before(elf, word, 24)
+    loads = [n for n, (_, opcode) in enumerate(words) if opcode & 0xFE0F == 0x9000]
+    return any(0xF000 <= words[n - back][1] < 0xF800 for n in loads for back in range(1, GUARD) if n - back >= 0)
+
+
+def of_re_entry(firmware: Firmware, work: Any, vector: int) -> Iterator[str]:
+    """Each place that lets interrupts in while a handler runs, and each that may set its enable bit then: in the handler, or in one that comes meanwhile."""
+    elf, device = firmware.elf, firmware.device
+    entry = opcodes.jump_target(elf, device.vector_word(vector))
+    if entry is None:
+        return
+    graph, name = steps(firmware, work), ENABLES[vector][0]
+    own = reached(graph, entry)
+    opened = list(openers(firmware, own, entry))
+    yield from (f"{firmware.function(at)} lets interrupts in (`{text}`) at {firmware.place(at)}" for at, text in opened)
+    sets = [(at, "") for at in setters(firmware, work, own, vector)]
+    for other in handled(elf, device):
+        target = opcodes.jump_target(elf, device.vector_word(other))
+        if other != vector and target is not None:
+            sets += [(at, VECTORS[other]) for at in setters(firmware, work, reached(graph, target) - own, vector)]
+    for at, other in sets:
+        function = firmware.function(at)
+        why = "" if not other else ", which may come meanwhile," if function == other else f", called by {other}, which may come meanwhile,"
+        yield f"{function}{why} sets {name} again at {firmware.place(at)}"
+    if any(is_guarded(elf, at) for at in [*(at for at, _ in opened), *(at for at, _ in sets)]):
+        yield "values of variables aren't followed, so a flag that guards this doesn't count"
+
+
+def reasons(firmware: Firmware, work: Any, refusal: str) -> List[str]:
+    """What leads to a refusal here: of recursion the way back, of a re-entry the places that let it in."""
+    number, _, vector, place, _ = REFUSAL.match(refusal).groups()
+    if not firmware.elf.code:
+        return []
+    found: Iterator[str] = iter(())
+    if number == "2":
+        found = of_recursion(firmware, work, int(place, 16))
+    elif number == "3":
+        found = of_re_entry(firmware, work, int(vector))
+    told = list(dict.fromkeys(found))
+    return told[:MOST_REASONS] + ([f"and {len(told) - MOST_REASONS} more"] if len(told) > MOST_REASONS else [])
+
+
+def overriding(name: str, told: List[str]) -> Optional[Tuple[str, str]]:
+    """Cause and cure where the places tell more than the usual row does."""
+    return SET_AGAIN if name == "re-entry" and any(" again at " in it for it in told) else None

@@ -1,0 +1,66 @@
+"""What a bound rests on, in words: the first line of what `stackcheck` prints, and its status."""
+
+from typing import Any, List
+
+from outcome import Accepted, Outcome, Refused
+from places import CALLS, GIVEN, MOVES, ORDINARY, SAFETY, STORES, VECTORS, count_of, unjudged
+
+KEPT, PASSED, REFUSED, MISUSE, FLAGGED, UNJUDGED = 0, 1, 2, 3, 4, 5  # statuses
+CONDITIONS = {
+    CALLS: ("{} call{s} below {stay} within {its} list{s}", "stays", "stay", "its", "their"),
+    STORES: ("{} store{s} below {stay} clear of the registers that enable interrupts", "stays", "stay", "", ""),
+    VECTORS: ("{} vector{s} without a handler {stay} off", "stays", "stay", "", ""),
+    MOVES: ("{} write{s} of MCUCR below {stay} the vectors where they are", "leaves", "leave", "", ""),
+}
+
+
+def condition(kind: str, count: int) -> str:
+    text, one, many, its, their = CONDITIONS[kind]
+    is_one = count == 1
+    return text.format(count, s="" if is_one else "s", stay=one if is_one else many, its=its if is_one else their)
+
+
+def safety(outcome: Accepted, count: int) -> str:
+    """What must hold at the places of memory safety; with the line `masks` a store there may still enable a vector without a handler."""
+    more = " and enable no vector without a handler" if any(it.may_enable for it in outcome.entries) else ""
+    return f"pointer stores stay inside their objects{more} ({count} place{'' if count == 1 else 's'})"
+
+
+def holds(outcome: Accepted) -> str:
+    """Of which runs the bound holds."""
+    if outcome.premises is None:
+        return "for every run up to its first flagged step; this stackbound doesn't list where that may be"
+    conditions = [condition(kind, count) for kind in ORDINARY if (count := count_of(outcome, (kind,)))]
+    count = count_of(outcome, (SAFETY,))
+    given = " that keeps to the lines of the spec" if count_of(outcome, (GIVEN,)) else ""
+    if conditions:
+        text = "if " + " and ".join(conditions) + (f", and {safety(outcome, count)}" if count else "") + (", for every run" + given if given else "")
+    else:
+        text = f"holds for every run{given}" + (f"{' and' if given else ''} whose {safety(outcome, count)}" if count else "")
+    places = [it for it in outcome.entries if it.kinds]
+    judged = [it for it in places if it.judged]
+    if judged:
+        text += "; all judged by the spec" if len(judged) == len(places) else f"; {len(judged)} of {len(places)} entries judged by the spec"
+    return text
+
+
+def first(outcome: Accepted) -> str:
+    return f"bound {outcome.bound}, {holds(outcome)}"
+
+
+def left(outcome: Accepted, words: Any) -> List[Any]:
+    """The entries that make the status 5."""
+    if words.accept_places:
+        return []
+    return unjudged(outcome, words.judged)
+
+
+def status(outcome: Outcome, words: Any) -> int:
+    """The exit status: no bound, then an empty one, then the limits, then the places."""
+    if isinstance(outcome, Refused):
+        return REFUSED
+    if outcome.flagged:
+        return FLAGGED
+    if not outcome.keeps or outcome.grows_too_much:
+        return PASSED
+    return UNJUDGED if left(outcome, words) or outcome.premises is None and not words.accept_places else KEPT
