@@ -7,11 +7,12 @@ use Rattle.avr_model.specs.declared.instruction.BinaryOp.TheVariants as binary
 use Rattle.avr_model.specs.declared.instruction.Instr.{Instr}
 use Rattle.avr_model.specs.declared.instruction.Instr.TheVariants as i
 use Rattle.avr_model.specs.declared.instruction.Pointer.{Pointer}
+use Rattle.avr_model.specs.Devices.{Program}
 use Rattle.mask_states.specs.declared.keys.NodeKey.{NodeKey}
 use Rattle.abs_state.specs.declared.state.AbsState.{AbsState}
 use Rattle.local_rules.specs.Local.{plain_row, paired_row, refining}
 
-pub others_refined : (device : Device) (words : List ℕ) (A : List Entry) (scratch : Bool) (k : NodeKey) (s : AbsState) (instr : Instr)
+pub others_refined : (device : Device) (words : Program) (A : List Entry) (scratch : Bool) (k : NodeKey) (s : AbsState) (instr : Instr)
     → ((op : BinaryOp) (d r : ℕ) → instr ≡ i.Binary op d r → ⊥) → ((p : Pointer) (r : ℕ) → instr ≡ i.St p r → ⊥)
     → ((n t : ℕ) → instr ≡ i.Brbs n t → ⊥) → ((n t : ℕ) → instr ≡ i.Brbc n t → ⊥) → ((r b : ℕ) → instr ≡ i.Sbrc r b → ⊥) → ((r b : ℕ) → instr ≡ i.Sbrs r b → ⊥)
     → paired_row device words A scratch k s instr ≡ refining words instr s (plain_row device words A scratch k s instr)
@@ -24,12 +25,12 @@ others_refined device words A scratch k s (i.Sbrs r b) binary st brbs brbc sbrc 
 others_refined device words A scratch k s _ binary st brbs brbc sbrc sbrs = refl
 
 -- of what is done to two registers `cpse` alone is a test
-binary_same : (device : Device) (words : List ℕ) (A : List Entry) (scratch : Bool) (k : NodeKey) (s : AbsState) (op : BinaryOp) (d r : ℕ) → (op ≡ binary.Cpse → ⊥)
+binary_same : (device : Device) (words : Program) (A : List Entry) (scratch : Bool) (k : NodeKey) (s : AbsState) (op : BinaryOp) (d r : ℕ) → (op ≡ binary.Cpse → ⊥)
     → paired_row device words A scratch k s (i.Binary op d r) ≡ refining words (i.Binary op d r) s (plain_row device words A scratch k s (i.Binary op d r))
 binary_same device words A scratch k s binary.Cpse d r ne = absurd (ne refl)
 binary_same device words A scratch k s _ d r ne = refl
 
-pub binary_refined : (device : Device) (words : List ℕ) (A : List Entry) (scratch : Bool) (k : NodeKey) (s : AbsState) (instr : Instr) (op : BinaryOp) (d r : ℕ) → instr ≡ i.Binary op d r
+pub binary_refined : (device : Device) (words : Program) (A : List Entry) (scratch : Bool) (k : NodeKey) (s : AbsState) (instr : Instr) (op : BinaryOp) (d r : ℕ) → instr ≡ i.Binary op d r
     → (op ≡ binary.Cpse → ⊥) → paired_row device words A scratch k s instr ≡ refining words instr s (plain_row device words A scratch k s instr)
 binary_refined device words A scratch k s instr op d r is ne =
     subst (λ (x : Instr). paired_row device words A scratch k s x ≡ refining words x s (plain_row device words A scratch k s x)) (sym is) (binary_same device words A scratch k s op d r ne)

@@ -7,6 +7,7 @@ use Rattle.avr_model.specs.declared.instruction.Instr.TheVariants as i
 use Rattle.avr_model.specs.declared.instruction.BinaryOp.{BinaryOp}
 use Rattle.avr_model.specs.declared.instruction.BinaryOp.TheVariants as binary
 use Rattle.avr_model.specs.Written.{written}
+use Rattle.avr_model.specs.Devices.{Program}
 use Rattle.bit_domain.specs.Tri.{permits}
 use Rattle.bit_domain.specs.TriByte.{byte_constant}
 use Rattle.bit_domain.specs.Logic.{byte_equal}
@@ -76,7 +77,7 @@ read_keeps : (t : AbsState) (d : ℕ) (o : Option AbsByte) → KeepsSlots t.slot
 read_keeps t d None = tt
 read_keeps t d (Some v) = refl
 
-flash_keeps : (words : List ℕ) (t : AbsState) (d : ℕ) (permits : ℕ → Bool) → KeepsSlots t.slots (flash_read words t d permits)
+flash_keeps : (words : Program) (t : AbsState) (d : ℕ) (permits : ℕ → Bool) → KeepsSlots t.slots (flash_read words t d permits)
 flash_keeps words t d permits =
     kept_where (few_in_flash words permits) t.slots (with_joined t d (flash_joined words permits)) (Some t) (read_keeps t d (flash_joined words permits)) refl
 
@@ -86,7 +87,7 @@ doubled_keeps true s binary.Adc d t = refl
 doubled_keeps true s _ d t = refl
 doubled_keeps false s op d t = refl
 
-retold_keeps : (words : List ℕ) (s : AbsState) (f : PairFacts) (instr : Instr) (t : AbsState) → KeepsSlots t.slots (retold words s f instr t)
+retold_keeps : (words : Program) (s : AbsState) (f : PairFacts) (instr : Instr) (t : AbsState) → KeepsSlots t.slots (retold words s f instr t)
 retold_keeps words s f (i.Binary op d r) t = doubled_keeps (d == r) s op d t
 retold_keeps words s f (i.LpmZ d) t = flash_keeps words t d (pair_permits (z_of s f))
 retold_keeps words s f (i.LpmZPlus d) t = flash_keeps words t d (pair_permits (z_of s f))
@@ -110,7 +111,7 @@ then_keeps slots ms s f instr (Some t) h =
     (subst (λ (x : List (Slot AbsByte)). KeepsSlots x (cut_told ms (told_by s.registers f instr) (with_hulls (written instr) t))) h
     (told_keeps ms (told_by s.registers f instr) (with_hulls (written instr) t)))
 
-refined_keeps : (ms words : List ℕ) (instr : Instr) (s t : AbsState) (x : Option PairFacts) → KeepsSlots t.slots (refined_known ms words instr s t x)
+refined_keeps : (ms : List ℕ) (words : Program) (instr : Instr) (s t : AbsState) (x : Option PairFacts) → KeepsSlots t.slots (refined_known ms words instr s t x)
 refined_keeps ms words instr s t None = refl
 refined_keeps ms words instr s t (Some f) = then_keeps t.slots ms s f instr (retold words s f instr t) (retold_keeps words s f instr t)
 
@@ -184,7 +185,7 @@ left_keeps_in : (b : Bool) (slots : List (Slot AbsByte)) (t : AbsState) → b �
 left_keeps_in true slots t e h = h
 left_keeps_in false slots t e h = cc
 
-pub told_slots : (b : Bool) (ms words : List ℕ) (instr : Instr) (s u t : AbsState) → left_in b t ≡ refined ms words instr s u → b ≡ true → t.slots ≡ u.slots
+pub told_slots : (b : Bool) (ms : List ℕ) (words : Program) (instr : Instr) (s u t : AbsState) → left_in b t ≡ refined ms words instr s u → b ≡ true → t.slots ≡ u.slots
 told_slots b ms words instr s u t e is = left_keeps_in b u.slots t is (subst (KeepsSlots u.slots) (sym e) (refined_keeps ms words instr s u s.facts))
 
 pub cut_slots : (b : Bool) (test : Test) (on : Bool) (s t : AbsState) → left_in b t ≡ cut_by test on s → b ≡ true → t.slots ≡ s.slots

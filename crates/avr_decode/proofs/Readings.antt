@@ -3,10 +3,11 @@ use Rattle.std.proofs.Common.{◌≡◌, ◌⊎◌, inl, inr, ⊎_elim, ℕ, suc
 use Rattle.std.specs.Prelude.{slice_get}
 use Rattle.avr_model.specs.declared.instruction.Instr.{Instr}
 use Rattle.avr_model.specs.Sites.{instruction_at, is_fixed, is_scratch}
+use Rattle.avr_model.specs.Devices.{Program}
 use Rattle.avr_decode.specs.declared.reading.Reading.{Reading}
 use Rattle.avr_decode.specs.Reading.{reading_at, AreReadings}
 
-pub none_read : (words : List ℕ) (rs : List Reading) → rs ≡ [] → AreReadings words rs
+pub none_read : (words : Program) (rs : List Reading) → rs ≡ [] → AreReadings words rs
 none_read words [] e = λ a r found. absurd cc
 none_read words (x ∷ rs) e = absurd cc
 
@@ -17,7 +18,7 @@ there_or_last (y ∷ rs) x zero r e = inl e
 there_or_last (y ∷ rs) x (suc a) r e =
     ⊎_elim (λ (there : slice_get rs a ≡ Some r). inl there) (λ (last : (a ≡ length rs) × (r ≡ x)). inr (ap suc last.0, last.1)) (there_or_last rs x a r e)
 
-pub one_more_read : (words : List ℕ) (rs new : List Reading) (a : ℕ) (instr : Option Instr) (fixed scratch : Bool) → AreReadings words rs → length rs ≡ a
+pub one_more_read : (words : Program) (rs new : List Reading) (a : ℕ) (instr : Option Instr) (fixed scratch : Bool) → AreReadings words rs → length rs ≡ a
     → new ≡ rs ++ record { instruction = instr; is_fixed = fixed; is_scratch = scratch } ∷ [] → instr ≡ instruction_at words a → fixed ≡ is_fixed words a → scratch ≡ is_scratch words a
     → AreReadings words new
 one_more_read words rs new a instr fixed scratch are count grown is_instr is_fix is_scr = subst (AreReadings words) (sym grown) (λ k r found.

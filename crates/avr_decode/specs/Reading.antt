@@ -1,11 +1,12 @@
 -- What a program's words say at a word address.
 use Rattle.std.specs.Prelude.{ℕ, ◌≡◌, List, Some, slice_get}
 use Rattle.avr_model.specs.Sites as sites
+use Rattle.avr_model.specs.Devices.{Program}
 use Rattle.avr_decode.specs.declared.reading.Reading.{Reading}
 
-abbrev pub reading_at : List ℕ → ℕ → Reading
+abbrev pub reading_at : Program → ℕ → Reading
 reading_at words a = record { instruction = sites.instruction_at words a; is_fixed = sites.is_fixed words a; is_scratch = sites.is_scratch words a }
 
 -- each of these says what the words do at its place
-abbrev pub AreReadings : List ℕ → List Reading → Type 0
+abbrev pub AreReadings : Program → List Reading → Type 0
 AreReadings words readings = (a : ℕ) (r : Reading) → slice_get readings a ≡ Some r → r ≡ reading_at words a

@@ -17,6 +17,7 @@ use Rattle.avr_model.specs.Effects.{effect_of, going_to, binary_effect, immediat
 use Rattle.avr_model.specs.Step.{Done, Overflow, all_inside, is_unlisted, unless_listed, answer_to, after, flag_by, flagged_or, live_write, protected_write, unlisted_transfer, is_pointer_store, is_indirect, result_of, state_after}
 use Rattle.avr_model.specs.Sites.{is_scratch}
 use Rattle.avr_model.specs.Assumptions.{jump_line}
+use Rattle.avr_model.specs.Devices.{Program}
 use Rattle.avr_machine.specs.Quiet.{is_quiet, protected_at, store_answer, push_effect_to, push_answer, jump_answer}
 use Rattle.avr_machine.proofs.Unpushed.{unpushed_answer}
 
@@ -24,7 +25,7 @@ use Rattle.avr_machine.proofs.Unpushed.{unpushed_answer}
 abbrev pub WritesNone : Effect → Type 0
 WritesNone e = (e.stores ≡ []) × (e.pushes ≡ [])
 
-binary_none : (words : List ℕ) (m : State) (op : BinaryOp) (d r : ℕ) → WritesNone (binary_effect words m op d r)
+binary_none : (words : Program) (m : State) (op : BinaryOp) (d r : ℕ) → WritesNone (binary_effect words m op d r)
 binary_none words m binary.Cpc d r = (refl, refl)
 binary_none words m binary.Sbc d r = (refl, refl)
 binary_none words m binary.Add d r = (refl, refl)
@@ -56,7 +57,7 @@ unary_none m unary.Lsr d = (refl, refl)
 unary_none m unary.Ror d = (refl, refl)
 unary_none m unary.Dec d = (refl, refl)
 
-writes_none : (words : List ℕ) (m : State) (instr : Instr) (b1 b2 : ℕ) → is_quiet instr ≡ true → WritesNone (effect_of words m instr b1 b2)
+writes_none : (words : Program) (m : State) (instr : Instr) (b1 b2 : ℕ) → is_quiet instr ≡ true → WritesNone (effect_of words m instr b1 b2)
 writes_none words m (i.Movw d r) b1 b2 q = (refl, refl)
 writes_none words m (i.Muls d r) b1 b2 q = (refl, refl)
 writes_none words m (i.Mulsu d r) b1 b2 q = (refl, refl)
@@ -212,7 +213,7 @@ none_live memory [] [] e f = refl
 none_live memory (w ∷ ws) pushes e f = absurd (cc)
 none_live memory [] (w ∷ ws) e f = absurd (cc)
 
-pub none_protected : (words : List ℕ) (entries : List Entry) (pc : ℕ) (instr : Instr) (e : Effect) → is_pointer_store instr ≡ false → protected_write words entries pc instr e ≡ None
+pub none_protected : (words : Program) (entries : List Entry) (pc : ℕ) (instr : Instr) (e : Effect) → is_pointer_store instr ≡ false → protected_write words entries pc instr e ≡ None
 unfolding protected_write
 none_protected words entries pc instr e plain = simp (plain)
 
@@ -220,7 +221,7 @@ pub none_unlisted : (entries : List Entry) (pc : ℕ) (instr : Instr) (e : Effec
 unfolding unlisted_transfer
 none_unlisted entries pc instr e plain = simp (plain)
 
-quiet_answer : (words : List ℕ) (entries : List Entry) (m : State) (instr : Instr) (b1 b2 : ℕ) → is_quiet instr ≡ true
+quiet_answer : (words : Program) (entries : List Entry) (m : State) (instr : Instr) (b1 b2 : ℕ) → is_quiet instr ≡ true
     → answer_to words entries m instr (effect_of words m instr b1 b2) ≡ Done (after m false (effect_of words m instr b1 b2))
 quiet_answer words entries m instr b1 b2 q =
     let e = effect_of words m instr b1 b2 in
@@ -229,30 +230,30 @@ quiet_answer words entries m instr b1 b2 q =
     ∙ ap (λ (live : Option ℕ). flagged_or (flag_by m.pc live (protected_write words entries m.pc instr e) (unlisted_transfer entries m.pc instr e)) (after m false e)) (none_live m.memory e.stores e.pushes none.0 none.1)
     ∙ ap₂ (λ (protected other : Option ℕ). flagged_or (flag_by m.pc None protected other) (after m false e)) (none_protected words entries m.pc instr e (not_stored instr q)) (none_unlisted entries m.pc instr e (not_indirect instr q))
 
-pub quiet_result : (words : List ℕ) (entries : List Entry) (m : State) (instr : Instr) (b1 b2 : ℕ) → is_quiet instr ≡ true
+pub quiet_result : (words : Program) (entries : List Entry) (m : State) (instr : Instr) (b1 b2 : ℕ) → is_quiet instr ≡ true
     → result.Done ≡ result_of (answer_to words entries m instr (effect_of words m instr b1 b2))
 quiet_result words entries m instr b1 b2 q = sym (ap result_of (quiet_answer words entries m instr b1 b2 q))
 
-pub quiet_state : (words : List ℕ) (entries : List Entry) (m : State) (instr : Instr) (b1 b2 : ℕ) → is_quiet instr ≡ true
+pub quiet_state : (words : Program) (entries : List Entry) (m : State) (instr : Instr) (b1 b2 : ℕ) → is_quiet instr ≡ true
     → after m false (effect_of words m instr b1 b2) ≡ state_after m (answer_to words entries m instr (effect_of words m instr b1 b2))
 quiet_state words entries m instr b1 b2 q = sym (ap (state_after m) (quiet_answer words entries m instr b1 b2 q))
 
 -- ---- stores
 
-pub stored_answer : (words : List ℕ) (entries : List Entry) (m : State) (instr : Instr) (e : Effect) (protected : Option ℕ) → e.pushes ≡ [] → is_indirect instr ≡ false
+pub stored_answer : (words : Program) (entries : List Entry) (m : State) (instr : Instr) (e : Effect) (protected : Option ℕ) → e.pushes ≡ [] → is_indirect instr ≡ false
     → protected_write words entries m.pc instr e ≡ protected → store_answer m protected e ≡ answer_to words entries m instr e
 stored_answer words entries m instr e protected none plain is =
     ap (λ (pushes : List Write). flagged_or (flag_by m.pc (live_write m.memory (e.stores ++ pushes)) protected None) (after m false e)) (sym none)
     ∙ ap₂ (λ (protected other : Option ℕ). flagged_or (flag_by m.pc (live_write m.memory (e.stores ++ e.pushes)) protected other) (after m false e)) (sym is) (sym (none_unlisted entries m.pc instr e plain))
     ∙ unpushed_answer words entries m instr e false (ap length none)
 
-pub pointer_protected : (words : List ℕ) (entries : List Entry) (pc : ℕ) (instr : Instr) (e : Effect) (w : Write) → is_pointer_store instr ≡ true → e.stores ≡ w ∷ [] → protected_write words entries pc instr e ≡ protected_at words entries pc w
+pub pointer_protected : (words : Program) (entries : List Entry) (pc : ℕ) (instr : Instr) (e : Effect) (w : Write) → is_pointer_store instr ≡ true → e.stores ≡ w ∷ [] → protected_write words entries pc instr e ≡ protected_at words entries pc w
 unfolding protected_write
 pointer_protected words entries pc instr e w pointer one = simp (pointer, one)
 
 -- ---- pushes and computed jumps
 
-pub pushed_answer : (words : List ℕ) (entries : List Entry) (m : State) (instr : Instr) (pushes : List Write) (sp target : ℕ) (transfer : Option ℕ) → is_pointer_store instr ≡ false
+pub pushed_answer : (words : Program) (entries : List Entry) (m : State) (instr : Instr) (pushes : List Write) (sp target : ℕ) (transfer : Option ℕ) → is_pointer_store instr ≡ false
     → unlisted_transfer entries m.pc instr (push_effect_to m pushes sp target) ≡ transfer
     → push_answer (not (is_scratch words m.pc)) m transfer pushes sp target ≡ answer_to words entries m instr (push_effect_to m pushes sp target)
 pushed_answer words entries m instr pushes sp target transfer plain is =
@@ -260,7 +261,7 @@ pushed_answer words entries m instr pushes sp target transfer plain is =
     then flagged_or (flag_by m.pc (live_write m.memory pushes) protected other) (after m (not (is_scratch words m.pc)) (push_effect_to m pushes sp target))
     else Overflow m.pc) (sym (none_protected words entries m.pc instr (push_effect_to m pushes sp target) plain)) (sym is)
 
-pub jumped_answer : (words : List ℕ) (entries : List Entry) (m : State) (instr : Instr) (target : ℕ) (transfer : Option ℕ) → is_pointer_store instr ≡ false
+pub jumped_answer : (words : Program) (entries : List Entry) (m : State) (instr : Instr) (target : ℕ) (transfer : Option ℕ) → is_pointer_store instr ≡ false
     → unlisted_transfer entries m.pc instr (going_to m target) ≡ transfer
     → jump_answer m transfer target ≡ answer_to words entries m instr (going_to m target)
 jumped_answer words entries m instr target transfer plain is =

@@ -7,7 +7,7 @@ use Rattle.avr_model.specs.declared.device.Device.{Device}
 use Rattle.avr_model.specs.declared.assumption.Entry.{Entry}
 use Rattle.avr_model.specs.declared.effect.Write.{Write}
 use Rattle.avr_model.specs.Assumptions.{store_line, lists, is_fixed_site}
-use Rattle.avr_model.specs.Devices.{device_of}
+use Rattle.avr_model.specs.Devices.{Program, device_of}
 use Rattle.avr_model.specs.Masks.{is_barred, enables_barred, admits_enables, is_flagged_write}
 use Rattle.avr_model.specs.Vectors.{Vector, vectors, is_core, has_enables, is_protected}
 use Rattle.avr_machine.specs.Quiet.{protected_at}
@@ -43,12 +43,12 @@ none_of false flagged a h = λ i. if sym h i then Some a else None
 none_fixed : (fixed : Bool) (some : Option ℕ) → fixed ≡ true → None ≡ (if not fixed then some else None)
 none_fixed fixed some h = λ i. if not (sym h i) then some else None
 
-pub fixed_site : (words : List ℕ) (A : List Entry) (site : ℕ) (w : Write) → is_fixed_site words A site ≡ true → None ≡ protected_at words A site w
+pub fixed_site : (words : Program) (A : List Entry) (site : ℕ) (w : Write) → is_fixed_site words A site ≡ true → None ≡ protected_at words A site w
 fixed_site words A site w h = none_fixed (is_fixed_site words A site) _ h
 
-pub not_flagged : (words : List ℕ) (A : List Entry) (site : ℕ) (w : Write) → is_flagged_write (device_of words) A site w.address w.byte ≡ false
+pub not_flagged : (words : Program) (A : List Entry) (site : ℕ) (w : Write) → is_flagged_write (device_of words) A site w.address w.byte ≡ false
     → None ≡ protected_at words A site w
 not_flagged words A site w h = none_of (is_fixed_site words A site) (is_flagged_write (device_of words) A site w.address w.byte) w.address h
 
-pub not_protected : (words : List ℕ) (A : List Entry) (site : ℕ) (w : Write) → is_protected w.address ≡ false → None ≡ protected_at words A site w
+pub not_protected : (words : Program) (A : List Entry) (site : ℕ) (w : Write) → is_protected w.address ≡ false → None ≡ protected_at words A site w
 not_protected words A site w h = not_flagged words A site w (unprotected (device_of words) A site w.address w.byte h)

@@ -7,6 +7,7 @@ use Rattle.avr_model.specs.declared.effect.Write.{Write}
 use Rattle.avr_model.specs.declared.effect.Effect.{Effect}
 use Rattle.avr_model.specs.State.{State, Memory}
 use Rattle.avr_model.specs.Step.{Answer, all_inside, answer_to, after, flag_by, flagged_or, live_write, memory_after, open_after, protected_write, sp_after, unlisted_transfer}
+use Rattle.avr_model.specs.Devices.{Program}
 
 no_items : (ws : List Write) → length ws ≡ 0 → ws ≡ []
 no_items [] e = refl
@@ -35,7 +36,7 @@ first_of true t x y e = refl
 first_of false t x y e = cc
 
 -- the step is flagged, or else done
-pub unpushed_answer : (words : List ℕ) (entries : List Entry) (m : State) (instr : Instr) (e : Effect) (guarded : Bool) → length e.pushes ≡ 0
+pub unpushed_answer : (words : Program) (entries : List Entry) (m : State) (instr : Instr) (e : Effect) (guarded : Bool) → length e.pushes ≡ 0
     → flagged_or (flag_by m.pc (live_write m.memory (e.stores ++ e.pushes)) (protected_write words entries m.pc instr e) (unlisted_transfer entries m.pc instr e)) (after m guarded e)
     ≡ answer_to words entries m instr e
 unpushed_answer words entries m instr e guarded none =

@@ -7,7 +7,7 @@ use Rattle.avr_model.specs.State.{State}
 use Rattle.avr_model.specs.declared.assumption.Entry.{Entry}
 use Rattle.avr_model.specs.declared.effect.Write.{Write}
 use Rattle.avr_model.specs.Assumptions.{is_fixed_site}
-use Rattle.avr_model.specs.Devices.{device_of}
+use Rattle.avr_model.specs.Devices.{Program, device_of}
 use Rattle.avr_model.specs.Step.{Answer, Overflow, after, all_inside, is_unlisted, flagged_or, flag_by, live_write, flagged_write}
 use Rattle.avr_model.specs.Effects.{going_to}
 
@@ -30,7 +30,7 @@ is_quiet (i.Sbi a b) = false
 is_quiet instr = is_quiet_flow instr
 
 -- the protected address that a pointer store writes, where its site isn't fixed and the write is flagged there
-abbrev pub protected_at : List ℕ → List Entry → ℕ → Write → Option ℕ
+abbrev pub protected_at : Program → List Entry → ℕ → Write → Option ℕ
 protected_at words A pc w = if not (is_fixed_site words A pc) then flagged_write (device_of words) A pc (w ∷ []) else None
 
 -- the answer to an effect that pushes nothing and goes to no computed word

@@ -4,7 +4,7 @@ use Rattle.std.specs.Fmt.{digits}
 use Rattle.avr_model.specs.declared.instruction.Instr.TheVariants as i
 use Rattle.avr_model.specs.declared.instruction.Base.TheVariants as base
 use Rattle.avr_model.specs.declared.device.TheConstants as device
-use Rattle.avr_model.specs.Devices.{device_of}
+use Rattle.avr_model.specs.Devices.{Program, device_of}
 use Rattle.avr_model.specs.Image.{WORDS}
 use Rattle.avr_model.specs.State.{SIZE, BELOW, SPL, SPH, SREG}
 use Rattle.avr_model.specs.Table.{decoded, length_of}
@@ -33,7 +33,7 @@ pub code_has_sreg : SREG ≡ device.SREG
 code_has_sreg = refl
 
 -- the ATmega328P's flash that begins with these words, and is erased behind them
-abbrev pub firmware : List ℕ → List ℕ
+abbrev pub firmware : Program → List ℕ
 firmware words = words ++ replicate 16384 0xFFFF
 
 -- `std` through Z without displacement, `ld` of r30 through Z+ is no instruction, and `sts` takes two words

@@ -11,6 +11,7 @@ use Rattle.avr_model.specs.declared.instruction.ImmediateOp.TheVariants as immed
 use Rattle.avr_model.specs.declared.instruction.ImmediateInstr.{ImmediateInstr}
 use Rattle.avr_model.specs.Sites.{instruction_at, loads, subtracts, borrows}
 use Rattle.avr_model.specs.Wide.{word_difference_of}
+use Rattle.avr_model.specs.Devices.{Program}
 
 -- what f gives for each number below n, one behind the other
 unfoldable pub joined_below : ℕ → (ℕ → List ℕ) → List ℕ
@@ -38,7 +39,7 @@ immediate_in None = None
 immediate_in (Some x) = immediate_of x
 
 -- the instruction at a word address, where it is one of a register and a byte
-abbrev pub immediate_at : List ℕ → ℕ → Option ImmediateInstr
+abbrev pub immediate_at : Program → ℕ → Option ImmediateInstr
 immediate_at words a = immediate_in (instruction_at words a)
 
 abbrev pub is_pair : ℕ → ℕ → Bool
@@ -69,7 +70,7 @@ loaded_byte p None = []
 loaded_byte p (Some x) = if loads x.op && (x.register == p) then x.byte ∷ [] else []
 
 -- what the text loads into register p: 0, and the byte of each `ldi`
-abbrev pub loaded_bytes : List ℕ → ℕ → List ℕ
+abbrev pub loaded_bytes : Program → ℕ → List ℕ
 loaded_bytes words p = 0 ∷ joined_below (length words) (λ a. loaded_byte p (immediate_at words a))
 
 abbrev pub compares : ImmediateOp → Bool
@@ -86,27 +87,27 @@ other_side x (i.Binary op d p) = if compares x.op && (compares_further op && is_
 other_side x _ = None
 
 -- L with each high byte that the text loads into p
-abbrev pub side_marks : List ℕ → ℕ → Option ℕ → List ℕ
+abbrev pub side_marks : Program → ℕ → Option ℕ → List ℕ
 side_marks words low None = []
 side_marks words low (Some p) = map (λ high. 256 * high + low) (loaded_bytes words p)
 
 -- an instruction and the one in the next word
-abbrev pub compared_marks : List ℕ → ImmediateInstr → Option Instr → List ℕ
+abbrev pub compared_marks : Program → ImmediateInstr → Option Instr → List ℕ
 compared_marks words x None = []
 compared_marks words x (Some y) = side_marks words x.byte (other_side x y)
 
 -- ---- all marks
 
-abbrev pub marks_from : List ℕ → ℕ → Option ImmediateInstr → List ℕ
+abbrev pub marks_from : Program → ℕ → Option ImmediateInstr → List ℕ
 marks_from words a None = []
 marks_from words a (Some x) =
     near_marks x (immediate_at words (a + 1)) ++ (near_marks x (immediate_at words (a + 2)) ++ (near_marks x (immediate_at words (a + 3))
     ++ compared_marks words x (instruction_at words (a + 1))))
 
 -- those of the instruction at a word address with the ones behind it
-abbrev pub marks_at : List ℕ → ℕ → List ℕ
+abbrev pub marks_at : Program → ℕ → List ℕ
 marks_at words a = marks_from words a (immediate_at words a)
 
 -- The marks of a program, by the words of a device's flash, modulo whose number word addresses count.
-unfoldable pub marks : List ℕ → List ℕ
+unfoldable pub marks : Program → List ℕ
 marks words = usual_marks ++ joined_below (length words) (marks_at words)

@@ -3,6 +3,7 @@ use Rattle.std.proofs.Common.{◌≡◌, refl, ap, subst, ℕ, List, arith}
 use Rattle.std.specs.Prelude.{◌↔◌}
 use Rattle.basics.specs.Lists.{get_inside}
 use Rattle.avr_model.specs.declared.assumption.Entry.{Entry}
+use Rattle.avr_model.specs.Devices.{Program}
 use Rattle.local_rules.specs.declared.local.Node.{Node}
 use Rattle.edge_rules.specs.Expansion.{Seeds, IsFilled, IsMissing}
 use Rattle.edge_laws.proofs.ExpansionLaws.{filled_or_missing}
@@ -11,7 +12,7 @@ use Rattle.call_graph.specs.declared.filled.Expanded.TheVariants.{Whole, Missing
 use Rattle.call_graph.specs.Expanding.{IsExpanded}
 use Rattle.call_graph.specs.Laws.{HasAll, AnswersAreExact}
 
-module _ (words : List ℕ) (A : List Entry) (nodes : Seeds) where
+module _ (words : Program) (A : List Entry) (nodes : Seeds) where
   has_all : (filled : List Node) → IsFilled words A nodes filled → HasAll words A nodes
   has_all filled f at lt = let found = get_inside filled at (omega (arith, lt, f.count)) in (found.0.state, f.states at found.0 found.1)
 

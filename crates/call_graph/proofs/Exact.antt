@@ -10,6 +10,7 @@ use Rattle.basics.specs.Booleans.{and_not}
 use Rattle.edge_laws.proofs.AllLaws.{part_of as whole}
 use Rattle.avr_model.specs.declared.assumption.Entry.{Entry}
 use Rattle.avr_model.specs.Vectors.{is_enabled, WATCHDOG}
+use Rattle.avr_model.specs.Devices.{Program}
 use Rattle.abs_state.specs.declared.state.AbsState.{AbsState}
 use Rattle.abs_state.specs.PairsBack.{returned}
 use Rattle.mask_states.specs.declared.keys.NodeKey.{NodeKey}
@@ -57,7 +58,7 @@ settled_ok : (r : Raw) (fs : List NodeFault) (l : Local) → settled r fs ≡ Ok
 settled_ok r [] l e = (refl, cc)
 settled_ok r (f ∷ fs) l e = absurd cc
 
-local_ok : (words : List ℕ) (A : List Entry) (n : Node) (l : Local) → local words A n.key n.state ≡ Ok l → IsFaultless words A n × (l ≡ whole (raw_of words A n))
+local_ok : (words : Program) (A : List Entry) (n : Node) (l : Local) → local words A n.key n.state ≡ Ok l → IsFaultless words A n × (l ≡ whole (raw_of words A n))
 unfolding local
 local_ok words A n l e = settled_ok (raw_of words A n) (raw_of words A n).faults l e
 
@@ -65,12 +66,12 @@ exit_by : (r : Raw) (x : Exit) (fs : List NodeFault) → exit_in (settled r fs) 
 exit_by r x [] e = (refl, e)
 exit_by r x (f ∷ fs) e = absurd cc
 
-exit_from : (words : List ℕ) (A : List Entry) (n : Node) (x : Exit) → exit_in (local words A n.key n.state) ≡ Some x
+exit_from : (words : Program) (A : List Entry) (n : Node) (x : Exit) → exit_in (local words A n.key n.state) ≡ Some x
     → IsFaultless words A n × ((raw_of words A n).exit ≡ Some x)
 unfolding local
 exit_from words A n x e = exit_by (raw_of words A n) x (raw_of words A n).faults e
 
-exit_there : (words : List ℕ) (A : List Entry) (n : Node) (x : Exit) → IsFaultless words A n → (raw_of words A n).exit ≡ Some x
+exit_there : (words : Program) (A : List Entry) (n : Node) (x : Exit) → IsFaultless words A n → (raw_of words A n).exit ≡ Some x
     → exit_in (local words A n.key n.state) ≡ Some x
 unfolding local
 exit_there words A n x f e = subst (λ fs. exit_in (settled (raw_of words A n) fs) ≡ Some x) (sym f) e
@@ -85,7 +86,7 @@ parts_of true false e = (refl, refl)
 parts_of true true e = absurd cc
 parts_of false d e = absurd cc
 
-at_vector_in : (words : List ℕ) (A : List Entry) (k : NodeKey) (v : ℕ) (clears : Bool) → may_enter words A k v ≡ true → (not clears || (v == WATCHDOG)) ≡ true
+at_vector_in : (words : Program) (A : List Entry) (k : NodeKey) (v : ℕ) (clears : Bool) → may_enter words A k v ≡ true → (not clears || (v == WATCHDOG)) ≡ true
     → Contains (at_vector words A k v) (vector_way words k v clears)
 at_vector_in words A k v false on c =
     let rest = (if v == WATCHDOG then vector_way words k v true ∷ [] else []) in
@@ -95,7 +96,7 @@ at_vector_in words A k v true on c =
     (subst (λ b. Contains (vector_way words k v false ∷ (if b then vector_way words k v true ∷ [] else [])) (vector_way words k v true)) (sym c)
     (further_in (vector_way words k v false) (vector_way words k v true) (vector_way words k v true ∷ []) (first_in (vector_way words k v true) [])))
 
-vectors_in : (words : List ℕ) (A : List Entry) (k : NodeKey) (n v : ℕ) (clears : Bool) → 2 ≤ v → v < n + 2 → may_enter words A k v ≡ true → (not clears || (v == WATCHDOG)) ≡ true
+vectors_in : (words : Program) (A : List Entry) (k : NodeKey) (n v : ℕ) (clears : Bool) → 2 ≤ v → v < n + 2 → may_enter words A k v ≡ true → (not clears || (v == WATCHDOG)) ≡ true
     → Contains (vectors_below words A k n) (vector_way words k v clears)
 unfolding vectors_below
 vectors_in words A k zero v clears low high on c = absurd (omega (arith, low, high))
@@ -107,7 +108,7 @@ vectors_in words A k (suc n) v clears low high on c =
     (vectors_in words A k n v clears low (let d = ne.1 in omega (arith, high, d)) on c))
     (eqb_tells v (n + 2))
 
-module _ (words : List ℕ) (A : List Entry) (n : Node) (clean : IsFaultless words A n) where
+module _ (words : Program) (A : List Entry) (n : Node) (clean : IsFaultless words A n) where
   -- the way is one that the node has
   abbrev IsWay : Way → Type 0
   IsWay w = Enters words A n w.kind w.inst w.back
@@ -145,7 +146,7 @@ module _ (words : List ℕ) (A : List Entry) (n : Node) (clean : IsFaultless wor
       (Contains-append_cases (map (call_way n.key) (raw_of words A n).calls) (interrupts_if (n.key.i && not n.key.delay) words A n.key) w h)
   ways_from (Open offset high) e w h = absurd (none_in w h)
 
-way_in : (words : List ℕ) (A : List Entry) (n : Node) (way : EdgeKind) (inst : InstKey) (back : ℕ) → Enters words A n way inst back
+way_in : (words : Program) (A : List Entry) (n : Node) (way : EdgeKind) (inst : InstKey) (back : ℕ) → Enters words A n way inst back
     → Contains (ways_of words A n.key (raw_of words A n).calls) (record { kind = way; inst = inst; back = back })
 way_in words A n _ _ _ (by_call offset site clean sp has) =
     let calls = (raw_of words A n).calls in
@@ -188,7 +189,7 @@ if_from false xs x h = absurd (none_in x h)
 
 -- ---- the list
 
-module _ (words : List ℕ) (A : List Entry) (nodes : List Node) (n : Node) where
+module _ (words : Program) (A : List Entry) (nodes : List Node) (n : Node) where
   abbrev Is : Edge → Type 0
   Is = IsEdge words A nodes n
 
@@ -260,7 +261,7 @@ module _ (words : List ℕ) (A : List Entry) (nodes : List Node) (n : Node) wher
 ok_is_no_err : (x : List Edge) (f : NodeFault) (r : Result (List Edge) NodeFault) → r ≡ Ok x → r ≡ Err f → ⊥
 ok_is_no_err x f r a b = cc
 
-module _ (words : List ℕ) (A : List Entry) (nodes : List Node) (n : Node) where
+module _ (words : Program) (A : List Entry) (nodes : List Node) (n : Node) where
   pub answer_edges : (r : Result (List Edge) NodeFault) → Answers (λ edges. edges) Memory r (next_of words A nodes n.key n.state)
       → IfOk r (λ edges. AreEdges words A nodes n edges)
   answer_edges (Ok all) h = exact_by words A nodes n all (local words A n.key n.state) refl h
@@ -292,7 +293,7 @@ module _ (words : List ℕ) (A : List Entry) (nodes : List Node) (n : Node) wher
 
 -- ---- the local part
 
-module _ (words : List ℕ) (A : List Entry) (n : Node) where
+module _ (words : Program) (A : List Entry) (n : Node) where
   part_of : IsFaultless words A n → (l : Local) × (local words A n.key n.state ≡ Ok l)
   unfolding local
   part_of f = (whole (raw_of words A n), ap (settled (raw_of words A n)) f)

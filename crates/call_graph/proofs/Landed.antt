@@ -6,6 +6,7 @@ use Rattle.basics.specs.Items.{only_one_in, none_in, first_in, contained_in_join
 use Rattle.basics.specs.Lists.{get_or_front, get_or_pushed, one_at}
 use Rattle.basics.specs.Numbers.{before_or_last}
 use Rattle.avr_model.specs.declared.assumption.Entry.{Entry}
+use Rattle.avr_model.specs.Devices.{Program}
 use Rattle.mask_states.specs.declared.keys.NodeKey.{NodeKey}
 use Rattle.mask_states.specs.declared.keys.EdgeKind.{EdgeKind}
 use Rattle.local_rules.specs.declared.local.Node.{Node}
@@ -34,7 +35,7 @@ landing_in kind o l e same =
 
 -- ---- one node
 
-module _ (words : List ℕ) (A : List Entry) (nodes : List Node) where
+module _ (words : Program) (A : List Entry) (nodes : List Node) where
   landings_are : (n : Node) (edges : List Edge) → AreEdges words A nodes n edges → AreLandingsOf words A nodes n (landings_by nodes edges)
   landings_are n edges are l = (
     λ h. each_of_join (landing_of nodes) (IsLanding words A nodes n) edges

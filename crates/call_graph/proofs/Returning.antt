@@ -7,6 +7,7 @@ use Rattle.basics.specs.Lists.{get_pushed, get_inside}
 use Rattle.basics.specs.Items.{contained_at}
 use Rattle.edge_rules.specs.Families.{AreFaultless}
 use Rattle.avr_model.specs.declared.assumption.Entry.{Entry}
+use Rattle.avr_model.specs.Devices.{Program}
 use Rattle.local_rules.specs.declared.local.Node.{Node}
 use Rattle.local_rules.specs.declared.local.Local.{Local}
 use Rattle.local_rules.specs.declared.local.Exit.{Exit}
@@ -45,7 +46,7 @@ not_both : (r : Raw) (f : NodeFault) (fs : List NodeFault) → fs ≡ [] → set
 not_both r f [] e h = cc
 not_both r f (g ∷ gs) e h = cc
 
-module _ (words : List ℕ) (A : List Entry) where
+module _ (words : Program) (A : List Entry) where
   exit_is : (n : Node) → IsFaultless words A n → exit_in (local words A n.key n.state) ≡ (raw_of words A n).exit
   unfolding local
   exit_is n f = ap (λ fs. exit_in (settled (raw_of words A n) fs)) f

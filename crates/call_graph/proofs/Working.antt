@@ -4,6 +4,7 @@ use Rattle.std.specs.List.{slice_get}
 use Rattle.std.proofs.lemmas.Option.{none-some, slice_get_read}
 use Rattle.avr_model.specs.declared.assumption.Entry.{Entry}
 use Rattle.avr_model.specs.Assumptions.{has_pairs}
+use Rattle.avr_model.specs.Devices.{Program}
 use Rattle.abs_state.specs.declared.state.AbsState.{AbsState}
 use Rattle.mask_states.specs.declared.keys.NodeKey.{NodeKey}
 use Rattle.mask_states.specs.Order.{same_node}
@@ -21,14 +22,14 @@ pub from_at : (done : List Node) (x : Seed) (m : ℕ) (n : Node) → x ≡ seed.
     → slice_get done m ≡ Some n
 from_at done x m n e h is = slice_get_read done (length done) m n refl (subst (λ (y : Seed). ComesFromBelow (form_of y) (length done)) e h) is
 
-pub worked_from : (words : List ℕ) (A : List Entry) (done : List Node) (k : NodeKey) (x : Seed) (m : ℕ) (n : Node) → x ≡ seed.From m
+pub worked_from : (words : Program) (A : List Entry) (done : List Node) (k : NodeKey) (x : Seed) (m : ℕ) (n : Node) → x ≡ seed.From m
     → slice_get done m ≡ Some n → carried words A k (Some n) ≡ worked words A done k (form_of x)
 worked_from words A done k x m n e g = sym (ap (λ (y : Seed). worked words A done k (form_of y)) e ∙ ap (carried words A k) g)
 
 seed_is : (nodes : Seeds) (at : ℕ) (k : NodeKey) (f : NodeForm) → HasKeyAt nodes at k → HasFormAt nodes at f → slice_get nodes at ≡ Some (k, f)
 seed_is nodes at k f a b = a.1 ∙ (λ i. Some (k, (same_seed (slice_get nodes at) k b.0 a.0 f a.1 b.1).1 i))
 
-module _ (words : List ℕ) (A : List Entry) (nodes : Seeds) (at : ℕ) (done : List Node) (so : AreExpandedSoFar words A nodes at done) where
+module _ (words : Program) (A : List Entry) (nodes : Seeds) (at : ℕ) (done : List Node) (so : AreExpandedSoFar words A nodes at done) where
   pub numbered : (list : List Node) → list ≡ done → AreNumbered (has_pairs A) list
   numbered list e = subst (AreNumbered (has_pairs A)) (sym e) (λ i n g. (so.each i n g).node)
 

@@ -1,6 +1,7 @@
 -- How the nodes of a family return.
 use Rattle.std.specs.Prelude.{ℕ, ◌≡◌, ◌<◌, List, length, Option, Some, Result, Ok, Err, Contains, slice_get}
 use Rattle.avr_model.specs.declared.assumption.Entry.{Entry}
+use Rattle.avr_model.specs.Devices.{Program}
 use Rattle.local_rules.specs.declared.local.Node.{Node}
 use Rattle.local_rules.specs.declared.local.Local.{Local}
 use Rattle.local_rules.specs.declared.local.Exit.{Exit}
@@ -12,20 +13,20 @@ use Rattle.call_graph.specs.declared.exit_list.Leaving.TheVariants.{All, Fault}
 use Rattle.call_graph.specs.Next.{exit_in}
 
 -- no node has a fault, and these are their exits, by their numbers
-pub record AreExits (words : List ℕ) (A : List Entry) (nodes : List Node) (exits : List (Option Exit)) : Type 0 where
+pub record AreExits (words : Program) (A : List Entry) (nodes : List Node) (exits : List (Option Exit)) : Type 0 where
   pub count : length exits ≡ length nodes
   pub faultless : (n : Node) → Contains nodes n → IsFaultless words A n
   pub each : (at : ℕ) (n : Node) → slice_get nodes at ≡ Some n → slice_get exits at ≡ Some (raw_of words A n).exit
 
 -- the node of this number has this fault, and none before it has one
-pub record IsFirstFault (words : List ℕ) (A : List Entry) (nodes : List Node) (at : ℕ) (f : NodeFault) : Type 0 where
+pub record IsFirstFault (words : Program) (A : List Entry) (nodes : List Node) (at : ℕ) (f : NodeFault) : Type 0 where
   pub node : Node
   pub present : slice_get nodes at ≡ Some node
   pub fault : local words A node.key node.state ≡ Err f
   pub before : (i : ℕ) (n : Node) → i < at → slice_get nodes i ≡ Some n → IsFaultless words A n
 
 -- the exits of all nodes, or the first fault
-abbrev pub GivesExits : List ℕ → List Entry → List Node → Leaving → Type 0
+abbrev pub GivesExits : Program → List Entry → List Node → Leaving → Type 0
 GivesExits words A nodes (All exits) = AreExits words A nodes exits
 GivesExits words A nodes (Fault at f) = IsFirstFault words A nodes at f
 
@@ -37,12 +38,12 @@ exit_or (Ok l) = Ok l.exit
 exit_or (Err f) = Err f
 
 -- as far as exits are given, they are those of the nodes
-abbrev pub AreExitsKnown : List ℕ → List Entry → List Node → List (Option Exit) → Type 0
+abbrev pub AreExitsKnown : Program → List Entry → List Node → List (Option Exit) → Type 0
 AreExitsKnown words A nodes known =
     (at : ℕ) (n : Node) (x : Option Exit) → slice_get nodes at ≡ Some n → slice_get known at ≡ Some x → x ≡ exit_in (local words A n.key n.state)
 
 -- the exits of the nodes below this number, which have no fault
-pub record ExitsSoFar (words : List ℕ) (A : List Entry) (nodes : List Node) (at : ℕ) (exits : List (Option Exit)) : Type 0 where
+pub record ExitsSoFar (words : Program) (A : List Entry) (nodes : List Node) (at : ℕ) (exits : List (Option Exit)) : Type 0 where
   pub count : length exits ≡ at
   pub clean : (i : ℕ) (n : Node) → i < at → slice_get nodes i ≡ Some n → IsFaultless words A n
   pub each : (i : ℕ) (n : Node) → i < at → slice_get nodes i ≡ Some n → slice_get exits i ≡ Some (raw_of words A n).exit

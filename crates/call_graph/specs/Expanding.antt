@@ -2,6 +2,7 @@
 use Rattle.std.specs.Prelude.{ℕ, Bool, ◌≡◌, ◌<◌, ⊤, List, Some}
 use Rattle.std.specs.List.{slice_get}
 use Rattle.avr_model.specs.declared.assumption.Entry.{Entry}
+use Rattle.avr_model.specs.Devices.{Program}
 use Rattle.local_rules.specs.declared.local.Node.{Node}
 use Rattle.local_rules.specs.Cover.{IsNodeIn}
 use Rattle.edge_rules.specs.declared.seeded.NodeForm.{NodeForm}
@@ -11,7 +12,7 @@ use Rattle.call_graph.specs.declared.filled.Expanded.{Expanded}
 use Rattle.call_graph.specs.declared.filled.Expanded.TheVariants.{Whole, Missing}
 
 -- all expansions, or the least node that has none
-abbrev pub IsExpanded : List ℕ → List Entry → Seeds → Expanded → Type 0
+abbrev pub IsExpanded : Program → List Entry → Seeds → Expanded → Type 0
 IsExpanded words A nodes (Whole filled) = IsFilled words A nodes filled
 IsExpanded words A nodes (Missing at) = IsMissing words A nodes at
 

@@ -2,6 +2,7 @@
 use Rattle.std.specs.Prelude.{ℕ, ◌≡◌, ◌↔◌, ◌<◌, List, [], length, Option, Ok, Contains}
 use Rattle.edge_rules.specs.Families.{AreFaultless}
 use Rattle.avr_model.specs.declared.assumption.Entry.{Entry}
+use Rattle.avr_model.specs.Devices.{Program}
 use Rattle.abs_state.specs.declared.state.AbsState.{AbsState}
 use Rattle.local_rules.specs.declared.local.Node.{Node}
 use Rattle.local_rules.specs.declared.local.Exit.{Exit}
@@ -20,30 +21,30 @@ use Rattle.call_graph.specs.declared.ways.Way.{Way}
 use Rattle.call_graph.specs.Ways.{ways_of}
 
 -- each node has an expansion
-abbrev pub HasAll : List ℕ → List Entry → Seeds → Type 0
+abbrev pub HasAll : Program → List Entry → Seeds → Type 0
 HasAll words A nodes = (at : ℕ) → at < length nodes → (s : AbsState) × IsExpansion words A nodes at s
 
 -- All states are given exactly where each node has one, the least node without one exactly where there is one, and there is one answer.
 pub record AnswersAreExact : Type 0 where
-  pub whole : (words : List ℕ) (A : List Entry) (nodes : Seeds) (answer : Expanded) → IsExpanded words A nodes answer
+  pub whole : (words : Program) (A : List Entry) (nodes : Seeds) (answer : Expanded) → IsExpanded words A nodes answer
       → ((filled : List Node) × (answer ≡ Whole filled)) ↔ HasAll words A nodes
-  pub missing : (words : List ℕ) (A : List Entry) (nodes : Seeds) (answer : Expanded) (at : ℕ) → IsExpanded words A nodes answer
+  pub missing : (words : Program) (A : List Entry) (nodes : Seeds) (answer : Expanded) (at : ℕ) → IsExpanded words A nodes answer
       → (answer ≡ Missing at) ↔ IsMissing words A nodes at
-  pub one : (words : List ℕ) (A : List Entry) (nodes : Seeds) (a b : Expanded) → IsExpanded words A nodes a → IsExpanded words A nodes b → a ≡ b
+  pub one : (words : Program) (A : List Entry) (nodes : Seeds) (a b : Expanded) → IsExpanded words A nodes a → IsExpanded words A nodes b → a ≡ b
 
 -- Exits are given exactly where no node has a fault, the first fault exactly where there is one, and there is one answer.
 pub record ExitsAreExact : Type 0 where
-  pub whole : (words : List ℕ) (A : List Entry) (nodes : List Node) (answer : Leaving) → GivesExits words A nodes answer
+  pub whole : (words : Program) (A : List Entry) (nodes : List Node) (answer : Leaving) → GivesExits words A nodes answer
       → ((exits : List (Option Exit)) × (answer ≡ All exits)) ↔ AreFaultless words A nodes
-  pub fault : (words : List ℕ) (A : List Entry) (nodes : List Node) (answer : Leaving) (at : ℕ) (f : NodeFault) → GivesExits words A nodes answer
+  pub fault : (words : Program) (A : List Entry) (nodes : List Node) (answer : Leaving) (at : ℕ) (f : NodeFault) → GivesExits words A nodes answer
       → (answer ≡ Fault at f) ↔ IsFirstFault words A nodes at f
-  pub one : (words : List ℕ) (A : List Entry) (nodes : List Node) (a b : Leaving) → GivesExits words A nodes a → GivesExits words A nodes b → a ≡ b
+  pub one : (words : Program) (A : List Entry) (nodes : List Node) (a b : Leaving) → GivesExits words A nodes a → GivesExits words A nodes b → a ≡ b
 
 -- The local part of a node has what its edges have: it has one exactly without a fault, with its successors, its exit, and calls of
 -- which the ways into other instances are made.
 pub record LocalPartsAreEdges : Type 0 where
-  pub faultless : (words : List ℕ) (A : List Entry) (n : Node) → ((l : Local) × (local words A n.key n.state ≡ Ok l)) ↔ IsFaultless words A n
-  pub same : (words : List ℕ) (A : List Entry) (n : Node) (l : Local) → local words A n.key n.state ≡ Ok l → l.same ≡ joined_onto [] (raw_of words A n).moves
-  pub exit : (words : List ℕ) (A : List Entry) (n : Node) (l : Local) → local words A n.key n.state ≡ Ok l → l.exit ≡ (raw_of words A n).exit
-  pub ways : (words : List ℕ) (A : List Entry) (n : Node) (l : Local) (w : Way) → local words A n.key n.state ≡ Ok l
+  pub faultless : (words : Program) (A : List Entry) (n : Node) → ((l : Local) × (local words A n.key n.state ≡ Ok l)) ↔ IsFaultless words A n
+  pub same : (words : Program) (A : List Entry) (n : Node) (l : Local) → local words A n.key n.state ≡ Ok l → l.same ≡ joined_onto [] (raw_of words A n).moves
+  pub exit : (words : Program) (A : List Entry) (n : Node) (l : Local) → local words A n.key n.state ≡ Ok l → l.exit ≡ (raw_of words A n).exit
+  pub ways : (words : Program) (A : List Entry) (n : Node) (l : Local) (w : Way) → local words A n.key n.state ≡ Ok l
       → Contains (ways_of words A n.key l.calls) w ↔ Enters words A n w.kind w.inst w.back

@@ -1,6 +1,7 @@
 -- The edges from a node, in the code's order.
 use Rattle.std.specs.Prelude.{ℕ, if◌then◌else◌, List, [], ◌∷◌, ◌++◌, map, Option, Some, None, Result, Ok, Err}
 use Rattle.avr_model.specs.declared.assumption.Entry.{Entry}
+use Rattle.avr_model.specs.Devices.{Program}
 use Rattle.abs_state.specs.declared.state.AbsState.{AbsState}
 use Rattle.abs_state.specs.Frames.{entered}
 use Rattle.abs_state.specs.PairsBack.{returned}
@@ -49,7 +50,7 @@ returned_by k s w None t = []
 returned_by k s w (Some x) t = edge_back (returned_node k s w x t)
 
 -- back from a node
-abbrev pub return_edges : List ℕ → List Entry → NodeKey → AbsState → Way → Node → List Edge
+abbrev pub return_edges : Program → List Entry → NodeKey → AbsState → Way → Node → List Edge
 return_edges words A k s w leaver = returned_by k s w (exit_in (local words A leaver.key leaver.state)) leaver.state
 
 -- what each gives, one after the other
@@ -58,23 +59,23 @@ gathered f [] = []
 gathered f (x ∷ xs) = f x ++ gathered f xs
 
 -- back from a node, if it is of the entered instance
-abbrev pub return_if : List ℕ → List Entry → NodeKey → AbsState → Way → Node → List Edge
+abbrev pub return_if : Program → List Entry → NodeKey → AbsState → Way → Node → List Edge
 return_if words A k s w n = if same_inst n.key.inst w.inst then return_edges words A k s w n else []
 
 -- back from the nodes of the entered instance
-abbrev pub returns_in : List ℕ → List Entry → NodeKey → AbsState → List Node → Way → List Edge
+abbrev pub returns_in : Program → List Entry → NodeKey → AbsState → List Node → Way → List Edge
 returns_in words A k s nodes w = gathered (return_if words A k s w) nodes
 
-abbrev pub all_returns : List ℕ → List Entry → NodeKey → AbsState → List Node → List Way → List Edge
+abbrev pub all_returns : Program → List Entry → NodeKey → AbsState → List Node → List Way → List Edge
 all_returns words A k s nodes ws = gathered (returns_in words A k s nodes) ws
 
-abbrev pub edges_with : List ℕ → List Entry → List Node → NodeKey → AbsState → List Way → Local → List Edge
+abbrev pub edges_with : Program → List Entry → List Node → NodeKey → AbsState → List Way → Local → List Edge
 edges_with words A nodes k s ws l = map local_edge l.same ++ (map (entry_edge s) ws ++ all_returns words A k s nodes ws)
 
-abbrev pub next_by : List ℕ → List Entry → List Node → NodeKey → AbsState → Result Local NodeFault → Result (List Edge) NodeFault
+abbrev pub next_by : Program → List Entry → List Node → NodeKey → AbsState → Result Local NodeFault → Result (List Edge) NodeFault
 next_by words A nodes k s (Ok l) = Ok (edges_with words A nodes k s (ways_of words A k l.calls) l)
 next_by words A nodes k s (Err f) = Err f
 
 -- all edges from a node, or its fault
-abbrev pub next_of : List ℕ → List Entry → List Node → NodeKey → AbsState → Result (List Edge) NodeFault
+abbrev pub next_of : Program → List Entry → List Node → NodeKey → AbsState → Result (List Edge) NodeFault
 next_of words A nodes k s = next_by words A nodes k s (local words A k s)

@@ -8,6 +8,7 @@ use Rattle.std.proofs.lemmas.Option.{same_Some}
 use Rattle.basics.specs.Lists.{one_at}
 use Rattle.basics.specs.Items.{only_one_in, first_in}
 use Rattle.avr_model.specs.declared.assumption.Entry.{Entry}
+use Rattle.avr_model.specs.Devices.{Program}
 use Rattle.mask_states.specs.declared.keys.EdgeKind.{EdgeKind}
 use Rattle.mask_states.specs.declared.keys.InstKey.{InstKey}
 use Rattle.mask_states.specs.declared.keys.SpForm.TheVariants.{Closed}
@@ -149,7 +150,7 @@ no_demand = record { inst = 0; into = None; bytes = 0 }
 
 -- ---- what demands say
 
-module _ (words : List ℕ) (A : List Entry) (c : Claim) (nodes : List Node) (are : AreInstances c.instances) (belong : AllBelong c.instances nodes)
+module _ (words : Program) (A : List Entry) (c : Claim) (nodes : List Node) (are : AreInstances c.instances) (belong : AllBelong c.instances nodes)
     (land : AllLanded words A c.nodes nodes) (demands : List Demand) (asked : AreDemands words A c.instances nodes demands) where
   offset_listed : (n : Node) (o : ℕ) → Contains nodes n → n.key.sp ≡ Closed o
       → Contains demands (record { inst = place_in c.instances n.key.inst; into = None; bytes = o })

@@ -5,6 +5,7 @@ use Rattle.std.proofs.lemmas.List.Elements.{Contains-append_left, Contains-appen
 use Rattle.std.proofs.lemmas.Option.{slice_get_within}
 use Rattle.basics.specs.Items.{only_one_in, contained_in_join, each_of_join, none_in, first_in}
 use Rattle.avr_model.specs.declared.assumption.Entry.{Entry}
+use Rattle.avr_model.specs.Devices.{Program}
 use Rattle.mask_states.specs.declared.keys.EdgeKind.{EdgeKind}
 use Rattle.mask_states.specs.declared.keys.InstKey.{InstKey}
 use Rattle.mask_states.specs.declared.keys.SpForm.{SpForm}
@@ -21,7 +22,7 @@ use Rattle.cert_check.specs.declared.demand.Demand.{Demand}
 use Rattle.cert_check.specs.Demands.{AreInstances, place_in, need_at, offset_demand, entry_demand, demands_of, Asks, offset, entry, AreDemands, AllBelong, IsInside, AreDemandsInside}
 use Rattle.cert_check.proofs.Insts.{placed}
 
-module _ (words : List ℕ) (A : List Entry) (insts : List Inst) (n : Node) where
+module _ (words : Program) (A : List Entry) (insts : List Inst) (n : Node) where
   from_offset : (form : SpForm) → n.key.sp ≡ form → (d : Demand) → Contains (offset_demand (place_in insts n.key.inst) form) d → Asks words A insts n d
   from_offset (Closed o) e d h = subst (Asks words A insts n) (sym (only_one_in (record { inst = place_in insts n.key.inst; into = None; bytes = o }) d h)) (offset o e)
   from_offset (Open o high) e d h = absurd (none_in d h)
@@ -78,7 +79,7 @@ module _ (words : List ℕ) (A : List Entry) (insts : List Inst) (n : Node) wher
 pub landed_belongs : (insts : List Inst) (nodes : List Node) (n : Node) → AllBelong insts nodes → IsCovered nodes n → Contains (inst_keys insts) n.key.inst
 landed_belongs insts nodes n belong h = belong (record { key = n.key; state = h.state }) h.present
 
-module _ (words : List ℕ) (A : List Entry) (insts : List Inst) (nodes : List Node) (are : AreInstances insts) (belong : AllBelong insts nodes)
+module _ (words : Program) (A : List Entry) (insts : List Inst) (nodes : List Node) (are : AreInstances insts) (belong : AllBelong insts nodes)
     (land : AllLand words A nodes) where
   pub entered_belongs : (n : Node) (way : EdgeKind) (inst : InstKey) (back : ℕ) → Contains nodes n → Enters words A n way inst back
       → Contains (inst_keys insts) inst

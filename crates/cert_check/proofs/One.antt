@@ -8,6 +8,7 @@ use Rattle.edge_rules.specs.Families.{AreFaultless}
 use Rattle.avr_model.specs.declared.assumption.Entry.{Entry}
 use Rattle.avr_model.specs.Assumptions.{has_pairs}
 use Rattle.avr_model.specs.Run.{Bounded}
+use Rattle.avr_model.specs.Devices.{Program}
 use Rattle.mask_states.specs.declared.keys.NodeKey.{NodeKey}
 use Rattle.mask_states.specs.Keys.{root_inst}
 use Rattle.mask_states.specs.Order.{node_cmp}
@@ -52,7 +53,7 @@ settled_err : (r : Raw) (fs : List NodeFault) (f : NodeFault) → settled r fs �
 settled_err r [] f e is = cc
 settled_err r (g ∷ fs) f e is = cc
 
-fault_counts : (words : List ℕ) (A : List Entry) (n : Node) (f : NodeFault) → local words A n.key n.state ≡ Err f → IsFaultless words A n → ⊥
+fault_counts : (words : Program) (A : List Entry) (n : Node) (f : NodeFault) → local words A n.key n.state ≡ Err f → IsFaultless words A n → ⊥
 unfolding local
 fault_counts words A n f e clean = settled_err (raw_of words A n) (raw_of words A n).faults f e clean
 
@@ -61,7 +62,7 @@ err_same r f g a b = cc
 
 -- ---- of two numbers the least
 
-module _ (words : List ℕ) (A : List Entry) (c : Claim) (claim : IsClaim c) (nodes : List Node) where
+module _ (words : Program) (A : List Entry) (c : Claim) (claim : IsClaim c) (nodes : List Node) where
   rank_is : (j : ℕ) (x : Inst) → slice_get c.instances j ≡ Some x → rank_in c.instances x.key ≡ x.rank
   rank_is j x e =
       sym (rank_there c.instances x.key)
@@ -239,22 +240,22 @@ module _ (words : List ℕ) (A : List Entry) (c : Claim) (claim : IsClaim c) (no
 -- ---- the whole
 
 -- either a node has no expansion, or the verdict is on the nodes with their states
-pub record IsOnNodes (words : List ℕ) (A : List Entry) (c : Claim) (v : Verdict) : Type 0 where
+pub record IsOnNodes (words : Program) (A : List Entry) (c : Claim) (v : Verdict) : Type 0 where
   pub nodes : List Node
   pub filled : IsFilled words A (read_seeds (has_pairs A) c.nodes) nodes
   pub decides : Decides words A c nodes v
 
-abbrev pub IsOnMissing : List ℕ → List Entry → Claim → Verdict → Type 0
+abbrev pub IsOnMissing : Program → List Entry → Claim → Verdict → Type 0
 IsOnMissing words A c v = (at : ℕ) × ((v ≡ Rejected (reason.Expansion at)) × IsMissing words A (read_seeds (has_pairs A) c.nodes) at)
 
-on_rejected : (words : List ℕ) (A : List Entry) (c : Claim) (r : Reason) → IsRejected words A c r → IsOnMissing words A c (Rejected r) ⊎ IsOnNodes words A c (Rejected r)
+on_rejected : (words : Program) (A : List Entry) (c : Claim) (r : Reason) → IsRejected words A c r → IsOnMissing words A c (Rejected r) ⊎ IsOnNodes words A c (Rejected r)
 on_rejected words A c r h = inr (record { nodes = h.nodes; filled = h.expanded; decides = h.why })
 
 -- where the list that is handed in is the certificate's own, its nodes are read as they are
 as_own : (A : List Entry) (c : Claim) → IsClaim c → c.assumptions ≡ A → read_seeds (has_pairs A) c.nodes ≡ c.nodes
 as_own A c claim same = ap (λ B. read_seeds (has_pairs B) c.nodes) (sym same) ∙ own_is_read c claim
 
-pub split : (words : List ℕ) (A : List Entry) (c : Claim) (v : Verdict) → IsClaim c → IsVerdict words A c v → IsOnMissing words A c v ⊎ IsOnNodes words A c v
+pub split : (words : Program) (A : List Entry) (c : Claim) (v : Verdict) → IsClaim c → IsVerdict words A c v → IsOnMissing words A c v ⊎ IsOnNodes words A c v
 split words A c (Accepted bound) claim h = inr (record {
   nodes = h.0.nodes;
   filled = subst (λ (own : Seeds). IsFilled words A own h.0.nodes) (sym (as_own A c claim h.0.meets.assumptions)) h.0.expanded;
@@ -269,7 +270,7 @@ split words A c (Rejected (reason.Need j need)) claim h = on_rejected words A c 
 split words A c (Rejected (reason.Bound need)) claim h = on_rejected words A c (reason.Bound need) h
 split words A c (Rejected reason.Assumptions) claim h = on_rejected words A c reason.Assumptions h
 
-pub refused : (words : List ℕ) (A : List Entry) (c : Claim) (nodes : List Node) (r : Reason) → IsFilled words A (read_seeds (has_pairs A) c.nodes) nodes
+pub refused : (words : Program) (A : List Entry) (c : Claim) (nodes : List Node) (r : Reason) → IsFilled words A (read_seeds (has_pairs A) c.nodes) nodes
     → IsLeastReason words A c nodes r → IsReason words A c r
 refused words A c nodes (reason.Expansion at) f h = absurd h
 refused words A c nodes reason.Root f h = record { nodes = nodes; expanded = f; why = h }
@@ -280,12 +281,12 @@ refused words A c nodes (reason.Need j need) f h = record { nodes = nodes; expan
 refused words A c nodes (reason.Bound need) f h = record { nodes = nodes; expanded = f; why = h }
 refused words A c nodes reason.Assumptions f h = record { nodes = nodes; expanded = f; why = h }
 
-pub family_is : (words : List ℕ) (A : List Entry) (c : Claim) (family : Worked) → IsClaim c → IsFilled words A (read_seeds (has_pairs A) c.nodes) family.nodes
+pub family_is : (words : Program) (A : List Entry) (c : Claim) (family : Worked) → IsClaim c → IsFilled words A (read_seeds (has_pairs A) c.nodes) family.nodes
     → MeetsConditions words A c family.nodes × AreLandings words A family.nodes family.landings → IsFamilyOf words A c family
 family_is words A c family claim f h =
     record { filled = subst (λ (own : Seeds). IsFilled words A own family.nodes) (as_own A c claim h.0.assumptions) f; meets = h.0; landings = h.1 }
 
-pub few_in : (words : List ℕ) (A : List Entry) (c : Claim) (j : Judgement) → IsClaim c → IsJudgement words A c j → (family : Worked) → j ≡ judgement.Accepted family
+pub few_in : (words : Program) (A : List Entry) (c : Claim) (j : Judgement) → IsClaim c → IsJudgement words A c j → (family : Worked) → j ≡ judgement.Accepted family
     → length family.nodes ≤ 65536
 few_in words A c j claim h family e =
     let f : IsFamilyOf words A c family = subst (IsJudgement words A c) e h in
@@ -309,21 +310,21 @@ sound_certificates_bound_every_run words A c have claim sound =
 
 -- ---- what an exact verdict says
 
-pub accepts : (words : List ℕ) (A : List Entry) (c : Claim) (v : Verdict) → IsClaim c → IsVerdict words A c v → (b : ℕ)
+pub accepts : (words : Program) (A : List Entry) (c : Claim) (v : Verdict) → IsClaim c → IsVerdict words A c v → (b : ℕ)
     → (v ≡ Accepted b) ↔ (IsSound words A c × (b ≡ c.bound))
 accepts words A c v claim h b = (
   λ e. subst (IsVerdict words A c) e h,
   λ s. verdicts_are_one words A c v (Accepted b) claim h s,
 )
 
-pub rejects : (words : List ℕ) (A : List Entry) (c : Claim) (v : Verdict) → IsClaim c → IsVerdict words A c v → (r : Reason)
+pub rejects : (words : Program) (A : List Entry) (c : Claim) (v : Verdict) → IsClaim c → IsVerdict words A c v → (r : Reason)
     → (v ≡ Rejected r) ↔ IsReason words A c r
 rejects words A c v claim h r = (
   λ e. subst (IsVerdict words A c) e h,
   λ s. verdicts_are_one words A c v (Rejected r) claim h s,
 )
 
-pub bounds : (words : List ℕ) (A : List Entry) (c : Claim) (v : Verdict) (b : ℕ) → AreWords words → IsClaim c → IsVerdict words A c v → v ≡ Accepted b
+pub bounds : (words : Program) (A : List Entry) (c : Claim) (v : Verdict) (b : ℕ) → AreWords words → IsClaim c → IsVerdict words A c v → v ≡ Accepted b
     → Bounded words A b
 bounds words A c v b have claim h e =
     let s = (accepts words A c v claim h b).0 e in

@@ -8,6 +8,7 @@ use Rattle.basics.specs.Items.{place_of_contained, contained_at, none_in}
 use Rattle.basics.specs.Lists.{one_at}
 use Rattle.avr_model.specs.declared.assumption.Entry.{Entry}
 use Rattle.avr_model.specs.Assumptions.{has_pairs}
+use Rattle.avr_model.specs.Devices.{Program}
 use Rattle.abs_state.specs.declared.state.AbsState.{AbsState}
 use Rattle.mask_states.specs.declared.keys.NodeKey.{NodeKey}
 use Rattle.local_rules.specs.declared.local.Node.{Node}
@@ -31,7 +32,7 @@ key_is nodes at n k is e = same_Some n.key k (sym (ap (option_map key_of) is) �
 pub own_node : {followed : Bool} (k : NodeKey) (s : AbsState) → IsNodeIn followed k s → IsOwnNode k s
 own_node k s h = subst (λ b. IsNodeIn b k s) (sym h.mode) h
 
-module _ (words : List ℕ) (A : List Entry) (own : Seeds) (insts : List Inst) (nodes : List Node) where
+module _ (words : Program) (A : List Entry) (own : Seeds) (insts : List Inst) (nodes : List Node) where
   pub begins : IsMidway words A own insts nodes 0 []
   begins = record {
     land = λ i n e is lt. absurd (omega (arith, lt));

@@ -5,6 +5,7 @@ use Rattle.std.proofs.lemmas.Option.{none-some, same_Some, slice_get_within}
 use Rattle.basics.specs.Items.{place_of_contained}
 use Rattle.avr_model.specs.declared.assumption.Entry.{Entry}
 use Rattle.avr_model.specs.Assumptions.{has_pairs}
+use Rattle.avr_model.specs.Devices.{Program}
 use Rattle.abs_state.specs.declared.state.AbsState.{AbsState}
 use Rattle.mask_states.specs.declared.keys.InstKey.{InstKey}
 use Rattle.mask_states.specs.declared.keys.NodeKey.{NodeKey}
@@ -47,7 +48,7 @@ need_fits insts demands j few inside h =
     let in_list = inside h.0.0 h.0.1.0 in
     omega (arith, in_list.0, few, h.0.1.1.0)
 
-module _ (words : List ℕ) (A : List Entry) (c : Claim) (nodes : List Node) (claim : IsClaim c)
+module _ (words : Program) (A : List Entry) (c : Claim) (nodes : List Node) (claim : IsClaim c)
     (filled : IsFilled words A (read_seeds (has_pairs A) c.nodes) nodes) where
   pub few_nodes : length nodes ≤ 65536
   few_nodes = omega (arith, filled.count, (seeds_read c claim (has_pairs A)).few)
@@ -78,7 +79,7 @@ reset_is_node A i k s ei ek es =
 pub reset_is : (A : List Entry) (i : InstKey) (k : NodeKey) (s : AbsState) → i ≡ root_inst → k ≡ entry_key i → s ≡ root_of A → record { key = k; state = s } ≡ reset_node A
 reset_is A i k s ei ek es = λ j. record { key = (ek ∙ ap entry_key ei) j; state = es j }
 
-pub first_fault : (words : List ℕ) (A : List Entry) (nodes : List Node) (j cause : ℕ) (f : NodeFault) → HasFirstFault words A nodes j f → cause ≡ cause_of f
+pub first_fault : (words : Program) (A : List Entry) (nodes : List Node) (j cause : ℕ) (f : NodeFault) → HasFirstFault words A nodes j f → cause ≡ cause_of f
     → IsFirstFaultOfCause words A nodes j cause
 first_fault words A nodes j cause f h e = record {
   node = h.node;

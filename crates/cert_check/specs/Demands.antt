@@ -6,6 +6,7 @@ use Rattle.std.specs.Ordering.{is_le}
 use Rattle.std.specs.declared.cmp.Ordering.TheVariants.{Greater}
 use Rattle.avr_model.specs.declared.assumption.Entry.{Entry}
 use Rattle.avr_model.specs.Assumptions.{has_pairs}
+use Rattle.avr_model.specs.Devices.{Program}
 use Rattle.mask_states.specs.declared.keys.EdgeKind.{EdgeKind}
 use Rattle.mask_states.specs.declared.keys.InstKey.{InstKey}
 use Rattle.mask_states.specs.declared.keys.NodeKey.{NodeKey}
@@ -116,18 +117,18 @@ demands_of insts k edges = offset_demand (place_in insts k.inst) k.sp ++ flat_ma
 
 -- A node asks of its instance a closed offset; and of each way in that it has into another, a higher rank, and the offset with two bytes and
 -- what that one needs.
-pub data Asks (words : List ℕ) (A : List Entry) (insts : List Inst) (n : Node) : Demand → Type 0 where
+pub data Asks (words : Program) (A : List Entry) (insts : List Inst) (n : Node) : Demand → Type 0 where
   offset : (o : ℕ) → n.key.sp ≡ Closed o → Asks words A insts n (record { inst = place_in insts n.key.inst; into = None; bytes = o })
   entry : (way : EdgeKind) (inst : InstKey) (back : ℕ) → Enters words A n way inst back
       → Asks words A insts n (record { inst = place_in insts n.key.inst; into = Some (place_in insts inst); bytes = offset_of n.key.sp + 2 + need_at insts (place_in insts inst) })
 
 -- some of these nodes asks this
-pub record IsAsked (words : List ℕ) (A : List Entry) (insts : List Inst) (nodes : List Node) (d : Demand) : Type 0 where
+pub record IsAsked (words : Program) (A : List Entry) (insts : List Inst) (nodes : List Node) (d : Demand) : Type 0 where
   pub node : Node
   pub present : Contains nodes node
   pub asks : Asks words A insts node d
 
-abbrev pub AreDemands : List ℕ → List Entry → List Inst → List Node → List Demand → Type 0
+abbrev pub AreDemands : Program → List Entry → List Inst → List Node → List Demand → Type 0
 AreDemands words A insts nodes demands = (d : Demand) → Contains demands d ↔ IsAsked words A insts nodes d
 
 -- the instances of all nodes are there
@@ -135,7 +136,7 @@ abbrev pub AllBelong : List Inst → List Node → Type 0
 AllBelong insts nodes = (n : Node) → Contains nodes n → Contains (inst_keys insts) n.key.inst
 
 -- all edges land, these are the demands, and here the edges of each node land; else the first gap
-abbrev pub IsGathering : List ℕ → List Entry → Seeds → List Inst → List Node → Gathering → Type 0
+abbrev pub IsGathering : Program → List Entry → Seeds → List Inst → List Node → Gathering → Type 0
 IsGathering words A own insts nodes (Gap j to) = IsFirstGap words A own nodes j to
 IsGathering words A own insts nodes (All g) = AllLanded words A own nodes × AreDemands words A insts nodes g.demands.items × AreLandings words A nodes g.landings
 
@@ -195,7 +196,7 @@ abbrev pub AllMet : List Inst → List Demand → Type 0
 AllMet insts demands = (d : Demand) → Contains demands d → MeetsNeed insts d
 
 -- the verdict where all edges land and these are the demands
-abbrev pub IsWeighed : List ℕ → Claim → List Entry → List Demand → Verdict → Type 0
+abbrev pub IsWeighed : Program → Claim → List Entry → List Demand → Verdict → Type 0
 IsWeighed words c A demands (Accepted bound) =
     RanksFall c.instances demands × AllMet c.instances demands × IsBounded words c × (c.assumptions ≡ A) × (bound ≡ c.bound)
 IsWeighed words c A demands (Rejected (reason.Rank j l)) = IsLeastOffered (MeetsRank c.instances) (LowRank c.instances) PairBelow demands (Some (j, l))
@@ -208,26 +209,26 @@ IsWeighed words c A demands (Rejected reason.Assumptions) =
 IsWeighed words c A demands (Rejected r) = ⊥
 
 -- the verdict on the nodes with their states
-abbrev pub Decides : List ℕ → List Entry → Claim → List Node → Verdict → Type 0
+abbrev pub Decides : Program → List Entry → Claim → List Node → Verdict → Type 0
 Decides words A c nodes (Accepted bound) = MeetsConditions words A c nodes × (bound ≡ c.bound)
 Decides words A c nodes (Rejected r) = IsLeastReason words A c nodes r
 
 -- the same with where the edges of each node land, in place of the bound
-abbrev pub SettlesClaim : List ℕ → List Entry → Claim → List Node → Settled → Type 0
+abbrev pub SettlesClaim : Program → List Entry → Claim → List Node → Settled → Type 0
 SettlesClaim words A c nodes (Met landings) = MeetsConditions words A c nodes × AreLandings words A nodes landings
 SettlesClaim words A c nodes (Refused r) = IsLeastReason words A c nodes r
 
 -- all edges of the nodes below this number land, and what is listed is asked, and what those nodes ask is listed
-pub record IsMidway (words : List ℕ) (A : List Entry) (own : Seeds) (insts : List Inst) (nodes : List Node) (at : ℕ) (demands : List Demand) : Type 0 where
+pub record IsMidway (words : Program) (A : List Entry) (own : Seeds) (insts : List Inst) (nodes : List Node) (at : ℕ) (demands : List Demand) : Type 0 where
   pub land : (i : ℕ) (n : Node) (e : Edge) → slice_get nodes i ≡ Some n → i < at → IsEdge words A nodes n e → LandsOpen (has_pairs A) own nodes (target e)
   pub asked : (d : Demand) → Contains demands d → IsAsked words A insts nodes d
   pub listed : (i : ℕ) (n : Node) (d : Demand) → slice_get nodes i ≡ Some n → i < at → Asks words A insts n d → Contains demands d
 
 -- the nodes below this number are gathered
-abbrev pub AreGathered : List ℕ → List Entry → Claim → List Node → ℕ → LandedNodes → Type 0
+abbrev pub AreGathered : Program → List Entry → Claim → List Node → ℕ → LandedNodes → Type 0
 AreGathered words A c nodes at g = IsMidway words A c.nodes c.instances nodes at g.demands.items × AreLandingsTo words A nodes at g.landings
 
 -- and the node of this number, where all its edges land
-abbrev pub IsNodeGathered : List ℕ → List Entry → Claim → List Node → ℕ → Option NodeKey → LandedNodes → Type 0
+abbrev pub IsNodeGathered : Program → List Entry → Claim → List Node → ℕ → Option NodeKey → LandedNodes → Type 0
 IsNodeGathered words A c nodes at None g = AreGathered words A c nodes (at + 1) g
 IsNodeGathered words A c nodes at (Some to) g = IsFirstGap words A c.nodes nodes at to

@@ -4,6 +4,7 @@ use Rattle.std.specs.List.{slice_get}
 use Rattle.std.specs.declared.cmp.Ordering.TheVariants.{Greater}
 use Rattle.avr_model.specs.declared.assumption.Entry.{Entry}
 use Rattle.avr_model.specs.Assumptions.{has_pairs}
+use Rattle.avr_model.specs.Devices.{Program}
 use Rattle.mask_states.specs.declared.keys.EdgeKind.{EdgeKind}
 use Rattle.mask_states.specs.declared.keys.NodeKey.{NodeKey}
 use Rattle.mask_states.specs.Keys.{root_inst}
@@ -31,7 +32,7 @@ use Rattle.cert_check.specs.declared.verdict.Judgement.TheVariants as judgement
 use Rattle.cert_check.specs.Reading.{read_seeds, LandsOpen}
 
 -- node j has a fault of this cause, and no earlier node has one
-pub record IsFirstFaultOfCause (words : List ℕ) (A : List Entry) (nodes : List Node) (j cause : ℕ) : Type 0 where
+pub record IsFirstFaultOfCause (words : Program) (A : List Entry) (nodes : List Node) (j cause : ℕ) : Type 0 where
   pub node : Node
   pub is : slice_get nodes j ≡ Some node
   pub fault : NodeFault
@@ -44,11 +45,11 @@ abbrev pub IsGap : Bool → Seeds → List Node → Edge → Type 0
 IsGap followed own nodes e = LandsOpen followed own nodes (target e) → ⊥
 
 -- each edge lands
-abbrev pub AllLanded : List ℕ → List Entry → Seeds → List Node → Type 0
+abbrev pub AllLanded : Program → List Entry → Seeds → List Node → Type 0
 AllLanded words A own nodes = (n : Node) (e : Edge) → Contains nodes n → IsEdge words A nodes n e → LandsOpen (has_pairs A) own nodes (target e)
 
 -- Node j has an edge to this key that doesn't land, and none to a lesser key; all edges of earlier nodes land.
-pub record IsFirstGap (words : List ℕ) (A : List Entry) (own : Seeds) (nodes : List Node) (j : ℕ) (to : NodeKey) : Type 0 where
+pub record IsFirstGap (words : Program) (A : List Entry) (own : Seeds) (nodes : List Node) (j : ℕ) (to : NodeKey) : Type 0 where
   pub node : Node
   pub is : slice_get nodes j ≡ Some node
   pub edge : Edge
@@ -59,7 +60,7 @@ pub record IsFirstGap (words : List ℕ) (A : List Entry) (own : Seeds) (nodes :
   pub earlier : (i : ℕ) (n : Node) (e : Edge) → slice_get nodes i ≡ Some n → i < j → IsEdge words A nodes n e → LandsOpen (has_pairs A) own nodes (target e)
 
 -- instance x has a node that enters instance y
-pub record InstEnters (words : List ℕ) (A : List Entry) (nodes : List Node) (x y : Inst) : Type 0 where
+pub record InstEnters (words : Program) (A : List Entry) (nodes : List Node) (x y : Inst) : Type 0 where
   pub node : Node
   pub present : Contains nodes node
   pub of : node.key.inst ≡ x.key
@@ -69,7 +70,7 @@ pub record InstEnters (words : List ℕ) (A : List Entry) (nodes : List Node) (x
 
 -- Instance j enters instance l, and its rank isn't above that one's; of those that j enters so l is the least, and the ranks of all earlier
 -- instances are above those of what they enter.
-pub record IsFirstRank (words : List ℕ) (A : List Entry) (c : Claim) (nodes : List Node) (j l : ℕ) : Type 0 where
+pub record IsFirstRank (words : Program) (A : List Entry) (c : Claim) (nodes : List Node) (j l : ℕ) : Type 0 where
   pub from : Inst
   pub into : Inst
   pub is : slice_get c.instances j ≡ Some from
@@ -81,7 +82,7 @@ pub record IsFirstRank (words : List ℕ) (A : List Entry) (c : Claim) (nodes : 
       → y.rank < x.rank
 
 -- The need of instance j is below this number, the least that suffices for it; the needs of all earlier instances suffice.
-pub record IsFirstNeed (words : List ℕ) (A : List Entry) (c : Claim) (nodes : List Node) (j need : ℕ) : Type 0 where
+pub record IsFirstNeed (words : Program) (A : List Entry) (c : Claim) (nodes : List Node) (j need : ℕ) : Type 0 where
   pub inst : Inst
   pub is : slice_get c.instances j ≡ Some inst
   pub enough : Suffices words A c nodes inst.key need
@@ -94,7 +95,7 @@ abbrev pub HasReset : List Entry → Claim → List Node → Type 0
 HasReset A c nodes = LandsOpen (has_pairs A) c.nodes nodes (reset_node A)
 
 -- A reason holds of the nodes with their states, none before it does, and its numbers are the least.
-abbrev pub IsLeastReason : List ℕ → List Entry → Claim → List Node → Reason → Type 0
+abbrev pub IsLeastReason : Program → List Entry → Claim → List Node → Reason → Type 0
 IsLeastReason words A c nodes (reason.Expansion at) = ⊥
 IsLeastReason words A c nodes reason.Root = HasReset A c nodes → ⊥
 IsLeastReason words A c nodes (reason.Node j cause) = HasReset A c nodes × IsFirstFaultOfCause words A nodes j cause
@@ -111,30 +112,30 @@ IsLeastReason words A c nodes reason.Assumptions =
     × IsBounded words c × (c.assumptions ≢ A)
 
 -- the reason holds of the nodes with their states, which are read as the list that is handed in says
-pub record IsRejected (words : List ℕ) (A : List Entry) (c : Claim) (r : Reason) : Type 0 where
+pub record IsRejected (words : Program) (A : List Entry) (c : Claim) (r : Reason) : Type 0 where
   pub nodes : List Node
   pub expanded : IsFilled words A (read_seeds (has_pairs A) c.nodes) nodes
   pub why : IsLeastReason words A c nodes r
 
 -- why a certificate is refused: a node without an expansion comes before all other reasons
-abbrev pub IsReason : List ℕ → List Entry → Claim → Reason → Type 0
+abbrev pub IsReason : Program → List Entry → Claim → Reason → Type 0
 IsReason words A c (reason.Expansion at) = IsMissing words A (read_seeds (has_pairs A) c.nodes) at
 IsReason words A c r = IsRejected words A c r
 
 -- The verdict: acceptance with the bound where all conditions but that on the schedule hold, else the reason.
-abbrev pub IsVerdict : List ℕ → List Entry → Claim → Verdict → Type 0
+abbrev pub IsVerdict : Program → List Entry → Claim → Verdict → Type 0
 IsVerdict words A c (Accepted bound) = IsSound words A c × (bound ≡ c.bound)
 IsVerdict words A c (Rejected r) = IsReason words A c r
 
 -- ---- with the family where all conditions hold
 
 -- the certificate's nodes with their states, which meet the conditions, and where their edges land
-pub record IsFamilyOf (words : List ℕ) (A : List Entry) (c : Claim) (family : Worked) : Type 0 where
+pub record IsFamilyOf (words : Program) (A : List Entry) (c : Claim) (family : Worked) : Type 0 where
   pub filled : IsFilled words A c.nodes family.nodes
   pub meets : MeetsConditions words A c family.nodes
   pub landings : AreLandings words A family.nodes family.landings
 
 -- The judgement: the family where all conditions but that on the schedule hold, else the reason.
-abbrev pub IsJudgement : List ℕ → List Entry → Claim → Judgement → Type 0
+abbrev pub IsJudgement : Program → List Entry → Claim → Judgement → Type 0
 IsJudgement words A c (judgement.Accepted family) = IsFamilyOf words A c family
 IsJudgement words A c (judgement.Rejected r) = IsReason words A c r

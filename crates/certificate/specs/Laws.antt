@@ -2,6 +2,7 @@
 use Rattle.std.specs.Prelude.{ℕ, List}
 use Rattle.avr_model.specs.declared.assumption.Entry.{Entry}
 use Rattle.avr_model.specs.Assumptions.{has_pairs}
+use Rattle.avr_model.specs.Devices.{Program}
 use Rattle.local_rules.specs.declared.local.Node.{Node}
 use Rattle.edge_rules.specs.Expansion.{AreSeeds, IsFilled}
 use Rattle.edge_rules.specs.Families.{IsSoundFamily as IsSoundFamily}
@@ -14,5 +15,5 @@ ClaimsAreSeeds = (c : Claim) → IsClaim c → AreSeeds (has_pairs c.assumptions
 
 -- where the conditions hold of the nodes with their states, these are a sound family with the certificate's ranks and needs
 abbrev pub ConditionsMakeFamiliesSound : Type 0
-ConditionsMakeFamiliesSound = (words : List ℕ) (A : List Entry) (c : Claim) (nodes : List Node) → IsClaim c → IsFilled words A c.nodes nodes
+ConditionsMakeFamiliesSound = (words : Program) (A : List Entry) (c : Claim) (nodes : List Node) → IsClaim c → IsFilled words A c.nodes nodes
     → MeetsConditions words A c nodes → IsSoundFamily words A (family_of c nodes)

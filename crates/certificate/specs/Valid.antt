@@ -1,7 +1,7 @@
 -- When a certificate is valid for a firmware and assumptions. Source: own.
 use Rattle.std.specs.Prelude.{ℕ, ◌+◌, ◌≡◌, ◌<◌, ◌≤◌, List, Contains, Option, Some, None, IsOkAnd, ⊤}
 use Rattle.avr_model.specs.declared.assumption.Entry.{Entry}
-use Rattle.avr_model.specs.Devices.{device_of, size_of}
+use Rattle.avr_model.specs.Devices.{Program, device_of, size_of}
 use Rattle.avr_model.specs.declared.choice.Stop.TheVariants as stop
 use Rattle.mask_states.specs.declared.keys.EdgeKind.{EdgeKind}
 use Rattle.mask_states.specs.declared.keys.InstKey.{InstKey}
@@ -27,31 +27,31 @@ reset_node A = record { key = entry_key root_inst; state = root_of A }
 -- 2: no node has a fault: `AreFaultless`, with the definition of families
 
 -- 3: each edge lands at a node that is there, with a state at least its own
-abbrev pub AllLand : List ℕ → List Entry → List Node → Type 0
+abbrev pub AllLand : Program → List Entry → List Node → Type 0
 AllLand words A nodes = (n : Node) (e : Edge) → Contains nodes n → IsEdge words A nodes n e → IsCovered nodes (target e)
 
 -- 4: an instance's rank is above that of each instance that it enters
-abbrev pub AreRanked : List ℕ → List Entry → Claim → List Node → Type 0
+abbrev pub AreRanked : Program → List Entry → Claim → List Node → Type 0
 AreRanked words A c nodes = (n : Node) (way : EdgeKind) (inst : InstKey) (back : ℕ) → Contains nodes n → Enters words A n way inst back
     → rank_in c.instances inst < rank_in c.instances n.key.inst
 
 -- This number is at least the offset of each node of the instance with a closed stack pointer, and at least what each instance that it
 -- enters needs, behind the offset there and two bytes for the way back.
-pub record Suffices (words : List ℕ) (A : List Entry) (c : Claim) (nodes : List Node) (inst : InstKey) (need : ℕ) : Type 0 where
+pub record Suffices (words : Program) (A : List Entry) (c : Claim) (nodes : List Node) (inst : InstKey) (need : ℕ) : Type 0 where
   pub offsets : (n : Node) (offset : ℕ) → Contains nodes n → n.key.inst ≡ inst → n.key.sp ≡ Closed offset → offset ≤ need
   pub entered : (n : Node) (way : EdgeKind) (into : InstKey) (back : ℕ) → Contains nodes n → n.key.inst ≡ inst → Enters words A n way into back
       → offset_of n.key.sp + 2 + need_in c.instances into ≤ need
 
 -- 5: each instance's need suffices
-abbrev pub NeedsSuffice : List ℕ → List Entry → Claim → List Node → Type 0
+abbrev pub NeedsSuffice : Program → List Entry → Claim → List Node → Type 0
 NeedsSuffice words A c nodes = (inst : InstKey) → Suffices words A c nodes inst (need_in c.instances inst)
 
 -- 6: the bound is at least the root's need, and no more than the device's SRAM has bytes
-pub record IsBounded (words : List ℕ) (c : Claim) : Type 0 where
+pub record IsBounded (words : Program) (c : Claim) : Type 0 where
   pub enough : need_in c.instances root_inst ≤ c.bound
   pub small : c.bound ≤ size_of (device_of words)
 
-pub record MeetsConditions (words : List ℕ) (A : List Entry) (c : Claim) (nodes : List Node) : Type 0 where
+pub record MeetsConditions (words : Program) (A : List Entry) (c : Claim) (nodes : List Node) : Type 0 where
   -- 1: the node at reset is there, with a state at least that one
   pub reset : IsCovered nodes (reset_node A)
   pub faultless : AreFaultless words A nodes
@@ -63,22 +63,22 @@ pub record MeetsConditions (words : List ℕ) (A : List Entry) (c : Claim) (node
   pub assumptions : c.assumptions ≡ A
 
 -- Each node has an expansion, and the nodes so expanded meet the conditions: all but that on the schedule.
-pub record IsSound (words : List ℕ) (A : List Entry) (c : Claim) : Type 0 where
+pub record IsSound (words : Program) (A : List Entry) (c : Claim) : Type 0 where
   pub nodes : List Node
   pub expanded : IsFilled words A c.nodes nodes
   pub meets : MeetsConditions words A c nodes
 
 -- the schedule's replay meets no illegal choice, ends without a stop, and its depth is the bound
-abbrev pub Attains : List ℕ → List Entry → ℕ → Plan → Type 0
+abbrev pub Attains : Program → List Entry → ℕ → Plan → Type 0
 Attains words A bound plan = IsOkAnd (replay_of words A plan) (λ r. (r.stop ≡ stop.End) × (r.depth ≡ bound))
 
 -- 8: the schedule, if there is one, attains the bound
-abbrev pub IsAttained : List ℕ → List Entry → ℕ → Option Plan → Type 0
+abbrev pub IsAttained : Program → List Entry → ℕ → Option Plan → Type 0
 IsAttained words A bound None = ⊤
 IsAttained words A bound (Some plan) = Attains words A bound plan
 
 -- The certificate is valid for the words of flash and the assumptions.
-pub record IsValid (words : List ℕ) (A : List Entry) (c : Claim) : Type 0 where
+pub record IsValid (words : Program) (A : List Entry) (c : Claim) : Type 0 where
   pub sound : IsSound words A c
   pub attained : IsAttained words A c.bound c.witness
 

@@ -4,6 +4,7 @@ use Rattle.std.proofs.lemmas.List.Sums.{sum_by-cons}
 use Rattle.std.proofs.lemmas.Option.{slice_get_within}
 use Rattle.basics.specs.Lists.{one_at}
 use Rattle.avr_model.specs.declared.assumption.Entry.{Entry}
+use Rattle.avr_model.specs.Devices.{Program}
 use Rattle.mask_states.specs.declared.keys.InstKey.{InstKey}
 use Rattle.mask_states.specs.declared.keys.SpForm.TheVariants.{Closed}
 use Rattle.mask_states.specs.Keys.{root_inst, offset_of}
@@ -23,7 +24,7 @@ use Rattle.chain_explain.specs.Explanation.{IsPart, AreParts, Explains}
 use Rattle.chain_explain.specs.Told.{sum_of, IsPlace, GoOn, Nest}
 use Rattle.chain_explain.specs.Moves.{AreThere}
 
-module _ (words : List ℕ) (A : List Entry) (nodes reached : List Node) (gs : List GraphInst) (needs : List ℕ) (family : IsGraphOf words A reached gs) where
+module _ (words : Program) (A : List Entry) (nodes reached : List Node) (gs : List GraphInst) (needs : List ℕ) (family : IsGraphOf words A reached gs) where
   -- each link's node is one of them
   there_from : (i above : ℕ) (links : List Link) → IsChainFrom gs needs i above links → AreThere reached links
   there_from i above links (ends _ _ p first) =
@@ -114,7 +115,7 @@ module _ (words : List ℕ) (A : List Entry) (nodes reached : List Node) (gs : L
         go_on_from e.into (above + e.offset + 2) rest next parts chain h.1,
       )
 
-module _ (words : List ℕ) (A : List Entry) (nodes : List Node) (x : Explanation) (e : Explains words A nodes x) where
+module _ (words : Program) (A : List Entry) (nodes : List Node) (x : Explanation) (e : Explains words A nodes x) where
   pub sums : sum_of x.parts ≡ x.least
   sums = sums_from words A nodes e.reached e.deepest.graph e.deepest.needs e.deepest.family 0 0 e.links x.parts e.deepest.chain e.parts ∙ sym e.deepest.root
 
@@ -139,5 +140,5 @@ module _ (words : List ℕ) (A : List Entry) (nodes : List Node) (x : Explanatio
             go_on = go_on_from words A nodes e.reached e.deepest.graph e.deepest.needs e.deepest.family 0 0 e.links part parts e.deepest.chain h;
           }
 
-pub all_there : (words : List ℕ) (A : List Entry) (reached : List Node) (need : ℕ) (links : List Link) → IsDeepest words A reached need links → AreThere reached links
+pub all_there : (words : Program) (A : List Entry) (reached : List Node) (need : ℕ) (links : List Link) → IsDeepest words A reached need links → AreThere reached links
 all_there words A reached need links d = there_from words A reached reached d.graph d.needs d.family 0 0 links d.chain

@@ -1,6 +1,7 @@
 -- The reached nodes of a family that meets the conditions meet them too.
 use Rattle.std.proofs.Common.{refl, ℕ, List, Contains}
 use Rattle.avr_model.specs.declared.assumption.Entry.{Entry}
+use Rattle.avr_model.specs.Devices.{Program}
 use Rattle.abs_state.specs.Frames.{entered}
 use Rattle.mask_states.specs.Keys.{entry_key}
 use Rattle.local_rules.specs.declared.local.Node.{Node}
@@ -12,7 +13,7 @@ use Rattle.certificate.specs.Valid.{reset_node, AllLand, MeetsConditions}
 use Rattle.family_graph.specs.Graphs.{IsPeopled}
 use Rattle.chain_explain.specs.Reached.{IsReached, AreReached, at_reset, by_edge}
 
-module _ (words : List ℕ) (A : List Entry) (nodes reached : List Node) (are : AreReached words A nodes reached) where
+module _ (words : Program) (A : List Entry) (nodes reached : List Node) (are : AreReached words A nodes reached) where
   pub of_family : (n : Node) → Contains reached n → Contains nodes n
   of_family n h = ((are.exact n).0 h).0
 
@@ -50,7 +51,7 @@ module _ (words : List ℕ) (A : List Entry) (nodes reached : List Node) (are : 
       }
 
 -- where edges land, each instance that is entered has its first node
-pub peopled : (words : List ℕ) (A : List Entry) (nodes : List Node) → AllLand words A nodes → IsPeopled words A nodes
+pub peopled : (words : Program) (A : List Entry) (nodes : List Node) → AllLand words A nodes → IsPeopled words A nodes
 peopled words A nodes lands n way into back has enters =
     let l = lands n (record { kind = way; to = entry_key into; state = entered n.state }) has (entering way into back enters) in
     (record { key = entry_key into; state = l.state }, (l.present, refl))

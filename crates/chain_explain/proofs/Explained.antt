@@ -1,6 +1,7 @@
 -- What is put together is the explanation.
 use Rattle.std.proofs.Common.{◌≡◌, subst, ℕ, ◌≤◌, List}
 use Rattle.avr_model.specs.declared.assumption.Entry.{Entry}
+use Rattle.avr_model.specs.Devices.{Program}
 use Rattle.mask_states.specs.Keys.{root_inst, entry_key}
 use Rattle.local_rules.specs.declared.local.Node.{Node}
 use Rattle.local_laws.specs.Laws.{HasKey}
@@ -23,7 +24,7 @@ use Rattle.chain_explain.proofs.Conditions.{meets_reached}
 use Rattle.chain_explain.proofs.Stepped.{reset_has}
 use Rattle.chain_explain.proofs.Rounds.{least_is_bound}
 
-module _ (words : List ℕ) (A : List Entry) (c : Claim) (nodes : List Node) (filled : IsFilled words A c.nodes nodes) (reached : List Node) (are : AreReached words A nodes reached)
+module _ (words : Program) (A : List Entry) (c : Claim) (nodes : List Node) (filled : IsFilled words A c.nodes nodes) (reached : List Node) (are : AreReached words A nodes reached)
     (need : ℕ) (links : List Link) (deepest : IsDeepest words A reached need links) (root : BeginsAtRoot words A reached) (given : List Link) (same : given ≡ links)
     (parts : List Part) (are_parts : AreParts words A nodes reached given parts) where
   abbrev pub told : Explanation

@@ -9,6 +9,7 @@ use Rattle.std.proofs.lemmas.Option.{none-some, same_Some, slice_get_within}
 use Rattle.basics.specs.Items.{place_of_contained, contained_at, none_in, first_in, further_in, first_or_further}
 use Rattle.basics.specs.Lists.{one_at}
 use Rattle.avr_model.specs.declared.assumption.Entry.{Entry}
+use Rattle.avr_model.specs.Devices.{Program}
 use Rattle.mask_states.specs.declared.keys.NodeKey.{NodeKey}
 use Rattle.mask_states.specs.Keys.{root_inst, entry_key}
 use Rattle.mask_states.specs.Order.{node_cmp}
@@ -119,7 +120,7 @@ kept_whole marks xs kept i le so_far = sym (so_far ∙ (ap (λ ys. kept ++ ys) (
 
 -- ---- what is kept
 
-module _ (words : List ℕ) (A : List Entry) (nodes : List Node) (shown : AreShown nodes) (all : List (List Landing)) (landed : AreLandings words A nodes all) (root : ℕ)
+module _ (words : Program) (A : List Entry) (nodes : List Node) (shown : AreShown nodes) (all : List (List Landing)) (landed : AreLandings words A nodes all) (root : ℕ)
     (reset : Node) (at : slice_get nodes root ≡ Some reset) (is : reset.key ≡ entry_key root_inst) (marks : List Bool) (marked : AreMarks (leads_by all) (root ∷ []) marks) where
   kept_reached : (n : Node) → Contains (kept_by marks nodes) n → Contains nodes n × IsReached words A nodes n.key
   kept_reached n h =
@@ -140,7 +141,7 @@ module _ (words : List ℕ) (A : List Entry) (nodes : List Node) (shown : AreSho
       }
 
 -- the same, by marks and nodes that are given
-pub reached_given : (words : List ℕ) (A : List Entry) (nodes : List Node) (marks given : List Bool) (kept : List Node) → AreReached words A nodes (kept_by marks nodes) → given ≡ marks
+pub reached_given : (words : Program) (A : List Entry) (nodes : List Node) (marks given : List Bool) (kept : List Node) → AreReached words A nodes (kept_by marks nodes) → given ≡ marks
     → kept ≡ kept_by given nodes → AreReached words A nodes kept
 reached_given words A nodes marks given kept are same e = subst (AreReached words A nodes) (sym (e ∙ ap (λ (ms : List Bool). kept_by ms nodes) same)) are
 
@@ -165,7 +166,7 @@ kept_each P (true ∷ marks) (x ∷ nodes) (ys ∷ yss) count h zero n e = h 0 n
 kept_each P (true ∷ marks) (x ∷ nodes) (ys ∷ yss) count h (suc at) n e = kept_each P marks nodes yss (omega (arith, count)) (λ i m f. h (suc i) m f) at n e
 kept_each P (false ∷ marks) (x ∷ nodes) (ys ∷ yss) count h at n e = kept_each P marks nodes yss (omega (arith, count)) (λ i m f. h (suc i) m f) at n e
 
-pub ways_kept : (words : List ℕ) (A : List Entry) (marks : List Bool) (nodes : List Node) (ways : List (List Entering)) → AreWays words A nodes ways
+pub ways_kept : (words : Program) (A : List Entry) (marks : List Bool) (nodes : List Node) (ways : List (List Entering)) → AreWays words A nodes ways
     → AreWays words A (kept_by marks nodes) (kept_by marks ways)
 ways_kept words A marks nodes ways are =
     record {

@@ -7,6 +7,7 @@ use Rattle.basics.specs.Lists.{one_at}
 use Rattle.basics.specs.Items.{none_in, first_in, further_in, first_or_further}
 use Rattle.edge_rules.specs.Places.{all_of}
 use Rattle.avr_model.specs.declared.assumption.Entry.{Entry}
+use Rattle.avr_model.specs.Devices.{Program}
 use Rattle.mask_states.specs.declared.keys.InstKey.{InstKey}
 use Rattle.mask_states.specs.declared.keys.NodeKey.{NodeKey}
 use Rattle.mask_states.specs.Keys.{offset_of}
@@ -94,7 +95,7 @@ same_nodes (x ∷ xs) (y ∷ ys) s t up down =
 
 -- ---- explanations
 
-module _ (words : List ℕ) (A : List Entry) (nodes : List Node) (ascend : IsStrictlySortedBy node_cmp (map key_of nodes)) where
+module _ (words : Program) (A : List Entry) (nodes : List Node) (ascend : IsStrictlySortedBy node_cmp (map key_of nodes)) where
   same_way : (inst : InstKey) (target : ℕ) (walk walk' : List ℕ) → IsWay words A nodes inst target walk → IsWay words A nodes inst target walk' → walk ≡ walk'
   same_way inst target walk walk' a b =
       let f = first_too b.graph a.graph (λ i j. (λ h. (a.moves i j).1 ((b.moves i j).0 h), λ h. (b.moves i j).1 ((a.moves i j).0 h))) b.starts a.starts

@@ -7,6 +7,7 @@ use Rattle.std.specs.declared.cmp.Ordering.TheVariants.{Less}
 use Rattle.std.proofs.lemmas.Option.{none-some, same_Some}
 use Rattle.basics.specs.Items.{place_of_contained, none_in, first_in, further_in, first_or_further}
 use Rattle.avr_model.specs.declared.assumption.Entry.{Entry}
+use Rattle.avr_model.specs.Devices.{Program}
 use Rattle.abs_state.specs.Frames.{entered}
 use Rattle.mask_states.specs.declared.keys.InstKey.{InstKey}
 use Rattle.mask_states.specs.declared.keys.NodeKey.{NodeKey}
@@ -94,7 +95,7 @@ valued_at (k ∷ ks) (x ∷ xs) (suc i) inst s same e = by (valued_at ks xs i in
     by rest true is = absurd (not_itself k inst (all_at (λ y. inst_cmp k y ≡ Less) ks i inst s.0 e) ((keys_are_ordered.same_insts k inst).0 is))
     by rest false is = rest
 
-module _ (words : List ℕ) (A : List Entry) (f : Family) (n : ℕ) (solved : IsSolved words A n f) (law : RoundsAreReached) (reached : List Node)
+module _ (words : Program) (A : List Entry) (f : Family) (n : ℕ) (solved : IsSolved words A n f) (law : RoundsAreReached) (reached : List Node)
     (are : AreReached words A (nodes_of f) reached) (reset : HasKey (nodes_of f) (entry_key root_inst)) where
   -- where an edge from a node of the family leads there is one
   lands_at : (m : Node) (e : Edge) → FamilyHas f m → IsEdge words A (nodes_of f) m e → HasKey (nodes_of f) e.to
@@ -168,7 +169,7 @@ module _ (words : List ℕ) (A : List Entry) (f : Family) (n : ℕ) (solved : Is
         }
 
 -- the explanation's number is the bound of a certificate with which the rounds end
-pub least_is_bound : FilledOrMissing → RoundsAreReached → (words : List ℕ) (A : List Entry) (c : Claim) (nodes : List Node) (x : Explanation) → IsFilled words A c.nodes nodes
+pub least_is_bound : FilledOrMissing → RoundsAreReached → (words : Program) (A : List Entry) (c : Claim) (nodes : List Node) (x : Explanation) → IsFilled words A c.nodes nodes
     → HasKey nodes (entry_key root_inst) → (e : Explains words A nodes x) → BeginsAtRoot words A e.reached → x.least ≤ c.bound → IsOfRounds words A c → x.least ≡ c.bound
 least_is_bound filled law words A c nodes x is reset e root under of =
     let answer = of.answer in

@@ -1,6 +1,7 @@
 -- The explanation of a certificate: its deepest chain over what is reached, and the way to each place. Source: own.
 use Rattle.std.specs.Prelude.{ℕ, ◌+◌, ◌≡◌, ⊤, List, [], ◌∷◌, Option, Some, None, slice_get}
 use Rattle.avr_model.specs.declared.assumption.Entry.{Entry}
+use Rattle.avr_model.specs.Devices.{Program}
 use Rattle.mask_states.specs.declared.keys.EdgeKind.{EdgeKind}
 use Rattle.mask_states.specs.Keys.{offset_of}
 use Rattle.local_rules.specs.declared.local.Node.{Node}
@@ -19,7 +20,7 @@ adds_by offset None = offset
 adds_by offset (Some way) = offset + 2
 
 -- the part for a link of the chain over the reached nodes
-pub record IsPart (words : List ℕ) (A : List Entry) (nodes reached : List Node) (link : Link) (part : Part) : Type 0 where
+pub record IsPart (words : Program) (A : List Entry) (nodes reached : List Node) (link : Link) (part : Part) : Type 0 where
   pub node : Node
   pub at : slice_get reached link.node ≡ Some node
   pub inst : part.inst ≡ node.key.inst
@@ -30,14 +31,14 @@ pub record IsPart (words : List ℕ) (A : List Entry) (nodes reached : List Node
   pub way : IsWay words A nodes node.key.inst target part.walk
 
 -- one for each link
-abbrev pub AreParts : List ℕ → List Entry → List Node → List Node → List Link → List Part → Type 0
+abbrev pub AreParts : Program → List Entry → List Node → List Node → List Link → List Part → Type 0
 AreParts words A nodes reached [] [] = ⊤
 AreParts words A nodes reached [] (part ∷ parts) = ⊥
 AreParts words A nodes reached (link ∷ links) [] = ⊥
 AreParts words A nodes reached (link ∷ links) (part ∷ parts) = IsPart words A nodes reached link part × AreParts words A nodes reached links parts
 
 -- The least need of the root over the nodes of the family that edges reach, and the chain with these needs.
-pub record Explains (words : List ℕ) (A : List Entry) (nodes : List Node) (x : Explanation) : Type 0 where
+pub record Explains (words : Program) (A : List Entry) (nodes : List Node) (x : Explanation) : Type 0 where
   pub reached : List Node
   pub are_reached : AreReached words A nodes reached
   pub links : List Link
@@ -45,7 +46,7 @@ pub record Explains (words : List ℕ) (A : List Entry) (nodes : List Node) (x :
   pub parts : AreParts words A nodes reached links x.parts
 
 -- that of a certificate's family
-pub record IsExplanation (words : List ℕ) (A : List Entry) (c : Claim) (x : Explanation) : Type 0 where
+pub record IsExplanation (words : Program) (A : List Entry) (c : Claim) (x : Explanation) : Type 0 where
   pub nodes : List Node
   pub filled : IsFilled words A c.nodes nodes
   pub explains : Explains words A nodes x

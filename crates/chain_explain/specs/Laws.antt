@@ -1,6 +1,7 @@
 -- Laws of explanations.
 use Rattle.std.specs.Prelude.{ℕ, ◌≡◌, List}
 use Rattle.avr_model.specs.declared.assumption.Entry.{Entry}
+use Rattle.avr_model.specs.Devices.{Program}
 use Rattle.certificate.specs.Claims.{Claim, IsClaim}
 use Rattle.certificate.specs.Valid.{IsSound}
 use Rattle.chain_explain.specs.declared.explanation.Explanation.{Explanation}
@@ -9,8 +10,8 @@ use Rattle.chain_explain.specs.Told.{Tells}
 
 -- a certificate has at most one explanation
 abbrev pub ExplanationsAreOne : Type 0
-ExplanationsAreOne = (words : List ℕ) (A : List Entry) (c : Claim) (x y : Explanation) → IsClaim c → IsExplanation words A c x → IsExplanation words A c y → x ≡ y
+ExplanationsAreOne = (words : Program) (A : List Entry) (c : Claim) (x y : Explanation) → IsClaim c → IsExplanation words A c x → IsExplanation words A c y → x ≡ y
 
 -- where the conditions of a certificate hold, its explanation tells where the bytes of its bound go
 abbrev pub ExplanationsTell : Type 0
-ExplanationsTell = (words : List ℕ) (A : List Entry) (c : Claim) (x : Explanation) → IsSound words A c → IsExplanation words A c x → Tells words A c x
+ExplanationsTell = (words : Program) (A : List Entry) (c : Claim) (x : Explanation) → IsSound words A c → IsExplanation words A c x → Tells words A c x

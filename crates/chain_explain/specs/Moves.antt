@@ -2,6 +2,7 @@
 use Rattle.std.specs.Prelude.{ℕ, ◌+◌, ◌-◌, ◌≡◌, ◌<◌, ◌≤◌, ◌↔◌, ⊤, Bool, if◌then◌else◌, List, [], ◌∷◌, length, map, slice_index_or}
 use Rattle.std.specs.List.{flat_map}
 use Rattle.avr_model.specs.declared.assumption.Entry.{Entry}
+use Rattle.avr_model.specs.Devices.{Program}
 use Rattle.local_rules.specs.declared.local.Node.{Node}
 use Rattle.edge_rules.specs.Edges.{is_entry}
 use Rattle.call_graph.specs.declared.landing.Landing.{Landing}
@@ -32,7 +33,7 @@ abbrev pub moves_by : List (List Landing) → List (List ℕ)
 moves_by all = map moves_of all
 
 -- The moves of a family of at most 65,536 nodes, with the node at reset, whose edges land.
-pub record AreMoves (words : List ℕ) (A : List Entry) (nodes : List Node) (moves : List (List ℕ)) : Type 0 where
+pub record AreMoves (words : Program) (A : List Entry) (nodes : List Node) (moves : List (List ℕ)) : Type 0 where
   pub few : length nodes ≤ 65536
   pub count : length moves ≡ length nodes
   pub exact : (i j : ℕ) → PointsTo moves i j ↔ MovesTo words A nodes i j

@@ -2,6 +2,7 @@
 use Rattle.std.specs.Prelude.{ℕ, ◌+◌, ◌≡◌, ◌≤◌, List, [], ◌∷◌, Option, slice_get, Some}
 use Rattle.std.specs.List.{sum_by}
 use Rattle.avr_model.specs.declared.assumption.Entry.{Entry}
+use Rattle.avr_model.specs.Devices.{Program}
 use Rattle.mask_states.specs.declared.keys.EdgeKind.{EdgeKind}
 use Rattle.mask_states.specs.declared.keys.SpForm.TheVariants.{Closed}
 use Rattle.mask_states.specs.Keys.{root_inst}
@@ -20,7 +21,7 @@ sum_of parts = sum_by (λ p. p.adds) parts
 
 -- The part's place is this node of the family, at which the stack pointer is whole and so far below the instance's base; the part's
 -- words are those of the first of the shortest walks to it.
-pub record IsPlace (words : List ℕ) (A : List Entry) (nodes : List Node) (part : Part) (n : Node) (offset : ℕ) : Type 0 where
+pub record IsPlace (words : Program) (A : List Entry) (nodes : List Node) (part : Part) (n : Node) (offset : ℕ) : Type 0 where
   pub number : ℕ
   pub at : slice_get nodes number ≡ Some n
   pub inst : n.key.inst ≡ part.inst
@@ -29,12 +30,12 @@ pub record IsPlace (words : List ℕ) (A : List Entry) (nodes : List Node) (part
   pub way : IsWay words A nodes part.inst number part.walk
 
 -- the last part ends at its place
-pub record Ends (words : List ℕ) (A : List Entry) (nodes : List Node) (part : Part) : Type 0 where
+pub record Ends (words : Program) (A : List Entry) (nodes : List Node) (part : Part) : Type 0 where
   pub place : Node
   pub is : IsPlace words A nodes part place part.adds
 
 -- a call or interrupt edge of the family leads from the place of a part into the instance of the next
-pub record EntersNext (words : List ℕ) (A : List Entry) (nodes : List Node) (part next : Part) : Type 0 where
+pub record EntersNext (words : Program) (A : List Entry) (nodes : List Node) (part next : Part) : Type 0 where
   pub place : Node
   pub offset : ℕ
   pub is : IsPlace words A nodes part place offset
@@ -44,12 +45,12 @@ pub record EntersNext (words : List ℕ) (A : List Entry) (nodes : List Node) (p
   pub enters : Enters words A place way next.inst back
 
 -- each part goes on so into the next, to the last
-abbrev pub GoOn : List ℕ → List Entry → List Node → Part → List Part → Type 0
+abbrev pub GoOn : Program → List Entry → List Node → Part → List Part → Type 0
 GoOn words A nodes part [] = Ends words A nodes part
 GoOn words A nodes part (next ∷ rest) = EntersNext words A nodes part next × GoOn words A nodes next rest
 
 -- the parts nest from the root on, in the family of the certificate
-pub record Nest (words : List ℕ) (A : List Entry) (c : Claim) (parts : List Part) : Type 0 where
+pub record Nest (words : Program) (A : List Entry) (c : Claim) (parts : List Part) : Type 0 where
   pub nodes : List Node
   pub filled : IsFilled words A c.nodes nodes
   pub root : Part
@@ -59,7 +60,7 @@ pub record Nest (words : List ℕ) (A : List Entry) (c : Claim) (parts : List Pa
   pub go_on : GoOn words A nodes root rest
 
 -- the certificate has the nodes and the bound of one at which the rounds end, with or without a schedule
-pub record IsOfRounds (words : List ℕ) (A : List Entry) (c : Claim) : Type 0 where
+pub record IsOfRounds (words : Program) (A : List Entry) (c : Claim) : Type 0 where
   pub steps : Option ℕ
   pub least : Claim
   pub answer : IsAnswer words A steps least
@@ -68,7 +69,7 @@ pub record IsOfRounds (words : List ℕ) (A : List Entry) (c : Claim) : Type 0 w
 
 -- What the explanation of a certificate tells: its parts nest from the root on and add up to its number, which is at most the bound, and the
 -- bound itself where the rounds end with this certificate.
-pub record Tells (words : List ℕ) (A : List Entry) (c : Claim) (x : Explanation) : Type 0 where
+pub record Tells (words : Program) (A : List Entry) (c : Claim) (x : Explanation) : Type 0 where
   pub sums : sum_of x.parts ≡ x.least
   pub bounded : x.least ≤ c.bound
   pub least : IsOfRounds words A c → x.least ≡ c.bound

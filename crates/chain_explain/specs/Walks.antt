@@ -1,6 +1,7 @@
 -- The way to a place within its instance. Source: own.
 use Rattle.std.specs.Prelude.{ℕ, ◌≡◌, ◌↔◌, Bool, true, false, List, map, Option, Some, None, Contains, slice_get}
 use Rattle.avr_model.specs.declared.assumption.Entry.{Entry}
+use Rattle.avr_model.specs.Devices.{Program}
 use Rattle.mask_states.specs.declared.keys.EdgeKind.{EdgeKind}
 use Rattle.mask_states.specs.declared.keys.EdgeKind.TheVariants.{Local, Call, Interrupt, Return}
 use Rattle.mask_states.specs.declared.keys.InstKey.{InstKey}
@@ -20,7 +21,7 @@ is_move (Interrupt v clears) = false
 is_move Return = true
 
 -- a local or return edge of the family leads from the node of the first number to that of the second, in the same instance
-pub record MovesTo (words : List ℕ) (A : List Entry) (nodes : List Node) (i j : ℕ) : Type 0 where
+pub record MovesTo (words : Program) (A : List Entry) (nodes : List Node) (i j : ℕ) : Type 0 where
   pub from : Node
   pub at : slice_get nodes i ≡ Some from
   pub edge : Edge
@@ -32,12 +33,12 @@ pub record MovesTo (words : List ℕ) (A : List Entry) (nodes : List Node) (i j 
   pub stays : to.key.inst ≡ from.key.inst
 
 -- A walk of the instance begins at a node that a call or interrupt edge of the family enters; one of the root at the node at reset.
-pub data Begins (words : List ℕ) (A : List Entry) (nodes : List Node) : InstKey → NodeKey → Type 0 where
+pub data Begins (words : Program) (A : List Entry) (nodes : List Node) : InstKey → NodeKey → Type 0 where
   at_reset : Begins words A nodes root_inst (entry_key root_inst)
   by_entry : (n : Node) (way : EdgeKind) (inst : InstKey) (back : ℕ) → Contains nodes n → Enters words A n way inst back → Begins words A nodes inst (entry_key inst)
 
 -- a walk of the instance begins at the node of this number
-pub record IsStart (words : List ℕ) (A : List Entry) (nodes : List Node) (inst : InstKey) (i : ℕ) : Type 0 where
+pub record IsStart (words : Program) (A : List Entry) (nodes : List Node) (inst : InstKey) (i : ℕ) : Type 0 where
   pub node : Node
   pub at : slice_get nodes i ≡ Some node
   pub begins : Begins words A nodes inst node.key
@@ -52,7 +53,7 @@ pc_at nodes i = pc_of (slice_get nodes i)
 
 -- The words of the first of the shortest walks to the node of this number in its instance, both ends included: of walks as long, the one
 -- whose list of node numbers is the least.
-pub record IsWay (words : List ℕ) (A : List Entry) (nodes : List Node) (inst : InstKey) (target : ℕ) (walk : List ℕ) : Type 0 where
+pub record IsWay (words : Program) (A : List Entry) (nodes : List Node) (inst : InstKey) (target : ℕ) (walk : List ℕ) : Type 0 where
   pub graph : List (List ℕ)
   pub moves : (i j : ℕ) → PointsTo graph i j ↔ MovesTo words A nodes i j
   pub starts : List ℕ

@@ -3,6 +3,7 @@ use Rattle.std.proofs.Common.{◌≡◌, refl, sym, ap, ◌∙◌, subst, ℕ, �
 use Rattle.std.proofs.lemmas.Bool.{both_ways, not-false}
 use Rattle.basics.specs.Numbers.{equals_itself}
 use Rattle.avr_model.specs.declared.assumption.Entry.{Entry}
+use Rattle.avr_model.specs.Devices.{Program}
 use Rattle.local_rules.specs.declared.local.Node.{Node}
 use Rattle.edge_rules.specs.Families.{RankedFamily}
 use Rattle.clear_laws.specs.Clear.{IsClear, is_clear}
@@ -19,7 +20,7 @@ same_as d x h = eqb-true x d h
 
 -- ---- one node
 
-module _ (words : List ℕ) (A : List Entry) (f : RankedFamily) (n : Node) where
+module _ (words : Program) (A : List Entry) (f : RankedFamily) (n : Node) where
   abbrev Holding : ℕ → Type 0
   Holding d = MayHold words A f.nodes n.key d
 

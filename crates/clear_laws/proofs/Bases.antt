@@ -1,6 +1,6 @@
 -- What the needs of suspended frames say of the base of the one above them.
 use Rattle.std.proofs.Common.{ℕ, ◌+◌, ◌≤◌, List, [], ◌∷◌, ap, arith}
-use Rattle.avr_model.specs.Devices.{ramend, device_of}
+use Rattle.avr_model.specs.Devices.{Program, ramend, device_of}
 use Rattle.avr_model.specs.declared.assumption.Entry.{Entry}
 use Rattle.avr_model.specs.State.{Memory}
 use Rattle.sp_domain.specs.Tags.{Origin}
@@ -9,7 +9,7 @@ use Rattle.mask_states.specs.Keys.{offset_of}
 use Rattle.edge_rules.specs.Families.{RankedFamily, IsSoundFamily}
 use Rattle.edge_rules.specs.Frames.{Frame, AreLeft}
 
-module _ (words : List ℕ) (A : List Entry) (f : RankedFamily) (memory : Memory) where
+module _ (words : Program) (A : List Entry) (f : RankedFamily) (memory : Memory) where
   -- what the frames above a base take, and what its instance needs, is within the bound
   pub within : IsSoundFamily words A f → (gs : List Frame) (inst : InstKey) (o : Origin) → AreLeft words A f memory gs inst o
       → ramend (device_of words) + f.need_of inst ≤ o.base + f.bound

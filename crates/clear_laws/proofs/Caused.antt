@@ -15,7 +15,7 @@ use Rattle.avr_model.specs.declared.instruction.Instr.{Instr}
 use Rattle.avr_model.specs.declared.instruction.Instr.TheVariants as i
 use Rattle.avr_model.specs.Assumptions.{is_never, is_fixed_site}
 use Rattle.avr_model.specs.Masks.{is_flagged_write}
-use Rattle.avr_model.specs.Devices.{ramend, device_of}
+use Rattle.avr_model.specs.Devices.{Program, ramend, device_of}
 use Rattle.avr_model.specs.Sites.{instruction_at, is_scratch}
 use Rattle.avr_model.specs.State.{BELOW, State, is_live}
 use Rattle.avr_model.specs.Vectors.{vector_word}
@@ -81,7 +81,7 @@ aim_none device k s i.Ijmp e = refl
 aim_none device k s i.Icall e = refl
 aim_none device k s _ e = absurd (cc)
 
-module _ (words : List ℕ) (A : List Entry) (f : RankedFamily) (n : Node) where
+module _ (words : Program) (A : List Entry) (f : RankedFamily) (n : Node) where
   clear_listed : (instr : Instr) → instruction_at words n.key.pc ≡ Some instr → is_indirect instr ≡ true → is_transfer_listed words A n.key.pc n.state instr ≡ true → IsClear words A f n
   clear_listed instr is indirect listed =
       clear_nodes_are_told.clear words A f n (λ d. true) (λ d lt none may. absurd (let no : true ≡ false = none in cc))
@@ -139,7 +139,7 @@ module _ (words : List ℕ) (A : List Entry) (f : RankedFamily) (n : Node) where
 
 -- ---- a step that is flagged
 
-module _ (words : List ℕ) (A : List Entry) (f : RankedFamily) (sound : IsSoundFamily words A f) (m : State) (g : Frame) (gs : List Frame) (runs : Runs words A f m g gs)
+module _ (words : Program) (A : List Entry) (f : RankedFamily) (sound : IsSoundFamily words A f) (m : State) (g : Frame) (gs : List Frame) (runs : Runs words A f m g gs)
     (holds : Holding words A f m.memory g gs) where
   abbrev top : ℕ
   top = ramend (device_of words)
@@ -222,7 +222,7 @@ module _ (words : List ℕ) (A : List Entry) (f : RankedFamily) (sound : IsSound
 
 -- ---- words
 
-module _ (words : List ℕ) (A : List Entry) (f : RankedFamily) where
+module _ (words : Program) (A : List Entry) (f : RankedFamily) where
   forgets : (pc : ℕ) (test : AbsState → Instr → Bool) → IsCause words A f pc test → MayBeFlagged words A f pc
   forgets pc test c = record { node = c.node; present = c.present; is = c.is; unclear = c.unclear }
 

@@ -11,7 +11,7 @@ use Rattle.avr_model.specs.declared.instruction.ImmediateOp.TheVariants as immed
 use Rattle.avr_model.specs.declared.instruction.UnaryOp.{UnaryOp}
 use Rattle.avr_model.specs.declared.instruction.UnaryOp.TheVariants as unary
 use Rattle.avr_model.specs.declared.effect.Effect.{Effect}
-use Rattle.avr_model.specs.Devices.{wrapped}
+use Rattle.avr_model.specs.Devices.{Program, wrapped}
 use Rattle.avr_model.specs.Text.{far}
 use Rattle.avr_model.specs.State.{State, BELOW, register}
 use Rattle.avr_model.specs.Effects.{set, port, way_back, binary_effect, immediate_effect, unary_effect, effect_of}
@@ -92,7 +92,7 @@ port_low a h = omega arith
 
 -- ---- operations on registers
 
-module _ (words : List ℕ) (m : State) where
+module _ (words : Program) (m : State) where
   binary_plain : (op : BinaryOp) (d r : ℕ) → ((binary_effect words m op d r).stores ≡ []) × ((binary_effect words m op d r).pushes ≡ [])
   binary_plain binary.Cpc d r = (refl, refl)
   binary_plain binary.Sbc d r = (refl, refl)
@@ -127,7 +127,7 @@ module _ (words : List ℕ) (m : State) where
 
 -- ---- the table, where the row is that of a state t of which the node may have forgotten something
 
-module _ {followed may : Bool} (words : List ℕ) (A : List Entry) (m : State) (o : Origin) (k : NodeKey) (s t : AbsState) (at : InFrameIn followed may m o k s) (scratch : Bool) (b1 b2 : ℕ) where
+module _ {followed may : Bool} (words : Program) (A : List Entry) (m : State) (o : Origin) (k : NodeKey) (s t : AbsState) (at : InFrameIn followed may m o k s) (scratch : Bool) (b1 b2 : ℕ) where
   abbrev DoesBy : Device → Instr → Type 0
   DoesBy device instr =
       Does device m o.base k s instr (effect_of words m instr b1 b2) (row_of device words A scratch k t instr) (row_of device words A false k t instr)

@@ -10,7 +10,7 @@ use Rattle.avr_model.specs.declared.choice.Flag.{Flag}
 use Rattle.avr_model.specs.declared.choice.Flag.TheVariants.{Live, Protected, Transfer}
 use Rattle.avr_model.specs.State.{State}
 use Rattle.avr_model.specs.Assumptions.{is_never}
-use Rattle.avr_model.specs.Devices.{device_of}
+use Rattle.avr_model.specs.Devices.{Program, device_of}
 use Rattle.avr_model.specs.Vectors.{vector_word}
 use Rattle.local_rules.specs.declared.local.Node.{Node}
 use Rattle.edge_rules.specs.Expansion.{IsFilled}
@@ -30,7 +30,7 @@ use Rattle.clear_laws.specs.Places.{word_of, IsPlaceOf, ArePlaces, TellsCause, A
 use Rattle.clear_laws.specs.CertificateLaws.{ClearVerdictsAreOne, ClearFirmwaresAreNeverFlagged, EndsByTakeAt, FlaggedRunsEndAtSites, FlaggedRunsEndAtPlaces}
 use Rattle.clear_laws.proofs.Places.{contains_at}
 
-module _ (words : List ℕ) (A : List Entry) (c : Claim) where
+module _ (words : Program) (A : List Entry) (c : Claim) where
   pub not_both : (j pc : ℕ) → AreAllClear words A c → IsFirstUnclear words A c j pc → ⊥
   not_both j pc all first =
       let same = filled_or_missing.one words A c.nodes all.nodes first.nodes all.expanded first.expanded in
@@ -79,7 +79,7 @@ clear_firmwares_are_never_flagged words c sized claim sound all =
     }
 
 -- a take that a node may do is one of the words that are told
-take_at : (words : List ℕ) (A : List Entry) (c : Claim) (nodes : List Node) (nevers : List ℕ) (m : State) (choices : List Choice) → IsFilled words A c.nodes nodes
+take_at : (words : Program) (A : List Entry) (c : Claim) (nodes : List Node) (nevers : List ℕ) (m : State) (choices : List Choice) → IsFilled words A c.nodes nodes
     → AreNevers words A c nevers → EndsByTake words A nodes m choices → EndsByTakeAt words A nevers m choices
 take_at words A c nodes nevers m choices filled all at =
     let alike = filled_or_missing.one words A c.nodes nodes all.nodes filled all.expanded in
@@ -117,7 +117,7 @@ place_in (p ∷ ps) pc h =
     ⊎_elim (λ e. (p, (first_in p ps, sym e))) (λ more. let q = place_in ps pc more in (q.0, (further_in p q.0 ps q.1.0, q.1.1)))
     (first_or_further p.word pc (map word_of ps) h)
 
-module _ (words : List ℕ) (A : List Entry) (c : Claim) (places : List FlaggedPlace) (are : ArePlaces words A c places) where
+module _ (words : Program) (A : List Entry) (c : Claim) (places : List FlaggedPlace) (are : ArePlaces words A c places) where
   -- the words are those of the same nodes
   words_told : (pc : ℕ) → Contains (map word_of places) pc ↔ MayBeFlagged words A (family_of c are.nodes) pc
   words_told pc =

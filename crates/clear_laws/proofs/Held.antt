@@ -10,6 +10,7 @@ use Rattle.basics.specs.Lists.{get_inside}
 use Rattle.edge_rules.specs.Places.{found_at}
 use Rattle.certificate.proofs.AllLaws.{number_of}
 use Rattle.avr_model.specs.declared.assumption.Entry.{Entry}
+use Rattle.avr_model.specs.Devices.{Program}
 use Rattle.mask_states.specs.declared.keys.NodeKey.{NodeKey}
 use Rattle.mask_states.specs.Keys.{offset_of}
 use Rattle.local_rules.specs.declared.local.Node.{Node}
@@ -26,7 +27,7 @@ offset_there [] at n e = absurd (none-some n e)
 offset_there (x ∷ nodes) zero n e = ap (λ (m : Node). offset_of m.key.sp) (same_Some x n e)
 offset_there (x ∷ nodes) (suc at) n e = offset_there nodes at n e
 
-module _ (words : List ℕ) (A : List Entry) (nodes : List Node) (links : List (List ℕ)) (offsets : List ℕ) (seeds : List SlotSeed) (are : AreLinks words A nodes links offsets seeds) (shown : AreShown nodes) where
+module _ (words : Program) (A : List Entry) (nodes : List Node) (links : List (List ℕ)) (offsets : List ℕ) (seeds : List SlotSeed) (are : AreLinks words A nodes links offsets seeds) (shown : AreShown nodes) where
   abbrev Reaching : ℕ → ℕ → Type 0
   Reaching d k = SlotReaches links offsets seeds d k
 

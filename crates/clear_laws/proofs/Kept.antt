@@ -3,7 +3,7 @@ use Rattle.std.proofs.Common.{◌≡◌, refl, sym, ap, ◌∙◌, subst, ℕ, �
 use Rattle.std.specs.Prelude.{⊤}
 use Rattle.basics.specs.Items.{none_in}
 use Rattle.avr_model.proofs.AllLaws.{devices_are_alike}
-use Rattle.avr_model.specs.Devices.{ramend, device_of}
+use Rattle.avr_model.specs.Devices.{Program, ramend, device_of}
 use Rattle.avr_model.specs.declared.assumption.Entry.{Entry}
 use Rattle.avr_model.specs.declared.choice.Choice.{Choice}
 use Rattle.avr_model.specs.declared.choice.Choice.TheVariants.{Go, Take}
@@ -36,21 +36,21 @@ use Rattle.clear_laws.proofs.Effects.{IsSpWhole}
 use Rattle.clear_laws.proofs.Steps.{Fresh, ComesFrom, IsLiveAbove, comes_by_go, comes_by_take, is_above}
 
 -- the frame's live slots are ones at which its node may hold a live byte
-abbrev pub IsFrameHeld : List ℕ → List Entry → List Node → Memory → Frame → Type 0
+abbrev pub IsFrameHeld : Program → List Entry → List Node → Memory → Frame → Type 0
 IsFrameHeld words A nodes memory g = (d : ℕ) → d < offset_of g.node.key.sp → is_live memory (g.origin.base - d) ≡ true → MayHold words A nodes g.node.key d
 
-abbrev pub AreFramesHeld : List ℕ → List Entry → List Node → Memory → List Frame → Type 0
+abbrev pub AreFramesHeld : Program → List Entry → List Node → Memory → List Frame → Type 0
 AreFramesHeld words A nodes memory [] = ⊤
 AreFramesHeld words A nodes memory (g ∷ gs) = IsFrameHeld words A nodes memory g × AreFramesHeld words A nodes memory gs
 
 -- No byte is live below the running frame's slots, which lie within the bound; and so it is in each frame.
-pub record Holding (words : List ℕ) (A : List Entry) (f : RankedFamily) (memory : Memory) (g : Frame) (gs : List Frame) : Type 0 where
+pub record Holding (words : Program) (A : List Entry) (f : RankedFamily) (memory : Memory) (g : Frame) (gs : List Frame) : Type 0 where
   pub above : (a : ℕ) → is_live memory a ≡ true → g.origin.base < a + offset_of g.node.key.sp
   pub depth : ramend (device_of words) + offset_of g.node.key.sp ≤ g.origin.base + f.bound
   pub running : IsFrameHeld words A f.nodes memory g
   pub left : AreFramesHeld words A f.nodes memory gs
 
-pub whole_where_entered : {words : List ℕ} {A : List Entry} {n : Node} {way : EdgeKind} {inst : InstKey} {back : ℕ} → Enters words A n way inst back → IsSpWhole n.key.sp
+pub whole_where_entered : {words : Program} {A : List Entry} {n : Node} {way : EdgeKind} {inst : InstKey} {back : ℕ} → Enters words A n way inst back → IsSpWhole n.key.sp
 whole_where_entered (by_call offset site faultless form member) = (offset, form)
 whole_where_entered (by_interrupt offset v clears faultless form i delay enabled allowed clearable) = (offset, form)
 
@@ -66,7 +66,7 @@ open_is base is_open sp offset h form e is = (subst (SpIs base is_open sp) e is)
 few_live : (n : State) → IsMachine n → length n.memory.live ≤ 2048
 few_live n machine = omega (arith, machine.count_live, devices_are_alike.most_bytes n.device)
 
-module _ (words : List ℕ) (A : List Entry) (f : RankedFamily) (sound : IsSoundFamily words A f) where
+module _ (words : Program) (A : List Entry) (f : RankedFamily) (sound : IsSoundFamily words A f) where
   -- what holds where the running frame's stack pointer is whole
   closed_above : (n : State) (h : Frame) (hs : List Frame) → Runs words A f n h hs → IsLiveAbove n → IsSpWhole h.node.key.sp → (a : ℕ) → is_live n.memory a ≡ true
       → h.origin.base < a + offset_of h.node.key.sp

@@ -6,7 +6,7 @@ use Rattle.avr_model.specs.declared.assumption.Entry.{Entry}
 use Rattle.avr_model.specs.declared.device.Device.{Device}
 use Rattle.avr_model.specs.declared.instruction.Instr.{Instr}
 use Rattle.avr_model.specs.declared.instruction.Instr.TheVariants as i
-use Rattle.avr_model.specs.Devices.{size_of, device_of}
+use Rattle.avr_model.specs.Devices.{Program, size_of, device_of}
 use Rattle.avr_model.specs.Marks.{marks}
 use Rattle.avr_model.specs.Sites.{instruction_at, is_scratch, adds_low}
 use Rattle.pair_domain.specs.declared.facts.PairFacts.{PairFacts}
@@ -31,7 +31,7 @@ use Rattle.clear_laws.specs.Held.{MayHold, kept, pushed, IsMapClosed, is_push, p
 use Rattle.clear_laws.specs.StepLaws.{HeldSlotsAreLeast}
 use Rattle.clear_laws.proofs.Rows.{row_by_unless_added}
 
-module _ (words : List ℕ) (A : List Entry) (nodes : List Node) where
+module _ (words : Program) (A : List Entry) (nodes : List Node) where
   least : (may : NodeKey → ℕ → Bool) → IsMapClosed words A nodes may → (k : NodeKey) (d : ℕ) → MayHold words A nodes k d → may k d ≡ true
   least may closed _ _ (kept n e d member edge stays held lt) = closed.keeps n e d member edge stays (least may closed n.key d held) lt
   least may closed _ _ (pushed n e member edge is push) = closed.pushes n e member edge is push
@@ -57,7 +57,7 @@ push_adds_none : (instr : Instr) → is_push instr ≡ true → adds_low instr �
 push_adds_none (i.Push r) push = refl
 push_adds_none _ push = absurd (cc)
 
-row_above : (device : Device) (words : List ℕ) (A : List Entry) (scratch : Bool) (k : NodeKey) (s : AbsState) (instr : Instr) → is_push instr ≡ true
+row_above : (device : Device) (words : Program) (A : List Entry) (scratch : Bool) (k : NodeKey) (s : AbsState) (instr : Instr) → is_push instr ≡ true
     → AllAbove (offset_of k.sp) (row_of device words A scratch k s instr)
 row_above device words A scratch k s (i.Push r) push = push_above device scratch k s r k.sp
 row_above device words A scratch k s _ push = absurd (cc)
@@ -67,12 +67,12 @@ where_above : (offset : ℕ) (k : NodeKey) (x : Option AbsState) → offset < of
 where_above offset k None lt to h = absurd (none_in to h)
 where_above offset k (Some s) lt to h = one_above offset k s lt to h
 
-refined_above : (words : List ℕ) (instr : Instr) (s : AbsState) (offset : ℕ) (r : Raw) → AllAbove offset r → AllAbove offset (refining words instr s r)
+refined_above : (words : Program) (instr : Instr) (s : AbsState) (offset : ℕ) (r : Raw) → AllAbove offset r → AllAbove offset (refining words instr s r)
 refined_above words instr s offset r h =
     each_of_join (λ (n : Node). node_where n.key (refined (marks words) words instr s n.state)) (λ (to : Node). offset < offset_of to.key.sp) r.moves
     (λ n to i j. where_above offset n.key (refined (marks words) words instr s n.state) (h n i) to j)
 
-row_by_above : (device : Device) (words : List ℕ) (A : List Entry) (scratch : Bool) (k : NodeKey) (s : AbsState) (facts : Option PairFacts) (instr : Instr) → is_push instr ≡ true
+row_by_above : (device : Device) (words : Program) (A : List Entry) (scratch : Bool) (k : NodeKey) (s : AbsState) (facts : Option PairFacts) (instr : Instr) → is_push instr ≡ true
     → AllAbove (offset_of k.sp) (row_by facts device words A scratch k s instr)
 row_by_above device words A scratch k s None instr push = row_above device words A scratch k (before instr s) instr push
 row_by_above device words A scratch k s (Some f) (i.Push r) push =
@@ -80,7 +80,7 @@ row_by_above device words A scratch k s (Some f) (i.Push r) push =
     (row_above device words A scratch k (before (i.Push r) s) (i.Push r) push)
 row_by_above device words A scratch k s (Some f) _ push = absurd (cc)
 
-raw_above : (words : List ℕ) (A : List Entry) (n : Node) (x : Option Instr) → instruction_at words n.key.pc ≡ x → pushes_register x ≡ true → IsFaultless words A n
+raw_above : (words : Program) (A : List Entry) (n : Node) (x : Option Instr) → instruction_at words n.key.pc ≡ x → pushes_register x ≡ true → IsFaultless words A n
     → AllAbove (offset_of n.key.sp) (raw_of words A n)
 raw_above words A n None is push clean = absurd (cc)
 raw_above words A n (Some instr) is push clean =
@@ -89,11 +89,11 @@ raw_above words A n (Some instr) is push clean =
     row_by_above (device_of words) words A (is_scratch words n.key.pc) n.key n.state n.state.facts instr push to
     (subst (λ (l : List Node). Contains l to) row.moves member)
 
-not_local : {words : List ℕ} {A : List Entry} {n : Node} {way : EdgeKind} {inst : InstKey} {back : ℕ} → Enters words A n way inst back → way ≡ kind.Local → ⊥
+not_local : {words : Program} {A : List Entry} {n : Node} {way : EdgeKind} {inst : InstKey} {back : ℕ} → Enters words A n way inst back → way ≡ kind.Local → ⊥
 not_local (by_call offset site faultless form member) = λ e. cc
 not_local (by_interrupt offset v clears faultless form i delay enabled allowed clearable) = λ e. cc
 
-module _ (words : List ℕ) (A : List Entry) (nodes : List Node) where
+module _ (words : Program) (A : List Entry) (nodes : List Node) where
   pushed_below : (n : Node) (e : Edge) → is_guarded_push words n.key.pc ≡ true → IsEdge words A nodes n e → e.kind ≡ kind.Local → offset_of n.key.sp < offset_of e.to.sp
   pushed_below n _ push (moving to faultless member) is =
       let from = joins_are_least.keys (raw_of words A n).moves to member in

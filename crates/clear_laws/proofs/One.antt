@@ -8,6 +8,7 @@ use Rattle.std.specs.declared.cmp.Ordering.TheVariants.{Less}
 use Rattle.std.proofs.lemmas.Bool.Decides.{nat_tests}
 use Rattle.basics.specs.Items.{none_in, first_in, further_in, first_or_further, contained_at}
 use Rattle.avr_model.specs.declared.assumption.Entry.{Entry}
+use Rattle.avr_model.specs.Devices.{Program}
 use Rattle.basics.specs.Lists.{same_head_and_tail}
 use Rattle.local_rules.specs.declared.local.Node.{Node}
 use Rattle.edge_rules.specs.Families.{RankedFamily}
@@ -61,7 +62,7 @@ same_lists (x ∷ xs) (y ∷ ys) hx hy to from =
 
 -- ---- the laws
 
-one_way : (words : List ℕ) (A : List Entry) (c : Claim) (xs ys : List ℕ) → AreSites words A c xs → AreSites words A c ys → (pc : ℕ) → Contains xs pc → Contains ys pc
+one_way : (words : Program) (A : List Entry) (c : Claim) (xs ys : List ℕ) → AreSites words A c xs → AreSites words A c ys → (pc : ℕ) → Contains xs pc → Contains ys pc
 one_way words A c xs ys a b pc h =
     let same = filled_or_missing.one words A c.nodes a.nodes b.nodes a.expanded b.expanded in
     (b.exact pc).1 (subst (λ (nodes : List Node). MayBeFlagged words A (family_of c nodes) pc) same ((a.exact pc).0 h))
@@ -80,7 +81,7 @@ same_test P false true h g = h.1 (g.0 refl)
 abbrev flagged_place : ℕ → List ℕ → Bool → Bool → FlaggedPlace
 flagged_place word protected live transfer = record { word = word; protected = protected; live = live; transfer = transfer }
 
-module _ (words : List ℕ) (A : List Entry) (f : RankedFamily) where
+module _ (words : Program) (A : List Entry) (f : RankedFamily) where
   one_place : (x y : FlaggedPlace) → x.word ≡ y.word → IsPlaceOf words A f x → IsPlaceOf words A f y → x ≡ y
   one_place x y e h k =
       let here : IsPlaceOf words A f (flagged_place x.word y.protected y.live y.transfer) = subst (λ w. IsPlaceOf words A f (flagged_place w y.protected y.live y.transfer)) (sym e) k in
@@ -107,7 +108,7 @@ places_are_one words A c xs ys a b =
     same_places words A (family_of c b.nodes) xs ys (sites_are_one words A c (map word_of xs) (map word_of ys) a.sites b.sites)
     (subst (λ (nodes : List Node). (p : FlaggedPlace) → Contains xs p → IsPlaceOf words A (family_of c nodes) p) same a.each) b.each
 
-one_take : (words : List ℕ) (A : List Entry) (c : Claim) (xs ys : List ℕ) → AreNevers words A c xs → AreNevers words A c ys → (w : ℕ) → Contains xs w → Contains ys w
+one_take : (words : Program) (A : List Entry) (c : Claim) (xs ys : List ℕ) → AreNevers words A c xs → AreNevers words A c ys → (w : ℕ) → Contains xs w → Contains ys w
 one_take words A c xs ys a b w h =
     let same = filled_or_missing.one words A c.nodes a.nodes b.nodes a.expanded b.expanded in
     (b.exact w).1 (subst (λ (nodes : List Node). MayBeTaken words A nodes w) same ((a.exact w).0 h))
@@ -115,14 +116,14 @@ one_take words A c xs ys a b w h =
 pub nevers_are_one : NeversAreOne
 nevers_are_one words A c xs ys a b = same_lists xs ys a.ascending b.ascending (one_take words A c xs ys a b) (one_take words A c ys xs b a)
 
-listed : (words : List ℕ) (c : Claim) (j pc : ℕ) (sites : List ℕ) → IsFirstUnclear words [] c j pc → AreSites words [] c sites → Contains sites pc
+listed : (words : Program) (c : Claim) (j pc : ℕ) (sites : List ℕ) → IsFirstUnclear words [] c j pc → AreSites words [] c sites → Contains sites pc
 listed words c j pc sites first are =
     let same = filled_or_missing.one words [] c.nodes first.nodes are.nodes first.expanded are.expanded in
     let m : MayBeFlagged words [] (family_of c first.nodes) pc =
     record { node = first.node; present = contained_at first.nodes j first.node first.is; is = first.word; unclear = first.unclear } in
     (are.exact pc).1 (subst (λ (nodes : List Node). MayBeFlagged words [] (family_of c nodes) pc) same m)
 
-pub none_where_clear : (words : List ℕ) (A : List Entry) (c : Claim) (sites : List ℕ) → AreSites words A c sites → AreAllClear words A c → sites ≡ []
+pub none_where_clear : (words : Program) (A : List Entry) (c : Claim) (sites : List ℕ) → AreSites words A c sites → AreAllClear words A c → sites ≡ []
 none_where_clear words A c [] are all = refl
 none_where_clear words A c (pc ∷ sites) are all =
     let same = filled_or_missing.one words A c.nodes all.nodes are.nodes all.expanded are.expanded in

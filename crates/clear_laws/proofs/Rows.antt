@@ -5,7 +5,7 @@ use Rattle.avr_model.specs.declared.assumption.Entry.{Entry}
 use Rattle.avr_model.specs.declared.device.Device.{Device}
 use Rattle.avr_model.specs.declared.instruction.Instr.{Instr}
 use Rattle.avr_model.specs.declared.instruction.Instr.TheVariants as i
-use Rattle.avr_model.specs.Devices.{words_of, size_of, device_of}
+use Rattle.avr_model.specs.Devices.{Program, words_of, size_of, device_of}
 use Rattle.avr_model.specs.Sites.{instruction_at, is_scratch, adds_low, is_some_that, table_site}
 use Rattle.pair_domain.specs.declared.facts.PairFacts.{PairFacts}
 use Rattle.abs_state.specs.declared.state.AbsState.{AbsState}
@@ -20,7 +20,7 @@ use Rattle.local_laws.proofs.Picks.{unlined_some, site_adds}
 
 -- ---- the site of a table
 
-splits_at : (words : List ℕ) (A : List Entry) (pc : ℕ) (pick : Option ℕ) (jump : ℕ) → split_site words A pc pick ≡ Some jump
+splits_at : (words : Program) (A : List Entry) (pc : ℕ) (pick : Option ℕ) (jump : ℕ) → split_site words A pc pick ≡ Some jump
     → is_some_that adds_low (instruction_at words pc) ≡ true
 splits_at words A pc None jump e = by (nat_lt pc (words_of (device_of words))) e
   where
@@ -43,16 +43,16 @@ outer_faultless false true pc offset r h = absurd (cc)
 outer_faultless false false pc offset r h = (refl, h)
 
 -- what a node has by a row that is its own
-pub record HasRow (words : List ℕ) (A : List Entry) (k : NodeKey) (s : AbsState) (r : Raw) : Type 0 where
+pub record HasRow (words : Program) (A : List Entry) (k : NodeKey) (s : AbsState) (r : Raw) : Type 0 where
   pub faultless : r.faults ≡ []
   pub moves : (raw words A k s).moves ≡ r.moves
 
 -- its instruction's row, whether it follows pairs or not
-abbrev pub IsRowBy : List ℕ → List Entry → NodeKey → AbsState → Instr → Option PairFacts → Type 0
+abbrev pub IsRowBy : Program → List Entry → NodeKey → AbsState → Instr → Option PairFacts → Type 0
 IsRowBy words A k s instr facts = HasRow words A k s (row_by facts (device_of words) words A (is_scratch words k.pc) k s instr)
 
 -- its instruction's plain row has no fault, and the node leads nowhere if that row doesn't
-pub record IsPlainRow (words : List ℕ) (A : List Entry) (k : NodeKey) (s : AbsState) (instr : Instr) : Type 0 where
+pub record IsPlainRow (words : Program) (A : List Entry) (k : NodeKey) (s : AbsState) (instr : Instr) : Type 0 where
   pub faultless : (row_of (device_of words) words A (is_scratch words k.pc) k (before instr s) instr).faults ≡ []
   pub none : (row_of (device_of words) words A (is_scratch words k.pc) k (before instr s) instr).moves ≡ [] → (raw words A k s).moves ≡ []
 
@@ -77,13 +77,13 @@ record IsLikePlain (r plain : Raw) : Type 0 where
   faults : r.faults ≡ plain.faults
   none : plain.moves ≡ [] → r.moves ≡ []
 
-refined_none : (words : List ℕ) (instr : Instr) (s : AbsState) (nodes : List Node) → nodes ≡ [] → refined_nodes words instr s nodes ≡ []
+refined_none : (words : Program) (instr : Instr) (s : AbsState) (nodes : List Node) → nodes ≡ [] → refined_nodes words instr s nodes ≡ []
 refined_none words instr s nodes e = ap (refined_nodes words instr s) e
 
-refining_is : (words : List ℕ) (instr : Instr) (s : AbsState) (r : Raw) → IsLikePlain (refining words instr s r) r
+refining_is : (words : Program) (instr : Instr) (s : AbsState) (r : Raw) → IsLikePlain (refining words instr s r) r
 refining_is words instr s r = record { faults = refl; none = refined_none words instr s r.moves }
 
-like_plain : (facts : Option PairFacts) (device : Device) (words : List ℕ) (A : List Entry) (scratch : Bool) (k : NodeKey) (s : AbsState) (instr : Instr) → pushes instr ≡ true
+like_plain : (facts : Option PairFacts) (device : Device) (words : Program) (A : List Entry) (scratch : Bool) (k : NodeKey) (s : AbsState) (instr : Instr) → pushes instr ≡ true
     → IsLikePlain (row_by facts device words A scratch k s instr) (row_of device words A scratch k (before instr s) instr)
 like_plain None device words A scratch k s instr h = record { faults = refl; none = λ e. e }
 like_plain (Some f) device words A scratch k s (i.Push r) h = refining_is words (i.Push r) s _
@@ -92,7 +92,7 @@ like_plain (Some f) device words A scratch k s (i.Call t) h = refining_is words 
 like_plain (Some f) device words A scratch k s (i.Rcall t) h = refining_is words (i.Rcall t) s _
 like_plain (Some f) device words A scratch k s _ h = absurd (cc)
 
-module _ (words : List ℕ) (A : List Entry) (k : NodeKey) (s : AbsState) where
+module _ (words : Program) (A : List Entry) (k : NodeKey) (s : AbsState) where
   abbrev device : Device
   device = device_of words
 

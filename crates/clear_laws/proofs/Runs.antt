@@ -1,6 +1,6 @@
 -- A run from reset that ends flagged ends at a word of a node that may be flagged.
 use Rattle.std.proofs.Common.{◌≡◌, refl, ap, ◌∙◌, ℕ, zero, suc, ◌+◌, ◌-◌, ◌&&◌, ◌⊎◌, ⊎_elim, inl, inr, Bool, true, false, List, [], ◌∷◌, replicate, nat_lt, slice_index_or, arith}
-use Rattle.avr_model.specs.Devices.{size_of, device_of}
+use Rattle.avr_model.specs.Devices.{Program, size_of, device_of}
 use Rattle.avr_model.specs.declared.assumption.Entry.{Entry}
 use Rattle.avr_model.specs.declared.choice.Choice.{Choice}
 use Rattle.avr_model.specs.declared.choice.Flag.{Flag}
@@ -37,7 +37,7 @@ none_live n live a e h =
 flag_same : (p q : Flag) → stop.Flag p ≡ stop.Flag q → p ≡ q
 flag_same p q e = cc
 
-module _ (words : List ℕ) (A : List Entry) (f : RankedFamily) (sized : AreWords words) (sound : IsSoundFamily words A f) (flag : Flag) where
+module _ (words : Program) (A : List Entry) (f : RankedFamily) (sized : AreWords words) (sound : IsSoundFamily words A f) (flag : Flag) where
   -- what a run owes from a state on
   abbrev Told : List Choice → State → Type 0
   Told cs m = (g : Frame) (gs : List Frame) → Runs words A f m g gs → Holding words A f m.memory g gs → IsRun words A cs m → stop_of words A cs m ≡ stop.Flag flag

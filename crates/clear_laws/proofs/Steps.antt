@@ -9,7 +9,7 @@ use Rattle.avr_model.specs.declared.choice.Choice.{Choice}
 use Rattle.avr_model.specs.declared.choice.Choice.TheVariants.{Go, Take}
 use Rattle.avr_model.specs.declared.effect.Effect.{Effect}
 use Rattle.avr_model.specs.declared.effect.Write.{Write}
-use Rattle.avr_model.specs.Devices.{device_of}
+use Rattle.avr_model.specs.Devices.{Program, device_of}
 use Rattle.avr_model.specs.Sites.{instruction_at, is_scratch}
 use Rattle.avr_model.specs.State.{State, Memory, is_live}
 use Rattle.avr_model.specs.Effects.{effect_of, way_back}
@@ -39,12 +39,12 @@ flags_done pc None None (Some c) x n e = absurd (cc)
 flags_done pc None None None x n e = done_is x n e
 
 -- an instruction's effect
-pub record Went (words : List ℕ) (m n : State) (b1 b2 : ℕ) : Type 0 where
+pub record Went (words : Program) (m n : State) (b1 b2 : ℕ) : Type 0 where
   pub instr : Instr
   pub is : instruction_at words m.pc ≡ Some instr
   pub leads : after m (not (is_scratch words m.pc)) (effect_of words m instr b1 b2) ≡ n
 
-module _ (words : List ℕ) (A : List Entry) (m n : State) where
+module _ (words : Program) (A : List Entry) (m n : State) where
   went_by : (b1 b2 : ℕ) (x : Option Instr) → instruction_at words m.pc ≡ x → go words A m x b1 b2 ≡ Done n → Went words m n b1 b2
   went_by b1 b2 None is e = absurd (cc)
   went_by b1 b2 (Some instr) is e =
@@ -72,7 +72,7 @@ module _ (words : List ℕ) (A : List Entry) (m n : State) where
 
 -- Whether this byte was pushed: at the stack pointer or below it, by a node with a whole one. An instruction is a guarded push of it, or
 -- has no successor in its frame.
-pub record Fresh (words : List ℕ) (A : List Entry) (g : Frame) (n : State) (c : Choice) (a : ℕ) : Type 0 where
+pub record Fresh (words : Program) (A : List Entry) (g : Frame) (n : State) (c : Choice) (a : ℕ) : Type 0 where
   pub offset : ℕ
   pub closed : g.node.key.sp ≡ Closed offset
   pub low : a + offset ≤ g.origin.base
@@ -80,7 +80,7 @@ pub record Fresh (words : List ℕ) (A : List Entry) (g : Frame) (n : State) (c 
   pub which : (b1 b2 : ℕ) → c ≡ Go b1 b2
       → ((is_guarded_push words g.node.key.pc ≡ true) × (a + offset ≡ g.origin.base)) ⊎ ((raw_of words A g.node).moves ≡ [])
 
-abbrev pub ComesFrom : List ℕ → List Entry → Frame → State → State → Choice → Type 0
+abbrev pub ComesFrom : Program → List Entry → Frame → State → State → Choice → Type 0
 ComesFrom words A g m n c = (a : ℕ) → is_live n.memory a ≡ true → (is_live m.memory a ≡ true) ⊎ Fresh words A g n c a
 
 -- no byte at or below a whole stack pointer is live
@@ -101,7 +101,7 @@ way_low sp back base offset a at inside (inl e) = omega arith
 way_low sp back base offset a at inside (inr (inl e)) = omega arith
 way_low sp back base offset a at inside (inr (inr e)) = absurd e
 
-guarded_by : (words : List ℕ) (pc pc' : ℕ) (instr : Instr) → pc ≡ pc' → instruction_at words pc ≡ Some instr → is_push instr ≡ true → not (is_scratch words pc) ≡ true
+guarded_by : (words : Program) (pc pc' : ℕ) (instr : Instr) → pc ≡ pc' → instruction_at words pc ≡ Some instr → is_push instr ≡ true → not (is_scratch words pc) ≡ true
     → is_guarded_push words pc' ≡ true
 guarded_by words pc pc' instr same is push guarded =
     subst (λ p. is_guarded_push words p ≡ true) same (ap₂ (λ a b. a && b) (ap pushes_register is ∙ push) guarded)
@@ -109,7 +109,7 @@ guarded_by words pc pc' instr same is push guarded =
 pub whole_sp : (base : ℕ) (is_open : Bool) (sp offset : ℕ) (form : SpForm) → form ≡ Closed offset → SpIs base is_open sp form → sp + offset ≡ base
 whole_sp base is_open sp offset form e h = (subst (SpIs base is_open sp) e h).1
 
-module _ (words : List ℕ) (A : List Entry) (f : RankedFamily) (sound : IsSoundFamily words A f) (m n : State) (few : length n.memory.live ≤ 2048) (g : Frame) (gs : List Frame)
+module _ (words : Program) (A : List Entry) (f : RankedFamily) (sound : IsSoundFamily words A f) (m n : State) (few : length n.memory.live ≤ 2048) (g : Frame) (gs : List Frame)
     (runs : Runs words A f m g gs) where
   at_sp : (offset : ℕ) → g.node.key.sp ≡ Closed offset → m.sp + offset ≡ g.origin.base
   at_sp offset e = whole_sp g.origin.base m.is_open m.sp offset g.node.key.sp e runs.running.place.sp

@@ -9,7 +9,7 @@ use Rattle.avr_model.specs.declared.device.Device.{Device}
 use Rattle.avr_model.specs.declared.instruction.Instr.{Instr}
 use Rattle.avr_model.specs.Assumptions.{jump_line, lists}
 use Rattle.avr_model.specs.Bits.{all_below}
-use Rattle.avr_model.specs.Devices.{ramend, wrapped, device_of}
+use Rattle.avr_model.specs.Devices.{Program, ramend, wrapped, device_of}
 use Rattle.avr_model.specs.Sites.{instruction_at}
 use Rattle.avr_model.specs.State.{BELOW}
 use Rattle.avr_model.specs.Step.{is_indirect}
@@ -77,7 +77,7 @@ to_span first last = record { first = first; last = last }
 one_span : (span : Span) → span.first ≡ span.last → span ≡ record { first = span.first; last = span.first }
 one_span span e = ap (λ (last : ℕ). to_span span.first last) (sym e)
 
-module _ (words : List ℕ) (A : List Entry) (f : RankedFamily) (n : Node) (held : ℕ → Bool) where
+module _ (words : Program) (A : List Entry) (f : RankedFamily) (n : Node) (held : ℕ → Bool) where
   -- what isn't told to be held isn't, and what is told is
   abbrev Frees : Type 0
   Frees = (d : ℕ) → d < offset_of n.key.sp → held d ≡ false → MayHold words A f.nodes n.key d → ⊥

@@ -18,7 +18,7 @@ use Rattle.avr_model.specs.declared.effect.Effect.{Effect}
 use Rattle.avr_model.specs.declared.effect.Write.{Write}
 use Rattle.avr_model.specs.Assumptions.{jump_line, store_line, is_never, is_fixed_site, lists, has_masks}
 use Rattle.avr_model.specs.Masks.{is_barred, enables_barred, admits_enables, is_flagged_write}
-use Rattle.avr_model.specs.Devices.{ramend, wrapped, device_of}
+use Rattle.avr_model.specs.Devices.{Program, ramend, wrapped, device_of}
 use Rattle.avr_model.specs.Image.{WORDS}
 use Rattle.avr_model.specs.Sites.{instruction_at, is_scratch}
 use Rattle.avr_model.specs.State.{BELOW, State, Memory, is_live, i_flag, minus16, register, pair, low, high}
@@ -104,7 +104,7 @@ guarded_write device A site value a byte has = by (admits_enables A site)
         (or_cases (is_core a) (enables_barred device A a byte) h)
     by false h = h
 
-module _ (words : List ℕ) (A : List Entry) (instr : Instr) (pc : ℕ) where
+module _ (words : Program) (A : List Entry) (instr : Instr) (pc : ℕ) where
   nothing_protected : (e : Effect) → e.stores ≡ [] → protected_write words A pc instr e ≡ None
   unfolding protected_write
   nothing_protected e none =
@@ -160,7 +160,7 @@ and_false a b c h = grind arith
 -- ---- what a store writes
 
 -- a write to this address isn't flagged
-record IsFreeToWrite (words : List ℕ) (A : List Entry) (memory : Memory) (pc : ℕ) (s : AbsState) (instr : Instr) (a : ℕ) : Type 0 where
+record IsFreeToWrite (words : Program) (A : List Entry) (memory : Memory) (pc : ℕ) (s : AbsState) (instr : Instr) (a : ℕ) : Type 0 where
   dead : is_live memory a ≡ false
   free : is_flagged_address words A pc s instr a ≡ false
 
@@ -199,7 +199,7 @@ whole_where_taken device A k v (Closed offset) is i delay enabled allowed hung =
 whole_where_taken device A k v (Open offset high) is i delay enabled allowed hung =
     absurd (never_both (is_hung device A k (Open offset high)) (open_pairs_hang.hung device A k v offset high i delay enabled allowed) hung)
 
-module _ (words : List ℕ) (A : List Entry) (f : RankedFamily) (sound : IsSoundFamily words A f) (m : State) (g : Frame) (gs : List Frame) (runs : Runs words A f m g gs)
+module _ (words : Program) (A : List Entry) (f : RankedFamily) (sound : IsSoundFamily words A f) (m : State) (g : Frame) (gs : List Frame) (runs : Runs words A f m g gs)
     (holds : Holding words A f m.memory g gs) where
   abbrev k : NodeKey
   k = g.node.key

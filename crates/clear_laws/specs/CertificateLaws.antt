@@ -6,7 +6,7 @@ use Rattle.avr_model.specs.declared.choice.Choice.{Choice}
 use Rattle.avr_model.specs.declared.choice.Choice.TheVariants.{Take}
 use Rattle.avr_model.specs.declared.choice.Flag.{Flag}
 use Rattle.avr_model.specs.declared.choice.Stop.TheVariants as stop
-use Rattle.avr_model.specs.Devices.{device_of}
+use Rattle.avr_model.specs.Devices.{Program, device_of}
 use Rattle.avr_model.specs.Vectors.{vector_word}
 use Rattle.avr_model.specs.State.{State, IsReset}
 use Rattle.avr_model.specs.Run.{IsRun, stop_of, Bounded}
@@ -31,20 +31,20 @@ use Rattle.clear_laws.specs.Places.{ArePlaces, AllTellCauses, AreToldOf}
 
 -- a certificate has at most one verdict
 abbrev pub ClearVerdictsAreOne : Type 0
-ClearVerdictsAreOne = (words : List ℕ) (c : Claim) (v w : ClearVerdict) → IsClearVerdict words c v → IsClearVerdict words c w → v ≡ w
+ClearVerdictsAreOne = (words : Program) (c : Claim) (v w : ClearVerdict) → IsClearVerdict words c v → IsClearVerdict words c w → v ≡ w
 
 -- no run from reset is flagged, and each keeps the bound: there is no premise on flags
-pub record IsBoundedAndClear (words : List ℕ) (bound : ℕ) : Type 0 where
+pub record IsBoundedAndClear (words : Program) (bound : ℕ) : Type 0 where
   pub bounded : Bounded words [] bound
   pub never : NeverFlagged words []
 
 -- where all conditions hold without assumptions, and each node is clear
 abbrev pub ClearFirmwaresAreNeverFlagged : Type 0
-ClearFirmwaresAreNeverFlagged = (words : List ℕ) (c : Claim) → AreWords words → IsClaim c → IsSound words [] c → AreAllClear words [] c
+ClearFirmwaresAreNeverFlagged = (words : Program) (c : Claim) → AreWords words → IsClaim c → IsSound words [] c → AreAllClear words [] c
     → IsBoundedAndClear words c.bound
 
 -- the run stops where it takes a vector that is entered at one of these words
-pub record EndsByTakeAt (words : List ℕ) (A : List Entry) (nevers : List ℕ) (m : State) (choices : List Choice) : Type 0 where
+pub record EndsByTakeAt (words : Program) (A : List Entry) (nevers : List ℕ) (m : State) (choices : List Choice) : Type 0 where
   pub before : List Choice
   pub vector : ℕ
   pub clears : Bool
@@ -54,7 +54,7 @@ pub record EndsByTakeAt (words : List ℕ) (A : List Entry) (nevers : List ℕ) 
   pub word : Contains nevers (vector_word (device_of words) vector)
 
 -- each run from reset that ends flagged ends at one of the first words, or by taking a vector that is entered at one of the others
-abbrev pub EndFlaggedAt : List ℕ → List Entry → List ℕ → List ℕ → Type 0
+abbrev pub EndFlaggedAt : Program → List Entry → List ℕ → List ℕ → Type 0
 EndFlaggedAt words A sites nevers =
     (m : State) (choices : List Choice) (flag : Flag) → IsReset (device_of words) m → IsRun words A choices m → stop_of words A choices m ≡ stop.Flag flag
     → Contains sites (word_of_flag flag) ⊎ EndsByTakeAt words A nevers m choices
@@ -62,28 +62,28 @@ EndFlaggedAt words A sites nevers =
 -- where all conditions hold, runs end flagged only at the words at which some node isn't clear, and by taking a vector that is never entered
 abbrev pub FlaggedRunsEndAtSites : Type 0
 FlaggedRunsEndAtSites =
-    (words : List ℕ) (A : List Entry) (c : Claim) (sites nevers : List ℕ) → AreWords words → IsClaim c → IsSound words A c → AreSites words A c sites
+    (words : Program) (A : List Entry) (c : Claim) (sites nevers : List ℕ) → AreWords words → IsClaim c → IsSound words A c → AreSites words A c sites
     → AreNevers words A c nevers → EndFlaggedAt words A sites nevers
 
 -- each run from reset that ends flagged ends where just that is told of its word, or by taking a vector that is entered at one of the others
-abbrev pub EndFlaggedAsTold : List ℕ → List Entry → List FlaggedPlace → List ℕ → Type 0
+abbrev pub EndFlaggedAsTold : Program → List Entry → List FlaggedPlace → List ℕ → Type 0
 EndFlaggedAsTold words A places nevers =
     (m : State) (choices : List Choice) (flag : Flag) → IsReset (device_of words) m → IsRun words A choices m → stop_of words A choices m ≡ stop.Flag flag
     → AreToldOf places flag ⊎ EndsByTakeAt words A nevers m choices
 
 -- where all conditions hold, runs end flagged only as it is told, and something is told of each word
 pub record FlaggedRunsEndAtPlaces : Type 0 where
-  pub ends : (words : List ℕ) (A : List Entry) (c : Claim) (places : List FlaggedPlace) (nevers : List ℕ) → AreWords words → IsClaim c → IsSound words A c
+  pub ends : (words : Program) (A : List Entry) (c : Claim) (places : List FlaggedPlace) (nevers : List ℕ) → AreWords words → IsClaim c → IsSound words A c
       → ArePlaces words A c places → AreNevers words A c nevers → EndFlaggedAsTold words A places nevers
-  pub told : (words : List ℕ) (A : List Entry) (c : Claim) (places : List FlaggedPlace) → ArePlaces words A c places → AllTellCauses places
+  pub told : (words : Program) (A : List Entry) (c : Claim) (places : List FlaggedPlace) → ArePlaces words A c places → AllTellCauses places
 
 -- With links as they are, a slot spreads to just the nodes at which it may hold a live byte.
 abbrev pub SlotsSpreadAlongLinks : Type 0
-SlotsSpreadAlongLinks = (words : List ℕ) (A : List Entry) (nodes : List Node) (links : List (List ℕ)) (offsets : List ℕ) (seeds : List SlotSeed)
+SlotsSpreadAlongLinks = (words : Program) (A : List Entry) (nodes : List Node) (links : List (List ℕ)) (offsets : List ℕ) (seeds : List SlotSeed)
     → AreLinks words A nodes links offsets seeds → AreShown nodes → (at d : ℕ) (n : Node) → slice_get nodes at ≡ Some n
     → SlotReaches links offsets seeds d at ↔ MayHold words A nodes n.key d
 
 -- Where a node asks this of its slots, it is clear exactly where that is met.
 abbrev pub AskingsTellClearNodes : Type 0
-AskingsTellClearNodes = (words : List ℕ) (A : List Entry) (f : RankedFamily) (n : Node) (a : Asks) → ((held : ℕ → Bool) → is_clear words A f.bound n held ≡ meets a held)
+AskingsTellClearNodes = (words : Program) (A : List Entry) (f : RankedFamily) (n : Node) (a : Asks) → ((held : ℕ → Bool) → is_clear words A f.bound n held ≡ meets a held)
     → Meets a (λ d. MayHold words A f.nodes n.key d) ↔ IsClear words A f n

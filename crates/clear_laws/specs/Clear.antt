@@ -12,7 +12,7 @@ use Rattle.avr_model.specs.declared.instruction.Instr.TheVariants as i
 use Rattle.avr_model.specs.Assumptions.{jump_line, store_line, is_never, is_fixed_site, lists}
 use Rattle.avr_model.specs.Bits.{all_below}
 use Rattle.avr_model.specs.Masks.{admits_enables}
-use Rattle.avr_model.specs.Devices.{ramend, wrapped, device_of}
+use Rattle.avr_model.specs.Devices.{Program, ramend, wrapped, device_of}
 use Rattle.avr_model.specs.Sites.{instruction_at}
 use Rattle.avr_model.specs.State.{State, IsReset, BELOW, low, high}
 use Rattle.avr_model.specs.Step.{is_pointer_store, is_indirect}
@@ -51,12 +51,12 @@ is_guarded device A site value a =
     else is_protected a && not (lists (store_line A site) a)
 
 -- The address may be flagged as protected: this is `st` or `std`, the site isn't fixed, and a write of its byte to the address is flagged.
-abbrev pub is_flagged_address : List ℕ → List Entry → ℕ → AbsState → Instr → ℕ → Bool
+abbrev pub is_flagged_address : Program → List Entry → ℕ → AbsState → Instr → ℕ → Bool
 is_flagged_address words A pc s instr a =
     is_pointer_store instr && not (is_fixed_site words A pc) && is_guarded (device_of words) A pc (stored_bits s instr) a
 
 -- The address is harmless: it lies in SRAM below what the stack can reach, or above SRAM, or below SRAM and isn't flagged.
-abbrev pub is_address_harmless : List ℕ → List Entry → ℕ → ℕ → AbsState → Instr → ℕ → Bool
+abbrev pub is_address_harmless : Program → List Entry → ℕ → ℕ → AbsState → Instr → ℕ → Bool
 is_address_harmless words A bound pc s instr a =
     (nat_lt BELOW a && nat_le (a + bound) (ramend (device_of words))) || nat_lt (ramend (device_of words)) a
     || (nat_le a BELOW && not (is_flagged_address words A pc s instr a))
@@ -64,7 +64,7 @@ is_address_harmless words A bound pc s instr a =
 -- A store with this aim writes no live byte and no flagged address: there is no address; all lie in SRAM below what the stack can reach; all
 -- lie above SRAM; there is one, below SRAM, that isn't flagged; or the address is a slot, below the offset, that may hold no live byte. Where
 -- pairs are followed it is also harmless where each address to which its byte may go is.
-pub data IsHarmless (words : List ℕ) (A : List Entry) (f : RankedFamily) (n : Node) (instr : Instr) (aim : Aim) : Type 0 where
+pub data IsHarmless (words : Program) (A : List Entry) (f : RankedFamily) (n : Node) (instr : Instr) (aim : Aim) : Type 0 where
   no_address : aim.reach ≡ reach.Nothing → IsHarmless words A f n instr aim
   under_stack : (span : Span) → aim.reach ≡ reach.Within span → BELOW < span.first → span.last + f.bound ≤ ramend (device_of words)
       → IsHarmless words A f n instr aim
@@ -94,14 +94,14 @@ AreTargetsListed device s (Some listed) = (z : ℕ) → z < 65536 → permits_pa
 
 -- Where its instruction is a store, that is harmless; and where it is an indirect transfer, whose site has a `jump` line, the line lists all
 -- words to which it may go.
-pub record IsClear (words : List ℕ) (A : List Entry) (f : RankedFamily) (n : Node) : Type 0 where
+pub record IsClear (words : Program) (A : List Entry) (f : RankedFamily) (n : Node) : Type 0 where
   pub store : (instr : Instr) (aim : Aim) → instruction_at words n.key.pc ≡ Some instr → aim_of (device_of words) n.key n.state instr ≡ Some aim
       → IsHarmless words A f n instr aim
   pub transfer : (instr : Instr) → instruction_at words n.key.pc ≡ Some instr → is_indirect instr ≡ true
       → AreTargetsListed (device_of words) n.state (jump_line A n.key.pc)
 
 -- a node of the family at this word that isn't clear
-pub record MayBeFlagged (words : List ℕ) (A : List Entry) (f : RankedFamily) (pc : ℕ) : Type 0 where
+pub record MayBeFlagged (words : Program) (A : List Entry) (f : RankedFamily) (pc : ℕ) : Type 0 where
   pub node : Node
   pub present : Contains f.nodes node
   pub is : node.key.pc ≡ pc
@@ -109,7 +109,7 @@ pub record MayBeFlagged (words : List ℕ) (A : List Entry) (f : RankedFamily) (
 
 -- The word has a `never` line, and at one of these nodes a vector may be taken that is entered there: it is enabled, with I set and no delay.
 -- The step is flagged.
-pub record MayBeTaken (words : List ℕ) (A : List Entry) (nodes : List Node) (word : ℕ) : Type 0 where
+pub record MayBeTaken (words : Program) (A : List Entry) (nodes : List Node) (word : ℕ) : Type 0 where
   pub never : is_never A word ≡ true
   pub node : Node
   pub present : Contains nodes node
@@ -121,7 +121,7 @@ pub record MayBeTaken (words : List ℕ) (A : List Entry) (nodes : List Node) (w
 
 -- The run stops where it takes a vector that is entered at such a word. The flag is a live byte's where the entry would write one: the stack
 -- pointer may be half written.
-pub record EndsByTake (words : List ℕ) (A : List Entry) (nodes : List Node) (m : State) (choices : List Choice) : Type 0 where
+pub record EndsByTake (words : Program) (A : List Entry) (nodes : List Node) (m : State) (choices : List Choice) : Type 0 where
   pub before : List Choice
   pub vector : ℕ
   pub clears : Bool
@@ -132,18 +132,18 @@ pub record EndsByTake (words : List ℕ) (A : List Entry) (nodes : List Node) (m
 
 -- ---- the same as a test
 
-abbrev pub is_span_harmless : List ℕ → List Entry → ℕ → ℕ → AbsState → Instr → Span → Bool
+abbrev pub is_span_harmless : Program → List Entry → ℕ → ℕ → AbsState → Instr → Span → Bool
 is_span_harmless words A bound pc s instr span =
     (nat_lt BELOW span.first && nat_le (span.last + bound) (ramend (device_of words))) || nat_lt (ramend (device_of words)) span.first
     || ((span.first == span.last) && nat_le span.first BELOW && not (is_flagged_address words A pc s instr span.first))
 
-abbrev pub is_reach_harmless : List ℕ → List Entry → ℕ → ℕ → AbsState → Instr → Reach → Bool
+abbrev pub is_reach_harmless : Program → List Entry → ℕ → ℕ → AbsState → Instr → Reach → Bool
 is_reach_harmless words A bound pc s instr reach.Nothing = true
 is_reach_harmless words A bound pc s instr (reach.Within span) = is_span_harmless words A bound pc s instr span
 is_reach_harmless words A bound pc s instr reach.Beyond = false
 
 -- pairs are followed, and each address to which the byte may go is harmless
-abbrev pub are_addresses_harmless : List ℕ → List Entry → ℕ → ℕ → AbsState → Instr → Bool
+abbrev pub are_addresses_harmless : Program → List Entry → ℕ → ℕ → AbsState → Instr → Bool
 are_addresses_harmless words A bound pc s instr =
     is_followed s.facts && all_below 65536 (λ a. not (may_write s instr a) || is_address_harmless words A bound pc s instr a)
 
@@ -152,7 +152,7 @@ abbrev pub is_slot_harmless : ℕ → (ℕ → Bool) → Option ℕ → Bool
 is_slot_harmless offset held None = false
 is_slot_harmless offset held (Some d) = nat_lt d offset && not (held d)
 
-abbrev pub is_aim_harmless : List ℕ → List Entry → ℕ → NodeKey → AbsState → Instr → (ℕ → Bool) → Option Aim → Bool
+abbrev pub is_aim_harmless : Program → List Entry → ℕ → NodeKey → AbsState → Instr → (ℕ → Bool) → Option Aim → Bool
 is_aim_harmless words A bound k s instr held None = true
 is_aim_harmless words A bound k s instr held (Some aim) =
     (is_reach_harmless words A bound k.pc s instr aim.reach || are_addresses_harmless words A bound k.pc s instr) || is_slot_harmless (offset_of k.sp) held aim.slot
@@ -164,15 +164,15 @@ abbrev pub are_targets_listed : Device → AbsState → Option (List ℕ) → Bo
 are_targets_listed device s None = true
 are_targets_listed device s (Some listed) = all_below 65536 (is_target_listed device s listed)
 
-abbrev pub is_transfer_listed : List ℕ → List Entry → ℕ → AbsState → Instr → Bool
+abbrev pub is_transfer_listed : Program → List Entry → ℕ → AbsState → Instr → Bool
 is_transfer_listed words A pc s instr = not (is_indirect instr) || are_targets_listed (device_of words) s (jump_line A pc)
 
-abbrev pub is_clear_by : List ℕ → List Entry → ℕ → NodeKey → AbsState → (ℕ → Bool) → Option Instr → Bool
+abbrev pub is_clear_by : Program → List Entry → ℕ → NodeKey → AbsState → (ℕ → Bool) → Option Instr → Bool
 is_clear_by words A bound k s held None = true
 is_clear_by words A bound k s held (Some instr) =
     is_aim_harmless words A bound k s instr held (aim_of (device_of words) k s instr) && is_transfer_listed words A k.pc s instr
 
-abbrev pub is_clear : List ℕ → List Entry → ℕ → Node → (ℕ → Bool) → Bool
+abbrev pub is_clear : Program → List Entry → ℕ → Node → (ℕ → Bool) → Bool
 is_clear words A bound n held = is_clear_by words A bound n.key n.state held (instruction_at words n.key.pc)
 
 -- ---- runs
@@ -184,6 +184,6 @@ word_of_flag (Protected pc a) = pc
 word_of_flag (Transfer pc target) = pc
 
 -- no run from reset is flagged
-abbrev pub NeverFlagged : List ℕ → List Entry → Type 0
+abbrev pub NeverFlagged : Program → List Entry → Type 0
 NeverFlagged words A =
     (m : State) (choices : List Choice) (flag : Flag) → IsReset (device_of words) m → IsRun words A choices m → stop_of words A choices m ≢ stop.Flag flag

@@ -2,6 +2,7 @@
 use Rattle.std.specs.Prelude.{ℕ, ◌≡◌, ◌↔◌, true, List, length, map, Contains, Some}
 use Rattle.std.specs.List.{slice_get}
 use Rattle.avr_model.specs.declared.assumption.Entry.{Entry}
+use Rattle.avr_model.specs.Devices.{Program}
 use Rattle.mask_states.specs.declared.keys.EdgeKind.TheVariants as kind
 use Rattle.mask_states.specs.declared.keys.NodeKey.{NodeKey}
 use Rattle.mask_states.specs.Keys.{offset_of}
@@ -26,11 +27,11 @@ abbrev pub offsets_of : List Node → List ℕ
 offsets_of nodes = map (λ (n : Node). offset_of n.key.sp) nodes
 
 -- the same where the edge is of a node at which a guarded byte is pushed
-abbrev pub IsPushed : List ℕ → List Node → NodeKey → Edge → SlotSeed → Type 0
+abbrev pub IsPushed : Program → List Node → NodeKey → Edge → SlotSeed → Type 0
 IsPushed words nodes k e s = (is_guarded_push words k.pc ≡ true) × IsLandingSeed nodes (offset_of k.sp) e s
 
 -- a node adds a slot by a guarded push
-pub record SeedComes (words : List ℕ) (A : List Entry) (nodes : List Node) (s : SlotSeed) : Type 0 where
+pub record SeedComes (words : Program) (A : List Entry) (nodes : List Node) (s : SlotSeed) : Type 0 where
   pub at : ℕ
   pub node : Node
   pub edge : Edge
@@ -40,7 +41,7 @@ pub record SeedComes (words : List ℕ) (A : List Entry) (nodes : List Node) (s 
 
 -- Links by the numbers of nodes, the slots that guarded pushes add, and how many slots each node has: of each node, where its edges land that
 -- stay in its frame.
-pub record AreLinks (words : List ℕ) (A : List Entry) (nodes : List Node) (links : List (List ℕ)) (offsets : List ℕ) (seeds : List SlotSeed) : Type 0 where
+pub record AreLinks (words : Program) (A : List Entry) (nodes : List Node) (links : List (List ℕ)) (offsets : List ℕ) (seeds : List SlotSeed) : Type 0 where
   pub count : length links ≡ length nodes
   pub link : (at : ℕ) (n : Node) (t : ℕ) → slice_get nodes at ≡ Some n
       → Contains (links_of links at) t ↔ ((e : Edge) × (IsEdge words A nodes n e × IsTarget nodes e t))

@@ -1,6 +1,7 @@
 -- Laws of the words at which a step may be flagged.
 use Rattle.std.specs.Prelude.{ℕ, ◌≡◌, ◌↔◌, List, []}
 use Rattle.avr_model.specs.declared.assumption.Entry.{Entry}
+use Rattle.avr_model.specs.Devices.{Program}
 use Rattle.certificate.specs.Claims.{Claim}
 use Rattle.clear_laws.specs.declared.verdict.ClearVerdict.{ClearVerdict}
 use Rattle.clear_laws.specs.declared.verdict.ClearVerdict.TheVariants.{Clear}
@@ -10,17 +11,17 @@ use Rattle.clear_laws.specs.Places.{ArePlaces}
 
 -- a certificate has at most one list of such words
 abbrev pub SitesAreOne : Type 0
-SitesAreOne = (words : List ℕ) (A : List Entry) (c : Claim) (xs ys : List ℕ) → AreSites words A c xs → AreSites words A c ys → xs ≡ ys
+SitesAreOne = (words : Program) (A : List Entry) (c : Claim) (xs ys : List ℕ) → AreSites words A c xs → AreSites words A c ys → xs ≡ ys
 
 -- and at most one of them with what may happen there
 abbrev pub PlacesAreOne : Type 0
-PlacesAreOne = (words : List ℕ) (A : List Entry) (c : Claim) (xs ys : List FlaggedPlace) → ArePlaces words A c xs → ArePlaces words A c ys → xs ≡ ys
+PlacesAreOne = (words : Program) (A : List Entry) (c : Claim) (xs ys : List FlaggedPlace) → ArePlaces words A c xs → ArePlaces words A c ys → xs ≡ ys
 
 -- and at most one list of words of vectors that are assumed never to be taken and that some node may take
 abbrev pub NeversAreOne : Type 0
-NeversAreOne = (words : List ℕ) (A : List Entry) (c : Claim) (xs ys : List ℕ) → AreNevers words A c xs → AreNevers words A c ys → xs ≡ ys
+NeversAreOne = (words : Program) (A : List Entry) (c : Claim) (xs ys : List ℕ) → AreNevers words A c xs → AreNevers words A c ys → xs ≡ ys
 
 -- without assumptions a certificate is clear exactly where the list is empty
 abbrev pub ClearWhereNoSites : Type 0
-ClearWhereNoSites = (words : List ℕ) (c : Claim) (verdict : ClearVerdict) (sites : List ℕ) → IsClearVerdict words c verdict → AreSites words [] c sites
+ClearWhereNoSites = (words : Program) (c : Claim) (verdict : ClearVerdict) (sites : List ℕ) → IsClearVerdict words c verdict → AreSites words [] c sites
     → (verdict ≡ Clear) ↔ (sites ≡ [])

@@ -5,6 +5,7 @@ use Rattle.std.specs.Ordering.{nat_cmp}
 use Rattle.avr_model.specs.declared.assumption.Entry.{Entry}
 use Rattle.avr_model.specs.declared.choice.Flag.{Flag}
 use Rattle.avr_model.specs.declared.choice.Flag.TheVariants.{Live, Protected, Transfer}
+use Rattle.avr_model.specs.Devices.{Program}
 use Rattle.local_rules.specs.declared.local.Node.{Node}
 use Rattle.edge_rules.specs.Families.{RankedFamily}
 use Rattle.edge_rules.specs.Expansion.{IsFilled}
@@ -18,14 +19,14 @@ abbrev pub word_of : FlaggedPlace → ℕ
 word_of place = place.word
 
 -- what may happen at its word by some node of the family that isn't clear, and nothing else
-pub record IsPlaceOf (words : List ℕ) (A : List Entry) (f : RankedFamily) (place : FlaggedPlace) : Type 0 where
+pub record IsPlaceOf (words : Program) (A : List Entry) (f : RankedFamily) (place : FlaggedPlace) : Type 0 where
   pub ascending : IsStrictlySortedBy nat_cmp place.protected
   pub protected : (a : ℕ) → Contains place.protected a ↔ MayWriteProtected words A f place.word a
   pub live : (place.live ≡ true) ↔ MayWriteLive words A f place.word
   pub transfer : (place.transfer ≡ true) ↔ MayGoUnlisted words A f place.word
 
 -- these are all words at which some node of the certificate isn't clear, each once, in ascending order, and what may happen there
-pub record ArePlaces (words : List ℕ) (A : List Entry) (c : Claim) (places : List FlaggedPlace) : Type 0 where
+pub record ArePlaces (words : Program) (A : List Entry) (c : Claim) (places : List FlaggedPlace) : Type 0 where
   pub sites : AreSites words A c (map word_of places)
   pub nodes : List Node
   pub expanded : IsFilled words A c.nodes nodes

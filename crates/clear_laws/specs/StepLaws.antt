@@ -1,6 +1,6 @@
 -- Laws of flagged steps.
 use Rattle.std.specs.Prelude.{ℕ, ◌⊎◌, ◌≡◌, ◌↔◌, ◌<◌, Bool, true, false, List, Contains}
-use Rattle.avr_model.specs.Devices.{device_of}
+use Rattle.avr_model.specs.Devices.{Program, device_of}
 use Rattle.avr_model.specs.declared.assumption.Entry.{Entry}
 use Rattle.avr_model.specs.declared.choice.Choice.{Choice}
 use Rattle.avr_model.specs.declared.choice.Flag.{Flag}
@@ -20,29 +20,29 @@ use Rattle.clear_laws.specs.Causes.{HasCause, MayFlag}
 -- does where each node is clear and no such vector may be taken. What is flagged may happen at that word: the live byte may be written, this
 -- protected address, or the transfer goes to an unlisted word.
 pub record FlaggedRunsAreTold : Type 0 where
-  pub caused : (words : List ℕ) (A : List Entry) (f : RankedFamily) (m : State) (choices : List Choice) (flag : Flag) → AreWords words → IsSoundFamily words A f
+  pub caused : (words : Program) (A : List Entry) (f : RankedFamily) (m : State) (choices : List Choice) (flag : Flag) → AreWords words → IsSoundFamily words A f
       → IsReset (device_of words) m → IsRun words A choices m → stop_of words A choices m ≡ stop.Flag flag
       → MayFlag words A f flag ⊎ EndsByTake words A f.nodes m choices
-  pub told : (words : List ℕ) (A : List Entry) (f : RankedFamily) (m : State) (choices : List Choice) (flag : Flag) → AreWords words → IsSoundFamily words A f
+  pub told : (words : Program) (A : List Entry) (f : RankedFamily) (m : State) (choices : List Choice) (flag : Flag) → AreWords words → IsSoundFamily words A f
       → IsReset (device_of words) m → IsRun words A choices m → stop_of words A choices m ≡ stop.Flag flag
       → MayBeFlagged words A f (word_of_flag flag) ⊎ EndsByTake words A f.nodes m choices
-  pub never : (words : List ℕ) (A : List Entry) (f : RankedFamily) → AreWords words → IsSoundFamily words A f → ((n : Node) → Contains f.nodes n → IsClear words A f n)
+  pub never : (words : Program) (A : List Entry) (f : RankedFamily) → AreWords words → IsSoundFamily words A f → ((n : Node) → Contains f.nodes n → IsClear words A f n)
       → ((word : ℕ) → MayBeTaken words A f.nodes word → ⊥) → NeverFlagged words A
 
 -- The slots that may hold a live byte are in every map that has what the rules give, and lie below the node's offset.
 pub record HeldSlotsAreLeast : Type 0 where
-  pub least : (words : List ℕ) (A : List Entry) (nodes : List Node) (may : NodeKey → ℕ → Bool) (k : NodeKey) (d : ℕ)
+  pub least : (words : Program) (A : List Entry) (nodes : List Node) (may : NodeKey → ℕ → Bool) (k : NodeKey) (d : ℕ)
       → IsMapClosed words A nodes may → MayHold words A nodes k d → may k d ≡ true
-  pub below : (words : List ℕ) (A : List Entry) (nodes : List Node) (k : NodeKey) (d : ℕ) → MayHold words A nodes k d → d < offset_of k.sp
+  pub below : (words : Program) (A : List Entry) (nodes : List Node) (k : NodeKey) (d : ℕ) → MayHold words A nodes k d → d < offset_of k.sp
 
 -- A test tells the clear nodes by another that tells the slots which may hold a live byte: a node that passes is clear where the other tells
 -- all of them, and a clear one passes where it tells no more.
 pub record ClearNodesAreTold : Type 0 where
-  pub clear : (words : List ℕ) (A : List Entry) (f : RankedFamily) (n : Node) (held : ℕ → Bool)
+  pub clear : (words : Program) (A : List Entry) (f : RankedFamily) (n : Node) (held : ℕ → Bool)
       → ((d : ℕ) → d < offset_of n.key.sp → held d ≡ false → MayHold words A f.nodes n.key d → ⊥) → is_clear words A f.bound n held ≡ true → IsClear words A f n
-  pub told : (words : List ℕ) (A : List Entry) (f : RankedFamily) (n : Node) (held : ℕ → Bool)
+  pub told : (words : Program) (A : List Entry) (f : RankedFamily) (n : Node) (held : ℕ → Bool)
       → ((d : ℕ) → d < offset_of n.key.sp → held d ≡ true → MayHold words A f.nodes n.key d) → IsClear words A f n → is_clear words A f.bound n held ≡ true
 
 -- Where a node may be flagged something may happen, and nothing elsewhere.
 abbrev pub PlacesHaveCauses : Type 0
-PlacesHaveCauses = (words : List ℕ) (A : List Entry) (f : RankedFamily) (pc : ℕ) → MayBeFlagged words A f pc ↔ HasCause words A f pc
+PlacesHaveCauses = (words : Program) (A : List Entry) (f : RankedFamily) (pc : ℕ) → MayBeFlagged words A f pc ↔ HasCause words A f pc

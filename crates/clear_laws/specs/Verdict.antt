@@ -4,6 +4,7 @@ use Rattle.std.specs.List.{slice_get}
 use Rattle.std.specs.List.Sorted.{IsStrictlySortedBy}
 use Rattle.std.specs.Ordering.{nat_cmp}
 use Rattle.avr_model.specs.declared.assumption.Entry.{Entry}
+use Rattle.avr_model.specs.Devices.{Program}
 use Rattle.local_rules.specs.declared.local.Node.{Node}
 use Rattle.edge_rules.specs.Expansion.{IsFilled}
 use Rattle.certificate.specs.Claims.{Claim}
@@ -13,13 +14,13 @@ use Rattle.clear_laws.specs.declared.verdict.ClearVerdict.{ClearVerdict}
 use Rattle.clear_laws.specs.declared.verdict.ClearVerdict.TheVariants.{Clear, Unclear}
 
 -- each node of the certificate has an expansion, and all nodes so expanded are clear
-pub record AreAllClear (words : List ℕ) (A : List Entry) (c : Claim) : Type 0 where
+pub record AreAllClear (words : Program) (A : List Entry) (c : Claim) : Type 0 where
   pub nodes : List Node
   pub expanded : IsFilled words A c.nodes nodes
   pub clear : (n : Node) → Contains nodes n → IsClear words A (family_of c nodes) n
 
 -- Of the nodes so expanded, node j isn't clear; this is its word, and each earlier node is clear.
-pub record IsFirstUnclear (words : List ℕ) (A : List Entry) (c : Claim) (j pc : ℕ) : Type 0 where
+pub record IsFirstUnclear (words : Program) (A : List Entry) (c : Claim) (j pc : ℕ) : Type 0 where
   pub nodes : List Node
   pub expanded : IsFilled words A c.nodes nodes
   pub node : Node
@@ -29,12 +30,12 @@ pub record IsFirstUnclear (words : List ℕ) (A : List Entry) (c : Claim) (j pc 
   pub earlier : (i : ℕ) (n : Node) → slice_get nodes i ≡ Some n → i < j → IsClear words A (family_of c nodes) n
 
 -- what is said of a certificate without assumptions: all nodes are clear, or this one is the least that isn't
-abbrev pub IsClearVerdict : List ℕ → Claim → ClearVerdict → Type 0
+abbrev pub IsClearVerdict : Program → Claim → ClearVerdict → Type 0
 IsClearVerdict words c Clear = AreAllClear words [] c
 IsClearVerdict words c (Unclear j pc) = IsFirstUnclear words [] c j pc
 
 -- these are all words at which some node so expanded isn't clear, each once, in ascending order
-pub record AreSites (words : List ℕ) (A : List Entry) (c : Claim) (sites : List ℕ) : Type 0 where
+pub record AreSites (words : Program) (A : List Entry) (c : Claim) (sites : List ℕ) : Type 0 where
   pub nodes : List Node
   pub expanded : IsFilled words A c.nodes nodes
   pub ascending : IsStrictlySortedBy nat_cmp sites
@@ -42,7 +43,7 @@ pub record AreSites (words : List ℕ) (A : List Entry) (c : Claim) (sites : Lis
 
 -- These are all words with a `never` line at which some node so expanded may take a vector, each once, in ascending order. Taking it is
 -- flagged.
-pub record AreNevers (words : List ℕ) (A : List Entry) (c : Claim) (nevers : List ℕ) : Type 0 where
+pub record AreNevers (words : Program) (A : List Entry) (c : Claim) (nevers : List ℕ) : Type 0 where
   pub nodes : List Node
   pub expanded : IsFilled words A c.nodes nodes
   pub ascending : IsStrictlySortedBy nat_cmp nevers

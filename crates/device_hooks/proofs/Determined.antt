@@ -10,7 +10,7 @@ use Rattle.device_hooks.specs.declared.hook.Moment.{Moment}
 use Rattle.device_hooks.specs.declared.walk.WalkedRun.{WalkedRun}
 use Rattle.avr_model.specs.declared.choice.Choice.{Choice}
 use Rattle.avr_model.specs.declared.assumption.Entry.{Entry}
-use Rattle.avr_model.specs.Devices.{device_of, ramend}
+use Rattle.avr_model.specs.Devices.{Program, device_of, ramend}
 use Rattle.avr_model.specs.Vectors.{is_enabled, WATCHDOG}
 use Rattle.avr_model.specs.State.{State, filled}
 use Rattle.avr_model.specs.Step.{Answer, Illegal, Undefined, Overflow, Flagged, Done, step, may_take}
@@ -91,7 +91,7 @@ next_step setup p (Some n) = passed_step (slice_get setup.sources n) p n
 
 -- ---- the choices
 
-module _ (answers : Answering) (setup : Setup) (words : List ℕ) (A : List Entry)
+module _ (answers : Answering) (setup : Setup) (words : Program) (A : List Entry)
     (exact : (p : Progress) (m : State) (answer : Option ℕ) → length p.taken ≡ length setup.sources → Asked answers p m answer → answer ≡ picked setup p m) where
   abbrev By : ℕ → Progress → State → List Choice
   By n p m = chosen setup words A n p m
@@ -122,7 +122,7 @@ module _ (answers : Answering) (setup : Setup) (words : List ℕ) (A : List Entr
 -- ---- the depth
 
 -- from reset the machine's depth is that of the run
-pub depth_from_reset : DepthIsKept → (words : List ℕ) (A : List Entry) (fill : ℕ) (cs : List Choice) (end : Machine) → IsRun words A cs (filled (device_of words) fill) → end ≡ machine_after words A cs (starting (filled (device_of words) fill))
+pub depth_from_reset : DepthIsKept → (words : Program) (A : List Entry) (fill : ℕ) (cs : List Choice) (end : Machine) → IsRun words A cs (filled (device_of words) fill) → end ≡ machine_after words A cs (starting (filled (device_of words) fill))
     → end.depth ≡ depth_of words A cs (filled (device_of words) fill)
 depth_from_reset law words A fill cs end run after =
     ap (λ (x : Machine). x.depth) after ∙ law words A cs (starting (filled (device_of words) fill)) (omega arith) run ∙ most_from_start (ramend (device_of words)) (depth_of words A cs (filled (device_of words) fill))
@@ -154,7 +154,7 @@ first_due_at {F} {g} h k timers hook same answers =
     subst P (sym same) (first_due_by g k.1 k.0 timers answers)
 
 -- what is told of the walk is what is told of the run of the devices alone
-pub told : DepthIsKept → (first second : Answering) (setup : Setup) (words : List ℕ) (A : List Entry) (n : ℕ) (m : Machine) (walk : WalkedRun) (end : Machine) → Walks (Either first second) setup words A n false m walk end
+pub told : DepthIsKept → (first second : Answering) (setup : Setup) (words : Program) (A : List Entry) (n : ℕ) (m : Machine) (walk : WalkedRun) (end : Machine) → Walks (Either first second) setup words A n false m walk end
     → m ≡ starting (initial words setup) → IsFirstDue first setup true → IsFirstDue second setup false
     → ◌≡◌ {A = Report} (record { steps = walk.steps; depth = end.depth; stop = walk.stop }) (simulation_of words A setup n)
 told law first second setup words A n m walk end w start f g =

@@ -12,6 +12,7 @@ use Rattle.avr_model.specs.declared.assumption.Entry.{Entry}
 use Rattle.avr_model.specs.State.{State}
 use Rattle.avr_model.specs.Step.{Answer, Done, step, result_of}
 use Rattle.avr_model.specs.Run.{Machine, IsRun, RunsOn, HasBytes, moved_on, states_of, states_on, stop_of, stop_on}
+use Rattle.avr_model.specs.Devices.{Program}
 use Rattle.stimulus.specs.Driving.{GoesOn, machine_after, stop_at}
 use Rattle.witness_replay.specs.Replay.{steps_of}
 use Rattle.device_hooks.specs.Spelling.{Setup}
@@ -23,18 +24,18 @@ use Rattle.device_hooks.proofs.Determined.{next_step}
 use Rattle.device_hooks.specs.Midway.{IsChosen, kept_on, Walks}
 
 -- a run has at least one state
-states_some : (words : List ℕ) (A : List Entry) (cs : List Choice) (m : State) → 1 ≤ length (states_of words A cs m)
+states_some : (words : Program) (A : List Entry) (cs : List Choice) (m : State) → 1 ≤ length (states_of words A cs m)
 states_some words A [] m = omega arith
 states_some words A (c ∷ cs) m = omega arith
 
 -- one done step more
-one_step : (words : List ℕ) (A : List Entry) (c : Choice) (cs : List Choice) (m s : State) → step words A m c ≡ Done s → steps_of words A (c ∷ cs) m ≡ suc (steps_of words A cs s)
+one_step : (words : Program) (A : List Entry) (c : Choice) (cs : List Choice) (m s : State) → step words A m c ≡ Done s → steps_of words A (c ∷ cs) m ≡ suc (steps_of words A cs s)
 one_step words A c cs m s is =
     let some = states_some words A cs s in
     let on : length (states_on (step words A m c) (states_of words A cs)) ≡ length (states_of words A cs s) = ap (λ (a : Answer). length (states_on a (states_of words A cs))) is in
     omega (arith, some, on)
 
-module _ (answers : Answering) (setup : Setup) (words : List ℕ) (A : List Entry) where
+module _ (answers : Answering) (setup : Setup) (words : Program) (A : List Entry) where
   abbrev pub Led : ℕ → Progress → Machine → List Choice → Progress → Machine → Type 0
   Led n p m cs last end = Leads answers setup words A n p m cs last end
 
@@ -109,7 +110,7 @@ longer cs c n e = length-append cs (c ∷ []) ∙ ap (λ (x : ℕ). x + 1) e
 pub kept_more : (keeps : Bool) (old now cs : List Choice) (c : Choice) → (keeps ≡ true → old ≡ cs) → now ≡ kept_on keeps old c → keeps ≡ true → now ≡ cs ++ c ∷ []
 kept_more keeps old now cs c was is k = is ∙ ap (λ (b : Bool). kept_on b old c) k ∙ ap (λ (xs : List Choice). xs ++ c ∷ []) (was k)
 
-module _ (answers : Answering) (setup : Setup) (words : List ℕ) (A : List Entry) (n : ℕ) (keeps : Bool) (m : Machine) where
+module _ (answers : Answering) (setup : Setup) (words : Program) (A : List Entry) (n : ℕ) (keeps : Bool) (m : Machine) where
   pub walks_stop : (cs old now : List Choice) (mid : Progress) (at : Machine) (c : Choice) (next : Progress) (end : Machine) (step' : ℕ) (stop : Stop)
       → Leads answers setup words A n (begun setup) m cs mid at → length cs ≡ step' → step' < n → (keeps ≡ true → old ≡ cs) → now ≡ kept_on keeps old c
       → HasBytes c → IsChosen answers setup mid at.state c next → stop_at (result_of (step words A at.state c)) ≡ Some stop → end ≡ moved_on at (step words A at.state c)

@@ -8,7 +8,7 @@ use Rattle.avr_machine.proofs.Choosing.{go_is_legal, either_is_legal}
 use Rattle.avr_model.specs.declared.choice.Choice.{Choice}
 use Rattle.avr_model.specs.declared.choice.StepResult.TheVariants as said
 use Rattle.avr_model.specs.declared.assumption.Entry.{Entry}
-use Rattle.avr_model.specs.Devices.{device_of}
+use Rattle.avr_model.specs.Devices.{Program, device_of}
 use Rattle.avr_model.specs.Sites.{instruction_at}
 use Rattle.avr_model.specs.State.{State}
 use Rattle.avr_model.specs.Step.{Answer, Illegal, Undefined, Overflow, Flagged, Done, step, take, entering, may_take, result_of}
@@ -34,7 +34,7 @@ abbrev MayTake : State → Option Source → Type 0
 MayTake m None = Unit {0}
 MayTake m (Some s) = may_take m s.vector false ≡ true
 
-choice_legal : (words : List ℕ) (A : List Entry) (m : State) (o : Option Source) (p : Progress) → MayTake m o → result_of (step words A m (choice_at o p)) ≢ said.Illegal
+choice_legal : (words : Program) (A : List Entry) (m : State) (o : Option Source) (p : Progress) → MayTake m o → result_of (step words A m (choice_at o p)) ≢ said.Illegal
 choice_legal words A m None p may = go_is_legal words A m (instruction_at words m.pc) p.input p.input
 choice_legal words A m (Some s) p may = take_legal A m s.vector (may_take m s.vector false) may
 
@@ -89,14 +89,14 @@ next_small setup p (Some n) h small = passed_small (slice_get setup.sources n) p
 
 -- ---- the run
 
-runs_on : (words : List ℕ) (A : List Entry) (a : Answer) (rest : State → List Choice) → result_of a ≢ said.Illegal → ((s : State) → IsRun words A (rest s) s) → RunsOn a (choices_on a rest) (IsRun words A (choices_on a rest))
+runs_on : (words : Program) (A : List Entry) (a : Answer) (rest : State → List Choice) → result_of a ≢ said.Illegal → ((s : State) → IsRun words A (rest s) s) → RunsOn a (choices_on a rest) (IsRun words A (choices_on a rest))
 runs_on words A Illegal rest legal on = absurd (legal refl)
 runs_on words A (Undefined pc) rest legal on = refl
 runs_on words A (Overflow pc) rest legal on = refl
 runs_on words A (Flagged flag) rest legal on = refl
 runs_on words A (Done s) rest legal on = on s
 
-chosen_runs : (words : List ℕ) (A : List Entry) (setup : Setup) → IsSetup setup → (n : ℕ) (p : Progress) (m : State) → p.input < 256 → IsRun words A (chosen setup words A n p m) m
+chosen_runs : (words : Program) (A : List Entry) (setup : Setup) → IsSetup setup → (n : ℕ) (p : Progress) (m : State) → p.input < 256 → IsRun words A (chosen setup words A n p m) m
 chosen_runs words A setup h zero p m small = tt
 chosen_runs words A setup h (suc n) p m small =
     let a = picked setup p m in (

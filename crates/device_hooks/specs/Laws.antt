@@ -1,19 +1,19 @@
 -- Runs that devices choose are runs of the machine from reset, so a bound of all runs holds of them.
 use Rattle.std.specs.Prelude.{ℕ, ◌≤◌, List}
 use Rattle.avr_model.specs.declared.assumption.Entry.{Entry}
-use Rattle.avr_model.specs.Devices.{device_of}
+use Rattle.avr_model.specs.Devices.{Program, device_of}
 use Rattle.avr_model.specs.State.{IsReset}
 use Rattle.avr_model.specs.Run.{IsRun, Bounded}
 use Rattle.device_hooks.specs.Spelling.{Setup, IsSetup}
 use Rattle.device_hooks.specs.Simulating.{initial, simulated, simulation_of}
 
-pub record IsRunFromReset (words : List ℕ) (A : List Entry) (setup : Setup) (n : ℕ) : Type 0 where
+pub record IsRunFromReset (words : Program) (A : List Entry) (setup : Setup) (n : ℕ) : Type 0 where
   pub reset : IsReset (device_of words) (initial words setup)
   pub run : IsRun words A (simulated words A setup n) (initial words setup)
 
 abbrev pub SimulationsAreRuns : Type 0
-SimulationsAreRuns = (words : List ℕ) (A : List Entry) (setup : Setup) (n : ℕ) → IsSetup setup → IsRunFromReset words A setup n
+SimulationsAreRuns = (words : Program) (A : List Entry) (setup : Setup) (n : ℕ) → IsSetup setup → IsRunFromReset words A setup n
 
 abbrev pub SimulationsAreBounded : Type 0
 SimulationsAreBounded =
-    (words : List ℕ) (A : List Entry) (setup : Setup) (n bound : ℕ) → IsSetup setup → Bounded words A bound → (simulation_of words A setup n).depth ≤ bound
+    (words : Program) (A : List Entry) (setup : Setup) (n bound : ℕ) → IsSetup setup → Bounded words A bound → (simulation_of words A setup n).depth ≤ bound

@@ -5,6 +5,7 @@ use Rattle.avr_model.specs.declared.choice.Choice.{Choice}
 use Rattle.avr_model.specs.declared.assumption.Entry.{Entry}
 use Rattle.avr_model.specs.State.{State}
 use Rattle.avr_model.specs.Run.{Machine, IsRun, stop_of}
+use Rattle.avr_model.specs.Devices.{Program}
 use Rattle.stimulus.specs.Driving.{machine_after}
 use Rattle.witness_replay.specs.Replay.{steps_of}
 use Rattle.device_hooks.specs.declared.walk.WalkedRun.{WalkedRun}
@@ -30,7 +31,7 @@ abbrev pub kept_on : Bool → List Choice → Choice → List Choice
 kept_on keeps choices choice = if keeps then choices ++ choice ∷ [] else choices
 
 -- a whole run: its choices, which are told if they are kept, its done steps and its stop
-pub record Walks (answers : Answering) (setup : Setup) (words : List ℕ) (A : List Entry) (n : ℕ) (keeps : Bool) (m : Machine) (walk : WalkedRun) (end : Machine) : Type 0 where
+pub record Walks (answers : Answering) (setup : Setup) (words : Program) (A : List Entry) (n : ℕ) (keeps : Bool) (m : Machine) (walk : WalkedRun) (end : Machine) : Type 0 where
   pub choices : List Choice
   pub kept : keeps ≡ true → walk.choices ≡ choices
   pub chooses : Chooses answers setup words A n (begun setup) m.state choices

@@ -2,7 +2,7 @@
 use Rattle.std.specs.Prelude.{ℕ, ◌-◌, ◌<◌, ◌≡◌, zero, suc, false, List, [], ◌∷◌, Option}
 use Rattle.avr_model.specs.declared.choice.Choice.{Choice}
 use Rattle.avr_model.specs.declared.assumption.Entry.{Entry}
-use Rattle.avr_model.specs.Devices.{device_of}
+use Rattle.avr_model.specs.Devices.{Program, device_of}
 use Rattle.avr_model.specs.State.{State, filled}
 use Rattle.avr_model.specs.Step.{step, may_take}
 use Rattle.avr_model.specs.Run.{depth_of, stop_of}
@@ -18,7 +18,7 @@ abbrev pub Asked : Answering → Progress → State → Option ℕ → Type 0
 Asked answers p m answer = (menu : Menu) × IsMenuOf menu m × answers p.step p.taken menu answer
 
 -- The choices are in turn those of what is answered at each moment. They end at the first stop, else after exactly n choices.
-abbrev pub Chooses : Answering → Setup → List ℕ → List Entry → ℕ → Progress → State → List Choice → Type 0
+abbrev pub Chooses : Answering → Setup → Program → List Entry → ℕ → Progress → State → List Choice → Type 0
 Chooses answers setup words A n p m [] = n ≡ 0
 Chooses answers setup words A n p m (c ∷ cs) =
     (0 < n) × (answer : Option ℕ) × Asked answers p m answer × (c ≡ choice_on setup p answer)
@@ -31,22 +31,22 @@ picked setup p m = pick setup (λ v. may_take m v false) p
 
 -- the choices from a state on: at each step the first due timer's interrupt that may be taken, else the first such receiver's,
 -- else an instruction with the input byte; they end at the first stop, else after n choices
-abbrev pub chosen : Setup → List ℕ → List Entry → ℕ → Progress → State → List Choice
+abbrev pub chosen : Setup → Program → List Entry → ℕ → Progress → State → List Choice
 chosen setup words A zero p m = []
 chosen setup words A (suc n) p m =
     choice_on setup p (picked setup p m)
     ∷ choices_on (step words A m (choice_on setup p (picked setup p m))) (λ s. chosen setup words A n (next_on setup p (picked setup p m)) s)
 
 -- the state at which it begins: after reset, with the fill byte everywhere, on the device whose flash has these words
-abbrev pub initial : List ℕ → Setup → State
+abbrev pub initial : Program → Setup → State
 initial words setup = filled (device_of words) setup.fill
 
 -- the choices of the whole run
-abbrev pub simulated : List ℕ → List Entry → Setup → ℕ → List Choice
+abbrev pub simulated : Program → List Entry → Setup → ℕ → List Choice
 simulated words A setup n = chosen setup words A n (begun setup) (initial words setup)
 
 -- its done steps, its depth and its stop
-abbrev pub simulation_of : List ℕ → List Entry → Setup → ℕ → Report
+abbrev pub simulation_of : Program → List Entry → Setup → ℕ → Report
 simulation_of words A setup n =
     record {
       steps = steps_of words A (simulated words A setup n) (initial words setup);

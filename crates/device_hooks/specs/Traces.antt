@@ -5,6 +5,7 @@ use Rattle.avr_model.specs.declared.assumption.Entry.{Entry}
 use Rattle.avr_model.specs.State.{State}
 use Rattle.avr_model.specs.Step.{Done, step}
 use Rattle.avr_model.specs.Run.{Machine, IsRun, HasBytes, moved_on, stop_of}
+use Rattle.avr_model.specs.Devices.{Program}
 use Rattle.stimulus.specs.Driving.{machine_after}
 use Rattle.device_hooks.specs.declared.trace.DeviceTrace.{DeviceTrace}
 use Rattle.device_hooks.specs.Spelling.{Setup}
@@ -12,7 +13,7 @@ use Rattle.device_hooks.specs.Due.{Progress, begun, choice_on, next_on}
 use Rattle.device_hooks.specs.Hooks.{Answering}
 use Rattle.device_hooks.specs.Simulating.{Asked, Chooses}
 
-module _ (answers : Answering) (setup : Setup) (words : List ℕ) (A : List Entry) where
+module _ (answers : Answering) (setup : Setup) (words : Program) (A : List Entry) where
   -- What is told of such a run of n choices: its choices, which are a run of the machine from its state, the machine's depth
   -- at the end, and the stop that was met.
   pub record IsTrace (n : ℕ) (m : Machine) (trace : DeviceTrace) (end : Machine) : Type 0 where

@@ -2,6 +2,7 @@
 use Rattle.std.proofs.Common.{◌≡◌, sym, ap, ◌∙◌, subst, ℕ, List, Some}
 use Rattle.std.specs.List.{slice_get}
 use Rattle.avr_model.specs.declared.assumption.Entry.{Entry}
+use Rattle.avr_model.specs.Devices.{Program}
 use Rattle.abs_state.specs.declared.state.AbsState.{AbsState}
 use Rattle.mask_states.specs.declared.keys.NodeKey.{NodeKey}
 use Rattle.local_rules.specs.Local.{local}
@@ -11,10 +12,10 @@ use Rattle.edge_rules.specs.Expansion.{Seeds, IsExpansion, own, along, states_at
 use Rattle.edge_laws.specs.Expansions.{HasSuccessor, ExpansionsFollow}
 use Rattle.edge_laws.proofs.One.{same_seed, one}
 
-abbrev Carried : List ℕ → List Entry → Seeds → ℕ → NodeKey → NodeKey → AbsState → Type 0
+abbrev Carried : Program → List Entry → Seeds → ℕ → NodeKey → NodeKey → AbsState → Type 0
 Carried words A nodes m j k t = (s : AbsState) × (IsExpansion words A nodes m s × HasSuccessor words A j s k t)
 
-module _ (words : List ℕ) (A : List Entry) (nodes : Seeds) where
+module _ (words : Program) (A : List Entry) (nodes : Seeds) where
   carried_back : (at m : ℕ) (k j : NodeKey) (form : NodeForm) (t : AbsState) → slice_get nodes at ≡ Some (k, From m) → slice_get nodes m ≡ Some (j, form)
       → IsExpansion words A nodes at t → Carried words A nodes m j k t
   carried_back _ m k j form _ e g (own at i t f) = let p : From m ≡ State t = (same_seed (slice_get nodes at) k i (From m) (State t) e f).1 in cc

@@ -3,6 +3,7 @@ use Rattle.std.proofs.Common.{◌≡◌, sym, ap, ◌∙◌, subst, ℕ, ◌≤�
 use Rattle.std.specs.List.{slice_get}
 use Rattle.std.proofs.lemmas.Option.{same_Some}
 use Rattle.avr_model.specs.declared.assumption.Entry.{Entry}
+use Rattle.avr_model.specs.Devices.{Program}
 use Rattle.abs_state.specs.declared.state.AbsState.{AbsState}
 use Rattle.mask_states.specs.declared.keys.NodeKey.{NodeKey}
 use Rattle.local_rules.specs.declared.local.Local.{Local}
@@ -22,7 +23,7 @@ same_seed o k j f g a b =
     let p : (k, f) ≡ (j, g) = same_Some (k, f) (j, g) (sym a ∙ b) in
     (ap (λ (x : NodeKey × NodeForm). x.0) p, ap (λ (x : NodeKey × NodeForm). x.1) p)
 
-module _ (words : List ℕ) (A : List Entry) (nodes : Seeds) where
+module _ (words : Program) (A : List Entry) (nodes : Seeds) where
   one_own : (at : ℕ) (k : NodeKey) (s t : AbsState) → slice_get nodes at ≡ Some (k, State s) → IsExpansion words A nodes at t → s ≡ t
   one_own _ k s _ e (own at j t f) = let p : State s ≡ State t = (same_seed (slice_get nodes at) k j (State s) (State t) e f).1 in cc
   one_own _ k s _ e (along at m j i form r t l f lt g d is only) =

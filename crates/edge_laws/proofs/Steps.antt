@@ -6,6 +6,7 @@ use Rattle.basics.specs.Numbers.{same_if_neither}
 use Rattle.basics.specs.Lists.{get_inside}
 use Rattle.avr_model.specs.declared.assumption.Entry.{Entry}
 use Rattle.avr_model.specs.Assumptions.{has_pairs}
+use Rattle.avr_model.specs.Devices.{Program}
 use Rattle.abs_state.specs.declared.state.AbsState.{AbsState}
 use Rattle.mask_states.specs.declared.keys.NodeKey.{NodeKey}
 use Rattle.local_rules.specs.declared.local.Local.{Local}
@@ -21,7 +22,7 @@ use Rattle.edge_laws.proofs.Lists.{get_push, as_list, as_some, same_list, same_m
 use Rattle.edge_laws.proofs.Successors.{only_first}
 use Rattle.edge_laws.proofs.One.{same_seed, one, expansion_node}
 
-module _ (words : List ℕ) (A : List Entry) (nodes : Seeds) where
+module _ (words : Program) (A : List Entry) (nodes : Seeds) where
   pub none_yet : AreExpandedSoFar words A nodes 0 []
   none_yet = record { count = refl; each = λ i n e. absurd (none-some n e) }
 

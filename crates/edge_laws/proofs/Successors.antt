@@ -5,6 +5,7 @@ use Rattle.std.specs.List.Sorted.{IsStrictlySortedBy}
 use Rattle.std.specs.declared.cmp.Ordering.TheVariants.{Less, Equal}
 use Rattle.basics.specs.Items.{first_in, further_in}
 use Rattle.avr_model.specs.declared.assumption.Entry.{Entry}
+use Rattle.avr_model.specs.Devices.{Program}
 use Rattle.abs_state.specs.declared.state.AbsState.{AbsState}
 use Rattle.mask_states.specs.declared.keys.NodeKey.{NodeKey}
 use Rattle.mask_states.specs.Order.{node_cmp, same_node}
@@ -69,7 +70,7 @@ settled_same r [] l e =
     (refl, ap (λ (x : Local). x.same) (sym q))
 settled_same r (f ∷ fs) l e = cc
 
-module _ (words : List ℕ) (A : List Entry) (j : NodeKey) (s : AbsState) (l : Local) (is : local words A j s ≡ Ok l) where
+module _ (words : Program) (A : List Entry) (j : NodeKey) (s : AbsState) (l : Local) (is : local words A j s ≡ Ok l) where
   local_same : ((raw words A j s).faults ≡ []) × (l.same ≡ joined_onto [] (raw words A j s).moves)
   unfolding local
   local_same = settled_same (raw words A j s) (raw words A j s).faults l is

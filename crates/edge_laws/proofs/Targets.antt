@@ -2,7 +2,7 @@
 use Rattle.std.proofs.Common.{◌≡◌, ◌≢◌, refl, sym, ◌∙◌, ap, ap₂, subst, ℕ, ◌^◌, ◌<◌, ◌≤◌, ◌&&◌, Bool, true, false, List, Option, Some, Contains, arith}
 use Rattle.std.proofs.lemmas.Bool.Decides.{nat_tests}
 use Rattle.avr_model.proofs.AllLaws.{devices_are_alike}
-use Rattle.avr_model.specs.Devices.{device_of}
+use Rattle.avr_model.specs.Devices.{Program, device_of}
 use Rattle.avr_model.specs.declared.device.Device.{Device}
 use Rattle.avr_model.specs.declared.device.Device.TheVariants.{M48, M88, M168, M328}
 use Rattle.avr_model.specs.declared.assumption.Entry.{Entry}
@@ -108,7 +108,7 @@ vector_small M88 v h = omega arith
 vector_small M168 v h = omega arith
 vector_small M328 v h = omega arith
 
-entered_node : {followed : Bool} (words : List ℕ) (A : List Entry) (n : Node) (way : EdgeKind) (inst : InstKey) (back : ℕ) → IsNodeIn followed n.key n.state → Enters words A n way inst back
+entered_node : {followed : Bool} (words : Program) (A : List Entry) (n : Node) (way : EdgeKind) (inst : InstKey) (back : ℕ) → IsNodeIn followed n.key n.state → Enters words A n way inst back
     → IsNodeIn followed (entry_key inst) (entered n.state) × (back < WORDS)
 entered_node words A n _ _ _ node (by_call offset site faultless form member) =
     let lead = (local_parts_fit.fit words A n.key n.state).calls site member in
@@ -135,7 +135,7 @@ both_same : (b : Bool) → (b && b) ≡ b
 both_same true = refl
 both_same false = refl
 
-returned_node : {followed : Bool} (words : List ℕ) (A : List Entry) (way : EdgeKind) (n leaver : Node) (back : ℕ) (x : Exit) (t : AbsState) → IsNodeIn followed n.key n.state → back < WORDS
+returned_node : {followed : Bool} (words : Program) (A : List Entry) (way : EdgeKind) (n leaver : Node) (back : ℕ) (x : Exit) (t : AbsState) → IsNodeIn followed n.key n.state → back < WORDS
     → IsNodeIn followed leaver.key leaver.state → (raw_of words A leaver).exit ≡ Some x → returned n.state leaver.state ≡ Some t → IsNodeIn followed (returned_key way n.key back x) t
 returned_node {followed = followed} words A way n leaver back x t node word other exit is =
     let left = (local_parts_fit.fit words A leaver.key leaver.state).exit x exit in
@@ -156,14 +156,14 @@ returned_node {followed = followed} words A way n leaver back x t node word othe
 
 -- ---- edges
 
-lead_node : {followed : Bool} (words : List ℕ) (A : List Entry) (nodes : List Node) (n to : Node) → AreNodesIn followed nodes → Contains nodes n → Leads words A nodes n to
+lead_node : {followed : Bool} (words : Program) (A : List Entry) (nodes : List Node) (n to : Node) → AreNodesIn followed nodes → Contains nodes n → Leads words A nodes n to
     → IsNodeIn followed to.key to.state
 lead_node words A nodes n _ are here (along_move to faultless member) = (local_parts_are_nodes.nodes words A n.key n.state to (are n here) faultless member).1
 lead_node words A nodes n _ are here (along_entry way inst back enters) = (entered_node words A n way inst back (are n here) enters).0
 lead_node words A nodes n _ are here (along_return way inst back leaver x state enters present same faultless exit is) =
     returned_node words A way n leaver back x state (are n here) (entered_node words A n way inst back (are n here) enters).1 (are leaver present) exit is
 
-edge_node : {followed : Bool} (words : List ℕ) (A : List Entry) (nodes : List Node) (n : Node) (e : Edge) → AreNodesIn followed nodes → Contains nodes n → IsEdge words A nodes n e
+edge_node : {followed : Bool} (words : Program) (A : List Entry) (nodes : List Node) (n : Node) (e : Edge) → AreNodesIn followed nodes → Contains nodes n → IsEdge words A nodes n e
     → IsNodeIn followed e.to e.state
 edge_node words A nodes n _ are here (moving to faultless member) =
     joins_are_least.nodes (raw_of words A n).moves (λ m i. (local_parts_are_nodes.nodes words A n.key n.state m (are n here) faultless i).1) to member

@@ -3,6 +3,7 @@ use Rattle.std.specs.Prelude.{ℕ, ◌≡◌, List, [], ◌∷◌, length, if◌
 use Rattle.std.specs.List.{slice_get}
 use Rattle.avr_model.specs.declared.assumption.Entry.{Entry}
 use Rattle.avr_model.specs.Assumptions.{has_pairs}
+use Rattle.avr_model.specs.Devices.{Program}
 use Rattle.abs_state.specs.declared.state.AbsState.{AbsState}
 use Rattle.mask_states.specs.declared.keys.NodeKey.{NodeKey}
 use Rattle.mask_states.specs.Order.{same_node}
@@ -24,21 +25,21 @@ abbrev pub picked : NodeKey → Result Local NodeFault → Option AbsState
 picked k (Ok l) = first_at k l.same
 picked k (Err f) = None
 
-abbrev pub carried : List ℕ → List Entry → NodeKey → Option Node → Option AbsState
+abbrev pub carried : Program → List Entry → NodeKey → Option Node → Option AbsState
 carried words A k None = None
 carried words A k (Some n) = picked k (local words A n.key n.state)
 
-abbrev pub worked : List ℕ → List Entry → List Node → NodeKey → NodeForm → Option AbsState
+abbrev pub worked : Program → List Entry → List Node → NodeKey → NodeForm → Option AbsState
 worked words A done k (State s) = Some s
 worked words A done k (From m) = carried words A k (slice_get done m)
 
 -- the node is that of this number, with its expansion
-pub record IsWorked (words : List ℕ) (A : List Entry) (nodes : Seeds) (at : ℕ) (n : Node) : Type 0 where
+pub record IsWorked (words : Program) (A : List Entry) (nodes : Seeds) (at : ℕ) (n : Node) : Type 0 where
   pub key : HasKeyAt nodes at n.key
   pub state : IsExpansion words A nodes at n.state
   pub node : IsNodeIn (has_pairs A) n.key n.state
 
 -- the first nodes, with their expansions
-pub record AreExpandedSoFar (words : List ℕ) (A : List Entry) (nodes : Seeds) (at : ℕ) (done : List Node) : Type 0 where
+pub record AreExpandedSoFar (words : Program) (A : List Entry) (nodes : Seeds) (at : ℕ) (done : List Node) : Type 0 where
   pub count : length done ≡ at
   pub each : (i : ℕ) (n : Node) → slice_get done i ≡ Some n → IsWorked words A nodes i n

@@ -4,6 +4,7 @@ use Rattle.std.specs.List.{slice_get}
 use Rattle.std.specs.List.Sorted.{IsStrictlySortedBy}
 use Rattle.avr_model.specs.declared.assumption.Entry.{Entry}
 use Rattle.avr_model.specs.Assumptions.{has_pairs}
+use Rattle.avr_model.specs.Devices.{Program}
 use Rattle.abs_state.specs.declared.state.AbsState.{AbsState}
 use Rattle.mask_states.specs.declared.keys.NodeKey.{NodeKey}
 use Rattle.mask_states.specs.Order.{node_cmp}
@@ -18,37 +19,37 @@ use Rattle.edge_rules.specs.Expansion.{Seeds, IsExpansion, AreSeeds, states_at, 
 
 -- a node has at most one expansion
 pub record ExpansionsAreOne : Type 0 where
-  pub one : (words : List ℕ) (A : List Entry) (nodes : Seeds) (at : ℕ) (s t : AbsState) → IsExpansion words A nodes at s → IsExpansion words A nodes at t → s ≡ t
+  pub one : (words : Program) (A : List Entry) (nodes : Seeds) (at : ℕ) (s t : AbsState) → IsExpansion words A nodes at s → IsExpansion words A nodes at t → s ≡ t
 
 -- expansions are nodes that the analysis works with, where the seeds are
 pub record ExpansionsAreNodes : Type 0 where
-  pub node : {followed : Bool} (words : List ℕ) (A : List Entry) (nodes : Seeds) (at : ℕ) (k : NodeKey) (form : NodeForm) (s : AbsState) → AreSeeds followed nodes
+  pub node : {followed : Bool} (words : Program) (A : List Entry) (nodes : Seeds) (at : ℕ) (k : NodeKey) (form : NodeForm) (s : AbsState) → AreSeeds followed nodes
       → slice_get nodes at ≡ Some (k, form) → IsExpansion words A nodes at s → IsNodeIn followed k s
 
 -- the node j of this state has no fault, and exactly one of its successors has the key k, with the state t
-abbrev pub HasSuccessor : List ℕ → List Entry → NodeKey → AbsState → NodeKey → AbsState → Type 0
+abbrev pub HasSuccessor : Program → List Entry → NodeKey → AbsState → NodeKey → AbsState → Type 0
 HasSuccessor words A j s k t = (l : Local) × ((local words A j s ≡ Ok l) × (states_at k l.same ≡ t ∷ []))
 
 -- A node with a state has that one, and no other; one that comes from an earlier node has one exactly where that one has and leads to it.
 pub record ExpansionsFollow : Type 0 where
-  pub own : (words : List ℕ) (A : List Entry) (nodes : Seeds) (at : ℕ) (k : NodeKey) (s t : AbsState) → slice_get nodes at ≡ Some (k, State s)
+  pub own : (words : Program) (A : List Entry) (nodes : Seeds) (at : ℕ) (k : NodeKey) (s t : AbsState) → slice_get nodes at ≡ Some (k, State s)
       → IsExpansion words A nodes at t ↔ (t ≡ s)
-  pub from : (words : List ℕ) (A : List Entry) (nodes : Seeds) (at m : ℕ) (k j : NodeKey) (form : NodeForm) (t : AbsState) → slice_get nodes at ≡ Some (k, From m)
+  pub from : (words : Program) (A : List Entry) (nodes : Seeds) (at m : ℕ) (k j : NodeKey) (form : NodeForm) (t : AbsState) → slice_get nodes at ≡ Some (k, From m)
       → m < at → slice_get nodes m ≡ Some (j, form)
       → IsExpansion words A nodes at t ↔ ((s : AbsState) × (IsExpansion words A nodes m s × HasSuccessor words A j s k t))
 
 -- at most one successor of a node has a key
 pub record SuccessorsAreOne : Type 0 where
-  pub few : (words : List ℕ) (A : List Entry) (j k : NodeKey) (s : AbsState) (l : Local) → local words A j s ≡ Ok l → length (states_at k l.same) ≤ 1
+  pub few : (words : Program) (A : List Entry) (j k : NodeKey) (s : AbsState) (l : Local) → local words A j s ≡ Ok l → length (states_at k l.same) ≤ 1
 
 -- Either all nodes have expansions, or there is a least one that has none; the filled list and the least number are determined.
 pub record FilledOrMissing : Type 0 where
-  pub decided : (words : List ℕ) (A : List Entry) (nodes : Seeds) → AreSeeds (has_pairs A) nodes → ((filled : List Node) × IsFilled words A nodes filled) ⊎ ((at : ℕ) × IsMissing words A nodes at)
-  pub apart : (words : List ℕ) (A : List Entry) (nodes : Seeds) (filled : List Node) (at : ℕ) → IsFilled words A nodes filled → IsMissing words A nodes at → ⊥
-  pub least : (words : List ℕ) (A : List Entry) (nodes : Seeds) (i j : ℕ) → IsMissing words A nodes i → IsMissing words A nodes j → i ≡ j
-  pub keys : (words : List ℕ) (A : List Entry) (nodes : Seeds) (filled : List Node) → IsFilled words A nodes filled
+  pub decided : (words : Program) (A : List Entry) (nodes : Seeds) → AreSeeds (has_pairs A) nodes → ((filled : List Node) × IsFilled words A nodes filled) ⊎ ((at : ℕ) × IsMissing words A nodes at)
+  pub apart : (words : Program) (A : List Entry) (nodes : Seeds) (filled : List Node) (at : ℕ) → IsFilled words A nodes filled → IsMissing words A nodes at → ⊥
+  pub least : (words : Program) (A : List Entry) (nodes : Seeds) (i j : ℕ) → IsMissing words A nodes i → IsMissing words A nodes j → i ≡ j
+  pub keys : (words : Program) (A : List Entry) (nodes : Seeds) (filled : List Node) → IsFilled words A nodes filled
       → map (λ n. n.key) filled ≡ map (λ e. e.0) nodes
-  pub one : (words : List ℕ) (A : List Entry) (nodes : Seeds) (f g : List Node) → IsFilled words A nodes f → IsFilled words A nodes g → f ≡ g
+  pub one : (words : Program) (A : List Entry) (nodes : Seeds) (f g : List Node) → IsFilled words A nodes f → IsFilled words A nodes g → f ≡ g
 
 -- the keys of the given nodes ascend strictly
 abbrev pub AreSeedsAscending : Seeds → Type 0
@@ -56,4 +57,4 @@ AreSeedsAscending nodes = IsStrictlySortedBy node_cmp (map (λ e. e.0) nodes)
 
 -- Where the keys ascend, the filled list ascends by key too, and all its nodes are ones that the analysis works with.
 pub record FilledListsAreShown : Type 0 where
-  pub shown : (words : List ℕ) (A : List Entry) (nodes : Seeds) (filled : List Node) → IsFilled words A nodes filled → AreSeedsAscending nodes → AreShown filled
+  pub shown : (words : Program) (A : List Entry) (nodes : Seeds) (filled : List Node) → IsFilled words A nodes filled → AreSeedsAscending nodes → AreShown filled

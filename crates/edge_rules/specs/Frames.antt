@@ -1,6 +1,6 @@
 -- The frames of a machine's state: the running one, and those that were left by a call or an interrupt, the latest first. Source: own.
 use Rattle.std.specs.Prelude.{ℕ, ◌+◌, ◌-◌, ◌≡◌, ◌<◌, ⊤, Bool, true, List, [], ◌∷◌, length, Some, Contains}
-use Rattle.avr_model.specs.Devices.{ramend, device_of}
+use Rattle.avr_model.specs.Devices.{Program, ramend, device_of}
 use Rattle.avr_model.specs.declared.assumption.Entry.{Entry}
 use Rattle.avr_model.specs.Assumptions.{has_pairs, has_masks}
 use Rattle.avr_model.specs.declared.choice.Choice.{Choice}
@@ -41,7 +41,7 @@ pub record Frame : Type 0 where
 -- The frame was left for one of this instance with this origin, and all that it waits for still stands: what it was left with are the
 -- entry values of the next frame; its guarded slots are live and hold a byte of their values; its stack pointer was whole, and the next
 -- frame's base is two below it; the two bytes between hold the way back, the low one at the higher address, and are live.
-pub record IsLeft (words : List ℕ) (A : List Entry) (f : RankedFamily) (memory : Memory) (g : Frame) (inst : InstKey) (o : Origin) : Type 0 where
+pub record IsLeft (words : Program) (A : List Entry) (f : RankedFamily) (memory : Memory) (g : Frame) (inst : InstKey) (o : Origin) : Type 0 where
   pub present : Contains f.nodes g.node
   pub registers : RegistersStand g.origin g.node.state.registers o.registers
   pub flags : FlagsStand g.origin g.node.state.flags o.sreg
@@ -61,23 +61,23 @@ pub record IsLeft (words : List ℕ) (A : List Entry) (f : RankedFamily) (memory
   pub high_live : is_live memory (o.base + 1) ≡ true
 
 -- the frames that were left, below a frame of this instance and origin; the last of them is the root's, or this one is
-abbrev pub AreLeft : List ℕ → List Entry → RankedFamily → Memory → List Frame → InstKey → Origin → Type 0
+abbrev pub AreLeft : Program → List Entry → RankedFamily → Memory → List Frame → InstKey → Origin → Type 0
 AreLeft words A f memory [] inst o = (inst ≡ root_inst) × (o.base ≡ ramend (device_of words))
 AreLeft words A f memory (g ∷ gs) inst o = IsLeft words A f memory g inst o × AreLeft words A f memory gs g.node.key.inst g.origin
 
 -- the machine is of the device of these words, and runs in the frame g, above the frames gs
-pub record Runs (words : List ℕ) (A : List Entry) (f : RankedFamily) (m : State) (g : Frame) (gs : List Frame) : Type 0 where
+pub record Runs (words : Program) (A : List Entry) (f : RankedFamily) (m : State) (g : Frame) (gs : List Frame) : Type 0 where
   pub device : m.device ≡ device_of words
   pub present : Contains f.nodes g.node
   pub running : InFrameIn (has_pairs A) (has_masks A) m g.origin g.node.key g.node.state
   pub left : AreLeft words A f m.memory gs g.node.key.inst g.origin
 
 -- the machine has frames
-abbrev pub HasFrames : List ℕ → List Entry → RankedFamily → State → Type 0
+abbrev pub HasFrames : Program → List Entry → RankedFamily → State → Type 0
 HasFrames words A f m = (g : Frame) × (gs : List Frame) × Runs words A f m g gs
 
 -- the machine has the root's frame alone, as reset leaves it
-pub record HasRootFrame (words : List ℕ) (A : List Entry) (f : RankedFamily) (m : State) : Type 0 where
+pub record HasRootFrame (words : Program) (A : List Entry) (f : RankedFamily) (m : State) : Type 0 where
   pub state : AbsState
   pub runs : Runs words A f m (record { node = record { key = entry_key root_inst; state = state }; origin = record { registers = m.registers; sreg = m.sreg; base = ramend (device_of words) } }) []
   pub above : IsStateWithin (root_of A) state
@@ -87,7 +87,7 @@ pub record HasRootFrame (words : List ℕ) (A : List Entry) (f : RankedFamily) (
 -- The frames after a step by this choice. By an instruction the running one moves along a local edge, or a called one is added above it,
 -- or it is taken away and the one before moves along the edge of this return; by an interrupt its frame is added. The state where it
 -- lands is at least that of the edge.
-pub data Change (words : List ℕ) (A : List Entry) (g : Frame) (gs : List Frame) : Choice → Frame → List Frame → Type 0 where
+pub data Change (words : Program) (A : List Entry) (g : Frame) (gs : List Frame) : Choice → Frame → List Frame → Type 0 where
   moved : (b1 b2 : ℕ) (to : Node) (state : AbsState) → IsFaultless words A g.node → Contains (joined_onto [] (raw_of words A g.node).moves) to
       → IsStateWithin to.state state
       → Change words A g gs (Go b1 b2) (record { node = record { key = to.key; state = state }; origin = g.origin }) gs
@@ -105,11 +105,11 @@ pub data Change (words : List ℕ) (A : List Entry) (g : Frame) (gs : List Frame
       (g ∷ gs)
 
 -- the machine has frames, by one change of these
-abbrev pub HasNext : List ℕ → List Entry → RankedFamily → Choice → Frame → List Frame → State → Type 0
+abbrev pub HasNext : Program → List Entry → RankedFamily → Choice → Frame → List Frame → State → Type 0
 HasNext words A f c g gs m = (h : Frame) × (hs : List Frame) × Runs words A f m h hs × Change words A g gs c h hs
 
 -- An answer after which the machine still has frames: no undefined word was met, and nothing was pushed outside SRAM.
-abbrev pub IsFine : List ℕ → List Entry → RankedFamily → Choice → Frame → List Frame → Answer → Type 0
+abbrev pub IsFine : Program → List Entry → RankedFamily → Choice → Frame → List Frame → Answer → Type 0
 IsFine words A f c g gs Illegal = ⊤
 IsFine words A f c g gs (Undefined pc) = ⊥
 IsFine words A f c g gs (Overflow pc) = ⊥
@@ -119,7 +119,7 @@ IsFine words A f c g gs (Done m) = HasNext words A f c g gs m
 -- ---- what each kind of step does to the frames
 
 -- the running frame is where a local edge leads
-pub record HasMoved (words : List ℕ) (A : List Entry) (f : RankedFamily) (g : Frame) (gs : List Frame) (n : State) : Type 0 where
+pub record HasMoved (words : Program) (A : List Entry) (f : RankedFamily) (g : Frame) (gs : List Frame) (n : State) : Type 0 where
   pub to : Node
   pub member : Contains (joined_onto [] (raw_of words A g.node).moves) to
   pub state : AbsState
@@ -127,7 +127,7 @@ pub record HasMoved (words : List ℕ) (A : List Entry) (f : RankedFamily) (g : 
   pub runs : Runs words A f n (record { node = record { key = to.key; state = state }; origin = g.origin }) gs
 
 -- a frame of a called instance is added
-pub record HasCalled (words : List ℕ) (A : List Entry) (f : RankedFamily) (g : Frame) (gs : List Frame) (n : State) : Type 0 where
+pub record HasCalled (words : Program) (A : List Entry) (f : RankedFamily) (g : Frame) (gs : List Frame) (n : State) : Type 0 where
   pub site : CallSite
   pub member : Contains (raw_of words A g.node).calls site
   pub state : AbsState
@@ -136,7 +136,7 @@ pub record HasCalled (words : List ℕ) (A : List Entry) (f : RankedFamily) (g :
   pub runs : Runs words A f n (record { node = record { key = entry_key (called_inst g.node.key site.entry); state = state }; origin = origin }) (g ∷ gs)
 
 -- the running frame is gone, and the one before is where this exit returns to
-pub record HasReturned (words : List ℕ) (A : List Entry) (f : RankedFamily) (g : Frame) (gs : List Frame) (n : State) : Type 0 where
+pub record HasReturned (words : Program) (A : List Entry) (f : RankedFamily) (g : Frame) (gs : List Frame) (n : State) : Type 0 where
   pub caller : Frame
   pub rest : List Frame
   pub frames : gs ≡ caller ∷ rest
@@ -152,7 +152,7 @@ pub record HasReturned (words : List ℕ) (A : List Entry) (f : RankedFamily) (g
   pub runs : Runs words A f n (record { node = record { key = returned_key way caller.node.key back exit; state = state }; origin = caller.origin }) rest
 
 -- the frame of this interrupt is added
-pub record HasInterrupted (words : List ℕ) (A : List Entry) (f : RankedFamily) (g : Frame) (gs : List Frame) (v : ℕ) (clears : Bool) (n : State) : Type 0 where
+pub record HasInterrupted (words : Program) (A : List Entry) (f : RankedFamily) (g : Frame) (gs : List Frame) (v : ℕ) (clears : Bool) (n : State) : Type 0 where
   pub enters : Enters words A g.node (kind.Interrupt v clears) (vector_inst words g.node.key v clears) g.node.key.pc
   pub state : AbsState
   pub above : IsStateWithin (entered g.node.state) state

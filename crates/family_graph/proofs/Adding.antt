@@ -6,6 +6,7 @@ use Rattle.basics.specs.Items.{contained_at, only_one_in as only}
 use Rattle.basics.specs.Lists.{one_at}
 use Rattle.basics.specs.Numbers.{before_or_last}
 use Rattle.avr_model.specs.declared.assumption.Entry.{Entry}
+use Rattle.avr_model.specs.Devices.{Program}
 use Rattle.mask_states.specs.declared.keys.InstKey.{InstKey}
 use Rattle.mask_states.specs.declared.keys.SpForm.{SpForm}
 use Rattle.mask_states.specs.declared.keys.SpForm.TheVariants.{Closed, Open}
@@ -41,7 +42,7 @@ entry_is e at offset into a b c =
 
 -- ---- the edges of one node
 
-module _ (words : List ℕ) (A : List Entry) (nodes : List Node) (insts : List InstKey) (numbers : List ℕ) (are : AreInstNumbers nodes (length nodes) insts numbers)
+module _ (words : Program) (A : List Entry) (nodes : List Node) (insts : List InstKey) (numbers : List ℕ) (are : AreInstNumbers nodes (length nodes) insts numbers)
     (peopled : IsPeopled words A nodes) (n : Node) (member : Contains nodes n) (at offset : ℕ) where
   -- an edge from the node, as one of the graph
   pub record IsEntryAt (e : Entered) : Type 0 where
@@ -73,7 +74,7 @@ module _ (words : List ℕ) (A : List Entry) (nodes : List Node) (insts : List I
 
 -- ---- one node more
 
-module _ (words : List ℕ) (A : List Entry) (nodes : List Node) (insts : List InstKey) (low at : ℕ) (above : low ≤ at) (n : Node) (here : slice_get nodes at ≡ Some n) where
+module _ (words : Program) (A : List Entry) (nodes : List Node) (insts : List InstKey) (low at : ℕ) (above : low ≤ at) (n : Node) (here : slice_get nodes at ≡ Some n) where
   wider_place : (p : Place) → IsPlaceBetween nodes low at p → IsPlaceBetween nodes low (at + 1) p
   wider_place p h = record { above = h.above; below = omega (arith, h.below); node = h.node; at = h.at; closed = h.closed }
 
@@ -166,7 +167,7 @@ module _ (words : List ℕ) (A : List Entry) (nodes : List Node) (insts : List I
 
 -- ---- a whole instance
 
-pub instance_is : (words : List ℕ) (A : List Entry) (nodes : List Node) (insts : List InstKey) (inst : InstKey) (low high : ℕ) (g : GraphInst) → g.key ≡ inst → IsSpan nodes inst low high
+pub instance_is : (words : Program) (A : List Entry) (nodes : List Node) (insts : List InstKey) (inst : InstKey) (low high : ℕ) (g : GraphInst) → g.key ≡ inst → IsSpan nodes inst low high
     → ((p : Place) → Contains g.offsets p ↔ IsPlaceBetween nodes low high p) → ((e : Entered) → Contains g.entered e ↔ IsEntryBetween words A nodes insts low high e)
     → IsInstOf words A nodes insts inst g
 instance_is words A nodes insts inst low high g is span places entries =
@@ -208,7 +209,7 @@ pub adds_closed : (insts : List InstKey) (at : ℕ) (ways : List Entering) (sp :
 adds_closed insts at ways sp o ps ps' es es' is places entries = subst (λ (f : SpForm). AddsAt insts at ways f ps es ps' es') (sym is) (places, entries)
 
 -- the instance that is made of these lists
-pub instance_made : (words : List ℕ) (A : List Entry) (nodes : List Node) (insts : List InstKey) (key inst : InstKey) (low high at : ℕ) (places ps : List Place) (entries es : List Entered)
+pub instance_made : (words : Program) (A : List Entry) (nodes : List Node) (insts : List InstKey) (key inst : InstKey) (low high at : ℕ) (places ps : List Place) (entries es : List Entered)
     → key ≡ inst → IsSpan nodes key low high → at ≡ high → ps ≡ places → es ≡ entries
     → ((p : Place) → Contains places p ↔ IsPlaceBetween nodes low at p) → ((e : Entered) → Contains entries e ↔ IsEntryBetween words A nodes insts low at e)
     → IsInstOf words A nodes insts inst (record { key = key; offsets = ps; entered = es })

@@ -11,6 +11,7 @@ use Rattle.std.proofs.lemmas.Option.{slice_get-map}
 use Rattle.std.proofs.lemmas.List.Elements.{Contains-append_cases}
 use Rattle.basics.specs.Items.{first_in, further_in, get_contained, only_one_in, none_in, all_at}
 use Rattle.avr_model.specs.declared.assumption.Entry.{Entry}
+use Rattle.avr_model.specs.Devices.{Program}
 use Rattle.mask_states.specs.declared.keys.InstKey.{InstKey}
 use Rattle.mask_states.specs.Order.{inst_cmp}
 use Rattle.mask_states.proofs.AllLaws.{keys_are_ordered}
@@ -79,7 +80,7 @@ unfolding entry_by
 entry_as None = refl
 entry_as (Some g) = refl
 
-module _ (words : List ℕ) (A : List Entry) (nodes : List Node) (gs hs : List GraphInst) (g : IsGraphOf words A nodes gs) (h : IsGraphOf words A nodes hs) where
+module _ (words : Program) (A : List Entry) (nodes : List Node) (gs hs : List GraphInst) (g : IsGraphOf words A nodes gs) (h : IsGraphOf words A nodes hs) where
   keys : insts_of gs ≡ insts_of hs
   keys =
       same_lists (insts_of gs) (insts_of hs) g.ascending h.ascending (λ k has. (h.insts k).1 ((g.insts k).0 has)) (λ k has. (g.insts k).1 ((h.insts k).0 has))

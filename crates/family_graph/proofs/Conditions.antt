@@ -10,6 +10,7 @@ use Rattle.std.proofs.lemmas.List.{length-map}
 use Rattle.std.proofs.lemmas.Map.Keys.{Less-from_sorted}
 use Rattle.basics.specs.Items.{get_contained}
 use Rattle.avr_model.specs.declared.assumption.Entry.{Entry}
+use Rattle.avr_model.specs.Devices.{Program}
 use Rattle.abs_state.specs.Frames.{entered}
 use Rattle.mask_states.specs.declared.keys.EdgeKind.{EdgeKind}
 use Rattle.mask_states.specs.declared.keys.Kind.{Kind}
@@ -67,11 +68,11 @@ root_at insts (suc k) within ascending is =
     absurd (root_least (get_or insts 0 root_inst) (subst (λ (y : InstKey). inst_cmp (get_or insts 0 root_inst) y ≡ Less) e less))
 
 -- the nodes of a certificate have one expansion, of which the conditions hold
-pub meets_conditions : (words : List ℕ) (A : List Entry) (c : Claim) → FilledOrMissing → IsSound words A c → (nodes : List Node) → IsFilled words A c.nodes nodes
+pub meets_conditions : (words : Program) (A : List Entry) (c : Claim) → FilledOrMissing → IsSound words A c → (nodes : List Node) → IsFilled words A c.nodes nodes
     → MeetsConditions words A c nodes
 meets_conditions words A c law sound nodes filled = subst (MeetsConditions words A c) (law.one words A c.nodes sound.nodes nodes sound.expanded filled) sound.meets
 
-module _ (words : List ℕ) (A : List Entry) (c : Claim) (nodes : List Node) (meets : MeetsConditions words A c nodes) where
+module _ (words : Program) (A : List Entry) (c : Claim) (nodes : List Node) (meets : MeetsConditions words A c nodes) where
   member : (n : Node) (at : ℕ) → slice_get nodes at ≡ Some n → Contains nodes n
   member n at e = member_of nodes n at e
 

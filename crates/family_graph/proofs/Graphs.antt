@@ -8,6 +8,7 @@ use Rattle.basics.specs.Lists.{one_at, get_pushed}
 use Rattle.basics.specs.Items.{contained_at, get_contained}
 use Rattle.basics.specs.Numbers.{before_or_last}
 use Rattle.avr_model.specs.declared.assumption.Entry.{Entry}
+use Rattle.avr_model.specs.Devices.{Program}
 use Rattle.mask_states.specs.declared.keys.InstKey.{InstKey}
 use Rattle.mask_states.specs.declared.keys.SpForm.TheVariants.{Closed}
 use Rattle.mask_states.specs.Keys.{offset_of}
@@ -36,7 +37,7 @@ lists_same (x ∷ xs) (y ∷ ys) e h =
     let rest = lists_same xs ys (omega (arith, e)) (λ i z g. h (suc i) z g) in
     cc
 
-module _ (words : List ℕ) (A : List Entry) (nodes : List Node) (insts : List InstKey) where
+module _ (words : Program) (A : List Entry) (nodes : List Node) (insts : List InstKey) where
   abbrev pub Made : ℕ → List GraphInst → Type 0
   Made i gs = AreGraphInsts words A nodes insts i gs
 
@@ -110,7 +111,7 @@ first_of : (nodes : List Node) → 0 < length nodes → (n : Node) × (slice_get
 first_of [] h = absurd (omega (arith, h))
 first_of (n ∷ ns) h = (n, refl)
 
-module _ (words : List ℕ) (A : List Entry) (nodes : List Node) (shown : AreShown nodes) (gs : List GraphInst) (is : IsGraphOf words A nodes gs) where
+module _ (words : Program) (A : List Entry) (nodes : List Node) (shown : AreShown nodes) (gs : List GraphInst) (is : IsGraphOf words A nodes gs) where
   small : (n : Node) (at offset : ℕ) → slice_get nodes at ≡ Some n → n.key.sp ≡ Closed offset → offset ≤ 2048
   small n at offset here closed = subst (λ (x : ℕ). x ≤ 2048) (ap offset_of closed) (shown.all n (contained_at nodes at n here)).small
 

@@ -1,6 +1,7 @@
 -- A family has one deepest chain.
 use Rattle.std.proofs.Common.{sym, ap, subst, ◌∙◌, ◌≡◌, ℕ, List, slice_index}
 use Rattle.avr_model.specs.declared.assumption.Entry.{Entry}
+use Rattle.avr_model.specs.Devices.{Program}
 use Rattle.local_rules.specs.declared.local.Node.{Node}
 use Rattle.nesting_bound.specs.declared.graph.Link.{Link}
 use Rattle.nesting_bound.specs.Chain.{IsChain}
@@ -9,7 +10,7 @@ use Rattle.nesting_bound.specs.Laws.{LeastNeedsAreOne, ChainsAreOne}
 use Rattle.family_graph.specs.Chains.{IsDeepest}
 use Rattle.family_graph.specs.Laws.{GraphsAreAlike, DeepestChainsAreOne}
 
-module _ (alike : GraphsAreAlike) (answers : LeastNeedsAreOne) (chains : ChainsAreOne) (words : List ℕ) (A : List Entry) (nodes : List Node) (need need' : ℕ) (links links' : List Link)
+module _ (alike : GraphsAreAlike) (answers : LeastNeedsAreOne) (chains : ChainsAreOne) (words : Program) (A : List Entry) (nodes : List Node) (need need' : ℕ) (links links' : List Link)
     (x : IsDeepest words A nodes need links) (y : IsDeepest words A nodes need' links') where
   same_needs : y.needs ≡ x.needs
   same_needs =

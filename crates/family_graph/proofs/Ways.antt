@@ -6,6 +6,7 @@ use Rattle.basics.specs.Items.{only_one_in, none_in, first_in, contained_at, con
 use Rattle.basics.specs.Lists.{get_or_front, get_or_pushed, one_at}
 use Rattle.basics.specs.Numbers.{before_or_last}
 use Rattle.avr_model.specs.declared.assumption.Entry.{Entry}
+use Rattle.avr_model.specs.Devices.{Program}
 use Rattle.abs_state.specs.Frames.{entered}
 use Rattle.mask_states.specs.declared.keys.EdgeKind.{EdgeKind}
 use Rattle.mask_states.specs.declared.keys.InstKey.{InstKey}
@@ -28,7 +29,7 @@ use Rattle.family_graph.specs.Numbers.{inst_of, way_of, ways_by}
 pub entered_inst : (nodes : List Node) (inst : InstKey) → HasKey nodes (entry_key inst) → HasInst nodes inst
 entered_inst nodes inst h = (h.0, h.1.0, ap (λ (k : NodeKey). k.inst) h.1.1)
 
-kind_enters : (words : List ℕ) (A : List Entry) (n : Node) (way : EdgeKind) (inst : InstKey) (back : ℕ) → Enters words A n way inst back → is_entry way ≡ true
+kind_enters : (words : Program) (A : List Entry) (n : Node) (way : EdgeKind) (inst : InstKey) (back : ℕ) → Enters words A n way inst back → is_entry way ≡ true
 kind_enters words A n way inst back (by_call offset site f sp has) = refl
 kind_enters words A n way inst back (by_interrupt offset v clears f sp i delay on allowed dog) = refl
 
@@ -61,7 +62,7 @@ inst_at k nodes at e = let w = found_at k nodes at e in ap inst_of w.is ∙ ap (
 
 -- ---- one node
 
-module _ (words : List ℕ) (A : List Entry) (nodes : List Node) (peopled : IsPeopled words A nodes) where
+module _ (words : Program) (A : List Entry) (nodes : List Node) (peopled : IsPeopled words A nodes) where
   entry_by : (n : Node) (edge : Edge) → IsEdge words A nodes n edge → is_entry edge.kind ≡ true → (back : ℕ) × Enters words A n edge.kind edge.to.inst back
   entry_by n edge (moving to f has) is = absurd cc
   entry_by n edge (entering way inst back enters) is = (back, enters)
@@ -111,7 +112,7 @@ module _ (words : List ℕ) (A : List Entry) (nodes : List Node) (peopled : IsPe
           let one : n ≡ m = one_at nodes at n m is (subst (λ k. slice_get nodes k ≡ Some m) same e) in
           subst (λ k. AreWaysOf words A m (get_or (all ++ ways ∷ []) k [])) (sym same) (subst (λ (x : Node). AreWaysOf words A x (get_or (all ++ ways ∷ []) at [])) one here_at)
 
-pub ways_none : (words : List ℕ) (A : List Entry) (nodes : List Node) → AreWaysTo words A nodes 0 []
+pub ways_none : (words : Program) (A : List Entry) (nodes : List Node) → AreWaysTo words A nodes 0 []
 ways_none words A nodes = record { count_is = refl; each = λ at n lt. absurd (omega (arith, lt)) }
 
 -- a list that is read by its number
@@ -121,22 +122,22 @@ read_list (g ∷ lists) zero x lt is = is
 read_list (g ∷ lists) (suc i) x lt is = read_list lists i x (omega (arith, lt)) is
 
 -- the ways of the node of this number, as they are read
-pub ways_at : (words : List ℕ) (A : List Entry) (nodes : List Node) (all : List (List Entering)) → AreWays words A nodes all → (at : ℕ) (n : Node) → slice_get nodes at ≡ Some n
+pub ways_at : (words : Program) (A : List Entry) (nodes : List Node) (all : List (List Entering)) → AreWays words A nodes all → (at : ℕ) (n : Node) → slice_get nodes at ≡ Some n
     → (item ways : List Entering) → item ≡ get_or all at item → ways ≡ item → AreWaysOf words A n ways
 ways_at words A nodes all are at n e item ways read is =
     let lt = slice_get_within nodes at n e in
     subst (AreWaysOf words A n) (sym (is ∙ read_list all at item (omega (arith, lt, are.count_is)) read)) (are.each at n lt e)
 
-pub ways_have : (words : List ℕ) (A : List Entry) (nodes : List Node) → IsPeopled words A nodes → (n : Node) → Contains nodes n → (ways : List Entering) → AreWaysOf words A n ways
+pub ways_have : (words : Program) (A : List Entry) (nodes : List Node) → IsPeopled words A nodes → (n : Node) → Contains nodes n → (ways : List Entering) → AreWaysOf words A n ways
     → (w : Entering) → Contains ways w → HasInst nodes w.inst
 ways_have words A nodes peopled n member ways are w has = let k = (are w).0 has in entered_inst nodes w.inst (peopled n w.kind w.inst k.0 member k.1)
 
-pub ways_of_at : (words : List ℕ) (A : List Entry) (nodes : List Node) (all : List (List Landing)) → AreLandings words A nodes all → (at : ℕ) (n : Node) → slice_get nodes at ≡ Some n
+pub ways_of_at : (words : Program) (A : List Entry) (nodes : List Node) (all : List (List Landing)) → AreLandings words A nodes all → (at : ℕ) (n : Node) → slice_get nodes at ≡ Some n
     → (item landings : List Landing) → item ≡ get_or all at item → landings ≡ item → AreLandingsOf words A nodes n landings
 ways_of_at words A nodes all are at n e item landings read is =
     let lt = slice_get_within nodes at n e in
     subst (AreLandingsOf words A nodes n) (sym (is ∙ read_list all at item (omega (arith, lt, are.are.count_is)) read)) (are.are.each at n lt e)
 
-pub landing_inside : (words : List ℕ) (A : List Entry) (nodes : List Node) (n : Node) (landings : List Landing) → AreLandingsOf words A nodes n landings → (l : Landing)
+pub landing_inside : (words : Program) (A : List Entry) (nodes : List Node) (n : Node) (landings : List Landing) → AreLandingsOf words A nodes n landings → (l : Landing)
     → Contains landings l → l.at < length nodes
 landing_inside words A nodes n landings are l has = let x = (are l).0 has in inside_at x.edge.to nodes l.at x.at

@@ -1,6 +1,7 @@
 -- The deepest chain of a family, with the least needs. Source: own.
 use Rattle.std.specs.Prelude.{ℕ, ◌≡◌, List, Some, slice_get, slice_index}
 use Rattle.avr_model.specs.declared.assumption.Entry.{Entry}
+use Rattle.avr_model.specs.Devices.{Program}
 use Rattle.mask_states.specs.Keys.{root_inst}
 use Rattle.local_rules.specs.declared.local.Node.{Node}
 use Rattle.nesting_bound.specs.declared.graph.GraphInst.{GraphInst}
@@ -10,7 +11,7 @@ use Rattle.nesting_bound.specs.Least.{IsLeast}
 use Rattle.family_graph.specs.Graphs.{insts_of, IsGraphOf}
 
 -- The deepest chain of a family with the least needs, and the root's need.
-pub record IsDeepest (words : List ℕ) (A : List Entry) (nodes : List Node) (need : ℕ) (links : List Link) : Type 0 where
+pub record IsDeepest (words : Program) (A : List Entry) (nodes : List Node) (need : ℕ) (links : List Link) : Type 0 where
   pub graph : List GraphInst
   pub family : IsGraphOf words A nodes graph
   pub ranks : List ℕ
@@ -20,5 +21,5 @@ pub record IsDeepest (words : List ℕ) (A : List Entry) (nodes : List Node) (ne
   pub chain : IsChain graph needs links
 
 -- the root is the first instance of each graph of the family, where chains begin
-abbrev pub BeginsAtRoot : List ℕ → List Entry → List Node → Type 0
+abbrev pub BeginsAtRoot : Program → List Entry → List Node → Type 0
 BeginsAtRoot words A nodes = (graph : List GraphInst) → IsGraphOf words A nodes graph → slice_get (insts_of graph) 0 ≡ Some root_inst

@@ -2,6 +2,7 @@
 use Rattle.std.specs.Prelude.{ℕ, ◌≡◌, ◌<◌, ◌↔◌, List, [], length, map, Contains, Some, slice_get, slice_index_or}
 use Rattle.std.specs.List.Sorted.{IsStrictlySortedBy}
 use Rattle.avr_model.specs.declared.assumption.Entry.{Entry}
+use Rattle.avr_model.specs.Devices.{Program}
 use Rattle.mask_states.specs.declared.keys.EdgeKind.{EdgeKind}
 use Rattle.mask_states.specs.declared.keys.InstKey.{InstKey}
 use Rattle.mask_states.specs.declared.keys.SpForm.TheVariants.{Closed}
@@ -25,20 +26,20 @@ abbrev pub HasInst : List Node → InstKey → Type 0
 HasInst nodes inst = (n : Node) × Contains nodes n × (n.key.inst ≡ inst)
 
 -- each instance that a node of the family enters has its first node
-abbrev pub IsPeopled : List ℕ → List Entry → List Node → Type 0
+abbrev pub IsPeopled : Program → List Entry → List Node → Type 0
 IsPeopled words A nodes = (n : Node) (way : EdgeKind) (into : InstKey) (back : ℕ) → Contains nodes n → Enters words A n way into back → HasKey nodes (entry_key into)
 
 -- these are the ways in which the node enters instances
-abbrev pub AreWaysOf : List ℕ → List Entry → Node → List Entering → Type 0
+abbrev pub AreWaysOf : Program → List Entry → Node → List Entering → Type 0
 AreWaysOf words A n ways = (w : Entering) → Contains ways w ↔ ((back : ℕ) × Enters words A n w.kind w.inst back)
 
 -- those of the first nodes, by their numbers
-pub record AreWaysTo (words : List ℕ) (A : List Entry) (nodes : List Node) (count : ℕ) (all : List (List Entering)) : Type 0 where
+pub record AreWaysTo (words : Program) (A : List Entry) (nodes : List Node) (count : ℕ) (all : List (List Entering)) : Type 0 where
   pub count_is : length all ≡ count
   pub each : (at : ℕ) (n : Node) → at < count → slice_get nodes at ≡ Some n → AreWaysOf words A n (slice_index_or all at [])
 
 -- those of all nodes
-abbrev pub AreWays : List ℕ → List Entry → List Node → List (List Entering) → Type 0
+abbrev pub AreWays : Program → List Entry → List Node → List (List Entering) → Type 0
 AreWays words A nodes all = AreWaysTo words A nodes (length nodes) all
 
 -- the place's node is one of this instance, with a whole stack pointer
@@ -49,7 +50,7 @@ pub record IsGraphPlace (nodes : List Node) (inst : InstKey) (p : Place) : Type 
   pub closed : node.key.sp ≡ Closed p.offset
 
 -- the edge's node is one of the first instance, and enters the second in this way
-pub record IsEntryOf (words : List ℕ) (A : List Entry) (nodes : List Node) (inst into : InstKey) (e : Entered) : Type 0 where
+pub record IsEntryOf (words : Program) (A : List Entry) (nodes : List Node) (inst into : InstKey) (e : Entered) : Type 0 where
   pub node : Node
   pub at : slice_get nodes e.node ≡ Some node
   pub same : node.key.inst ≡ inst
@@ -64,7 +65,7 @@ pub record HasPlaceOf (nodes : List Node) (insts : List InstKey) (i : ℕ) (p : 
   pub place : IsGraphPlace nodes inst p
 
 -- the edge leads from the instance of this number to that of the edge's
-pub record HasEntryOf (words : List ℕ) (A : List Entry) (nodes : List Node) (insts : List InstKey) (i : ℕ) (e : Entered) : Type 0 where
+pub record HasEntryOf (words : Program) (A : List Entry) (nodes : List Node) (insts : List InstKey) (i : ℕ) (e : Entered) : Type 0 where
   pub inst : InstKey
   pub is : slice_get insts i ≡ Some inst
   pub into : InstKey
@@ -73,7 +74,7 @@ pub record HasEntryOf (words : List ℕ) (A : List Entry) (nodes : List Node) (i
 
 -- The instances are those that have nodes, numbered in the order of their keys; the places of each are its nodes with a whole stack
 -- pointer, and its edges are the ways in which its nodes enter instances. Nodes are named by their numbers in the family.
-pub record IsGraphOf (words : List ℕ) (A : List Entry) (nodes : List Node) (gs : List GraphInst) : Type 0 where
+pub record IsGraphOf (words : Program) (A : List Entry) (nodes : List Node) (gs : List GraphInst) : Type 0 where
   pub ascending : IsStrictlySortedBy inst_cmp (insts_of gs)
   pub insts : (inst : InstKey) → Contains (insts_of gs) inst ↔ HasInst nodes inst
   pub places : (i : ℕ) (p : Place) → graph.HasPlace gs i p ↔ HasPlaceOf nodes (insts_of gs) i p

@@ -3,6 +3,7 @@ use Rattle.std.specs.Prelude.{ℕ, ◌+◌, ◌-◌, ◌≡◌, ◌<◌, ◌≤�
 use Rattle.std.specs.List.{flat_map}
 use Rattle.std.specs.List.Sorted.{IsStrictlySortedBy}
 use Rattle.avr_model.specs.declared.assumption.Entry.{Entry}
+use Rattle.avr_model.specs.Devices.{Program}
 use Rattle.mask_states.specs.declared.keys.InstKey.{InstKey}
 use Rattle.mask_states.specs.declared.keys.SpForm.{SpForm}
 use Rattle.mask_states.specs.declared.keys.SpForm.TheVariants.{Closed, Open}
@@ -75,7 +76,7 @@ pub record IsPlaceBetween (nodes : List Node) (low high : ℕ) (p : Place) : Typ
   pub closed : node.key.sp ≡ Closed p.offset
 
 -- an edge from a node between these numbers
-pub record IsEntryBetween (words : List ℕ) (A : List Entry) (nodes : List Node) (insts : List InstKey) (low high : ℕ) (e : Entered) : Type 0 where
+pub record IsEntryBetween (words : Program) (A : List Entry) (nodes : List Node) (insts : List InstKey) (low high : ℕ) (e : Entered) : Type 0 where
   pub above : low ≤ e.node
   pub below : e.node < high
   pub node : Node
@@ -87,18 +88,18 @@ pub record IsEntryBetween (words : List ℕ) (A : List Entry) (nodes : List Node
   pub enters : Enters words A node e.kind into back
 
 -- an edge of this instance
-pub record IsEntryFrom (words : List ℕ) (A : List Entry) (nodes : List Node) (insts : List InstKey) (inst : InstKey) (e : Entered) : Type 0 where
+pub record IsEntryFrom (words : Program) (A : List Entry) (nodes : List Node) (insts : List InstKey) (inst : InstKey) (e : Entered) : Type 0 where
   pub into : InstKey
   pub leads : slice_get insts e.into ≡ Some into
   pub entry : IsEntryOf words A nodes inst into e
 
 -- the places and edges are those of this instance
-pub record IsInstOf (words : List ℕ) (A : List Entry) (nodes : List Node) (insts : List InstKey) (inst : InstKey) (g : GraphInst) : Type 0 where
+pub record IsInstOf (words : Program) (A : List Entry) (nodes : List Node) (insts : List InstKey) (inst : InstKey) (g : GraphInst) : Type 0 where
   pub key : g.key ≡ inst
   pub places : (p : Place) → Contains g.offsets p ↔ IsGraphPlace nodes inst p
   pub entered : (e : Entered) → Contains g.entered e ↔ IsEntryFrom words A nodes insts inst e
 
 -- the first instances, in the order of their numbers
-pub record AreGraphInsts (words : List ℕ) (A : List Entry) (nodes : List Node) (insts : List InstKey) (count : ℕ) (gs : List GraphInst) : Type 0 where
+pub record AreGraphInsts (words : Program) (A : List Entry) (nodes : List Node) (insts : List InstKey) (count : ℕ) (gs : List GraphInst) : Type 0 where
   pub count_is : length gs ≡ count
   pub each : (i : ℕ) (inst : InstKey) → i < count → slice_get insts i ≡ Some inst → (g : GraphInst) × (slice_get gs i ≡ Some g) × IsInstOf words A nodes insts inst g

@@ -6,6 +6,7 @@ use Rattle.basics.specs.Items.{only_one_in, none_in, first_in, further_in as the
 use Rattle.call_graph.proofs.AllLaws.{each_gathered, gathered_in}
 use Rattle.avr_model.specs.declared.assumption.Entry.{Entry}
 use Rattle.avr_model.specs.Assumptions.{has_pairs}
+use Rattle.avr_model.specs.Devices.{Program}
 use Rattle.abs_state.specs.declared.state.AbsState.{AbsState}
 use Rattle.abs_state.specs.Frames.{entered}
 use Rattle.abs_state.specs.PairsBack.{returned}
@@ -40,7 +41,7 @@ use Rattle.fixpoint.proofs.Looked.{seen_node, look_clean, look_same, look_exit, 
 
 -- ---- lists
 
-module _ (words : List ℕ) (A : List Entry) where
+module _ (words : Program) (A : List Entry) where
   -- ---- edges
 
   -- an edge of the family leads there

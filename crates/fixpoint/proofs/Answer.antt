@@ -1,6 +1,7 @@
 -- What the end of the rounds says of certificates.
 use Rattle.std.proofs.Common.{◌≡◌, ◌≢◌, refl, sym, ℕ, ◌≤◌, List, Option, None}
 use Rattle.avr_model.specs.declared.assumption.Entry.{Entry}
+use Rattle.avr_model.specs.Devices.{Program}
 use Rattle.certificate.specs.Claims.{Claim, IsClaim}
 use Rattle.certificate.specs.Valid.{IsValid}
 use Rattle.round_rules.specs.declared.refusal.Refusal.{Refusal}
@@ -10,7 +11,7 @@ use Rattle.round_rules.specs.Solutions.{IsShown, IsSolution, IsAnswer, IsRefusal
 use Rattle.round_laws.proofs.AllLaws.{rounds_are_least, solutions_are_valid}
 use Rattle.fixpoint.specs.Progress.{AreRoundsFound}
 
-module _ (words : List ℕ) (A : List Entry) where
+module _ (words : Program) (A : List Entry) where
   pub is_answer : (steps : Option ℕ) (f : Family) (c : Claim) → AreRoundsFound words A steps f → IsSolution words A f c → IsAnswer words A steps c
   is_answer steps f c found solution = record { number = found.number; family = f; within = found.within; solved = found.solved; solution = solution }
 

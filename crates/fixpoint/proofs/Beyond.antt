@@ -2,6 +2,7 @@
 use Rattle.std.proofs.Common.{ℕ, Bool, ◌⊎◌, inl, inr, ⊎_elim, List}
 use Rattle.avr_model.specs.declared.assumption.Entry.{Entry}
 use Rattle.avr_model.specs.Assumptions.{has_pairs}
+use Rattle.avr_model.specs.Devices.{Program}
 use Rattle.abs_state.proofs.AllLaws.{states_are_ordered}
 use Rattle.local_rules.specs.declared.local.Node.{Node}
 use Rattle.edge_rules.specs.Families.{IsCovered}
@@ -18,7 +19,7 @@ module _ (followed : Bool) (f : Family) (all items : List Node) (beyond : AreBey
       (λ d. inr (record { state = d.state; present = d.present; above = states_are_ordered.through to.state c.state d.state c.above d.above }))
       (beyond.each (with_state to c.state) c.present)
 
-pub round_beyond : (words : List ℕ) (A : List Entry) (f : Family) (all items : List Node) → IsRoundOf words A f all → AreBeyond (has_pairs A) f all items → IsRoundOf words A f items
+pub round_beyond : (words : Program) (A : List Entry) (f : Family) (all items : List Node) → IsRoundOf words A f all → AreBeyond (has_pairs A) f all items → IsRoundOf words A f items
 round_beyond words A f all items round beyond = record {
   formed = beyond.nodes;
   all = λ n e has edge. ⊎_elim (λ l. inl l) (lands_or (has_pairs A) f all items beyond (target e)) (round.all n e has edge);

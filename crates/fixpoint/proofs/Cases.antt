@@ -5,6 +5,7 @@ use Rattle.std.specs.FinMap.{get}
 use Rattle.basics.specs.Items.{only_one_in, none_in}
 use Rattle.call_graph.proofs.AllLaws.{each_gathered}
 use Rattle.avr_model.specs.declared.assumption.Entry.{Entry}
+use Rattle.avr_model.specs.Devices.{Program}
 use Rattle.abs_state.specs.declared.state.AbsState.{AbsState}
 use Rattle.abs_state.specs.PairsBack.{returned}
 use Rattle.mask_states.specs.declared.keys.NodeKey.{NodeKey}
@@ -29,7 +30,7 @@ returned_from : (k : NodeKey) (w : Way) (x : Exit) (P : Node → Type 0) (o : Op
 returned_from k w x P None h to i = absurd (none_in to i)
 returned_from k w x P (Some after) h to i = subst P (sym (only_one_in (record { key = returned_key w.kind k w.back x; state = after }) to i)) (h after refl)
 
-module _ (words : List ℕ) (A : List Entry) (f : Family) (notes : Notes) (x : Look) (is : IsLook words A f x) (P : Node → Type 0) where
+module _ (words : Program) (A : List Entry) (f : Family) (notes : Notes) (x : Look) (is : IsLook words A f x) (P : Node → Type 0) where
   abbrev n : Node
   n = seen_node words A f x is
 

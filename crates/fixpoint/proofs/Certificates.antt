@@ -3,7 +3,7 @@ use Rattle.std.proofs.Common.{◌≡◌, refl, sym, ap, ◌∙◌, subst, ℕ, �
 use Rattle.std.proofs.lemmas.Option.{slice_get_read}
 use Rattle.basics.specs.Lists.{get_inside, one_at}
 use Rattle.avr_model.specs.declared.assumption.Entry.{Entry}
-use Rattle.avr_model.specs.Devices.{device_of}
+use Rattle.avr_model.specs.Devices.{Program, device_of}
 use Rattle.avr_model.proofs.AllLaws.{devices_are_alike}
 use Rattle.vector_table.specs.Entries.{AreEntries}
 use Rattle.local_rules.specs.declared.local.Node.{Node}
@@ -18,10 +18,10 @@ use Rattle.round_solutions.specs.Laws.{SolvedFamiliesAreShown, SolutionsAreMade}
 use Rattle.round_solutions.specs.Parts.{AreForms, AreCertificateParts, claim_of}
 use Rattle.fixpoint.specs.Insts.{AreSolvedNodes, AreInstsOf}
 
-pub peopled : (words : List ℕ) (A : List Entry) (nodes : List Node) → AreSolvedNodes words A nodes → SolvedFamiliesAreShown → IsPeopled words A nodes
+pub peopled : (words : Program) (A : List Entry) (nodes : List Node) → AreSolvedNodes words A nodes → SolvedFamiliesAreShown → IsPeopled words A nodes
 peopled words A nodes s law = subst (IsPeopled words A) (sym s.are) (law.peopled words A s.rounds s.family s.solved)
 
-module _ (words : List ℕ) (A : List Entry) (f : Family) (nodes : List Node) (is : nodes ≡ nodes_of f) (solved : (n : ℕ) × IsSolved words A n f) (insts : List Inst)
+module _ (words : Program) (A : List Entry) (f : Family) (nodes : List Node) (is : nodes ≡ nodes_of f) (solved : (n : ℕ) × IsSolved words A n f) (insts : List Inst)
     (seeds : Seeds) (h : AreInstsOf words A nodes insts) (forms : AreForms words A nodes seeds) (law : SolutionsAreMade) where
   abbrev parts : AreCertificateParts words A f insts seeds
   parts = record {

@@ -4,7 +4,7 @@ use Rattle.std.proofs.lemmas.List.Elements.{Contains-push_cases}
 use Rattle.basics.specs.Items.{none_in, first_in}
 use Rattle.avr_model.specs.declared.assumption.Entry.{Entry}
 use Rattle.avr_model.specs.Assumptions.{has_pairs}
-use Rattle.avr_model.specs.Devices.{device_of, size_of}
+use Rattle.avr_model.specs.Devices.{Program, device_of, size_of}
 use Rattle.mask_states.specs.declared.keys.NodeKey.{NodeKey}
 use Rattle.mask_states.specs.Keys.{root_inst}
 use Rattle.local_rules.specs.declared.local.Node.{Node}
@@ -37,7 +37,7 @@ use Rattle.fixpoint.proofs.Order.{orders_end}
 pub none_once : (notes : Notes) → notes ≡ blank → AreOnce notes.nesting.insts
 none_once notes none = subst (λ (n : Notes). AreOnce n.nesting.insts) (sym none) (λ i j inst a b. absurd (let never = a in cc))
 
-module _ (words : List ℕ) (A : List Entry) (f : Family) where
+module _ (words : Program) (A : List Entry) (f : Family) where
   -- ---- notes
 
   -- where no fault was found, a node of these keys has a look

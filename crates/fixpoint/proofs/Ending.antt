@@ -5,6 +5,7 @@ use Rattle.basics.specs.Numbers.{zero_from_test}
 use Rattle.basics.specs.Items.{none_in}
 use Rattle.avr_model.specs.declared.assumption.Entry.{Entry}
 use Rattle.avr_model.specs.Assumptions.{has_pairs}
+use Rattle.avr_model.specs.Devices.{Program}
 use Rattle.abs_state.specs.declared.state.AbsState.{AbsState}
 use Rattle.mask_states.specs.declared.keys.InstKey.{InstKey}
 use Rattle.mask_states.specs.declared.keys.NodeKey.{NodeKey}
@@ -91,7 +92,7 @@ all_left : (steps : Option ℕ) → IsBudgetLeft steps steps 0
 all_left None = tt
 all_left (Some steps) = omega arith
 
-module _ (words : List ℕ) (A : List Entry) where
+module _ (words : Program) (A : List Entry) where
   -- ---- refusals
 
   never_spent : (n : ℕ) (t : Test) → refusal.Spent n ≡ refusal_of t → ⊥

@@ -6,6 +6,7 @@ use Rattle.std.proofs.lemmas.Result.{IfOk-weaker}
 use Rattle.basics.specs.Items.{get_contained}
 use Rattle.basics.specs.Lists.{one_at}
 use Rattle.avr_model.specs.declared.assumption.Entry.{Entry}
+use Rattle.avr_model.specs.Devices.{Program}
 use Rattle.mask_states.specs.declared.keys.NodeKey.{NodeKey}
 use Rattle.local_rules.specs.declared.local.Node.{Node}
 use Rattle.edge_rules.specs.declared.seeded.NodeForm.{NodeForm}
@@ -19,7 +20,7 @@ use Rattle.fixpoint.specs.declared.leading.Lead.{Lead}
 use Rattle.fixpoint.specs.declared.leading.Lead.TheVariants.{Nothing, Only, More}
 use Rattle.fixpoint.specs.Leads.{lead_at, LeadsTo, IsLead, AreLeads, form_by, forms_from}
 
-module _ (words : List ℕ) (A : List Entry) (nodes : List Node) (k : NodeKey) where
+module _ (words : Program) (A : List Entry) (nodes : List Node) (k : NodeKey) where
   abbrev Last : Lead → Type 0
   Last lead = IsLead words A nodes (length nodes) k lead
 
@@ -49,7 +50,7 @@ module _ (words : List ℕ) (A : List Entry) (nodes : List Node) (k : NodeKey) w
   none_only (Only j) h ne m o = ne j refl
   none_only More h ne m o = h m o
 
-module _ (words : List ℕ) (A : List Entry) (nodes : List Node) where
+module _ (words : Program) (A : List Entry) (nodes : List Node) where
   form_is : (at : ℕ) (n : Node) (lead : Lead) → IsLead words A nodes (length nodes) n.key lead → IsForm words A nodes at n (form_by at lead n.state)
   form_is at n Nothing h = (refl, λ m lt o. none_only words A nodes n.key Nothing h (λ j e. absurd (cc)) m o)
   form_is at n (Only j) h = by (nat_lt j at) refl
@@ -74,7 +75,7 @@ forms_get at leads (x ∷ xs) (suc i) n e =
     let there : at + 1 + i ≡ at + suc i = omega arith in
     subst (λ (j : ℕ). slice_get (forms_from (at + 1) leads xs) i ≡ Some (n.key, form_by j (lead_at leads j) n.state)) there (forms_get (at + 1) leads xs i n e)
 
-pub forms_are : (words : List ℕ) (A : List Entry) (nodes : List Node) (leads : List Lead) → AreLeads words A nodes (length nodes) leads
+pub forms_are : (words : Program) (A : List Entry) (nodes : List Node) (leads : List Lead) → AreLeads words A nodes (length nodes) leads
     → AreForms words A nodes (forms_from 0 leads nodes)
 forms_are words A nodes leads are = record {
   count = forms_long 0 leads nodes;
@@ -111,7 +112,7 @@ forms_pushed leads done n forms pushed at form are long is form_is all =
       omega (arith, ap length all, length-append forms ((n.key, form) ∷ []), length-append done (n ∷ []), long),
     )
 
-pub forms_hold : {E : Type 0} (r : Result (Vec (NodeKey × NodeForm) Global) E) (words : List ℕ) (A : List Entry) (nodes listed : List Node) (leads slice : List Lead)
+pub forms_hold : {E : Type 0} (r : Result (Vec (NodeKey × NodeForm) Global) E) (words : Program) (A : List Entry) (nodes listed : List Node) (leads slice : List Lead)
     → AreLeads words A nodes (length nodes) leads → slice ≡ leads → listed ≡ nodes → IfOk r (λ forms. forms.items ≡ forms_from 0 slice listed)
     → IfOk r (λ forms. AreForms words A nodes forms.items)
 forms_hold r words A nodes listed leads slice are same all h =

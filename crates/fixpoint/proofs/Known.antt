@@ -1,6 +1,7 @@
 -- After a round's notes all nodes are known, and the nesting is the family's.
 use Rattle.std.proofs.Common.{◌≡◌, refl, sym, ◌∙◌, subst, ℕ, inl, inr, ⊎_elim, List, None, Contains}
 use Rattle.avr_model.specs.declared.assumption.Entry.{Entry}
+use Rattle.avr_model.specs.Devices.{Program}
 use Rattle.mask_states.specs.declared.keys.InstKey.{InstKey}
 use Rattle.mask_states.specs.declared.keys.NodeKey.{NodeKey}
 use Rattle.mask_states.specs.Keys.{offset_of}
@@ -18,7 +19,7 @@ use Rattle.round_steps.specs.Notings.{AnyHas, caller, leaver, CallsAt, LeavesAt,
 use Rattle.fixpoint.specs.Progress.{IsCaller, IsLeaver, AreTrue, IsKnown, AreKnown, Turn}
 use Rattle.fixpoint.proofs.Looked.{seen_node, look_exit, look_way, look_node, none_faulty, looked}
 
-module _ (words : List ℕ) (A : List Entry) (f : Family) (old new : Notes) (xs : List Look) (noted : AreNoted old xs new) where
+module _ (words : Program) (A : List Entry) (f : Family) (old new : Notes) (xs : List Look) (noted : AreNoted old xs new) where
   module _ (looks : (x : Look) → Contains xs x → IsLook words A f x) where
     -- ---- what was found is so
 
@@ -89,7 +90,7 @@ module _ (words : List ℕ) (A : List Entry) (f : Family) (old new : Notes) (xs 
   }
 
 -- the notes of a round without a fault
-pub all_known : (words : List ℕ) (A : List Entry) (f : Family) (work : List NodeKey) (old new : Notes) (seen : Seen) → Turn words A f work old → AreSeen words A f work seen
+pub all_known : (words : Program) (A : List Entry) (f : Family) (work : List NodeKey) (old new : Notes) (seen : Seen) → Turn words A f work old → AreSeen words A f work seen
     → seen.worst ≡ None → AreNoted old seen.looks.items new → AreKnown words A f new
 all_known words A f work old new seen turn are none noted =
     let clean = none_faulty words A f work old seen turn are none in
@@ -100,7 +101,7 @@ all_known words A f work old new seen turn are none noted =
       so = notes_so words A f old new seen.looks.items noted are.looks (turn.so clean);
     }
 
-pub nesting_is : (words : List ℕ) (A : List Entry) (f : Family) (notes : Notes) → AreKnown words A f notes → IsNestingOf words A f notes.nesting
+pub nesting_is : (words : Program) (A : List Entry) (f : Family) (notes : Notes) → AreKnown words A f notes → IsNestingOf words A f notes.nesting
 nesting_is words A f notes known = record {
   insts = λ i. (known.so.insts i, λ h. subst (Contains notes.nesting.insts) h.2 (known.each h.0 h.1).inst);
   spots = λ s. (known.so.spots s, λ h. subst (λ (i : InstKey). Contains notes.nesting.spots (record { inst = i; offset = s.offset })) h.of ((known.each h.node h.has).spot s.offset h.closed));

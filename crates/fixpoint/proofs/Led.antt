@@ -8,6 +8,7 @@ use Rattle.basics.specs.Numbers.{equals_itself}
 use Rattle.basics.specs.Items.{none_in, first_in, further_in, first_or_further, contained_at}
 use Rattle.basics.specs.Lists.{one_at}
 use Rattle.avr_model.specs.declared.assumption.Entry.{Entry}
+use Rattle.avr_model.specs.Devices.{Program}
 use Rattle.mask_states.specs.declared.keys.EdgeKind.{EdgeKind}
 use Rattle.mask_states.specs.declared.keys.EdgeKind.TheVariants.{Local, Call, Interrupt, Return}
 use Rattle.mask_states.specs.declared.keys.NodeKey.{NodeKey}
@@ -138,13 +139,13 @@ second at m x xs lt all =
 -- ---- the edges of one node
 
 -- an edge of this kind leads from the node to the key
-record HasKindOfEdge (words : List ℕ) (A : List Entry) (nodes : List Node) (n : Node) (k : NodeKey) (x : EdgeKind) : Type 0 where
+record HasKindOfEdge (words : Program) (A : List Entry) (nodes : List Node) (n : Node) (k : NodeKey) (x : EdgeKind) : Type 0 where
   edge : Edge
   is : IsEdge words A nodes n edge
   to : edge.to ≡ k
   kind : edge.kind ≡ x
 
-module _ (words : List ℕ) (A : List Entry) (nodes : List Node) (shown : AreShown nodes) (at : ℕ) (n : Node) (is_at : slice_get nodes at ≡ Some n) (landings : List Landing)
+module _ (words : Program) (A : List Entry) (nodes : List Node) (shown : AreShown nodes) (at : ℕ) (n : Node) (is_at : slice_get nodes at ≡ Some n) (landings : List Landing)
     (exact : AreLandingsOf words A nodes n landings) (p : ℕ) (there : Node) (is_there : slice_get nodes p ≡ Some there) where
   abbrev k : NodeKey
   k = there.key
@@ -255,7 +256,7 @@ folded_at at (l ∷ ls) leads p lt =
     by true = refl
     by false = refl
 
-led_more : (words : List ℕ) (A : List Entry) (nodes : List Node) → AreShown nodes → (at : ℕ) (n : Node) → slice_get nodes at ≡ Some n → (landings : List Landing)
+led_more : (words : Program) (A : List Entry) (nodes : List Node) → AreShown nodes → (at : ℕ) (n : Node) → slice_get nodes at ≡ Some n → (landings : List Landing)
     → AreLandingsOf words A nodes n landings → (leads : List Lead) → AreLeads words A nodes at leads → AreLeads words A nodes (at + 1) (fold (noted at) leads landings)
 led_more words A nodes shown at n is landings exact leads are = record {
   all = folded_long at landings leads ∙ are.all;
@@ -269,7 +270,7 @@ all_written : (xs ys : List Lead) (n : ℕ) → n ≡ length xs → length ys �
 all_written xs ys n size same = grind (arith, common_steps)
 
 -- the same of what is written back
-pub led_written : (words : List ℕ) (A : List Entry) (nodes : List Node) → AreShown nodes → (at : ℕ) (n : Node) → slice_get nodes at ≡ Some n → (landings : List Landing)
+pub led_written : (words : Program) (A : List Entry) (nodes : List Node) → AreShown nodes → (at : ℕ) (n : Node) → slice_get nodes at ≡ Some n → (landings : List Landing)
     → AreLandingsOf words A nodes n landings → (leads ys zs : List Lead) (size : ℕ) → AreLeads words A nodes at leads → zs ≡ leads
     → ys ≡ fold (noted at) zs landings → size ≡ length leads → AreLeads words A nodes (at + 1) (take size (ys ++ drop (length ys) leads))
 led_written words A nodes shown at n is landings exact leads ys zs size are from whole sized =

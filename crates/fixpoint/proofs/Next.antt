@@ -4,6 +4,7 @@ use Rattle.std.specs.FinMap.{empty, get-empty, same_map}
 use Rattle.basics.specs.Items.{none_in, first_in, further_in as there, first_or_further}
 use Rattle.avr_model.specs.declared.assumption.Entry.{Entry}
 use Rattle.avr_model.specs.Assumptions.{has_pairs}
+use Rattle.avr_model.specs.Devices.{Program}
 use Rattle.abs_state.specs.declared.state.AbsState.{AbsState}
 use Rattle.abs_state.proofs.AllLaws.{states_are_ordered}
 use Rattle.mask_states.specs.declared.keys.InstKey.{InstKey}
@@ -36,7 +37,7 @@ there_or_not (x ∷ xs) k = by (there_or_not xs k) (same_node k x) refl
     by rest false e = ⊎_elim (λ i. inl (there x k xs i))
         (λ no. inr (λ i. ⊎_elim (λ is. let t = (keys_are_ordered.same_nodes k x).1 is in absurd (cc)) no (first_or_further x k xs i))) rest
 
-module _ (words : List ℕ) (A : List Entry) where
+module _ (words : Program) (A : List Entry) where
   -- ---- what is noted stays so in a greater family without faults
 
   module _ (f g : Family) (low : AreFormed (has_pairs A) f) (high : AreFormed (has_pairs A) g) (below : Below f g) (clean : HasNoFault words A g) where

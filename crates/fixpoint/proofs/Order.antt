@@ -6,7 +6,7 @@ use Rattle.basics.specs.Items.{none_in}
 use Rattle.basics.specs.Numbers.{zero_from_test}
 use Rattle.call_graph.proofs.AllLaws.{each_gathered}
 use Rattle.avr_model.proofs.AllLaws.{devices_are_alike}
-use Rattle.avr_model.specs.Devices.{device_of}
+use Rattle.avr_model.specs.Devices.{Program, device_of}
 use Rattle.avr_model.specs.Image.{WORDS}
 use Rattle.avr_model.specs.declared.assumption.Entry.{Entry}
 use Rattle.avr_model.specs.Assumptions.{has_pairs}
@@ -87,7 +87,7 @@ returned_node {followed} way k l s t after back x node word other sp masks is =
       hulls = hulls_hold_intervals.returned s t after is;
     }
 
-module _ (words : List ℕ) (A : List Entry) where
+module _ (words : Program) (A : List Entry) where
   back_small : (n : Node) (way : EdgeKind) (inst : InstKey) (back : ℕ) → IsNodeIn (has_pairs A) n.key n.state → Enters words A n way inst back → back < WORDS
   back_small n _ _ _ node (by_call offset site faultless form member) =
       let lead = (local_parts_fit.fit words A n.key n.state).calls site member in

@@ -3,7 +3,7 @@ use Rattle.std.proofs.Common.{◌≡◌, ◌≢◌, refl, sym, subst, ℕ, ◌�
 use Rattle.std.specs.Result.{IsErrAnd, result_and}
 use Rattle.avr_model.specs.declared.assumption.Entry.{Entry}
 use Rattle.avr_model.specs.Assumptions.{has_pairs}
-use Rattle.avr_model.specs.Devices.{device_of, size_of}
+use Rattle.avr_model.specs.Devices.{Program, device_of, size_of}
 use Rattle.mask_states.specs.declared.keys.NodeKey.{NodeKey}
 use Rattle.mask_states.specs.Keys.{root_inst, offset_of}
 use Rattle.local_rules.specs.declared.local.Node.{Node}
@@ -45,7 +45,7 @@ pub refused_if : {A X E : Type 0} (told : Result A E) (x : X) (r : Result X E) (
 refused_if (Ok a) x r P is h = subst (λ s. IfErr s P) (sym is) tt
 refused_if (Err e) x r P is h = subst (λ s. IfErr s P) (sym is) h
 
-module _ (words : List ℕ) (A : List Entry) where
+module _ (words : Program) (A : List Entry) where
   pub too_large : (f : Family) (r : Refusal) → IsTooLarge f r → AreRoundsStopped words A f r
   too_large f r h = record { test = over h.limit; holds = h.over; is = h.is }
 

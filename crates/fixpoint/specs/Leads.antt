@@ -1,6 +1,7 @@
 -- How edges lead to nodes, and the forms of the nodes by that.
 use Rattle.std.specs.Prelude.{ℕ, ◌+◌, ◌≡◌, ◌<◌, ◌==◌, nat_lt, if◌then◌else◌, List, [], ◌∷◌, length, Some, slice_get, slice_set, slice_index_or}
 use Rattle.avr_model.specs.declared.assumption.Entry.{Entry}
+use Rattle.avr_model.specs.Devices.{Program}
 use Rattle.abs_state.specs.declared.state.AbsState.{AbsState}
 use Rattle.mask_states.specs.declared.keys.EdgeKind.{EdgeKind}
 use Rattle.mask_states.specs.declared.keys.EdgeKind.TheVariants.{Local, Call, Interrupt, Return}
@@ -40,7 +41,7 @@ noted at leads l = slice_set leads l.at (led (lead_at leads l.at) at l.kind)
 -- ---- all edges
 
 -- an edge from one of the first nodes leads to this key
-pub record LeadsTo (words : List ℕ) (A : List Entry) (nodes : List Node) (count : ℕ) (k : NodeKey) (from : ℕ) (e : Edge) : Type 0 where
+pub record LeadsTo (words : Program) (A : List Entry) (nodes : List Node) (count : ℕ) (k : NodeKey) (from : ℕ) (e : Edge) : Type 0 where
   pub node : Node
   pub below : from < count
   pub at : slice_get nodes from ≡ Some node
@@ -49,14 +50,14 @@ pub record LeadsTo (words : List ℕ) (A : List Entry) (nodes : List Node) (coun
 
 -- How the edges from the first nodes lead to this key: not at all, by local ones from the node of this number alone, or so that none is
 -- the only one.
-abbrev pub IsLead : List ℕ → List Entry → List Node → ℕ → NodeKey → Lead → Type 0
+abbrev pub IsLead : Program → List Entry → List Node → ℕ → NodeKey → Lead → Type 0
 IsLead words A nodes count k Nothing = (i : ℕ) (e : Edge) → LeadsTo words A nodes count k i e → ⊥
 IsLead words A nodes count k (Only m) =
     ((e : Edge) × LeadsTo words A nodes count k m e) × ((i : ℕ) (e : Edge) → LeadsTo words A nodes count k i e → (i ≡ m) × (e.kind ≡ Local))
 IsLead words A nodes count k More = (m : ℕ) → IsOnlyFrom words A nodes k m → ⊥
 
 -- how the edges from the first nodes lead to each
-pub record AreLeads (words : List ℕ) (A : List Entry) (nodes : List Node) (count : ℕ) (leads : List Lead) : Type 0 where
+pub record AreLeads (words : Program) (A : List Entry) (nodes : List Node) (count : ℕ) (leads : List Lead) : Type 0 where
   pub all : length leads ≡ length nodes
   pub each : (p : ℕ) (n : Node) → slice_get nodes p ≡ Some n → IsLead words A nodes count n.key (lead_at leads p)
 

@@ -1,6 +1,7 @@
 -- What holds between rounds. Source: own.
 use Rattle.std.specs.Prelude.{ℕ, ◌+◌, ◌≡◌, ◌⊎◌, ⊤, List, [], Option, Some, None, Contains}
 use Rattle.avr_model.specs.declared.assumption.Entry.{Entry}
+use Rattle.avr_model.specs.Devices.{Program}
 use Rattle.abs_state.specs.declared.state.AbsState.{AbsState}
 use Rattle.abs_state.specs.Frames.{entered}
 use Rattle.abs_state.specs.PairsBack.{returned}
@@ -27,25 +28,25 @@ use Rattle.round_steps.specs.Notings.{caller, leaver}
 
 -- ---- where a node leads, alone and with one that leaves what it enters
 
-pub data IsOwn (words : List ℕ) (A : List Entry) (n : Node) : Node → Type 0 where
+pub data IsOwn (words : Program) (A : List Entry) (n : Node) : Node → Type 0 where
   own_move : (to : Node) → IsFaultless words A n → Contains (joined_onto [] (raw_of words A n).moves) to → IsOwn words A n to
   own_entry : (way : EdgeKind) (inst : InstKey) (back : ℕ) → Enters words A n way inst back → IsOwn words A n (record { key = entry_key inst; state = entered n.state })
 
-pub data ComesBack (words : List ℕ) (A : List Entry) (n m : Node) : Node → Type 0 where
+pub data ComesBack (words : Program) (A : List Entry) (n m : Node) : Node → Type 0 where
   comes_back : (way : EdgeKind) (inst : InstKey) (back : ℕ) (x : Exit) (state : AbsState) → Enters words A n way inst back → m.key.inst ≡ inst → IsFaultless words A m
       → (raw_of words A m).exit ≡ Some x → returned n.state m.state ≡ Some state → ComesBack words A n m (record { key = returned_key way n.key back x; state = state })
 
 -- ---- what the notes say
 
 -- a node of the family enters the instance, as the crossing says
-pub record IsCaller (words : List ℕ) (A : List Entry) (f : Family) (inst : InstKey) (p : Crossing) : Type 0 where
+pub record IsCaller (words : Program) (A : List Entry) (f : Family) (inst : InstKey) (p : Crossing) : Type 0 where
   pub node : Node
   pub has : FamilyHas f node
   pub at : node.key ≡ p.node
   pub enters : Enters words A node p.kind inst p.back
 
 -- a node of the family leaves its instance, as the crossing says
-pub record IsLeaver (words : List ℕ) (A : List Entry) (f : Family) (inst : InstKey) (p : Crossing) : Type 0 where
+pub record IsLeaver (words : Program) (A : List Entry) (f : Family) (inst : InstKey) (p : Crossing) : Type 0 where
   pub node : Node
   pub has : FamilyHas f node
   pub at : node.key ≡ p.node
@@ -53,7 +54,7 @@ pub record IsLeaver (words : List ℕ) (A : List Entry) (f : Family) (inst : Ins
   pub exit : (raw_of words A node).exit ≡ Some p.exit
 
 -- what is noted is so in the family
-pub record AreTrue (words : List ℕ) (A : List Entry) (f : Family) (notes : Notes) : Type 0 where
+pub record AreTrue (words : Program) (A : List Entry) (f : Family) (notes : Notes) : Type 0 where
   pub callers : (inst : InstKey) (p : Crossing) → IsCrossing notes.callers inst p → IsCaller words A f inst p
   pub leavers : (inst : InstKey) (p : Crossing) → IsCrossing notes.leavers inst p → IsLeaver words A f inst p
   pub insts : (inst : InstKey) → Contains notes.nesting.insts inst → FamilyHasInst f inst
@@ -61,7 +62,7 @@ pub record AreTrue (words : List ℕ) (A : List Entry) (f : Family) (notes : Not
   pub entrances : (e : Entrance) → Contains notes.nesting.entrances e → Entering words A f e.from e.into e.offset
 
 -- all that is to be noted of the node is
-pub record IsKnown (words : List ℕ) (A : List Entry) (notes : Notes) (n : Node) : Type 0 where
+pub record IsKnown (words : Program) (A : List Entry) (notes : Notes) (n : Node) : Type 0 where
   pub callers : (way : EdgeKind) (inst : InstKey) (back : ℕ) → Enters words A n way inst back
       → IsCrossing notes.callers inst (caller n.key (record { kind = way; inst = inst; back = back }))
   pub leavers : (x : Exit) → (raw_of words A n).exit ≡ Some x → IsCrossing notes.leavers n.key.inst (leaver n.key x)
@@ -71,7 +72,7 @@ pub record IsKnown (words : List ℕ) (A : List Entry) (notes : Notes) (n : Node
       → Contains notes.nesting.entrances (record { from = n.key.inst; into = inst; offset = offset_of n.key.sp })
 
 -- all nodes of a family without faults are known, and all that is noted is so
-pub record AreKnown (words : List ℕ) (A : List Entry) (f : Family) (notes : Notes) : Type 0 where
+pub record AreKnown (words : Program) (A : List Entry) (f : Family) (notes : Notes) : Type 0 where
   pub faultless : HasNoFault words A f
   pub each : (n : Node) → FamilyHas f n → IsKnown words A notes n
   pub so : AreTrue words A f notes
@@ -79,14 +80,14 @@ pub record AreKnown (words : List ℕ) (A : List Entry) (f : Family) (notes : No
 -- ---- before a round
 
 -- the node needs no look
-pub record IsHeld (words : List ℕ) (A : List Entry) (f : Family) (notes : Notes) (n : Node) : Type 0 where
+pub record IsHeld (words : Program) (A : List Entry) (f : Family) (notes : Notes) (n : Node) : Type 0 where
   pub faultless : IsFaultless words A n
   pub known : IsKnown words A notes n
   pub own : (to : Node) → IsOwn words A n to → Lands f to
 
 -- Each node that is not in the list needs no look, and where neither of two is, the one comes back by the other to a node that is there.
 -- Where no node has a fault, all that is noted is so.
-pub record Turn (words : List ℕ) (A : List Entry) (f : Family) (work : List NodeKey) (notes : Notes) : Type 0 where
+pub record Turn (words : Program) (A : List Entry) (f : Family) (work : List NodeKey) (notes : Notes) : Type 0 where
   pub held : (n : Node) → FamilyHas f n → Contains work n.key ⊎ IsHeld words A f notes n
   pub backs : (n m to : Node) → FamilyHas f n → FamilyHas f m → ComesBack words A n m to → Contains work n.key ⊎ (Contains work m.key ⊎ Lands f to)
   pub so : HasNoFault words A f → AreTrue words A f notes
@@ -102,7 +103,7 @@ IsBudgetLeft (Some steps) None n = ⊥
 IsBudgetLeft (Some steps) (Some left) n = left + n ≡ steps
 
 -- the rounds so far
-pub record RoundsProgress (words : List ℕ) (A : List Entry) (steps left : Option ℕ) (f : Family) (count : ℕ) (work : List NodeKey) (notes : Notes) : Type 0 where
+pub record RoundsProgress (words : Program) (A : List Entry) (steps left : Option ℕ) (f : Family) (count : ℕ) (work : List NodeKey) (notes : Notes) : Type 0 where
   pub number : ℕ
   pub comes : Comes words A number f
   pub budget : IsBudgetLeft steps left number
@@ -114,7 +115,7 @@ abbrev pub IsSpent : Option ℕ → ℕ → Refusal → Type 0
 IsSpent steps n r = (r ≡ Spent n) × (steps ≡ Some n)
 
 -- the rounds end within the budget at this family
-pub record AreRoundsFound (words : List ℕ) (A : List Entry) (steps : Option ℕ) (f : Family) : Type 0 where
+pub record AreRoundsFound (words : Program) (A : List Entry) (steps : Option ℕ) (f : Family) : Type 0 where
   pub number : ℕ
   pub within : IsWithinBudget steps number
   pub solved : IsSolved words A number f

@@ -1,6 +1,7 @@
 -- What the tests of a round tell.
 use Rattle.std.specs.Prelude.{ℕ, ◌≡◌, List, Option, Some}
 use Rattle.avr_model.specs.declared.assumption.Entry.{Entry}
+use Rattle.avr_model.specs.Devices.{Program}
 use Rattle.certificate.specs.declared.limit.Limit.{Limit}
 use Rattle.local_rules.specs.declared.local.Node.{Node}
 use Rattle.local_rules.specs.declared.local.NodeFault.{NodeFault}
@@ -42,13 +43,13 @@ pub record IsVerdictTold (size : ℕ) (n : Noted) (r : Refusal) : Type 0 where
   pub is : r ≡ nesting_refusal verdict
 
 -- the refusal is of the first test that holds
-pub record AreRoundsStopped (words : List ℕ) (A : List Entry) (f : Family) (r : Refusal) : Type 0 where
+pub record AreRoundsStopped (words : Program) (A : List Entry) (f : Family) (r : Refusal) : Type 0 where
   pub test : Test
   pub holds : FirstHolds words A f test
   pub is : r ≡ refusal_of test
 
 -- No test holds; the nodes are a round of the family, none of them lands in it, and no two have the same key; and its nodes are known.
-pub record IsReady (words : List ℕ) (A : List Entry) (f : Family) (notes : Notes) (nodes : List Node) : Type 0 where
+pub record IsReady (words : Program) (A : List Entry) (f : Family) (notes : Notes) (nodes : List Node) : Type 0 where
   pub passes : PassesTests words A f
   pub round : IsRoundOf words A f nodes
   pub fresh : AreNew f nodes

@@ -6,7 +6,7 @@ use Rattle.std.proofs.lemmas.List.{get_or-drop, get_or-take, length-drop, length
 use Rattle.std.proofs.lemmas.Grind.{same_number_lists}
 use Rattle.basics.specs.Numbers.{one_step_on}
 use Rattle.avr_model.specs.declared.device.Device.{Device}
-use Rattle.avr_model.specs.Devices.{words_of}
+use Rattle.avr_model.specs.Devices.{Program, words_of}
 use Rattle.avr_model.specs.Image.{WORDS, IsNarrowed, IsOutside}
 use Rattle.flash_image.specs.Narrowing.{outside_word}
 use Rattle.avr_model.proofs.AllLaws.{devices_are_alike}
@@ -56,14 +56,14 @@ behind_at : (device : Device) (all : List ℕ) (k : ℕ) → slice_index (behind
 unfolding behind
 behind_at device all k = get_or-drop (words_of device) all k 0
 
-pub narrowed : (device : Device) (all words : List ℕ) → length all ≡ WORDS → IsNarrowed device all words → words ≡ take (words_of device) all
+pub narrowed : (device : Device) (all : List ℕ) (words : Program) → length all ≡ WORDS → IsNarrowed device all words → words ≡ take (words_of device) all
 narrowed device all words size n =
     let most = devices_are_alike.most_words device in
     let count : length (take (words_of device) all) ≡ words_of device = length-take-le (words_of device) all (omega (arith, size, most)) in
     same_number_lists words (take (words_of device) all) (n.count ∙ sym count)
     (λ a lt. let less : a < words_of device = (let e = n.count in omega (arith, e, lt)) in n.each a less ∙ sym (get_or-take (words_of device) all a 0 less))
 
-pub none_outside : (device : Device) (all words : List ℕ) → length all ≡ WORDS → IsNarrowed device all words → outside_word device all ≡ None
+pub none_outside : (device : Device) (all : List ℕ) (words : Program) → length all ≡ WORDS → IsNarrowed device all words → outside_word device all ≡ None
 unfolding behind
 none_outside device all words size n =
     let count = behind_length device all size in

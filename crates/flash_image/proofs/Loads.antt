@@ -8,7 +8,7 @@ use Rattle.std.proofs.lemmas.List.Folds.{list_any-append}
 use Rattle.basics.specs.Booleans.{or_with_false, and_with_false}
 use Rattle.avr_model.specs.declared.instruction.ImmediateInstr.{ImmediateInstr}
 use Rattle.avr_model.specs.declared.instruction.Instr.{Instr}
-use Rattle.avr_model.specs.Devices.{device_of, IsFlash}
+use Rattle.avr_model.specs.Devices.{Program, device_of, IsFlash}
 use Rattle.avr_model.specs.Image.{word_at, AreErased}
 use Rattle.avr_model.specs.Marks.{joined_below, usual_marks, immediate_in, immediate_at, loaded_byte, side_marks, marks_from, marks_at, marks}
 use Rattle.avr_model.specs.Sites.{instruction_at, on_device, loads}
@@ -23,7 +23,7 @@ undefined : (next : ℕ) → decoded 0xFFFF next ≡ None
 unfolding decoded
 undefined next = refl
 
-unwritten : (words : List ℕ) (a : ℕ) → IsFlash words → a < length words → slice_index words a ≡ 0xFFFF → instruction_at words a ≡ None
+unwritten : (words : Program) (a : ℕ) → IsFlash words → a < length words → slice_index words a ≡ 0xFFFF → instruction_at words a ≡ None
 unwritten words a flash lt is = ap (on_device (device_of words)) (ap (λ (w : ℕ). decoded w (word_at words (a + 1))) (place ∙ is) ∙ undefined (word_at words (a + 1)))
   where
     place : word_at words a ≡ slice_index words a
@@ -43,7 +43,7 @@ joined_behind n (suc m) f le none = ⊎_elim (before (joined_behind n m f)) last
     last ge = ap (λ (k : ℕ). joined_below k f) (let e : n ≡ suc m = omega (arith, le, ge) in e)
 
 -- all marks, where those of the words up to the last written one are marked
-pub all_marked : (words : List ℕ) (start now : List Bool) (n : ℕ) → IsFlash words → n ≤ length words → AreErased words n (length words)
+pub all_marked : (words : Program) (start now : List Bool) (n : ℕ) → IsFlash words → n ≤ length words → AreErased words n (length words)
     → now ≡ marked start (usual_marks ++ joined_below n (marks_at words)) → now ≡ marked start (marks words)
 unfolding marks
 all_marked words start now n flash le erased is =
@@ -55,12 +55,12 @@ all_marked words start now n flash le erased is =
 -- ---- noting what is loaded
 
 -- a whole table, which tells what the first n words load
-pub record AreLoadsNoted (words : List ℕ) (n : ℕ) (table : List Bool) : Type 0 where
+pub record AreLoadsNoted (words : Program) (n : ℕ) (table : List Bool) : Type 0 where
   pub size : length table ≡ 8192
   pub tells : AreLoadsBelow n words table
 
 -- before the first
-pub noted_none : (words : List ℕ) (table : List Bool) → table ≡ replicate 8192 false → AreLoadsNoted words 0 table
+pub noted_none : (words : Program) (table : List Bool) → table ≡ replicate 8192 false → AreLoadsNoted words 0 table
 noted_none words table is = record {
   size = ap length is ∙ length-replicate 8192 false;
   tells = λ p b p_lt b_lt.
@@ -91,7 +91,7 @@ turned true false = refl
 turned false true = refl
 turned false false = refl
 
-more_loaded : (words : List ℕ) (n p b : ℕ) → list_any (λ (m : ℕ). eqb m b) (loaded_below words p (n + 1))
+more_loaded : (words : Program) (n p b : ℕ) → list_any (λ (m : ℕ). eqb m b) (loaded_below words p (n + 1))
     ≡ (list_any (λ (m : ℕ). eqb m b) (loaded_byte p (immediate_at words n)) || list_any (λ (m : ℕ). eqb m b) (loaded_below words p n))
 more_loaded words n p b =
     ap (list_any (λ (m : ℕ). eqb m b)) (joined_more n (λ a. loaded_byte p (immediate_at words a))) ∙ list_any-append (λ (m : ℕ). eqb m b) (loaded_below words p n) _
@@ -102,7 +102,7 @@ note_long true table m = length-set table m true
 note_long false table m = refl
 
 -- one more word, which is one of a register and a byte
-pub noted_more : (words : List ℕ) (n : ℕ) (table next : List Bool) (x : ImmediateInstr) → AreLoadsNoted words n table → x.byte < 256 → Some x ≡ immediate_at words n
+pub noted_more : (words : Program) (n : ℕ) (table next : List Bool) (x : ImmediateInstr) → AreLoadsNoted words n table → x.byte < 256 → Some x ≡ immediate_at words n
     → next ≡ noted table (Some x) → AreLoadsNoted words (n + 1) next
 noted_more words n table next x so_far byte at is = record {
   size = ap length is ∙ note_long (loads x.op) table (256 * x.register + x.byte) ∙ so_far.size;
@@ -118,7 +118,7 @@ none_found None at never is = is
 none_found (Some x) at never is = absurd (never x refl)
 
 -- or isn't
-pub noted_no_more : (words : List ℕ) (n : ℕ) (table next : List Bool) → AreLoadsNoted words n table → None ≡ immediate_at words n → next ≡ table → AreLoadsNoted words (n + 1) next
+pub noted_no_more : (words : Program) (n : ℕ) (table next : List Bool) → AreLoadsNoted words n table → None ≡ immediate_at words n → next ≡ table → AreLoadsNoted words (n + 1) next
 noted_no_more words n table next so_far at is = record {
   size = ap length is ∙ so_far.size;
   tells = λ p b p_lt b_lt.
@@ -128,7 +128,7 @@ noted_no_more words n table next so_far at is = record {
 }
 
 -- all
-pub all_loads : (words : List ℕ) (n : ℕ) (table : List Bool) → IsFlash words → n ≤ length words → AreErased words n (length words) → AreLoadsBelow n words table
+pub all_loads : (words : Program) (n : ℕ) (table : List Bool) → IsFlash words → n ≤ length words → AreErased words n (length words) → AreLoadsBelow n words table
     → AreLoads words table
 all_loads words n table flash le erased so_far p b p_lt b_lt =
     so_far p b p_lt b_lt ∙ ap (list_any (λ (m : ℕ). eqb m b)) (joined_behind n (length words) (λ a. loaded_byte p (immediate_at words a)) le none)
@@ -213,7 +213,7 @@ high_marked table now next p low h test is = is ∙ ap (λ (t : Bool). marked no
 pub none_marked : (table now : List Bool) (p low h : ℕ) → get_or table (256 * p + h) false ≡ false → now ≡ marked now (high_marks table p low h)
 none_marked table now p low h test = ap (λ (t : Bool). marked now (map (λ (high : ℕ). 256 * high + low) (if t then h ∷ [] else []))) (sym test)
 
-pub side_marked : (words : List ℕ) (table start now : List Bool) (p low n : ℕ) → n ≡ 256 → p < 32 → low < 256 → length start ≡ 65536 → AreLoads words table
+pub side_marked : (words : Program) (table start now : List Bool) (p low n : ℕ) → n ≡ 256 → p < 32 → low < 256 → length start ≡ 65536 → AreLoads words table
     → now ≡ marked start ((low ∷ []) ++ joined_below n (high_marks table p low)) → now ≡ marked start (side_marks words low (Some p))
 side_marked words table start now p low n all p_lt low_lt size are is =
     is ∙ ap (λ (m : ℕ). marked start (low ∷ joined_below m (high_marks table p low))) all

@@ -5,6 +5,7 @@ use Rattle.std.specs.List.Sorted.{IsNonDecreasingBy}
 use Rattle.avr_model.specs.declared.instruction.ImmediateInstr.{ImmediateInstr}
 use Rattle.avr_model.specs.Marks.{joined_below, immediate_at, loaded_byte, marks}
 use Rattle.avr_model.specs.Sites.{loads}
+use Rattle.avr_model.specs.Devices.{Program}
 
 -- the table with these numbers marked, too
 abbrev pub marked : List Bool → List ℕ → List Bool
@@ -28,7 +29,7 @@ pub record IsListOf (ms list : List ℕ) : Type 0 where
   pub listed : AreListed table list
 
 -- there is no list yet, or it is that of the program's marks
-abbrev pub AreMarksKept : List ℕ → List ℕ → Type 0
+abbrev pub AreMarksKept : Program → List ℕ → Type 0
 AreMarksKept words list = 0 < length list → IsListOf (marks words) list
 
 -- the table with the byte noted that an instruction loads, at 256 times its register and the byte
@@ -37,13 +38,13 @@ noted table None = table
 noted table (Some x) = if loads x.op then slice_set table (256 * x.register + x.byte) true else table
 
 -- the bytes that `ldi` loads into register p
-abbrev pub loaded_below : List ℕ → ℕ → ℕ → List ℕ
+abbrev pub loaded_below : Program → ℕ → ℕ → List ℕ
 loaded_below words p n = joined_below n (λ a. loaded_byte p (immediate_at words a))
 
 -- the table tells of each byte and register whether one of the first n words loads it
-abbrev pub AreLoadsBelow : ℕ → List ℕ → List Bool → Type 0
+abbrev pub AreLoadsBelow : ℕ → Program → List Bool → Type 0
 AreLoadsBelow n words table = (p b : ℕ) → p < 32 → b < 256 → slice_index_or table (256 * p + b) false ≡ list_any (λ m. m == b) (loaded_below words p n)
 
 -- the table tells of each byte and register whether the program loads it
-abbrev pub AreLoads : List ℕ → List Bool → Type 0
+abbrev pub AreLoads : Program → List Bool → Type 0
 AreLoads words table = AreLoadsBelow (length words) words table

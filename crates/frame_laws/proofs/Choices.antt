@@ -5,7 +5,7 @@ use Rattle.basics.specs.Booleans.{never_both}
 use Rattle.avr_model.specs.declared.device.Device.{Device}
 use Rattle.avr_model.specs.declared.device.Device.TheVariants.{M48, M88, M168, M328}
 use Rattle.avr_model.proofs.AllLaws.{devices_are_alike}
-use Rattle.avr_model.specs.Devices.{words_of, wrapped, device_of}
+use Rattle.avr_model.specs.Devices.{Program, words_of, wrapped, device_of}
 use Rattle.avr_model.specs.declared.assumption.Entry.{Entry}
 use Rattle.avr_model.specs.declared.instruction.Instr.{Instr}
 use Rattle.avr_model.specs.declared.choice.Choice.{Choice}
@@ -44,7 +44,7 @@ not_hung true pc r h = absurd (cc)
 not_hung false pc r h = refl
 
 -- a node with no fault isn't hung
-faultless_not_hung : (words : List ℕ) (A : List Entry) (k : NodeKey) (s : AbsState) → (raw words A k s).faults ≡ [] → is_hung (device_of words) A k k.sp ≡ false
+faultless_not_hung : (words : Program) (A : List Entry) (k : NodeKey) (s : AbsState) → (raw words A k s).faults ≡ [] → is_hung (device_of words) A k k.sp ≡ false
 unfolding raw
 faultless_not_hung words A k s h = not_hung (is_hung (device_of words) A k k.sp) k.pc _ h
 
@@ -80,7 +80,7 @@ flag_cleared : (sreg : ℕ) → flag (sreg % 128) 7 ≡ false
 flag_cleared sreg = grind (arith, nat_tests)
 
 -- what is owed of an answer, where the state is a machine's
-fine_if : (words : List ℕ) (A : List Entry) (f : RankedFamily) (c : Choice) (g : Frame) (gs : List Frame) (a : Answer) → ((n : State) → a ≡ Done n → IsMachine n)
+fine_if : (words : Program) (A : List Entry) (f : RankedFamily) (c : Choice) (g : Frame) (gs : List Frame) (a : Answer) → ((n : State) → a ≡ Done n → IsMachine n)
     → IsFineFor (Follow words A f c g gs) a → IsFine words A f c g gs a
 fine_if words A f c g gs Illegal machine h = tt
 fine_if words A f c g gs (Undefined pc) machine h = h
@@ -88,7 +88,7 @@ fine_if words A f c g gs (Overflow pc) machine h = h
 fine_if words A f c g gs (Flagged flag) machine h = tt
 fine_if words A f c g gs (Done n) machine h = h (machine n refl)
 
-module _ (cover : LocalPartsCover) (machines : MachinesStay) (live : LiveBytesStay) (words : List ℕ) (A : List Entry) (f : RankedFamily) (sized : AreWords words) (sound : IsSoundFamily words A f) where
+module _ (cover : LocalPartsCover) (machines : MachinesStay) (live : LiveBytesStay) (words : Program) (A : List Entry) (f : RankedFamily) (sized : AreWords words) (sound : IsSoundFamily words A f) where
   module _ (m : State) (g : Frame) (gs : List Frame) (runs : Runs words A f m g gs) where
     faultless : IsFaultless words A g.node
     faultless = sound.faultless g.node runs.present

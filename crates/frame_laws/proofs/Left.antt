@@ -1,6 +1,6 @@
 -- The frames that were left: what is kept of the memory keeps them, and what the needs say of their bases.
 use Rattle.std.proofs.Common.{◌≡◌, ◌≢◌, ℕ, ◌+◌, ◌≤◌, List, [], ◌∷◌, ap, ◌∙◌, arith}
-use Rattle.avr_model.specs.Devices.{ramend, device_of}
+use Rattle.avr_model.specs.Devices.{Program, ramend, device_of}
 use Rattle.avr_model.specs.declared.assumption.Entry.{Entry}
 use Rattle.avr_model.specs.State.{Memory}
 use Rattle.sp_domain.specs.Tags.{Origin}
@@ -15,11 +15,11 @@ use Rattle.edge_rules.specs.Edges.{Enters, by_call, by_interrupt}
 use Rattle.edge_rules.specs.Families.{RankedFamily, IsSoundFamily}
 use Rattle.edge_rules.specs.Frames.{Frame, IsLeft, AreLeft}
 
-pub not_root : {words : List ℕ} {A : List Entry} {n : Node} {way : EdgeKind} {inst : InstKey} {back : ℕ} → Enters words A n way inst back → inst.kind ≢ Root
+pub not_root : {words : Program} {A : List Entry} {n : Node} {way : EdgeKind} {inst : InstKey} {back : ℕ} → Enters words A n way inst back → inst.kind ≢ Root
 not_root (by_call offset site faultless form member) = λ e. cc
 not_root (by_interrupt offset v clears faultless form i delay enabled allowed clearable) = λ e. cc
 
-module _ (words : List ℕ) (A : List Entry) (f : RankedFamily) where
+module _ (words : Program) (A : List Entry) (f : RankedFamily) where
   -- the root's frame is the last
   pub root_base : (memory : Memory) (gs : List Frame) (inst : InstKey) (o : Origin) → AreLeft words A f memory gs inst o → inst.kind ≡ Root → o.base ≡ ramend (device_of words)
   root_base memory [] inst o l e = l.1

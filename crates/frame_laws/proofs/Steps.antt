@@ -2,7 +2,7 @@
 use Rattle.std.proofs.Common.{◌≡◌, ◌≢◌, ℕ, ◌+◌, ◌%◌, ◌≤◌, Bool, true, false, List, [], ◌∷◌, ◌++◌, length, Some, None, refl, sym, ap, ap₂, ◌∙◌, subst, subst₂, arith, Contains, ◌<◌}
 use Rattle.avr_model.specs.declared.device.Device.{Device}
 use Rattle.avr_model.proofs.AllLaws.{devices_are_alike}
-use Rattle.avr_model.specs.Devices.{words_of, size_of, ramend, wrapped, device_of}
+use Rattle.avr_model.specs.Devices.{Program, words_of, size_of, ramend, wrapped, device_of}
 use Rattle.avr_model.specs.declared.assumption.Entry.{Entry}
 use Rattle.avr_model.specs.declared.choice.Choice.{Choice}
 use Rattle.avr_model.specs.declared.choice.Choice.TheVariants.{Go}
@@ -58,15 +58,15 @@ pub facts_less : (s t : AbsState) (m : State) → IsStateWithin s t → HoldsAt 
 facts_less s t m le h = known_is_ordered.less s.facts t.facts m.registers (flag m.sreg 0) (flag m.sreg 1) (flag m.sreg 4) le.facts h
 
 -- the machine has frames after this choice, if its state is a machine's
-abbrev pub Follow : List ℕ → List Entry → RankedFamily → Choice → Frame → List Frame → State → Type 0
+abbrev pub Follow : Program → List Entry → RankedFamily → Choice → Frame → List Frame → State → Type 0
 Follow words A f c g gs n = IsMachine n → HasNext words A f c g gs n
 
 -- the word that an entry pushes is one of the device's
-back_inside : {words : List ℕ} {A : List Entry} {n : Node} {way : EdgeKind} {inst : InstKey} {back : ℕ} → Enters words A n way inst back → back < words_of (device_of words)
+back_inside : {words : Program} {A : List Entry} {n : Node} {way : EdgeKind} {inst : InstKey} {back : ℕ} → Enters words A n way inst back → back < words_of (device_of words)
 back_inside {words = words} {A = A} {n = n} (by_call offset site faultless form member) = ((local_parts_fit.fit words A n.key n.state).calls site member).1
 back_inside {words = words} {A = A} {n = n} (by_interrupt offset v clears faultless form i delay enabled allowed clearable) = (local_parts_fit.inside words A n.key n.state faultless).0
 
-module _ (live : LiveBytesStay) (words : List ℕ) (A : List Entry) (f : RankedFamily) (sound : IsSoundFamily words A f) where
+module _ (live : LiveBytesStay) (words : Program) (A : List Entry) (f : RankedFamily) (sound : IsSoundFamily words A f) where
   module _ (m : State) (g : Frame) (gs : List Frame) (runs : Runs words A f m g gs) where
     -- what holds of the device of the words holds of the machine's
     on_machine : (P : Device → Type 0) → P (device_of words) → P m.device

@@ -3,6 +3,7 @@ use Rattle.std.proofs.Common.{◌≡◌, ◌↔◌, ◌⊎◌, inl, inr, ⊎_eli
 use Rattle.std.specs.Option.{is_some, option_copied}
 use Rattle.avr_model.specs.declared.assumption.Entry.{Entry}
 use Rattle.avr_model.specs.Run.{Bounded}
+use Rattle.avr_model.specs.Devices.{Program}
 use Rattle.witness_replay.specs.Spelling.{Plan}
 use Rattle.certificate.specs.Claims.{Claim, IsClaim}
 use Rattle.certificate.specs.Valid.{IsSound, Attains, IsAttained, IsValid}
@@ -29,7 +30,7 @@ claim_with c found h =
       of_list = h.of_list;
     }
 
-pub sound_with : (words : List ℕ) (A : List Entry) (c : Claim) (found : Option Plan) → IsSound words A c → IsSound words A (record c { witness = found })
+pub sound_with : (words : Program) (A : List Entry) (c : Claim) (found : Option Plan) → IsSound words A c → IsSound words A (record c { witness = found })
 sound_with words A c found h =
     record {
       nodes = h.nodes;
@@ -57,7 +58,7 @@ pub none_as : (w : Option Plan) → is_some w ≡ false → w ≡ None
 none_as None e = refl
 none_as (Some p) e = absurd (let wrong = e in cc)
 
-module _ (words : List ℕ) (A : List Entry) (n : ℕ) (c : Claim) where
+module _ (words : Program) (A : List Entry) (n : ℕ) (c : Claim) where
   its_own : (w : Option Plan) → is_some w ≡ true → IsScheduled words A n c w w
   its_own None e = absurd (let wrong = e in cc)
   its_own (Some p) e = refl

@@ -4,7 +4,7 @@ use Rattle.basics.specs.Numbers.{most_from_start}
 use Rattle.avr_model.specs.declared.choice.Choice.{Choice}
 use Rattle.avr_model.specs.declared.choice.Stop.TheVariants as stop
 use Rattle.avr_model.specs.declared.assumption.Entry.{Entry}
-use Rattle.avr_model.specs.Devices.{device_of, ramend}
+use Rattle.avr_model.specs.Devices.{Program, device_of, ramend}
 use Rattle.avr_model.specs.State.{State, IsReset, filled}
 use Rattle.avr_model.specs.Run.{IsRun, Bounded, starting, depth_of, stop_of}
 use Rattle.stimulus.specs.Laws.{DepthIsKept}
@@ -21,7 +21,7 @@ choices_are : most_choices ≡ 200000
 unfolding most_choices
 choices_are = refl
 
-module _ (words : List ℕ) (A : List Entry) (g : Guide) (t : ℕ) where
+module _ (words : Program) (A : List Entry) (g : Guide) (t : ℕ) where
   abbrev reset : State
   reset = filled (device_of words) (fill_of g t)
 
@@ -87,7 +87,7 @@ module _ (words : List ℕ) (A : List Entry) (g : Guide) (t : ℕ) where
 
 -- ---- one trial after another
 
-module _ (words : List ℕ) (A : List Entry) (g : Guide) where
+module _ (words : Program) (A : List Entry) (g : Guide) where
   pub none_yet : NoGuidedSucceeds words A g 0
   none_yet t lt = absurd (omega (arith, lt))
 

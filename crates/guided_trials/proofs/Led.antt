@@ -15,7 +15,7 @@ use Rattle.avr_model.specs.declared.assumption.Entry.{Entry}
 use Rattle.avr_model.specs.declared.choice.Choice.TheVariants.{Go, Take}
 use Rattle.avr_model.specs.Assumptions.{lists, is_never}
 use Rattle.avr_model.specs.Bits.{any_below}
-use Rattle.avr_model.specs.Devices.{device_of, words_of}
+use Rattle.avr_model.specs.Devices.{Program, device_of, words_of}
 use Rattle.avr_model.specs.Sites.{instruction_at}
 use Rattle.avr_model.specs.State.{State}
 use Rattle.avr_model.specs.Vectors.{WATCHDOG, vector_word}
@@ -106,7 +106,7 @@ module _ (q : ℕ → Bool) where
   below_some (suc n) a lt h =
       ⊎_elim (λ old. ap (λ (b : Bool). b || q n) (below_some n a old h)) (λ same. ap (λ (b : Bool). any_below n q || b) (subst (λ (y : ℕ). q y ≡ true) same h) ∙ or_with_true (any_below n q)) (below_or_last a n lt)
 
-module _ (words : List ℕ) (byte : ℕ) where
+module _ (words : Program) (byte : ℕ) where
   abbrev tells : ℕ → Bool
   tells at = lists (told_if (instruction_at words at)) byte
 
@@ -126,20 +126,20 @@ module _ (words : List ℕ) (byte : ℕ) where
   told_telling (inl h) = ap (λ (b : Bool). b || is_told words (words_of (device_of words)) byte) (listed_in byte fills h)
   told_telling (inr h) = ap (λ (b : Bool). lists fills byte || b) (by_told (words_of (device_of words)) h.0 h.1 h.2) ∙ or_with_true (lists fills byte)
 
-telling_ascends : (words : List ℕ) → Ascends (telling words)
+telling_ascends : (words : Program) → Ascends (telling words)
 unfolding telling
 telling_ascends words = passing_ascends (is_telling words) 256
 
-in_telling : (words : List ℕ) (byte : ℕ) → Contains (telling words) byte → (byte < 256) × IsByteTold words byte
+in_telling : (words : Program) (byte : ℕ) → Contains (telling words) byte → (byte < 256) × IsByteTold words byte
 unfolding telling
 in_telling words byte h = let r = passing_below (is_telling words) 256 byte h in (r.0, telling_told words byte r.1)
 
-telling_in : (words : List ℕ) (byte : ℕ) → (byte < 256) × IsByteTold words byte → Contains (telling words) byte
+telling_in : (words : Program) (byte : ℕ) → (byte < 256) × IsByteTold words byte → Contains (telling words) byte
 unfolding telling
 telling_in words byte h = passing_has (is_telling words) 256 byte h.0 (told_telling words byte h.1)
 
 -- zero is always tried
-pub some_told : (words : List ℕ) → 1 ≤ length (telling words)
+pub some_told : (words : Program) → 1 ≤ length (telling words)
 some_told words = let i = telling_in words 0 (omega arith, inl (first_in 0 (0xFF ∷ 0x55 ∷ 0xAA ∷ 0x01 ∷ 0x80 ∷ 0x7F ∷ 0xFE ∷ []))) in omega (arith, i.1)
 
 -- ---- the byte of a trial
@@ -157,10 +157,10 @@ byte_changed : (b : Bool) (bytes : List ℕ) (x y : ℕ) → Contains bytes x �
 byte_changed true bytes x y h = inr h
 byte_changed false bytes x y h = inl refl
 
-kept : (words : List ℕ) (g : Guide) (t pc : ℕ) (l : TrialMoment) → reads words pc ≡ false → (after words g t l pc).byte ≡ l.byte
+kept : (words : Program) (g : Guide) (t pc : ℕ) (l : TrialMoment) → reads words pc ≡ false → (after words g t l pc).byte ≡ l.byte
 kept words g t pc l e = byte_kept (low (next l.number) % hold t == 0) (reads words pc) (member g.bytes (middle (next l.number))) l.byte e
 
-changed : (words : List ℕ) (A : List Entry) (c : Claim) (t pc : ℕ) (l : TrialMoment)
+changed : (words : Program) (A : List Entry) (c : Claim) (t pc : ℕ) (l : TrialMoment)
     → ((after words (guide_of words A c) t l pc).byte ≡ l.byte) ⊎ Contains (telling words) (after words (guide_of words A c) t l pc).byte
 changed words A c t pc l =
     byte_changed ((low (next l.number) % hold t == 0) && reads words pc) (telling words) (member (telling words) (middle (next l.number))) l.byte
@@ -197,7 +197,7 @@ module _ {X : Type 0} (q : X → Bool) where
   got_every (x ∷ xs) zero h = h.0
   got_every (x ∷ xs) (suc n) h = got_every xs n h.1
 
-module _ (words : List ℕ) (A : List Entry) where
+module _ (words : Program) (A : List Entry) where
   -- no line forbids the vector
   abbrev may_come : Candidate → Bool
   may_come k = not (is_never A (vector_word (device_of words) k.vector))
@@ -233,7 +233,7 @@ module _ (words : List ℕ) (A : List Entry) where
   only_taken (Some k) byte v clears h e =
       subst (λ (w : ℕ). is_never A (vector_word (device_of words) w) ≡ false) (same_vector k.vector v k.clears clears e) (not-true (is_never A (vector_word (device_of words) k.vector)) h)
 
-never : (words : List ℕ) (A : List Entry) (c : Claim) (t : ℕ) (l : TrialMoment) (m : State) (v : ℕ) (clears : Bool)
+never : (words : Program) (A : List Entry) (c : Claim) (t : ℕ) (l : TrialMoment) (m : State) (v : ℕ) (clears : Bool)
     → pick words (guide_of words A c) t l m ≡ Take v clears → is_never A (vector_word (device_of words) v) ≡ false
 never words A c t l m v clears e =
     let g : Guide = guide_of words A c in

@@ -4,6 +4,7 @@ use Rattle.std.specs.List.{find, filter}
 use Rattle.avr_model.specs.declared.choice.Choice.TheVariants.{Go}
 use Rattle.avr_model.specs.Vectors.{is_enabled, WATCHDOG}
 use Rattle.avr_model.specs.State.{State, i_flag}
+use Rattle.avr_model.specs.Devices.{Program}
 use Rattle.avr_machine.specs.declared.menu.Menu.{Menu}
 use Rattle.avr_machine.specs.Menu.{has_choice}
 use Rattle.stimulus.specs.Driving.{IsMenuOf}
@@ -62,7 +63,7 @@ passes_if p a b false h k = k
 
 -- ---- a choice stands in its menu
 
-module _ (menu : Menu) (words : List ℕ) (g : Guide) (t x : ℕ) where
+module _ (menu : Menu) (words : Program) (g : Guide) (t x : ℕ) where
   taken_passes : (depth : ℕ) → PassesIfAny (stands menu) (taken t x (filter (stands menu) g.takes) (find (λ k. stands menu k && is_wanted g depth k) g.takes))
   taken_passes depth =
       passes_if (stands menu) (find (λ k. stands menu k && is_wanted g depth k) g.takes) (by_chance t x (filter (stands menu) g.takes))
@@ -75,7 +76,7 @@ module _ (menu : Menu) (words : List ℕ) (g : Guide) (t x : ℕ) where
   choice_stands byte None h = refl
   choice_stands byte (Some k) h = h
 
-pub picked_stands : (words : List ℕ) (g : Guide) (t : ℕ) (l : TrialMoment) (menu : Menu) → IsTrue (has_choice menu (picked words g t l menu))
+pub picked_stands : (words : Program) (g : Guide) (t : ℕ) (l : TrialMoment) (menu : Menu) → IsTrue (has_choice menu (picked words g t l menu))
 picked_stands words g t l menu =
     choice_stands menu words g t (next l.number) (left_by words g t l menu).byte _ (taken_passes menu words g t (next l.number) (fallen words menu.sp))
 
@@ -91,17 +92,17 @@ legal_as : (menu : Menu) (m : State) → IsMenuOf menu m → (k : Candidate) →
 legal_as menu m is k =
     ap (λ (b : Bool). b && (not k.clears || (k.vector == WATCHDOG))) (is.takes k.vector) ∙ regrouped (is_enabled m.enables k.vector) (i_flag m) m.delay k.clears (k.vector == WATCHDOG)
 
-pub left_is : (words : List ℕ) (g : Guide) (t : ℕ) (l : TrialMoment) (menu : Menu) (m : State) → IsMenuOf menu m → left_by words g t l menu ≡ left words g t l m
+pub left_is : (words : Program) (g : Guide) (t : ℕ) (l : TrialMoment) (menu : Menu) (m : State) → IsMenuOf menu m → left_by words g t l menu ≡ left words g t l m
 left_is words g t l menu m is = ap (after words g t l) is.pc
 
-module _ (words : List ℕ) (g : Guide) (t x byte sp : ℕ) where
+module _ (words : Program) (g : Guide) (t x byte sp : ℕ) where
   choice_as : (p q : Candidate → Bool) → ((k : Candidate) → p k ≡ q k) → choice_by words g t x byte sp p ≡ choice_by words g t x byte sp q
   choice_as p q same =
       ap (λ (ks : List Candidate). taken_or (Go byte byte) (taken t x ks (find (λ k. p k && is_wanted g (fallen words sp) k) g.takes))) (filter_as p q same g.takes)
       ∙ ap (λ (o : Option Candidate). taken_or (Go byte byte) (taken t x (filter q g.takes) o))
       (find_as (λ k. p k && is_wanted g (fallen words sp) k) (λ k. q k && is_wanted g (fallen words sp) k) (λ k. ap (λ (b : Bool). b && is_wanted g (fallen words sp) k) (same k)) g.takes)
 
-pub picked_is : (words : List ℕ) (g : Guide) (t : ℕ) (l : TrialMoment) (menu : Menu) (m : State) → IsMenuOf menu m → picked words g t l menu ≡ pick words g t l m
+pub picked_is : (words : Program) (g : Guide) (t : ℕ) (l : TrialMoment) (menu : Menu) (m : State) → IsMenuOf menu m → picked words g t l menu ≡ pick words g t l m
 picked_is words g t l menu m is =
     choice_as words g t (next l.number) (left_by words g t l menu).byte menu.sp (stands menu) (may_be m) (legal_as menu m is)
     ∙ ap (λ (after : TrialMoment). choice_by words g t (next l.number) after.byte menu.sp (may_be m)) (left_is words g t l menu m is)

@@ -5,7 +5,7 @@ use Rattle.std.specs.Ordering.{nat_cmp}
 use Rattle.avr_model.specs.declared.assumption.Entry.{Entry}
 use Rattle.avr_model.specs.declared.choice.Choice.TheVariants.{Take}
 use Rattle.avr_model.specs.Assumptions.{is_never}
-use Rattle.avr_model.specs.Devices.{device_of, words_of}
+use Rattle.avr_model.specs.Devices.{Program, device_of, words_of}
 use Rattle.avr_model.specs.Sites.{instruction_at}
 use Rattle.avr_model.specs.State.{State}
 use Rattle.avr_model.specs.Vectors.{vector_word}
@@ -21,22 +21,22 @@ use Rattle.guided_trials.specs.Choosing.{reads, after, pick, picked}
 use Rattle.guided_trials.specs.Trials.{trial_of}
 
 -- the byte is one that is always tried, or the instruction at some word of flash tells it apart
-abbrev pub IsByteTold : List ℕ → ℕ → Type 0
+abbrev pub IsByteTold : Program → ℕ → Type 0
 IsByteTold words byte = Contains fills byte ⊎ ((at : ℕ) × (at < words_of (device_of words)) × Contains (told_if (instruction_at words at)) byte)
 
 pub record TrialsAreLed : Type 0 where
   -- the bytes that are tried ascend, and are those that the firmware tells apart
-  pub ascend : (words : List ℕ) → IsStrictlySortedBy nat_cmp (telling words)
-  pub told : (words : List ℕ) (byte : ℕ) → Contains (telling words) byte ↔ ((byte < 256) × IsByteTold words byte)
+  pub ascend : (words : Program) → IsStrictlySortedBy nat_cmp (telling words)
+  pub told : (words : Program) (byte : ℕ) → Contains (telling words) byte ↔ ((byte < 256) × IsByteTold words byte)
   -- the byte stays, but at an instruction that may read an input it may become one of them
-  pub kept : (words : List ℕ) (g : Guide) (t pc : ℕ) (l : TrialMoment) → reads words pc ≡ false → (after words g t l pc).byte ≡ l.byte
-  pub changed : (words : List ℕ) (A : List Entry) (c : Claim) (t pc : ℕ) (l : TrialMoment)
+  pub kept : (words : Program) (g : Guide) (t pc : ℕ) (l : TrialMoment) → reads words pc ≡ false → (after words g t l pc).byte ≡ l.byte
+  pub changed : (words : Program) (A : List Entry) (c : Claim) (t pc : ℕ) (l : TrialMoment)
       → ((after words (guide_of words A c) t l pc).byte ≡ l.byte) ⊎ Contains (telling words) (after words (guide_of words A c) t l pc).byte
   -- each choice stands in the menu of its moment, and is that which is picked by the state
-  pub legal : (words : List ℕ) (g : Guide) (t : ℕ) (l : TrialMoment) (menu : Menu) → IsTrue (has_choice menu (picked words g t l menu))
-  pub alike : (words : List ℕ) (g : Guide) (t : ℕ) (l : TrialMoment) (menu : Menu) (m : State) → IsMenuOf menu m → picked words g t l menu ≡ pick words g t l m
+  pub legal : (words : Program) (g : Guide) (t : ℕ) (l : TrialMoment) (menu : Menu) → IsTrue (has_choice menu (picked words g t l menu))
+  pub alike : (words : Program) (g : Guide) (t : ℕ) (l : TrialMoment) (menu : Menu) (m : State) → IsMenuOf menu m → picked words g t l menu ≡ pick words g t l m
   -- no vector with a `never` line is taken
-  pub never : (words : List ℕ) (A : List Entry) (c : Claim) (t : ℕ) (l : TrialMoment) (m : State) (v : ℕ) (clears : Bool)
+  pub never : (words : Program) (A : List Entry) (c : Claim) (t : ℕ) (l : TrialMoment) (m : State) (v : ℕ) (clears : Bool)
       → pick words (guide_of words A c) t l m ≡ Take v clears → is_never A (vector_word (device_of words) v) ≡ false
   -- a trial has at most 200,000 choices
-  pub short : (words : List ℕ) (A : List Entry) (g : Guide) (t : ℕ) → length (trial_of words A g t) ≤ 200000
+  pub short : (words : Program) (A : List Entry) (g : Guide) (t : ℕ) → length (trial_of words A g t) ≤ 200000

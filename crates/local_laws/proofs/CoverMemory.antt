@@ -1,7 +1,7 @@
 -- The rows that read or write data space or flash cover each step of the machine.
 use Rattle.std.proofs.Common.{◌≡◌, refl, sym, ◌∙◌, subst, ℕ, ◌<◌, Bool, true, false, not, nat_lt, if◌then◌else◌, List, [], ◌∷◌, ◌++◌, length, Option, Some, None, slice_set, arith, length-set, ◌*◌}
 use Rattle.std.specs.Int.{from_bool}
-use Rattle.avr_model.specs.Devices.{words_of, device_of, wrapped}
+use Rattle.avr_model.specs.Devices.{Program, words_of, device_of, wrapped}
 use Rattle.avr_model.specs.declared.assumption.Entry.{Entry}
 use Rattle.avr_model.specs.declared.instruction.Instr.{Instr}
 use Rattle.avr_model.specs.declared.instruction.Instr.TheVariants as i
@@ -98,7 +98,7 @@ at_unfixed : {A : Type 0} (fixed : Bool) (x : Option A) → (if not fixed then x
 at_unfixed true x e is = absurd (cc)
 at_unfixed false x e is = e
 
-site_unflagged : (words : List ℕ) (A : List Entry) (stores : List Write) (pc pc' : ℕ) → pc ≡ pc'
+site_unflagged : (words : Program) (A : List Entry) (stores : List Write) (pc pc' : ℕ) → pc ≡ pc'
     → (if not (is_fixed_site words A pc) then flagged_write (device_of words) A pc stores else None) ≡ None
     → is_fixed_site words A pc' ≡ false → flagged_write (device_of words) A pc' stores ≡ None
 site_unflagged words A stores pc pc' e none unfixed =
@@ -111,7 +111,7 @@ flash_by : (o : Origin) (b : Bool) (x input : ℕ) → x < 256 → input < 256 �
 flash_by o true x input small lt = known_stands o x small
 flash_by o false x input small lt = any_stands o input lt
 
-flash_stands : (o : Origin) (words : List ℕ) (c : Option ℕ) (z input : ℕ) → AreWords words → input < 256 → ((x : ℕ) → c ≡ Some x → z ≡ x) → ByteStands o (flash_value words c) (flash_read words z input)
+flash_stands : (o : Origin) (words : Program) (c : Option ℕ) (z input : ℕ) → AreWords words → input < 256 → ((x : ℕ) → c ≡ Some x → z ≡ x) → ByteStands o (flash_value words c) (flash_read words z input)
 flash_stands o words None z input are lt is = any_stands o (flash_read words z input) (flash_small words z input are lt)
 flash_stands o words (Some x) z input are lt is =
     subst (λ y. ByteStands o (flash_value words (Some x)) (flash_read words y input)) (sym (is x refl)) (flash_by o (nat_lt x (2 * words_of (device_of words))) (byte_at words x) input (byte_at_small words x are) lt)
@@ -127,17 +127,17 @@ off_by true h = absurd (cc)
 off_by false h = refl
 
 -- what isn't flagged of the stores that go through a pointer
-std_unflagged : (words : List ℕ) (A : List Entry) (pc : ℕ) (b : Base) (q r : ℕ) (e : Effect) → protected_write words A pc (i.Std b q r) e ≡ None
+std_unflagged : (words : Program) (A : List Entry) (pc : ℕ) (b : Base) (q r : ℕ) (e : Effect) → protected_write words A pc (i.Std b q r) e ≡ None
     → (if not (is_fixed_site words A pc) then flagged_write (device_of words) A pc e.stores else None) ≡ None
 unfolding protected_write
 std_unflagged words A pc b q r e h = h
 
-st_unflagged : (words : List ℕ) (A : List Entry) (pc : ℕ) (p : Pointer) (r : ℕ) (e : Effect) → protected_write words A pc (i.St p r) e ≡ None
+st_unflagged : (words : Program) (A : List Entry) (pc : ℕ) (p : Pointer) (r : ℕ) (e : Effect) → protected_write words A pc (i.St p r) e ≡ None
     → (if not (is_fixed_site words A pc) then flagged_write (device_of words) A pc e.stores else None) ≡ None
 unfolding protected_write
 st_unflagged words A pc p r e h = h
 
-module _ (words : List ℕ) (A : List Entry) (m : State) (o : Origin) (k : NodeKey) (s : AbsState) (at : InBareFrame (has_masks A) m o k s) (scratch : Bool) (b1 b2 : ℕ) where
+module _ (words : Program) (A : List Entry) (m : State) (o : Origin) (k : NodeKey) (s : AbsState) (at : InBareFrame (has_masks A) m o k s) (scratch : Bool) (b1 b2 : ℕ) where
   -- ---- reads
 
   setting_covered : (writes : List Write) (registers : List AbsByte) → RegistersStand o registers (with_registers m.registers writes)

@@ -7,7 +7,7 @@ use Rattle.std.proofs.lemmas.Option.{same_Some}
 use Rattle.basics.specs.Booleans.{not_from_never}
 use Rattle.basics.specs.Items.{first_in}
 use Rattle.abs_alu.proofs.AllLaws.{has_known}
-use Rattle.avr_model.specs.Devices.{wrapped}
+use Rattle.avr_model.specs.Devices.{Program, wrapped}
 use Rattle.avr_model.specs.declared.assumption.Entry.{Entry}
 use Rattle.avr_model.specs.declared.effect.Effect.{Effect}
 use Rattle.avr_model.specs.declared.instruction.Instr.{Instr}
@@ -108,7 +108,7 @@ module _ {may : Bool} (m : State) (o : Origin) (k : NodeKey) (s : AbsState) (at 
     unary_covered unary.Ror d spare = shift_covered m o k s at guarded b1 b2 shift.Ror d
     unary_covered unary.Dec d spare = step_covered m o k s at guarded b1 b2 false d spare
 
-    binary_covered : (words : List ℕ) (op : BinaryOp) (d r : ℕ) → SparesAll s.flags.carry (set_by_binary op d) → FollowsWhere may m o s.facts k guarded b1 b2 (binary_effect words m op d r) (binary_row m.device words false k s op d r)
+    binary_covered : (words : Program) (op : BinaryOp) (d r : ℕ) → SparesAll s.flags.carry (set_by_binary op d) → FollowsWhere may m o s.facts k guarded b1 b2 (binary_effect words m op d r) (binary_row m.device words false k s op d r)
     binary_covered words binary.Cpc d r spares =
         compare_covered m o k s at guarded b1 b2 (register m d) (register m r) (bits s d) (bits s r) (carry m) (carry_bit s) true
         (less_kept (byte_constant (bits s d)) (byte_constant (bits s r)) s.flags.carry) (register_byte m o k s at d) (register_byte m o k s at r)
@@ -163,10 +163,10 @@ module _ {may : Bool} (m : State) (o : Origin) (k : NodeKey) (s : AbsState) (at 
     unary_line_covered false op d spare = unary_covered op d spare
 
     -- what two registers lead to that are followed, or aren't
-    abbrev row_by : List ℕ → Bool → BinaryOp → ℕ → ℕ → Raw
+    abbrev row_by : Program → Bool → BinaryOp → ℕ → ℕ → Raw
     row_by words framed op d r = going_by m.device k s (if framed then framed_binary s op d r else binary_after s op d r) (node_skipping m.device words k k s (byte_equal (bits s d) (bits s r)))
 
-    binary_line_covered : (words : List ℕ) (framed : Bool) (op : BinaryOp) (d r : ℕ) → SparesAll s.flags.carry (set_by_binary op d) → FollowsWhere may m o s.facts k guarded b1 b2 (binary_effect words m op d r) (row_by words framed op d r)
+    binary_line_covered : (words : Program) (framed : Bool) (op : BinaryOp) (d r : ℕ) → SparesAll s.flags.carry (set_by_binary op d) → FollowsWhere may m o s.facts k guarded b1 b2 (binary_effect words m op d r) (row_by words framed op d r)
     binary_line_covered words false op d r spares = binary_covered words op d r spares
     binary_line_covered words true binary.Cpc d r spares = binary_covered words binary.Cpc d r spares
     binary_line_covered words true binary.Sbc d r spares = binary_covered words binary.Sbc d r spares
@@ -190,7 +190,7 @@ listed_call : (A : List Entry) (pc : ℕ) (e : Effect) → unlisted_transfer A p
 unfolding unlisted_transfer
 listed_call A pc e h = h
 
-module _ (A : List Entry) (m : State) (o : Origin) (k : NodeKey) (s : AbsState) (at : InBareFrame (has_masks A) m o k s) (b1 b2 : ℕ) (words : List ℕ) (scratch : Bool) where
+module _ (A : List Entry) (m : State) (o : Origin) (k : NodeKey) (s : AbsState) (at : InBareFrame (has_masks A) m o k s) (b1 b2 : ℕ) (words : Program) (scratch : Bool) where
   bit_may : (r b : ℕ) → Permits (tri_at (bits s r) b) (from_bool (flag (register m r) b))
   bit_may r b = permits_flag (bits s r) (register m r) b (register_bits m o k s at r)
 

@@ -1,6 +1,6 @@
 -- The local part of a node covers each step of the machine there.
 use Rattle.std.proofs.Common.{◌≡◌, refl, subst, ℕ, ◌<◌, Bool, true, false, List, Option, Some, None, sym, ap, nat_lt, nat_le, length, map, if◌then◌else◌, lt-ltb}
-use Rattle.avr_model.specs.Devices.{words_of, size_of, device_of}
+use Rattle.avr_model.specs.Devices.{Program, words_of, size_of, device_of}
 use Rattle.avr_model.specs.declared.assumption.Entry.{Entry}
 use Rattle.avr_model.specs.declared.instruction.Instr.{Instr}
 use Rattle.avr_model.specs.Assumptions.{has_masks}
@@ -33,7 +33,7 @@ use Rattle.local_laws.proofs.Targets.{scratch_makes_room}
 use Rattle.local_laws.proofs.Quiet.{Quiet}
 use Rattle.local_laws.proofs.Picks.{splits_at, at_quiet, in_picks, picked_at, all_covered}
 
-module _ (words : List ℕ) (A : List Entry) (m : State) (o : Origin) (k : NodeKey) (s : AbsState) (at : InBareFrame (has_masks A) m o k s) (b1 b2 : ℕ) (small : b1 < 256)
+module _ (words : Program) (A : List Entry) (m : State) (o : Origin) (k : NodeKey) (s : AbsState) (at : InBareFrame (has_masks A) m o k s) (b1 b2 : ℕ) (small : b1 < 256)
     (other : b2 < 256) (are : AreWords words) (told : m.device ≡ device_of words) where
   -- where the stack pointer isn't half written while an interrupt may come, and the frame isn't deeper than SRAM, the row decides
   not_hung : (hung : Bool) (instr : Option Instr) (r : Raw) → CoversStep words A m o k b1 b2 instr r → CoversStep words A m o k b1 b2 instr (untracked_if hung k.pc r)
@@ -82,7 +82,7 @@ module _ (words : List ℕ) (A : List Entry) (m : State) (o : Origin) (k : NodeK
       subst (λ pc. Covering (row_at (device_of words) words A (is_scratch words pc) k s (fetched (device_of words) words pc))) at.place.pc
       (subst (λ device. Covering (row_at device words A (is_scratch words m.pc) k s (fetched device words m.pc))) told here)
 
-module _ (words : List ℕ) (A : List Entry) (m : State) (o : Origin) (k : NodeKey) (s : AbsState) (at : InBareFrame (has_masks A) m o k s) (b1 b2 : ℕ) (small : b1 < 256)
+module _ (words : Program) (A : List Entry) (m : State) (o : Origin) (k : NodeKey) (s : AbsState) (at : InBareFrame (has_masks A) m o k s) (b1 b2 : ℕ) (small : b1 < 256)
     (other : b2 < 256) (are : AreWords words) (told : m.device ≡ device_of words) where
   abbrev Covers : Raw → Type 0
   Covers r = CoversStep words A m o k b1 b2 (instruction_at words m.pc) r

@@ -2,7 +2,7 @@
 use Rattle.std.proofs.Common.{ℕ, ◌+◌, ◌-◌, ◌*◌, ◌/◌, ◌%◌, ◌<◌, ◌==◌, Bool, true, false, not, nat_lt, nat_le, if◌then◌else◌, List, [], ◌++◌, slice_index, arith}
 use Rattle.abs_alu.proofs.AllLaws.{logic_small, result_small, top_small}
 use Rattle.avr_model.proofs.AllLaws.{devices_are_alike}
-use Rattle.avr_model.specs.Devices.{words_of, device_of, wrapped}
+use Rattle.avr_model.specs.Devices.{Program, words_of, device_of, wrapped}
 use Rattle.avr_model.specs.declared.effect.Write.{Write}
 use Rattle.avr_model.specs.declared.instruction.Instr.{Instr}
 use Rattle.avr_model.specs.declared.instruction.Instr.TheVariants as i
@@ -50,14 +50,14 @@ wide_flags_small : (up : Bool) (a k s : ℕ) → s < 256 → flags_of_wide up a 
 wide_flags_small true a k s h = with_flags_small _ _ _ _ _ s h
 wide_flags_small false a k s h = with_flags_small _ _ _ _ _ s h
 
-pub byte_at_small : (words : List ℕ) (z : ℕ) → AreWords words → byte_at words z < 256
+pub byte_at_small : (words : Program) (z : ℕ) → AreWords words → byte_at words z < 256
 byte_at_small words z h = here (z % 2 == 0)
   where
     here : (b : Bool) → (if b then slice_index words (z / 2) % 256 else slice_index words (z / 2) / 256) < 256
     here true = omega arith
     here false = omega (arith, below_in_list 65536 words (z / 2) (omega arith) h)
 
-pub flash_small : (words : List ℕ) (z input : ℕ) → AreWords words → input < 256 → flash_read words z input < 256
+pub flash_small : (words : Program) (z input : ℕ) → AreWords words → input < 256 → flash_read words z input < 256
 flash_small words z input h small = here (nat_lt z (2 * words_of (device_of words)))
   where
     here : (b : Bool) → (if b then byte_at words z else input) < 256
@@ -124,7 +124,7 @@ module _ (m : State) (h : IsMachine m) where
   multiplies : (op : Mul) (a b : ℕ) → a < 256 → b < 256 → IsEffect m.device (setting m (set_pair 0 (result_of op a b)) (flags_of_product op a b m.sreg))
   multiplies op a b small_a small_b = sets _ _ (pair_writes 0 _ (result_small op a b small_a small_b)) (with_carry_and_zero_small _ _ m.sreg h.sreg_byte)
 
-  binary_fits : (words : List ℕ) (op : BinaryOp) (d r : ℕ) → IsEffect m.device (binary_effect words m op d r)
+  binary_fits : (words : Program) (op : BinaryOp) (d r : ℕ) → IsEffect m.device (binary_effect words m op d r)
   binary_fits words binary.Cpc d r = sets [] _ tt (with_flags_small _ _ _ _ _ m.sreg h.sreg_byte)
   binary_fits words binary.Sbc d r = sets _ _ (one_write d _ (omega arith)) (with_flags_small _ _ _ _ _ m.sreg h.sreg_byte)
   binary_fits words binary.Add d r = sets _ _ (one_write d _ (omega arith)) (with_flags_small _ _ _ _ _ m.sreg h.sreg_byte)
@@ -160,7 +160,7 @@ module _ (m : State) (h : IsMachine m) where
   branches true k = goes _
   branches false k = goes _
 
-  module _ (words : List ℕ) (are : AreWords words) (b1 b2 : ℕ) (small1 : b1 < 256) (small2 : b2 < 256) where
+  module _ (words : Program) (are : AreWords words) (b1 b2 : ℕ) (small1 : b1 < 256) (small2 : b2 < 256) where
     -- every row's effect fits
     pub row_fits : (instr : Instr) → IsInstrSized instr → IsEffect m.device (effect_of words m instr b1 b2)
     row_fits i.Nop sized = goes _

@@ -17,6 +17,7 @@ use Rattle.avr_model.specs.Written.{written}
 use Rattle.avr_model.specs.State.{State}
 use Rattle.avr_model.specs.Effects.{effect_of, binary_effect, immediate_effect, unary_effect}
 use Rattle.avr_model.specs.Step.{with_registers}
+use Rattle.avr_model.specs.Devices.{Program}
 use Rattle.avr_decode.proofs.AllLaws.{registers_are_written}
 use Rattle.sp_domain.specs.Tags.{Origin}
 use Rattle.abs_state.specs.declared.state.AbsState.{AbsState}
@@ -47,7 +48,7 @@ seven s n lt e same = let is : s ≡ 7 = grind (arith, nat_tests) in omega (arit
 abbrev KeepsFlags : ℕ → ℕ → Type 0
 KeepsFlags old new = (flag new 0 ≡ flag old 0) × (flag new 1 ≡ flag old 1) × (flag new 4 ≡ flag old 4)
 
-module _ (words : List ℕ) (m : State) (b1 b2 : ℕ) where
+module _ (words : Program) (m : State) (b1 b2 : ℕ) where
   binary_carry : (op : BinaryOp) (d r : ℕ) → carries_by_binary op ≡ false → flag (binary_effect words m op d r).sreg 0 ≡ flag m.sreg 0
   binary_carry binary.Cpc d r e = absurd (cc)
   binary_carry binary.Sbc d r e = absurd (cc)
@@ -158,7 +159,7 @@ not_among (n ∷ ns) r e h =
     let parts = or_parts (n == r) (is_one_of ns r) e in
     ⊎_elim (λ same. let hit : (n == r) ≡ true = eq-eqb n r (sym same) in absurd (let no = sym hit ∙ parts.0 in cc)) (λ more. not_among ns r parts.1 more) (first_or_further n r ns h)
 
-pub held : {may : Bool} (words : List ℕ) (m : State) (o : Origin) (k : NodeKey) (s : AbsState) (b1 b2 : ℕ) (instr : Instr) → AreWords words → b1 < 256 → b2 < 256 → IsInstrSized instr → InBareFrame may m o k s
+pub held : {may : Bool} (words : Program) (m : State) (o : Origin) (k : NodeKey) (s : AbsState) (b1 b2 : ℕ) (instr : Instr) → AreWords words → b1 < 256 → b2 < 256 → IsInstrSized instr → InBareFrame may m o k s
     → HoldsAt (before instr s).facts (with_registers m.registers (effect_of words m instr b1 b2).registers) (effect_of words m instr b1 b2).sreg
 held words m o k s b1 b2 instr are small1 small2 sized at =
     let e = effect_of words m instr b1 b2 in

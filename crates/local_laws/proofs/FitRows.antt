@@ -5,7 +5,7 @@ use Rattle.std.proofs.lemmas.Map.Views.{Contains-from_any}
 use Rattle.std.proofs.lemmas.Option.{same_Some}
 use Rattle.basics.specs.Items.{none_in}
 use Rattle.avr_model.proofs.AllLaws.{devices_are_alike}
-use Rattle.avr_model.specs.Devices.{size_of, wrapped, width, device_of, words_of}
+use Rattle.avr_model.specs.Devices.{Program, size_of, wrapped, width, device_of, words_of}
 use Rattle.avr_model.specs.declared.device.Device.{Device}
 use Rattle.avr_model.specs.declared.device.Device.TheVariants.{M48, M88, M168, M328}
 use Rattle.avr_model.specs.declared.assumption.Entry.{Entry}
@@ -127,7 +127,7 @@ return_fits device A k x masks = at k.sp refl
 
 -- ---- the table
 
-module _ (device : Device) (words : List ℕ) (A : List Entry) (k : NodeKey) (s : AbsState) where
+module _ (device : Device) (words : Program) (A : List Entry) (k : NodeKey) (s : AbsState) where
   all_words : (targets : List ℕ) → targets_at device A k s ≡ Some targets → AreTargetWords device A targets
   all_words targets e =
       let f = pointer_bit (bits s 30) (bits s 31) in
@@ -196,10 +196,10 @@ module _ (device : Device) (words : List ℕ) (A : List Entry) (k : NodeKey) (s 
 -- ---- where pairs are followed
 
 -- other moves change nothing of calls and returns
-refining_fits : (device : Device) (words : List ℕ) (A : List Entry) (k : NodeKey) (s : AbsState) (instr : Instr) (r : Raw) → IsFit device A k r → IsFit device A k (refining words instr s r)
+refining_fits : (device : Device) (words : Program) (A : List Entry) (k : NodeKey) (s : AbsState) (instr : Instr) (r : Raw) → IsFit device A k r → IsFit device A k (refining words instr s r)
 refining_fits device words A k s instr r h = record { words = record { calls = h.words.calls; exit = h.words.exit }; ascending = h.ascending }
 
-module _ (device : Device) (words : List ℕ) (A : List Entry) (k : NodeKey) (s : AbsState) where
+module _ (device : Device) (words : Program) (A : List Entry) (k : NodeKey) (s : AbsState) where
   storing_fits : (p : Pointer) (r : ℕ) (moved : Option AbsState) → IsFit device A k (storing device words A k s p r moved)
   storing_fits p r None = quiet_fits A k _ (refl, refl)
   storing_fits p r (Some moved) =
@@ -224,7 +224,7 @@ module _ (device : Device) (words : List ℕ) (A : List Entry) (k : NodeKey) (s 
   paired_fits scratch (i.St p r) fits = storing_fits p r _
   paired_fits scratch instr fits = refining_fits device words A k s instr _ (row_fits device words A k (before instr s) scratch instr fits)
 
-module _ (words : List ℕ) (A : List Entry) (k : NodeKey) (s : AbsState) where
+module _ (words : Program) (A : List Entry) (k : NodeKey) (s : AbsState) where
   at_fits : (scratch : Bool) (x : Option Instr) → ((instr : Instr) → x ≡ Some instr → InstrFits instr) → IsFit (device_of words) A k (row_at (device_of words) words A scratch k s x)
   at_fits scratch None fits = quiet_fits A k _ (refl, refl)
   at_fits scratch (Some instr) fits = by s.facts

@@ -40,7 +40,7 @@ use Rattle.local_laws.proofs.Bits.{permits_flag, with_bit_same, with_bit_7_low}
 use Rattle.std.proofs.lemmas.List.Elements.{Contains-append_left, Contains-append_right}
 use Rattle.basics.specs.Items.{first_in}
 use Rattle.avr_model.proofs.AllLaws.{devices_are_alike}
-use Rattle.avr_model.specs.Devices.{wrapped}
+use Rattle.avr_model.specs.Devices.{Program, wrapped}
 use Rattle.local_laws.proofs.Less.{part_stands}
 use Rattle.local_laws.proofs.Frame.{second, set_one, only, goes_to, turns_to, goes_cut}
 use Rattle.local_laws.proofs.Alu.{register_byte, register_bits}
@@ -210,7 +210,7 @@ module _ {may : Bool} (m : State) (o : Origin) (k : NodeKey) (s : AbsState) (at 
       (brbc_by n t)
 
   -- past the next instruction with one key, and to it with the other
-  pub skip_keys : (words : List ℕ) (test : Bool) (t : Tri) (j l : NodeKey) → j.inst ≡ k.inst → l.inst ≡ k.inst
+  pub skip_keys : (words : Program) (test : Bool) (t : Tri) (j l : NodeKey) → j.inst ≡ k.inst → l.inst ≡ k.inst
       → ((pc pc' : ℕ) → wrapped m.device pc ≡ pc' → test ≡ true → ArrivesWhere may m o s.facts guarded (going_to m pc) (record { key = off_table j pc'; state = s }))
       → ((pc pc' : ℕ) → wrapped m.device pc ≡ pc' → test ≡ false → ArrivesWhere may m o s.facts guarded (going_to m pc) (record { key = off_table l pc'; state = s }))
       → Permits t (from_bool test)
@@ -231,7 +231,7 @@ module _ {may : Bool} (m : State) (o : Origin) (k : NodeKey) (s : AbsState) (at 
       by_test true h = h
       by_test false h = h
 
-  pub skip_covered : (words : List ℕ) (test : Bool) (t : Tri) → Permits t (from_bool test) → FollowsWhere may m o s.facts k guarded b1 b2 (skipping words m test) (node_skipping m.device words k k s t)
+  pub skip_covered : (words : Program) (test : Bool) (t : Tri) → Permits t (from_bool test) → FollowsWhere may m o s.facts k guarded b1 b2 (skipping words m test) (node_skipping m.device words k k s t)
   skip_covered words test t can =
       skip_keys words test t k k refl refl (λ pc pc' is e. turns_to m o k s at guarded pc pc' is) (λ pc pc' is e. turns_to m o k s at guarded pc pc' is) can
 

@@ -5,7 +5,7 @@ use Rattle.std.proofs.lemmas.Bool.{cases_eq, ne_eqb}
 use Rattle.std.proofs.lemmas.Grind.{elements}
 use Rattle.std.proofs.lemmas.List.Elements.{Contains-append_cases}
 use Rattle.basics.specs.Items.{none_in}
-use Rattle.avr_model.specs.Devices.{size_of}
+use Rattle.avr_model.specs.Devices.{Program, size_of}
 use Rattle.avr_model.specs.declared.device.Device.{Device}
 use Rattle.avr_model.specs.declared.assumption.Entry.{Entry}
 use Rattle.avr_model.specs.Assumptions.{is_fixed_site, store_line}
@@ -191,7 +191,7 @@ module _ (followed : Bool) where
   kept_waking false device A k s r h all to j = all to j
   kept_waking true device A k s r h all to j = ⊎_elim (all to) (kept_one _ s h to) (Contains-append_cases r.moves (record { key = record k { masks = widened device A k.masks }; state = s } ∷ []) to j)
 
-  pub kept_pointer : (device : Device) (words : List ℕ) (A : List Entry) (was : AbsState) (r up : ℕ) (p : Pointed) (pc : ℕ) (k : NodeKey) (s : AbsState) (v : AbsByte)
+  pub kept_pointer : (device : Device) (words : Program) (A : List Entry) (was : AbsState) (r up : ℕ) (p : Pointed) (pc : ℕ) (k : NodeKey) (s : AbsState) (v : AbsByte)
       → HasSixteen s.facts → IsModeKept followed s → AllKept (pointer_write device words A was r up p pc k s v)
   kept_pointer device words A was r up p pc k s v sixteen h =
       kept_if (is_fixed_site words A pc) _ _ (λ e. kept_fixed device p.constant pc k s v sixteen h) (λ e. kept_waking (may_wake device A was r up p pc k v) device A k s _ h (λ to j.

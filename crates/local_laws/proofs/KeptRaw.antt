@@ -3,7 +3,7 @@ use Rattle.std.proofs.Common.{◌≡◌, refl, sym, subst, ap, ◌∙◌, ℕ, �
 use Rattle.std.proofs.lemmas.List.Elements.{Contains-append_cases}
 use Rattle.basics.specs.Items.{none_in, further_in, first_in}
 use Rattle.basics.specs.Lists.{both_empty}
-use Rattle.avr_model.specs.Devices.{size_of, wrapped, device_of}
+use Rattle.avr_model.specs.Devices.{Program, size_of, wrapped, device_of}
 use Rattle.avr_model.specs.Image.{word_at}
 use Rattle.avr_model.specs.Marks.{marks}
 use Rattle.avr_model.specs.Table.{length_of}
@@ -62,7 +62,7 @@ use Rattle.local_laws.proofs.PlainRows.{IsRefinedInstr, row_leaves, pointer_set}
 
 -- ---- where pairs aren't followed
 
-module _ (device : Device) (words : List ℕ) (A : List Entry) (scratch : Bool) (k : NodeKey) (s : AbsState) (none : s.facts ≡ None) where
+module _ (device : Device) (words : Program) (A : List Entry) (scratch : Bool) (k : NodeKey) (s : AbsState) (none : s.facts ≡ None) where
   abbrev plain : Instr → Raw
   plain instr = plain_row device words A scratch k s instr
 
@@ -114,7 +114,7 @@ module _ (device : Device) (words : List ℕ) (A : List Entry) (scratch : Bool) 
 
 -- ---- where they are
 
-module _ (device : Device) (words : List ℕ) (A : List Entry) (scratch : Bool) (k : NodeKey) (s : AbsState) (h : IsNodeIn true k s) (f : PairFacts) (known : s.facts ≡ Some f) where
+module _ (device : Device) (words : Program) (A : List Entry) (scratch : Bool) (k : NodeKey) (s : AbsState) (h : IsNodeIn true k s) (f : PairFacts) (known : s.facts ≡ Some f) where
   abbrev row : Instr → Raw
   row instr = plain_row device words A scratch k s instr
 
@@ -233,7 +233,7 @@ module _ (device : Device) (words : List ℕ) (A : List Entry) (scratch : Bool) 
 
 -- ---- the node
 
-module _ {followed : Bool} (words : List ℕ) (A : List Entry) (k : NodeKey) (s : AbsState) (h : IsNodeIn followed k s) where
+module _ {followed : Bool} (words : Program) (A : List Entry) (k : NodeKey) (s : AbsState) (h : IsNodeIn followed k s) where
   by_mode : (device : Device) (scratch : Bool) (instr : Instr) → InstrFits instr → HasRegisters instr → (f : Option PairFacts) → s.facts ≡ f
       → (row_by f device words A scratch k s instr).faults ≡ [] → AllKept followed (row_by f device words A scratch k s instr)
   by_mode device scratch instr fits has None e clean =
@@ -253,7 +253,7 @@ module _ {followed : Bool} (words : List ℕ) (A : List Entry) (k : NodeKey) (s 
   in_kept clean =
       at_kept (device_of words) (is_scratch words k.pc) (fetched (device_of words) words k.pc) (fetched_fits (device_of words) words k.pc) (fetched_has (device_of words) words k.pc) clean
 
-module _ {followed : Bool} (words : List ℕ) (A : List Entry) (k : NodeKey) (s : AbsState) (h : IsNodeIn followed k s) where
+module _ {followed : Bool} (words : Program) (A : List Entry) (k : NodeKey) (s : AbsState) (h : IsNodeIn followed k s) where
   abbrev row_picked : ℕ → Raw
   row_picked byte = picked_row (row_in (device_of words) words A) (picking k byte) (pick_cut byte s)
 

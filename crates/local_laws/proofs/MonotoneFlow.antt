@@ -8,7 +8,7 @@ use Rattle.std.proofs.lemmas.Map.Views.{Contains-from_any}
 use Rattle.local_rules.specs.Cover.{IsKey}
 use Rattle.avr_model.specs.State.{SIZE}
 use Rattle.avr_model.proofs.AllLaws.{devices_are_alike}
-use Rattle.avr_model.specs.Devices.{size_of, width}
+use Rattle.avr_model.specs.Devices.{Program, size_of, width}
 use Rattle.avr_model.specs.declared.device.Device.{Device}
 use Rattle.avr_model.specs.declared.device.Device.TheVariants.{M48, M88, M168, M328}
 use Rattle.avr_model.specs.declared.assumption.Entry.{Entry}
@@ -416,7 +416,7 @@ module _ (device : Device) (k : NodeKey) (at : IsKey k) (s t : AbsState) (le : I
   flag_less n set' clear p q lt lt' other =
       if_leads k.inst (n == 0) _ _ _ _ (carry_less (carry_bit s) (carry_bit t) set' clear (any_bit_within s.flags.bits t.flags.bits 0 (flag_bits device k at s t le)) lt lt') other
 
-  pub skipping_less : (words : List ℕ) (j l : NodeKey) (x y : Tri) → IsPlace j → IsPlace l → IsTriWithin x y → LeadsLess k.inst (skipping device words j l s x) (skipping device words j l t y)
+  pub skipping_less : (words : Program) (j l : NodeKey) (x y : Tri) → IsPlace j → IsPlace l → IsTriWithin x y → LeadsLess k.inst (skipping device words j l s x) (skipping device words j l t y)
   skipping_less words j l x y first second within =
       ways_less x y j l (further device j (1 + length_of (word_at words (j.pc + 1)))) (further device j 1) first second within (further_small device j (1 + length_of (word_at words (j.pc + 1)))) (further_small device j 1)
 

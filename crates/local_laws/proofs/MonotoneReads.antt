@@ -3,7 +3,7 @@ use Rattle.std.proofs.Common.{◌≡◌, refl, sym, ap, ◌∙◌, subst, subst�
 use Rattle.std.specs.Int.{from_bool}
 use Rattle.local_rules.specs.Cover.{IsKey}
 use Rattle.abs_alu.proofs.AllLaws.{same_within}
-use Rattle.avr_model.specs.Devices.{words_of, ramend, device_of}
+use Rattle.avr_model.specs.Devices.{Program, words_of, ramend, device_of}
 use Rattle.avr_model.specs.declared.device.Device.{Device}
 use Rattle.avr_model.specs.Image.{byte_at}
 use Rattle.avr_model.specs.State.{BELOW, SPL, SPH, SREG, low, high}
@@ -154,7 +154,7 @@ under_any u v m e =
     let wide = ranges_hold.bits_within m.bits byte_any (below_any m.bits) in
     record { bits = below_any m.bits; low = omega (arith, wide.low, fit.low); high = omega (arith, wide.high, fit.high) }
 
-flash_tag : (words : List ℕ) (f : Option ℕ) → (flash_value words f).tag ≡ tag.None
+flash_tag : (words : Program) (f : Option ℕ) → (flash_value words f).tag ≡ tag.None
 flash_tag words None = refl
 flash_tag words (Some z) = by (nat_lt z (2 * words_of (device_of words)))
   where
@@ -162,7 +162,7 @@ flash_tag words (Some z) = by (nat_lt z (2 * words_of (device_of words)))
     by true = refl
     by false = refl
 
-flash_fits : (words : List ℕ) (f : Option ℕ) → ByteFits (flash_value words f)
+flash_fits : (words : Program) (f : Option ℕ) → ByteFits (flash_value words f)
 flash_fits words None = bits_make_values.fits tag.None byte_any
 flash_fits words (Some z) = by (nat_lt z (2 * words_of (device_of words)))
   where
@@ -173,7 +173,7 @@ flash_fits words (Some z) = by (nat_lt z (2 * words_of (device_of words)))
 none_tag_of : (kind : Kind) (t : Tag) → t ≡ tag.None → IsTagOf kind t
 none_tag_of kind t e = subst (IsTagOf kind) (sym e) (none_of kind)
 
-pub flash_less : (kind : Kind) (words : List ℕ) (f g : Option ℕ) → IsSameWhere f g → IsLess kind (flash_value words f) (flash_value words g)
+pub flash_less : (kind : Kind) (words : Program) (f g : Option ℕ) → IsSameWhere f g → IsLess kind (flash_value words f) (flash_value words g)
 flash_less kind words f None h = below_unknown kind (flash_value words f) (none_tag_of kind _ (flash_tag words f)) (flash_fits words f)
 flash_less kind words f (Some z) h =
     subst (λ (x : Option ℕ). IsLess kind (flash_value words x) (flash_value words (Some z))) (sym (h z refl))

@@ -3,7 +3,7 @@ use Rattle.std.proofs.Common.{◌≡◌, refl, sym, subst, ap, ◌∙◌, ℕ, �
 use Rattle.std.proofs.lemmas.Bool.Decides.{nat_tests}
 use Rattle.basics.specs.Booleans.{all_three}
 use Rattle.basics.specs.Items.{none_in}
-use Rattle.avr_model.specs.Devices.{size_of, words_of, device_of}
+use Rattle.avr_model.specs.Devices.{Program, size_of, words_of, device_of}
 use Rattle.avr_model.specs.declared.device.Device.{Device}
 use Rattle.avr_model.specs.declared.assumption.Entry.{Entry}
 use Rattle.avr_model.specs.declared.instruction.Instr.{Instr}
@@ -44,14 +44,14 @@ use Rattle.local_laws.proofs.Picks.{below_small, picked_less, splits_at, at_quie
 use Rattle.local_laws.proofs.Quiet.{Quiet}
 
 -- an instruction of flash has its registers
-pub fetched_has : (device : Device) (words : List ℕ) (pc : ℕ) (instr : Instr) → fetched device words pc ≡ Some instr → HasRegisters instr
+pub fetched_has : (device : Device) (words : Program) (pc : ℕ) (instr : Instr) → fetched device words pc ≡ Some instr → HasRegisters instr
 fetched_has device words pc instr e = by (nat_lt pc (words_of device)) e
   where
     by : (inside : Bool) → (if inside then instruction_at words pc else None) ≡ Some instr → HasRegisters instr
     by true same = operands_fit.fit words pc instr same
     by false same = absurd (cc)
 
-module _ {followed : Bool} (words : List ℕ) (A : List Entry) (k : NodeKey) (s t : AbsState) (a : IsNodeIn followed k s) (b : IsNodeIn followed k t) (within : IsStateWithin s t) where
+module _ {followed : Bool} (words : Program) (A : List Entry) (k : NodeKey) (s t : AbsState) (a : IsNodeIn followed k s) (b : IsNodeIn followed k t) (within : IsStateWithin s t) where
   low : IsBare k s
   low = bare k s a
 
@@ -109,7 +109,7 @@ module _ {followed : Bool} (k : NodeKey) (byte : ℕ) (small : byte < 256) (s : 
       node_of (picking k byte) u (left_bare (picking k byte) (with_index byte s) u index_bare (picks_are_cut.leaves byte s u (offset_of k.sp) a.formed e))
       (picked_mode u e s.facts refl ∙ a.mode) (picks_are_cut.hulls byte s u (offset_of k.sp) a.formed a.hulls e)
 
-module _ {followed : Bool} (words : List ℕ) (A : List Entry) (k : NodeKey) (s t : AbsState) (a : IsNodeIn followed k s) (b : IsNodeIn followed k t) (within : IsStateWithin s t) where
+module _ {followed : Bool} (words : Program) (A : List Entry) (k : NodeKey) (s t : AbsState) (a : IsNodeIn followed k s) (b : IsNodeIn followed k t) (within : IsStateWithin s t) where
   -- what the node leads to with one byte picked
   abbrev row_picked : AbsState → ℕ → Raw
   row_picked state byte = picked_row (row_in (device_of words) words A) (picking k byte) (pick_cut byte state)

@@ -6,7 +6,7 @@ use Rattle.std.proofs.lemmas.List.{get_or_past}
 use Rattle.std.proofs.lemmas.List.Elements.{Contains-append_cases}
 use Rattle.basics.specs.Items.{none_in}
 use Rattle.avr_model.proofs.AllLaws.{devices_are_alike}
-use Rattle.avr_model.specs.Devices.{size_of}
+use Rattle.avr_model.specs.Devices.{Program, size_of}
 use Rattle.avr_model.specs.declared.device.Device.{Device}
 use Rattle.avr_model.specs.declared.assumption.Entry.{Entry}
 use Rattle.avr_model.specs.Assumptions.{store_line, is_fixed_site}
@@ -283,7 +283,7 @@ module _ (device : Device) (k : NodeKey) (at : IsKey k) (s t : AbsState) (le : I
       }
 
   -- the pointer as it was in these states
-  pub pointer_less : (words : List ℕ) (A : List Entry) (was_s was_t : AbsState) (r up : ℕ) (p q : Pointed) → IsSameWhere p.constant q.constant → IsSameWhere p.frame q.frame
+  pub pointer_less : (words : Program) (A : List Entry) (was_s was_t : AbsState) (r up : ℕ) (p q : Pointed) → IsSameWhere p.constant q.constant → IsSameWhere p.frame q.frame
       → IsPairWithin was_s was_t r
       → LeadsLess k.inst (pointer_write device words A was_s r up p pc k s v) (pointer_write device words A was_t r up q pc k t w)
   pointer_less words A was_s was_t r up p q tells slots was =

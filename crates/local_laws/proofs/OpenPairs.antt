@@ -3,7 +3,7 @@ use Rattle.std.proofs.Common.{◌≡◌, refl, subst, ℕ, zero, suc, ◌+◌, �
 use Rattle.std.specs.Prelude.{⊤}
 use Rattle.std.proofs.lemmas.List.Elements.{Contains-append_cases}
 use Rattle.basics.specs.Items.{none_in, first_in, further_in}
-use Rattle.avr_model.specs.Devices.{size_of, wrapped, device_of}
+use Rattle.avr_model.specs.Devices.{Program, size_of, wrapped, device_of}
 use Rattle.avr_model.specs.Marks.{marks}
 use Rattle.avr_model.specs.declared.device.Device.{Device}
 use Rattle.avr_model.specs.declared.assumption.Entry.{Entry}
@@ -170,7 +170,7 @@ module _ (n : ℕ) where
   stay_node k None h = stay_none
   stay_node k (Some s) h = each_of IsStaying (record { key = k; state = s }) [] h stay_none
 
-  stay_refined : (words : List ℕ) (instr : Instr) (s : AbsState) (nodes : List Node) → ((to : Node) → Contains nodes to → IsStaying to)
+  stay_refined : (words : Program) (instr : Instr) (s : AbsState) (nodes : List Node) → ((to : Node) → Contains nodes to → IsStaying to)
       → (to : Node) → Contains (refined_nodes words instr s nodes) to → IsStaying to
   stay_refined words instr s [] h to j = stay_none to j
   stay_refined words instr s (x ∷ xs) h to j =
@@ -178,7 +178,7 @@ module _ (n : ℕ) where
       (stay_refined words instr s xs (λ y i. h y (further_in x y xs i)) to)
       (Contains-append_cases (node_where x.key (refined (marks words) words instr s x.state)) (refined_nodes words instr s xs) to j)
 
-  stay_refining : (words : List ℕ) (instr : Instr) (s : AbsState) (r : Raw) → AllStay r → AllStay (refining words instr s r)
+  stay_refining : (words : Program) (instr : Instr) (s : AbsState) (r : Raw) → AllStay r → AllStay (refining words instr s r)
   stay_refining words instr s r h = stay_refined words instr s r.moves h
 
 -- ---- stores
@@ -231,7 +231,7 @@ module _ (k : NodeKey) where
       let woken : NodeKey = record k { masks = widened device A k.masks } in
       ⊎_elim (h to) (stay_one at woken s (itself k.sp) to) (Contains-append_cases r.moves (record { key = woken; state = s } ∷ []) to j)
 
-  stay_pointer : (device : Device) (words : List ℕ) (A : List Entry) (was : AbsState) (r up : ℕ) (p : Pointed) (pc : ℕ) (s : AbsState) (v : AbsByte)
+  stay_pointer : (device : Device) (words : Program) (A : List Entry) (was : AbsState) (r up : ℕ) (p : Pointed) (pc : ℕ) (s : AbsState) (v : AbsByte)
       → FromKey k (pointer_write device words A was r up p pc k s v)
   stay_pointer device words A was r up p pc s v =
       stay_if at (is_fixed_site words A pc) _ _ (stay_fixed device p.constant pc s v)
@@ -239,7 +239,7 @@ module _ (k : NodeKey) where
 
 -- ---- the table
 
-module _ (device : Device) (words : List ℕ) (A : List Entry) (scratch : Bool) (k : NodeKey) where
+module _ (device : Device) (words : Program) (A : List Entry) (scratch : Bool) (k : NodeKey) where
   abbrev place : ℕ
   place = offset_of k.sp
 
@@ -340,7 +340,7 @@ module _ (device : Device) (words : List ℕ) (A : List Entry) (scratch : Bool) 
 
 -- ---- the node
 
-module _ (words : List ℕ) (A : List Entry) where
+module _ (words : Program) (A : List Entry) where
   in_stays : (k : NodeKey) (s : AbsState) → FromKey k (row_in (device_of words) words A k s)
   in_stays k s = at_stays (device_of words) words A (is_scratch words k.pc) k s (fetched (device_of words) words k.pc)
 

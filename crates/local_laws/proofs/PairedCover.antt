@@ -2,7 +2,7 @@
 use Rattle.std.proofs.Common.{◌≡◌, refl, sym, subst, subst₂, ap, ℕ, Bool, true, false, List, [], ◌∷◌, Option, Some, if◌then◌else◌, Contains, ⊎_elim}
 use Rattle.std.proofs.lemmas.List.Elements.{Contains-append_left, Contains-append_right}
 use Rattle.basics.specs.Items.{none_in, first_in, first_or_further}
-use Rattle.avr_model.specs.Devices.{wrapped}
+use Rattle.avr_model.specs.Devices.{Program, wrapped}
 use Rattle.avr_model.specs.Marks.{marks}
 use Rattle.avr_model.specs.declared.effect.Effect.{Effect}
 use Rattle.avr_model.specs.declared.instruction.Instr.{Instr}
@@ -42,7 +42,7 @@ use Rattle.local_laws.proofs.PlainRows.{IsRefinedInstr}
 
 -- ---- refined nodes
 
-pub in_refined : (words : List ℕ) (instr : Instr) (s : AbsState) (nodes : List Node) (to : Node) (u : AbsState) → Contains nodes to
+pub in_refined : (words : Program) (instr : Instr) (s : AbsState) (nodes : List Node) (to : Node) (u : AbsState) → Contains nodes to
     → refined (marks words) words instr s to.state ≡ Some u → Contains (refined_nodes words instr s nodes) (record { key = to.key; state = u })
 in_refined words instr s [] to u i e = absurd (none_in to i)
 in_refined words instr s (n ∷ ns) to u i e =
@@ -57,7 +57,7 @@ in_refined words instr s (n ∷ ns) to u i e =
 
 -- ---- effects that store nothing
 
-module _ (words : List ℕ) (m : State) (b1 b2 : ℕ) where
+module _ (words : Program) (m : State) (b1 b2 : ℕ) where
   binary_stores : (op : BinaryOp) (d r : ℕ) → (binary_effect words m op d r).stores ≡ []
   binary_stores binary.Cpc d r = refl
   binary_stores binary.Sbc d r = refl
@@ -104,7 +104,7 @@ module _ (words : List ℕ) (m : State) (b1 b2 : ℕ) where
 
 -- ---- a refined row
 
-module _ {may : Bool} (words : List ℕ) (are : AreWords words) (m : State) (o : Origin) (k : NodeKey) (s : AbsState) (at : InBareFrame may m o k s) (b1 b2 : ℕ) (guarded : Bool)
+module _ {may : Bool} (words : Program) (are : AreWords words) (m : State) (o : Origin) (k : NodeKey) (s : AbsState) (at : InBareFrame may m o k s) (b1 b2 : ℕ) (guarded : Bool)
     (instr : Instr) (has : HasRegisters instr) where
   abbrev effect : Effect
   effect = effect_of words m instr b1 b2

@@ -3,7 +3,7 @@ use Rattle.std.proofs.Common.{◌≡◌, refl, sym, subst, subst₂, ℕ, ◌+�
 use Rattle.std.proofs.lemmas.List.Elements.{Contains-append_cases}
 use Rattle.basics.specs.Items.{none_in, first_in, further_in}
 use Rattle.avr_model.proofs.AllLaws.{devices_are_alike}
-use Rattle.avr_model.specs.Devices.{wrapped}
+use Rattle.avr_model.specs.Devices.{Program, wrapped}
 use Rattle.avr_model.specs.Image.{WORDS, word_at}
 use Rattle.avr_model.specs.Marks.{marks}
 use Rattle.avr_model.specs.Table.{length_of}
@@ -56,19 +56,19 @@ use Rattle.local_laws.proofs.Quiet.{Quiet, pointer_quiet}
 -- ---- refined nodes
 
 -- what a refined node comes of
-pub record IsOf (words : List ℕ) (instr : Instr) (s : AbsState) (nodes : List Node) (x : Node) : Type 0 where
+pub record IsOf (words : Program) (instr : Instr) (s : AbsState) (nodes : List Node) (x : Node) : Type 0 where
   pub to : Node
   pub member : Contains nodes to
   pub same : x.key ≡ to.key
   pub left : refined (marks words) words instr s to.state ≡ Some x.state
 
-of_where : (words : List ℕ) (instr : Instr) (s : AbsState) (nodes : List Node) (n : Node) → Contains nodes n → (left : Option AbsState) → refined (marks words) words instr s n.state ≡ left
+of_where : (words : Program) (instr : Instr) (s : AbsState) (nodes : List Node) (n : Node) → Contains nodes n → (left : Option AbsState) → refined (marks words) words instr s n.state ≡ left
     → (x : Node) → Contains (node_where n.key left) x → IsOf words instr s nodes x
 of_where words instr s nodes n member None e x h = absurd (none_in x h)
 of_where words instr s nodes n member (Some u) e x h =
     each_of (IsOf words instr s nodes) (record { key = n.key; state = u }) [] (record { to = n; member = member; same = refl; left = e }) (λ y j. absurd (none_in y j)) x h
 
-pub from_refined : (words : List ℕ) (instr : Instr) (s : AbsState) (all nodes : List Node) → ((n : Node) → Contains nodes n → Contains all n) → (x : Node)
+pub from_refined : (words : Program) (instr : Instr) (s : AbsState) (all nodes : List Node) → ((n : Node) → Contains nodes n → Contains all n) → (x : Node)
     → Contains (refined_nodes words instr s nodes) x → IsOf words instr s all x
 from_refined words instr s all [] within x h = absurd (none_in x h)
 from_refined words instr s all (n ∷ ns) within x h =
@@ -77,7 +77,7 @@ from_refined words instr s all (n ∷ ns) within x h =
     (Contains-append_cases (node_where n.key (refined (marks words) words instr s n.state)) (refined_nodes words instr s ns) x h)
 
 -- a refined state is one of a node
-pub refined_bare : (words : List ℕ) (instr : Instr) (n : ℕ) (s : AbsState) (k : NodeKey) (t u : AbsState) → HasRegisters instr → IsFormed s n → IsBare k t
+pub refined_bare : (words : Program) (instr : Instr) (n : ℕ) (s : AbsState) (k : NodeKey) (t u : AbsState) → HasRegisters instr → IsFormed s n → IsBare k t
     → refined (marks words) words instr s t ≡ Some u → IsBare k u
 refined_bare words instr n s k t u has formed h e =
     let like = refined_is_ordered.like (marks words) words instr s t u e in
@@ -143,7 +143,7 @@ two_less k x x' y y' p q lt lt' h h' =
 
 -- ---- two states
 
-module _ (device : Device) (words : List ℕ) (A : List Entry) (k : NodeKey) (s t : AbsState) (low : IsBare k s) (high : IsBare k t) (within : IsStateWithin s t)
+module _ (device : Device) (words : Program) (A : List Entry) (k : NodeKey) (s t : AbsState) (low : IsBare k s) (high : IsBare k t) (within : IsStateWithin s t)
     (hulls : IsInHulls s) (f g : PairFacts) (known : s.facts ≡ Some f) (known' : t.facts ≡ Some g) where
   abbrev at : IsKey k
   at = bare_key k s low

@@ -9,6 +9,7 @@ use Rattle.avr_model.specs.declared.instruction.Instr.TheVariants as i
 use Rattle.avr_model.specs.declared.instruction.BinaryOp.{BinaryOp}
 use Rattle.avr_model.specs.declared.instruction.BinaryOp.TheVariants as binary
 use Rattle.avr_model.specs.Assumptions.{is_frame}
+use Rattle.avr_model.specs.Devices.{Program}
 use Rattle.bit_domain.specs.declared.bits.Tri.{Tri}
 use Rattle.bit_domain.specs.declared.bits.Tri.TheVariants.{Zero}
 use Rattle.bit_domain.specs.TriByte.{tri_at, byte_constant}
@@ -39,7 +40,7 @@ only_one P k s h = each_of P (record { key = k; state = s }) [] h (λ n i. absur
 
 -- ---- a byte of flash
 
-flash_covers : (words : List ℕ) (p : PairSet) (a b : Option ℕ) → byte_constant p.low.bits ≡ a → byte_constant p.high.bits ≡ b → CoversFlash words p (flash_value words (word_of a b))
+flash_covers : (words : Program) (p : PairSet) (a b : Option ℕ) → byte_constant p.low.bits ≡ a → byte_constant p.high.bits ≡ b → CoversFlash words p (flash_value words (word_of a b))
 flash_covers words p None b lo hi = values_are_covered.unknown words p
 flash_covers words p (Some x) None lo hi = values_are_covered.unknown words p
 flash_covers words p (Some x) (Some y) lo hi = values_are_covered.constant words p x y lo hi
@@ -50,7 +51,7 @@ not_followed : (line : Bool) (d : ℕ) → is_followed line d d ≡ false
 not_followed true d = ap not (eq-eqb d d refl)
 not_followed false d = refl
 
-module _ (device : Device) (words : List ℕ) (A : List Entry) (scratch : Bool) (k : NodeKey) (s : AbsState) (count : length s.registers ≡ 32) where
+module _ (device : Device) (words : Program) (A : List Entry) (scratch : Bool) (k : NodeKey) (s : AbsState) (count : length s.registers ≡ 32) where
   row_doubled : (op : BinaryOp) (d : ℕ) (low : Tri) (framed : Bool) (c : Option Computed) (v : AbsByte) (flags : AbsFlags) (other : Raw) → d < 32 → framed ≡ false
       → IsByteWithin (doubled_value s d low) v → (to : Node)
       → Contains (going_by device k (before (i.Binary op d d) s) (if framed then c else Some (both_set (slice_set s.registers d v) flags)) other).moves to

@@ -3,7 +3,7 @@ use Rattle.std.proofs.Common.{◌≡◌, refl, sym, subst, ap, ap₂, ◌∙◌,
 use Rattle.std.specs.Prelude.{⊤}
 use Rattle.avr_model.specs.Assumptions.{has_masks}
 use Rattle.avr_model.proofs.AllLaws.{devices_are_alike}
-use Rattle.avr_model.specs.Devices.{wrapped, device_of}
+use Rattle.avr_model.specs.Devices.{Program, wrapped, device_of}
 use Rattle.avr_model.specs.Image.{word_at}
 use Rattle.avr_model.specs.Marks.{marks}
 use Rattle.avr_model.specs.Table.{length_of}
@@ -70,7 +70,7 @@ IsStored (i.Cbi a b) = ⊤
 IsStored (i.Sbi a b) = ⊤
 IsStored _ = ⊥
 
-module _ (words : List ℕ) (s : AbsState) (f : PairFacts) where
+module _ (words : Program) (s : AbsState) (f : PairFacts) where
   same_tags : (instr : Instr) → IsStored instr → (y : Option PairFacts) → tagged s.registers f instr y ≡ y
   same_tags instr is None = refl
   same_tags (i.Std b q r) is (Some g) = refl
@@ -114,7 +114,7 @@ same_moved pointer.MinusX instr s = refl
 pub like_parts : (u s : AbsState) → u.flags ≡ s.flags → u.slots ≡ s.slots → u ≡ record s { registers = u.registers; facts = u.facts }
 like_parts u s flags slots = ap₂ (λ f l. record u { flags = f; slots = l }) flags slots
 
-module _ (words : List ℕ) (A : List Entry) (m : State) (o : Origin) (k : NodeKey) (s : AbsState) (at : InBareFrame (has_masks A) m o k s) (b1 b2 : ℕ) (small : b1 < 256)
+module _ (words : Program) (A : List Entry) (m : State) (o : Origin) (k : NodeKey) (s : AbsState) (at : InBareFrame (has_masks A) m o k s) (b1 b2 : ℕ) (small : b1 < 256)
     (other : b2 < 256) (are : AreWords words) (told : m.device ≡ device_of words) (f : PairFacts) (followed : s.facts ≡ Some f) where
   abbrev scratch : Bool
   scratch = is_scratch words m.pc

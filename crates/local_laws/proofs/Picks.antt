@@ -8,7 +8,7 @@ use Rattle.basics.specs.Booleans.{all_three}
 use Rattle.basics.specs.Items.{none_in, first_in, first_or_further}
 use Rattle.basics.specs.Lists.{both_empty}
 use Rattle.abs_alu.proofs.AllLaws.{same_within}
-use Rattle.avr_model.specs.Devices.{words_of, device_of, wrapped}
+use Rattle.avr_model.specs.Devices.{Program, words_of, device_of, wrapped}
 use Rattle.avr_model.specs.declared.device.Device.{Device}
 use Rattle.avr_model.specs.declared.assumption.Entry.{Entry}
 use Rattle.avr_model.specs.declared.effect.Effect.{Effect}
@@ -49,7 +49,7 @@ pub unlined_some : (A : List Entry) (x : Option ℕ) (jump : ℕ) → unlined A 
 unlined_some A None jump e = absurd (cc)
 unlined_some A (Some y) jump e = (y, refl)
 
-pub site_adds : (words : List ℕ) (a jump : ℕ) → table_site words a ≡ Some jump → is_some_that adds_low (instruction_at words a) ≡ true
+pub site_adds : (words : Program) (a jump : ℕ) → table_site words a ≡ Some jump → is_some_that adds_low (instruction_at words a) ≡ true
 unfolding table_site
 site_adds words a jump e = by (is_some_that adds_low (instruction_at words a)) (is_some_that adds_high (instruction_at words (a + 1))) e
   where
@@ -58,7 +58,7 @@ site_adds words a jump e = by (is_some_that adds_low (instruction_at words a)) (
     by false high e = absurd (cc)
 
 -- it lies in flash, and its instruction adds to r30
-pub splits_at : (words : List ℕ) (A : List Entry) (pc : ℕ) (pick : Option ℕ) (jump : ℕ) → split_site words A pc pick ≡ Some jump
+pub splits_at : (words : Program) (A : List Entry) (pc : ℕ) (pick : Option ℕ) (jump : ℕ) → split_site words A pc pick ≡ Some jump
     → (nat_lt pc (words_of (device_of words)) ≡ true) × (is_some_that adds_low (fetched (device_of words) words pc) ≡ true)
 splits_at words A pc (Some byte) jump e = absurd (cc)
 splits_at words A pc None jump e = by (nat_lt pc (words_of (device_of words))) e
@@ -68,7 +68,7 @@ splits_at words A pc None jump e = by (nat_lt pc (words_of (device_of words))) e
     by true e = let found = unlined_some A (table_site words pc) jump e in (refl, site_adds words pc found.0 found.1)
     by false e = absurd (cc)
 
-module _ (device : Device) (words : List ℕ) (A : List Entry) (scratch : Bool) (k : NodeKey) where
+module _ (device : Device) (words : Program) (A : List Entry) (scratch : Bool) (k : NodeKey) where
   adds_quiet : (s : AbsState) (x : Instr) → adds_low x ≡ true → Quiet (row_of device words A scratch k s x)
   adds_quiet s (i.Immediate op d n) e = (refl, refl)
   adds_quiet s (i.Movw d r) e = absurd (cc)
@@ -229,7 +229,7 @@ module _ {may : Bool} (m : State) (o : Origin) (k : NodeKey) (guarded : Bool) (e
   reached_by byte b1 b2 r quiet (leaves x is kind closed return) = absurd (let e = sym quiet.1 in let no = is in cc)
 
 -- what one that is picked covers, all cover
-pub all_covered : (words : List ℕ) (A : List Entry) (m : State) (o : Origin) (k : NodeKey) (b1 b2 : ℕ) (f : ℕ → Raw) (xs : List ℕ) (x : ℕ) → Contains xs x → Quiet (f x)
+pub all_covered : (words : Program) (A : List Entry) (m : State) (o : Origin) (k : NodeKey) (b1 b2 : ℕ) (f : ℕ → Raw) (xs : List ℕ) (x : ℕ) → Contains xs x → Quiet (f x)
     → (instr : Option Instr) → CoversStep words A m o (picking k x) b1 b2 instr (f x) → CoversStep words A m o k b1 b2 instr (all_of (map f xs))
 all_covered words A m o k b1 b2 f xs x h quiet None covered = λ clean. covered (faultless_in f xs x h clean)
 all_covered words A m o k b1 b2 f xs x h quiet (Some instr) covered = λ clean unflagged.

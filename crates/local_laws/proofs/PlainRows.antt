@@ -3,7 +3,7 @@ use Rattle.std.proofs.Common.{◌≡◌, ◌≢◌, refl, sym, ◌∙◌, ℕ, s
 use Rattle.std.specs.Prelude.{⊤}
 use Rattle.std.proofs.lemmas.Bool.{or_parts}
 use Rattle.basics.specs.Items.{none_in}
-use Rattle.avr_model.specs.Devices.{size_of, wrapped}
+use Rattle.avr_model.specs.Devices.{Program, size_of, wrapped}
 use Rattle.avr_model.specs.declared.device.Device.{Device}
 use Rattle.avr_model.specs.declared.assumption.Entry.{Entry}
 use Rattle.avr_model.specs.declared.instruction.Instr.{Instr}
@@ -269,7 +269,7 @@ IsRefinedInstr (i.Sbrc r b) = ⊥
 IsRefinedInstr (i.Sbrs r b) = ⊥
 IsRefinedInstr _ = ⊤
 
-module _ (device : Device) (words : List ℕ) (A : List Entry) (scratch : Bool) (k : NodeKey) (s : AbsState) where
+module _ (device : Device) (words : Program) (A : List Entry) (scratch : Bool) (k : NodeKey) (s : AbsState) where
   pub row_leaves : (instr : Instr) → IsRefinedInstr instr → Leaves (written instr) s (row_of device words A scratch k s instr)
   row_leaves (i.Movw d r) is = leaves_set _ s device _ _ refl (two_set s.registers (2 * d) (2 * d + 1) _ _)
   row_leaves (i.Muls d r) is = leaves_set _ s device _ _ refl (two_set s.registers 0 1 _ _)

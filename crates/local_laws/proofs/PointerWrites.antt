@@ -10,7 +10,7 @@ use Rattle.avr_model.specs.declared.assumption.Entry.{Entry}
 use Rattle.avr_model.specs.declared.effect.Write.{Write}
 use Rattle.avr_model.specs.declared.effect.Effect.{Effect}
 use Rattle.avr_model.specs.Assumptions.{has_masks, store_line, is_fixed_site, lists}
-use Rattle.avr_model.specs.Devices.{device_of}
+use Rattle.avr_model.specs.Devices.{Program, device_of}
 use Rattle.avr_model.specs.Masks.{enables_barred, is_unlisted_site, admits_enables, is_flagged_write}
 use Rattle.avr_model.specs.Sreg.{flag}
 use Rattle.avr_model.specs.State.{State, BELOW, pair, SPL, SPH, SREG, low, high, plus16, minus16}
@@ -172,7 +172,7 @@ module _ {may : Bool} (m : State) (o : Origin) (k : NodeKey) (s : AbsState) (at 
 
   -- ---- a store at a site that isn't fixed
 
-  module _ (words : List ℕ) (A : List Entry) (mode : may ≡ has_masks A) (is_device : m.device ≡ device_of words) (was : AbsState) (r up : ℕ)
+  module _ (words : Program) (A : List Entry) (mode : may ≡ has_masks A) (is_device : m.device ≡ device_of words) (was : AbsState) (r up : ℕ)
       (permitted : permits_number was r (minus16 (plus16 (pair m r) up) up) ≡ true) where
     abbrev a : ℕ
     a = plus16 (pair m r) up

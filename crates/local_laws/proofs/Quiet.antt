@@ -2,7 +2,7 @@
 use Rattle.std.proofs.Common.{◌≡◌, refl, sym, ◌∙◌, subst, ℕ, zero, suc, ◌+◌, ◌==◌, Bool, true, false, List, [], Option, Some, None, if◌then◌else◌, nat_lt, nat_le, Contains}
 use Rattle.std.specs.List.Sorted.{IsStrictlySortedBy}
 use Rattle.basics.specs.Items.{none_in}
-use Rattle.avr_model.specs.Devices.{size_of}
+use Rattle.avr_model.specs.Devices.{Program, size_of}
 use Rattle.avr_model.specs.declared.device.Device.{Device}
 use Rattle.avr_model.specs.declared.assumption.Entry.{Entry}
 use Rattle.avr_model.specs.Assumptions.{is_fixed_site}
@@ -72,7 +72,7 @@ carry_quiet k s Any set clear = (refl, refl)
 pub flag_branch_quiet : (n : ℕ) (k : NodeKey) (s : AbsState) (set clear : ℕ) (other : Raw) → Quiet other → Quiet (flag_branch n k s set clear other)
 flag_branch_quiet n k s set clear other h = if_quiet (n == 0) (carry_branch (carry_bit s) k s set clear) other (carry_quiet k s (carry_bit s) set clear) h
 
-pub skipping_quiet : (device : Device) (words : List ℕ) (j k : NodeKey) (s : AbsState) (t : Tri) → Quiet (skipping device words j k s t)
+pub skipping_quiet : (device : Device) (words : Program) (j k : NodeKey) (s : AbsState) (t : Tri) → Quiet (skipping device words j k s t)
 skipping_quiet device words j k s t = ways_quiet j k s t _ _
 
 pub going_by_quiet : (device : Device) (k : NodeKey) (s : AbsState) (c : Option Computed) (r : Raw) → Quiet r → Quiet (going_by device k s c r)
@@ -119,7 +119,7 @@ waking_quiet : (b : Bool) (device : Device) (A : List Entry) (k : NodeKey) (s : 
 waking_quiet true device A k s r h = h
 waking_quiet false device A k s r h = h
 
-pub pointer_quiet : (device : Device) (words : List ℕ) (A : List Entry) (was : AbsState) (r up : ℕ) (p : Pointed) (pc : ℕ) (k : NodeKey) (s : AbsState) (v : AbsByte)
+pub pointer_quiet : (device : Device) (words : Program) (A : List Entry) (was : AbsState) (r up : ℕ) (p : Pointed) (pc : ℕ) (k : NodeKey) (s : AbsState) (v : AbsByte)
     → Quiet (pointer_write device words A was r up p pc k s v)
 pointer_quiet device words A was r up p pc k s v =
     if_quiet (is_fixed_site words A pc) _ _ (fixed_quiet device p.constant pc k s v) (waking_quiet (may_wake device A was r up p pc k v) device A k s _ (refl, refl))

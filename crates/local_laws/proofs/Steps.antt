@@ -11,6 +11,7 @@ use Rattle.avr_model.specs.Sreg.{flag}
 use Rattle.avr_model.specs.State.{State}
 use Rattle.avr_model.specs.Effects.{effect_of}
 use Rattle.avr_model.specs.Step.{Answer, Undefined, Overflow, Done, after, all_inside, live_write, protected_write, unlisted_transfer, flag_by, flagged_or, is_unlisted, go}
+use Rattle.avr_model.specs.Devices.{Program}
 use Rattle.sp_domain.specs.Tags.{Origin}
 use Rattle.abs_state.specs.declared.state.AbsState.{AbsState}
 use Rattle.pair_domain.proofs.AllLaws.{known_is_ordered}
@@ -36,7 +37,7 @@ settled_is : (r : Raw) (faults : List NodeFault) (l : Local) → settled r fault
 settled_is r [] l e = (refl, cc)
 settled_is r (f ∷ fs) l e = absurd (cc)
 
-local_is : (words : List ℕ) (A : List Entry) (k : NodeKey) (s : AbsState) (l : Local) → local words A k s ≡ Ok l → ((raw words A k s).faults ≡ []) × (joined (raw words A k s) ≡ l)
+local_is : (words : Program) (A : List Entry) (k : NodeKey) (s : AbsState) (l : Local) → local words A k s ≡ Ok l → ((raw words A k s).faults ≡ []) × (joined (raw words A k s) ≡ l)
 unfolding local
 local_is words A k s l e = settled_is (raw words A k s) (raw words A k s).faults l e
 
@@ -68,7 +69,7 @@ some_defined : (test : Bool) (flags : Option Flag) (m : State) (at pc : ℕ) →
 some_defined true flags m at pc e = flagged_defined flags m pc e
 some_defined false flags m at pc e = cc
 
-module _ {followed : Bool} (words : List ℕ) (A : List Entry) (m : State) (o : Origin) (k : NodeKey) (s : AbsState) (b1 b2 : ℕ) (at : InFrameIn followed (has_masks A) m o k s) (small1 : b1 < 256) (small2 : b2 < 256) where
+module _ {followed : Bool} (words : Program) (A : List Entry) (m : State) (o : Origin) (k : NodeKey) (s : AbsState) (b1 b2 : ℕ) (at : InFrameIn followed (has_masks A) m o k s) (small1 : b1 < 256) (small2 : b2 < 256) where
   is_defined : (r : Raw) (found : Option Instr) (pc : ℕ) → CoversStep words A m o k b1 b2 found r → r.faults ≡ [] → go words A m found b1 b2 ≢ Undefined pc
   is_defined r None pc covered none e = covered none
   is_defined r (Some instr) pc covered none e = some_defined _ _ _ m.pc pc e

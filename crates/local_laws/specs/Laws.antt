@@ -2,7 +2,7 @@
 use Rattle.std.specs.Prelude.{ℕ, Some, None, Ok, Bool, true, false, ◌≢◌, ◌≡◌, ◌<◌, List, [], ◌++◌, map, Contains, ◌≤◌}
 use Rattle.std.specs.List.Sorted.{IsStrictlySortedBy}
 use Rattle.std.specs.Ordering.{nat_cmp}
-use Rattle.avr_model.specs.Devices.{device_of, words_of, size_of}
+use Rattle.avr_model.specs.Devices.{Program, device_of, words_of, size_of}
 use Rattle.avr_model.specs.declared.device.Device.{Device}
 use Rattle.avr_model.specs.declared.assumption.Entry.{Entry}
 use Rattle.avr_model.specs.Assumptions.{is_never, has_masks}
@@ -36,7 +36,7 @@ use Rattle.local_rules.specs.Order.{IsBelowOne, IsBelow}
 
 -- The local part of a node covers each step of the machine there, with the flash of its own device, whose words have 16 bits.
 pub record LocalPartsCover : Type 0 where
-  pub covered : {followed : Bool} (words : List ℕ) (A : List Entry) (m : State) (o : Origin) (k : NodeKey) (s : AbsState) (b1 b2 : ℕ) → AreWords words → m.device ≡ device_of words
+  pub covered : {followed : Bool} (words : Program) (A : List Entry) (m : State) (o : Origin) (k : NodeKey) (s : AbsState) (b1 b2 : ℕ) → AreWords words → m.device ≡ device_of words
       → InFrameIn followed (has_masks A) m o k s → b1 < 256 → b2 < 256 → CoversStep words A m o k b1 b2 (instruction_at words m.pc) (raw words A k s)
 
 -- each joined successor is below one of its key, the calls are among those, and the return is the same
@@ -46,16 +46,16 @@ pub record IsLocalWithin (l m : Local) : Type 0 where
   pub exit : l.exit ≡ m.exit
 
 -- what the node leads to, which is no more than this
-pub record LeadsWithin (words : List ℕ) (A : List Entry) (k : NodeKey) (s : AbsState) (m : Local) : Type 0 where
+pub record LeadsWithin (words : Program) (A : List Entry) (k : NodeKey) (s : AbsState) (m : Local) : Type 0 where
   pub part : Local
   pub leads : local words A k s ≡ Ok part
   pub within : IsLocalWithin part m
 
 -- A greater state leads to more, also after successors of one key are joined.
 pub record LocalPartsAreMonotone : Type 0 where
-  pub below : {followed : Bool} (words : List ℕ) (A : List Entry) (k : NodeKey) (s t : AbsState) → IsNodeIn followed k s → IsNodeIn followed k t → IsStateWithin s t
+  pub below : {followed : Bool} (words : Program) (A : List Entry) (k : NodeKey) (s t : AbsState) → IsNodeIn followed k s → IsNodeIn followed k t → IsStateWithin s t
       → IsBelow (raw words A k s) (raw words A k t)
-  pub joined : {followed : Bool} (words : List ℕ) (A : List Entry) (k : NodeKey) (s t : AbsState) (m : Local) → IsNodeIn followed k s → IsNodeIn followed k t → IsStateWithin s t
+  pub joined : {followed : Bool} (words : Program) (A : List Entry) (k : NodeKey) (s t : AbsState) (m : Local) → IsNodeIn followed k s → IsNodeIn followed k t → IsStateWithin s t
       → local words A k t ≡ Ok m → LeadsWithin words A k s m
 
 -- Calls lead to words of the device's flash and go on at such. A return is at the frame's base, and keeps the enable bits.
@@ -70,19 +70,19 @@ AscendByEntry sites = IsStrictlySortedBy nat_cmp (map (λ (site : CallSite). sit
 -- The numbers of calls and returns are what their types say, and with an assumption list that may be one, calls ascend. A node without
 -- a fault lies in the device's flash, and its offset in its SRAM.
 pub record LocalPartsFit : Type 0 where
-  pub fit : (words : List ℕ) (A : List Entry) (k : NodeKey) (s : AbsState) → LeadsToWords (device_of words) k (raw words A k s)
-  pub ascending : (words : List ℕ) (A : List Entry) (k : NodeKey) (s : AbsState) → AreEntries A → AscendByEntry (raw words A k s).calls
-  pub inside : (words : List ℕ) (A : List Entry) (k : NodeKey) (s : AbsState) → (raw words A k s).faults ≡ []
+  pub fit : (words : Program) (A : List Entry) (k : NodeKey) (s : AbsState) → LeadsToWords (device_of words) k (raw words A k s)
+  pub ascending : (words : Program) (A : List Entry) (k : NodeKey) (s : AbsState) → AreEntries A → AscendByEntry (raw words A k s).calls
+  pub inside : (words : Program) (A : List Entry) (k : NodeKey) (s : AbsState) → (raw words A k s).faults ≡ []
       → (k.pc < words_of (device_of words)) × (offset_of k.sp ≤ size_of (device_of words))
 
 -- Successors are nodes that the analysis works with, in the same instance.
 pub record LocalPartsAreNodes : Type 0 where
-  pub nodes : {followed : Bool} (words : List ℕ) (A : List Entry) (k : NodeKey) (s : AbsState) (to : Node) → IsNodeIn followed k s → (raw words A k s).faults ≡ []
+  pub nodes : {followed : Bool} (words : Program) (A : List Entry) (k : NodeKey) (s : AbsState) (to : Node) → IsNodeIn followed k s → (raw words A k s).faults ≡ []
       → Contains (raw words A k s).moves to → (to.key.inst ≡ k.inst) × IsNodeIn followed to.key to.state
 
 -- A stack pointer that is half written behind an instruction has the offset that it had before it.
 pub record OpenPairsStay : Type 0 where
-  pub stays : (words : List ℕ) (A : List Entry) (k : NodeKey) (s : AbsState) (to : Node) (offset : ℕ) (high : High) → (raw words A k s).faults ≡ []
+  pub stays : (words : Program) (A : List Entry) (k : NodeKey) (s : AbsState) (to : Node) (offset : ℕ) (high : High) → (raw words A k s).faults ≡ []
       → Contains (raw words A k s).moves to → to.key.sp ≡ Open offset high → offset ≡ offset_of k.sp
 
 -- one of these nodes has this key
@@ -106,7 +106,7 @@ pub record JoinsAreLeast : Type 0 where
 -- A reset state is a machine's state, and each step that is done leads to one.
 pub record MachinesStay : Type 0 where
   pub reset : (device : Device) (m : State) → IsReset device m → IsMachine m
-  pub step : (words : List ℕ) (A : List Entry) (m n : State) (c : Choice) → AreWords words → IsMachine m → HasBytes c → step words A m c ≡ Done n
+  pub step : (words : Program) (A : List Entry) (m n : State) (c : Choice) → AreWords words → IsMachine m → HasBytes c → step words A m c ≡ Done n
       → IsMachine n
 
 -- What is written onto no live byte leaves live bytes above the stack pointer as they are.
@@ -122,9 +122,9 @@ pub record OpenPairsHang : Type 0 where
 -- The local part in the words of a step: where there is no fault, no step is undefined, and a step that is done is covered. No closed
 -- successor may lie deeper than the base.
 pub record StepsAreCovered : Type 0 where
-  pub defined : {followed : Bool} (words : List ℕ) (A : List Entry) (m : State) (o : Origin) (k : NodeKey) (s : AbsState) (l : Local) (b1 b2 pc : ℕ)
+  pub defined : {followed : Bool} (words : Program) (A : List Entry) (m : State) (o : Origin) (k : NodeKey) (s : AbsState) (l : Local) (b1 b2 pc : ℕ)
       → AreWords words → m.device ≡ device_of words → InFrameIn followed (has_masks A) m o k s → b1 < 256 → b2 < 256 → local words A k s ≡ Ok l → step words A m (Go b1 b2) ≢ Undefined pc
-  pub done : {followed : Bool} (words : List ℕ) (A : List Entry) (m n : State) (o : Origin) (k : NodeKey) (s : AbsState) (l : Local) (b1 b2 : ℕ)
+  pub done : {followed : Bool} (words : Program) (A : List Entry) (m n : State) (o : Origin) (k : NodeKey) (s : AbsState) (l : Local) (b1 b2 : ℕ)
       → AreWords words → m.device ≡ device_of words → InFrameIn followed (has_masks A) m o k s → b1 < 256 → b2 < 256 → local words A k s ≡ Ok l
       → ((to : Node) → Contains l.same to → IsWithinBase o.base to.key.sp)
       → step words A m (Go b1 b2) ≡ Done n → IsStep (has_masks A) m o k b1 b2 l n

@@ -4,7 +4,7 @@ use Rattle.avr_model.specs.declared.device.Device.{Device}
 use Rattle.avr_model.specs.declared.assumption.Entry.{Entry}
 use Rattle.avr_model.specs.declared.effect.Effect.{Effect}
 use Rattle.avr_model.specs.declared.instruction.Instr.{Instr}
-use Rattle.avr_model.specs.Devices.{size_of, ramend, wrapped}
+use Rattle.avr_model.specs.Devices.{Program, size_of, ramend, wrapped}
 use Rattle.avr_model.specs.Image.{WORDS}
 use Rattle.avr_model.specs.Sreg.{flag}
 use Rattle.avr_model.specs.Assumptions.{has_masks}
@@ -110,7 +110,7 @@ HasRoom device base (Open offset h) = ⊤
 
 -- No protected address is written, and no transfer goes to a word that isn't listed: of these the local part says nothing. A live byte
 -- may be written: that a step with this flag doesn't push outside SRAM follows from its being covered.
-pub record IsUnflagged (words : List ℕ) (A : List Entry) (m : State) (instr : Instr) (e : Effect) : Type 0 where
+pub record IsUnflagged (words : Program) (A : List Entry) (m : State) (instr : Instr) (e : Effect) : Type 0 where
   pub protected : protected_write words A m.pc instr e ≡ None
   pub listed : unlisted_transfer A m.pc instr e ≡ None
 
@@ -148,7 +148,7 @@ pub data Follows (may : Bool) (m : State) (o : Origin) (k : NodeKey) (guarded : 
 
 -- Where the local part has no fault, there is an instruction, and its effect is covered unless it is flagged for a protected address or an
 -- unlisted word.
-abbrev pub CoversStep : List ℕ → List Entry → State → Origin → NodeKey → ℕ → ℕ → Option Instr → Raw → Type 0
+abbrev pub CoversStep : Program → List Entry → State → Origin → NodeKey → ℕ → ℕ → Option Instr → Raw → Type 0
 CoversStep words A m o k b1 b2 None r = r.faults ≡ [] → ⊥
 CoversStep words A m o k b1 b2 (Some instr) r =
     r.faults ≡ [] → IsUnflagged words A m instr (effect_of words m instr b1 b2)

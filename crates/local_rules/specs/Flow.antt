@@ -2,7 +2,7 @@
 use Rattle.std.specs.Prelude.{ℕ, zero, suc, ◌+◌, ◌-◌, ◌==◌, Bool, true, false, nat_lt, nat_le, min, max, if◌then◌else◌, List, [], ◌∷◌, ◌++◌, map, filter, take, length, Option, Some, None}
 use Rattle.avr_model.specs.declared.device.Device.{Device}
 use Rattle.avr_model.specs.declared.assumption.Entry.{Entry}
-use Rattle.avr_model.specs.Devices.{size_of, width}
+use Rattle.avr_model.specs.Devices.{Program, size_of, width}
 use Rattle.avr_model.specs.Image.{word_at}
 use Rattle.avr_model.specs.Table.{length_of}
 use Rattle.avr_model.specs.Assumptions.{jump_line, lists}
@@ -44,7 +44,7 @@ abbrev pub branch : Tri → NodeKey → AbsState → ℕ → ℕ → Raw
 branch t k s taken other = branch_by t k k s taken other
 
 -- past the next instruction, of one word or two, with one key, and to it with the other
-abbrev pub skipping : Device → List ℕ → NodeKey → NodeKey → AbsState → Tri → Raw
+abbrev pub skipping : Device → Program → NodeKey → NodeKey → AbsState → Tri → Raw
 skipping device words k l s t = branch_by t k l s (further device k (1 + length_of (word_at words (k.pc + 1)))) (further device k 1)
 
 -- The key where this bit of an address reads 0. Where it is the enable bit of a vector, and the key says what may be enabled, that vector

@@ -13,7 +13,7 @@ use Rattle.avr_model.specs.declared.instruction.UnaryOp.{UnaryOp}
 use Rattle.avr_model.specs.declared.instruction.Pointer.{Pointer}
 use Rattle.avr_model.specs.declared.instruction.Pointer.TheVariants as pointer
 use Rattle.avr_model.specs.declared.operation.Mul.TheVariants as product
-use Rattle.avr_model.specs.Devices.{words_of, size_of, wrapped, device_of}
+use Rattle.avr_model.specs.Devices.{Program, words_of, size_of, wrapped, device_of}
 use Rattle.avr_model.specs.Marks.{marks}
 use Rattle.avr_model.specs.Text.{far, near}
 use Rattle.avr_model.specs.Image.{word_at}
@@ -55,7 +55,7 @@ use Rattle.local_rules.specs.Flow.{branch, skipping, reading_zero, flag_at, flag
 -- ---- registers
 
 -- `cpse` skips where the registers are equal
-abbrev pub binary_row : Device → List ℕ → Bool → NodeKey → AbsState → BinaryOp → ℕ → ℕ → Raw
+abbrev pub binary_row : Device → Program → Bool → NodeKey → AbsState → BinaryOp → ℕ → ℕ → Raw
 binary_row device words line k s op d r = going_by device k s (binary_at line s op d r) (skipping device words k k s (byte_equal (bits s d) (bits s r)))
 
 abbrev pub immediate_row : Device → Bool → NodeKey → AbsState → ImmediateOp → ℕ → ℕ → Raw
@@ -94,12 +94,12 @@ loading device k s registers d (Some v) = setting device k s (slice_set register
 abbrev pub load_row : Device → Bool → NodeKey → AbsState → ℕ → Pointer → Raw
 load_row device may k s d p = loading device k s (pointer_moved p s) d (read_pointed device may k s (pointed s (pointer_register p) (step_before p)))
 
-abbrev pub store_row : Device → List ℕ → List Entry → NodeKey → AbsState → Pointer → ℕ → Raw
+abbrev pub store_row : Device → Program → List Entry → NodeKey → AbsState → Pointer → ℕ → Raw
 store_row device words A k s p r =
     pointer_write device words A s (pointer_register p) (step_before p) (pointed s (pointer_register p) (step_before p)) k.pc (next device k)
     (record s { registers = pointer_moved p s }) (value s r)
 
-abbrev pub std_row : Device → List ℕ → List Entry → NodeKey → AbsState → ℕ → ℕ → ℕ → Raw
+abbrev pub std_row : Device → Program → List Entry → NodeKey → AbsState → ℕ → ℕ → ℕ → Raw
 std_row device words A k s b q r = pointer_write device words A s b q (pointed s b q) k.pc (next device k) s (value s r)
 
 -- One bit of an I/O address is turned on or off. The other enable bits there stay, so the byte has them as the key does.
@@ -109,7 +109,7 @@ bit_row device k s a b on = written_at device k.pc (next device k) s false a (un
 -- ---- the whole table, in three parts
 
 -- flow, and what has no operand
-abbrev pub flow_row : Device → List ℕ → List Entry → Bool → NodeKey → AbsState → Instr → Raw
+abbrev pub flow_row : Device → Program → List Entry → Bool → NodeKey → AbsState → Instr → Raw
 flow_row device words A scratch k s i.Ijmp = jumping (targets_at device A k s) k s
 flow_row device words A scratch k s i.Icall = indirect_call device (targets_at device A k s) k
 flow_row device words A scratch k s i.Ret = at_closed k.sp k.pc (returning (ret_exit k) k.pc k.inst.kind)
@@ -134,7 +134,7 @@ flow_row device words A scratch k s (i.Sbrs r b) = skipping device words k k s (
 flow_row device words A scratch k s _ = going_on device k s
 
 -- loads, stores and I/O
-abbrev pub memory_row : Device → List ℕ → List Entry → Bool → NodeKey → AbsState → Instr → Raw
+abbrev pub memory_row : Device → Program → List Entry → Bool → NodeKey → AbsState → Instr → Raw
 memory_row device words A scratch k s (i.Ldd d b q) = loading device k s s.registers d (read_pointed device (has_masks A) k s (pointed s (base_register b) q))
 memory_row device words A scratch k s (i.Std b q r) = std_row device words A k s (base_register b) q r
 memory_row device words A scratch k s (i.Lds d a) = going_to k (record s { registers = set s d (read_at device (has_masks A) k s a) }) (further device k 2)
@@ -153,7 +153,7 @@ memory_row device words A scratch k s (i.Sbi a b) = bit_row device k s (port a) 
 memory_row device words A scratch k s instr = flow_row device words A scratch k s instr
 
 -- What an instruction leads to, where `scratch` says that its pushes make a compiler's small frame.
-abbrev pub row_of : Device → List ℕ → List Entry → Bool → NodeKey → AbsState → Instr → Raw
+abbrev pub row_of : Device → Program → List Entry → Bool → NodeKey → AbsState → Instr → Raw
 row_of device words A scratch k s (i.Movw d r) = going_with device k s (pair_copied s (2 * d) (2 * r))
 row_of device words A scratch k s (i.Muls d r) = product_row device k s product.Muls d r
 row_of device words A scratch k s (i.Mulsu d r) = product_row device k s product.Mulsu d r
@@ -173,7 +173,7 @@ row_of device words A scratch k s instr = memory_row device words A scratch k s 
 
 -- No row reads what C says of a register but a branch on C and `cpc`, which set none: so it ends before the row where the instruction
 -- sets that register. What ends of what is known of pairs ends there too.
-abbrev pub plain_row : Device → List ℕ → List Entry → Bool → NodeKey → AbsState → Instr → Raw
+abbrev pub plain_row : Device → Program → List Entry → Bool → NodeKey → AbsState → Instr → Raw
 plain_row device words A scratch k s instr = row_of device words A scratch k (before instr s) instr
 
 -- ---- where pairs are followed
@@ -183,7 +183,7 @@ abbrev pub cut_branch : ℕ → NodeKey → AbsState → ℕ → ℕ → Raw
 cut_branch n k s set clear = all_of (going_where k (flag_cut n false s) clear ∷ going_where k (flag_cut n true s) set ∷ [])
 
 -- past the next instruction with one state, and to it with the other
-abbrev pub cut_skip : Device → List ℕ → NodeKey → Option AbsState → Option AbsState → Raw
+abbrev pub cut_skip : Device → Program → NodeKey → Option AbsState → Option AbsState → Raw
 cut_skip device words k skips stays =
     all_of (going_where k stays (further device k 1) ∷ going_where k skips (further device k (1 + length_of (word_at words (k.pc + 1)))) ∷ [])
 
@@ -192,19 +192,19 @@ node_where k None = []
 node_where k (Some s) = record { key = k; state = s } ∷ []
 
 -- what the plain rules lead to, refined by what the instruction tells; where nothing is left there is no successor
-abbrev pub refined_nodes : List ℕ → Instr → AbsState → List Node → List Node
+abbrev pub refined_nodes : Program → Instr → AbsState → List Node → List Node
 refined_nodes words instr s nodes = flat_map (λ (n : Node). node_where n.key (refined (marks words) words instr s n.state)) nodes
 
-abbrev pub refining : List ℕ → Instr → AbsState → Raw → Raw
+abbrev pub refining : Program → Instr → AbsState → Raw → Raw
 refining words instr s r = record r { moves = refined_nodes words instr s r.moves }
 
 -- The pointer moves first, and its pair is refined; then the byte is stored, which may be to a register of the pointer.
-abbrev pub storing : Device → List ℕ → List Entry → NodeKey → AbsState → Pointer → ℕ → Option AbsState → Raw
+abbrev pub storing : Device → Program → List Entry → NodeKey → AbsState → Pointer → ℕ → Option AbsState → Raw
 storing device words A k s p r None = nowhere
 storing device words A k s p r (Some moved) =
     pointer_write device words A s (pointer_register p) (step_before p) (pointed s (pointer_register p) (step_before p)) k.pc (next device k) moved (value s r)
 
-abbrev pub paired_store : Device → List ℕ → List Entry → NodeKey → AbsState → Pointer → ℕ → Raw
+abbrev pub paired_store : Device → Program → List Entry → NodeKey → AbsState → Pointer → ℕ → Raw
 paired_store device words A k s p r =
     storing device words A k s p r
     (refined (marks words) words (i.St p r) s (record (before (i.St p r) s) { registers = pointer_moved p s }))
@@ -214,12 +214,12 @@ abbrev pub paired_branch : ℕ → NodeKey → AbsState → ℕ → ℕ → Raw 
 paired_branch n k s set clear other = if nat_lt n 7 then cut_branch n k s set clear else other
 
 -- `cpse` skips where the registers are equal
-abbrev pub paired_binary : Device → List ℕ → BinaryOp → NodeKey → AbsState → ℕ → ℕ → Raw → Raw
+abbrev pub paired_binary : Device → Program → BinaryOp → NodeKey → AbsState → ℕ → ℕ → Raw → Raw
 paired_binary device words binary.Cpse k s d r other = cut_skip device words k (equal_cut d r true s) (equal_cut d r false s)
 paired_binary device words _ k s d r other = other
 
 -- Branches and skips cut the state by their outcome; every other row is the plain one, refined.
-abbrev pub paired_row : Device → List ℕ → List Entry → Bool → NodeKey → AbsState → Instr → Raw
+abbrev pub paired_row : Device → Program → List Entry → Bool → NodeKey → AbsState → Instr → Raw
 paired_row device words A scratch k s (i.Brbs n t) =
     paired_branch n k s (wrapped device (near k.pc t)) (further device k 1) (plain_row device words A scratch k s (i.Brbs n t))
 paired_row device words A scratch k s (i.Brbc n t) =
@@ -232,11 +232,11 @@ paired_row device words A scratch k s (i.St p r) = paired_store device words A k
 paired_row device words A scratch k s instr = refining words instr s (plain_row device words A scratch k s instr)
 
 -- by whether pairs are followed
-abbrev pub row_by : Option PairFacts → Device → List ℕ → List Entry → Bool → NodeKey → AbsState → Instr → Raw
+abbrev pub row_by : Option PairFacts → Device → Program → List Entry → Bool → NodeKey → AbsState → Instr → Raw
 row_by None device words A scratch k s instr = plain_row device words A scratch k s instr
 row_by (Some f) device words A scratch k s instr = paired_row device words A scratch k s instr
 
-abbrev pub row_at : Device → List ℕ → List Entry → Bool → NodeKey → AbsState → Option Instr → Raw
+abbrev pub row_at : Device → Program → List Entry → Bool → NodeKey → AbsState → Option Instr → Raw
 row_at device words A scratch k s None = fails (Unsupported k.pc)
 row_at device words A scratch k s (Some instr) = row_by s.facts device words A scratch k s instr
 
@@ -252,7 +252,7 @@ is_hung device A k (Closed offset) = false
 is_hung device A k (Open offset h) = k.i && not k.delay && may_come device A k.masks
 
 -- the instruction of a node; behind the device's flash there is none
-abbrev pub fetched : Device → List ℕ → ℕ → Option Instr
+abbrev pub fetched : Device → Program → ℕ → Option Instr
 fetched device words pc = if nat_lt pc (words_of device) then instruction_at words pc else None
 
 -- ---- jump tables
@@ -285,7 +285,7 @@ unlined A None = None
 unlined A (Some jump) = unless_lined (jump_line A jump) jump
 
 -- Where a node splits: at a table site of flash, unless an entry is picked already; the word of its `ijmp`.
-abbrev pub split_site : List ℕ → List Entry → ℕ → Option ℕ → Option ℕ
+abbrev pub split_site : Program → List Entry → ℕ → Option ℕ → Option ℕ
 split_site words A pc None = if nat_lt pc (words_of (device_of words)) then unlined A (table_site words pc) else None
 split_site words A pc (Some byte) = None
 
@@ -296,11 +296,11 @@ splitting (Some jump) row k s =
     if nat_le (length (picks s)) 64 then all_of (map (λ byte. picked_row row (picking k byte) (pick_cut byte s)) (picks s)) else fails (UnresolvedJump jump)
 
 -- what the instruction of a node leads to, on this device
-abbrev pub row_in : Device → List ℕ → List Entry → NodeKey → AbsState → Raw
+abbrev pub row_in : Device → Program → List Entry → NodeKey → AbsState → Raw
 row_in device words A k s = row_at device words A (is_scratch words k.pc) k s (fetched device words k.pc)
 
 -- all that a node leads to, with all its faults, on the device of these words
-unfoldable pub raw : List ℕ → List Entry → NodeKey → AbsState → Raw
+unfoldable pub raw : Program → List Entry → NodeKey → AbsState → Raw
 raw words A k s =
     untracked_if (is_hung (device_of words) A k k.sp) k.pc
     (too_deep_if (nat_lt (size_of (device_of words)) (offset_of k.sp)) k.pc (offset_of k.sp)
@@ -328,5 +328,5 @@ settled r [] = Ok (record { same = joined_onto [] r.moves; calls = r.calls; exit
 settled r (f ∷ fs) = Err (least f fs)
 
 -- The successors in the same instance, the calls and the return of a node, or its one fault.
-unfoldable pub local : List ℕ → List Entry → NodeKey → AbsState → Result Local NodeFault
+unfoldable pub local : Program → List Entry → NodeKey → AbsState → Result Local NodeFault
 local words A k s = settled (raw words A k s) (raw words A k s).faults

@@ -2,7 +2,7 @@
 use Rattle.std.specs.Prelude.{ℕ, ◌+◌, ◌*◌, ◌-◌, ◌==◌, Bool, true, false, nat_lt, nat_le, if◌then◌else◌, List, length, Option, Some, None}
 use Rattle.std.specs.Int.{bit_at, from_bool}
 use Rattle.avr_model.specs.declared.device.Device.{Device}
-use Rattle.avr_model.specs.Devices.{words_of, ramend, device_of}
+use Rattle.avr_model.specs.Devices.{Program, words_of, ramend, device_of}
 use Rattle.avr_model.specs.Image.{byte_at}
 use Rattle.avr_model.specs.Vectors.{enable_of}
 use Rattle.avr_model.specs.State.{BELOW, SPL, SPH, SREG, low, high, plus16, minus16}
@@ -151,6 +151,6 @@ abbrev pub read_pointed : Device → Bool → NodeKey → AbsState → Pointed �
 read_pointed device may k s p = read_frame device may k s p.constant p.frame
 
 -- the byte of flash at a known address, on the device of these words
-abbrev pub flash_value : List ℕ → Option ℕ → AbsByte
+abbrev pub flash_value : Program → Option ℕ → AbsByte
 flash_value words None = unknown
 flash_value words (Some z) = if nat_lt z (2 * words_of (device_of words)) then known (byte_at words z) else unknown

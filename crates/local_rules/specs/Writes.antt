@@ -2,7 +2,7 @@
 use Rattle.std.specs.Prelude.{ℕ, ◌+◌, ◌*◌, ◌-◌, ◌%◌, ◌==◌, ◌&&◌, Bool, true, false, not, nat_lt, nat_le, if◌then◌else◌, List, [], ◌∷◌, ◌++◌, map, filter, Option, Some, None, slice_set}
 use Rattle.avr_model.specs.declared.device.Device.{Device}
 use Rattle.avr_model.specs.declared.assumption.Entry.{Entry}
-use Rattle.avr_model.specs.Devices.{size_of, ramend}
+use Rattle.avr_model.specs.Devices.{Program, size_of, ramend}
 use Rattle.avr_model.specs.Assumptions.{store_line, is_fixed_site}
 use Rattle.avr_model.specs.Masks.{admits_enables}
 use Rattle.avr_model.specs.State.{SPL, SPH, SREG, low, high, minus16}
@@ -167,7 +167,7 @@ waking false device A k s r = r
 waking true device A k s r = record r { moves = r.moves ++ record { key = record k { masks = widened device A k.masks }; state = s } ∷ [] }
 
 -- A byte v is stored through registers r and r + 1 plus a number, as they were in the state `was`.
-abbrev pub pointer_write : Device → List ℕ → List Entry → AbsState → ℕ → ℕ → Pointed → ℕ → NodeKey → AbsState → AbsByte → Raw
+abbrev pub pointer_write : Device → Program → List Entry → AbsState → ℕ → ℕ → Pointed → ℕ → NodeKey → AbsState → AbsByte → Raw
 pointer_write device words A was r up p pc k s v =
     if is_fixed_site words A pc
     then fixed_write device p.constant pc k s v

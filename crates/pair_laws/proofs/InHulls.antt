@@ -8,6 +8,7 @@ use Rattle.avr_model.specs.declared.instruction.Instr.TheVariants as i
 use Rattle.avr_model.specs.declared.instruction.BinaryOp.{BinaryOp}
 use Rattle.avr_model.specs.declared.instruction.BinaryOp.TheVariants as binary
 use Rattle.avr_model.specs.Written.{set_by_binary, written}
+use Rattle.avr_model.specs.Devices.{Program}
 use Rattle.pair_domain.specs.declared.intervals.Interval.{Interval}
 use Rattle.pair_domain.specs.declared.facts.PairFacts.{PairFacts}
 use Rattle.pair_domain.specs.Intervals.{whole, IsIntervalWithin, interval_meet, hull}
@@ -106,14 +107,14 @@ module _ (s t a : AbsState) (r : ℕ) where
   joined_kept d rs None kept e = absurd (cc)
   joined_kept d rs (Some v) kept e = subst IsKept (same_Some (with_value t d v) a e) (set_kept t d v rs r kept)
 
-  flash_kept : (words : List ℕ) (d : ℕ) (permits : ℕ → Bool) (rs : List ℕ) → is_one_of (d ∷ rs) r ≡ false → flash_read words t d permits ≡ Some a → IsKept a
+  flash_kept : (words : Program) (d : ℕ) (permits : ℕ → Bool) (rs : List ℕ) → is_one_of (d ∷ rs) r ≡ false → flash_read words t d permits ≡ Some a → IsKept a
   flash_kept words d permits rs kept e = by (few_in_flash words permits) e
     where
       by : (few : Bool) → (if few then with_joined t d (flash_joined words permits) else Some t) ≡ Some a → IsKept a
       by true is = joined_kept d rs (flash_joined words permits) kept is
       by false is = subst IsKept (same_Some t a is) refl
 
-  pub retold_kept : (words : List ℕ) (f : PairFacts) (instr : Instr) → retold words s f instr t ≡ Some a → is_one_of (written instr) r ≡ false → IsKept a
+  pub retold_kept : (words : Program) (f : PairFacts) (instr : Instr) → retold words s f instr t ≡ Some a → is_one_of (written instr) r ≡ false → IsKept a
   retold_kept words f (i.Binary op d q) e kept = binary_kept op d q kept e
   retold_kept words f (i.LpmZ d) e kept = flash_kept words d _ [] kept e
   retold_kept words f (i.LpmZPlus d) e kept = flash_kept words d _ (30 ∷ 31 ∷ []) kept e

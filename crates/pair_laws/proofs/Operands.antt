@@ -6,7 +6,7 @@ use Rattle.std.proofs.lemmas.Nat.Bits.{bit_at-lt}
 use Prim.Native.String.{String}
 use Rattle.avr_model.specs.declared.instruction.Instr.{Instr}
 use Rattle.avr_model.specs.declared.device.Device.{Device}
-use Rattle.avr_model.specs.Devices.{has_jmp, device_of}
+use Rattle.avr_model.specs.Devices.{Program, has_jmp, device_of}
 use Rattle.avr_model.specs.Image.{word_at}
 use Rattle.avr_model.specs.Sites.{is_long_transfer, on_device, instruction_at}
 use Rattle.avr_model.specs.Pattern.{places, letter}
@@ -324,6 +324,6 @@ there : (w next : ℕ) (instr : Instr) → decoded w next ≡ Some instr → Has
 unfolding decoded
 there w next instr e = there_in table w next instr all_there e
 
-pub registers_there : (words : List ℕ) (pc : ℕ) (instr : Instr) → instruction_at words pc ≡ Some instr → HasRegisters instr
+pub registers_there : (words : Program) (pc : ℕ) (instr : Instr) → instruction_at words pc ≡ Some instr → HasRegisters instr
 registers_there words pc instr e =
     there (word_at words pc) (word_at words (pc + 1)) instr (on_device_is (device_of words) (decoded (word_at words pc) (word_at words (pc + 1))) instr e)

@@ -5,6 +5,7 @@ use Rattle.std.proofs.lemmas.Option.{same_Some}
 use Rattle.avr_model.specs.declared.instruction.Instr.{Instr}
 use Rattle.avr_model.specs.State.{State}
 use Rattle.avr_model.specs.Written.{written}
+use Rattle.avr_model.specs.Devices.{Program}
 use Rattle.sp_domain.specs.Tags.{Origin}
 use Rattle.sp_domain.specs.declared.slots.Slot.{Slot}
 use Rattle.sp_domain.specs.Slots.{slot_at}
@@ -43,7 +44,7 @@ use Rattle.pair_laws.proofs.Retold.{IsRetold, same, sets, retold_was, retold_und
 -- ---- the steps
 
 -- what is left of t, with its values retold, and with what is told
-pub record IsRefined (marks words : List ℕ) (instr : Instr) (s t u : AbsState) (f : PairFacts) : Type 0 where
+pub record IsRefined (marks : List ℕ) (words : Program) (instr : Instr) (s t u : AbsState) (f : PairFacts) : Type 0 where
   pub values : AbsState
   pub cut : AbsState
   pub retold_is : retold words s f instr t ≡ Some values
@@ -59,13 +60,13 @@ told_was : (marks : List ℕ) (s u : AbsState) (f : PairFacts) (instr : Instr) (
 told_was marks s u f instr None e = absurd (cc)
 told_was marks s u f instr (Some a) e = (a, refl, e)
 
-refined_was : (marks words : List ℕ) (instr : Instr) (s t u : AbsState) (f : PairFacts) → refined_known marks words instr s t (Some f) ≡ Some u → IsRefined marks words instr s t u f
+refined_was : (marks : List ℕ) (words : Program) (instr : Instr) (s t u : AbsState) (f : PairFacts) → refined_known marks words instr s t (Some f) ≡ Some u → IsRefined marks words instr s t u f
 refined_was marks words instr s t u f e =
     let first = told_was marks s u f instr (retold words s f instr t) e in
     let second = tags_were s u f instr (cut_told marks (told_by s.registers f instr) (with_hulls (written instr) first.0)) first.2 in
     record { values = first.0; cut = second.0; retold_is = first.1; cut_is = second.1; tagged_is = second.2 }
 
-refined_is : (marks words : List ℕ) (instr : Instr) (s t u : AbsState) (f : PairFacts) → IsRefined marks words instr s t u f → refined_known marks words instr s t (Some f) ≡ Some u
+refined_is : (marks : List ℕ) (words : Program) (instr : Instr) (s t u : AbsState) (f : PairFacts) → IsRefined marks words instr s t u f → refined_known marks words instr s t (Some f) ≡ Some u
 refined_is marks words instr s t u f h =
     ap (told_then marks s f instr) h.retold_is ∙ ap (tags_then s f instr) h.cut_is ∙ ap (λ (v : AbsState). Some v) h.tagged_is
 
@@ -118,7 +119,7 @@ retold_tags C t u none (sets d v is fits untagged) old =
 
 -- ---- a state that is refined
 
-module _ (marks words : List ℕ) (instr : Instr) (n k : ℕ) (s t : AbsState) (fit : HasRegisters instr) (before : IsFormed s n) (behind : IsFormed t k) where
+module _ (marks : List ℕ) (words : Program) (instr : Instr) (n k : ℕ) (s t : AbsState) (fit : HasRegisters instr) (before : IsFormed s n) (behind : IsFormed t k) where
   -- the state in which the hulls are told
   hulled_formed : (f : PairFacts) (a : AbsState) → retold words s f instr t ≡ Some a → IsFormed (with_hulls (written instr) a) k
   hulled_formed f a is =
@@ -219,7 +220,7 @@ module _ (marks words : List ℕ) (instr : Instr) (n k : ℕ) (s t : AbsState) (
       either a is facts_is p small true e = inr e
       either a is facts_is p small false e = inl (old a is facts_is p small e)
 
-like_known : (marks words : List ℕ) (instr : Instr) (s t u : AbsState) (x : Option PairFacts) → refined_known marks words instr s t x ≡ Some u → IsLike t u
+like_known : (marks : List ℕ) (words : Program) (instr : Instr) (s t u : AbsState) (x : Option PairFacts) → refined_known marks words instr s t x ≡ Some u → IsLike t u
 like_known marks words instr s t u None e = subst (IsLike t) (same_Some t u e) (record { flags = refl; slots = refl })
 like_known marks words instr s t u (Some f) e =
     let was = refined_was marks words instr s t u f e in
@@ -229,7 +230,7 @@ like_known marks words instr s t u (Some f) e =
 
 -- ---- of more it is more
 
-module _ (marks words : List ℕ) (instr : Instr) (n k : ℕ) (s s' t t' u : AbsState) (fit : HasRegisters instr) (before : IsFormed s n) (before' : IsFormed s' n)
+module _ (marks : List ℕ) (words : Program) (instr : Instr) (n k : ℕ) (s s' t t' u : AbsState) (fit : HasRegisters instr) (before : IsFormed s n) (before' : IsFormed s' n)
     (behind : IsFormed t k) (behind' : IsFormed t' k) (covers : CoversTold words s instr t) (covers' : CoversTold words s' instr t') (within : IsStateWithin s s') (le : IsStateWithin t t')
   where
     more_known : (x x' : Option PairFacts) → KnownFits x → KnownFits x' → t.facts ≡ ended_by instr x → IsKnownWithin x x' → refined_known marks words instr s t x ≡ Some u
@@ -271,7 +272,7 @@ module _ (marks words : List ℕ) (instr : Instr) (n k : ℕ) (s s' t t' u : Abs
 
 -- ---- it stands
 
-module _ (marks words : List ℕ) (o : Origin) (m : State) (instr : Instr) (b1 b2 n k : ℕ) (s t : AbsState) (are : All (λ w. w < 65536) words) (fit : HasRegisters instr)
+module _ (marks : List ℕ) (words : Program) (o : Origin) (m : State) (instr : Instr) (b1 b2 n k : ℕ) (s t : AbsState) (are : All (λ w. w < 65536) words) (fit : HasRegisters instr)
     (before : IsFormed s n) (behind : IsFormed t k) (at : IsBefore o s m) (lands : IsBehind o t (registers_set words m instr b1 b2) (sreg_set words m instr b1 b2)) where
   holds_known : (x : Option PairFacts) → KnownFits x → HoldsAt x m.registers m.sreg
       → (u : AbsState) × (refined_known marks words instr s t x ≡ Some u) × IsBehind o u (registers_set words m instr b1 b2) (sreg_set words m instr b1 b2)

@@ -21,6 +21,7 @@ use Rattle.avr_model.specs.Wide.{wide_of, flags_of_wide}
 use Rattle.avr_model.specs.State.{State, register, pair}
 use Rattle.avr_model.specs.Effects.{carry, binary_effect, immediate_effect, unary_effect}
 use Rattle.avr_model.specs.Step.{with_registers}
+use Rattle.avr_model.specs.Devices.{Program}
 use Rattle.abs_alu.proofs.AllLaws.{below_two}
 use Rattle.sp_domain.specs.Tags.{Origin}
 use Rattle.pair_domain.specs.declared.tags.SumTag.TheVariants as sum
@@ -219,7 +220,7 @@ high_compared registers bytes (compare.Byte x y) d r s fit h = by (is_odd d && (
 -- ---- by the instruction
 
 module _ (o : Origin) (m : State) (s : AbsState) (n : ℕ) (at : IsBefore o s m) (formed : IsFormed s n) (f : PairFacts) (fits : FactsFit f)
-    (h : HoldsAt (Some f) m.registers m.sreg) (words : List ℕ) where
+    (h : HoldsAt (Some f) m.registers m.sreg) (words : Program) where
   inside : (d : ℕ) → d < 32 → d < length m.registers
   inside d lt = omega (arith, lt, at.count)
 

@@ -19,6 +19,7 @@ use Rattle.avr_model.specs.Sums.{sum_of, difference_of}
 use Rattle.avr_model.specs.State.{State, pair, plus16, minus16}
 use Rattle.avr_model.specs.Effects.{moved, set, binary_effect, immediate_effect}
 use Rattle.avr_model.specs.Step.{with_registers}
+use Rattle.avr_model.specs.Devices.{Program}
 use Rattle.bit_domain.proofs.AllLaws.{ranges_fit}
 use Rattle.sp_domain.specs.Tags.{Origin}
 use Rattle.pair_domain.specs.declared.intervals.Interval.{Interval}
@@ -158,7 +159,7 @@ module _ (o : Origin) (m : State) (s : AbsState) (n : ℕ) (at : IsBefore o s m)
       by true e =
           subst (InInterval (interval_of f d)) (sym (same_is m.registers at.count d (d / 2) x (is (eqb-true d r e)))) (h.intervals (d / 2) (omega (arith, lt)))
 
-  binary_true : (words : List ℕ) (op : BinaryOp) (d r : ℕ) → d < 32 → r < 32
+  binary_true : (words : Program) (op : BinaryOp) (d r : ℕ) → d < 32 → r < 32
       → TellsTrue (told_binary s.registers f op d r) (with_registers m.registers (binary_effect words m op d r).registers)
   binary_true words binary.Cpc d r small other = tt
   binary_true words binary.Sbc d r small other =
@@ -220,7 +221,7 @@ module _ (o : Origin) (m : State) (s : AbsState) (n : ℕ) (at : IsBefore o s m)
   wide_less : (w k : ℕ) → w < 65536 → k < 256 → minus16 w k ≡ (65536 + w - k) % 65536
   wide_less w k small lt = omega arith
 
-  pub told_true : (words : List ℕ) (b1 b2 : ℕ) (instr : Instr) → HasRegisters instr → TellsTrue (told_by s.registers f instr) (registers_set words m instr b1 b2)
+  pub told_true : (words : Program) (b1 b2 : ℕ) (instr : Instr) → HasRegisters instr → TellsTrue (told_by s.registers f instr) (registers_set words m instr b1 b2)
   told_true words b1 b2 (i.Movw d r) fit =
       subst (InInterval (interval_at f.intervals r)) (sym (set_word m.registers at.count d (pair m (2 * r)) fit.0)) (h.intervals r fit.1)
   told_true words b1 b2 (i.Binary op d r) fit = binary_true words op d r fit.0 fit.1

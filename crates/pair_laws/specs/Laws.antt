@@ -7,6 +7,7 @@ use Rattle.avr_model.specs.State.{State}
 use Rattle.avr_model.specs.Effects.{effect_of}
 use Rattle.avr_model.specs.Step.{with_registers}
 use Rattle.avr_model.specs.Written.{written}
+use Rattle.avr_model.specs.Devices.{Program}
 use Rattle.bit_domain.specs.declared.bits.Tri.{Tri}
 use Rattle.bit_domain.specs.declared.bytes.TriByte.{TriByte}
 use Rattle.bit_domain.specs.TriByte.{byte_constant}
@@ -32,25 +33,25 @@ abbrev pub AreRegisterBytes : List ℕ → Type 0
 AreRegisterBytes registers = (r : ℕ) → slice_index registers r < 256
 
 -- the registers and the status register behind an instruction, before a byte is stored
-abbrev pub registers_set : List ℕ → State → Instr → ℕ → ℕ → List ℕ
+abbrev pub registers_set : Program → State → Instr → ℕ → ℕ → List ℕ
 registers_set words m instr b1 b2 = with_registers m.registers (effect_of words m instr b1 b2).registers
 
-abbrev pub sreg_set : List ℕ → State → Instr → ℕ → ℕ → ℕ
+abbrev pub sreg_set : Program → State → Instr → ℕ → ℕ → ℕ
 sreg_set words m instr b1 b2 = (effect_of words m instr b1 b2).sreg
 
 -- ---- what laws of the rows ask for
 
 -- the registers of an instruction at a word of flash are there
 pub record OperandsFit : Type 0 where
-  pub fit : (words : List ℕ) (pc : ℕ) (instr : Instr) → instruction_at words pc ≡ Some instr → HasRegisters instr
+  pub fit : (words : Program) (pc : ℕ) (instr : Instr) → instruction_at words pc ≡ Some instr → HasRegisters instr
 
 -- The sum of a byte with itself is above the doubled byte; what is read at a constant address, or isn't known, is above what is read at each
 -- number that the pair permits.
 pub record ValuesAreCovered : Type 0 where
   pub doubled : (bits flags : TriByte) (carry : Tri) → IsByteWithin (untagged (doubled bits carry)) (with_bits tag.None (abs_add bits bits carry flags).0)
-  pub constant : (words : List ℕ) (p : PairSet) (x y : ℕ) → byte_constant p.low.bits ≡ Some x → byte_constant p.high.bits ≡ Some y
+  pub constant : (words : Program) (p : PairSet) (x y : ℕ) → byte_constant p.low.bits ≡ Some x → byte_constant p.high.bits ≡ Some y
       → CoversFlash words p (flash_at words (x + 256 * y))
-  pub unknown : (words : List ℕ) (p : PairSet) → CoversFlash words p unknown
+  pub unknown : (words : Program) (p : PairSet) → CoversFlash words p unknown
   pub permits : (p : PairSet) (x y : ℕ) → PairStands p x y → pair_permits p (x + 256 * y) ≡ true
 
 -- ---- refined states
@@ -75,26 +76,26 @@ pub record IsLike (t u : AbsState) : Type 0 where
 
 -- A machine that the state before an instruction and the plain one behind it stand for is one that the refined one, which is there, stands for.
 pub record RefinedHolds : Type 0 where
-  pub holds : (marks words : List ℕ) (o : Origin) (m : State) (instr : Instr) (b1 b2 n k : ℕ) (s t : AbsState) → All (λ w. w < 65536) words
+  pub holds : (marks : List ℕ) (words : Program) (o : Origin) (m : State) (instr : Instr) (b1 b2 n k : ℕ) (s t : AbsState) → All (λ w. w < 65536) words
       → HasRegisters instr → IsFormed s n → IsFormed t k → IsBefore o s m → IsBehind o t (registers_set words m instr b1 b2) (sreg_set words m instr b1 b2)
       → (u : AbsState) × (refined marks words instr s t ≡ Some u) × IsBehind o u (registers_set words m instr b1 b2) (sreg_set words m instr b1 b2)
 
 -- It says more than the plain one, which it is like; where the two before it say more, so does it; and it is formed where the plain one is.
 pub record RefinedIsOrdered : Type 0 where
-  pub like : (marks words : List ℕ) (instr : Instr) (s t u : AbsState) → refined marks words instr s t ≡ Some u → IsLike t u
-  pub under : (marks words : List ℕ) (instr : Instr) (n k : ℕ) (s t u : AbsState) → HasRegisters instr → IsFormed s n → IsFormed t k
+  pub like : (marks : List ℕ) (words : Program) (instr : Instr) (s t u : AbsState) → refined marks words instr s t ≡ Some u → IsLike t u
+  pub under : (marks : List ℕ) (words : Program) (instr : Instr) (n k : ℕ) (s t u : AbsState) → HasRegisters instr → IsFormed s n → IsFormed t k
       → IsPlain words instr s t → refined marks words instr s t ≡ Some u → IsStateWithin u t
-  pub more : (marks words : List ℕ) (instr : Instr) (n k : ℕ) (s s' t t' u : AbsState) → HasRegisters instr → IsFormed s n → IsFormed s' n → IsFormed t k
+  pub more : (marks : List ℕ) (words : Program) (instr : Instr) (n k : ℕ) (s s' t t' u : AbsState) → HasRegisters instr → IsFormed s n → IsFormed s' n → IsFormed t k
       → IsFormed t' k → IsPlain words instr s t → IsPlain words instr s' t' → IsStateWithin s s' → IsStateWithin t t' → refined marks words instr s t ≡ Some u
       → (u' : AbsState) × (refined marks words instr s' t' ≡ Some u') × IsStateWithin u u'
-  pub formed : (marks words : List ℕ) (instr : Instr) (n k : ℕ) (s t u : AbsState) → HasRegisters instr → IsFormed s n → IsFormed t k
+  pub formed : (marks : List ℕ) (words : Program) (instr : Instr) (n k : ℕ) (s t u : AbsState) → HasRegisters instr → IsFormed s n → IsFormed t k
       → refined marks words instr s t ≡ Some u → IsFormed u k
-  pub tags : (marks words : List ℕ) (instr : Instr) (n k : ℕ) (s t u : AbsState) → HasRegisters instr → IsFormed s n → IsFormed t k → TagsFit t
+  pub tags : (marks : List ℕ) (words : Program) (instr : Instr) (n k : ℕ) (s t u : AbsState) → HasRegisters instr → IsFormed s n → IsFormed t k → TagsFit t
       → refined marks words instr s t ≡ Some u → TagsFit u
-  pub untagged : (marks words : List ℕ) (instr : Instr) (n k : ℕ) (s t u : AbsState) → HasRegisters instr → IsFormed s n → IsFormed t k → IsUntagged t
+  pub untagged : (marks : List ℕ) (words : Program) (instr : Instr) (n k : ℕ) (s t u : AbsState) → HasRegisters instr → IsFormed s n → IsFormed t k → IsUntagged t
       → refined marks words instr s t ≡ Some u → IsUntagged u
   -- where the registers that aren't written have the sets that they had
-  pub hulls : (marks words : List ℕ) (instr : Instr) (n k : ℕ) (s t u : AbsState) → HasRegisters instr → IsFormed s n → IsFormed t k
+  pub hulls : (marks : List ℕ) (words : Program) (instr : Instr) (n k : ℕ) (s t u : AbsState) → HasRegisters instr → IsFormed s n → IsFormed t k
       → t.facts ≡ ended_by instr s.facts
       → ((r : ℕ) → r < 32 → is_one_of (written instr) r ≡ false → set_of (value_at t.registers r) ≡ set_of (value_at s.registers r)) → IsInHulls s
       → refined marks words instr s t ≡ Some u → IsInHulls u

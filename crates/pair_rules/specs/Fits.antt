@@ -4,6 +4,7 @@ use Rattle.avr_model.specs.declared.instruction.Instr.{Instr}
 use Rattle.avr_model.specs.declared.instruction.Instr.TheVariants as i
 use Rattle.avr_model.specs.declared.instruction.BinaryOp.{BinaryOp}
 use Rattle.avr_model.specs.declared.instruction.BinaryOp.TheVariants as binary
+use Rattle.avr_model.specs.Devices.{Program}
 use Rattle.bit_domain.specs.declared.bits.Tri.TheVariants.{Zero}
 use Rattle.bit_domain.specs.TriByte.{tri_at}
 use Rattle.pair_domain.specs.declared.facts.PairFacts.{PairFacts}
@@ -35,11 +36,11 @@ HasRegisters (i.Bld d b) = d < 32
 HasRegisters _ = ⊤
 
 -- what is known of a byte of flash, and of what is read behind it
-abbrev pub flash_at : List ℕ → ℕ → AbsByte
+abbrev pub flash_at : Program → ℕ → AbsByte
 flash_at words z = if is_flash words z then flash_known words z else unknown
 
 -- the value is above what is read at each number that the pair permits
-abbrev pub CoversFlash : List ℕ → PairSet → AbsByte → Type 0
+abbrev pub CoversFlash : Program → PairSet → AbsByte → Type 0
 CoversFlash words p v = (z : ℕ) → z < 65536 → pair_permits p z ≡ true → IsByteWithin (flash_at words z) v
 
 abbrev pub CoversDoubled : AbsState → BinaryOp → ℕ → AbsByte → Type 0
@@ -48,7 +49,7 @@ CoversDoubled s binary.Adc d v = IsByteWithin (doubled_value s d (tri_at s.flags
 CoversDoubled s _ d v = ⊤
 
 -- in t the register that is set is above what is told of its value
-abbrev pub CoversTold : List ℕ → AbsState → Instr → AbsState → Type 0
+abbrev pub CoversTold : Program → AbsState → Instr → AbsState → Type 0
 CoversTold words s (i.Binary op d r) t = d ≡ r → CoversDoubled s op d (value_at t.registers d)
 CoversTold words s (i.LpmZ d) t = (f : PairFacts) → CoversFlash words (z_of s f) (value_at t.registers d)
 CoversTold words s (i.LpmZPlus d) t = (f : PairFacts) → CoversFlash words (z_of s f) (value_at t.registers d)
@@ -56,6 +57,6 @@ CoversTold words s i.Lpm t = (f : PairFacts) → CoversFlash words (z_of s f) (v
 CoversTold words s _ t = ⊤
 
 -- t is what the plain rules leave of s: its facts are those of s less what is written, and its values are above those that are told
-pub record IsPlain (words : List ℕ) (instr : Instr) (s t : AbsState) : Type 0 where
+pub record IsPlain (words : Program) (instr : Instr) (s t : AbsState) : Type 0 where
   pub facts : t.facts ≡ ended_by instr s.facts
   pub value : CoversTold words s instr t

@@ -1,7 +1,7 @@
 -- Bytes of flash at the numbers that a pair of registers may hold. Source: own.
 use Rattle.std.specs.Prelude.{ℕ, zero, suc, ◌*◌, ◌/◌, ◌%◌, ◌&&◌, ◌||◌, Bool, not, nat_lt, nat_le, if◌then◌else◌, List, Option, Some, None}
 use Rattle.avr_model.specs.Bits.{all_below}
-use Rattle.avr_model.specs.Devices.{words_of, device_of}
+use Rattle.avr_model.specs.Devices.{Program, words_of, device_of}
 use Rattle.avr_model.specs.Image.{byte_at}
 use Rattle.bit_domain.specs.Ranges.{ByteSet}
 use Rattle.bit_domain.specs.TriByte.{has}
@@ -38,16 +38,16 @@ joined_below permits value (suc n) = if permits n then Some (joined_with (joined
 
 -- ---- flash
 
-abbrev pub flash_known : List ℕ → ℕ → AbsByte
+abbrev pub flash_known : Program → ℕ → AbsByte
 flash_known words z = known (byte_at words z)
 
-abbrev pub is_flash : List ℕ → ℕ → Bool
+abbrev pub is_flash : Program → ℕ → Bool
 is_flash words z = nat_lt z (2 * words_of (device_of words))
 
 -- at most 64 numbers are permitted, and all are addresses of bytes of the device's flash
-abbrev pub few_in_flash : List ℕ → (ℕ → Bool) → Bool
+abbrev pub few_in_flash : Program → (ℕ → Bool) → Bool
 few_in_flash words permits = nat_le (count_below permits 65536) 64 && all_below 65536 (λ z. not (permits z) || is_flash words z)
 
 -- the join of the bytes at the numbers that are permitted; none where none is
-abbrev pub flash_joined : List ℕ → (ℕ → Bool) → Option AbsByte
+abbrev pub flash_joined : Program → (ℕ → Bool) → Option AbsByte
 flash_joined words permits = joined_below permits (flash_known words) 65536

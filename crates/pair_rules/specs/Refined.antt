@@ -3,6 +3,7 @@
 use Rattle.std.specs.Prelude.{ℕ, List, Option, Some, None}
 use Rattle.avr_model.specs.declared.instruction.Instr.{Instr}
 use Rattle.avr_model.specs.Written.{written}
+use Rattle.avr_model.specs.Devices.{Program}
 use Rattle.pair_domain.specs.declared.intervals.Interval.{Interval}
 use Rattle.pair_domain.specs.declared.facts.PairFacts.{PairFacts}
 use Rattle.pair_domain.specs.Intervals.{interval_meet}
@@ -43,11 +44,11 @@ abbrev pub told_then : List ℕ → AbsState → PairFacts → Instr → Option 
 told_then marks s f instr None = None
 told_then marks s f instr (Some t) = tags_then s f instr (cut_told marks (told_by s.registers f instr) (with_hulls (written instr) t))
 
-abbrev pub refined_known : List ℕ → List ℕ → Instr → AbsState → AbsState → Option PairFacts → Option AbsState
+abbrev pub refined_known : List ℕ → Program → Instr → AbsState → AbsState → Option PairFacts → Option AbsState
 refined_known marks words instr s t None = Some t
 refined_known marks words instr s t (Some f) = told_then marks s f instr (retold words s f instr t)
 
 -- Of the state s before an instruction and what the plain rules leave of it, in which the facts on what it writes are ended. Of a store
 -- it is what is left before the byte is stored. There is none where the instruction tells that no machine gets there.
-abbrev pub refined : List ℕ → List ℕ → Instr → AbsState → AbsState → Option AbsState
+abbrev pub refined : List ℕ → Program → Instr → AbsState → AbsState → Option AbsState
 refined marks words instr s t = refined_known marks words instr s t s.facts

@@ -4,6 +4,7 @@ use Rattle.avr_model.specs.declared.instruction.Instr.{Instr}
 use Rattle.avr_model.specs.declared.instruction.Instr.TheVariants as i
 use Rattle.avr_model.specs.declared.instruction.BinaryOp.{BinaryOp}
 use Rattle.avr_model.specs.declared.instruction.BinaryOp.TheVariants as binary
+use Rattle.avr_model.specs.Devices.{Program}
 use Rattle.bit_domain.specs.declared.bits.Tri.{Tri}
 use Rattle.bit_domain.specs.declared.bits.Tri.TheVariants.{Zero}
 use Rattle.bit_domain.specs.declared.bytes.TriByte.{TriByte}
@@ -42,7 +43,7 @@ with_joined t d None = None
 with_joined t d (Some v) = Some (with_value t d v)
 
 -- where few numbers are permitted, and all in flash; else as in the plain rules
-abbrev pub flash_read : List ℕ → AbsState → ℕ → (ℕ → Bool) → Option AbsState
+abbrev pub flash_read : Program → AbsState → ℕ → (ℕ → Bool) → Option AbsState
 flash_read words t d permits = if few_in_flash words permits then with_joined t d (flash_joined words permits) else Some t
 
 -- what is known of Z before
@@ -51,7 +52,7 @@ z_of s f = pair_of s.registers f.intervals 15
 
 -- ---- by the instruction: s is the state before it, and t what the plain rules leave
 
-abbrev pub retold : List ℕ → AbsState → PairFacts → Instr → AbsState → Option AbsState
+abbrev pub retold : Program → AbsState → PairFacts → Instr → AbsState → Option AbsState
 retold words s f (i.Binary op d r) t = Some (if d == r then doubled_by s op d t else t)
 retold words s f (i.LpmZ d) t = flash_read words t d (pair_permits (z_of s f))
 retold words s f (i.LpmZPlus d) t = flash_read words t d (pair_permits (z_of s f))

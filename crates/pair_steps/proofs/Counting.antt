@@ -6,6 +6,7 @@ use Rattle.std.proofs.lemmas.Option.{same_Some, none-some}
 use Rattle.std.specs.Bool.{IsTrue}
 use Rattle.basics.specs.Booleans.{and_with_false}
 use Rattle.avr_model.specs.Bits.{all_below}
+use Rattle.avr_model.specs.Devices.{Program}
 use Rattle.bit_domain.specs.declared.bytes.TriByte.{TriByte}
 use Rattle.bit_domain.specs.TriByte.{Has, has}
 use Rattle.bit_domain.proofs.AllLaws.{tests_tell_members}
@@ -39,7 +40,7 @@ is_above p z lt =
     ap (λ (b : Bool). ((nat_le p.interval.low z && b) && set_permits p.low (z % 256)) && set_permits p.high (z / 256)) out
     ∙ ap (λ (b : Bool). (b && set_permits p.low (z % 256)) && set_permits p.high (z / 256)) (and_with_false (nat_le p.interval.low z))
 
-module _ (words : List ℕ) (permits : ℕ → Bool) where
+module _ (words : Program) (permits : ℕ → Bool) where
   -- the answer where all numbers are counted
   abbrev answer : Option (Option AbsByte)
   answer = if few_in_flash words permits then Some (flash_joined words permits) else None
@@ -177,10 +178,10 @@ module _ (words : List ℕ) (permits : ℕ → Bool) where
           false≢true (sym (ap (λ (b : Bool). not b || is_flash words n) e ∙ off) ∙ h)
 
 -- the loop over the interval of a pair
-pub begins : (words : List ℕ) (p : PairSet) → IsSoFar words (pair_permits p) p.interval.low 0 None
+pub begins : (words : Program) (p : PairSet) → IsSoFar words (pair_permits p) p.interval.low 0 None
 begins words p = starts words (pair_permits p) p.interval.low (is_below p)
 
-pub is_over : (words : List ℕ) (p : PairSet) (n count : ℕ) (value : Option AbsByte) → n ≤ 65536 → p.interval.high < n → IsSoFar words (pair_permits p) n count value
+pub is_over : (words : Program) (p : PairSet) (n count : ℕ) (value : Option AbsByte) → n ≤ 65536 → p.interval.high < n → IsSoFar words (pair_permits p) n count value
     → (if few_in_flash words (pair_permits p) then Some (flash_joined words (pair_permits p)) else None) ≡ Some value
 is_over words p n count value le over h = ends words (pair_permits p) n count value le (λ z far. is_above p z (omega (arith, over, far))) h
 

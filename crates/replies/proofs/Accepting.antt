@@ -8,7 +8,7 @@ use Rattle.avr_model.specs.declared.assumption.Entry.{Entry}
 use Rattle.avr_model.specs.declared.choice.Stop.{Stop}
 use Rattle.avr_model.specs.declared.choice.Stop.TheVariants as stop
 use Rattle.avr_model.specs.declared.device.Device.{Device}
-use Rattle.avr_model.specs.Devices.{words_of as count_of}
+use Rattle.avr_model.specs.Devices.{Program, words_of as count_of}
 use Rattle.avr_model.specs.Image.{WORDS, IsRawImage, raw_words}
 use Rattle.avr_model.specs.Run.{Bounded}
 use Rattle.local_rules.specs.Machine.{AreWords}
@@ -104,7 +104,7 @@ no_word None e = refl
 no_word (Some word) e = absurd (let wrong = e in cc)
 
 module _
-    (one : (bytes words : List ℕ) → IsRawImage bytes words → words ≡ raw_words bytes)
+    (one : (bytes : List ℕ) (words : Program) → IsRawImage bytes words → words ≡ raw_words bytes)
     (images : (bytes : List ℕ) → length bytes % 2 ≡ 0 → length bytes ≤ 2 * WORDS → IsRawImage bytes (raw_words bytes))
     (narrowing : NarrowingIsExact) where
   image_by : (elf : Bool) (bytes : List ℕ) → fault_by elf bytes ≡ None → IsImageBy elf bytes (words_by elf bytes)
@@ -130,12 +130,12 @@ module _
       let image = image_by (is_elf bytes) bytes none.0 in
       record { all = all; image = image; narrowed = narrowing.some device all (image_size (is_elf bytes) bytes all image) (no_word (outside_word device all) none.1) }
 
-  pub words_of : (device : Device) (bytes words : List ℕ) → IsFirmware device bytes words → words ≡ firmware_words device bytes
+  pub words_of : (device : Device) (bytes : List ℕ) (words : Program) → IsFirmware device bytes words → words ≡ firmware_words device bytes
   words_of device bytes words h =
       narrowing.words device h.all words (image_size (is_elf bytes) bytes h.all h.image) h.narrowed
       ∙ ap (take (count_of device)) (all_of (is_elf bytes) bytes h.all h.image)
 
-  pub fault_of : (device : Device) (bytes words : List ℕ) → IsFirmware device bytes words → firmware_fault device bytes ≡ None
+  pub fault_of : (device : Device) (bytes : List ℕ) (words : Program) → IsFirmware device bytes words → firmware_fault device bytes ≡ None
   fault_of device bytes words h =
       let none = narrowing.none device h.all words (image_size (is_elf bytes) bytes h.all h.image) h.narrowed in
       ap (λ (o : Option (List ℕ)). fault_or o (outside_fault device (words_by (is_elf bytes) bytes))) (image_fault (is_elf bytes) bytes h.all h.image)
@@ -148,7 +148,7 @@ module _
       let by = zero_by (firmware_fault device bytes) (next (firmware_words device bytes)) text h in
       (firmware_here device bytes by.0, by.1)
 
-  pub image_zero : (device : Device) (bytes words : List ℕ) (next : List ℕ → Reply) (status : ℕ) (text : List ℕ) → IsFirmware device bytes words → next words status text → WithImage device bytes next status text
+  pub image_zero : (device : Device) (bytes : List ℕ) (words : Program) (next : List ℕ → Reply) (status : ℕ) (text : List ℕ) → IsFirmware device bytes words → next words status text → WithImage device bytes next status text
   image_zero device bytes words next status text firmware h =
       by_none (firmware_fault device bytes) (next (firmware_words device bytes)) status text (fault_of device bytes words firmware)
       (subst (λ ws. next ws status text) (words_of device bytes words firmware) h)
@@ -197,20 +197,20 @@ attains_by bound (Err step) h = absurd h
 attains_by bound (Ok r) h = let d : (r.depth == bound) ≡ true = (let e = h.1 in grind (arith, nat_tests)) in rw (h.0, d) refl
 
 -- the schedule attains the bound, and what follows is answered
-pub record IsAttainmentTold (words : List ℕ) (A : List Entry) (next : Reply) (bound : ℕ) (w : Option Plan) (text : List ℕ) : Type 0 where
+pub record IsAttainmentTold (words : Program) (A : List Entry) (next : Reply) (bound : ℕ) (w : Option Plan) (text : List ℕ) : Type 0 where
   pub attained : IsAttained words A bound w
   pub says : next 0 text
 
-zero_attained : (words : List ℕ) (A : List Entry) (next : Reply) (bound : ℕ) (plan : Plan) (attained : Bool) (text : List ℕ) → attains bound (replay_of words A plan) ≡ attained
+zero_attained : (words : Program) (A : List Entry) (next : Reply) (bound : ℕ) (plan : Plan) (attained : Bool) (text : List ℕ) → attains bound (replay_of words A plan) ≡ attained
     → AttainedBy next attained 0 text → IsAttainmentTold words A next bound (Some plan) text
 zero_attained words A next bound plan true text e h = record { attained = attained_by bound (replay_of words A plan) e; says = h }
 zero_attained words A next bound plan false text e h = absurd (no_one h.0)
 
-zero_witness : (words : List ℕ) (A : List Entry) (next : Reply) (bound : ℕ) (w : Option Plan) (text : List ℕ) → WitnessReply words A next bound w 0 text → IsAttainmentTold words A next bound w text
+zero_witness : (words : Program) (A : List Entry) (next : Reply) (bound : ℕ) (w : Option Plan) (text : List ℕ) → WitnessReply words A next bound w 0 text → IsAttainmentTold words A next bound w text
 zero_witness words A next bound None text h = record { attained = tt; says = h }
 zero_witness words A next bound (Some plan) text h = zero_attained words A next bound plan (attains bound (replay_of words A plan)) text refl h
 
-pub witness_zero : (words : List ℕ) (A : List Entry) (next : Reply) (bound : ℕ) (w : Option Plan) (status : ℕ) (text : List ℕ) → IsAttained words A bound w → next status text
+pub witness_zero : (words : Program) (A : List Entry) (next : Reply) (bound : ℕ) (w : Option Plan) (status : ℕ) (text : List ℕ) → IsAttained words A bound w → next status text
     → WitnessReply words A next bound w status text
 witness_zero words A next bound None status text h k = k
 witness_zero words A next bound (Some plan) status text h k = subst (λ b. AttainedBy next b status text) (sym (attains_by bound (replay_of words A plan) h)) k
@@ -218,21 +218,21 @@ witness_zero words A next bound (Some plan) status text h k = subst (λ b. Attai
 -- ---- the verdict and the certificate
 
 -- the certificate is sound, its schedule attains its bound, and what follows is answered
-pub record IsAccepted (words : List ℕ) (A : List Entry) (next : Claim → Reply) (c : Claim) (text : List ℕ) : Type 0 where
+pub record IsAccepted (words : Program) (A : List Entry) (next : Claim → Reply) (c : Claim) (text : List ℕ) : Type 0 where
   pub sound : IsSound words A c
   pub told : IsAttainmentTold words A (next c) c.bound c.witness text
 
-zero_verdict : (words : List ℕ) (A : List Entry) (next : Claim → Reply) (c : Claim) (v : Verdict) (text : List ℕ) → IsVerdict words A c v → VerdictReply words A next c v 0 text → IsAccepted words A next c text
+zero_verdict : (words : Program) (A : List Entry) (next : Claim → Reply) (c : Claim) (v : Verdict) (text : List ℕ) → IsVerdict words A c v → VerdictReply words A next c v 0 text → IsAccepted words A next c text
 zero_verdict words A next c (Rejected reason) text is h = absurd (no_one h.0)
 zero_verdict words A next c (Accepted bound) text is h =
     record { sound = is.0; told = subst (λ b. IsAttainmentTold words A (next c) b c.witness text) is.1 (zero_witness words A (next c) bound c.witness text h) }
 
-zero_certificate : (words : List ℕ) (A : List Entry) (next : Claim → Reply) (x : Result Claim CertFault) (text : List ℕ) → CertificateReply words A next x 0 text
+zero_certificate : (words : Program) (A : List Entry) (next : Claim → Reply) (x : Result Claim CertFault) (text : List ℕ) → CertificateReply words A next x 0 text
     → (c : Claim) × (x ≡ Ok c) × IsAccepted words A next c text
 zero_certificate words A next (Err fault) text h = absurd (zero_refused 8 no_eight (certificate_refused fault) text h)
 zero_certificate words A next (Ok c) text h = (c, refl, zero_verdict words A next c h.verdict text h.is h.reply)
 
-certificate_zero : (words : List ℕ) (A : List Entry) (next : Claim → Reply) (x : Result Claim CertFault) (c : Claim) (status : ℕ) (text : List ℕ) → x ≡ Ok c → IsSound words A c → IsAttained words A c.bound c.witness
+certificate_zero : (words : Program) (A : List Entry) (next : Claim → Reply) (x : Result Claim CertFault) (c : Claim) (status : ℕ) (text : List ℕ) → x ≡ Ok c → IsSound words A c → IsAttained words A c.bound c.witness
     → next c status text → CertificateReply words A next x status text
 certificate_zero words A next x c status text e sound attained k =
     subst (λ y. CertificateReply words A next y status text) (sym e)
@@ -241,17 +241,17 @@ certificate_zero words A next x c status text e sound attained k =
 -- ---- where a verdict is given
 
 -- the certificate is valid and what follows is answered, or it isn't valid
-abbrev pub IsJudged : List ℕ → List Entry → (Claim → Reply) → Claim → Reply
+abbrev pub IsJudged : Program → List Entry → (Claim → Reply) → Claim → Reply
 IsJudged words A next c status text = (IsValid words A c × next c status text) ⊎ ((IsValid words A c → ⊥) × (status ≡ 1))
 
-by_attained : (words : List ℕ) (A : List Entry) (next : Claim → Reply) (c : Claim) (plan : Plan) (attained : Bool) (status : ℕ) (text : List ℕ) → IsSound words A c → c.witness ≡ Some plan
+by_attained : (words : Program) (A : List Entry) (next : Claim → Reply) (c : Claim) (plan : Plan) (attained : Bool) (status : ℕ) (text : List ℕ) → IsSound words A c → c.witness ≡ Some plan
     → attains c.bound (replay_of words A plan) ≡ attained → AttainedBy (next c) attained status text → IsJudged words A next c status text
 by_attained words A next c plan true status text sound is e h =
     inl (record { sound = sound; attained = subst (IsAttained words A c.bound) (sym is) (attained_by c.bound (replay_of words A plan) e) }, h)
 by_attained words A next c plan false status text sound is e h =
     inr (λ v. no_true (sym (attains_by c.bound (replay_of words A plan) (subst (IsAttained words A c.bound) is v.attained)) ∙ e), h.0)
 
-by_witness : (words : List ℕ) (A : List Entry) (next : Claim → Reply) (c : Claim) (w : Option Plan) (status : ℕ) (text : List ℕ) → IsSound words A c → c.witness ≡ w
+by_witness : (words : Program) (A : List Entry) (next : Claim → Reply) (c : Claim) (w : Option Plan) (status : ℕ) (text : List ℕ) → IsSound words A c → c.witness ≡ w
     → WitnessReply words A (next c) c.bound w status text → IsJudged words A next c status text
 by_witness words A next c None status text sound is h = inl (record { sound = sound; attained = subst (IsAttained words A c.bound) (sym is) tt }, h)
 by_witness words A next c (Some plan) status text sound is h = by_attained words A next c plan (attains c.bound (replay_of words A plan)) status text sound is refl h
@@ -259,7 +259,7 @@ by_witness words A next c (Some plan) status text sound is h = by_attained words
 rejected_apart : (reason : Reason) (bound : ℕ) → Rejected reason ≡ Accepted bound → ⊥
 rejected_apart reason bound e = cc
 
-by_verdict : VerdictsAreOne → (words : List ℕ) (A : List Entry) (next : Claim → Reply) (c : Claim) → IsClaim c → (v : Verdict) (status : ℕ) (text : List ℕ) → IsVerdict words A c v
+by_verdict : VerdictsAreOne → (words : Program) (A : List Entry) (next : Claim → Reply) (c : Claim) → IsClaim c → (v : Verdict) (status : ℕ) (text : List ℕ) → IsVerdict words A c v
     → VerdictReply words A next c v status text → IsJudged words A next c status text
 by_verdict verdicts words A next c claim (Rejected reason) status text is h =
     inr (λ v. rejected_apart reason c.bound (verdicts words A c (Rejected reason) (Accepted c.bound) claim is (v.sound, refl)), h.0)
@@ -294,7 +294,7 @@ abbrev pub IsReplyJudged : Device → Accepting → List ℕ → List ℕ → Op
 IsReplyJudged device next fw cert assume seen = WithFile fw seen.firmware (λ firmware. WithFile cert seen.second (λ s. WithOptional assume seen.assumptions (λ list. JudgeReply device next firmware s list)))
 
 module _
-    (one : (bytes words : List ℕ) → IsRawImage bytes words → words ≡ raw_words bytes)
+    (one : (bytes : List ℕ) (words : Program) → IsRawImage bytes words → words ≡ raw_words bytes)
     (images : (bytes : List ℕ) → length bytes % 2 ≡ 0 → length bytes ≤ 2 * WORDS → IsRawImage bytes (raw_words bytes))
     (narrowing : NarrowingIsExact)
     (lists : ReadingIsExact)
@@ -374,7 +374,7 @@ module _
 
   -- ---- exactness
 
-  pub image_read : (bytes words : List ℕ) (later : List ℕ → Reply) (status : ℕ) (text : List ℕ) → IsFirmware device bytes words → WithImage device bytes later status text → later words status text
+  pub image_read : (bytes : List ℕ) (words : Program) (later : List ℕ → Reply) (status : ℕ) (text : List ℕ) → IsFirmware device bytes words → WithImage device bytes later status text → later words status text
   image_read bytes words later status text firmware h =
       subst (λ ws. later ws status text) (sym (words_of one images narrowing device bytes words firmware))
       (fault_none (firmware_fault device bytes) (later (firmware_words device bytes)) status text (fault_of one images narrowing device bytes words firmware) h)
@@ -384,7 +384,7 @@ module _
   list_read (Some bytes) A later status text e h = subst (λ x. ListBy x later status text) (lists.due bytes (Ok A) e) h
 
   -- where all files read as values
-  module _ (fw cert : List ℕ) (assume : Option (List ℕ)) (seen : Contents) (firmware certificate : List ℕ) (list : Option (List ℕ)) (words : List ℕ) (claim : Claim) (A : List Entry)
+  module _ (fw cert : List ℕ) (assume : Option (List ℕ)) (seen : Contents) (firmware certificate : List ℕ) (list : Option (List ℕ)) (words : Program) (claim : Claim) (A : List Entry)
       (are : AreRead assume seen firmware certificate list) (stand : StandFor device firmware certificate list words claim A) where
     -- the answer is by the verdict on the certificate
     judged_so : (status : ℕ) (text : List ℕ) → IsReplyJudged device next fw cert assume seen status text → JudgedReply words A (next firmware words A) claim status text

@@ -7,7 +7,7 @@ use Rattle.avr_model.specs.declared.assumption.Entry.{Entry}
 use Rattle.avr_model.specs.declared.choice.Choice.{Choice}
 use Rattle.avr_model.specs.declared.choice.Flag.{Flag}
 use Rattle.avr_model.specs.declared.device.Device.{Device}
-use Rattle.avr_model.specs.Devices.{device_of}
+use Rattle.avr_model.specs.Devices.{Program, device_of}
 use Rattle.avr_model.specs.State.{State}
 use Rattle.avr_model.specs.Vectors.{vector_word}
 use Rattle.avr_model.specs.Image.{WORDS, IsRawImage, raw_words}
@@ -79,7 +79,7 @@ no_words [] e = refl
 no_words (p ∷ ps) e = absurd (cc)
 
 module _
-    (raw : (bytes words : List ℕ) → IsRawImage bytes words → words ≡ raw_words bytes)
+    (raw : (bytes : List ℕ) (words : Program) → IsRawImage bytes words → words ≡ raw_words bytes)
     (images : (bytes : List ℕ) → length bytes % 2 ≡ 0 → length bytes ≤ 2 * WORDS → IsRawImage bytes (raw_words bytes))
     (narrowing : NarrowingIsExact)
     (lists : ReadingIsExact)
@@ -145,12 +145,12 @@ module _
       }
 
   -- a command that answers 0 where a certificate is valid
-  record SaysValid (words : List ℕ) (A : List Entry) (c : Claim) (status : ℕ) : Type 0 where
+  record SaysValid (words : Program) (A : List Entry) (c : Claim) (status : ℕ) : Type 0 where
     accepted : (status ≡ 0) ↔ IsValid words A c
     unclear : status ≡ 13 → ⊥
     rejected : (status ≡ 1) ↔ (IsValid words A c → ⊥)
 
-  accepts_by : (words : List ℕ) (A : List Entry) (next : Claim → Reply) (c : Claim) (status : ℕ) (text : List ℕ) → ((s : ℕ) (t : List ℕ) → next c s t → s ≡ 0) → IsJudged words A next c status text
+  accepts_by : (words : Program) (A : List Entry) (next : Claim → Reply) (c : Claim) (status : ℕ) (text : List ℕ) → ((s : ℕ) (t : List ℕ) → next c s t → s ≡ 0) → IsJudged words A next c status text
       → SaysValid words A c status
   accepts_by words A next c status text zero (inl h) =
       let z = zero status text h.1 in
@@ -159,8 +159,8 @@ module _
       record { accepted = (λ e. absurd (no_one (sym e ∙ h.1)), λ v. absurd (h.0 v)); unclear = λ e. one_thirteen (sym h.1 ∙ e); rejected = (λ e. h.0, λ n. h.1) }
 
   accepts_valid : (command : Command) (fw cert : List ℕ) (assume : Option (List ℕ)) (seen : Contents) (status : ℕ) (text : List ℕ)
-      → ((bytes words : List ℕ) (A : List Entry) (c : Claim) (s : ℕ) (t : List ℕ) → AcceptedReply command bytes words A c s t → s ≡ 0)
-      → ((words : List ℕ) (A : List Entry) (c : Claim) (s : ℕ) → SaysValid words A c s → SaysWhether command words A c s)
+      → ((bytes : List ℕ) (words : Program) (A : List Entry) (c : Claim) (s : ℕ) (t : List ℕ) → AcceptedReply command bytes words A c s t → s ≡ 0)
+      → ((words : Program) (A : List Entry) (c : Claim) (s : ℕ) → SaysValid words A c s → SaysWhether command words A c s)
       → IsReplyJudged (device_for command) (AcceptedReply command) fw cert assume seen status text → AcceptsExactly command assume seen status
   accepts_valid command fw cert assume seen status text zero says h firmware certificate list words claim A are stand =
       says words A claim status
@@ -172,7 +172,7 @@ module _
   none_apart : (node pc : ℕ) → ◌≡◌ {A = ClearVerdict} clear.Clear (clear.Unclear node pc) → ⊥
   none_apart node pc e = cc
 
-  clear_by : (words : List ℕ) (c : Claim) (status : ℕ) (text : List ℕ) (v : ClearVerdict) → IsClearVerdict words c v → ClearSays words c v status text → IsValid words [] c
+  clear_by : (words : Program) (c : Claim) (status : ℕ) (text : List ℕ) (v : ClearVerdict) → IsClearVerdict words c v → ClearSays words c v status text → IsValid words [] c
       → (device : Device) (fw cert : List ℕ) → SaysWhether (Clear device fw cert) words [] c status
   clear_by words c status text clear.Clear is says valid device fw cert =
       record {
@@ -190,7 +190,7 @@ module _
         rejected = (λ e. absurd (one_thirteen (sym e ∙ says.0)), λ n. absurd (n valid));
       }
 
-  clear_says : (words : List ℕ) (c : Claim) (status : ℕ) (text : List ℕ) (device : Device) (fw cert : List ℕ) → IsJudged words [] (ClearReply words) c status text → SaysWhether (Clear device fw cert) words [] c status
+  clear_says : (words : Program) (c : Claim) (status : ℕ) (text : List ℕ) (device : Device) (fw cert : List ℕ) → IsJudged words [] (ClearReply words) c status text → SaysWhether (Clear device fw cert) words [] c status
   clear_says words c status text device fw cert (inl h) = clear_by words c status text h.1.verdict h.1.is h.1.says h.0 device fw cert
   clear_says words c status text device fw cert (inr h) =
       record {
@@ -211,7 +211,7 @@ module _
       subst (λ B. SaysWhether (Clear device fw cert) words B claim status) empty
       (clear_says words claim status text device fw cert (subst (λ B. IsJudged words B (ClearReply words) claim status text) (sym empty) judged))
 
-  all_clear : (words : List ℕ) (c : Claim) (text : List ℕ) (v : ClearVerdict) → IsClearVerdict words c v → ClearSays words c v 0 text → AreAllClear words [] c
+  all_clear : (words : Program) (c : Claim) (text : List ℕ) (v : ClearVerdict) → IsClearVerdict words c v → ClearSays words c v 0 text → AreAllClear words [] c
   all_clear words c text clear.Clear is says = is
   all_clear words c text (clear.Unclear node pc) is says = absurd (no_thirteen says.0)
 
@@ -222,7 +222,7 @@ module _
       holds_as (Clear device fw cert) None seen text h
       (told_clear.never h.words h.claim h.fit h.stand.fits.claim (subst (λ B. IsSound h.words B h.claim) (sym empty) h.valid.sound) (all_clear h.words h.claim text h.told.verdict h.told.is h.told.says))
 
-  none_ends : (words : List ℕ) (A : List Entry) (m : State) (choices : List Choice) (word : ℕ) → Contains [] word ⊎ EndsByTakeAt words A [] m choices → ⊥
+  none_ends : (words : Program) (A : List Entry) (m : State) (choices : List Choice) (word : ℕ) → Contains [] word ⊎ EndsByTakeAt words A [] m choices → ⊥
   none_ends words A m choices word (inl h) = none_in word h
   none_ends words A m choices word (inr h) = none_in (vector_word (device_of words) h.vector) h.word
 
@@ -246,7 +246,7 @@ module _
         told = h.told.says.1;
       })
 
-  none_told : (words : List ℕ) (A : List Entry) (m : State) (choices : List Choice) (flag : Flag) (places : List FlaggedPlace) (nevers : List ℕ) → places ≡ [] → nevers ≡ []
+  none_told : (words : Program) (A : List Entry) (m : State) (choices : List Choice) (flag : Flag) (places : List FlaggedPlace) (nevers : List ℕ) → places ≡ [] → nevers ≡ []
       → AreToldOf places flag ⊎ EndsByTakeAt words A nevers m choices → ⊥
   none_told words A m choices flag places nevers no_places no_nevers (inl h) = none_in h.place (subst (λ (xs : List FlaggedPlace). Contains xs h.place) no_places h.present)
   none_told words A m choices flag places nevers no_places no_nevers (inr h) =
@@ -274,7 +274,7 @@ module _
         told = h.told.says.1;
       })
 
-  places_zero : (why : Bool) (names : List Named) (words : List ℕ) (A : List Entry) (c : Claim) (status : ℕ) (text : List ℕ) → PlacesReply why names words A c status text → status ≡ 0
+  places_zero : (why : Bool) (names : List Named) (words : Program) (A : List Entry) (c : Claim) (status : ℕ) (text : List ℕ) → PlacesReply why names words A c status text → status ≡ 0
   places_zero false names words A c status text k = k.says.0
   places_zero true names words A c status text k = k.says.0
 
@@ -342,7 +342,7 @@ module _
   AfterDevices device steps firmware devices list = WithImage device firmware (λ words. WithList list (λ A. SimulateReply words A steps (setup_in devices)))
 
   -- status 0 comes with a setup, and one brings status 0
-  zero_setup : (words : List ℕ) (A : List Entry) (steps : ℕ) (x : Result Setup DevicesFault) (text : List ℕ) → SimulateReply words A steps x 0 text
+  zero_setup : (words : Program) (A : List Entry) (steps : ℕ) (x : Result Setup DevicesFault) (text : List ℕ) → SimulateReply words A steps x 0 text
       → (setup : Setup) × (x ≡ Ok setup) × (text ≡ run_text (simulation_of words A setup steps))
   zero_setup words A steps (Err fault) text h = absurd (zero_refused 14 no_fourteen (devices_refused fault) text h)
   zero_setup words A steps (Ok setup) text h = (setup, refl, h.1)
@@ -374,7 +374,7 @@ module _
         };
       }
 
-  simulated_by : (words : List ℕ) (A : List Entry) (steps : ℕ) (text bytes : List ℕ) (status : ℕ) → SimulateReply words A steps (setup_in bytes) status text → (status ≡ 0) ↔ ((setup : Setup) × IsDevices bytes setup)
+  simulated_by : (words : Program) (A : List Entry) (steps : ℕ) (text bytes : List ℕ) (status : ℕ) → SimulateReply words A steps (setup_in bytes) status text → (status ≡ 0) ↔ ((setup : Setup) × IsDevices bytes setup)
   simulated_by words A steps text bytes status h = (
     λ zero. let s = zero_setup words A steps (setup_in bytes) text (subst (λ x. SimulateReply words A steps (setup_in bytes) x text) zero h) in (s.0, devices.read bytes s.0 s.1),
     λ s. (subst (λ x. SimulateReply words A steps x status text) (devices.spelled bytes s.0 s.1) h).0,

@@ -1,6 +1,7 @@
 -- An analysis has one answer.
 use Rattle.std.proofs.Common.{◌≡◌, ◌≢◌, inl, inr, ℕ, List, [], Option, Some, None, refl, sym, ap, ◌∙◌, subst}
 use Rattle.avr_model.specs.declared.assumption.Entry.{Entry}
+use Rattle.avr_model.specs.Devices.{Program}
 use Rattle.witness_replay.specs.Spelling.{Plan}
 use Rattle.certificate.specs.Claims.{Claim}
 use Rattle.cert_words.specs.Text.{text_of}
@@ -16,7 +17,7 @@ use Rattle.replies.specs.Reply.{Refuses, WhyNotReply, AnalyseReply, MeasuredRepl
 use Rattle.replies.proofs.Trials.{found_one}
 
 -- want of memory is never told
-pub no_memory : (words : List ℕ) (r : Refusal) (status : ℕ) (text : List ℕ) → Refuses (why_not_status r) (why_not_text words r) status text → r ≢ Memory
+pub no_memory : (words : Program) (r : Refusal) (status : ℕ) (text : List ℕ) → Refuses (why_not_status r) (why_not_text words r) status text → r ≢ Memory
 no_memory words r status text h e = subst (λ x. Refuses (why_not_status x) (why_not_text words x) status text) e h
 
 refuses_one : (n : ℕ) (o : Option (List ℕ)) (s t : ℕ) (a b : List ℕ) → Refuses n o s a → Refuses n o t b → (s ≡ t) × (a ≡ b)
@@ -30,25 +31,25 @@ witnessed c d p q e f =
     subst E e (subst W f refl)
 
 module _ (one : AnswersAreOne) (chains : WaypointsAreOne) where
-  trials_one : (words : List ℕ) (A : List Entry) (c d : Claim) (p q : Option Plan) → c ≡ d → TrialsFind words A c p → TrialsFind words A d q → p ≡ q
+  trials_one : (words : Program) (A : List Entry) (c d : Claim) (p q : Option Plan) → c ≡ d → TrialsFind words A c p → TrialsFind words A d q → p ≡ q
   trials_one words A c d p q e h k =
       let there : TrialsFind words A c q = subst (λ x. TrialsFind words A x q) (sym e) k in
       found_one words A h.points c.bound p q h.first (subst (λ x. IsFound words A x c.bound q) (chains words A c there.points h.points there.chain h.chain) there.first)
 
-  pub analysis_one : (words : List ℕ) (A : List Entry) (steps : Option ℕ) (c d : Claim) → IsAnalysis words A steps c → IsAnalysis words A steps d → c ≡ d
+  pub analysis_one : (words : Program) (A : List Entry) (steps : Option ℕ) (c d : Claim) → IsAnalysis words A steps c → IsAnalysis words A steps d → c ≡ d
   analysis_one words A steps c d h k =
       let least = one.answer words A steps h.least k.least h.claim k.claim h.answer k.answer in
       h.is ∙ (witnessed h.least k.least h.found k.found least (trials_one words A h.least k.least h.found k.found least h.trials k.trials) ∙ sym k.is)
 
-  why_not_one : (words : List ℕ) (A : List Entry) (steps : Option ℕ) (s t : ℕ) (a b : List ℕ) → WhyNotReply words A steps s a → WhyNotReply words A steps t b → (s ≡ t) × (a ≡ b)
+  why_not_one : (words : Program) (A : List Entry) (steps : Option ℕ) (s t : ℕ) (a b : List ℕ) → WhyNotReply words A steps s a → WhyNotReply words A steps t b → (s ≡ t) × (a ≡ b)
   why_not_one words A steps s t a b h k =
       let e = one.why_not words A steps h.refusal k.refusal h.why k.why (no_memory words h.refusal s a h.says) (no_memory words k.refusal t b k.says) in
       refuses_one (why_not_status k.refusal) (why_not_text words k.refusal) s t a b (subst (λ r. Refuses (why_not_status r) (why_not_text words r) s a) e h.says) k.says
 
-  never_both : {X : Type 0} (words : List ℕ) (A : List Entry) (steps : Option ℕ) (c : Claim) (t : ℕ) (b : List ℕ) → IsAnalysis words A steps c → WhyNotReply words A steps t b → X
+  never_both : {X : Type 0} (words : Program) (A : List Entry) (steps : Option ℕ) (c : Claim) (t : ℕ) (b : List ℕ) → IsAnalysis words A steps c → WhyNotReply words A steps t b → X
   never_both words A steps c t b h k = absurd (no_memory words k.refusal t b k.says (one.either words A steps h.least k.refusal h.answer k.why))
 
-  pub analyse_one : (words : List ℕ) (A : List Entry) (steps : Option ℕ) (s t : ℕ) (a b : List ℕ) → AnalyseReply words A steps s a → AnalyseReply words A steps t b → (s ≡ t) × (a ≡ b)
+  pub analyse_one : (words : Program) (A : List Entry) (steps : Option ℕ) (s t : ℕ) (a b : List ℕ) → AnalyseReply words A steps s a → AnalyseReply words A steps t b → (s ≡ t) × (a ≡ b)
   analyse_one words A steps s t a b (inl h) (inl k) =
       (h.says.0 ∙ sym k.says.0, h.says.1 ∙ (ap text_of (analysis_one words A steps h.claim k.claim h.analysis k.analysis) ∙ sym k.says.1))
   analyse_one words A steps s t a b (inl h) (inr k) = never_both words A steps h.claim t b h.analysis k

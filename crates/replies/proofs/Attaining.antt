@@ -2,6 +2,7 @@
 use Rattle.std.proofs.Common.{◌≡◌, ◌≤◌, refl, sym, ap, ◌∙◌, subst, arith, ℕ, List, length, Option, Some, None, IfSome}
 use Rattle.basics.specs.Numbers.{same_if_neither}
 use Rattle.avr_model.specs.declared.assumption.Entry.{Entry}
+use Rattle.avr_model.specs.Devices.{Program}
 use Rattle.witness_replay.specs.Spelling.{Plan, IsSchedule, most_choices, choices_of}
 use Rattle.witness_replay.specs.Runs.{ReplaysAreRuns}
 use Rattle.certificate.specs.Claims.{Claim, IsCertificate}
@@ -22,7 +23,7 @@ use Rattle.replies.proofs.Least.{reached}
 
 -- ---- what trials find is one
 
-module _ (words : List ℕ) (A : List Entry) (g : Guide) (n : ℕ) where
+module _ (words : Program) (A : List Entry) (g : Guide) (n : ℕ) where
   first_one : (a b : Plan) → IsFirstGuided words A g n a → IsFirstGuided words A g n b → a ≡ b
   first_one a b h k =
       let trial : h.trial ≡ k.trial = same_if_neither h.trial k.trial (λ lt. k.failed h.trial lt h.succeeds) (λ lt. h.failed k.trial lt k.succeeds) in
@@ -36,7 +37,7 @@ module _ (words : List ℕ) (A : List Entry) (g : Guide) (n : ℕ) where
   found_one (Some a) None h k = absurd (k h.trial h.among h.succeeds)
   found_one (Some a) (Some b) h k = ap Some (first_one a b h k)
 
-module _ (words : List ℕ) (A : List Entry) (n : ℕ) (c : Claim) where
+module _ (words : Program) (A : List Entry) (n : ℕ) (c : Claim) where
   schedule_one : (w p q : Option Plan) → IsScheduled words A n c w p → IsScheduled words A n c w q → p ≡ q
   schedule_one None p q h k = found_one words A (guide_of words A c) n p q h k
   schedule_one (Some plan) p q h k = h ∙ sym k
@@ -45,13 +46,13 @@ module _ (words : List ℕ) (A : List Entry) (n : ℕ) (c : Claim) where
   completed_one d e h k =
       h.same ∙ ap (λ (w : Option Plan). record c { witness = w }) (schedule_one c.witness d.witness e.witness h.schedule k.schedule) ∙ sym k.same
 
-pub attain_one : (words : List ℕ) (A : List Entry) (n : ℕ) (c : Claim) (s t : ℕ) (a b : List ℕ) → AttainReply words A n c s a → AttainReply words A n c t b → (s ≡ t) × (a ≡ b)
+pub attain_one : (words : Program) (A : List Entry) (n : ℕ) (c : Claim) (s t : ℕ) (a b : List ℕ) → AttainReply words A n c s a → AttainReply words A n c t b → (s ≡ t) × (a ≡ b)
 attain_one words A n c s t a b h k =
     (h.says.0 ∙ sym k.says.0, h.says.1 ∙ ap text_of (completed_one words A n c h.claim k.claim h.completed k.completed) ∙ sym k.says.1)
 
 -- ---- what is said of it
 
-module _ (led : TrialsAreLed) (fit : TextsFit) (words : List ℕ) (A : List Entry) (n : ℕ) (c : Claim) where
+module _ (led : TrialsAreLed) (fit : TextsFit) (words : Program) (A : List Entry) (n : ℕ) (c : Claim) where
   schedule_fits : (w found : Option Plan) → IfSome w IsSchedule → IsScheduled words A n c w found → IfSome found IsSchedule
   schedule_fits None None fits h = tt
   schedule_fits None (Some plan) fits h = h.schedule.fits

@@ -4,6 +4,7 @@ use Rattle.std.specs.Option.{is_some}
 use Rattle.avr_model.specs.declared.assumption.Entry.{Entry}
 use Rattle.avr_model.specs.declared.choice.Stop.TheVariants as stop
 use Rattle.avr_model.specs.Run.{Bounded}
+use Rattle.avr_model.specs.Devices.{Program}
 use Rattle.local_rules.specs.declared.local.NodeFault.{NodeFault}
 use Rattle.local_rules.specs.declared.local.NodeFault.TheVariants as fault
 use Rattle.local_rules.specs.Machine.{AreWords}
@@ -32,7 +33,7 @@ use Rattle.replies.specs.Reply.{Refuses, AnalyseReply, WhyNotReply}
 use Rattle.replies.specs.Headline.{IsDepthReached, HasValid, SaysHowRoundsEnd}
 use Rattle.replies.proofs.Analysing.{no_memory}
 
-schedule_found : (words : List ℕ) (A : List Entry) (points : List Waypoint) (bound : ℕ) (found : Option Plan) → IsFound words A points bound found → IfSome found IsSchedule
+schedule_found : (words : Program) (A : List Entry) (points : List Waypoint) (bound : ℕ) (found : Option Plan) → IsFound words A points bound found → IfSome found IsSchedule
 schedule_found words A points bound None h = tt
 schedule_found words A points bound (Some plan) h = h.trial.fits
 
@@ -40,9 +41,9 @@ schedule_found words A points bound (Some plan) h = h.trial.fits
 
 -- the text of the certificate of an analysis is no longer than that of a certificate may be
 abbrev pub AnalysesFit : Type 0
-AnalysesFit = (words : List ℕ) (A : List Entry) (steps : Option ℕ) (c : Claim) → IsAnalysis words A steps c → IsCertificate c → length (text_of c) ≤ certificate_cap
+AnalysesFit = (words : Program) (A : List Entry) (steps : Option ℕ) (c : Claim) → IsAnalysis words A steps c → IsCertificate c → length (text_of c) ≤ certificate_cap
 
-few_found : TrialsAreShort → (words : List ℕ) (A : List Entry) (points : List Waypoint) (bound : ℕ) (found : Option Plan) → IsFound words A points bound found → IfSome found HasFewChoices
+few_found : TrialsAreShort → (words : Program) (A : List Entry) (points : List Waypoint) (bound : ℕ) (found : Option Plan) → IsFound words A points bound found → IfSome found HasFewChoices
 few_found short words A points bound None h = tt
 few_found short words A points bound (Some plan) h = omega (arith, ap length h.trial.choices, short words A points bound plan.fill)
 
@@ -59,7 +60,7 @@ no_schedule : (w : Option Plan) → w ≡ None → is_some w ≡ true → ⊥
 no_schedule None e f = let wrong = f in cc
 no_schedule (Some plan) e f = let wrong = e in cc
 
-pub reached : (runs : ReplaysAreRuns) (words : List ℕ) (A : List Entry) (bound : ℕ) (found : Option Plan) → IfSome found IsSchedule → IsAttained words A bound found → is_some found ≡ true → IsDepthReached words A bound
+pub reached : (runs : ReplaysAreRuns) (words : Program) (A : List Entry) (bound : ℕ) (found : Option Plan) → IfSome found IsSchedule → IsAttained words A bound found → is_some found ≡ true → IsDepthReached words A bound
 reached runs words A bound None fits h e = absurd (no_schedule None refl e)
 reached runs words A bound (Some plan) fits h e =
     let r = replayed bound (replay_of words A plan) (replay_of words A plan) refl h in
@@ -83,7 +84,7 @@ never_spent (re_entry v word) n e = cc
 never_spent (recursion word) n e = cc
 never_spent (too_deep d) n e = cc
 
-module _ (words : List ℕ) (A : List Entry) (steps : Option ℕ) where
+module _ (words : Program) (A : List Entry) (steps : Option ℕ) where
   abbrev IsSpent : Refusal → Type 0
   IsSpent r = (n : ℕ) × (r ≡ refusal.Spent n) × (steps ≡ Some n) × GoesBeyond words A n
 
@@ -138,7 +139,7 @@ module _
     (solutions : SolutionsAreValid)
     (bounds : SoundCertificatesBoundEveryRun)
     (runs : ReplaysAreRuns)
-    (words : List ℕ) (A : List Entry) (steps : Option ℕ) where
+    (words : Program) (A : List Entry) (steps : Option ℕ) where
   -- what holds of the certificate of an analysis
   pub record IsBest (c : Claim) : Type 0 where
     pub fits : IsCertificate c

@@ -1,6 +1,7 @@
 -- What was read has one answer.
 use Rattle.std.proofs.Common.{◌≡◌, ℕ, Bool, true, false, List, [], ◌∷◌, Option, Some, None, Result, Ok, Err, refl, sym, ap, ap₂, ◌∙◌, subst}
 use Rattle.avr_model.specs.declared.assumption.Entry.{Entry}
+use Rattle.avr_model.specs.Devices.{Program}
 use Rattle.sb_base.specs.Lines.{Place, TextLine}
 use Rattle.indirect_targets.specs.declared.fault.AssumeText.{AssumeText}
 use Rattle.indirect_targets.specs.Reading.{entries_in}
@@ -77,15 +78,15 @@ attained_one : (next : Reply) (attained : Bool) → IsOneAnswer next → IsOneAn
 attained_one next true f s t a b h k = f s t a b h k
 attained_one next false f s t a b h k = says_one 1 witness_rejected s t a b h k
 
-witness_one : (words : List ℕ) (A : List Entry) (next : Reply) (bound : ℕ) (w : Option Plan) → IsOneAnswer next → IsOneAnswer (WitnessReply words A next bound w)
+witness_one : (words : Program) (A : List Entry) (next : Reply) (bound : ℕ) (w : Option Plan) → IsOneAnswer next → IsOneAnswer (WitnessReply words A next bound w)
 witness_one words A next bound None f s t a b h k = f s t a b h k
 witness_one words A next bound (Some plan) f s t a b h k = attained_one next (attains bound (replay_of words A plan)) f s t a b h k
 
-verdict_one : (words : List ℕ) (A : List Entry) (next : Claim → Reply) (c : Claim) (v : Verdict) → IsOneAnswer (next c) → IsOneAnswer (VerdictReply words A next c v)
+verdict_one : (words : Program) (A : List Entry) (next : Claim → Reply) (c : Claim) (v : Verdict) → IsOneAnswer (next c) → IsOneAnswer (VerdictReply words A next c v)
 verdict_one words A next c (Rejected reason) f s t a b h k = says_one 1 (rejected reason) s t a b h k
 verdict_one words A next c (Accepted bound) f s t a b h k = witness_one words A (next c) bound c.witness f s t a b h k
 
-simulate_one : (words : List ℕ) (A : List Entry) (steps : ℕ) (x : Result Setup DevicesFault) → IsOneAnswer (SimulateReply words A steps x)
+simulate_one : (words : Program) (A : List Entry) (steps : ℕ) (x : Result Setup DevicesFault) → IsOneAnswer (SimulateReply words A steps x)
 simulate_one words A steps (Err fault) s t a b h k = refuses_one 14 (devices_refused fault) s t a b h k
 simulate_one words A steps (Ok setup) s t a b h k = says_one 0 (run_text (simulation_of words A setup steps)) s t a b h k
 
@@ -97,55 +98,55 @@ ends_one : (ls : List TextLine) (at : ℕ) (reply : Reply) → IsOneAnswer reply
 ends_one [] at reply f s t a b h k = f s t a b h k
 ends_one (l ∷ ls) at reply f s t a b h k = says_one 9 (schedule_malformed at) s t a b h k
 
-schedule_one : (words : List ℕ) (A : List Entry) (x : Result (Plan × Place) ℕ) → IsOneAnswer (ScheduleReply words A x)
+schedule_one : (words : Program) (A : List Entry) (x : Result (Plan × Place) ℕ) → IsOneAnswer (ScheduleReply words A x)
 schedule_one words A (Err at) s t a b h k = says_one 9 (schedule_malformed at) s t a b h k
 schedule_one words A (Ok read) s t a b h k =
     ends_one read.1.rest read.1.at (RunReply (replay_of words A read.0)) (run_one (replay_of words A read.0)) s t a b h k
 
 module _ (read : ReadCertificateIsSpelled) (one : VerdictsAreOne) (answers : AnswersAreOne) (chains : WaypointsAreOne) (explanations : ExplanationsAreOne)
     (clears : ClearVerdictsAreOne) (sites : SitesAreOne) (places : PlacesAreOne) (takes : NeversAreOne) where
-  judged_one : (words : List ℕ) (A : List Entry) (next : Claim → Reply) (c : Claim) → IsClaim c → IsOneAnswer (next c) → IsOneAnswer (JudgedReply words A next c)
+  judged_one : (words : Program) (A : List Entry) (next : Claim → Reply) (c : Claim) → IsClaim c → IsOneAnswer (next c) → IsOneAnswer (JudgedReply words A next c)
   judged_one words A next c claim f s t a b h k =
       let e = one words A c h.verdict k.verdict claim h.is k.is in
       verdict_one words A next c k.verdict f s t a b (subst (λ v. VerdictReply words A next c v s a) e h.reply) k.reply
 
-  certificate_one : (words : List ℕ) (A : List Entry) (next : Claim → Reply) (x : Result Claim CertFault) → ((c : Claim) → x ≡ Ok c → IsClaim c) → ((c : Claim) → IsClaim c → IsOneAnswer (next c)) → IsOneAnswer (CertificateReply words A next x)
+  certificate_one : (words : Program) (A : List Entry) (next : Claim → Reply) (x : Result Claim CertFault) → ((c : Claim) → x ≡ Ok c → IsClaim c) → ((c : Claim) → IsClaim c → IsOneAnswer (next c)) → IsOneAnswer (CertificateReply words A next x)
   certificate_one words A next (Err fault) f g s t a b h k = refuses_one 8 (certificate_refused fault) s t a b h k
   certificate_one words A next (Ok c) f g s t a b h k = judged_one words A next c (f c refl) (g c (f c refl)) s t a b h k
 
-  read_one : (words : List ℕ) (A : List Entry) (next : Claim → Reply) (bytes : List ℕ) → ((c : Claim) → IsClaim c → IsOneAnswer (next c)) → IsOneAnswer (CertificateReply words A next (certificate_in bytes))
+  read_one : (words : Program) (A : List Entry) (next : Claim → Reply) (bytes : List ℕ) → ((c : Claim) → IsClaim c → IsOneAnswer (next c)) → IsOneAnswer (CertificateReply words A next (certificate_in bytes))
   read_one words A next bytes g = certificate_one words A next (certificate_in bytes) (λ c e. (read bytes c e).1.claim) g
 
-  explain_one : (names : List Named) (words : List ℕ) (A : List Entry) (c : Claim) → IsClaim c → IsOneAnswer (ExplainReply names words A c)
+  explain_one : (names : List Named) (words : Program) (A : List Entry) (c : Claim) → IsClaim c → IsOneAnswer (ExplainReply names words A c)
   explain_one names words A c claim s t a b h k =
       let e = explanations words A c h.explanation k.explanation claim h.is k.is in
       (h.says.0 ∙ sym k.says.0, h.says.1 ∙ (ap (explanation_text c.bound names) e ∙ sym k.says.1))
 
-  clear_says_one : (words : List ℕ) (c : Claim) (v : ClearVerdict) → IsOneAnswer (ClearSays words c v)
+  clear_says_one : (words : Program) (c : Claim) (v : ClearVerdict) → IsOneAnswer (ClearSays words c v)
   clear_says_one words c clear.Clear s t a b h k = says_one 0 (clear_text c.bound) s t a b h k
   clear_says_one words c (clear.Unclear node pc) s t a b h k = says_one 13 (unclear_text words node pc) s t a b h k
 
-  clear_one : (words : List ℕ) (c : Claim) → IsClaim c → IsOneAnswer (ClearReply words c)
+  clear_one : (words : Program) (c : Claim) → IsClaim c → IsOneAnswer (ClearReply words c)
   clear_one words c claim s t a b h k =
       let e = clears words c h.verdict k.verdict h.is k.is in clear_says_one words c k.verdict s t a b (subst (λ v. ClearSays words c v s a) e h.says) k.says
 
-  premises_one : (names : List Named) (words : List ℕ) (A : List Entry) (c : Claim) → IsClaim c → IsOneAnswer (PremisesReply names words A c)
+  premises_one : (names : List Named) (words : Program) (A : List Entry) (c : Claim) → IsClaim c → IsOneAnswer (PremisesReply names words A c)
   premises_one names words A c claim s t a b h k =
       let e = sites words A c h.sites k.sites h.are k.are in
       let f = takes words A c h.nevers k.nevers h.are_nevers k.are_nevers in
       (h.says.0 ∙ sym k.says.0, h.says.1 ∙ (ap₂ (premises_text words names c.bound) e f ∙ sym k.says.1))
 
-  why_one : (names : List Named) (words : List ℕ) (A : List Entry) (c : Claim) → IsClaim c → IsOneAnswer (WhyReply names words A c)
+  why_one : (names : List Named) (words : Program) (A : List Entry) (c : Claim) → IsClaim c → IsOneAnswer (WhyReply names words A c)
   why_one names words A c claim s t a b h k =
       let e = places words A c h.places k.places h.are k.are in
       let f = takes words A c h.nevers k.nevers h.are_nevers k.are_nevers in
       (h.says.0 ∙ sym k.says.0, h.says.1 ∙ (ap₂ (why_text words names c.bound) e f ∙ sym k.says.1))
 
-  places_one : (why : Bool) (names : List Named) (words : List ℕ) (A : List Entry) (c : Claim) → IsClaim c → IsOneAnswer (PlacesReply why names words A c)
+  places_one : (why : Bool) (names : List Named) (words : Program) (A : List Entry) (c : Claim) → IsClaim c → IsOneAnswer (PlacesReply why names words A c)
   places_one false names words A c claim s t a b h k = premises_one names words A c claim s t a b h k
   places_one true names words A c claim s t a b h k = why_one names words A c claim s t a b h k
 
-  flash_one : (command : Command) (firmware bytes words : List ℕ) (A : List Entry) → IsOneAnswer (FlashReply command firmware bytes words A)
+  flash_one : (command : Command) (firmware bytes : List ℕ) (words : Program) (A : List Entry) → IsOneAnswer (FlashReply command firmware bytes words A)
   flash_one (Check device fw cert assume) firmware bytes words A =
       read_one words A (AcceptedReply (Check device fw cert assume) firmware words A) bytes (λ c claim. says_one 0 (told_of (Check device fw cert assume) firmware c))
   flash_one (Analyse device fw assume steps) firmware bytes words A = analyse_one answers chains words A steps

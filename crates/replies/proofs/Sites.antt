@@ -12,6 +12,7 @@ use Rattle.reports.specs.Explained.{word_text}
 use Rattle.clear_laws.specs.declared.place.FlaggedPlace.{FlaggedPlace}
 use Rattle.replies.specs.Places.{name_or, name_up_to, place_words, place_line, place_text, never_text, count_line, word_where, first_addresses, protected_words, cause_words, why_line}
 use Rattle.replies.specs.Headline.{PlacesSayTheSame, CausesSayTheSame}
+use Rattle.avr_model.specs.Devices.{Program}
 
 -- ---- names
 
@@ -41,11 +42,11 @@ unfolding name_up_to
 same_up names others zero same = same zero
 same_up names others (suc at) same = rw (same (suc at), same_up names others at same) refl
 
-same_place : (words : List ℕ) (names others : List Named) (pc : ℕ) → SayTheSame names others → place_text words names pc ≡ place_text words others pc
+same_place : (words : Program) (names others : List Named) (pc : ℕ) → SayTheSame names others → place_text words names pc ≡ place_text words others pc
 same_place words names others pc same =
     ap (λ (o : Option (List ℕ)). line (place_words words pc ++ codes "in" ∷ name_word o ∷ [])) (same_up names others pc same)
 
-same_lines : (words : List ℕ) (names others : List Named) (sites : List ℕ) → SayTheSame names others → flat_map (place_text words names) sites ≡ flat_map (place_text words others) sites
+same_lines : (words : Program) (names others : List Named) (sites : List ℕ) → SayTheSame names others → flat_map (place_text words names) sites ≡ flat_map (place_text words others) sites
 same_lines words names others [] same = refl
 same_lines words names others (pc ∷ sites) same = ap₂ (λ (xs ys : List ℕ). xs ++ ys) (same_place words names others pc same) (same_lines words names others sites same)
 
@@ -53,11 +54,11 @@ pub same_places : PlacesSayTheSame
 same_places words names others bound sites nevers same =
     ap (λ (ys : List ℕ). line (count_line bound (length sites + length nevers)) ++ (ys ++ flat_map never_text nevers)) (same_lines words names others sites same)
 
-same_why : (words : List ℕ) (names others : List Named) (place : FlaggedPlace) → SayTheSame names others → why_line words names place ≡ why_line words others place
+same_why : (words : Program) (names others : List Named) (place : FlaggedPlace) → SayTheSame names others → why_line words names place ≡ why_line words others place
 same_why words names others place same =
     ap (λ (o : Option (List ℕ)). (place_words words place.word ++ codes "in" ∷ name_word o ∷ []) ++ cause_words place) (same_up names others place.word same)
 
-same_whys : (words : List ℕ) (names others : List Named) (places : List FlaggedPlace) → SayTheSame names others → map (why_line words names) places ≡ map (why_line words others) places
+same_whys : (words : Program) (names others : List Named) (places : List FlaggedPlace) → SayTheSame names others → map (why_line words names) places ≡ map (why_line words others) places
 same_whys words names others [] same = refl
 same_whys words names others (p ∷ ps) same = ap₂ (λ (x : List (List ℕ)) (xs : List (List (List ℕ))). x ∷ xs) (same_why words names others p same) (same_whys words names others ps same)
 
@@ -71,7 +72,7 @@ same_causes words names others bound places nevers same =
 pub nothing_behind : (w : Written) → w.begun ≡ false → w ≡ with_text w []
 nothing_behind w none = ap₂ (λ bytes begun. record { bytes = bytes; begun = begun }) (sym (append-nil w.bytes)) none
 
-pub named_written : (words : List ℕ) (names : List Named) (pc : ℕ) (w v u : Written) → v ≡ with_words w (place_words words pc)
+pub named_written : (words : Program) (names : List Named) (pc : ℕ) (w v u : Written) → v ≡ with_words w (place_words words pc)
     → u ≡ with_word (with_word v (codes "in")) (name_word (name_up_to names pc)) → u ≡ with_words w (place_line words names pc)
 named_written words names pc w v u e f =
     f
@@ -102,7 +103,7 @@ pub three_written : (a b c : List (List ℕ)) (w v u x : Written) → v ≡ with
 three_written a b c w v u x e f g =
     g ∙ ap (λ (y : Written). with_words y c) f ∙ sym (words_append v b c) ∙ ap (λ (y : Written). with_words y (b ++ c)) e ∙ sym (words_append w a (b ++ c))
 
-pub why_written : (words : List ℕ) (names : List Named) (place : FlaggedPlace) (pc : ℕ) (w v u : Written) → pc ≡ place.word → v ≡ with_words w (place_line words names pc) → u ≡ with_words v (cause_words place)
+pub why_written : (words : Program) (names : List Named) (place : FlaggedPlace) (pc : ℕ) (w v u : Written) → pc ≡ place.word → v ≡ with_words w (place_line words names pc) → u ≡ with_words v (cause_words place)
     → u ≡ with_words w (why_line words names place)
 why_written words names place pc w v u same e f =
     f ∙ ap (λ (x : Written). with_words x (cause_words place)) (e ∙ ap (λ p. with_words w (place_line words names p)) same)

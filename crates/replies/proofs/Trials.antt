@@ -7,6 +7,7 @@ use Rattle.basics.specs.Items.{first_in, further_in}
 use Rattle.avr_model.specs.declared.assumption.Entry.{Entry}
 use Rattle.avr_model.specs.declared.choice.Choice.{Choice}
 use Rattle.avr_model.specs.declared.choice.Choice.TheVariants as choice
+use Rattle.avr_model.specs.Devices.{Program}
 use Rattle.witness_replay.specs.declared.schedule.Run.{Run}
 use Rattle.witness_replay.specs.declared.schedule.Run.TheVariants.{Go, Take}
 use Rattle.witness_replay.specs.Spelling.{Plan, AreRuns, most_choices, choices_of}
@@ -99,7 +100,7 @@ num_heads a b xs ys e = cc
 num_tails : (a b : ℕ) (xs ys : List ℕ) → ◌≡◌ {A = List ℕ} (a ∷ xs) (b ∷ ys) → xs ≡ ys
 num_tails a b xs ys e = cc
 
-module _ (words : List ℕ) (A : List Entry) (points : List Waypoint) (bound : ℕ) where
+module _ (words : Program) (A : List Entry) (points : List Waypoint) (bound : ℕ) where
   abbrev Works : ℕ → Type 0
   Works fill = Succeeds words A points bound fill
 

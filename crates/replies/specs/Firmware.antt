@@ -2,7 +2,7 @@
 use Rattle.std.specs.Prelude.{ℕ, zero, suc, ◌+◌, ◌*◌, ◌%◌, ◌==◌, nat_lt, Bool, true, false, List, [], ◌∷◌, length, take, Option, Some, None, if◌then◌else◌}
 use Rattle.std.specs.Option.{option_map}
 use Rattle.avr_model.specs.declared.device.Device.{Device}
-use Rattle.avr_model.specs.Devices.{words_of}
+use Rattle.avr_model.specs.Devices.{Program, words_of}
 use Rattle.avr_model.specs.Image.{WORDS, IsRawImage, raw_words, IsNarrowed}
 use Rattle.flash_image.specs.Narrowing.{outside_word}
 use Rattle.flash_image.specs.Naming.{Named}
@@ -19,7 +19,7 @@ abbrev pub IsImage : List ℕ → List ℕ → Type 0
 IsImage bytes all = IsImageBy (is_elf bytes) bytes all
 
 -- The words that a firmware file stands for on a device: those of its image, of which all behind the device's flash are erased.
-pub record IsFirmware (device : Device) (bytes words : List ℕ) : Type 0 where
+pub record IsFirmware (device : Device) (bytes : List ℕ) (words : Program) : Type 0 where
   pub all : List ℕ
   pub image : IsImage bytes all
   pub narrowed : IsNarrowed device all words

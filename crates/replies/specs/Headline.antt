@@ -3,7 +3,7 @@ use Rattle.std.specs.Prelude.{◌≡◌, ◌≢◌, ◌↔◌, ◌≤◌, ⊤, B
 use Rattle.std.specs.Option.{is_some}
 use Rattle.avr_model.specs.declared.assumption.Entry.{Entry}
 use Rattle.avr_model.specs.declared.device.Device.{Device}
-use Rattle.avr_model.specs.Devices.{device_of}
+use Rattle.avr_model.specs.Devices.{Program, device_of}
 use Rattle.avr_model.specs.declared.choice.Choice.{Choice}
 use Rattle.avr_model.specs.declared.choice.Stop.TheVariants.{End}
 use Rattle.avr_model.specs.State.{State, IsReset}
@@ -64,12 +64,12 @@ IsListOf None A = A ≡ []
 IsListOf (Some bytes) A = IsListReading bytes A
 
 -- the bytes of a firmware for a device and of an assumption file stand for these words and these assumptions
-pub record Mean (device : Device) (firmware : List ℕ) (list : Option (List ℕ)) (words : List ℕ) (A : List Entry) : Type 0 where
+pub record Mean (device : Device) (firmware : List ℕ) (list : Option (List ℕ)) (words : Program) (A : List Entry) : Type 0 where
   pub image : IsFirmware device firmware words
   pub assumptions : IsListOf list A
 
 -- and those of a certificate for this claim
-pub record StandFor (device : Device) (firmware certificate : List ℕ) (list : Option (List ℕ)) (words : List ℕ) (claim : Claim) (A : List Entry) : Type 0 where
+pub record StandFor (device : Device) (firmware certificate : List ℕ) (list : Option (List ℕ)) (words : Program) (claim : Claim) (A : List Entry) : Type 0 where
   pub mean : Mean device firmware list words A
   pub fits : IsCertificate claim
   pub bytes : certificate ≡ text_of claim
@@ -77,7 +77,7 @@ pub record StandFor (device : Device) (firmware certificate : List ℕ) (list : 
 -- ---- a certificate that is accepted
 
 -- The text is that of the certificate's explanation, with these names of words, and this tells where the bytes of the bound go.
-pub record IsExplained (names : List Named) (words : List ℕ) (A : List Entry) (c : Claim) (text : List ℕ) : Type 0 where
+pub record IsExplained (names : List Named) (words : Program) (A : List Entry) (c : Claim) (text : List ℕ) : Type 0 where
   pub explanation : Explanation
   pub is : IsExplanation words A c explanation
   pub tells : Tells words A c explanation
@@ -86,7 +86,7 @@ pub record IsExplained (names : List Named) (words : List ℕ) (A : List Entry) 
 -- The text tells, with these names, the words at which some node isn't clear, and those of vectors that may be taken though they have `never`
 -- lines: each run from reset that ends flagged ends at one of the first, or by taking a vector at one of the others, so that none is flagged
 -- where there are none. Without assumptions there are none exactly where `clear` accepts the certificate.
-pub record TellsFlagged (names : List Named) (words : List ℕ) (A : List Entry) (c : Claim) (text : List ℕ) : Type 0 where
+pub record TellsFlagged (names : List Named) (words : Program) (A : List Entry) (c : Claim) (text : List ℕ) : Type 0 where
   pub sites : List ℕ
   pub nevers : List ℕ
   pub are : AreSites words A c sites
@@ -98,7 +98,7 @@ pub record TellsFlagged (names : List Named) (words : List ℕ) (A : List Entry)
 
 -- The same with what may happen there, for each word something: each run from reset that ends flagged ends where just what is flagged is told of
 -- its word (this protected address, a pushed byte, or an unlisted word), or by taking a vector at one of the other words.
-pub record TellsCauses (names : List Named) (words : List ℕ) (A : List Entry) (c : Claim) (text : List ℕ) : Type 0 where
+pub record TellsCauses (names : List Named) (words : Program) (A : List Entry) (c : Claim) (text : List ℕ) : Type 0 where
   pub places : List FlaggedPlace
   pub nevers : List ℕ
   pub are : ArePlaces words A c places
@@ -110,12 +110,12 @@ pub record TellsCauses (names : List Named) (words : List ℕ) (A : List Entry) 
   pub told : text ≡ why_text words names c.bound places nevers
 
 -- by whether that is asked
-abbrev pub TellsPlaces : Bool → List Named → List ℕ → List Entry → Claim → List ℕ → Type 0
+abbrev pub TellsPlaces : Bool → List Named → Program → List Entry → Claim → List ℕ → Type 0
 TellsPlaces false names words A c text = TellsFlagged names words A c text
 TellsPlaces true names words A c text = TellsCauses names words A c text
 
 -- some run of the machine from reset ends without a stop, exactly this deep
-pub record IsDepthReached (words : List ℕ) (A : List Entry) (depth : ℕ) : Type 0 where
+pub record IsDepthReached (words : Program) (A : List Entry) (depth : ℕ) : Type 0 where
   pub state : State
   pub reset : IsReset (device_of words) state
   pub choices : List Choice
@@ -127,7 +127,7 @@ pub record IsDepthReached (words : List ℕ) (A : List Entry) (depth : ℕ) : Ty
 -- and that is valid for the same words and assumptions. It is attained exactly where the accepted one is, or where one of so many guided trials
 -- is as deep as the bound; its schedule is then that of the accepted one, or of the least such trial, and reaches the bound exactly. It is no
 -- longer than a certificate that is read may be, where the accepted one is no longer.
-pub record IsWrittenAttained (words : List ℕ) (A : List Entry) (trials : ℕ) (c : Claim) (text : List ℕ) : Type 0 where
+pub record IsWrittenAttained (words : Program) (A : List Entry) (trials : ℕ) (c : Claim) (text : List ℕ) : Type 0 where
   pub claim : Claim
   pub fits : IsCertificate claim
   pub told : text ≡ text_of claim
@@ -138,7 +138,7 @@ pub record IsWrittenAttained (words : List ℕ) (A : List Entry) (trials : ℕ) 
   pub short : length (text_of c) ≤ certificate_cap → length text ≤ certificate_cap
 
 -- what is said of an accepted certificate besides that its bound holds, for a firmware of these bytes with these words, by a text
-abbrev pub Shows : Command → List ℕ → List ℕ → List Entry → Claim → List ℕ → Type 0
+abbrev pub Shows : Command → List ℕ → Program → List Entry → Claim → List ℕ → Type 0
 Shows (Explain device firmware certificate assume) bytes words A c text = IsExplained (firmware_names bytes) words A c text
 Shows (Clear device firmware certificate) bytes words A c text = IsBoundedAndClear words c.bound
 Shows (Premises device firmware certificate assume why) bytes words A c text = TellsPlaces why (firmware_names bytes) words A c text
@@ -255,17 +255,17 @@ Headline (Demo size) seen status text = status ≡ 0 → IsMeasured size text
 -- ---- when the answers come
 
 -- when a command accepts a certificate, for these words under these assumptions: it is valid, and for `clear` all nodes are clear
-abbrev pub Accepts : Command → List ℕ → List Entry → Claim → Type 0
+abbrev pub Accepts : Command → Program → List Entry → Claim → Type 0
 Accepts (Clear device firmware certificate) words A c = IsValid words A c × AreAllClear words A c
 Accepts command words A c = IsValid words A c
 
 -- when it says that a node isn't clear
-abbrev pub Blames : Command → List ℕ → List Entry → Claim → Type 0
+abbrev pub Blames : Command → Program → List Entry → Claim → Type 0
 Blames (Clear device firmware certificate) words A c = IsValid words A c × ((node pc : ℕ) × IsFirstUnclear words A c node pc)
 Blames command words A c = ⊥
 
 -- the status says whether the certificate is accepted, whether a node isn't clear, and whether it isn't valid
-pub record SaysWhether (command : Command) (words : List ℕ) (A : List Entry) (c : Claim) (status : ℕ) : Type 0 where
+pub record SaysWhether (command : Command) (words : Program) (A : List Entry) (c : Claim) (status : ℕ) : Type 0 where
   pub accepted : (status ≡ 0) ↔ Accepts command words A c
   pub unclear : (status ≡ 13) ↔ Blames command words A c
   pub rejected : (status ≡ 1) ↔ (IsValid words A c → ⊥)
@@ -273,16 +273,16 @@ pub record SaysWhether (command : Command) (words : List ℕ) (A : List Entry) (
 -- the same of the files of a command, where they read as values
 abbrev pub AcceptsExactly : Command → Option (List ℕ) → Contents → ℕ → Type 0
 AcceptsExactly command assume seen status =
-    (firmware certificate : List ℕ) (list : Option (List ℕ)) (words : List ℕ) (claim : Claim) (A : List Entry)
+    (firmware certificate : List ℕ) (list : Option (List ℕ)) (words : Program) (claim : Claim) (A : List Entry)
     → AreRead assume seen firmware certificate list → StandFor (device_for command) firmware certificate list words claim A → SaysWhether command words A claim status
 
 -- some certificate is valid for the words and the assumptions
-abbrev pub HasValid : List ℕ → List Entry → Type 0
+abbrev pub HasValid : Program → List Entry → Type 0
 HasValid words A = (c : Claim) × IsClaim c × IsValid words A c
 
 -- The status says how the rounds end: within the budget with a certificate, or with a cause against it, or at none of the families that
 -- the budget serves for. Without a budget there is a certificate exactly where one is valid.
-pub record SaysHowRoundsEnd (words : List ℕ) (A : List Entry) (steps : Option ℕ) (status : ℕ) : Type 0 where
+pub record SaysHowRoundsEnd (words : Program) (A : List Entry) (steps : Option ℕ) (status : ℕ) : Type 0 where
   pub solved : (status ≡ 0) ↔ ((c : Claim) × IsClaim c × IsAnswer words A steps c)
   pub refused : (status ≡ 10) ↔ ((r : Refusal) × (r ≢ Memory) × IsRefusal words A steps r)
   pub spent : (status ≡ 11) ↔ ((n : ℕ) × (steps ≡ Some n) × GoesBeyond words A n)
@@ -291,14 +291,14 @@ pub record SaysHowRoundsEnd (words : List ℕ) (A : List Entry) (steps : Option 
 -- the same of the files of an analysis, where they read as values
 abbrev pub AnswersRounds : Device → Option (List ℕ) → Option ℕ → Contents → ℕ → Type 0
 AnswersRounds device assume steps seen status =
-    (firmware : List ℕ) (list : Option (List ℕ)) (words : List ℕ) (A : List Entry)
+    (firmware : List ℕ) (list : Option (List ℕ)) (words : Program) (A : List Entry)
     → AreLoaded assume seen firmware list → Mean device firmware list words A → SaysHowRoundsEnd words A steps status
 
 -- Where the files of a simulation read, and firmware and assumptions stand for values, it is refused exactly where the devices' text is that
 -- of none.
 abbrev pub AnswersDevices : Device → Option (List ℕ) → Contents → ℕ → Type 0
 AnswersDevices device assume seen status =
-    (firmware devices : List ℕ) (list : Option (List ℕ)) (words : List ℕ) (A : List Entry)
+    (firmware devices : List ℕ) (list : Option (List ℕ)) (words : Program) (A : List Entry)
     → AreRead assume seen firmware devices list → Mean device firmware list words A → (status ≡ 0) ↔ ((setup : Setup) × IsDevices devices setup)
 
 abbrev pub IsExact : Command → Contents → ℕ → Type 0
@@ -338,11 +338,11 @@ RepliesAreExact = (command : Command) (seen : Contents) (status : ℕ) (text : L
 -- names that say the same give the same texts of words at which a step may be flagged
 abbrev pub PlacesSayTheSame : Type 0
 PlacesSayTheSame =
-    (words : List ℕ) (names others : List Named) (bound : ℕ) (sites nevers : List ℕ) → SayTheSame names others
+    (words : Program) (names others : List Named) (bound : ℕ) (sites nevers : List ℕ) → SayTheSame names others
     → premises_text words names bound sites nevers ≡ premises_text words others bound sites nevers
 
 -- and the same texts of them with what may happen there
 abbrev pub CausesSayTheSame : Type 0
 CausesSayTheSame =
-    (words : List ℕ) (names others : List Named) (bound : ℕ) (places : List FlaggedPlace) (nevers : List ℕ) → SayTheSame names others
+    (words : Program) (names others : List Named) (bound : ℕ) (places : List FlaggedPlace) (nevers : List ℕ) → SayTheSame names others
     → why_text words names bound places nevers ≡ why_text words others bound places nevers

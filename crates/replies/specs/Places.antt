@@ -8,17 +8,18 @@ use Rattle.reports.specs.Report.{name_word}
 use Rattle.reports.specs.Explained.{word_text}
 use Rattle.clear_laws.specs.declared.place.FlaggedPlace.{FlaggedPlace}
 use Rattle.replies.specs.Texts.{told, instruction_told}
+use Rattle.avr_model.specs.Devices.{Program}
 
 -- no node may flag a step
 abbrev pub clear_text : ℕ → List ℕ
 clear_text bound = told (codes "clear" ∷ codes "bound" ∷ decimal bound ∷ [])
 
 -- a word, and the instruction there
-abbrev pub place_words : List ℕ → ℕ → List (List ℕ)
+abbrev pub place_words : Program → ℕ → List (List ℕ)
 place_words words pc = codes "at" ∷ hex_digits pc 4 ∷ instruction_told words pc
 
 -- the number of the least node that may, and its place
-abbrev pub unclear_text : List ℕ → ℕ → ℕ → List ℕ
+abbrev pub unclear_text : Program → ℕ → ℕ → List ℕ
 unclear_text words node pc = told (codes "unclear" ∷ codes "node" ∷ decimal node ∷ place_words words pc)
 
 -- ---- all words at which one may be flagged
@@ -33,10 +34,10 @@ name_up_to names zero = least_name names zero
 name_up_to names (suc pc) = name_or (least_name names (suc pc)) (name_up_to names pc)
 
 -- a word, the instruction there, and the name under which it stands
-abbrev pub place_line : List ℕ → List Named → ℕ → List (List ℕ)
+abbrev pub place_line : Program → List Named → ℕ → List (List ℕ)
 place_line words names pc = place_words words pc ++ codes "in" ∷ name_word (name_up_to names pc) ∷ []
 
-abbrev pub place_text : List ℕ → List Named → ℕ → List ℕ
+abbrev pub place_text : Program → List Named → ℕ → List ℕ
 place_text words names pc = line (place_line words names pc)
 
 -- a word at which a vector is entered that may be taken, though it is said that it never is
@@ -50,7 +51,7 @@ never_text word = line (never_line word)
 abbrev pub count_line : ℕ → ℕ → List (List ℕ)
 count_line bound count = codes "bound" ∷ decimal bound ∷ codes "places" ∷ decimal count ∷ []
 
-abbrev pub premises_text : List ℕ → List Named → ℕ → List ℕ → List ℕ → List ℕ
+abbrev pub premises_text : Program → List Named → ℕ → List ℕ → List ℕ → List ℕ
 premises_text words names bound sites nevers =
     line (count_line bound (length sites + length nevers)) ++ (flat_map (place_text words names) sites ++ flat_map never_text nevers)
 
@@ -73,9 +74,9 @@ abbrev pub cause_words : FlaggedPlace → List (List ℕ)
 cause_words place = protected_words place.protected ++ (word_where place.live (codes "live") ++ word_where place.transfer (codes "transfer"))
 
 -- a word with what may happen there
-abbrev pub why_line : List ℕ → List Named → FlaggedPlace → List (List ℕ)
+abbrev pub why_line : Program → List Named → FlaggedPlace → List (List ℕ)
 why_line words names place = place_line words names place.word ++ cause_words place
 
-abbrev pub why_text : List ℕ → List Named → ℕ → List FlaggedPlace → List ℕ → List ℕ
+abbrev pub why_text : Program → List Named → ℕ → List FlaggedPlace → List ℕ → List ℕ
 why_text words names bound places nevers =
     line (count_line bound (length places + length nevers)) ++ (flat_map line (map (why_line words names) places) ++ flat_map never_text nevers)

@@ -5,6 +5,7 @@ use Rattle.avr_model.specs.declared.assumption.Entry.{Entry}
 use Rattle.avr_model.specs.declared.device.Device.{Device}
 use Rattle.avr_model.specs.declared.choice.Stop.{Stop}
 use Rattle.avr_model.specs.declared.choice.Stop.TheVariants as stop
+use Rattle.avr_model.specs.Devices.{Program}
 use Rattle.sb_base.specs.Lines.{Place, TextLine, lines_of}
 use Rattle.indirect_targets.specs.declared.fault.AssumeText.{AssumeText}
 use Rattle.indirect_targets.specs.Reading.{entries_in}
@@ -99,22 +100,22 @@ abbrev pub AttainedBy : Reply → Bool → Reply
 AttainedBy next true status text = next status text
 AttainedBy next false status text = Says 1 witness_rejected status text
 
-abbrev pub WitnessReply : List ℕ → List Entry → Reply → ℕ → Option Plan → Reply
+abbrev pub WitnessReply : Program → List Entry → Reply → ℕ → Option Plan → Reply
 WitnessReply words A next bound None status text = next status text
 WitnessReply words A next bound (Some plan) status text = AttainedBy next (attains bound (replay_of words A plan)) status text
 
-abbrev pub VerdictReply : List ℕ → List Entry → (Claim → Reply) → Claim → Verdict → Reply
+abbrev pub VerdictReply : Program → List Entry → (Claim → Reply) → Claim → Verdict → Reply
 VerdictReply words A next c (Rejected reason) status text = Says 1 (rejected reason) status text
 VerdictReply words A next c (Accepted bound) status text = WitnessReply words A (next c) bound c.witness status text
 
 -- by the verdict on a certificate
-pub record JudgedReply (words : List ℕ) (A : List Entry) (next : Claim → Reply) (c : Claim) (status : ℕ) (text : List ℕ) : Type 0 where
+pub record JudgedReply (words : Program) (A : List Entry) (next : Claim → Reply) (c : Claim) (status : ℕ) (text : List ℕ) : Type 0 where
   pub verdict : Verdict
   pub is : IsVerdict words A c verdict
   pub reply : VerdictReply words A next c verdict status text
 
 -- of a certificate that is read, and what follows with one that is accepted
-abbrev pub CertificateReply : List ℕ → List Entry → (Claim → Reply) → Result Claim CertFault → Reply
+abbrev pub CertificateReply : Program → List Entry → (Claim → Reply) → Result Claim CertFault → Reply
 CertificateReply words A next (Err fault) status text = Refuses 8 (certificate_refused fault) status text
 CertificateReply words A next (Ok c) status text = JudgedReply words A next c status text
 
@@ -128,24 +129,24 @@ told_of (Report device firmware certificate assume json) bytes c = report_by jso
 told_of command bytes c = accepted c.bound (is_some c.witness)
 
 -- the explanation of a certificate is told, with these names of words
-pub record ExplainReply (names : List Named) (words : List ℕ) (A : List Entry) (c : Claim) (status : ℕ) (text : List ℕ) : Type 0 where
+pub record ExplainReply (names : List Named) (words : Program) (A : List Entry) (c : Claim) (status : ℕ) (text : List ℕ) : Type 0 where
   pub explanation : Explanation
   pub is : IsExplanation words A c explanation
   pub says : Says 0 (explanation_text c.bound names explanation) status text
 
 -- all nodes of a certificate are clear, or the least that isn't is told
-abbrev pub ClearSays : List ℕ → Claim → ClearVerdict → Reply
+abbrev pub ClearSays : Program → Claim → ClearVerdict → Reply
 ClearSays words c clear.Clear status text = Says 0 (clear_text c.bound) status text
 ClearSays words c (clear.Unclear node pc) status text = Says 13 (unclear_text words node pc) status text
 
-pub record ClearReply (words : List ℕ) (c : Claim) (status : ℕ) (text : List ℕ) : Type 0 where
+pub record ClearReply (words : Program) (c : Claim) (status : ℕ) (text : List ℕ) : Type 0 where
   pub verdict : ClearVerdict
   pub is : IsClearVerdict words c verdict
   pub says : ClearSays words c verdict status text
 
 -- All words at which some node of a certificate isn't clear are told, with these names of words, and those of vectors that may be taken
 -- though they have `never` lines.
-pub record PremisesReply (names : List Named) (words : List ℕ) (A : List Entry) (c : Claim) (status : ℕ) (text : List ℕ) : Type 0 where
+pub record PremisesReply (names : List Named) (words : Program) (A : List Entry) (c : Claim) (status : ℕ) (text : List ℕ) : Type 0 where
   pub sites : List ℕ
   pub nevers : List ℕ
   pub are : AreSites words A c sites
@@ -153,7 +154,7 @@ pub record PremisesReply (names : List Named) (words : List ℕ) (A : List Entry
   pub says : Says 0 (premises_text words names c.bound sites nevers) status text
 
 -- the same with what may happen there
-pub record WhyReply (names : List Named) (words : List ℕ) (A : List Entry) (c : Claim) (status : ℕ) (text : List ℕ) : Type 0 where
+pub record WhyReply (names : List Named) (words : Program) (A : List Entry) (c : Claim) (status : ℕ) (text : List ℕ) : Type 0 where
   pub places : List FlaggedPlace
   pub nevers : List ℕ
   pub are : ArePlaces words A c places
@@ -161,20 +162,20 @@ pub record WhyReply (names : List Named) (words : List ℕ) (A : List Entry) (c 
   pub says : Says 0 (why_text words names c.bound places nevers) status text
 
 -- by whether that is asked
-abbrev pub PlacesReply : Bool → List Named → List ℕ → List Entry → Claim → Reply
+abbrev pub PlacesReply : Bool → List Named → Program → List Entry → Claim → Reply
 PlacesReply false names words A c status text = PremisesReply names words A c status text
 PlacesReply true names words A c status text = WhyReply names words A c status text
 
 -- The certificate is written, as it is where it has a schedule, and else with the one that so many guided trials find, which attains its
 -- bound.
-pub record AttainReply (words : List ℕ) (A : List Entry) (trials : ℕ) (c : Claim) (status : ℕ) (text : List ℕ) : Type 0 where
+pub record AttainReply (words : Program) (A : List Entry) (trials : ℕ) (c : Claim) (status : ℕ) (text : List ℕ) : Type 0 where
   pub claim : Claim
   pub completed : IsCompleted words A trials c claim
   pub attained : IsAttained words A c.bound claim.witness
   pub says : Says 0 (text_of claim) status text
 
 -- what a command answers where it accepts a certificate, for a firmware of these bytes with these words, under these assumptions
-abbrev pub AcceptedReply : Command → List ℕ → List ℕ → List Entry → Claim → Reply
+abbrev pub AcceptedReply : Command → List ℕ → Program → List Entry → Claim → Reply
 AcceptedReply (Explain device firmware certificate assume) bytes words A c = ExplainReply (firmware_names bytes) words A c
 AcceptedReply (Clear device firmware certificate) bytes words A c = ClearReply words c
 AcceptedReply (Premises device firmware certificate assume why) bytes words A c = PlacesReply why (firmware_names bytes) words A c
@@ -192,32 +193,32 @@ abbrev pub EndsBefore : List TextLine → ℕ → Reply → Reply
 EndsBefore [] at reply status text = reply status text
 EndsBefore (l ∷ ls) at reply status text = Says 9 (schedule_malformed at) status text
 
-abbrev pub ScheduleReply : List ℕ → List Entry → Result (Plan × Place) ℕ → Reply
+abbrev pub ScheduleReply : Program → List Entry → Result (Plan × Place) ℕ → Reply
 ScheduleReply words A (Err at) status text = Says 9 (schedule_malformed at) status text
 ScheduleReply words A (Ok read) status text = EndsBefore read.1.rest read.1.at (RunReply (replay_of words A read.0)) status text
 
 -- ---- simulate
 
 -- of the text of devices that is read: what a replay tells, of the run that they choose
-abbrev pub SimulateReply : List ℕ → List Entry → ℕ → Result Setup DevicesFault → Reply
+abbrev pub SimulateReply : Program → List Entry → ℕ → Result Setup DevicesFault → Reply
 SimulateReply words A steps (Err fault) status text = Refuses 14 (devices_refused fault) status text
 SimulateReply words A steps (Ok setup) status text = Says 0 (run_text (simulation_of words A setup steps)) status text
 
 -- ---- analyse and demo
 
 -- the certificate of an analysis is written
-pub record AnalysedReply (words : List ℕ) (A : List Entry) (steps : Option ℕ) (status : ℕ) (text : List ℕ) : Type 0 where
+pub record AnalysedReply (words : Program) (A : List Entry) (steps : Option ℕ) (status : ℕ) (text : List ℕ) : Type 0 where
   pub claim : Claim
   pub analysis : IsAnalysis words A steps claim
   pub says : Says 0 (text_of claim) status text
 
 -- it is told why there is none
-pub record WhyNotReply (words : List ℕ) (A : List Entry) (steps : Option ℕ) (status : ℕ) (text : List ℕ) : Type 0 where
+pub record WhyNotReply (words : Program) (A : List Entry) (steps : Option ℕ) (status : ℕ) (text : List ℕ) : Type 0 where
   pub refusal : Refusal
   pub why : IsWhyNot words A steps refusal
   pub says : Refuses (why_not_status refusal) (why_not_text words refusal) status text
 
-abbrev pub AnalyseReply : List ℕ → List Entry → Option ℕ → Reply
+abbrev pub AnalyseReply : Program → List Entry → Option ℕ → Reply
 AnalyseReply words A steps status text = AnalysedReply words A steps status text ⊎ WhyNotReply words A steps status text
 
 -- the numbers of the certificate of an image are told
@@ -233,7 +234,7 @@ DemoReply size status text = MeasuredReply size status text ⊎ WhyNotReply (dem
 -- ---- all
 
 -- What is made of the words of a firmware of these bytes, and of the bytes of its second file, under these assumptions. `clear` has none.
-abbrev pub FlashReply : Command → List ℕ → List ℕ → List ℕ → List Entry → Reply
+abbrev pub FlashReply : Command → List ℕ → List ℕ → Program → List Entry → Reply
 FlashReply (Analyse device name assume steps) firmware bytes words A = AnalyseReply words A steps
 FlashReply (Run device name schedule assume) firmware bytes words A = ScheduleReply words A (schedule_in (record { at = 0; rest = lines_of bytes }))
 FlashReply (Simulate device name devices assume steps) firmware bytes words A = SimulateReply words A steps (setup_in bytes)

@@ -11,6 +11,7 @@ use Rattle.avr_model.specs.Text as instruction
 use Rattle.avr_model.specs.declared.choice.Flag.TheVariants.{Live, Protected, Transfer}
 use Rattle.avr_model.specs.declared.choice.Stop.{Stop}
 use Rattle.avr_model.specs.declared.choice.Stop.TheVariants as stop
+use Rattle.avr_model.specs.Devices.{Program}
 use Rattle.indirect_targets.specs.declared.fault.AssumeText.{AssumeText}
 use Rattle.indirect_targets.specs.declared.fault.AssumeText.TheVariants as assume
 use Rattle.certificate.specs.Claims.{Claim}
@@ -152,7 +153,7 @@ instruction_words (Some instr) word at = instruction.text_of instr at ∷ []
 instruction_words None word at = codes "opcode" ∷ hex_digits word 4 ∷ []
 
 -- the same of the instruction at a word address
-abbrev pub instruction_told : List ℕ → ℕ → List (List ℕ)
+abbrev pub instruction_told : Program → ℕ → List (List ℕ)
 instruction_told words at = instruction_words (instruction_at words at) (word_at words at) at
 
 -- the number of a cause, its name, and the word at which it is
@@ -161,7 +162,7 @@ cause_at number name at more = Some (codes "refused" ∷ number ∷ name ∷ cod
 
 -- The words in place of a certificate: the cause for which there is none with what it names, or the number of rounds that don't suffice.
 -- Want of memory has none.
-abbrev pub why_not_words : List ℕ → Refusal → Option (List (List ℕ))
+abbrev pub why_not_words : Program → Refusal → Option (List (List ℕ))
 why_not_words words (refusal.UnresolvedJump at) = cause_at (codes "1") (codes "unresolved-jump") at (instruction_told words at)
 why_not_words words (refusal.Recursion at) = cause_at (codes "2") (codes "recursion") at []
 why_not_words words (refusal.ReEntry v at) = Some (codes "refused" ∷ codes "3" ∷ codes "re-entry" ∷ codes "of" ∷ decimal v ∷ codes "at" ∷ hex_digits at 4 ∷ [])
@@ -173,7 +174,7 @@ why_not_words words (refusal.UnknownPointer at) = cause_at (codes "8") (codes "u
 why_not_words words (refusal.Spent n) = Some (codes "spent" ∷ decimal n ∷ [])
 why_not_words words refusal.Memory = None
 
-abbrev pub why_not_text : List ℕ → Refusal → Option (List ℕ)
+abbrev pub why_not_text : Program → Refusal → Option (List ℕ)
 why_not_text words r = option_map told (why_not_words words r)
 
 abbrev pub why_not_status : Refusal → ℕ

@@ -2,7 +2,7 @@
 use Rattle.std.proofs.Common.{◌≡◌, refl, sym, ap, ap₂, ◌∙◌, subst, ℕ, zero, suc, ◌<◌, ◌≤◌, inl, inr, ⊎_elim, List, Option, arith}
 use Rattle.std.proofs.lemmas.Bool.{cases_lt, cases_order}
 use Rattle.avr_model.specs.declared.assumption.Entry.{Entry}
-use Rattle.avr_model.specs.Devices.{device_of}
+use Rattle.avr_model.specs.Devices.{Program, device_of}
 use Rattle.avr_model.specs.Vectors.{vector_word}
 use Rattle.mask_states.specs.declared.keys.InstKey.{InstKey}
 use Rattle.mask_states.specs.Keys.{root_inst}
@@ -27,7 +27,7 @@ use Rattle.round_laws.proofs.Under.{under_root}
 use Rattle.round_laws.proofs.Sums.{below_few, below_cells}
 use Rattle.round_laws.proofs.Least.{lands_covered, comes_formed, comes_same, comes_root, none_faulty, ranks_of, needs_of, comes_below, reached_lower, entered_word}
 
-module _ (words : List ℕ) (A : List Entry) where
+module _ (words : Program) (A : List Entry) where
   -- ---- no refusal where a family is valid
 
   never_faulty : (f : Family) (x : NodeFault) → HasNoFault words A f → FaultAt words A f x → ⊥

@@ -8,6 +8,7 @@ use Rattle.basics.specs.Items.{none_in, first_in, further_in as there}
 use Rattle.std.proofs.lemmas.Option.{same_Some}
 use Rattle.avr_model.specs.declared.assumption.Entry.{Entry}
 use Rattle.avr_model.specs.Assumptions.{has_pairs}
+use Rattle.avr_model.specs.Devices.{Program}
 use Rattle.abs_state.specs.declared.state.AbsState.{AbsState}
 use Rattle.abs_state.specs.Order.{IsStateWithin, IsLeastAbove, state_join}
 use Rattle.abs_state.proofs.AllLaws.{states_are_ordered, joins_are_formed}
@@ -133,7 +134,7 @@ covered_up g ns to lands c =
     let l = lands (with_state to c.state) c.present in
     record { at = l.at; is = l.is; above = states_are_ordered.through to.state c.state l.at c.above l.above }
 
-next_is : (words : List ℕ) (A : List Entry) (f : Family) (ns : List Node) → AreFormed (has_pairs A) f → IsRoundOf words A f ns → IsNext words A f (raised_all f ns)
+next_is : (words : Program) (A : List Entry) (f : Family) (ns : List Node) → AreFormed (has_pairs A) f → IsRoundOf words A f ns → IsNext words A f (raised_all f ns)
 next_is words A f ns formed round =
     let g = raised_all f ns in
     let joined = all_joined ns f formed round.formed in

@@ -4,7 +4,7 @@ use Rattle.std.specs.FinMap.{get, empty, get-empty}
 use Rattle.std.proofs.lemmas.Option.{same_Some}
 use Rattle.avr_model.specs.declared.assumption.Entry.{Entry}
 use Rattle.avr_model.specs.Assumptions.{has_pairs}
-use Rattle.avr_model.specs.Devices.{device_of}
+use Rattle.avr_model.specs.Devices.{Program, device_of}
 use Rattle.abs_state.specs.declared.state.AbsState.{AbsState}
 use Rattle.abs_state.proofs.AllLaws.{states_are_ordered}
 use Rattle.mask_states.specs.declared.keys.InstKey.{InstKey}
@@ -51,7 +51,7 @@ first_has A P h n =
     (λ s e. subst (P (entry_key root_inst)) (same_Some (root_of A) s (sym (get_same empty (entry_key root_inst) (root_of A)) ∙ e)) h)
     (λ ne s e. absurd (let never = sym (get-empty node_cmp n.key) ∙ sym (get_other empty (entry_key root_inst) (root_of A) n.key ne) ∙ e in cc)) n.state
 
-module _ (words : List ℕ) (A : List Entry) where
+module _ (words : Program) (A : List Entry) where
   pub comes_formed : (n : ℕ) (f : Family) → Comes words A n f → AreFormed (has_pairs A) f
   comes_formed zero f c = subst (AreFormed (has_pairs A)) (sym c) (λ n h. first_has A (IsNodeIn (has_pairs A)) (edges_lead_to_nodes.reset (has_pairs A)) n h)
   comes_formed (suc n) f c = c.4.formed
@@ -131,7 +131,7 @@ module _ (words : List ℕ) (A : List Entry) where
 
 -- ---- ranks rule out cycles
 
-pub reached_lower : (words : List ℕ) (A : List Entry) (f : Family) (rank : InstKey → ℕ) → AreRanks words A f rank → (i j : InstKey) → Reaches words A f i j → rank j < rank i
+pub reached_lower : (words : Program) (A : List Entry) (f : Family) (rank : InstKey → ℕ) → AreRanks words A f rank → (i j : InstKey) → Reaches words A f i j → rank j < rank i
 reached_lower words A f rank are _ _ (once i j offset e) = are i j offset e
 reached_lower words A f rank are _ _ (more i j k offset e rest) = omega (arith, are i j offset e, reached_lower words A f rank are j k rest)
 
@@ -140,11 +140,11 @@ reached_lower words A f rank are _ _ (more i j k offset e rest) = omega (arith, 
 vector_same : (v u : ℕ) → Vector v ≡ Vector u → v ≡ u
 vector_same v u e = cc
 
-enters_word : (words : List ℕ) (A : List Entry) (n : Node) (way : EdgeKind) (inst : InstKey) (back v : ℕ) → Enters words A n way inst back → inst.kind ≡ Vector v
+enters_word : (words : Program) (A : List Entry) (n : Node) (way : EdgeKind) (inst : InstKey) (back v : ℕ) → Enters words A n way inst back → inst.kind ≡ Vector v
     → inst.entry ≡ vector_word (device_of words) v
 enters_word words A n _ _ _ v (by_call offset site clean form member) e = absurd (cc)
 enters_word words A n _ _ _ v (by_interrupt offset u clears clean form i delay enabled allowed clearable) e = ap (vector_word (device_of words)) (vector_same u v e)
 
-pub entered_word : (words : List ℕ) (A : List Entry) (f : Family) (i j : InstKey) (v : ℕ) → Reaches words A f i j → j.kind ≡ Vector v → j.entry ≡ vector_word (device_of words) v
+pub entered_word : (words : Program) (A : List Entry) (f : Family) (i j : InstKey) (v : ℕ) → Reaches words A f i j → j.kind ≡ Vector v → j.entry ≡ vector_word (device_of words) v
 entered_word words A f _ _ v (once i j offset e) kind = enters_word words A e.node e.way j e.back v e.enters kind
 entered_word words A f _ _ v (more i j k offset e rest) kind = entered_word words A f j k v rest kind

@@ -2,18 +2,19 @@
 use Rattle.std.proofs.Common.{◌≡◌, refl, sym, ap, ◌∙◌, ℕ, List, [], ◌∷◌, Ok, Err}
 use Rattle.edge_laws.proofs.AllLaws.{part_of}
 use Rattle.avr_model.specs.declared.assumption.Entry.{Entry}
+use Rattle.avr_model.specs.Devices.{Program}
 use Rattle.abs_state.specs.declared.state.AbsState.{AbsState}
 use Rattle.mask_states.specs.declared.keys.NodeKey.{NodeKey}
 use Rattle.local_rules.specs.declared.local.Local.{Local}
 use Rattle.local_rules.specs.declared.local.NodeFault.{NodeFault}
 use Rattle.local_rules.specs.Local.{raw, local, settled}
 
-pub ok_of : (words : List ℕ) (A : List Entry) (k : NodeKey) (s : AbsState) → (raw words A k s).faults ≡ [] → local words A k s ≡ Ok (part_of (raw words A k s))
+pub ok_of : (words : Program) (A : List Entry) (k : NodeKey) (s : AbsState) → (raw words A k s).faults ≡ [] → local words A k s ≡ Ok (part_of (raw words A k s))
 unfolding local
 ok_of words A k s e = ap (settled (raw words A k s)) e
 
 -- where there is a part, there is no fault, and it is this one
-pub part_is : (words : List ℕ) (A : List Entry) (k : NodeKey) (s : AbsState) (l : Local) → local words A k s ≡ Ok l → ((raw words A k s).faults ≡ []) × (part_of (raw words A k s) ≡ l)
+pub part_is : (words : Program) (A : List Entry) (k : NodeKey) (s : AbsState) (l : Local) → local words A k s ≡ Ok l → ((raw words A k s).faults ≡ []) × (part_of (raw words A k s) ≡ l)
 unfolding local
 part_is words A k s l e = by (raw words A k s).faults refl e
   where
@@ -21,5 +22,5 @@ part_is words A k s l e = by (raw words A k s).faults refl e
     by [] is e = let same : part_of (raw words A k s) ≡ l = cc in (is, same)
     by (f ∷ fs) is e = absurd (cc)
 
-pub never_both : (words : List ℕ) (A : List Entry) (k : NodeKey) (s : AbsState) (x : NodeFault) → (raw words A k s).faults ≡ [] → local words A k s ≡ Err x → ⊥
+pub never_both : (words : Program) (A : List Entry) (k : NodeKey) (s : AbsState) (x : NodeFault) → (raw words A k s).faults ≡ [] → local words A k s ≡ Err x → ⊥
 never_both words A k s x clean e = absurd (let never = sym (ok_of words A k s clean) ∙ e in cc)

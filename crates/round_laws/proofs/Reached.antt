@@ -3,6 +3,7 @@ use Rattle.std.proofs.Common.{◌≡◌, refl, sym, ap, ◌∙◌, subst, ℕ, z
 use Rattle.std.specs.declared.cmp.Ordering.TheVariants.{Equal}
 use Rattle.std.specs.FinMap.{get, retain_keys, get-retain_keys}
 use Rattle.avr_model.specs.declared.assumption.Entry.{Entry}
+use Rattle.avr_model.specs.Devices.{Program}
 use Rattle.abs_state.specs.declared.state.AbsState.{AbsState}
 use Rattle.mask_states.specs.declared.keys.NodeKey.{NodeKey}
 use Rattle.mask_states.specs.Keys.{root_inst, entry_key}
@@ -16,7 +17,7 @@ use Rattle.round_rules.specs.Rounds.{IsNext, Comes}
 use Rattle.round_laws.proofs.AllLaws.{node_exact, comes_formed, first_has, has_member, member_has, lands_covered, formed_nodes}
 use Rattle.round_laws.specs.Reached.{IsKept, RoundsAreReached}
 
-module _ (words : List ℕ) (A : List Entry) (holds : NodeKey → Bool) where
+module _ (words : Program) (A : List Entry) (holds : NodeKey → Bool) where
   alike : (q x : NodeKey) → node_cmp q x ≡ Equal → holds x ≡ holds q
   alike q x e = ap holds (sym (node_exact q x e))
 

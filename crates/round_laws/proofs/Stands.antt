@@ -10,6 +10,7 @@ use Rattle.std.specs.FinMap.Entries.{is_sorted, below_all}
 use Rattle.std.proofs.lemmas.Option.{same_Some}
 use Rattle.basics.specs.Booleans.{join_tests, so_if_less}
 use Rattle.avr_model.specs.declared.assumption.Entry.{Entry}
+use Rattle.avr_model.specs.Devices.{Program}
 use Rattle.abs_state.specs.declared.state.AbsState.{AbsState}
 use Rattle.mask_states.specs.declared.keys.NodeKey.{NodeKey}
 use Rattle.mask_states.specs.Order.{node_cmp}
@@ -60,7 +61,7 @@ count_back : (ns : List Node) → length (map pair_of ns) ≡ length ns
 count_back [] = refl
 count_back (n ∷ ns) = omega (arith, count_back ns)
 
-pub stands : (words : List ℕ) (A : List Entry) (c : Claim) → IsShown words A c → StandsForShown words A c
+pub stands : (words : Program) (A : List Entry) (c : Claim) → IsShown words A c → StandsForShown words A c
 stands words A c shown =
     let ns = shown.sound.nodes in
     let keys : keys_at ns ≡ node_keys c.nodes = same_keys ns c.nodes shown.sound.expanded.count shown.sound.expanded.keys in

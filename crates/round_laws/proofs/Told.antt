@@ -3,6 +3,7 @@ use Rattle.std.proofs.Common.{◌≡◌, refl, sym, ap, ◌∙◌, subst, ℕ, z
 use Rattle.std.proofs.lemmas.Option.{none-some, same_Some, slice_get_within}
 use Rattle.basics.specs.Lists.{get_inside}
 use Rattle.avr_model.specs.declared.assumption.Entry.{Entry}
+use Rattle.avr_model.specs.Devices.{Program}
 use Rattle.mask_states.specs.declared.keys.InstKey.{InstKey}
 use Rattle.mask_states.specs.declared.keys.Kind.{Kind}
 use Rattle.mask_states.specs.declared.keys.Kind.TheVariants.{Root, Call, Vector}
@@ -90,7 +91,7 @@ by_entry Root entry never = (refl, refl)
 by_entry Call entry never = (refl, refl)
 by_entry (Vector v) entry never = absurd (never v refl)
 
-module _ (words : List ℕ) (A : List Entry) (f : Family) (keys : List InstKey) (gs : List GraphInst) (is : IsGraphOver words A f keys gs) where
+module _ (words : Program) (A : List Entry) (f : Family) (keys : List InstKey) (gs : List GraphInst) (is : IsGraphOver words A f keys gs) where
   -- an instance that enters another has a node, and so a number
   from_number : (i j : InstKey) (offset : ℕ) → Entering words A f i j offset → (n : ℕ) × IsNumber keys n i
   from_number i j offset e = is.numbered i (e.node, e.has, e.same)

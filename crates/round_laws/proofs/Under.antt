@@ -5,6 +5,7 @@ use Rattle.std.specs.declared.cmp.Ordering.TheVariants.{Equal}
 use Rattle.std.specs.FinMap.{get, retain_keys, get-retain_keys}
 use Rattle.avr_model.specs.declared.assumption.Entry.{Entry}
 use Rattle.avr_model.specs.Assumptions.{has_pairs}
+use Rattle.avr_model.specs.Devices.{Program}
 use Rattle.abs_state.specs.declared.state.AbsState.{AbsState}
 use Rattle.mask_states.specs.declared.keys.InstKey.{InstKey}
 use Rattle.mask_states.specs.declared.keys.EdgeKind.{EdgeKind}
@@ -22,7 +23,7 @@ use Rattle.round_rules.specs.Rounds.{AreNeeds, IsNext, Comes}
 use Rattle.round_laws.proofs.Keys.{node_exact}
 use Rattle.round_laws.proofs.Least.{comes_formed, first_has}
 
-module _ (words : List ℕ) (A : List Entry) where
+module _ (words : Program) (A : List Entry) where
   -- needs of a family without faults are needs of one below it
   needs_down : {followed : Bool} (f g : Family) (need : InstKey → ℕ) → AreFormed followed f → AreFormed followed g → Below f g → HasNoFault words A g → AreNeeds words A g need → AreNeeds words A f need
   needs_down f g need low high below clean are = record {

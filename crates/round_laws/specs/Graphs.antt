@@ -2,6 +2,7 @@
 -- by a number behind these, from which nothing is entered.
 use Rattle.std.specs.Prelude.{ℕ, ◌+◌, ◌≡◌, ◌<◌, ◌≤◌, ◌⊎◌, List, [], ◌∷◌, length, map, Some, slice_get, slice_index, if◌then◌else◌}
 use Rattle.avr_model.specs.declared.assumption.Entry.{Entry}
+use Rattle.avr_model.specs.Devices.{Program}
 use Rattle.mask_states.specs.declared.keys.InstKey.{InstKey}
 use Rattle.mask_states.specs.declared.keys.SpForm.TheVariants.{Closed}
 use Rattle.mask_states.specs.declared.keys.Kind.TheVariants.{Vector}
@@ -36,7 +37,7 @@ pub record HasEntryEdge (keys : List InstKey) (gs : List GraphInst) (i j : InstK
   pub at : edge.offset ≡ offset
 
 -- an entry of the family for this edge
-pub record IsEntered (words : List ℕ) (A : List Entry) (f : Family) (keys : List InstKey) (i : ℕ) (e : Entered) : Type 0 where
+pub record IsEntered (words : Program) (A : List Entry) (f : Family) (keys : List InstKey) (i : ℕ) (e : Entered) : Type 0 where
   pub inst : InstKey
   pub into : InstKey
   pub from : IsNumber keys i inst
@@ -58,7 +59,7 @@ pub record IsFamilyPlace (f : Family) (keys : List InstKey) (i offset : ℕ) : T
   pub closed : node.key.sp ≡ Closed offset
   pub of : IsNumber keys i node.key.inst
 
-pub record IsGraphOver (words : List ℕ) (A : List Entry) (f : Family) (keys : List InstKey) (gs : List GraphInst) : Type 0 where
+pub record IsGraphOver (words : Program) (A : List Entry) (f : Family) (keys : List InstKey) (gs : List GraphInst) : Type 0 where
   pub is_graph : graph.IsGraph gs
   pub inside : length keys ≤ length gs
   pub root : IsNumber keys 0 root_inst
@@ -79,21 +80,21 @@ valued (k ∷ ks) (x ∷ xs) inst = if same_inst k inst then x else valued ks xs
 -- A cycle of one is one of the other, and the instance that is named is the one of the refusal. Least ranks and needs are those of the
 -- family, and the least need of instance 0 is the least need of the root. Needs may all be greater by one number.
 pub record GraphsTell : Type 0 where
-  pub acyclic : (words : List ℕ) (A : List Entry) (f : Family) (keys : List InstKey) (gs : List GraphInst) → IsGraphOver words A f keys gs
+  pub acyclic : (words : Program) (A : List Entry) (f : Family) (keys : List InstKey) (gs : List GraphInst) → IsGraphOver words A f keys gs
       → ((i : ℕ) → graph.ReachesBy gs i i → ⊥) → IsAcyclic words A f
-  pub re_entry : (words : List ℕ) (A : List Entry) (f : Family) (keys : List InstKey) (gs : List GraphInst) (at v : ℕ) (inst : InstKey) → IsGraphOver words A f keys gs
+  pub re_entry : (words : Program) (A : List Entry) (f : Family) (keys : List InstKey) (gs : List GraphInst) (at v : ℕ) (inst : InstKey) → IsGraphOver words A f keys gs
       → IsNamed gs at → IsNumber keys at inst → inst.kind ≡ Vector v → IsReEntry words A f v inst.entry
-  pub recursion : (words : List ℕ) (A : List Entry) (f : Family) (keys : List InstKey) (gs : List GraphInst) (at : ℕ) (inst : InstKey) → IsGraphOver words A f keys gs
+  pub recursion : (words : Program) (A : List Entry) (f : Family) (keys : List InstKey) (gs : List GraphInst) (at : ℕ) (inst : InstKey) → IsGraphOver words A f keys gs
       → IsNamed gs at → IsNumber keys at inst → group_of inst.kind ≡ 1 → IsRecursion words A f inst.entry
-  pub named : (words : List ℕ) (A : List Entry) (f : Family) (keys : List InstKey) (gs : List GraphInst) (at : ℕ) → IsGraphOver words A f keys gs
+  pub named : (words : Program) (A : List Entry) (f : Family) (keys : List InstKey) (gs : List GraphInst) (at : ℕ) → IsGraphOver words A f keys gs
       → IsNamed gs at → at < length keys
-  pub ranks : (words : List ℕ) (A : List Entry) (f : Family) (keys : List InstKey) (gs : List GraphInst) (ranks needs : List ℕ) → IsGraphOver words A f keys gs
+  pub ranks : (words : Program) (A : List Entry) (f : Family) (keys : List InstKey) (gs : List GraphInst) (ranks needs : List ℕ) → IsGraphOver words A f keys gs
       → IsLeast gs ranks needs → AreRanks words A f (valued keys ranks)
-  pub least_ranks : (words : List ℕ) (A : List Entry) (f : Family) (keys : List InstKey) (gs : List GraphInst) (ranks needs : List ℕ) (rank : InstKey → ℕ)
+  pub least_ranks : (words : Program) (A : List Entry) (f : Family) (keys : List InstKey) (gs : List GraphInst) (ranks needs : List ℕ) (rank : InstKey → ℕ)
       → IsGraphOver words A f keys gs → IsLeast gs ranks needs → AreRanks words A f rank → (inst : InstKey) → valued keys ranks inst ≤ rank inst
-  pub needs : (words : List ℕ) (A : List Entry) (f : Family) (keys : List InstKey) (gs : List GraphInst) (ranks needs : List ℕ) (spare : ℕ) → IsGraphOver words A f keys gs
+  pub needs : (words : Program) (A : List Entry) (f : Family) (keys : List InstKey) (gs : List GraphInst) (ranks needs : List ℕ) (spare : ℕ) → IsGraphOver words A f keys gs
       → IsLeast gs ranks needs → AreNeeds words A f (valued keys (map (λ x. x + spare) needs))
-  pub least_needs : (words : List ℕ) (A : List Entry) (f : Family) (keys : List InstKey) (gs : List GraphInst) (ranks needs : List ℕ) (need : InstKey → ℕ)
+  pub least_needs : (words : Program) (A : List Entry) (f : Family) (keys : List InstKey) (gs : List GraphInst) (ranks needs : List ℕ) (need : InstKey → ℕ)
       → IsGraphOver words A f keys gs → IsLeast gs ranks needs → AreNeeds words A f need → (inst : InstKey) → valued keys needs inst ≤ need inst
-  pub root : (words : List ℕ) (A : List Entry) (f : Family) (keys : List InstKey) (gs : List GraphInst) (ranks needs : List ℕ) → IsGraphOver words A f keys gs
+  pub root : (words : Program) (A : List Entry) (f : Family) (keys : List InstKey) (gs : List GraphInst) (ranks needs : List ℕ) → IsGraphOver words A f keys gs
       → IsLeast gs ranks needs → IsRootNeed words A f (slice_index needs 0)

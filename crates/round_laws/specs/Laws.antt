@@ -3,6 +3,7 @@ use Rattle.std.specs.Prelude.{ℕ, Bool, ◌*◌, ◌≡◌, ◌<◌, ◌≤◌,
 use Rattle.std.specs.FinMap.{len}
 use Rattle.avr_model.specs.declared.assumption.Entry.{Entry}
 use Rattle.avr_model.specs.Assumptions.{has_pairs}
+use Rattle.avr_model.specs.Devices.{Program}
 use Rattle.mask_states.specs.declared.keys.InstKey.{InstKey}
 use Rattle.mask_states.specs.Keys.{root_inst}
 use Rattle.local_rules.specs.declared.local.Node.{Node}
@@ -24,14 +25,14 @@ pub record FamiliesAreTheirNodes : Type 0 where
   pub apart : (f : Family) → HaveOwnKeys (nodes_of f)
 
 -- a family that shows a bound, with ranks and needs
-pub record IsValidFamily (words : List ℕ) (A : List Entry) (g : Family) : Type 0 where
+pub record IsValidFamily (words : Program) (A : List Entry) (g : Family) : Type 0 where
   pub rank_of : InstKey → ℕ
   pub need_of : InstKey → ℕ
   pub bound : ℕ
   pub sound : IsSoundFamily words A (record { nodes = nodes_of g; rank_of = rank_of; need_of = need_of; bound = bound })
 
 -- the family that a shown certificate stands for, within the limits
-pub record StandsForShown (words : List ℕ) (A : List Entry) (c : Claim) : Type 0 where
+pub record StandsForShown (words : Program) (A : List Entry) (c : Claim) : Type 0 where
   pub family : Family
   pub valid : IsValidFamily words A family
   pub fits : FitsLimits family
@@ -39,44 +40,44 @@ pub record StandsForShown (words : List ℕ) (A : List Entry) (c : Claim) : Type
 
 pub record RoundsAreLeast : Type 0 where
   -- one family for each number, of nodes that the analysis works with
-  pub one : (words : List ℕ) (A : List Entry) (n : ℕ) (f g : Family) → Comes words A n f → Comes words A n g → f ≡ g
-  pub formed : (words : List ℕ) (A : List Entry) (n : ℕ) (f : Family) → Comes words A n f → AreFormed (has_pairs A) f
+  pub one : (words : Program) (A : List Entry) (n : ℕ) (f g : Family) → Comes words A n f → Comes words A n g → f ≡ g
+  pub formed : (words : Program) (A : List Entry) (n : ℕ) (f : Family) → Comes words A n f → AreFormed (has_pairs A) f
   -- below each valid one
-  pub below : (words : List ℕ) (A : List Entry) (n : ℕ) (f g : Family) → IsValidFamily words A g → Comes words A n f → Below f g
-  pub faultless : (words : List ℕ) (A : List Entry) (n : ℕ) (f g : Family) → IsValidFamily words A g → Comes words A n f → HasNoFault words A f
-  pub ranks : (words : List ℕ) (A : List Entry) (n : ℕ) (f g : Family) (valid : IsValidFamily words A g) → Comes words A n f → AreRanks words A f valid.rank_of
-  pub needs : (words : List ℕ) (A : List Entry) (n : ℕ) (f g : Family) (valid : IsValidFamily words A g) → Comes words A n f → AreNeeds words A f valid.need_of
-  pub acyclic : (words : List ℕ) (A : List Entry) (n : ℕ) (f g : Family) → IsValidFamily words A g → Comes words A n f → IsAcyclic words A f
-  pub few : (words : List ℕ) (A : List Entry) (n : ℕ) (f g : Family) → IsValidFamily words A g → Comes words A n f → len f ≤ len g
-  pub fewer : (words : List ℕ) (A : List Entry) (n : ℕ) (f g : Family) → IsValidFamily words A g → Comes words A n f → cells f ≤ cells g
+  pub below : (words : Program) (A : List Entry) (n : ℕ) (f g : Family) → IsValidFamily words A g → Comes words A n f → Below f g
+  pub faultless : (words : Program) (A : List Entry) (n : ℕ) (f g : Family) → IsValidFamily words A g → Comes words A n f → HasNoFault words A f
+  pub ranks : (words : Program) (A : List Entry) (n : ℕ) (f g : Family) (valid : IsValidFamily words A g) → Comes words A n f → AreRanks words A f valid.rank_of
+  pub needs : (words : Program) (A : List Entry) (n : ℕ) (f g : Family) (valid : IsValidFamily words A g) → Comes words A n f → AreNeeds words A f valid.need_of
+  pub acyclic : (words : Program) (A : List Entry) (n : ℕ) (f g : Family) → IsValidFamily words A g → Comes words A n f → IsAcyclic words A f
+  pub few : (words : Program) (A : List Entry) (n : ℕ) (f g : Family) → IsValidFamily words A g → Comes words A n f → len f ≤ len g
+  pub fewer : (words : Program) (A : List Entry) (n : ℕ) (f g : Family) → IsValidFamily words A g → Comes words A n f → cells f ≤ cells g
   -- a certificate whose nodes meet the conditions stands for a valid family
-  pub stands : (words : List ℕ) (A : List Entry) (c : Claim) → IsShown words A c → StandsForShown words A c
+  pub stands : (words : Program) (A : List Entry) (c : Claim) → IsShown words A c → StandsForShown words A c
   -- no refusal where one is valid
-  pub never : (words : List ℕ) (A : List Entry) (n : ℕ) (c : Claim) (r : Refusal) → IsShown words A c → IsRefused words A n r → ⊥
+  pub never : (words : Program) (A : List Entry) (n : ℕ) (c : Claim) (r : Refusal) → IsShown words A c → IsRefused words A n r → ⊥
   -- no needs of a solved family, and no bound of a valid certificate, are below the least need of the root
-  pub bound : (words : List ℕ) (A : List Entry) (n : ℕ) (f : Family) (c : Claim) (d : ℕ) → IsShown words A c → Comes words A n f → IsRootNeed words A f d → d ≤ c.bound
+  pub bound : (words : Program) (A : List Entry) (n : ℕ) (f : Family) (c : Claim) (d : ℕ) → IsShown words A c → Comes words A n f → IsRootNeed words A f d → d ≤ c.bound
   -- what enters no instance of its own has a need no greater than the root's
-  pub under_root : (words : List ℕ) (A : List Entry) (n : ℕ) (f : Family) (need : InstKey → ℕ) → Comes words A n f → HasNoFault words A f → AreNeeds words A f need
+  pub under_root : (words : Program) (A : List Entry) (n : ℕ) (f : Family) (need : InstKey → ℕ) → Comes words A n f → HasNoFault words A f → AreNeeds words A f need
       → (inst : InstKey) → FamilyHasInst f inst → need inst ≤ need root_inst
 
 -- The rounds end at one number, with one family or one refusal, and go on before it.
 pub record RoundsEndOnce : Type 0 where
-  pub solved : (words : List ℕ) (A : List Entry) (m n : ℕ) (f g : Family) → IsSolved words A m f → IsSolved words A n g → (m ≡ n) × (f ≡ g)
-  pub either : (words : List ℕ) (A : List Entry) (m n : ℕ) (f : Family) (r : Refusal) → IsSolved words A m f → IsRefused words A n r → ⊥
-  pub refused : (words : List ℕ) (A : List Entry) (m n : ℕ) (r s : Refusal) → IsRefused words A m r → IsRefused words A n s → (m ≡ n) × (r ≡ s)
-  pub solved_beyond : (words : List ℕ) (A : List Entry) (m n : ℕ) (f : Family) → IsSolved words A m f → GoesBeyond words A n → n < m
-  pub refused_beyond : (words : List ℕ) (A : List Entry) (m n : ℕ) (r : Refusal) → IsRefused words A m r → GoesBeyond words A n → n < m
+  pub solved : (words : Program) (A : List Entry) (m n : ℕ) (f g : Family) → IsSolved words A m f → IsSolved words A n g → (m ≡ n) × (f ≡ g)
+  pub either : (words : Program) (A : List Entry) (m n : ℕ) (f : Family) (r : Refusal) → IsSolved words A m f → IsRefused words A n r → ⊥
+  pub refused : (words : Program) (A : List Entry) (m n : ℕ) (r s : Refusal) → IsRefused words A m r → IsRefused words A n s → (m ≡ n) × (r ≡ s)
+  pub solved_beyond : (words : Program) (A : List Entry) (m n : ℕ) (f : Family) → IsSolved words A m f → GoesBeyond words A n → n < m
+  pub refused_beyond : (words : Program) (A : List Entry) (m n : ℕ) (r : Refusal) → IsRefused words A m r → GoesBeyond words A n → n < m
 
 -- The certificate of a solved family is valid. No valid one has a smaller bound.
 pub record SolutionsAreValid : Type 0 where
-  pub valid : (words : List ℕ) (A : List Entry) (n : ℕ) (f : Family) (c : Claim) → IsClaim c → IsSolved words A n f → IsSolution words A f c → IsValid words A c
-  pub least : (words : List ℕ) (A : List Entry) (n : ℕ) (f : Family) (c other : Claim) → IsSolved words A n f → IsSolution words A f c → IsShown words A other
+  pub valid : (words : Program) (A : List Entry) (n : ℕ) (f : Family) (c : Claim) → IsClaim c → IsSolved words A n f → IsSolution words A f c → IsValid words A c
+  pub least : (words : Program) (A : List Entry) (n : ℕ) (f : Family) (c other : Claim) → IsSolved words A n f → IsSolution words A f c → IsShown words A other
       → c.bound ≤ other.bound
 
 -- What the code does is a round: nodes joined into the family one after the other make the next family. Each join leaves the family as it was
 -- or raises it, and it can't rise for ever.
 pub record RoundsAreJoins : Type 0 where
-  pub next : (words : List ℕ) (A : List Entry) (f : Family) (ns : List Node) → AreFormed (has_pairs A) f → IsRoundOf words A f ns → IsNext words A f (raised_all f ns)
+  pub next : (words : Program) (A : List Entry) (f : Family) (ns : List Node) → AreFormed (has_pairs A) f → IsRoundOf words A f ns → IsNext words A f (raised_all f ns)
   pub joined : {followed : Bool} (f : Family) (ns : List Node) → AreFormed followed f → AreNodesIn followed ns → AreJoined followed f ns (raised_all f ns)
   pub rises : {followed : Bool} (f : Family) (n : Node) → AreFormed followed f → IsNodeIn followed n.key n.state → (raised f n ≡ f) ⊎ (weight f < weight (raised f n))
   pub high : {followed : Bool} (f : Family) → AreFormed followed f → weight f ≤ 1122557 * cells f

@@ -3,6 +3,7 @@ use Rattle.std.specs.Prelude.{ℕ, Bool, ◌+◌, ◌≡◌, ◌⊎◌, ⊤, Lis
 use Rattle.std.specs.FinMap.{get, insert, entries}
 use Rattle.avr_model.specs.declared.assumption.Entry.{Entry}
 use Rattle.avr_model.specs.Assumptions.{has_pairs}
+use Rattle.avr_model.specs.Devices.{Program}
 use Rattle.abs_state.specs.declared.state.AbsState.{AbsState}
 use Rattle.abs_state.specs.Order.{state_join}
 use Rattle.mask_states.specs.declared.keys.NodeKey.{NodeKey}
@@ -29,7 +30,7 @@ raised_all f (n ∷ ns) = raised_all (raised f n) ns
 
 -- Nodes to be joined into f so that all its edges land: each edge lands already or is below one of them, and where all edges land, so do
 -- they.
-pub record IsRoundOf (words : List ℕ) (A : List Entry) (f : Family) (ns : List Node) : Type 0 where
+pub record IsRoundOf (words : Program) (A : List Entry) (f : Family) (ns : List Node) : Type 0 where
   pub formed : (to : Node) → Contains ns to → IsNodeIn (has_pairs A) to.key to.state
   pub all : (n : Node) (e : Edge) → FamilyHas f n → IsEdge words A (nodes_of f) n e → Lands f (target e) ⊎ IsCovered ns (target e)
   pub least : (h : Family) → Below f h → LandIn words A f h → (to : Node) → Contains ns to → Lands h to

@@ -7,6 +7,7 @@ use Rattle.std.specs.FinMap.{entries, len, len-entries}
 use Rattle.std.proofs.lemmas.Map.Made.{is_member-Decides, length-le_from_is_member}
 use Rattle.basics.specs.Items.{first_in, further_in}
 use Rattle.avr_model.specs.declared.assumption.Entry.{Entry}
+use Rattle.avr_model.specs.Devices.{Program}
 use Rattle.mask_states.specs.declared.keys.InstKey.{InstKey}
 use Rattle.mask_states.specs.Order.{same_inst}
 use Rattle.mask_states.specs.Total.{inst_equivalence}
@@ -42,7 +43,7 @@ none_twice (k ∷ ks) once = (
   none_twice ks (λ i j inst e f. let same : suc i ≡ suc j = once (suc i) (suc j) inst e f in omega (arith, same)),
 )
 
-module _ (words : List ℕ) (A : List Entry) (f : Family) (n : Noted) (is : IsNestingOf words A f n) where
+module _ (words : Program) (A : List Entry) (f : Family) (n : Noted) (is : IsNestingOf words A f n) where
   abbrev insts : List InstKey
   insts = map inst_of (nodes_of f)
 

@@ -2,6 +2,7 @@
 use Rattle.std.proofs.Common.{◌≡◌, refl, sym, ap, ◌∙◌, subst, List, ◌∷◌, Some, slice_get, slice_index, slice_index_or, ℕ, ◌<◌, ◌≤◌, length, Contains, arith}
 use Rattle.std.proofs.lemmas.Option.{slice_get_within, slice_get-get_or}
 use Rattle.avr_model.specs.declared.assumption.Entry.{Entry}
+use Rattle.avr_model.specs.Devices.{Program}
 use Rattle.mask_states.specs.declared.keys.InstKey.{InstKey}
 use Rattle.mask_states.specs.declared.keys.Kind.TheVariants.{Vector}
 use Rattle.mask_states.specs.declared.keys.SpForm.TheVariants.{Closed}
@@ -26,7 +27,7 @@ module _ (n : Noted) (others : List InstKey) (gs : List GraphInst) (drawn : IsDr
   abbrev keys : List InstKey
   keys = root_inst ∷ others
 
-  module _ (words : List ℕ) (A : List Entry) (f : Family) (nesting : IsNestingOf words A f n) where
+  module _ (words : Program) (A : List Entry) (f : Family) (nesting : IsNestingOf words A f n) where
     number_is : (inst : InstKey) → FamilyHasInst f inst → IsNumber keys (number_of keys inst) inst
     number_is inst h = numbered keys inst (subst (λ l. Contains l inst) is ((nesting.insts inst).1 h))
 
@@ -92,7 +93,7 @@ module _ (n : Noted) (others : List InstKey) (gs : List GraphInst) (drawn : IsDr
 
 module _ (tell : GraphsTell) (gs : List GraphInst) where
   module _ (at : ℕ) (g : GraphInst) (is : slice_get gs at ≡ Some g) (named : IsNamed gs at) where
-    number : (words : List ℕ) (A : List Entry) (f : Family) (keys : List InstKey) → IsGraphOver words A f keys gs → IsNumber keys at g.key
+    number : (words : Program) (A : List Entry) (f : Family) (keys : List InstKey) → IsGraphOver words A f keys gs → IsNumber keys at g.key
     number words A f keys of =
         let k = there keys at (tell.named words A f keys gs at of named) in
         k.1 ∙ ap (λ (x : InstKey). Some x) (sym (of.keyed at g k.0 is k.1))

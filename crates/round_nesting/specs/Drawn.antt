@@ -2,7 +2,7 @@
 use Rattle.std.specs.Prelude.{ℕ, ◌+◌, ◌≡◌, ◌↔◌, ◌⊎◌, Bool, if◌then◌else◌, List, ◌∷◌, Some, length, Contains, slice_get}
 use Rattle.std.specs.List.{position_or_len}
 use Rattle.avr_model.specs.declared.assumption.Entry.{Entry}
-use Rattle.avr_model.specs.Devices.{device_of, size_of}
+use Rattle.avr_model.specs.Devices.{Program, device_of, size_of}
 use Rattle.mask_states.specs.declared.keys.InstKey.{InstKey}
 use Rattle.mask_states.specs.Keys.{root_inst}
 use Rattle.mask_states.specs.Order.{same_inst}
@@ -90,4 +90,4 @@ pub record IsDrawn (keys : List InstKey) (spots : List Spot) (entrances : List E
 -- the verdict is told by the graph, of each family of which it is the graph and whose device's SRAM has so many bytes
 abbrev pub GraphTells : ℕ → List GraphInst → NestingVerdict → Type 0
 GraphTells size gs w =
-    (words : List ℕ) (A : List Entry) (f : Family) (keys : List InstKey) → size_of (device_of words) ≡ size → IsGraphOver words A f keys gs → VerdictTells words A f w
+    (words : Program) (A : List Entry) (f : Family) (keys : List InstKey) → size_of (device_of words) ≡ size → IsGraphOver words A f keys gs → VerdictTells words A f w

@@ -2,7 +2,7 @@
 use Rattle.std.specs.Prelude.{ℕ, ◌≡◌, ◌<◌, ◌≤◌, ◌↔◌, ◌⊎◌, List, [], length, Contains, Some, slice_get}
 use Rattle.std.specs.FinMap.{len}
 use Rattle.avr_model.specs.declared.assumption.Entry.{Entry}
-use Rattle.avr_model.specs.Devices.{device_of, size_of}
+use Rattle.avr_model.specs.Devices.{Program, device_of, size_of}
 use Rattle.mask_states.specs.declared.keys.InstKey.{InstKey}
 use Rattle.mask_states.specs.declared.keys.NodeKey.{NodeKey}
 use Rattle.mask_states.specs.declared.keys.SpForm.TheVariants.{Closed}
@@ -69,14 +69,14 @@ pub record IsSpotOf (f : Family) (s : Spot) : Type 0 where
   pub closed : node.key.sp ≡ Closed s.offset
 
 -- what is noted is what the family has
-pub record IsNestingOf (words : List ℕ) (A : List Entry) (f : Family) (n : Noted) : Type 0 where
+pub record IsNestingOf (words : Program) (A : List Entry) (f : Family) (n : Noted) : Type 0 where
   pub insts : (inst : InstKey) → Contains n.insts inst ↔ FamilyHasInst f inst
   pub spots : (s : Spot) → Contains n.spots s ↔ IsSpotOf f s
   pub entrances : (e : Entrance) → Contains n.entrances e ↔ Entering words A f e.from e.into e.offset
 
 -- ---- what it tells
 
-abbrev pub VerdictTells : List ℕ → List Entry → Family → NestingVerdict → Type 0
+abbrev pub VerdictTells : Program → List Entry → Family → NestingVerdict → Type 0
 VerdictTells words A f Nests = IsAcyclic words A f × IsShallow words A f
 VerdictTells words A f (ReEntry v word) = IsReEntry words A f v word
 VerdictTells words A f (Recursion word) = IsRecursion words A f word
@@ -85,10 +85,10 @@ VerdictTells words A f (TooDeep d) = IsAcyclic words A f × IsRootNeed words A f
 -- of each family of which it is the nesting, in which the root has a node, and whose device's SRAM has so many bytes
 abbrev pub TellsAll : ℕ → Noted → NestingVerdict → Type 0
 TellsAll size n w =
-    (words : List ℕ) (A : List Entry) (f : Family) → size_of (device_of words) ≡ size → FamilyHasInst f root_inst → IsNestingOf words A f n → VerdictTells words A f w
+    (words : Program) (A : List Entry) (f : Family) → size_of (device_of words) ≡ size → FamilyHasInst f root_inst → IsNestingOf words A f n → VerdictTells words A f w
 
 -- ---- laws
 
 -- no more instances are noted than the family has nodes
 abbrev pub NestingsAreSmall : Type 0
-NestingsAreSmall = (words : List ℕ) (A : List Entry) (f : Family) (n : Noted) → IsNestingOf words A f n → AreOnce n.insts → length n.insts ≤ len f
+NestingsAreSmall = (words : Program) (A : List Entry) (f : Family) (n : Noted) → IsNestingOf words A f n → AreOnce n.insts → length n.insts ≤ len f

@@ -2,6 +2,7 @@
 use Rattle.std.specs.Prelude.{ℕ, Bool, ◌≡◌, ◌≤◌, List, map, Some}
 use Rattle.std.specs.FinMap.{FinMap, get, entries, keys, len}
 use Rattle.avr_model.specs.declared.assumption.Entry.{Entry}
+use Rattle.avr_model.specs.Devices.{Program}
 use Rattle.abs_state.specs.declared.state.AbsState.{AbsState}
 use Rattle.abs_state.specs.Order.{IsStateWithin}
 use Rattle.mask_states.specs.declared.keys.InstKey.{InstKey}
@@ -43,14 +44,14 @@ Below f g = (n : Node) → FamilyHas f n → Lands g n
 abbrev pub AreFormed : Bool → Family → Type 0
 AreFormed followed f = (n : Node) → FamilyHas f n → IsNodeIn followed n.key n.state
 
-abbrev pub HasNoFault : List ℕ → List Entry → Family → Type 0
+abbrev pub HasNoFault : Program → List Entry → Family → Type 0
 HasNoFault words A f = (n : Node) → FamilyHas f n → IsFaultless words A n
 
 -- each edge of f lands in the family h
-abbrev pub LandIn : List ℕ → List Entry → Family → Family → Type 0
+abbrev pub LandIn : Program → List Entry → Family → Family → Type 0
 LandIn words A f h = (n : Node) (e : Edge) → FamilyHas f n → IsEdge words A (nodes_of f) n e → Lands h (target e)
 
-abbrev pub IsClosed : List ℕ → List Entry → Family → Type 0
+abbrev pub IsClosed : Program → List Entry → Family → Type 0
 IsClosed words A f = LandIn words A f f
 
 -- ---- limits

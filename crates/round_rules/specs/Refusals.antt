@@ -2,7 +2,7 @@
 use Rattle.std.specs.Prelude.{ℕ, ◌≡◌, ◌<◌, ◌≤◌, ◌⊎◌, List, Err}
 use Rattle.std.specs.FinMap.{len}
 use Rattle.avr_model.specs.declared.assumption.Entry.{Entry}
-use Rattle.avr_model.specs.Devices.{device_of, size_of}
+use Rattle.avr_model.specs.Devices.{Program, device_of, size_of}
 use Rattle.mask_states.specs.declared.keys.InstKey.{InstKey}
 use Rattle.mask_states.specs.declared.keys.Kind.TheVariants.{Vector}
 use Rattle.local_rules.specs.declared.local.Node.{Node}
@@ -35,7 +35,7 @@ word_of (fault.UnknownPointer pc) = pc
 word_of fault.Memory = 0
 
 -- a node has the fault
-pub record FaultAt (words : List ℕ) (A : List Entry) (f : Family) (x : NodeFault) : Type 0 where
+pub record FaultAt (words : Program) (A : List Entry) (f : Family) (x : NodeFault) : Type 0 where
   pub node : Node
   pub has : FamilyHas f node
   pub is : local words A node.key node.state ≡ Err x
@@ -46,11 +46,11 @@ IsFaultNoLater x y =
     (cause_of x < cause_of y) ⊎ ((cause_of x ≡ cause_of y) × ((word_of x < word_of y) ⊎ ((word_of x ≡ word_of y) × (fault_offset x ≤ fault_offset y))))
 
 -- the least fault of all nodes
-abbrev pub IsLeastFault : List ℕ → List Entry → Family → NodeFault → Type 0
+abbrev pub IsLeastFault : Program → List Entry → Family → NodeFault → Type 0
 IsLeastFault words A f x = FaultAt words A f x × ((y : NodeFault) → FaultAt words A f y → IsFaultNoLater x y)
 
 -- an instance of this vector, which begins at the word, reaches itself, and none of a lesser vector does
-pub record IsReEntry (words : List ℕ) (A : List Entry) (f : Family) (v word : ℕ) : Type 0 where
+pub record IsReEntry (words : Program) (A : List Entry) (f : Family) (v word : ℕ) : Type 0 where
   pub inst : InstKey
   pub reaches : Reaches words A f inst inst
   pub kind : inst.kind ≡ Vector v
@@ -58,7 +58,7 @@ pub record IsReEntry (words : List ℕ) (A : List Entry) (f : Family) (v word : 
   pub least : (other : InstKey) (u : ℕ) → Reaches words A f other other → other.kind ≡ Vector u → v ≤ u
 
 -- no vector's instance reaches itself, one that begins at this word does, and none of a lesser word does
-pub record IsRecursion (words : List ℕ) (A : List Entry) (f : Family) (word : ℕ) : Type 0 where
+pub record IsRecursion (words : Program) (A : List Entry) (f : Family) (word : ℕ) : Type 0 where
   pub inst : InstKey
   pub reaches : Reaches words A f inst inst
   pub entry : inst.entry ≡ word
@@ -76,7 +76,7 @@ pub data Test : Type 0 where
   too_deep : ℕ → Test
 
 -- the first test that holds of the family
-abbrev pub FirstHolds : List ℕ → List Entry → Family → Test → Type 0
+abbrev pub FirstHolds : Program → List Entry → Family → Test → Type 0
 FirstHolds words A f (over limit) = IsOverSize f limit
 FirstHolds words A f (faulty x) = FitsLimits f × IsLeastFault words A f x
 FirstHolds words A f (re_entry v word) = FitsLimits f × HasNoFault words A f × IsReEntry words A f v word
@@ -101,25 +101,25 @@ refusal_of (recursion word) = refusal.Recursion word
 refusal_of (too_deep d) = refusal.TooDeep 0 d
 
 -- the rounds end at family n, by this test
-pub record EndsBy (words : List ℕ) (A : List Entry) (n : ℕ) (t : Test) : Type 0 where
+pub record EndsBy (words : Program) (A : List Entry) (n : ℕ) (t : Test) : Type 0 where
   pub family : Family
   pub comes : Comes words A n family
   pub holds : FirstHolds words A family t
 
 -- the rounds end at family n, with this refusal
-pub record IsRefused (words : List ℕ) (A : List Entry) (n : ℕ) (r : Refusal) : Type 0 where
+pub record IsRefused (words : Program) (A : List Entry) (n : ℕ) (r : Refusal) : Type 0 where
   pub test : Test
   pub ends : EndsBy words A n test
   pub is : r ≡ refusal_of test
 
 -- the rounds end at family n, which is this one, without a refusal
-pub record IsSolved (words : List ℕ) (A : List Entry) (n : ℕ) (f : Family) : Type 0 where
+pub record IsSolved (words : Program) (A : List Entry) (n : ℕ) (f : Family) : Type 0 where
   pub comes : Comes words A n f
   pub passes : PassesTests words A f
   pub closed : IsClosed words A f
 
 -- the rounds end at none of the families 0 to n
-pub record GoesBeyond (words : List ℕ) (A : List Entry) (n : ℕ) : Type 0 where
+pub record GoesBeyond (words : Program) (A : List Entry) (n : ℕ) : Type 0 where
   pub family : Family
   pub comes : Comes words A n family
   pub passes : PassesTests words A family

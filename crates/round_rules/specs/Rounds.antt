@@ -3,7 +3,7 @@ use Rattle.std.specs.Prelude.{ℕ, zero, suc, ◌+◌, ◌≡◌, ◌<◌, ◌�
 use Rattle.std.specs.FinMap.{insert, empty}
 use Rattle.avr_model.specs.declared.assumption.Entry.{Entry}
 use Rattle.avr_model.specs.Assumptions.{has_pairs}
-use Rattle.avr_model.specs.Devices.{device_of, size_of}
+use Rattle.avr_model.specs.Devices.{Program, device_of, size_of}
 use Rattle.mask_states.specs.declared.keys.InstKey.{InstKey}
 use Rattle.mask_states.specs.declared.keys.EdgeKind.{EdgeKind}
 use Rattle.mask_states.specs.declared.keys.SpForm.TheVariants.{Closed}
@@ -16,7 +16,7 @@ use Rattle.round_rules.specs.Families.{Family, FamilyHas, Below, AreFormed, HasN
 -- ---- which instance enters which
 
 -- a node of the first instance, with this offset, enters the second
-pub record Entering (words : List ℕ) (A : List Entry) (f : Family) (i j : InstKey) (offset : ℕ) : Type 0 where
+pub record Entering (words : Program) (A : List Entry) (f : Family) (i j : InstKey) (offset : ℕ) : Type 0 where
   pub node : Node
   pub has : FamilyHas f node
   pub same : node.key.inst ≡ i
@@ -26,32 +26,32 @@ pub record Entering (words : List ℕ) (A : List Entry) (f : Family) (i j : Inst
   pub enters : Enters words A node way j back
 
 -- the second instance is entered from the first by one or more entries
-pub data Reaches (words : List ℕ) (A : List Entry) (f : Family) : InstKey → InstKey → Type 0 where
+pub data Reaches (words : Program) (A : List Entry) (f : Family) : InstKey → InstKey → Type 0 where
   once : (i j : InstKey) (offset : ℕ) → Entering words A f i j offset → Reaches words A f i j
   more : (i j k : InstKey) (offset : ℕ) → Entering words A f i j offset → Reaches words A f j k → Reaches words A f i k
 
-abbrev pub IsAcyclic : List ℕ → List Entry → Family → Type 0
+abbrev pub IsAcyclic : Program → List Entry → Family → Type 0
 IsAcyclic words A f = (i : InstKey) → Reaches words A f i i → ⊥
 
 -- an instance's rank is above that of each that it enters
-abbrev pub AreRanks : List ℕ → List Entry → Family → (InstKey → ℕ) → Type 0
+abbrev pub AreRanks : Program → List Entry → Family → (InstKey → ℕ) → Type 0
 AreRanks words A f rank = (i j : InstKey) (offset : ℕ) → Entering words A f i j offset → rank j < rank i
 
 -- An instance's need is at least the offset of each of its closed nodes, and at least what each instance that it enters needs behind the
 -- offset there and two bytes for the way back. An instance that has no node yet may have any need.
-pub record AreNeeds (words : List ℕ) (A : List Entry) (f : Family) (need : InstKey → ℕ) : Type 0 where
+pub record AreNeeds (words : Program) (A : List Entry) (f : Family) (need : InstKey → ℕ) : Type 0 where
   pub offsets : (n : Node) (offset : ℕ) → FamilyHas f n → n.key.sp ≡ Closed offset → offset ≤ need n.key.inst
   pub entered : (i j : InstKey) (offset : ℕ) → Entering words A f i j offset → offset + 2 + need j ≤ need i
 
 -- the least need of the root
-pub record IsRootNeed (words : List ℕ) (A : List Entry) (f : Family) (d : ℕ) : Type 0 where
+pub record IsRootNeed (words : Program) (A : List Entry) (f : Family) (d : ℕ) : Type 0 where
   pub need : InstKey → ℕ
   pub are : AreNeeds words A f need
   pub is : need root_inst ≡ d
   pub least : (other : InstKey → ℕ) → AreNeeds words A f other → d ≤ other root_inst
 
 -- the least need of the root is no more than the device's SRAM has bytes: some needs keep it there
-pub record IsShallow (words : List ℕ) (A : List Entry) (f : Family) : Type 0 where
+pub record IsShallow (words : Program) (A : List Entry) (f : Family) : Type 0 where
   pub need : InstKey → ℕ
   pub are : AreNeeds words A f need
   pub small : need root_inst ≤ size_of (device_of words)
@@ -62,20 +62,20 @@ abbrev pub first : List Entry → Family
 first A = insert empty (entry_key root_inst) (root_of A)
 
 -- g is f joined with the targets of all its edges: the least family above f in which they land
-pub record IsNext (words : List ℕ) (A : List Entry) (f g : Family) : Type 0 where
+pub record IsNext (words : Program) (A : List Entry) (f g : Family) : Type 0 where
   pub formed : AreFormed (has_pairs A) g
   pub above : Below f g
   pub edges : LandIn words A f g
   pub least : (h : Family) → Below f h → LandIn words A f h → Below g h
 
 -- no test holds of the family
-pub record PassesTests (words : List ℕ) (A : List Entry) (f : Family) : Type 0 where
+pub record PassesTests (words : Program) (A : List Entry) (f : Family) : Type 0 where
   pub fits : FitsLimits f
   pub faultless : HasNoFault words A f
   pub acyclic : IsAcyclic words A f
   pub shallow : IsShallow words A f
 
 -- the rounds come to family n, which is this one
-abbrev pub Comes : List ℕ → List Entry → ℕ → Family → Type 0
+abbrev pub Comes : Program → List Entry → ℕ → Family → Type 0
 Comes words A zero f = f ≡ first A
 Comes words A (suc n) g = (f : Family) × Comes words A n f × PassesTests words A f × (IsClosed words A f → ⊥) × IsNext words A f g

@@ -1,6 +1,7 @@
 -- What the analysis answers.
 use Rattle.std.specs.Prelude.{ℕ, ◌≡◌, ◌≤◌, ◌↔◌, ⊤, List, Option, Some, None, Contains}
 use Rattle.avr_model.specs.declared.assumption.Entry.{Entry}
+use Rattle.avr_model.specs.Devices.{Program}
 use Rattle.mask_states.specs.declared.keys.InstKey.{InstKey}
 use Rattle.mask_states.specs.Keys.{root_inst}
 use Rattle.edge_rules.specs.Expansion.{IsFilled}
@@ -16,13 +17,13 @@ use Rattle.round_rules.specs.Refusals.{IsSolved, IsRefused, GoesBeyond}
 use Rattle.round_rules.specs.Sparse.{AreSparse}
 
 -- a certificate whose nodes meet all conditions: valid, but for its schedule
-pub record IsShown (words : List ℕ) (A : List Entry) (c : Claim) : Type 0 where
+pub record IsShown (words : Program) (A : List Entry) (c : Claim) : Type 0 where
   pub claim : IsClaim c
   pub sound : IsSound words A c
 
 -- The certificate of a solved family: it is of the version that its assumptions ask for, and has the family's nodes and their instances, least ranks and needs, and the root's need as bound.
 -- A node's state is left out exactly where the one edge that leads to it gives it.
-pub record IsSolution (words : List ℕ) (A : List Entry) (f : Family) (c : Claim) : Type 0 where
+pub record IsSolution (words : Program) (A : List Entry) (f : Family) (c : Claim) : Type 0 where
   pub version : c.version ≡ written_version A
   pub expands : IsFilled words A c.nodes (nodes_of f)
   pub sparse : AreSparse words A (nodes_of f) c.nodes
@@ -41,7 +42,7 @@ IsWithinBudget None n = ⊤
 IsWithinBudget (Some steps) n = n ≤ steps
 
 -- The rounds end within the budget at a solved family, and this is its certificate.
-pub record IsAnswer (words : List ℕ) (A : List Entry) (steps : Option ℕ) (c : Claim) : Type 0 where
+pub record IsAnswer (words : Program) (A : List Entry) (steps : Option ℕ) (c : Claim) : Type 0 where
   pub number : ℕ
   pub family : Family
   pub within : IsWithinBudget steps number
@@ -49,13 +50,13 @@ pub record IsAnswer (words : List ℕ) (A : List Entry) (steps : Option ℕ) (c 
   pub solution : IsSolution words A family c
 
 -- The rounds end within the budget with this refusal.
-pub record IsRefusal (words : List ℕ) (A : List Entry) (steps : Option ℕ) (r : Refusal) : Type 0 where
+pub record IsRefusal (words : Program) (A : List Entry) (steps : Option ℕ) (r : Refusal) : Type 0 where
   pub number : ℕ
   pub within : IsWithinBudget steps number
   pub refused : IsRefused words A number r
 
 -- What may be answered in place of a certificate: the one refusal, that the budget is spent, or want of memory, which says nothing.
-abbrev pub IsWhyNot : List ℕ → List Entry → Option ℕ → Refusal → Type 0
+abbrev pub IsWhyNot : Program → List Entry → Option ℕ → Refusal → Type 0
 IsWhyNot words A steps (Spent n) = (steps ≡ Some n) × GoesBeyond words A n
 IsWhyNot words A steps Memory = ⊤
 IsWhyNot words A steps r = IsRefusal words A steps r

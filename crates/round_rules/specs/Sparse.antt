@@ -1,6 +1,7 @@
 -- Which nodes of a solved family are written without their states. Source: own.
 use Rattle.std.specs.Prelude.{ℕ, ◌≡◌, ◌<◌, ◌↔◌, List, Some, Contains, slice_get}
 use Rattle.avr_model.specs.declared.assumption.Entry.{Entry}
+use Rattle.avr_model.specs.Devices.{Program}
 use Rattle.mask_states.specs.declared.keys.NodeKey.{NodeKey}
 use Rattle.mask_states.specs.declared.keys.EdgeKind.TheVariants as kind
 use Rattle.local_rules.specs.declared.local.Node.{Node}
@@ -11,7 +12,7 @@ use Rattle.edge_rules.specs.Edges.{IsEdge}
 use Rattle.edge_rules.specs.Expansion.{Seeds}
 
 -- Exactly one edge of the family leads to this key. It is local, and comes from the node of this number.
-pub record IsOnlyFrom (words : List ℕ) (A : List Entry) (nodes : List Node) (k : NodeKey) (m : ℕ) : Type 0 where
+pub record IsOnlyFrom (words : Program) (A : List Entry) (nodes : List Node) (k : NodeKey) (m : ℕ) : Type 0 where
   pub node : Node
   pub at : slice_get nodes m ≡ Some node
   pub edge : Edge
@@ -22,6 +23,6 @@ pub record IsOnlyFrom (words : List ℕ) (A : List Entry) (nodes : List Node) (k
 
 -- A node is written with the number of an earlier one exactly where the one edge that leads to it is local and comes from there. So the
 -- first node, which is the root's after reset, has its state, and so has every other node to which more leads, or a later node alone.
-abbrev pub AreSparse : List ℕ → List Entry → List Node → Seeds → Type 0
+abbrev pub AreSparse : Program → List Entry → List Node → Seeds → Type 0
 AreSparse words A nodes seeds = (at m : ℕ) (k : NodeKey) (form : NodeForm) → slice_get seeds at ≡ Some (k, form)
     → (form ≡ From m) ↔ ((m < at) × IsOnlyFrom words A nodes k m)

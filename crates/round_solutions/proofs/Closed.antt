@@ -2,6 +2,7 @@
 use Rattle.std.proofs.Common.{◌≡◌, sym, ap, subst, ℕ, inr, List, [], map, Ok, Err, Result, Contains}
 use Rattle.avr_model.specs.declared.assumption.Entry.{Entry}
 use Rattle.avr_model.specs.Assumptions.{has_pairs}
+use Rattle.avr_model.specs.Devices.{Program}
 use Rattle.abs_state.proofs.AllLaws.{states_are_ordered}
 use Rattle.local_rules.specs.declared.local.Node.{Node}
 use Rattle.local_rules.specs.declared.local.NodeFault.{NodeFault}
@@ -20,7 +21,7 @@ use Rattle.round_laws.proofs.AllLaws.{has_member, member_has, formed_nodes}
 use Rattle.round_laws.proofs.CloseLaws.{closed_families_end_rounds}
 use Rattle.round_solutions.specs.Closed.{ClosedFamiliesAreSolved}
 
-module _ (words : List ℕ) (A : List Entry) where
+module _ (words : Program) (A : List Entry) where
   -- the edges from a node, and none from one with a fault
   edges_or : Result (List Edge) NodeFault → List Edge
   edges_or (Ok all) = all

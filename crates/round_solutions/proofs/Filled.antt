@@ -6,6 +6,7 @@ use Rattle.basics.specs.Items.{none_in, first_in, further_in, first_or_further, 
 use Rattle.basics.specs.Lists.{get_inside}
 use Rattle.edge_laws.proofs.AllLaws.{part_of}
 use Rattle.avr_model.specs.declared.assumption.Entry.{Entry}
+use Rattle.avr_model.specs.Devices.{Program}
 use Rattle.abs_state.specs.declared.state.AbsState.{AbsState}
 use Rattle.mask_states.specs.declared.keys.NodeKey.{NodeKey}
 use Rattle.mask_states.specs.declared.keys.EdgeKind.TheVariants as kind
@@ -48,21 +49,21 @@ alone (y ∷ []) x few i = ap (λ z. z ∷ []) (sym (only y x i))
 alone (y ∷ z ∷ zs) x few i = absurd (omega (arith, few))
 
 -- where a local edge leads
-record Moves (words : List ℕ) (A : List Entry) (n : Node) (e : Edge) : Type 0 where
+record Moves (words : Program) (A : List Entry) (n : Node) (e : Edge) : Type 0 where
   clean : IsFaultless words A n
   to : Node
   member : Contains (joined_onto [] (raw_of words A n).moves) to
   key : to.key ≡ e.to
   state : to.state ≡ e.state
 
-moves : (words : List ℕ) (A : List Entry) (nodes : List Node) (n : Node) (e : Edge) → IsEdge words A nodes n e → e.kind ≡ kind.Local → Moves words A n e
+moves : (words : Program) (A : List Entry) (nodes : List Node) (n : Node) (e : Edge) → IsEdge words A nodes n e → e.kind ≡ kind.Local → Moves words A n e
 moves words A nodes n _ (moving to clean member) is = record { clean = clean; to = to; member = member; key = refl; state = refl }
 moves words A nodes n _ (entering _ inst back (by_call offset site clean form member)) is = absurd (cc)
 moves words A nodes n _ (entering _ inst back (by_interrupt offset v clears clean form i delay enabled allowed clearable)) is = absurd (cc)
 moves words A nodes n _ (returning way inst back leaver x state enters present same clean exit it) is = absurd (cc)
 
 -- local edges of a node to one key are one
-same_edge : (words : List ℕ) (A : List Entry) (nodes : List Node) (n : Node) (d e : Edge) → IsEdge words A nodes n d → IsEdge words A nodes n e
+same_edge : (words : Program) (A : List Entry) (nodes : List Node) (n : Node) (d e : Edge) → IsEdge words A nodes n d → IsEdge words A nodes n e
     → d.kind ≡ kind.Local → e.kind ≡ kind.Local → d.to ≡ e.to → d ≡ e
 same_edge words A nodes n d e is_d is_e local_d local_e to =
     let v = moves words A nodes n d is_d local_d in
@@ -77,7 +78,7 @@ same_edge words A nodes n d e is_d is_e local_d local_e to =
 
 -- ---- the nodes with their forms
 
-module _ (words : List ℕ) (A : List Entry) (n : ℕ) (f : Family) (solved : IsSolved words A n f) (seeds : Seeds) (forms : AreForms words A (nodes_of f) seeds) where
+module _ (words : Program) (A : List Entry) (n : ℕ) (f : Family) (solved : IsSolved words A n f) (seeds : Seeds) (forms : AreForms words A (nodes_of f) seeds) where
   abbrev nodes : List Node
   nodes = nodes_of f
 
@@ -127,7 +128,7 @@ module _ (words : List ℕ) (A : List Entry) (n : ℕ) (f : Family) (solved : Is
 
 -- ---- which are left out
 
-module _ (words : List ℕ) (A : List Entry) (f : Family) (seeds : Seeds) (forms : AreForms words A (nodes_of f) seeds) where
+module _ (words : Program) (A : List Entry) (f : Family) (seeds : Seeds) (forms : AreForms words A (nodes_of f) seeds) where
   -- the number is that of the edge's origin
   one_from : (k : NodeKey) (m j : ℕ) → IsOnlyFrom words A (nodes_of f) k m → IsOnlyFrom words A (nodes_of f) k j → m ≡ j
   one_from k m j a b =

@@ -8,6 +8,7 @@ use Rattle.basics.specs.Items.{contained_at, get_contained}
 use Rattle.family_graph.proofs.Graphs.{keys_long}
 use Rattle.avr_model.specs.declared.assumption.Entry.{Entry}
 use Rattle.avr_model.specs.Assumptions.{has_pairs}
+use Rattle.avr_model.specs.Devices.{Program}
 use Rattle.abs_state.specs.Frames.{entered}
 use Rattle.mask_states.specs.declared.keys.EdgeKind.{EdgeKind}
 use Rattle.mask_states.specs.declared.keys.InstKey.{InstKey}
@@ -47,11 +48,11 @@ key_is (x ∷ xs) zero g e = ap Some (ap (λ (y : GraphInst). y.key) (same_Some 
 key_is (x ∷ xs) (suc i) g e = key_is xs i g e
 
 -- only a node with a whole stack pointer enters an instance
-closed_at : (words : List ℕ) (A : List Entry) (n : Node) (way : EdgeKind) (inst : InstKey) (back : ℕ) → Enters words A n way inst back → (offset : ℕ) × (n.key.sp ≡ Closed offset)
+closed_at : (words : Program) (A : List Entry) (n : Node) (way : EdgeKind) (inst : InstKey) (back : ℕ) → Enters words A n way inst back → (offset : ℕ) × (n.key.sp ≡ Closed offset)
 closed_at words A n _ _ _ (by_call offset site clean form member) = (offset, form)
 closed_at words A n _ _ _ (by_interrupt offset v clears clean form i delay enabled allowed clearable) = (offset, form)
 
-module _ (words : List ℕ) (A : List Entry) (n : ℕ) (f : Family) (solved : IsSolved words A n f) where
+module _ (words : Program) (A : List Entry) (n : ℕ) (f : Family) (solved : IsSolved words A n f) where
   abbrev nodes : List Node
   nodes = nodes_of f
 

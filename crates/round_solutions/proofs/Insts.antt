@@ -11,7 +11,7 @@ use Rattle.avr_model.specs.Assumptions.{has_pairs}
 use Rattle.avr_model.specs.Image.{WORDS}
 use Rattle.avr_model.specs.declared.device.Device.{Device}
 use Rattle.avr_model.specs.declared.device.Device.TheVariants.{M48, M88, M168, M328}
-use Rattle.avr_model.specs.Devices.{device_of}
+use Rattle.avr_model.specs.Devices.{Program, device_of}
 use Rattle.avr_model.specs.Vectors.{is_enabled, vector_word}
 use Rattle.abs_state.specs.declared.state.AbsState.{AbsState}
 use Rattle.abs_state.proofs.AllLaws.{states_are_ordered}
@@ -57,7 +57,7 @@ vector_fits : (device : Device) (enables v masks : ℕ) → is_enabled enables v
 vector_fits device enables v masks e b = fits_if enables v masks (is_vector_word v (vector_word device v)) e b (vector_is device v)
 
 -- an entered instance fits
-entered_fits : {followed : Bool} (words : List ℕ) (A : List Entry) (n : Node) (way : EdgeKind) (inst : InstKey) (back : ℕ) → IsNodeIn followed n.key n.state → Enters words A n way inst back → fits inst ≡ true
+entered_fits : {followed : Bool} (words : Program) (A : List Entry) (n : Node) (way : EdgeKind) (inst : InstKey) (back : ℕ) → IsNodeIn followed n.key n.state → Enters words A n way inst back → fits inst ≡ true
 entered_fits words A n way inst back node enters = let to = edges_lead_to_nodes.entries words A n way inst back node enters in by way inst back enters to.word to.masks
   where
     by : (way : EdgeKind) (inst : InstKey) (back : ℕ) → Enters words A n way inst back → inst.entry < WORDS → inst.masks < 2 ^ 25 → fits inst ≡ true
@@ -65,7 +65,7 @@ entered_fits words A n way inst back node enters = let to = edges_lead_to_nodes.
     by _ _ _ (by_interrupt offset v clears clean form i delay enabled allowed clearable) word masks = vector_fits (device_of words) n.key.masks v _ enabled masks
 
 -- the instance of an edge's target fits where the node's own does
-target_fits : {followed : Bool} (words : List ℕ) (A : List Entry) (nodes : List Node) (n : Node) (e : Edge) → IsNodeIn followed n.key n.state → fits n.key.inst ≡ true → IsEdge words A nodes n e → fits e.to.inst ≡ true
+target_fits : {followed : Bool} (words : Program) (A : List Entry) (nodes : List Node) (n : Node) (e : Edge) → IsNodeIn followed n.key n.state → fits n.key.inst ≡ true → IsEdge words A nodes n e → fits e.to.inst ≡ true
 target_fits words A nodes n _ node own (moving to clean member) =
     let raw = joins_are_least.keys (raw_of words A n).moves to member in
     let same = (local_parts_are_nodes.nodes words A n.key n.state raw.0 node clean raw.1.0).0 in
@@ -73,7 +73,7 @@ target_fits words A nodes n _ node own (moving to clean member) =
 target_fits words A nodes n _ node own (entering way inst back enters) = entered_fits words A n way inst back node enters
 target_fits words A nodes n _ node own (returning way inst back leaver x state enters present at clean exit is) = own
 
-module _ (words : List ℕ) (A : List Entry) (n : ℕ) (f : Family) (solved : IsSolved words A n f) where
+module _ (words : Program) (A : List Entry) (n : ℕ) (f : Family) (solved : IsSolved words A n f) where
   abbrev is_fit : NodeKey → Bool
   is_fit k = fits k.inst
 

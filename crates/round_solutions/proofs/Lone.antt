@@ -5,6 +5,7 @@ use Rattle.basics.specs.Items.{contained_at}
 use Rattle.std.proofs.lemmas.Option.{same_Some}
 use Rattle.avr_model.specs.declared.assumption.Entry.{Entry}
 use Rattle.avr_model.specs.Assumptions.{has_pairs}
+use Rattle.avr_model.specs.Devices.{Program}
 use Rattle.abs_state.specs.declared.state.AbsState.{AbsState}
 use Rattle.abs_state.specs.Order.{IsStateWithin}
 use Rattle.abs_state.proofs.AllLaws.{states_are_ordered, joins_are_formed}
@@ -23,7 +24,7 @@ use Rattle.round_rules.specs.Refusals.{IsSolved}
 use Rattle.round_rules.specs.Sparse.{IsOnlyFrom}
 use Rattle.round_laws.proofs.AllLaws.{at_keys, get_same, get_other, has_member, member_has, lands_covered, formed_nodes, first_has, comes_formed, comes_root}
 
-module _ (words : List ℕ) (A : List Entry) where
+module _ (words : Program) (A : List Entry) where
   -- where an edge of a greater family lands, that of the lesser does
   over : {followed : Bool} (g h : Family) → AreFormed followed g → AreFormed followed h → Below g h → HasNoFault words A h → IsClosed words A h → LandIn words A g h
   over g h low high below clean closed m e has edge =

@@ -13,7 +13,7 @@ use Rattle.local_laws.proofs.AllLaws.{node_key}
 use Rattle.family_graph.proofs.Graphs.{keys_long}
 use Rattle.avr_model.specs.declared.assumption.Entry.{Entry}
 use Rattle.avr_model.specs.Assumptions.{has_pairs}
-use Rattle.avr_model.specs.Devices.{device_of, size_of}
+use Rattle.avr_model.specs.Devices.{Program, device_of, size_of}
 use Rattle.avr_model.proofs.AllLaws.{devices_are_alike}
 use Rattle.abs_state.specs.declared.state.AbsState.{AbsState}
 use Rattle.vector_table.specs.Entries.{AreEntries}
@@ -127,7 +127,7 @@ are_of true seeds = tt
 
 -- ---- the certificate
 
-module _ (words : List ℕ) (A : List Entry) (n : ℕ) (f : Family) (insts : List Inst) (seeds : Seeds) (solved : IsSolved words A n f) (parts : AreCertificateParts words A f insts seeds) where
+module _ (words : Program) (A : List Entry) (n : ℕ) (f : Family) (insts : List Inst) (seeds : Seeds) (solved : IsSolved words A n f) (parts : AreCertificateParts words A f insts seeds) where
   abbrev gs : List GraphInst
   gs = parts.graph
 

@@ -4,6 +4,7 @@ use Rattle.std.proofs.lemmas.Option.{slice_get_within, same_Some}
 use Rattle.basics.specs.Lists.{get_inside}
 use Rattle.family_graph.proofs.Alike.{same_lists}
 use Rattle.avr_model.specs.declared.assumption.Entry.{Entry}
+use Rattle.avr_model.specs.Devices.{Program}
 use Rattle.abs_state.specs.declared.state.AbsState.{AbsState}
 use Rattle.mask_states.specs.declared.keys.InstKey.{InstKey}
 use Rattle.mask_states.specs.declared.keys.NodeKey.{NodeKey}
@@ -29,7 +30,7 @@ from_is s m e = cc
 state_is : (s t u : AbsState) → u ≡ s → u ≡ t → State s ≡ State t
 state_is s t u a b = cc
 
-module _ (words : List ℕ) (A : List Entry) (f : Family) (c d : Claim) (claim_c : IsClaim c) (claim_d : IsClaim d) (has_c : IsSolution words A f c) (has_d : IsSolution words A f d) where
+module _ (words : Program) (A : List Entry) (f : Family) (c d : Claim) (claim_c : IsClaim c) (claim_d : IsClaim d) (has_c : IsSolution words A f c) (has_d : IsSolution words A f d) where
   keys : inst_keys c.instances ≡ inst_keys d.instances
   keys = same_lists (inst_keys c.instances) (inst_keys d.instances) claim_c.insts_ascend claim_d.insts_ascend
       (λ k h. (has_d.instances k).1 ((has_c.instances k).0 h)) (λ k h. (has_c.instances k).1 ((has_d.instances k).0 h))
@@ -79,35 +80,35 @@ claim_is c d v a b e f g =
     ∙ ap (λ x. record { version = d.version; bound = d.bound; assumptions = d.assumptions; instances = d.instances; nodes = x; witness = c.witness }) f
     ∙ ap (λ x. record { version = d.version; bound = d.bound; assumptions = d.assumptions; instances = d.instances; nodes = d.nodes; witness = x }) g
 
-solution : (words : List ℕ) (A : List Entry) (f : Family) (c d : Claim) → IsClaim c → IsClaim d → IsSolution words A f c → IsSolution words A f d → c ≡ d
+solution : (words : Program) (A : List Entry) (f : Family) (c d : Claim) → IsClaim c → IsClaim d → IsSolution words A f c → IsSolution words A f d → c ≡ d
 solution words A f c d p q h i =
     claim_is c d (versions words A f c d p q h i) (bounds words A f c d p q h i) (assumed words A f c d p q h i) (insts words A f c d p q h i) (nodes words A f c d p q h i) (unwitnessed words A f c d p q h i)
 
-answer : (words : List ℕ) (A : List Entry) (steps : Option ℕ) (c d : Claim) → IsClaim c → IsClaim d → IsAnswer words A steps c → IsAnswer words A steps d → c ≡ d
+answer : (words : Program) (A : List Entry) (steps : Option ℕ) (c d : Claim) → IsClaim c → IsClaim d → IsAnswer words A steps c → IsAnswer words A steps d → c ≡ d
 answer words A steps c d p q h i =
     let same : (h.number ≡ i.number) × (h.family ≡ i.family) = rounds_end_once.solved words A h.number i.number h.family i.family h.solved i.solved in
     solution words A i.family c d p q (subst (λ (f : Family). IsSolution words A f c) same.1 h.solution) i.solution
 
 -- a refusal that isn't that of a spent budget or want of memory
-beyond : (words : List ℕ) (A : List Entry) (n m : ℕ) (steps : Option ℕ) → steps ≡ Some n → IsWithinBudget steps m → n < m → ⊥
+beyond : (words : Program) (A : List Entry) (n m : ℕ) (steps : Option ℕ) → steps ≡ Some n → IsWithinBudget steps m → n < m → ⊥
 beyond words A n m steps e within less = let le : m ≤ n = subst (λ (o : Option ℕ). IsWithinBudget o m) e within in omega (arith, le, less)
 
-spent_refused : (words : List ℕ) (A : List Entry) (steps : Option ℕ) (n : ℕ) (r : Refusal) → (steps ≡ Some n) × GoesBeyond words A n → IsRefusal words A steps r → ⊥
+spent_refused : (words : Program) (A : List Entry) (steps : Option ℕ) (n : ℕ) (r : Refusal) → (steps ≡ Some n) × GoesBeyond words A n → IsRefusal words A steps r → ⊥
 spent_refused words A steps n r spent h = beyond words A n h.number steps spent.0 h.within (rounds_end_once.refused_beyond words A h.number n r h.refused spent.1)
 
-spent_answered : (words : List ℕ) (A : List Entry) (steps : Option ℕ) (n : ℕ) (c : Claim) → (steps ≡ Some n) × GoesBeyond words A n → IsAnswer words A steps c → ⊥
+spent_answered : (words : Program) (A : List Entry) (steps : Option ℕ) (n : ℕ) (c : Claim) → (steps ≡ Some n) × GoesBeyond words A n → IsAnswer words A steps c → ⊥
 spent_answered words A steps n c spent h = beyond words A n h.number steps spent.0 h.within (rounds_end_once.solved_beyond words A h.number n h.family h.solved spent.1)
 
-refused_answered : (words : List ℕ) (A : List Entry) (steps : Option ℕ) (r : Refusal) (c : Claim) → IsRefusal words A steps r → IsAnswer words A steps c → ⊥
+refused_answered : (words : Program) (A : List Entry) (steps : Option ℕ) (r : Refusal) (c : Claim) → IsRefusal words A steps r → IsAnswer words A steps c → ⊥
 refused_answered words A steps r c h i = rounds_end_once.either words A i.number h.number i.family r i.solved h.refused
 
 -- what may be answered in place of a certificate
-data Why (words : List ℕ) (A : List Entry) (steps : Option ℕ) (r : Refusal) : Type 0 where
+data Why (words : Program) (A : List Entry) (steps : Option ℕ) (r : Refusal) : Type 0 where
   refused : IsRefusal words A steps r → Why words A steps r
   spent : (n : ℕ) → r ≡ refusal.Spent n → (steps ≡ Some n) × GoesBeyond words A n → Why words A steps r
   wanting : r ≡ refusal.Memory → Why words A steps r
 
-why : (words : List ℕ) (A : List Entry) (steps : Option ℕ) (r : Refusal) → IsWhyNot words A steps r → Why words A steps r
+why : (words : Program) (A : List Entry) (steps : Option ℕ) (r : Refusal) → IsWhyNot words A steps r → Why words A steps r
 why words A steps (refusal.UnresolvedJump pc) h = refused h
 why words A steps (refusal.Recursion pc) h = refused h
 why words A steps (refusal.ReEntry v pc) h = refused h
@@ -119,7 +120,7 @@ why words A steps (refusal.UnknownPointer pc) h = refused h
 why words A steps (refusal.Spent n) h = spent n refl h
 why words A steps refusal.Memory h = wanting refl
 
-two : (words : List ℕ) (A : List Entry) (steps : Option ℕ) (r s : Refusal) → Why words A steps r → Why words A steps s → r ≢ refusal.Memory → s ≢ refusal.Memory → r ≡ s
+two : (words : Program) (A : List Entry) (steps : Option ℕ) (r s : Refusal) → Why words A steps r → Why words A steps s → r ≢ refusal.Memory → s ≢ refusal.Memory → r ≡ s
 two words A steps r s (refused h) (refused i) not_r not_s = (rounds_end_once.refused words A h.number i.number r s h.refused i.refused).1
 two words A steps r s (refused h) (spent n e i) not_r not_s = absurd (spent_refused words A steps n r i h)
 two words A steps r s (refused h) (wanting e) not_r not_s = absurd (not_s e)
@@ -128,7 +129,7 @@ two words A steps r s (spent m e h) (spent n g i) not_r not_s = let same : m ≡
 two words A steps r s (spent m e h) (wanting g) not_r not_s = absurd (not_s g)
 two words A steps r s (wanting e) i not_r not_s = absurd (not_r e)
 
-none : (words : List ℕ) (A : List Entry) (steps : Option ℕ) (c : Claim) (r : Refusal) → IsAnswer words A steps c → Why words A steps r → r ≡ refusal.Memory
+none : (words : Program) (A : List Entry) (steps : Option ℕ) (c : Claim) (r : Refusal) → IsAnswer words A steps c → Why words A steps r → r ≡ refusal.Memory
 none words A steps c r h (refused i) = absurd (refused_answered words A steps r c i h)
 none words A steps c r h (spent n e i) = absurd (spent_answered words A steps n c i h)
 none words A steps c r h (wanting e) = e

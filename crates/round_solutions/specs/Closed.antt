@@ -1,6 +1,7 @@
 -- The law of families that are made in another order than by rounds.
 use Rattle.std.specs.Prelude.{ℕ, List}
 use Rattle.avr_model.specs.declared.assumption.Entry.{Entry}
+use Rattle.avr_model.specs.Devices.{Program}
 use Rattle.round_rules.specs.Families.{Family, IsClosed}
 use Rattle.round_rules.specs.Rounds.{PassesTests}
 use Rattle.round_rules.specs.Refusals.{IsSolved}
@@ -9,5 +10,5 @@ use Rattle.round_laws.specs.Closed.{IsMade, HaveRounds}
 -- The edges of each family without faults can be listed. So a family that is made of the first one by where its own edges lead, is closed,
 -- and of which no test holds, is solved: the rounds end at it.
 pub record ClosedFamiliesAreSolved : Type 0 where
-  pub rounds : (words : List ℕ) (A : List Entry) → HaveRounds words A
-  pub solved : (words : List ℕ) (A : List Entry) (f : Family) → IsMade words A f → IsClosed words A f → PassesTests words A f → (n : ℕ) × IsSolved words A n f
+  pub rounds : (words : Program) (A : List Entry) → HaveRounds words A
+  pub solved : (words : Program) (A : List Entry) (f : Family) → IsMade words A f → IsClosed words A f → PassesTests words A f → (n : ℕ) × IsSolved words A n f

@@ -2,7 +2,7 @@
 use Rattle.std.specs.Prelude.{ℕ, ◌≡◌, ◌≢◌, ◌<◌, ◌≤◌, List, length, Some, Contains, slice_index}
 use Rattle.std.specs.FinMap.{get}
 use Rattle.avr_model.specs.declared.assumption.Entry.{Entry}
-use Rattle.avr_model.specs.Devices.{device_of, size_of}
+use Rattle.avr_model.specs.Devices.{Program, device_of, size_of}
 use Rattle.abs_state.specs.declared.state.AbsState.{AbsState}
 use Rattle.vector_table.specs.Entries.{AreEntries}
 use Rattle.mask_states.specs.declared.keys.EdgeKind.TheVariants.{Local}
@@ -28,33 +28,33 @@ use Rattle.round_solutions.specs.Parts.{AreForms, AreCertificateParts, claim_of}
 -- A solved family can be seen by numbers: it has 1 to 65,536 nodes, ascending by key, none with a fault, and each instance that one of
 -- them enters has its first node.
 pub record SolvedFamiliesAreShown : Type 0 where
-  pub shown : (words : List ℕ) (A : List Entry) (n : ℕ) (f : Family) → IsSolved words A n f → AreShown (nodes_of f)
-  pub some : (words : List ℕ) (A : List Entry) (n : ℕ) (f : Family) → IsSolved words A n f → 0 < length (nodes_of f)
-  pub few : (words : List ℕ) (A : List Entry) (n : ℕ) (f : Family) → IsSolved words A n f → length (nodes_of f) ≤ 65536
-  pub faultless : (words : List ℕ) (A : List Entry) (n : ℕ) (f : Family) → IsSolved words A n f → (m : Node) → Contains (nodes_of f) m → IsFaultless words A m
-  pub peopled : (words : List ℕ) (A : List Entry) (n : ℕ) (f : Family) → IsSolved words A n f → IsPeopled words A (nodes_of f)
+  pub shown : (words : Program) (A : List Entry) (n : ℕ) (f : Family) → IsSolved words A n f → AreShown (nodes_of f)
+  pub some : (words : Program) (A : List Entry) (n : ℕ) (f : Family) → IsSolved words A n f → 0 < length (nodes_of f)
+  pub few : (words : Program) (A : List Entry) (n : ℕ) (f : Family) → IsSolved words A n f → length (nodes_of f) ≤ 65536
+  pub faultless : (words : Program) (A : List Entry) (n : ℕ) (f : Family) → IsSolved words A n f → (m : Node) → Contains (nodes_of f) m → IsFaultless words A m
+  pub peopled : (words : Program) (A : List Entry) (n : ℕ) (f : Family) → IsSolved words A n f → IsPeopled words A (nodes_of f)
 
 -- Local edges from one node to one key are one. In a solved family the state of a node to which exactly one edge leads, where that is
 -- local, is the edge's, unless the node is the root's after reset. So nodes with their forms stand for the family.
 pub record LoneEdgesTell : Type 0 where
-  pub one : (words : List ℕ) (A : List Entry) (nodes : List Node) (n : Node) (d e : Edge) → IsEdge words A nodes n d → IsEdge words A nodes n e
+  pub one : (words : Program) (A : List Entry) (nodes : List Node) (n : Node) (d e : Edge) → IsEdge words A nodes n d → IsEdge words A nodes n e
       → d.kind ≡ Local → e.kind ≡ Local → d.to ≡ e.to → d ≡ e
-  pub state : (words : List ℕ) (A : List Entry) (n : ℕ) (f : Family) (k : NodeKey) (m : ℕ) (s : AbsState) → IsSolved words A n f
+  pub state : (words : Program) (A : List Entry) (n : ℕ) (f : Family) (k : NodeKey) (m : ℕ) (s : AbsState) → IsSolved words A n f
       → (only : IsOnlyFrom words A (nodes_of f) k m) → k ≢ entry_key root_inst → get f k ≡ Some s → only.edge.state ≡ s
-  pub filled : (words : List ℕ) (A : List Entry) (n : ℕ) (f : Family) (seeds : Seeds) → IsSolved words A n f → AreForms words A (nodes_of f) seeds
+  pub filled : (words : Program) (A : List Entry) (n : ℕ) (f : Family) (seeds : Seeds) → IsSolved words A n f → AreForms words A (nodes_of f) seeds
       → IsFilled words A seeds (nodes_of f)
-  pub sparse : (words : List ℕ) (A : List Entry) (f : Family) (seeds : Seeds) → AreForms words A (nodes_of f) seeds → AreSparse words A (nodes_of f) seeds
+  pub sparse : (words : Program) (A : List Entry) (f : Family) (seeds : Seeds) → AreForms words A (nodes_of f) seeds → AreSparse words A (nodes_of f) seeds
 
 -- No cycle is found in the graph of a solved family.
 abbrev pub GraphsAreAcyclic : Type 0
-GraphsAreAcyclic = (words : List ℕ) (A : List Entry) (n : ℕ) (f : Family) (gs : List GraphInst) (at : ℕ) → IsSolved words A n f → IsGraph gs
+GraphsAreAcyclic = (words : Program) (A : List Entry) (n : ℕ) (f : Family) (gs : List GraphInst) (at : ℕ) → IsSolved words A n f → IsGraph gs
     → IsGraphOf words A (nodes_of f) gs → IsNamed gs at → ⊥
 
 -- The least need of the root is no more than SRAM has bytes, and with it as bound the parts are a certificate: that of the family.
 pub record SolutionsAreMade : Type 0 where
-  pub bound : (words : List ℕ) (A : List Entry) (n : ℕ) (f : Family) (insts : List Inst) (seeds : Seeds) → IsSolved words A n f
+  pub bound : (words : Program) (A : List Entry) (n : ℕ) (f : Family) (insts : List Inst) (seeds : Seeds) → IsSolved words A n f
       → (parts : AreCertificateParts words A f insts seeds) → slice_index parts.needs 0 ≤ size_of (device_of words)
-  pub claim : (words : List ℕ) (A : List Entry) (n : ℕ) (f : Family) (insts : List Inst) (seeds : Seeds) → AreEntries A → IsSolved words A n f
+  pub claim : (words : Program) (A : List Entry) (n : ℕ) (f : Family) (insts : List Inst) (seeds : Seeds) → AreEntries A → IsSolved words A n f
       → (parts : AreCertificateParts words A f insts seeds) → IsClaim (claim_of (slice_index parts.needs 0) A insts seeds)
-  pub solution : (words : List ℕ) (A : List Entry) (n : ℕ) (f : Family) (insts : List Inst) (seeds : Seeds) → IsSolved words A n f
+  pub solution : (words : Program) (A : List Entry) (n : ℕ) (f : Family) (insts : List Inst) (seeds : Seeds) → IsSolved words A n f
       → (parts : AreCertificateParts words A f insts seeds) → IsSolution words A f (claim_of (slice_index parts.needs 0) A insts seeds)

@@ -1,6 +1,7 @@
 -- What a certificate of a family is made of. Source: own.
 use Rattle.std.specs.Prelude.{ℕ, ◌≡◌, ◌<◌, List, length, None, Some, slice_get, slice_index}
 use Rattle.avr_model.specs.declared.assumption.Entry.{Entry}
+use Rattle.avr_model.specs.Devices.{Program}
 use Rattle.local_rules.specs.declared.local.Node.{Node}
 use Rattle.edge_rules.specs.declared.seeded.NodeForm.{NodeForm}
 use Rattle.edge_rules.specs.declared.seeded.NodeForm.TheVariants.{State, From}
@@ -19,16 +20,16 @@ use Rattle.round_rules.specs.Sparse.{IsOnlyFrom}
 
 -- This is the form of the node of this number: the number of an earlier node where the one edge that leads to it is local and comes from
 -- there, and else its state.
-abbrev pub IsForm : List ℕ → List Entry → List Node → ℕ → Node → NodeForm → Type 0
+abbrev pub IsForm : Program → List Entry → List Node → ℕ → Node → NodeForm → Type 0
 IsForm words A nodes at n (State s) = (s ≡ n.state) × ((m : ℕ) → m < at → IsOnlyFrom words A nodes n.key m → ⊥)
 IsForm words A nodes at n (From m) = (m < at) × IsOnlyFrom words A nodes n.key m
 
 -- the node of this number has its key and its form here
-abbrev pub IsGivenAt : List ℕ → List Entry → List Node → Seeds → ℕ → Node → Type 0
+abbrev pub IsGivenAt : Program → List Entry → List Node → Seeds → ℕ → Node → Type 0
 IsGivenAt words A nodes seeds at n = (form : NodeForm) × ((slice_get seeds at ≡ Some (n.key, form)) × IsForm words A nodes at n form)
 
 -- these are the nodes, each with its form
-pub record AreForms (words : List ℕ) (A : List Entry) (nodes : List Node) (seeds : Seeds) : Type 0 where
+pub record AreForms (words : Program) (A : List Entry) (nodes : List Node) (seeds : Seeds) : Type 0 where
   pub count : length seeds ≡ length nodes
   pub each : (at : ℕ) (n : Node) → slice_get nodes at ≡ Some n → IsGivenAt words A nodes seeds at n
 
@@ -43,7 +44,7 @@ pub record AreInsts (gs : List GraphInst) (ranks needs : List ℕ) (insts : List
 -- ---- all
 
 -- the instances of a graph of the family, with least ranks and needs, and the family's nodes with their forms
-pub record AreCertificateParts (words : List ℕ) (A : List Entry) (f : Family) (insts : List Inst) (seeds : Seeds) : Type 0 where
+pub record AreCertificateParts (words : Program) (A : List Entry) (f : Family) (insts : List Inst) (seeds : Seeds) : Type 0 where
   pub graph : List GraphInst
   pub ranks : List ℕ
   pub needs : List ℕ

@@ -6,6 +6,7 @@ use Rattle.std.specs.Prelude.{if◌then◌else◌, ◌||◌, ◌&&◌, ◌==◌,
 use Rattle.std.specs.FinMap.{get}
 use Rattle.basics.specs.Items.{none_in}
 use Rattle.avr_model.specs.declared.assumption.Entry.{Entry}
+use Rattle.avr_model.specs.Devices.{Program}
 use Rattle.abs_state.specs.declared.state.AbsState.{AbsState}
 use Rattle.mask_states.specs.declared.keys.NodeKey.{NodeKey}
 use Rattle.local_rules.specs.declared.local.NodeFault.{NodeFault}
@@ -62,7 +63,7 @@ worst_lesser o x y r is e same = by (is_less y x) refl e
 some_state : (x y : AbsState) (o : Option AbsState) → o ≡ Some x → o ≡ Some y → x ≡ y
 some_state x y o a b = cc
 
-module _ (words : List ℕ) (A : List Entry) (f : Family) where
+module _ (words : Program) (A : List Entry) (f : Family) where
   pub seen_none : (seen : Seen) → seen.looks.items ≡ [] → seen.worst ≡ None → AreSeen words A f [] seen
   seen_none seen looks worst = record {
     looks = λ x i. absurd (none_in x (subst (λ (l : List Look). Contains l x) looks i));

@@ -2,6 +2,7 @@
 use Rattle.std.specs.Prelude.{ℕ, ◌≡◌, ◌≢◌, ◌⊎◌, List, [], ◌∷◌, ◌++◌, Option, Some, Result, Ok, Err, Contains}
 use Rattle.std.specs.FinMap.{get}
 use Rattle.avr_model.specs.declared.assumption.Entry.{Entry}
+use Rattle.avr_model.specs.Devices.{Program}
 use Rattle.abs_state.specs.declared.state.AbsState.{AbsState}
 use Rattle.mask_states.specs.declared.keys.NodeKey.{NodeKey}
 use Rattle.local_rules.specs.declared.local.NodeFault.{NodeFault}
@@ -14,7 +15,7 @@ use Rattle.round_steps.specs.declared.looking.Look.{Look}
 use Rattle.round_steps.specs.declared.looking.Seen.{Seen}
 
 -- the look is at a node of the family, and this is where it leads
-pub record IsLook (words : List ℕ) (A : List Entry) (f : Family) (x : Look) : Type 0 where
+pub record IsLook (words : Program) (A : List Entry) (f : Family) (x : Look) : Type 0 where
   pub state : AbsState
   pub has : get f x.key ≡ Some state
   pub leads : local words A x.key state ≡ Ok x.part
@@ -27,7 +28,7 @@ pub record HasLook (xs : List Look) (k : NodeKey) : Type 0 where
   pub at : look.key ≡ k
 
 -- the node has a fault, and the worst one counts before it
-pub record HasFault (words : List ℕ) (A : List Entry) (worst : Option NodeFault) (k : NodeKey) (s : AbsState) : Type 0 where
+pub record HasFault (words : Program) (A : List Entry) (worst : Option NodeFault) (k : NodeKey) (s : AbsState) : Type 0 where
   pub fault : NodeFault
   pub is : local words A k s ≡ Err fault
   pub first : NodeFault
@@ -35,7 +36,7 @@ pub record HasFault (words : List ℕ) (A : List Entry) (worst : Option NodeFaul
   pub no_later : IsFaultNoLater first fault
 
 -- of these nodes of the family, each was looked at or has a fault, and the worst fault is one of theirs
-pub record AreSeen (words : List ℕ) (A : List Entry) (f : Family) (keys : List NodeKey) (seen : Seen) : Type 0 where
+pub record AreSeen (words : Program) (A : List Entry) (f : Family) (keys : List NodeKey) (seen : Seen) : Type 0 where
   pub looks : (x : Look) → Contains seen.looks.items x → IsLook words A f x
   pub each : (k : NodeKey) (s : AbsState) → Contains keys k → get f k ≡ Some s → HasLook seen.looks.items k ⊎ HasFault words A seen.worst k s
   pub fault : (x : NodeFault) → seen.worst ≡ Some x → FaultAt words A f x

@@ -3,6 +3,7 @@ use Rattle.std.proofs.Common.{◌≡◌, ◌≢◌, inl, inr, ℕ, Bool, true, f
 use Rattle.std.specs.Prelude.{IfOk, MatchResult}
 use Rattle.std.proofs.lemmas.List.{append-nil}
 use Rattle.avr_model.specs.declared.assumption.Entry.{Entry}
+use Rattle.avr_model.specs.Devices.{Program}
 use Rattle.sb_base.specs.Lines.{Place, TextLine}
 use Rattle.sb_base.specs.Outside.{Held, Blamed, grown}
 use Rattle.indirect_targets.specs.declared.fault.AssumeText.{AssumeText}
@@ -116,26 +117,26 @@ attained_apart : (next : Reply) (attained : Bool) → IsPlainApart next → IsPl
 attained_apart next true f s t h = f s t h
 attained_apart next false f s t h = at 1 s one_plain h.0
 
-witness_apart : (words : List ℕ) (A : List Entry) (next : Reply) (bound : ℕ) (w : Option Plan) → IsPlainApart next → IsPlainApart (WitnessReply words A next bound w)
+witness_apart : (words : Program) (A : List Entry) (next : Reply) (bound : ℕ) (w : Option Plan) → IsPlainApart next → IsPlainApart (WitnessReply words A next bound w)
 witness_apart words A next bound None f s t h = f s t h
 witness_apart words A next bound (Some plan) f s t h = attained_apart next (attains bound (replay_of words A plan)) f s t h
 
-verdict_apart : (words : List ℕ) (A : List Entry) (next : Claim → Reply) (c : Claim) (v : Verdict) → IsPlainApart (next c) → IsPlainApart (VerdictReply words A next c v)
+verdict_apart : (words : Program) (A : List Entry) (next : Claim → Reply) (c : Claim) (v : Verdict) → IsPlainApart (next c) → IsPlainApart (VerdictReply words A next c v)
 verdict_apart words A next c (Rejected reason) f s t h = at 1 s one_plain h.0
 verdict_apart words A next c (Accepted bound) f s t h = witness_apart words A (next c) bound c.witness f s t h
 
-certificate_apart : (words : List ℕ) (A : List Entry) (next : Claim → Reply) (x : Result Claim CertFault) → ((c : Claim) → IsPlainApart (next c)) → IsPlainApart (CertificateReply words A next x)
+certificate_apart : (words : Program) (A : List Entry) (next : Claim → Reply) (x : Result Claim CertFault) → ((c : Claim) → IsPlainApart (next c)) → IsPlainApart (CertificateReply words A next x)
 certificate_apart words A next (Err fault) f s t h = refuses_apart 8 eight_plain (certificate_refused fault) s t h
 certificate_apart words A next (Ok c) f s t h = verdict_apart words A next c h.verdict (f c) s t h.reply
 
 accepted_apart : (text : Claim → List ℕ) (c : Claim) → IsPlainApart (Says 0 (text c))
 accepted_apart text c s t h = at 0 s zero_plain h.0
 
-clear_apart : (words : List ℕ) (c : Claim) (v : ClearVerdict) → IsPlainApart (ClearSays words c v)
+clear_apart : (words : Program) (c : Claim) (v : ClearVerdict) → IsPlainApart (ClearSays words c v)
 clear_apart words c clear.Clear s t h = at 0 s zero_plain h.0
 clear_apart words c (clear.Unclear node pc) s t h = at 13 s thirteen_plain h.0
 
-simulate_apart : (words : List ℕ) (A : List Entry) (steps : ℕ) (x : Result Setup DevicesFault) → IsPlainApart (SimulateReply words A steps x)
+simulate_apart : (words : Program) (A : List Entry) (steps : ℕ) (x : Result Setup DevicesFault) → IsPlainApart (SimulateReply words A steps x)
 simulate_apart words A steps (Err fault) s t h = refuses_apart 14 fourteen_plain (devices_refused fault) s t h
 simulate_apart words A steps (Ok setup) s t h = at 0 s zero_plain h.0
 
@@ -151,10 +152,10 @@ why_not_plain (refusal.UnknownPointer pc) = ten_plain
 why_not_plain (refusal.Spent n) = eleven_plain
 why_not_plain refusal.Memory = ten_plain
 
-why_not_apart : (words : List ℕ) (A : List Entry) (steps : Option ℕ) → IsPlainApart (WhyNotReply words A steps)
+why_not_apart : (words : Program) (A : List Entry) (steps : Option ℕ) → IsPlainApart (WhyNotReply words A steps)
 why_not_apart words A steps s t h = refuses_apart (why_not_status h.refusal) (why_not_plain h.refusal) (why_not_text words h.refusal) s t h.says
 
-analyse_apart : (words : List ℕ) (A : List Entry) (steps : Option ℕ) → IsPlainApart (AnalyseReply words A steps)
+analyse_apart : (words : Program) (A : List Entry) (steps : Option ℕ) → IsPlainApart (AnalyseReply words A steps)
 analyse_apart words A steps s t (inl h) = at 0 s zero_plain h.says.0
 analyse_apart words A steps s t (inr h) = why_not_apart words A steps s t h
 
@@ -170,11 +171,11 @@ ends_apart : (ls : List TextLine) (place : ℕ) (reply : Reply) → IsPlainApart
 ends_apart [] place reply f s t h = f s t h
 ends_apart (l ∷ ls) place reply f s t h = at 9 s nine_plain h.0
 
-schedule_apart : (words : List ℕ) (A : List Entry) (x : Result (Plan × Place) ℕ) → IsPlainApart (ScheduleReply words A x)
+schedule_apart : (words : Program) (A : List Entry) (x : Result (Plan × Place) ℕ) → IsPlainApart (ScheduleReply words A x)
 schedule_apart words A (Err place) s t h = at 9 s nine_plain h.0
 schedule_apart words A (Ok r) s t h = ends_apart r.1.rest r.1.at (RunReply (replay_of words A r.0)) (run_apart (replay_of words A r.0)) s t h
 
-flash_apart : (c : Command) (firmware bytes words : List ℕ) (A : List Entry) → IsPlainApart (FlashReply c firmware bytes words A)
+flash_apart : (c : Command) (firmware bytes : List ℕ) (words : Program) (A : List Entry) → IsPlainApart (FlashReply c firmware bytes words A)
 flash_apart (Check device f k a) firmware bytes words A =
     certificate_apart words A (AcceptedReply (Check device f k a) firmware words A) (certificate_in bytes) (accepted_apart (told_of (Check device f k a) firmware))
 flash_apart (Analyse device f a steps) firmware bytes words A = analyse_apart words A steps

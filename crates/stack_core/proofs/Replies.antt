@@ -6,7 +6,7 @@ use Rattle.std.proofs.lemmas.Bool.{false_from_ne_true}
 use denote.Ref.{Bor}
 use Rattle.avr_model.specs.declared.assumption.Entry.{Entry}
 use Rattle.avr_model.specs.declared.device.Device.{Device}
-use Rattle.avr_model.specs.Devices.{words_of}
+use Rattle.avr_model.specs.Devices.{Program, words_of}
 use Rattle.indirect_targets.specs.declared.fault.AssumeText.{AssumeText}
 use Rattle.indirect_targets.specs.declared.fault.AssumeText.TheVariants as assume
 use Rattle.indirect_targets.specs.Reading.{entries_in}
@@ -51,14 +51,14 @@ use Rattle.stack_core.specs.declared.loading.Listing.TheVariants.{Unlisted}
 by_missing : (next : Reply) (attained : Bool) (text : List ℕ) → attained ≡ false → text ≡ witness_rejected → AttainedBy next attained 1 text
 by_missing next attained text e t = subst (λ b. AttainedBy next b 1 text) (sym e) (refl, t)
 
-missed_reply : (words : List ℕ) (A : List Entry) (next : Reply) (bound : ℕ) (witness : Option Plan) (text : List ℕ) → (IsAttained words A bound witness → ⊥) → text ≡ witness_rejected
+missed_reply : (words : Program) (A : List Entry) (next : Reply) (bound : ℕ) (witness : Option Plan) (text : List ℕ) → (IsAttained words A bound witness → ⊥) → text ≡ witness_rejected
     → WitnessReply words A next bound witness 1 text
 missed_reply words A next bound None text a t = absurd (a tt)
 missed_reply words A next bound (Some plan) text a t =
     by_missing next (attains bound (replay_of words A plan)) text (false_from_ne_true (attains bound (replay_of words A plan)) (λ h. a (attained_by bound (replay_of words A plan) h))) t
 
 -- one whose schedule misses its bound
-pub missed_judged : (words : List ℕ) (A : List Entry) (next : Claim → Reply) (c : Claim) (family : Worked) (text : List ℕ) → IsFamilyOf words A c family
+pub missed_judged : (words : Program) (A : List Entry) (next : Claim → Reply) (c : Claim) (family : Worked) (text : List ℕ) → IsFamilyOf words A c family
     → (b : Bool) → (IsTrue b ↔ IsAttained words A c.bound c.witness) → b ≡ false → text ≡ witness_rejected → JudgedReply words A next c 1 text
 missed_judged words A next c family text f b told missed t =
     record {
@@ -68,7 +68,7 @@ missed_judged words A next c family text f b told missed t =
     }
 
 -- one of which a condition doesn't hold
-pub rejected_judged : (words : List ℕ) (A : List Entry) (next : Claim → Reply) (c : Claim) (r : Reason) (text : List ℕ) → IsReason words A c r → text ≡ rejected r
+pub rejected_judged : (words : Program) (A : List Entry) (next : Claim → Reply) (c : Claim) (r : Reason) (text : List ℕ) → IsReason words A c r → text ≡ rejected r
     → JudgedReply words A next c 1 text
 rejected_judged words A next c r text h t = record { verdict = Rejected r; is = h; reply = (refl, t) }
 
@@ -80,12 +80,12 @@ copied_is_some (Some s) (Some p) e = refl
 
 -- ---- a certificate's text
 
-refused_as : (words : List ℕ) (A : List Entry) (next : Claim → Reply) (x : Result Claim CertFault) (f : CertFault) (text : List ℕ) → x ≡ Err f → certificate_refused f ≡ Some text
+refused_as : (words : Program) (A : List Entry) (next : Claim → Reply) (x : Result Claim CertFault) (f : CertFault) (text : List ℕ) → x ≡ Err f → certificate_refused f ≡ Some text
     → CertificateReply words A next x 8 text
 refused_as words A next x f text e t = subst (λ y. CertificateReply words A next y 8 text) (sym e) (subst (λ o. Refuses 8 o 8 text) (sym t) (refl, refl))
 
 -- one that is
-pub read_claim : {E : Type 0} (words : List ℕ) (A : List Entry) (x : Result Claim CertFault) (c : Claim) (j : Result Judged E) → x ≡ Ok c → IfOk j (IsJudgedAs words A (Ok c)) → IfOk j (IsJudgedAs words A x)
+pub read_claim : {E : Type 0} (words : Program) (A : List Entry) (x : Result Claim CertFault) (c : Claim) (j : Result Judged E) → x ≡ Ok c → IfOk j (IsJudgedAs words A (Ok c)) → IfOk j (IsJudgedAs words A x)
 read_claim words A x c j e h = subst (λ y. IfOk j (IsJudgedAs words A y)) (sym e) h
 
 -- where an accepted certificate is answered alike, so is each text
@@ -93,37 +93,37 @@ attained_alike : (next other : Reply) (attained : Bool) (status : ℕ) (text : L
 attained_alike next other true status text f h = f h
 attained_alike next other false status text f h = h
 
-witness_alike : (words : List ℕ) (A : List Entry) (next other : Reply) (bound : ℕ) (w : Option Plan) (status : ℕ) (text : List ℕ) → (next status text → other status text)
+witness_alike : (words : Program) (A : List Entry) (next other : Reply) (bound : ℕ) (w : Option Plan) (status : ℕ) (text : List ℕ) → (next status text → other status text)
     → WitnessReply words A next bound w status text → WitnessReply words A other bound w status text
 witness_alike words A next other bound None status text f h = f h
 witness_alike words A next other bound (Some plan) status text f h = attained_alike next other (attains bound (replay_of words A plan)) status text f h
 
-verdict_alike : (words : List ℕ) (A : List Entry) (next other : Claim → Reply) (c : Claim) (v : Verdict) (status : ℕ) (text : List ℕ) → (next c status text → other c status text)
+verdict_alike : (words : Program) (A : List Entry) (next other : Claim → Reply) (c : Claim) (v : Verdict) (status : ℕ) (text : List ℕ) → (next c status text → other c status text)
     → VerdictReply words A next c v status text → VerdictReply words A other c v status text
 verdict_alike words A next other c (Rejected reason) status text f h = h
 verdict_alike words A next other c (Accepted bound) status text f h = witness_alike words A (next c) (other c) bound c.witness status text f h
 
-told_alike : (words : List ℕ) (A : List Entry) (next other : Claim → Reply) (x : Result Claim CertFault) (status : ℕ) (text : List ℕ) → ((c : Claim) → next c status text → other c status text)
+told_alike : (words : Program) (A : List Entry) (next other : Claim → Reply) (x : Result Claim CertFault) (status : ℕ) (text : List ℕ) → ((c : Claim) → next c status text → other c status text)
     → CertificateReply words A next x status text → CertificateReply words A other x status text
 told_alike words A next other (Err e) status text f h = h
 told_alike words A next other (Ok c) status text f h = record { verdict = h.verdict; is = h.is; reply = verdict_alike words A next other c h.verdict status text (f c) h.reply }
 
 -- what follows an accepted certificate
-pub accepted_reply : (words : List ℕ) (A : List Entry) (next : Claim → Reply) (x : Result Claim CertFault) (c : Claim) (status : ℕ) (text : List ℕ) → (x ≡ Ok c) × IsValid words A c → next c status text
+pub accepted_reply : (words : Program) (A : List Entry) (next : Claim → Reply) (x : Result Claim CertFault) (c : Claim) (status : ℕ) (text : List ℕ) → (x ≡ Ok c) × IsValid words A c → next c status text
     → CertificateReply words A next x status text
 accepted_reply words A next x c status text h k =
     subst (λ y. CertificateReply words A next y status text) (sym h.0)
     (record { verdict = Accepted c.bound; is = (h.1.sound, refl); reply = witness_zero words A (next c) c.bound c.witness status text h.1.attained k })
 
 -- the same of a result
-pub accepted_result : {E : Type 0} (words : List ℕ) (A : List Entry) (next : Claim → Reply) (x : Result Claim CertFault) (c : Claim) (r : Result Answered E) → (x ≡ Ok c) × IsValid words A c
+pub accepted_result : {E : Type 0} (words : Program) (A : List Entry) (next : Claim → Reply) (x : Result Claim CertFault) (c : Claim) (r : Result Answered E) → (x ≡ Ok c) × IsValid words A c
     → IfOk r (λ a. next c a.status a.text.items) → IfOk r (λ a. CertificateReply words A next x a.status a.text.items)
 accepted_result words A next x c (Err e) h k = tt
 accepted_result words A next x c (Ok a) h k = accepted_reply words A next x c a.status a.text.items h k
 
 -- ---- a certificate that is written with a schedule
 
-pub attain_reply : (words : List ℕ) (A : List Entry) (n : ℕ) (c d : Claim) (text : List ℕ) → IsCompleted words A n c d → IsValid words A d → text ≡ text_of d → AttainReply words A n c 0 text
+pub attain_reply : (words : Program) (A : List Entry) (n : ℕ) (c d : Claim) (text : List ℕ) → IsCompleted words A n c d → IsValid words A d → text ≡ text_of d → AttainReply words A n c 0 text
 attain_reply words A n c d text h valid told =
     record { claim = d; completed = h; attained = subst (λ (b : ℕ). IsAttained words A b d.witness) (ap (λ (x : Claim). x.bound) h.same) valid.attained; says = (refl, told) }
 
@@ -164,12 +164,12 @@ report_alike : (laws : NamesThatSayTheSame) (json : Bool) (device : Device) (nam
 report_alike laws true device names others end end' same e c = (laws device c names others end same).1 ∙ ap (λ x. report_by true device others x c) e
 report_alike laws false device names others end end' same e c = (laws device c names others end same).0 ∙ ap (λ x. report_by false device others x c) e
 
-explain_alike : ExplanationsSayTheSame → (names others : List Named) (words : List ℕ) (A : List Entry) → SayTheSame names others → (c : Claim) (status : ℕ) (text : List ℕ)
+explain_alike : ExplanationsSayTheSame → (names others : List Named) (words : Program) (A : List Entry) → SayTheSame names others → (c : Claim) (status : ℕ) (text : List ℕ)
     → ExplainReply names words A c status text → ExplainReply others words A c status text
 explain_alike texts names others words A same c status text h =
     record { explanation = h.explanation; is = h.is; says = (h.says.0, h.says.1 ∙ texts c.bound names others h.explanation same) }
 
-premises_alike : PlacesSayTheSame → (names others : List Named) (words : List ℕ) (A : List Entry) → SayTheSame names others → (c : Claim) (status : ℕ) (text : List ℕ)
+premises_alike : PlacesSayTheSame → (names others : List Named) (words : Program) (A : List Entry) → SayTheSame names others → (c : Claim) (status : ℕ) (text : List ℕ)
     → PremisesReply names words A c status text → PremisesReply others words A c status text
 premises_alike places names others words A same c status text h =
     record {
@@ -180,7 +180,7 @@ premises_alike places names others words A same c status text h =
       says = (h.says.0, h.says.1 ∙ places words names others c.bound h.sites h.nevers same);
     }
 
-why_alike : CausesSayTheSame → (names others : List Named) (words : List ℕ) (A : List Entry) → SayTheSame names others → (c : Claim) (status : ℕ) (text : List ℕ)
+why_alike : CausesSayTheSame → (names others : List Named) (words : Program) (A : List Entry) → SayTheSame names others → (c : Claim) (status : ℕ) (text : List ℕ)
     → WhyReply names words A c status text → WhyReply others words A c status text
 why_alike causes names others words A same c status text h =
     record {
@@ -191,7 +191,7 @@ why_alike causes names others words A same c status text h =
       says = (h.says.0, h.says.1 ∙ causes words names others c.bound h.places h.nevers same);
     }
 
-places_alike : PlacesSayTheSame → CausesSayTheSame → (why : Bool) (names others : List Named) (words : List ℕ) (A : List Entry) → SayTheSame names others → (c : Claim) (status : ℕ) (text : List ℕ)
+places_alike : PlacesSayTheSame → CausesSayTheSame → (why : Bool) (names others : List Named) (words : Program) (A : List Entry) → SayTheSame names others → (c : Claim) (status : ℕ) (text : List ℕ)
     → PlacesReply why names words A c status text → PlacesReply why others words A c status text
 places_alike places causes false names others words A same c status text h = premises_alike places names others words A same c status text h
 places_alike places causes true names others words A same c status text h = why_alike causes names others words A same c status text h

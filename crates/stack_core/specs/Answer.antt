@@ -2,6 +2,7 @@
 use Rattle.std.specs.Prelude.{◌≡◌, ◌≢◌, ◌⊎◌, ◌↔◌, ◌≤◌, ℕ, Bool, List, length, Option, Some, None}
 use Rattle.avr_model.specs.declared.assumption.Entry.{Entry}
 use Rattle.avr_model.specs.declared.device.Device.{Device}
+use Rattle.avr_model.specs.Devices.{Program}
 use Rattle.sb_base.specs.Outside.{Held, Bytes, Blamed, Rose, grown, GrewByPrefix}
 use Rattle.certificate.specs.Claims.{Claim}
 use Rattle.device_hooks.specs.Spelling.{Setup}
@@ -113,7 +114,7 @@ HeldHeadline command holds status before after =
 -- where held bytes read as values, it accepts exactly where the certificate is valid, and for `clear` all nodes are clear
 abbrev pub IsHeldExact : Option Command → (List ℕ → Held) → ℕ → Type 0
 IsHeldExact command holds status =
-    (judge : Command) (firmware certificate : List ℕ) (list : Option (List ℕ)) (words : List ℕ) (claim : Claim) (A : List Entry)
+    (judge : Command) (firmware certificate : List ℕ) (list : Option (List ℕ)) (words : Program) (claim : Claim) (A : List Entry)
     → IsJudging command judge holds firmware certificate list → StandFor (device_for judge) firmware certificate list words claim A → SaysWhether judge words A claim status
 
 -- The words are an analysis for this device with this budget, and these bytes are held under the names in them, within the caps.
@@ -134,7 +135,7 @@ HeldLeast command holds status before after =
 -- where held bytes read as values, the status says how the rounds end
 abbrev pub IsHeldEnd : Option Command → (List ℕ → Held) → ℕ → Type 0
 IsHeldEnd command holds status =
-    (device : Device) (steps : Option ℕ) (firmware : List ℕ) (list : Option (List ℕ)) (words : List ℕ) (A : List Entry)
+    (device : Device) (steps : Option ℕ) (firmware : List ℕ) (list : Option (List ℕ)) (words : Program) (A : List Entry)
     → IsAnalysing command device steps holds firmware list → Mean device firmware list words A → SaysHowRoundsEnd words A steps status
 
 -- The words are a simulation for this device of so many choices, and these bytes are held under the names in them, within the caps.
@@ -158,7 +159,7 @@ HeldSimulated command holds status before after =
 -- where held firmware and assumptions read as values, it answers 0 exactly where the devices' text reads as such
 abbrev pub AreHeldDevices : Option Command → (List ℕ → Held) → ℕ → Type 0
 AreHeldDevices command holds status =
-    (device : Device) (steps : ℕ) (firmware devices : List ℕ) (list : Option (List ℕ)) (words : List ℕ) (A : List Entry)
+    (device : Device) (steps : ℕ) (firmware devices : List ℕ) (list : Option (List ℕ)) (words : Program) (A : List Entry)
     → IsSimulating command device steps holds firmware devices list → Mean device firmware list words A → (status ≡ 0) ↔ ((setup : Setup) × IsDevices devices setup)
 
 -- ---- laws

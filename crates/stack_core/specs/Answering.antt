@@ -4,6 +4,7 @@ use Rattle.std.specs.Global.{Vec}
 use Rattle.avr_model.specs.declared.assumption.Entry.{Entry}
 use Rattle.avr_model.specs.declared.device.Device.{Device}
 use Rattle.avr_model.specs.Image.{WORDS, IsNarrowed}
+use Rattle.avr_model.specs.Devices.{Program}
 use Rattle.flash_image.specs.Naming.{SayTheSame}
 use Rattle.elf_load.specs.Elf.{is_elf}
 use Rattle.elf_load.specs.declared.Loaded.{Loaded as Firmware}
@@ -80,7 +81,7 @@ abbrev pub nothing : Claim → Reply
 nothing c status text = ⊥
 
 -- a certificate that is valid, with its family, or what is answered of one that isn't, or that isn't read
-abbrev pub IsJudgedAs : List ℕ → List Entry → Result Claim CertFault → Judged → Type 0
+abbrev pub IsJudgedAs : Program → List Entry → Result Claim CertFault → Judged → Type 0
 IsJudgedAs words A x (Accepted c family) = ((x ≡ Ok c) × IsValid words A c) × IsFamilyOf words A c family
 IsJudgedAs words A x (judged.Refused r) = CertificateReply words A nothing x r.status r.text.items
 
@@ -90,14 +91,14 @@ judged_by c (Ok family) = Accepted c family
 judged_by c (Err text) = judged.Refused (record { status = 1; text = text })
 
 -- the certificate is the first one with the schedule that the trials find, which attains its bound
-pub record IsWitnessed (words : List ℕ) (A : List Entry) (least c : Claim) : Type 0 where
+pub record IsWitnessed (words : Program) (A : List Entry) (least c : Claim) : Type 0 where
   pub found : Option Plan
   pub trials : TrialsFind words A least found
   pub attained : IsAttained words A least.bound found
   pub is : c ≡ record least { witness = found }
 
 -- the text is that of the certificate with this schedule
-pub record IsWitnessedText (words : List ℕ) (A : List Entry) (least : Claim) (text : List ℕ) : Type 0 where
+pub record IsWitnessedText (words : Program) (A : List Entry) (least : Claim) (text : List ℕ) : Type 0 where
   pub claim : Claim
   pub witnessed : IsWitnessed words A least claim
   pub is : text ≡ text_of claim

@@ -7,6 +7,7 @@ use Rattle.std.proofs.lemmas.List.{length_push}
 use Rattle.basics.specs.Numbers.{before_or_last}
 use Rattle.avr_model.specs.declared.assumption.Entry.{Entry}
 use Rattle.avr_model.specs.Sites.{instruction_at}
+use Rattle.avr_model.specs.Devices.{Program}
 use Rattle.abs_state.specs.declared.state.AbsState.{AbsState}
 use Rattle.mask_states.specs.declared.keys.NodeKey.{NodeKey}
 use Rattle.local_rules.specs.declared.local.Node.{Node}
@@ -25,7 +26,7 @@ module _ (nodes : List Node) (at : ℕ) (n : Node) (is : slice_get nodes at ≡ 
   pub state_is : (s : AbsState) → option_map state_of (slice_get nodes at) ≡ Some s → n.state ≡ s
   state_is s e = same_Some n.state s (sym (ap (option_map state_of) is) ∙ e)
 
-module _ (words : List ℕ) (A : List Entry) (bound : ℕ) (nodes : List Node) where
+module _ (words : Program) (A : List Entry) (bound : ℕ) (nodes : List Node) where
   abbrev Asking : Node → Asks → Type 0
   Asking n a = (held : ℕ → Bool) → is_clear words A bound n held ≡ meets a held
 

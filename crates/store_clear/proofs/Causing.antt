@@ -17,7 +17,7 @@ use Rattle.avr_model.specs.declared.instruction.Instr.{Instr}
 use Rattle.avr_model.specs.Sites.{instruction_at}
 use Rattle.avr_model.specs.Step.{is_pointer_store, is_indirect}
 use Rattle.avr_model.specs.Assumptions.{is_fixed_site}
-use Rattle.avr_model.specs.Devices.{device_of}
+use Rattle.avr_model.specs.Devices.{Program, device_of}
 use Rattle.abs_state.specs.declared.state.AbsState.{AbsState}
 use Rattle.mask_states.specs.declared.keys.NodeKey.{NodeKey}
 use Rattle.local_rules.specs.declared.local.Node.{Node}
@@ -41,7 +41,7 @@ use Rattle.store_clear.proofs.Taken.{marks_none, marks_one, marks_both, marks_as
 
 -- ---- the addresses of a node
 
-module _ (words : List ℕ) (A : List Entry) (pc : ℕ) (s : AbsState) (instr : Instr) where
+module _ (words : Program) (A : List Entry) (pc : ℕ) (s : AbsState) (instr : Instr) where
   abbrev may : ℕ → Bool
   may a = may_write_protected words A pc s instr a
 
@@ -66,7 +66,7 @@ module _ (words : List ℕ) (A : List Entry) (pc : ℕ) (s : AbsState) (instr : 
 
 -- ---- all nodes
 
-module _ (words : List ℕ) (A : List Entry) (nodes : List Node) (asks : List Asks) (pc : ℕ) (instr : Instr) where
+module _ (words : Program) (A : List Entry) (nodes : List Node) (asks : List Asks) (pc : ℕ) (instr : Instr) where
   abbrev At : ℕ → ℕ → Type 0
   At count a = IsProtectedAt words A nodes asks pc instr count a
 
@@ -141,7 +141,7 @@ ascending_given list last are = subst (IsStrictlySortedBy nat_cmp) (sym are) (as
 
 -- ---- one after the other
 
-module _ (words : List ℕ) (A : List Entry) (bound : ℕ) (nodes : List Node) (asks : List Asks) (pc : ℕ) (instr : Instr) where
+module _ (words : Program) (A : List Entry) (bound : ℕ) (nodes : List Node) (asks : List Asks) (pc : ℕ) (instr : Instr) where
   abbrev LiveAt : ℕ → Type 0
   LiveAt count = IsLiveAt words A bound nodes asks pc instr count
 
@@ -177,7 +177,7 @@ listed_by : (a b : Bool) → not (not a || b) ≡ true → a ≡ true
 listed_by true b h = refl
 listed_by false b h = absurd (cc)
 
-module _ (words : List ℕ) (A : List Entry) (c : Claim) (nodes : List Node) (asks : List Asks) (told : IsTold words A c nodes asks) (pc : ℕ) where
+module _ (words : Program) (A : List Entry) (c : Claim) (nodes : List Node) (asks : List Asks) (told : IsTold words A c nodes asks) (pc : ℕ) where
   abbrev f : RankedFamily
   f = family_of c nodes
 
@@ -275,7 +275,7 @@ module _ (words : List ℕ) (A : List Entry) (c : Claim) (nodes : List Node) (as
 
 -- ---- all words
 
-module _ (words : List ℕ) (A : List Entry) (g : RankedFamily) where
+module _ (words : Program) (A : List Entry) (g : RankedFamily) where
   pub places_none : ArePlacesOf words A g [] []
   places_none = record { are = refl; each = λ p h. absurd (none_in p h) }
 
@@ -288,7 +288,7 @@ module _ (words : List ℕ) (A : List Entry) (g : RankedFamily) where
         each = λ p h. ⊎_elim (so.each p) (λ e. subst (IsPlaceOf words A g) e is) (Contains-push_cases places place p h);
       }
 
-module _ (words : List ℕ) (A : List Entry) (c : Claim) (nodes : List Node) (asks : List Asks) (told : IsTold words A c nodes asks) (sites : List ℕ) (are : AreSites words A c sites) where
+module _ (words : Program) (A : List Entry) (c : Claim) (nodes : List Node) (asks : List Asks) (told : IsTold words A c nodes asks) (sites : List ℕ) (are : AreSites words A c sites) where
   -- the words are those of these nodes
   pub sites_are_flagged : (pc : ℕ) → Contains sites pc → MayBeFlagged words A (family_of c nodes) pc
   sites_are_flagged pc h =

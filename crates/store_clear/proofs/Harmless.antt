@@ -10,7 +10,7 @@ use Rattle.avr_model.specs.declared.instruction.Pointer.{Pointer}
 use Rattle.avr_model.specs.declared.operand.Operand.{Operand}
 use Rattle.avr_model.proofs.AllLaws.{devices_are_alike}
 use Rattle.avr_model.specs.Bits.{all_below}
-use Rattle.avr_model.specs.Devices.{ramend, device_of}
+use Rattle.avr_model.specs.Devices.{Program, ramend, device_of}
 use Rattle.avr_model.specs.State.{BELOW, plus16, minus16}
 use Rattle.pair_domain.specs.declared.facts.PairFacts.{PairFacts}
 use Rattle.pair_domain.specs.Facts.{is_followed}
@@ -43,7 +43,7 @@ over low high p up h g small less le = omega arith
 under : (low high p up : ℕ) → low ≤ p → p ≤ high → high < 65536 → up < 65536 → plus16 low up ≤ plus16 high up → plus16 p up ≤ plus16 high up
 under low high p up h g small less le = omega arith
 
-module _ (words : List ℕ) (A : List Entry) (bound pc : ℕ) (instr : Instr) (s : AbsState) where
+module _ (words : Program) (A : List Entry) (bound pc : ℕ) (instr : Instr) (s : AbsState) where
   abbrev is_harmless : ℕ → Bool
   is_harmless a = is_address_harmless words A bound pc s instr a
 
@@ -139,7 +139,7 @@ pub all_of_none : (p : ℕ → Bool) → all_below 65536 (λ a. not false || p a
 all_of_none p = each_below (λ a. not false || p a) 65536 (λ a lt. refl)
 
 -- what isn't a store goes nowhere
-pub others : (words : List ℕ) (A : List Entry) (bound pc : ℕ) (s : AbsState) (f : PairFacts) → s.facts ≡ Some f → (instr : Instr)
+pub others : (words : Program) (A : List Entry) (bound pc : ℕ) (s : AbsState) (f : PairFacts) → s.facts ≡ Some f → (instr : Instr)
     → ((b : Base) (q : Operand 0 63) (r : Operand 0 31) → instr ≡ i.Std b q r → ⊥) → ((a : ℕ) (r : Operand 0 31) → instr ≡ i.Sts a r → ⊥)
     → ((p : Pointer) (r : Operand 0 31) → instr ≡ i.St p r → ⊥) → are_addresses_harmless words A bound pc s instr ≡ true
 others words A bound pc s f follows (i.Std b q r) std sts st = absurd (std b q r refl)
@@ -148,7 +148,7 @@ others words A bound pc s f follows (i.St p r) std sts st = absurd (st p r refl)
 others words A bound pc s f follows instr std sts st =
     and_from (is_followed s.facts) _ (ap is_followed follows) (all_of_none (is_address_harmless words A bound pc s instr))
 
-pub direct : (words : List ℕ) (A : List Entry) (bound pc : ℕ) (s : AbsState) (f : PairFacts) → s.facts ≡ Some f → (a : ℕ) (r : Operand 0 31)
+pub direct : (words : Program) (A : List Entry) (bound pc : ℕ) (s : AbsState) (f : PairFacts) → s.facts ≡ Some f → (a : ℕ) (r : Operand 0 31)
     → are_addresses_harmless words A bound pc s (i.Sts a r) ≡ is_address_harmless words A bound pc s (i.Sts a r) a
 direct words A bound pc s f follows a r = ap₂ (λ b c. b && c) (ap is_followed follows) (⊎_elim (λ lt. all_of_one (is_address_harmless words A bound pc s (i.Sts a r)) a lt) past (cases_lt a 65536))
   where

@@ -9,7 +9,7 @@ use Rattle.basics.specs.Lists.{get_inside}
 use Rattle.basics.specs.Numbers.{before_or_last}
 use Rattle.store_clear.proofs.Marks.{none_on}
 use Rattle.avr_model.specs.declared.assumption.Entry.{Entry}
-use Rattle.avr_model.specs.Devices.{device_of}
+use Rattle.avr_model.specs.Devices.{Program, device_of}
 use Rattle.avr_model.specs.Vectors.{vector_word}
 use Rattle.mask_states.specs.declared.keys.NodeKey.{NodeKey}
 use Rattle.local_rules.specs.declared.local.Node.{Node}
@@ -31,7 +31,7 @@ use Rattle.store_clear.proofs.Marked.{placed, placing, ascending}
 
 -- ---- the verdict
 
-module _ (words : List ℕ) (A : List Entry) (c : Claim) (nodes : List Node) (asks : List Asks) (is : IsTold words A c nodes asks) where
+module _ (words : Program) (A : List Entry) (c : Claim) (nodes : List Node) (asks : List Asks) (is : IsTold words A c nodes asks) where
   clear_at : (at : ℕ) (n : Node) → slice_get nodes at ≡ Some n → passes (ask_at asks at) ≡ true → IsClear words A (family_of c nodes) n
   clear_at at n e = (is.told.each at n e).0
 
@@ -119,7 +119,7 @@ module _ (words : List ℕ) (A : List Entry) (c : Claim) (nodes : List Node) (as
 
 -- ---- without assumptions
 
-module _ (words : List ℕ) (A : List Entry) (c : Claim) (nodes : List Node) (asks given : List Asks) (nothing : A ≡ []) (same : given ≡ asks) (is : IsTold words A c nodes asks) where
+module _ (words : Program) (A : List Entry) (c : Claim) (nodes : List Node) (asks given : List Asks) (nothing : A ≡ []) (same : given ≡ asks) (is : IsTold words A c nodes asks) where
   told : IsTold words [] c nodes given
   told = subst (λ (B : List Entry). IsTold words B c nodes given) nothing (subst (IsTold words A c nodes) (sym same) is)
 
@@ -131,7 +131,7 @@ module _ (words : List ℕ) (A : List Entry) (c : Claim) (nodes : List Node) (as
 
 -- ---- what follows
 
-module _ (words : List ℕ) (c : Claim) (verdict : ClearVerdict) (is : IsClearVerdict words c verdict) where
+module _ (words : Program) (c : Claim) (verdict : ClearVerdict) (is : IsClearVerdict words c verdict) where
   pub clear_both : (verdict ≡ Clear) ↔ AreAllClear words [] c
   clear_both = (λ e. subst (IsClearVerdict words c) e is, λ all. clear_verdicts_are_one words c verdict Clear is all)
 
@@ -152,7 +152,7 @@ sites_told nodes asks old first new last many sites none begins marked ends are 
     sites_given : AreSites words A c sites
     sites_given = subst (AreSites words A c) (sym places_are) (are_sites words A c nodes asks told first new many (begins ∙ none) marked)
 
-pub never_flagged : (words : List ℕ) (A : List Entry) (sites : List ℕ) → EndFlaggedAt words A sites [] → sites ≡ [] → NeverFlagged words A
+pub never_flagged : (words : Program) (A : List Entry) (sites : List ℕ) → EndFlaggedAt words A sites [] → sites ≡ [] → NeverFlagged words A
 never_flagged words A sites law e m choices flag reset run ends =
     ⊎_elim (λ h. none_in (word_of_flag flag) (subst (λ (xs : List ℕ). Contains xs (word_of_flag flag)) e h))
     (λ (t : EndsByTakeAt words A [] m choices). none_in (vector_word (device_of words) t.vector) t.word) (law m choices flag reset run ends)

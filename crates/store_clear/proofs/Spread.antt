@@ -10,6 +10,7 @@ use Rattle.basics.specs.Lists.{one_at, get_inside}
 use Rattle.basics.specs.Numbers.{before_or_last}
 use Rattle.call_graph.proofs.AllLaws.{if_from}
 use Rattle.avr_model.specs.declared.assumption.Entry.{Entry}
+use Rattle.avr_model.specs.Devices.{Program}
 use Rattle.mask_states.specs.declared.keys.EdgeKind.{EdgeKind}
 use Rattle.mask_states.specs.declared.keys.EdgeKind.TheVariants as kind
 use Rattle.mask_states.specs.Keys.{offset_of}
@@ -53,7 +54,7 @@ inside_at nodes k at e = let w = found_at k nodes at e in slice_get_within nodes
 
 -- ---- one node
 
-module _ (words : List ℕ) (A : List Entry) (nodes : List Node) where
+module _ (words : Program) (A : List Entry) (nodes : List Node) where
   abbrev Linked : Node → ℕ → Type 0
   Linked n t = (e : Edge) × (IsEdge words A nodes n e × IsTarget nodes e t)
 

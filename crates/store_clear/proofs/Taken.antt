@@ -12,7 +12,7 @@ use Rattle.store_clear.proofs.Marks.{none_on}
 use Rattle.edge_laws.proofs.AllLaws.{vector_small}
 use Rattle.avr_model.specs.declared.assumption.Entry.{Entry}
 use Rattle.avr_model.specs.Assumptions.{is_never}
-use Rattle.avr_model.specs.Devices.{device_of}
+use Rattle.avr_model.specs.Devices.{Program, device_of}
 use Rattle.avr_model.specs.Image.{WORDS}
 use Rattle.avr_model.specs.Vectors.{is_enabled, vector_word}
 use Rattle.mask_states.specs.declared.keys.NodeKey.{NodeKey}
@@ -63,7 +63,7 @@ marks_as P Q a b to from m =
 
 -- ---- the vectors of a node
 
-module _ (words : List ℕ) (A : List Entry) (k : NodeKey) where
+module _ (words : Program) (A : List Entry) (k : NodeKey) where
   abbrev This : ℕ → ℕ → Type 0
   This v w = (is_take words A k v ≡ true) × (vector_word (device_of words) v ≡ w)
 
@@ -103,7 +103,7 @@ module _ (words : List ℕ) (A : List Entry) (k : NodeKey) where
 
 -- ---- all nodes
 
-module _ (words : List ℕ) (A : List Entry) (nodes : List Node) where
+module _ (words : Program) (A : List Entry) (nodes : List Node) where
   pub takes_none : (marks : List Bool) → AreMarkedBeside (IsTakenAt words A nodes 0) marks marks
   takes_none marks = marks_none (IsTakenAt words A nodes 0) marks (λ w t. let lt = t.below in omega (arith, lt))
 
@@ -133,7 +133,7 @@ module _ (words : List ℕ) (A : List Entry) (nodes : List Node) where
 
 -- ---- the list
 
-module _ (words : List ℕ) (A : List Entry) (c : Claim) (nodes : List Node) (filled : IsFilled words A c.nodes nodes) (old new : List Bool) (many : ℕ) (none : old ≡ replicate many false)
+module _ (words : Program) (A : List Entry) (c : Claim) (nodes : List Node) (filled : IsFilled words A c.nodes nodes) (old new : List Bool) (many : ℕ) (none : old ≡ replicate many false)
     (marked : AreMarkedBeside (IsTakenAt words A nodes (length nodes)) old new) where
   down : (w : ℕ) → Contains (places_of new) w → MayBeTaken words A nodes w
   down w h =
@@ -184,7 +184,7 @@ module _ (words : List ℕ) (A : List Entry) (c : Claim) (nodes : List Node) (fi
   pub are_nevers : AreNevers words A c (places_of new)
   are_nevers = record { nodes = nodes; expanded = filled; ascending = ascending 0 new; exact = λ w. (down w, up w) }
 
-pub nevers_given : (words : List ℕ) (A : List Entry) (c : Claim) (nodes : List Node) → IsFilled words A c.nodes nodes → (old first new last : List Bool) (many : ℕ) (nevers : List ℕ)
+pub nevers_given : (words : Program) (A : List Entry) (c : Claim) (nodes : List Node) → IsFilled words A c.nodes nodes → (old first new last : List Bool) (many : ℕ) (nevers : List ℕ)
     → old ≡ replicate many false → first ≡ old → AreMarkedBeside (IsTakenAt words A nodes (length nodes)) first new → last ≡ new → nevers ≡ places_of last → AreNevers words A c nevers
 nevers_given words A c nodes filled old first new last many nevers none begins marked ends are =
     subst (AreNevers words A c) (sym (are ∙ ap places_of ends)) (are_nevers words A c nodes filled first new many (begins ∙ none) marked)

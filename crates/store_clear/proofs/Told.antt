@@ -3,6 +3,7 @@ use Rattle.std.proofs.Common.{◌≡◌, refl, ◌∙◌, subst, ℕ, ◌<◌, t
 use Rattle.std.specs.Prelude.{◌↔◌}
 use Rattle.std.proofs.lemmas.Option.{slice_get_within}
 use Rattle.avr_model.specs.declared.assumption.Entry.{Entry}
+use Rattle.avr_model.specs.Devices.{Program}
 use Rattle.local_rules.specs.declared.local.Node.{Node}
 use Rattle.edge_rules.specs.Views.{AreShown}
 use Rattle.certificate.specs.Claims.{Claim}
@@ -33,7 +34,7 @@ passing_met P Nothing done h = refl
 passing_met P (Free d) done h = absurd done
 passing_met P Never done h = absurd h
 
-module _ (words : List ℕ) (A : List Entry) (c : Claim) (nodes : List Node) (shown : AreShown nodes) (links : List (List ℕ)) (offsets : List ℕ) (seeds : List SlotSeed)
+module _ (words : Program) (A : List Entry) (c : Claim) (nodes : List Node) (shown : AreShown nodes) (links : List (List ℕ)) (offsets : List ℕ) (seeds : List SlotSeed)
     (along : SpreadsAlong words A nodes links offsets seeds) (old new : List Asks) (asked : AreAsked words A c.bound nodes old)
     (left : AreSettled links offsets seeds (length old) old new) where
   each : (at : ℕ) (n : Node) → slice_get nodes at ≡ Some n → (passes (ask_at new at) ≡ true) ↔ IsClear words A (family_of c nodes) n
@@ -67,7 +68,7 @@ module _ (words : List ℕ) (A : List Entry) (c : Claim) (nodes : List Node) (sh
   are_told = record { count = left.same ∙ asked.count_is; each = each }
 
 -- the same of what is asked behind a reference
-pub told_as : (words : List ℕ) (A : List Entry) (c : Claim) (nodes : List Node) → AreShown nodes → (links : List (List ℕ)) (offsets : List ℕ) (seeds : List SlotSeed)
+pub told_as : (words : Program) (A : List Entry) (c : Claim) (nodes : List Node) → AreShown nodes → (links : List (List ℕ)) (offsets : List ℕ) (seeds : List SlotSeed)
     → SpreadsAlong words A nodes links offsets seeds → (old old' new : List Asks) → old' ≡ old → AreAsked words A c.bound nodes old → AreSettled links offsets seeds (length old') old' new
     → AreTold words A c nodes new
 told_as words A c nodes shown links offsets seeds along old old' new same asked left =

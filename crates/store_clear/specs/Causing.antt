@@ -2,6 +2,7 @@
 use Rattle.std.specs.Prelude.{ℕ, ◌≡◌, ◌<◌, ◌==◌, ◌&&◌, ◌↔◌, Bool, true, not, List, [], map, Some, Contains, slice_get}
 use Rattle.avr_model.specs.declared.assumption.Entry.{Entry}
 use Rattle.avr_model.specs.declared.instruction.Instr.{Instr}
+use Rattle.avr_model.specs.Devices.{Program}
 use Rattle.abs_state.specs.declared.state.AbsState.{AbsState}
 use Rattle.mask_states.specs.declared.keys.NodeKey.{NodeKey}
 use Rattle.local_rules.specs.declared.local.Node.{Node}
@@ -17,7 +18,7 @@ use Rattle.store_clear.specs.Settling.{ask_at, passes, IsTold}
 -- ---- addresses
 
 -- a store may write this address, which is flagged as protected, and it is below the other
-abbrev pub IsProtectedBelow : List ℕ → List Entry → ℕ → AbsState → Instr → ℕ → ℕ → Type 0
+abbrev pub IsProtectedBelow : Program → List Entry → ℕ → AbsState → Instr → ℕ → ℕ → Type 0
 IsProtectedBelow words A pc s instr count a = (a < count) × (may_write_protected words A pc s instr a ≡ true)
 
 -- ---- nodes
@@ -35,10 +36,10 @@ pub record PassesBelow (nodes : List Node) (asks : List Asks) (pc : ℕ) (test :
   pub unclear : is_unclear_at pc node.key (ask_at asks at) ≡ true
   pub passes : test node.state ≡ true
 
-abbrev pub IsProtectedAt : List ℕ → List Entry → List Node → List Asks → ℕ → Instr → ℕ → ℕ → Type 0
+abbrev pub IsProtectedAt : Program → List Entry → List Node → List Asks → ℕ → Instr → ℕ → ℕ → Type 0
 IsProtectedAt words A nodes asks pc instr count a = (a < 256) × PassesBelow nodes asks pc (λ s. may_write_protected words A pc s instr a) count
 
-abbrev pub IsLiveAt : List ℕ → List Entry → ℕ → List Node → List Asks → ℕ → Instr → ℕ → Type 0
+abbrev pub IsLiveAt : Program → List Entry → ℕ → List Node → List Asks → ℕ → Instr → ℕ → Type 0
 IsLiveAt words A bound nodes asks pc instr count = PassesBelow nodes asks pc (λ s. may_write_live words A bound pc s instr) count
 
 -- ---- words
@@ -46,9 +47,9 @@ IsLiveAt words A bound nodes asks pc instr count = PassesBelow nodes asks pc (λ
 -- the list tells what it should, of whichever certificate the nodes are told
 abbrev pub AreSitesTold : List Node → List Asks → List ℕ → Type 0
 AreSitesTold nodes asks sites =
-    (words : List ℕ) (A : List Entry) (c : Claim) → IsTold words A c nodes asks → AreSites words A c sites × ((sites ≡ []) ↔ AreAllClear words A c)
+    (words : Program) (A : List Entry) (c : Claim) → IsTold words A c nodes asks → AreSites words A c sites × ((sites ≡ []) ↔ AreAllClear words A c)
 
 -- these are the first words with what may happen there
-pub record ArePlacesOf (words : List ℕ) (A : List Entry) (f : RankedFamily) (sites : List ℕ) (places : List FlaggedPlace) : Type 0 where
+pub record ArePlacesOf (words : Program) (A : List Entry) (f : RankedFamily) (sites : List ℕ) (places : List FlaggedPlace) : Type 0 where
   pub are : map word_of places ≡ sites
   pub each : (place : FlaggedPlace) → Contains places place → IsPlaceOf words A f place

@@ -4,7 +4,7 @@ use Rattle.avr_model.specs.declared.assumption.Entry.{Entry}
 use Rattle.avr_model.specs.declared.device.Device.{Device}
 use Rattle.avr_model.specs.declared.instruction.Instr.{Instr}
 use Rattle.avr_model.specs.Bits.{all_below}
-use Rattle.avr_model.specs.Devices.{ramend}
+use Rattle.avr_model.specs.Devices.{Program, ramend}
 use Rattle.avr_model.specs.State.{BELOW, plus16, minus16}
 use Rattle.abs_state.specs.declared.state.AbsState.{AbsState}
 use Rattle.clear_laws.specs.Aims.{permits_bytes, permits_number}
@@ -16,10 +16,10 @@ is_range_harmless device bound first last =
     nat_le first last && ((nat_lt BELOW first && nat_le (last + bound) (ramend device)) || nat_lt (ramend device) first)
 
 -- the bytes of registers r and r + 1 don't permit the number, or the address is harmless that it gives with `up` added modulo 65,536
-abbrev pub is_number_harmless : List ℕ → List Entry → ℕ → ℕ → AbsState → Instr → ℕ → ℕ → ℕ → Bool
+abbrev pub is_number_harmless : Program → List Entry → ℕ → ℕ → AbsState → Instr → ℕ → ℕ → ℕ → Bool
 is_number_harmless words A bound pc s instr r up p = not (permits_bytes s r p) || is_address_harmless words A bound pc s instr (plus16 p up)
 
 -- each address is harmless that a permitted number of registers r and r + 1 gives, with `up` added modulo 65,536
-abbrev pub are_numbers_harmless : List ℕ → List Entry → ℕ → ℕ → AbsState → Instr → ℕ → ℕ → Bool
+abbrev pub are_numbers_harmless : Program → List Entry → ℕ → ℕ → AbsState → Instr → ℕ → ℕ → Bool
 are_numbers_harmless words A bound pc s instr r up =
     all_below 65536 (λ a. not (permits_number s r (minus16 a up)) || is_address_harmless words A bound pc s instr a)

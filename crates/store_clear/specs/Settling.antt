@@ -2,6 +2,7 @@
 use Rattle.std.specs.Prelude.{ℕ, ◌+◌, ◌≡◌, ◌<◌, ◌≤◌, ◌↔◌, ◌⊎◌, ⊤, ◌==◌, Bool, true, false, not, if◌then◌else◌, List, [], ◌∷◌, length, Option, Some, None, Contains, slice_get, slice_index_or}
 use Rattle.std.specs.List.{flat_map}
 use Rattle.avr_model.specs.declared.assumption.Entry.{Entry}
+use Rattle.avr_model.specs.Devices.{Program}
 use Rattle.mask_states.specs.declared.keys.EdgeKind.{EdgeKind}
 use Rattle.mask_states.specs.declared.keys.EdgeKind.TheVariants as kind
 use Rattle.local_rules.specs.declared.local.Node.{Node}
@@ -43,19 +44,19 @@ abbrev pub seeds_by : ℕ → List Landing → List SlotSeed
 seeds_by slot landings = flat_map (seed_of slot) landings
 
 -- one of the first nodes adds a slot by a guarded push
-abbrev pub SeedComesBelow : List ℕ → List Entry → List Node → ℕ → SlotSeed → Type 0
+abbrev pub SeedComesBelow : Program → List Entry → List Node → ℕ → SlotSeed → Type 0
 SeedComesBelow words A nodes count s = (c : SeedComes words A nodes s) × (c.at < count)
 
 -- the seeds of the first nodes
-abbrev pub AreSeedsTo : List ℕ → List Entry → List Node → ℕ → List SlotSeed → Type 0
+abbrev pub AreSeedsTo : Program → List Entry → List Node → ℕ → List SlotSeed → Type 0
 AreSeedsTo words A nodes count seeds = (s : SlotSeed) → Contains seeds s ↔ SeedComesBelow words A nodes count s
 
 -- the seeds of all nodes
-abbrev pub AreSlotSeeds : List ℕ → List Entry → List Node → List SlotSeed → Type 0
+abbrev pub AreSlotSeeds : Program → List Entry → List Node → List SlotSeed → Type 0
 AreSlotSeeds words A nodes seeds = AreSeedsTo words A nodes (length nodes) seeds
 
 -- links and seeds of all nodes, which lead to nodes
-pub record SpreadsAlong (words : List ℕ) (A : List Entry) (nodes : List Node) (links : List (List ℕ)) (offsets : List ℕ) (seeds : List SlotSeed) : Type 0 where
+pub record SpreadsAlong (words : Program) (A : List Entry) (nodes : List Node) (links : List (List ℕ)) (offsets : List ℕ) (seeds : List SlotSeed) : Type 0 where
   pub are : AreLinks words A nodes links offsets seeds
   pub inside : AreInside links offsets seeds
 
@@ -65,12 +66,12 @@ abbrev pub ask_at : List Asks → ℕ → Asks
 ask_at asks i = slice_index_or asks i Nothing
 
 -- what each of the first nodes asks to be clear
-pub record AreAskedTo (words : List ℕ) (A : List Entry) (bound : ℕ) (nodes : List Node) (count : ℕ) (asks : List Asks) : Type 0 where
+pub record AreAskedTo (words : Program) (A : List Entry) (bound : ℕ) (nodes : List Node) (count : ℕ) (asks : List Asks) : Type 0 where
   pub count_is : length asks ≡ count
   pub each : (at : ℕ) (n : Node) → at < count → slice_get nodes at ≡ Some n → (held : ℕ → Bool) → is_clear words A bound n held ≡ meets (ask_at asks at) held
 
 -- what each node asks
-abbrev pub AreAsked : List ℕ → List Entry → ℕ → List Node → List Asks → Type 0
+abbrev pub AreAsked : Program → List Entry → ℕ → List Node → List Asks → Type 0
 AreAsked words A bound nodes asks = AreAskedTo words A bound nodes (length nodes) asks
 
 -- what is left to ask, where this tells whether the slot may hold a live byte
@@ -116,12 +117,12 @@ passes (Free d) = false
 passes Never = false
 
 -- what is left to ask tells which nodes are clear
-pub record AreTold (words : List ℕ) (A : List Entry) (c : Claim) (nodes : List Node) (asks : List Asks) : Type 0 where
+pub record AreTold (words : Program) (A : List Entry) (c : Claim) (nodes : List Node) (asks : List Asks) : Type 0 where
   pub count : length asks ≡ length nodes
   pub each : (at : ℕ) (n : Node) → slice_get nodes at ≡ Some n → (passes (ask_at asks at) ≡ true) ↔ IsClear words A (family_of c nodes) n
 
 -- the same of the nodes of a certificate
-pub record IsTold (words : List ℕ) (A : List Entry) (c : Claim) (nodes : List Node) (asks : List Asks) : Type 0 where
+pub record IsTold (words : Program) (A : List Entry) (c : Claim) (nodes : List Node) (asks : List Asks) : Type 0 where
   pub filled : IsFilled words A c.nodes nodes
   pub told : AreTold words A c nodes asks
 

@@ -2,7 +2,7 @@
 use Rattle.std.specs.Prelude.{ℕ, ◌+◌, ◌≡◌, ◌<◌, ◌↔◌, ◌⊎◌, ◌&&◌, Bool, true, not, List, length, Some, slice_get}
 use Rattle.avr_model.specs.declared.assumption.Entry.{Entry}
 use Rattle.avr_model.specs.Assumptions.{is_never}
-use Rattle.avr_model.specs.Devices.{device_of}
+use Rattle.avr_model.specs.Devices.{Program, device_of}
 use Rattle.avr_model.specs.Vectors.{is_enabled, vector_word}
 use Rattle.mask_states.specs.declared.keys.NodeKey.{NodeKey}
 use Rattle.local_rules.specs.declared.local.Node.{Node}
@@ -14,11 +14,11 @@ pub record AreMarkedBeside (P : ℕ → Type 0) (old new : List Bool) : Type 0 w
   pub exact : (word : ℕ) → (is_on new word ≡ true) ↔ ((is_on old word ≡ true) ⊎ P word)
 
 -- the vector is enabled, and its word has a `never` line
-abbrev pub is_take : List ℕ → List Entry → NodeKey → ℕ → Bool
+abbrev pub is_take : Program → List Entry → NodeKey → ℕ → Bool
 is_take words A k v = is_enabled k.masks v && is_never A (vector_word (device_of words) v)
 
 -- one of so many vectors, from 2 on, is such a one, and this is its word
-pub record IsTakenBelow (words : List ℕ) (A : List Entry) (k : NodeKey) (count word : ℕ) : Type 0 where
+pub record IsTakenBelow (words : Program) (A : List Entry) (k : NodeKey) (count word : ℕ) : Type 0 where
   pub vector : ℕ
   pub below : vector < count + 2
   pub take : is_take words A k vector ≡ true
@@ -29,11 +29,11 @@ abbrev pub may_take : NodeKey → Bool
 may_take k = k.i && not k.delay
 
 -- the same, where an interrupt may come
-abbrev pub IsTakenFrom : List ℕ → List Entry → NodeKey → ℕ → Type 0
+abbrev pub IsTakenFrom : Program → List Entry → NodeKey → ℕ → Type 0
 IsTakenFrom words A k word = (may_take k ≡ true) × IsTakenBelow words A k 25 word
 
 -- one of the first nodes is so
-pub record IsTakenAt (words : List ℕ) (A : List Entry) (nodes : List Node) (count word : ℕ) : Type 0 where
+pub record IsTakenAt (words : Program) (A : List Entry) (nodes : List Node) (count word : ℕ) : Type 0 where
   pub at : ℕ
   pub node : Node
   pub below : at < count

@@ -9,7 +9,7 @@ use Rattle.avr_model.specs.declared.choice.StepResult.TheVariants as answer
 use Rattle.avr_model.specs.declared.assumption.Entry.{Entry}
 use Rattle.avr_model.specs.declared.instruction.Instr.{Instr}
 use Rattle.avr_model.specs.Assumptions.{has_masks}
-use Rattle.avr_model.specs.Devices.{device_of}
+use Rattle.avr_model.specs.Devices.{Program, device_of}
 use Rattle.avr_model.specs.Sites.{instruction_at}
 use Rattle.avr_model.specs.State.{State, filled, depth_of_state}
 use Rattle.avr_model.specs.Step.{Answer, Illegal, Overflow, Done, step, go, take, entering, may_take, flagged_or, result_of}
@@ -33,7 +33,7 @@ told_legal : (b : Bool) (flag : Option Flag) (m : State) (pc : ℕ) → result_o
 told_legal true flag m pc = flagged_legal flag m
 told_legal false flag m pc = λ e. cc
 
-module _ (words : List ℕ) (A : List Entry) where
+module _ (words : Program) (A : List Entry) where
   go_legal : (m : State) (instr : Option Instr) (b1 b2 : ℕ) → result_of (go words A m instr b1 b2) ≢ answer.Illegal
   go_legal m None b1 b2 = λ e. cc
   go_legal m (Some instr) b1 b2 = told_legal _ _ _ m.pc
@@ -89,7 +89,7 @@ fewer : (may : Bool) (ws : List Waypoint) (m : State) → (due_left may ws m ≡
 fewer may [] m = inl refl
 fewer may (w ∷ ws) m = left_if w ws (due_at may w m)
 
-module _ (words : List ℕ) (A : List Entry) (points : List Waypoint) (bound fill : ℕ) where
+module _ (words : Program) (A : List Entry) (points : List Waypoint) (bound fill : ℕ) where
   abbrev pub Picks : List Waypoint → State → Choice
   Picks = pick_due (has_masks A) fill
 

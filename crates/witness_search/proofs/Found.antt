@@ -8,7 +8,7 @@ use Rattle.avr_model.specs.declared.choice.Choice.{Choice}
 use Rattle.avr_model.specs.declared.choice.Stop.TheVariants as stop
 use Rattle.avr_model.specs.declared.assumption.Entry.{Entry}
 use Rattle.avr_model.specs.Assumptions.{has_masks}
-use Rattle.avr_model.specs.Devices.{device_of, ramend}
+use Rattle.avr_model.specs.Devices.{Program, device_of, ramend}
 use Rattle.avr_model.specs.State.{State, filled}
 use Rattle.avr_model.specs.Run.{IsRun, starting, depth_of, stop_of}
 use Rattle.stimulus.specs.Laws.{DepthIsKept}
@@ -28,12 +28,12 @@ unfolding most_choices
 steps_are = refl
 
 -- the trial with all its steps
-pub whole : (steps : ℕ) (words : List ℕ) (A : List Entry) (points : List Waypoint) (bound fill : ℕ) → steps ≡ most_choices
+pub whole : (steps : ℕ) (words : Program) (A : List Entry) (points : List Waypoint) (bound fill : ℕ) → steps ≡ most_choices
     → trial_by steps words A points bound fill ≡ trial_of words A points bound fill
 unfolding trial_of
 whole steps words A points bound fill is = ap (λ (n : ℕ). trial_by n words A points bound fill) is
 
-pub few_choices : (steps : ℕ) (words : List ℕ) (A : List Entry) (points : List Waypoint) (bound fill : ℕ) (cs : List Choice) → steps ≡ most_choices
+pub few_choices : (steps : ℕ) (words : Program) (A : List Entry) (points : List Waypoint) (bound fill : ℕ) (cs : List Choice) → steps ≡ most_choices
     → cs ≡ trial_by steps words A points bound fill → length cs ≤ 16777216
 few_choices steps words A points bound fill cs most is = omega (arith, few (pick_due (has_masks A) fill) (due_left (has_masks A)) words A bound steps points (starting (filled (device_of words) fill)), ap length is, most, steps_are)
 
@@ -43,7 +43,7 @@ short words A points bound fill = omega (arith, few (pick_due (has_masks A) fill
 
 -- ---- a trial that reaches the bound
 
-module _ (law : DepthIsKept) (words : List ℕ) (A : List Entry) where
+module _ (law : DepthIsKept) (words : Program) (A : List Entry) where
   stop_is : (steps : ℕ) (points : List Waypoint) (bound fill : ℕ) (cs : List Choice) → cs ≡ trial_by steps words A points bound fill → IsRun words A cs (filled (device_of words) fill)
       → depth_of words A cs (filled (device_of words) fill) ≡ bound → stop_of words A cs (filled (device_of words) fill) ≡ stop.End
   stop_is steps points bound fill cs is =
@@ -67,7 +67,7 @@ module _ (law : DepthIsKept) (words : List ℕ) (A : List Entry) where
       (subst (λ (b : ℕ). IsOkAnd (replay_from words A cs (filled (device_of words) b)) (λ r. (r.stop ≡ stop.End) × (r.depth ≡ bound))) (sym filling)
       (replays bound cs (filled (device_of words) fill) run deep (stop_is steps points bound fill cs is run deep)))
 
-module _ (words : List ℕ) (A : List Entry) (points : List Waypoint) (bound : ℕ) where
+module _ (words : Program) (A : List Entry) (points : List Waypoint) (bound : ℕ) where
   pub succeeds : (steps fill : ℕ) (cs : List Choice) → steps ≡ most_choices → IsAttempt steps words A points bound fill cs → Succeeds words A points bound fill
   succeeds steps fill cs most a =
       ap (λ (xs : List Choice). depth_of words A xs (filled (device_of words) fill)) (sym (a.are ∙ whole steps words A points bound fill most)) ∙ a.depth

@@ -9,6 +9,7 @@ use Rattle.avr_model.specs.declared.assumption.Entry.{Entry}
 use Rattle.avr_model.specs.State.{State, depth_of_state}
 use Rattle.avr_model.specs.Step.{Answer, Illegal, Undefined, Overflow, Flagged, Done, step, result_of}
 use Rattle.avr_model.specs.Run.{Machine, HasBytes, IsRun, RunsOn, moved_on}
+use Rattle.avr_model.specs.Devices.{Program}
 use Rattle.stimulus.specs.Driving.{choices_by, choices_on, machine_after}
 
 not_reached : (a b : ℕ) → b < a → nat_le a b ≡ false
@@ -33,7 +34,7 @@ done_if (Overflow pc) is = absurd cc
 done_if (Flagged flag) is = absurd cc
 done_if (Done s) is = (s, refl)
 
-module _ {L : Type 0} (pick : L → State → Choice) (left : L → State → L) (words : List ℕ) (A : List Entry) (target : ℕ) where
+module _ {L : Type 0} (pick : L → State → Choice) (left : L → State → L) (words : Program) (A : List Entry) (target : ℕ) where
   abbrev By : ℕ → L → Machine → List Choice
   By n l m = choices_by pick left words A target n l m
 

@@ -1,6 +1,7 @@
 -- A certificate has one list of waypoints.
 use Rattle.std.proofs.Common.{sym, ap, subst, ◌∙◌, ◌≡◌, ℕ, List}
 use Rattle.avr_model.specs.declared.assumption.Entry.{Entry}
+use Rattle.avr_model.specs.Devices.{Program}
 use Rattle.local_rules.specs.declared.local.Node.{Node}
 use Rattle.edge_laws.specs.Expansions.{FilledOrMissing}
 use Rattle.family_graph.specs.Laws.{DeepestChainsAreOne}
@@ -8,7 +9,7 @@ use Rattle.witness_search.specs.declared.waypoint.Waypoint.{Waypoint}
 use Rattle.witness_search.specs.Chains.{interrupts_of, AreInterrupts}
 use Rattle.witness_search.specs.Laws.{WaypointsAreOne}
 
-interrupts_are_one : DeepestChainsAreOne → (words : List ℕ) (A : List Entry) (nodes : List Node) (points points' : List Waypoint) → AreInterrupts words A nodes points
+interrupts_are_one : DeepestChainsAreOne → (words : Program) (A : List Entry) (nodes : List Node) (points points' : List Waypoint) → AreInterrupts words A nodes points
     → AreInterrupts words A nodes points' → points ≡ points'
 interrupts_are_one deepest words A nodes points points' p q =
     p.are ∙ (ap (interrupts_of words nodes) (deepest.links words A nodes p.need q.need p.links q.links p.deepest q.deepest) ∙ sym q.are)

@@ -2,7 +2,7 @@
 use Rattle.std.specs.Prelude.{ℕ, ◌≡◌, List, [], ◌∷◌, Option, Some, slice_get}
 use Rattle.std.specs.List.{flat_map}
 use Rattle.avr_model.specs.declared.assumption.Entry.{Entry}
-use Rattle.avr_model.specs.Devices.{device_of, ramend}
+use Rattle.avr_model.specs.Devices.{Program, device_of, ramend}
 use Rattle.mask_states.specs.declared.keys.EdgeKind.{EdgeKind}
 use Rattle.mask_states.specs.declared.keys.EdgeKind.TheVariants.{Interrupt}
 use Rattle.local_rules.specs.declared.local.Node.{Node}
@@ -13,27 +13,27 @@ use Rattle.certificate.specs.Claims.{Claim}
 use Rattle.witness_search.specs.declared.waypoint.Waypoint.{Waypoint}
 
 -- the interrupt by which a chain goes on from a node, at this depth below where the stack begins on the device
-abbrev pub interrupt_at : List ℕ → Option Node → ℕ → Option EdgeKind → List Waypoint
+abbrev pub interrupt_at : Program → Option Node → ℕ → Option EdgeKind → List Waypoint
 interrupt_at words (Some n) depth (Some (Interrupt v clears)) =
     record { pc = n.key.pc; masks = n.key.masks; depth = depth; end = ramend (device_of words); vector = v; clears = clears } ∷ []
 interrupt_at words _ depth kind = []
 
-abbrev pub interrupt_of : List ℕ → List Node → Link → List Waypoint
+abbrev pub interrupt_of : Program → List Node → Link → List Waypoint
 interrupt_of words nodes link = interrupt_at words (slice_get nodes link.node) link.depth link.kind
 
 -- the interrupts of a chain, in their order
-abbrev pub interrupts_of : List ℕ → List Node → List Link → List Waypoint
+abbrev pub interrupts_of : Program → List Node → List Link → List Waypoint
 interrupts_of words nodes links = flat_map (interrupt_of words nodes) links
 
 -- the interrupts of the deepest chain of a family
-pub record AreInterrupts (words : List ℕ) (A : List Entry) (nodes : List Node) (points : List Waypoint) : Type 0 where
+pub record AreInterrupts (words : Program) (A : List Entry) (nodes : List Node) (points : List Waypoint) : Type 0 where
   pub need : ℕ
   pub links : List Link
   pub deepest : IsDeepest words A nodes need links
   pub are : points ≡ interrupts_of words nodes links
 
 -- those of a certificate's family
-pub record AreWaypoints (words : List ℕ) (A : List Entry) (c : Claim) (points : List Waypoint) : Type 0 where
+pub record AreWaypoints (words : Program) (A : List Entry) (c : Claim) (points : List Waypoint) : Type 0 where
   pub nodes : List Node
   pub filled : IsFilled words A c.nodes nodes
   pub interrupts : AreInterrupts words A nodes points

@@ -3,7 +3,7 @@ use Rattle.std.specs.Prelude.{ℕ, ◌≡◌, List, [], ◌∷◌, ◌++◌, Opt
 use Rattle.avr_model.specs.declared.choice.Choice.{Choice}
 use Rattle.avr_model.specs.declared.assumption.Entry.{Entry}
 use Rattle.avr_model.specs.Assumptions.{has_masks}
-use Rattle.avr_model.specs.Devices.{device_of}
+use Rattle.avr_model.specs.Devices.{Program, device_of}
 use Rattle.avr_model.specs.State.{filled}
 use Rattle.avr_model.specs.Run.{starting, depth_of}
 use Rattle.stimulus.specs.Driving.{choices_by}
@@ -17,31 +17,31 @@ abbrev pub fills : List ℕ
 fills = 0x00 ∷ 0xFF ∷ 0x55 ∷ 0xAA ∷ 0x01 ∷ 0x80 ∷ 0x7F ∷ 0xFE ∷ []
 
 -- The choices of the trial with this fill byte: from reset, until the depth is the bound or more, or a stop, or after so many steps.
-abbrev pub trial_by : ℕ → List ℕ → List Entry → List Waypoint → ℕ → ℕ → List Choice
+abbrev pub trial_by : ℕ → Program → List Entry → List Waypoint → ℕ → ℕ → List Choice
 trial_by steps words A points bound fill = choices_by (pick_due (has_masks A) fill) (due_left (has_masks A)) words A bound steps points (starting (filled (device_of words) fill))
 
-unfoldable pub trial_of : List ℕ → List Entry → List Waypoint → ℕ → ℕ → List Choice
+unfoldable pub trial_of : Program → List Entry → List Waypoint → ℕ → ℕ → List Choice
 trial_of words A points bound fill = trial_by most_choices words A points bound fill
 
 -- it succeeds where its depth is the bound
-abbrev pub Succeeds : List ℕ → List Entry → List Waypoint → ℕ → ℕ → Type 0
+abbrev pub Succeeds : Program → List Entry → List Waypoint → ℕ → ℕ → Type 0
 Succeeds words A points bound fill = depth_of words A (trial_of words A points bound fill) (filled (device_of words) fill) ≡ bound
 
-abbrev pub NoneSucceeds : List ℕ → List Entry → List Waypoint → ℕ → List ℕ → Type 0
+abbrev pub NoneSucceeds : Program → List Entry → List Waypoint → ℕ → List ℕ → Type 0
 NoneSucceeds words A points bound ts = (fill : ℕ) → Contains ts fill → Succeeds words A points bound fill → ⊥
 
 -- a schedule of the trial with its fill byte
-pub record IsTrial (words : List ℕ) (A : List Entry) (points : List Waypoint) (bound : ℕ) (plan : Plan) : Type 0 where
+pub record IsTrial (words : Program) (A : List Entry) (points : List Waypoint) (bound : ℕ) (plan : Plan) : Type 0 where
   pub fits : IsSchedule plan
   pub choices : choices_of plan.runs ≡ trial_of words A points bound plan.fill
 
 -- what one trial finds: a schedule where it succeeds
-abbrev pub IsTried : List ℕ → List Entry → List Waypoint → ℕ → ℕ → Option Plan → Type 0
+abbrev pub IsTried : Program → List Entry → List Waypoint → ℕ → ℕ → Option Plan → Type 0
 IsTried words A points bound fill None = Succeeds words A points bound fill → ⊥
 IsTried words A points bound fill (Some plan) = (plan.fill ≡ fill) × Succeeds words A points bound fill × IsTrial words A points bound plan
 
 -- a schedule of the first trial that succeeds
-pub record IsFirstFilled (words : List ℕ) (A : List Entry) (points : List Waypoint) (bound : ℕ) (plan : Plan) : Type 0 where
+pub record IsFirstFilled (words : Program) (A : List Entry) (points : List Waypoint) (bound : ℕ) (plan : Plan) : Type 0 where
   pub before : List ℕ
   pub after : List ℕ
   pub order : fills ≡ before ++ plan.fill ∷ after
@@ -50,6 +50,6 @@ pub record IsFirstFilled (words : List ℕ) (A : List Entry) (points : List Wayp
   pub trial : IsTrial words A points bound plan
 
 -- what the trials find: that schedule, or none where none succeeds
-abbrev pub IsFound : List ℕ → List Entry → List Waypoint → ℕ → Option Plan → Type 0
+abbrev pub IsFound : Program → List Entry → List Waypoint → ℕ → Option Plan → Type 0
 IsFound words A points bound None = NoneSucceeds words A points bound fills
 IsFound words A points bound (Some plan) = IsFirstFilled words A points bound plan

@@ -1,5 +1,6 @@
 use Rattle.std.proofs.Common.{ℕ, List, false, replicate, ap, sym, ◌∙◌, subst}
 use Rattle.avr_model.specs.Marks.{marks}
+use Rattle.avr_model.specs.Devices.{Program}
 use Rattle.flash_image.specs.Marked.{marked, AreListed}
 use Rattle.flash_image.proofs.Marked.{table_of}
 use Rattle.flash_image.proofs.image.Flash.keep_marks.Goals as goal
@@ -13,7 +14,7 @@ invariant_of-self c = (
     table = c.mark_all.new.table;
     tells =
         table_of (marks c.self.inside.words.items) c.mark_all.new.table
-        (c.mark_all.ensures ∙ ap (λ (words : List ℕ). marked (replicate 65536 false) (marks words)) (sym c.self.view_is));
+        (c.mark_all.ensures ∙ ap (λ (words : Program). marked (replicate 65536 false) (marks words)) (sym c.self.view_is));
     listed = c.in_ok-self-inside.ensures;
   },
 )
