@@ -1,4 +1,4 @@
--- Operations on one byte's bits, with their flags.
+-- Operations on the bits of one byte, with their flags.
 use Rattle.std.specs.Prelude.{ℕ, Bool, ◌+◌, ◌==◌, if◌then◌else◌}
 use Rattle.avr_model.specs.declared.operation.Logic.{Logic}
 use Rattle.avr_model.specs.declared.operation.Logic.TheVariants.{And, Or, Eor}
@@ -29,11 +29,11 @@ abs_com a s = let r = byte_not a in (r, result_flags One Zero r s)
 abbrev pub step_bits : Bool → TriByte → TriByte
 step_bits up a = if up then (byte_sum a (byte_known 1) Zero).bits else (byte_difference a (byte_known 1) Zero).bits
 
--- the result at which one more or one less overflows
+-- the result of an increment or decrement that overflows
 abbrev pub step_limit : Bool → ℕ
 step_limit up = if up then 0x80 else 0x7F
 
--- C is kept, and V says that the result is the limit
+-- C is kept, and V is 1 exactly for the limit
 abbrev pub abs_step_one : Bool → TriByte → TriByte → TriByte × TriByte
 abs_step_one up a s = let r = step_bits up a in (r, result_flags (tri_at s 0) (byte_equal r (byte_known (step_limit up))) r s)
 
@@ -43,7 +43,7 @@ top_bit Lsr a s = Zero
 top_bit Ror a s = tri_at s 0
 top_bit Asr a s = tri_at a 7
 
--- each bit one place down, with a new top bit
+-- each bit moved one place down, with a new top bit
 abbrev pub shift_bits : TriByte → Tri → TriByte
 shift_bits a top = byte_of (λ i. if i == 7 then top else tri_at a (i + 1))
 

@@ -1,5 +1,4 @@
--- Laws of the operations: an answer stands for the machine's answer at each choice of what the operands stand for, and
--- operands that stand for more have an answer that stands for more.
+-- Laws of the operations: an abstract result covers the machine's result for each choice of members of the operands, and is monotone.
 use Rattle.std.specs.Prelude.{ℕ, Bool, true, false, ◌-◌, ◌/◌, ◌%◌, ◌<◌}
 use Rattle.std.specs.Int.{from_bool}
 use Rattle.avr_model.specs.declared.operation.Logic.{Logic}
@@ -19,22 +18,22 @@ use Rattle.abs_alu.specs.Bitwise.{abs_logic, abs_com, abs_step_one, abs_shift}
 use Rattle.abs_alu.specs.Product.{abs_mul}
 use Rattle.abs_alu.specs.Words.{abs_wide}
 
--- an answer stands for a byte and a status register
+-- a result covers a byte and a status register
 abbrev pub Covers : TriByte × TriByte → ℕ → ℕ → Type 0
 Covers answer r f = Has answer.0 r × Has answer.1 f
 
--- an answer stands for a word, by its low and high byte, and a status register
+-- a result covers a word, by its low and high byte, and a status register
 abbrev pub CoversWord : (TriByte × TriByte) × TriByte → ℕ → ℕ → Type 0
 CoversWord answer r f = Has answer.0.0 (r % 256) × Has answer.0.1 (r / 256) × Has answer.1 f
 
--- one answer stands for all that another does
+-- one result is within another
 abbrev pub AreBothWithin : TriByte × TriByte → TriByte × TriByte → Type 0
 AreBothWithin p q = IsWithin p.0 q.0 × IsWithin p.1 q.1
 
 abbrev pub IsAnswerWithin : (TriByte × TriByte) × TriByte → (TriByte × TriByte) × TriByte → Type 0
 IsAnswerWithin p q = AreBothWithin p.0 q.0 × IsWithin p.1 q.1
 
--- in each law x and y are members of the operands, w is one of the register, and c is a carry or borrow that is permitted
+-- in each law x and y are members of the operands, w is a member of the status register, and c is a permitted carry or borrow
 pub record SumsCover : Type 0 where
   pub sums : (a b s : TriByte) (carry : Tri) (x y w : ℕ) (c : Bool) → x < 256 → y < 256
       → Has a x → Has b y → Has s w → Permits carry (from_bool c)

@@ -10,7 +10,7 @@ use Rattle.bit_domain.specs.Tri.{tri_bit}
 use Rattle.bit_domain.specs.TriByte.{byte_known, byte_any, byte_constant}
 use Rattle.abs_alu.specs.Flags.{carry_and_zero}
 
--- the machine's product of two known bytes; of others product, C and Z are unknown
+-- the machine's product of two known bytes; otherwise product, C and Z are unknown
 abbrev pub product_of_constants : Mul → Option ℕ → Option ℕ → TriByte → (TriByte × TriByte) × TriByte
 product_of_constants op (Some x) (Some y) s =
     let r = result_of op x y in (

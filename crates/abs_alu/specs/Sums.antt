@@ -9,14 +9,14 @@ use Rattle.bit_domain.specs.TriByte.{tri_at}
 use Rattle.bit_domain.specs.Sums.{byte_sum, byte_difference}
 use Rattle.abs_alu.specs.Flags.{tri_flags, tri_zero}
 
--- the register after a sum or difference m with this Z
+-- the status register after a sum or difference m with this Z
 abbrev pub sum_flags : Sum → Tri → TriByte → TriByte
 sum_flags m z s = tri_flags m.out z (tri_at m.bits 7) (tri_xor m.into_top m.out) m.half s
 
 abbrev pub abs_add : TriByte → TriByte → Tri → TriByte → TriByte × TriByte
 abs_add a b carry s = let m = byte_sum a b carry in (m.bits, sum_flags m (tri_zero m.bits) s)
 
--- Z after a difference r: where zero is kept, also Z before must be set
+-- Z after a difference r; if Z is kept, it must also be set before
 abbrev pub zero_after : Bool → TriByte → TriByte → Tri
 zero_after keep_zero r s = if keep_zero then tri_and (tri_zero r) (tri_at s 1) else tri_zero r
 

@@ -1,4 +1,4 @@
--- Sums and differences of a word and a small number, as two sums of bytes. A word is the pair of its low and high byte.
+-- Sums and differences of a word and a small number, as two byte sums. A word is a pair of its low and high byte.
 use Rattle.std.specs.Prelude.{ℕ, Bool, if◌then◌else◌}
 use Rattle.bit_domain.specs.declared.bits.Tri.TheVariants.{Zero}
 use Rattle.bit_domain.specs.declared.bytes.TriByte.{TriByte}
@@ -8,7 +8,7 @@ use Rattle.bit_domain.specs.TriByte.{tri_at, byte_known}
 use Rattle.bit_domain.specs.Sums.{byte_sum, byte_difference}
 use Rattle.abs_alu.specs.Flags.{tri_flags, tri_zero}
 
--- the word of two byte sums, with the register after it: C and V are those of the high byte, and H is kept
+-- the word of two byte sums, with the status register: C and V are those of the high byte, and H is kept
 abbrev pub word_answer : Sum → Sum → TriByte → (TriByte × TriByte) × TriByte
 word_answer low high s = (
   (low.bits, high.bits),

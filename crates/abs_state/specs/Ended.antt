@@ -1,5 +1,5 @@
--- What a write ends of what is known of pairs: tags that speak of a register that is written, or of its pair, and the interval of this pair;
--- and tags that speak of flags that are written. Source: own.
+-- Facts that a write ends: tags that name a written register or its pair, the interval of this pair, and tags of written flags. Source:
+-- own.
 use Rattle.std.specs.Prelude.{ℕ, suc, ◌+◌, ◌*◌, ◌/◌, ◌^◌, ◌==◌, ◌&&◌, ◌||◌, ◌≡◌, ◌<◌, Bool, false, bit_and, nat_lt, if◌then◌else◌, List, [], ◌∷◌, Option, Some, None, slice_set, slice_index}
 use Rattle.std.specs.List.{list_any}
 use Rattle.avr_model.specs.Sreg.{flag}
@@ -26,14 +26,14 @@ use Rattle.abs_state.specs.Laws.{HoldsAt}
 
 -- ---- which registers are written: a test of their numbers
 
--- those of a list, and those of which a number has the bit
+-- membership in a list, and in the set bits of a number
 abbrev pub is_one_of : List ℕ → ℕ → Bool
 is_one_of written r = list_any (λ n. n == r) written
 
 abbrev pub is_bit_of : ℕ → ℕ → Bool
 is_bit_of written r = nat_lt r 32 && (bit_and (written / 2 ^ r) 1 == 1)
 
--- one of the registers of pair r
+-- a register of pair r is in the set
 abbrev pub in_pair : (ℕ → Bool) → ℕ → Bool
 in_pair written r = written r || written (r + 1)
 
@@ -68,7 +68,7 @@ intervals_ended written n (i ∷ is) = (if in_pair written (2 * n) then whole el
 
 -- ---- all of it
 
--- Some flag of C, Z and S is written, and C is one of those that are.
+-- `flags`: one of C, Z and S is written; `carry`: C is written.
 abbrev pub facts_ended : (ℕ → Bool) → Bool → Bool → PairFacts → PairFacts
 facts_ended written flags carry f =
     record {
@@ -93,17 +93,17 @@ written_hull registers a (Some f) = Some (record f { intervals = slice_set f.int
 
 -- ---- laws
 
--- registers that are bytes, and the same but for those that are written
+-- the new registers are bytes, and only those in the set are written
 pub record AreRegistersWritten (written : ℕ → Bool) (old new : List ℕ) : Type 0 where
   pub kept : (r : ℕ) → written r ≡ false → slice_index new r ≡ slice_index old r
   pub bytes : (r : ℕ) → r < 32 → slice_index new r < 256
 
--- flags C, Z and S, unless they are written
+-- flags C, Z and S stay unless they are written
 pub record AreFlagsWritten (flags carry : Bool) (old new : ℕ) : Type 0 where
   pub carry_kept : carry ≡ false → flag new 0 ≡ flag old 0
   pub others_kept : flags ≡ false → (flag new 0 ≡ flag old 0) × (flag new 1 ≡ flag old 1) × (flag new 4 ≡ flag old 4)
 
--- What is left says less, and fits; of more, more is left; and it holds after the write. So does the hull of what is written.
+-- Ending facts goes up, fits, is monotone, and gives facts that hold after the write. Likewise the hull of written registers.
 pub record WritesEndFacts : Type 0 where
   pub less : (written : ℕ → Bool) (flags carry : Bool) (x : Option PairFacts) → KnownFits x → IsKnownWithin x (ended written flags carry x)
   pub more : (written : ℕ → Bool) (flags carry : Bool) (x y : Option PairFacts) → IsKnownWithin x y

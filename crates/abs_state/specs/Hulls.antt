@@ -20,7 +20,7 @@ AreInHulls registers (Some f) = (n : ℕ) → n < 16 → IsIntervalWithin (inter
 abbrev pub IsInHulls : AbsState → Type 0
 IsInHulls s = AreInHulls s.registers s.facts
 
--- So it is after reset, in a join, at an entry and after a return.
+-- This holds after reset, of a join, at an entry and after a return.
 pub record HullsHoldIntervals : Type 0 where
   pub root : IsInHulls root
   pub following_root : IsInHulls following_root

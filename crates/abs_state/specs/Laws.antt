@@ -1,5 +1,5 @@
--- Laws of values and states: their order and join, that what stands still stands where less is said, and that entries and returns
--- stand for what the machine does.
+-- Laws of values and states: their order and joins, that greater states claim less, and that entries and returns cover those of the
+-- machine.
 use Rattle.std.specs.Prelude.{ℕ, ◌+◌, ◌-◌, ◌%◌, ◌≡◌, ◌<◌, ◌≤◌, ◌↔◌, ◌⊎◌, ◌&&◌, Bool, true, List, [], ◌∷◌, ◌++◌, length, take, Option, Some, None}
 use Rattle.avr_model.specs.Sreg.{flag}
 use Rattle.avr_model.specs.declared.device.Device.{Device}
@@ -24,15 +24,15 @@ use Rattle.abs_state.specs.PairsBack.{returned, Conflict}
 use Rattle.abs_state.specs.Formed.{ByteFits, IsWhole, IsFormed, IsUntagged, TagsFit}
 use Rattle.abs_state.specs.Rank.{state_rank, height_of}
 
--- A value of a tag and bits has all bytes of the bits: it stands where both hold, says less where both do, and its range fits; and a join
--- of values whose ranges fit has one that does.
+-- The value of a tag and bits has all bytes that the bits permit: it holds if both do, is monotone in both, and its range fits. A join of
+-- values whose ranges fit has a range that fits.
 pub record BitsMakeValues : Type 0 where
   pub stands : (o : Origin) (t : Tag) (bits : TriByte) (x : ℕ) → x < 256 → TagHolds o t x → Has bits x → ByteStands o (with_bits t bits) x
   pub within : (t u : Tag) (bits more : TriByte) → IsTagWithin t u → IsWithin bits more → IsByteWithin (with_bits t bits) (with_bits u more)
   pub fits : (t : Tag) (bits : TriByte) → ByteFits (with_bits t bits)
   pub joins_fit : (v w : AbsByte) → ByteFits v → ByteFits w → ByteFits (value_join v w)
 
--- `within` is a partial order on values, and a join is the least above both
+-- `within` is a partial order on values, and a join is the least upper bound
 pub record ValuesAreOrdered : Type 0 where
   pub same : (v : AbsByte) → IsByteWithin v v
   pub through : (u v w : AbsByte) → IsByteWithin u v → IsByteWithin v w → IsByteWithin u w
@@ -41,7 +41,7 @@ pub record ValuesAreOrdered : Type 0 where
   pub second : (v w : AbsByte) → IsByteWithin w (value_join v w)
   pub least : (u v w : AbsByte) → IsByteWithin u w → IsByteWithin v w → IsByteWithin (value_join u v) w
 
--- the same of the flags
+-- `within` is a partial order on flags, and a join is the least upper bound
 pub record FlagsAreOrdered : Type 0 where
   pub same : (f : AbsFlags) → IsFlagsWithin f f
   pub through : (f g h : AbsFlags) → IsFlagsWithin f g → IsFlagsWithin g h → IsFlagsWithin f h
@@ -50,7 +50,7 @@ pub record FlagsAreOrdered : Type 0 where
   pub second : (f g : AbsFlags) → IsFlagsWithin g (flags_join f g)
   pub least : (f g h : AbsFlags) → IsFlagsWithin f h → IsFlagsWithin g h → IsFlagsWithin (flags_join f g) h
 
--- The same of states; two of them have a join where they have as many slots. The states that are compared are whole.
+-- `within` is a partial order on whole states, and a join is the least upper bound. States have a join if they have equally many slots.
 pub record StatesAreOrdered : Type 0 where
   pub same : (s : AbsState) → IsStateWithin s s
   pub through : (s t u : AbsState) → IsStateWithin s t → IsStateWithin t u → IsStateWithin s u
@@ -58,20 +58,20 @@ pub record StatesAreOrdered : Type 0 where
   pub join : (s t : AbsState) → IsWhole s → IsWhole t → length s.slots ≡ length t.slots → IsLeastAbove s t (state_join s t)
   pub within : (s t : AbsState) → IsWhole s → IsWhole t → IsStateWithin t s → state_join s t ≡ s
 
--- what says less has a join that says less
+-- joins are monotone
 pub record JoinsAreMonotone : Type 0 where
   pub values : (v w v' w' : AbsByte) → IsByteWithin v v' → IsByteWithin w w' → IsByteWithin (value_join v w) (value_join v' w')
   pub flags : (f g f' g' : AbsFlags) → IsFlagsWithin f f' → IsFlagsWithin g g' → IsFlagsWithin (flags_join f g) (flags_join f' g')
   pub states : (s t s' t' : AbsState) → IsWhole s → IsWhole t → IsWhole s' → IsWhole t'
       → length s.slots ≡ length t.slots → IsStateWithin s s' → IsStateWithin t t' → IsStateWithin (state_join s t) (state_join s' t')
 
--- Such a state is whole. A join of states that the analysis works with is one, and a join of untagged states is untagged.
+-- A formed state is whole. A join of formed states is formed, and a join of untagged ones untagged.
 pub record JoinsAreFormed : Type 0 where
   pub whole : (s : AbsState) (offset : ℕ) → IsFormed s offset → IsWhole s
   pub formed : (s t : AbsState) (offset : ℕ) → IsFormed s offset → IsFormed t offset → IsFormed (state_join s t) offset
   pub untagged : (s t : AbsState) (offset : ℕ) → IsFormed s offset → IsFormed t offset → IsUntagged s → IsUntagged t → IsUntagged (state_join s t)
 
--- what stands still stands where less is said
+-- what holds of a value, flags or a slot holds of greater ones
 pub record ValuesSayLess : Type 0 where
   pub byte : (o : Origin) (v w : AbsByte) (x : ℕ) → IsByteWithin v w → ByteStands o v x → ByteStands o w x
   pub flags : (o : Origin) (f g : AbsFlags) (sreg : ℕ) → IsFlagsWithin f g → FlagsStand o f sreg → FlagsStand o g sreg
@@ -80,12 +80,12 @@ pub record ValuesSayLess : Type 0 where
   pub slots : (o : Origin) (s t : AbsState) (memory : Memory) → IsStateWithin s t → SlotsStand o memory s.slots → SlotsStand o memory t.slots
   pub state : (o : Origin) (s t : AbsState) (m : State) → IsStateWithin s t → Stands o s m → Stands o t m
 
--- the memory keeps what is live above a floor
+-- the memory keeps the live bytes above a floor
 pub record Keeps (old new : Memory) (floor : ℕ) : Type 0 where
   pub live : (a : ℕ) → floor < a → is_live old a ≡ true → is_live new a ≡ true
   pub bytes : (a : ℕ) → floor < a → is_live old a ≡ true → byte_in new.bytes a ≡ byte_in old.bytes a
 
--- Slots stand while the memory keeps what is live above a floor below them, and when one is added, or some are cut or added.
+-- Slots hold while live bytes above a floor below them are kept, and after one is added, cut or resized.
 pub record SlotsFollow : Type 0 where
   pub kept : (o : Origin) (old new : Memory) (floor : ℕ) (slots : List (Slot AbsByte)) → Keeps old new floor → floor + length slots ≤ o.base
       → SlotsStand o old slots → SlotsStand o new slots
@@ -95,14 +95,15 @@ pub record SlotsFollow : Type 0 where
   pub resized : (o : Origin) (memory : Memory) (slots : List (Slot AbsByte)) (n : ℕ)
       → ((d : ℕ) → d < n → d < length slots → SlotStands o memory (o.base - d) (slot_at slots d)) → SlotsStand o memory (resized n slots)
 
--- After reset the root's state stands, in a frame with the reset state's registers whose base is the top of SRAM.
+-- The root's state holds after reset, in a frame whose base is the top of SRAM and whose origin has the reset state's registers.
 pub record ResetStands : Type 0 where
   pub stands : (device : Device) (m : State) → IsReset device m
       → Stands (record { registers = m.registers; sreg = m.sreg; base = ramend device }) root m
   pub formed : IsFormed root 0
   pub untagged : IsUntagged root
 
--- An entry keeps the registers and flags 0 to 6: what stood for the caller stands for the new frame, whose origin has what they were.
+-- An entry keeps registers and flags 0 to 6: if a state holds for the caller, the entered one holds in the new frame with these as
+-- origin.
 pub record EntriesAreTrue : Type 0 where
   pub registers : (o : Origin) (s : AbsState) (registers : List ℕ) (sreg base : ℕ) → length s.registers ≡ 32 → RegistersStand o s.registers registers
       → RegistersStand (record { registers = registers; sreg = sreg; base = base }) (entered s).registers registers
@@ -113,17 +114,17 @@ pub record EntriesAreTrue : Type 0 where
   pub formed : (s : AbsState) (offset : ℕ) → IsFormed s offset → IsFormed (entered s) 0
   pub more : (s t : AbsState) → length s.registers ≡ 32 → length t.registers ≡ 32 → IsStateWithin s t → IsStateWithin (entered s) (entered t)
 
--- the callee's frame began with what the caller was left with: its registers, and its flags 0 to 6
+-- the callee's frame began with these registers and with flags 0 to 6 of this status register
 pub record IsEnteredFrom (registers : List ℕ) (sreg : ℕ) (o : Origin) : Type 0 where
   pub registers_kept : o.registers ≡ registers
   pub flags_kept : o.sreg % 128 ≡ sreg % 128
 
--- what is known of pairs holds of the registers and of C, Z and S
+-- the facts hold of the registers and of C, Z and S
 abbrev pub HoldsAt : Option PairFacts → List ℕ → ℕ → Type 0
 HoldsAt x registers sreg = KnownHolds x registers (flag sreg 0) (flag sreg 1) (flag sreg 4)
 
--- A caller's state that stood when it was left, and a callee's that stands at its exit, give one that stands after the return, in the
--- caller's frame. A return may set I.
+-- If the caller's state held at the call and the callee's holds at its exit, the returned state holds in the caller's frame after the
+-- return. A return may set I.
 pub record ReturnsAreTrue : Type 0 where
   pub stands : (o callee : Origin) (caller exit : AbsState) (offset : ℕ) (left registers : List ℕ) (left_sreg sreg new : ℕ) (memory : Memory)
       → IsFormed caller offset → IsFormed exit 0
@@ -142,8 +143,7 @@ pub record ReturnsAreTrue : Type 0 where
       → (t' : AbsState) × (returned caller' exit' ≡ Some t') × IsStateWithin t t'
   pub none : (caller exit : AbsState) → length exit.registers ≡ 32 → returned caller exit ≡ None ↔ Conflict caller exit
 
--- The same of bytes, flags and slots alone: a caller's state that stood when it was left, and a callee's that stands at its exit, give one that stands after the return, in the
--- caller's frame. A return may set I.
+-- `ReturnsAreTrue` for registers, flags and slots alone.
 pub record BytesReturn : Type 0 where
   pub stands : (o callee : Origin) (caller exit : AbsState) (offset : ℕ) (left registers : List ℕ) (left_sreg sreg new : ℕ) (memory : Memory)
       → IsFormed caller offset → IsFormed exit 0
@@ -160,13 +160,12 @@ pub record BytesReturn : Type 0 where
       → (t' : AbsState) × (bytes_returned caller' exit' ≡ Some t') × IsStateWithin t t'
   pub none : (caller exit : AbsState) → length exit.registers ≡ 32 → bytes_returned caller exit ≡ None ↔ BytesConflict caller exit
 
--- Of two states of which the second says no more, they are the same or the second is further up; none is above the height of its number of
--- slots.
+-- A greater state is equal or of greater rank. No rank exceeds the height for its number of slots.
 pub record StatesRise : Type 0 where
   pub rises : (s t : AbsState) (offset : ℕ) → IsFormed s offset → IsFormed t offset → IsStateWithin s t → (s ≡ t) ⊎ (state_rank s < state_rank t)
   pub high : (s : AbsState) (offset : ℕ) → IsFormed s offset → state_rank s ≤ height_of offset
 
--- The numbers of tags fit after reset, at an entry, and where they fit in the caller's state after a return; and where less is said.
+-- Numbers in tags fit after reset, at an entry, after a return if they fit in the caller's state, and in greater states.
 pub record TagsStayFit : Type 0 where
   pub at_reset : TagsFit root
   pub at_entry : (s : AbsState) → TagsFit (entered s) × HasByteNumbers (entered s).flags.carry

@@ -1,4 +1,4 @@
--- What is known of one pair of registers, with the tags of its bytes. Source: own.
+-- One register pair of a state, with the tags of its bytes. Source: own.
 use Rattle.std.specs.Prelude.{ℕ, ◌+◌, ◌*◌, Bool, true, false, Option, Some, None, slice_set}
 use Rattle.pair_domain.specs.declared.facts.PairFacts.{PairFacts}
 use Rattle.pair_domain.specs.Facts.{interval_at}
@@ -7,18 +7,18 @@ use Rattle.abs_state.specs.declared.cuts.PairBytes.{PairBytes}
 use Rattle.abs_state.specs.declared.state.AbsState.{AbsState}
 use Rattle.abs_state.specs.Values.{valued, set_of, value_at}
 
--- without the tags
+-- the pair without its tags
 abbrev pub sets : PairBytes → PairSet
 sets p = record { low = set_of p.low; high = set_of p.high; interval = p.interval }
 
--- what a cut left, with the tags as they were
+-- a cut pair with the tags as before
 abbrev pub left_by : PairBytes → Option PairSet → Option PairBytes
 left_by p None = None
 left_by p (Some m) = Some (record { low = valued p.low.tag m.low; high = valued p.high.tag m.high; interval = m.interval })
 
 -- ---- in a state
 
--- pair 2 n, where pairs are followed
+-- pair 2 n, if pairs are followed
 abbrev pub pair_in : AbsState → ℕ → Option PairFacts → Option PairBytes
 pair_in s n None = None
 pair_in s n (Some f) =
@@ -31,7 +31,7 @@ abbrev pub with_interval : ℕ → PairBytes → Option PairFacts → Option Pai
 with_interval n p None = None
 with_interval n p (Some f) = Some (record f { intervals = slice_set f.intervals n p.interval })
 
--- the state with this in the place of pair 2 n
+-- the state with this pair as pair 2 n
 abbrev pub with_bytes : AbsState → ℕ → PairBytes → AbsState
 with_bytes s n p =
     record s { registers = slice_set (slice_set s.registers (2 * n) p.low) (2 * n + 1) p.high; facts = with_interval n p s.facts }
@@ -40,7 +40,7 @@ abbrev pub put : AbsState → ℕ → Option PairBytes → Option AbsState
 put s n None = None
 put s n (Some p) = Some (with_bytes s n p)
 
--- the state, where something is left
+-- the state, or none if nothing is left
 abbrev pub left_in : Bool → AbsState → Option AbsState
 left_in true s = Some s
 left_in false s = None

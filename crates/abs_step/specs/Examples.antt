@@ -1,4 +1,4 @@
--- Worked nodes: each line computes. Bits are looked at by rows of a program, and here where a node leads and where bytes come from.
+-- Worked nodes, each computed: targets and tags. The rows of `node_table` cover bits.
 use Rattle.std.specs.Prelude.{ℕ, ◌+◌, ◌≡◌, Bool, true, false, List, [], ◌∷◌, map, replicate, refl, slice_set, Option, Some, None}
 use Rattle.avr_model.specs.declared.assumption.Entry.TheVariants.{Jump, Store}
 use Rattle.avr_model.specs.Devices.{device_of}
@@ -45,14 +45,14 @@ firmware w0 w1 = w0 ∷ w1 ∷ replicate 16382 0xFFFF
 abbrev in_call : SpForm → NodeKey
 in_call sp = record { inst = record { kind = Call; entry = 0; masks = 0; i = true }; pc = 0; masks = 0; i = true; delay = false; sp = sp; pick = None }
 
--- with two registers that hold these values
+-- two registers hold these values
 abbrev with_pair : ℕ → AbsByte → AbsByte → AbsState
 with_pair r lo hi = record root { registers = slice_set (slice_set root.registers r lo) (r + 1) hi }
 
 abbrev from_base : ℕ → ℕ → AbsState
 from_base j k = with_pair 28 (with_bits (tag.SpLo j) unknown.bits) (with_bits (tag.SpHi k) unknown.bits)
 
--- what is looked at
+-- what the rows show
 abbrev words : Raw → List ℕ
 words r = map (λ n. n.key.pc) r.moves
 
@@ -77,7 +77,7 @@ leaves r = r.exit
 abbrev faults : Raw → List NodeFault
 faults r = r.faults
 
--- `subi r28, 32` of the low byte of base - 5 leaves its borrow, which `sbci r29, 1` takes
+-- `subi r28, 32` of the low byte of base - 5 leaves its borrow for `sbci r29, 1`
 leaves_its_borrow : carries (raw (firmware 0x52C0 0xFFFF) [] (in_call (Closed 0)) (from_base 5 5)) ≡ carry.Borrow 5 32 ∷ []
 unfolding raw table_site ijmp_from is_scratch any_below all_below decoded device_of is_frame
 leaves_its_borrow = refl
@@ -102,12 +102,12 @@ reads_a_slot : tags 16 (raw (firmware 0x8109 0xFFFF) [] (in_call (Closed 1)) wit
 unfolding raw table_site ijmp_from is_scratch any_below all_below decoded device_of read_at packed
 reads_a_slot = refl
 
--- `st X, r16` of an unknown byte, X at 0x003D, where 0x003D and 0x005D are listed: it changes nothing, or the two enable bits
+-- `st X, r16` of an unknown byte, with X = 0x003D, and 0x003D and 0x005D listed: nothing changes, or the two enable bits do
 stores_at_listed : enables (raw (firmware 0x930C 0xFFFF) (Store 0 (0x3D ∷ 0x5D ∷ []) ∷ []) (in_call (Closed 0)) (with_pair 26 (known 0x3D) (known 0))) ≡ 0 ∷ 0 ∷ 1 ∷ 2 ∷ 3 ∷ []
 unfolding raw table_site ijmp_from is_scratch is_fixed path_behind is_loaded_behind is_proved is_freed is_fixed_site store_line any_below all_below decoded device_of written_at numbers_of enable_tri row_of packed permits_below may_wake admits_enables has_masks
 stores_at_listed = refl
 
--- `ijmp` with Z at 5 goes to the one word of the line that Z permits
+-- `ijmp` with Z = 5 goes to the one listed word that Z permits
 jumps_to_listed : words (raw (firmware 0x9409 0xFFFF) (Jump 0 (5 ∷ 7 ∷ []) ∷ []) (in_call (Closed 0)) (with_pair 30 (known 5) (known 0))) ≡ 5 ∷ []
 unfolding raw table_site ijmp_from is_scratch jump_line any_below all_below decoded device_of numbers_of packed
 jumps_to_listed = refl
@@ -130,6 +130,6 @@ hangs : faults (raw (firmware 0x0000 0xFFFF) [] (record (in_call (Open 0 (Tagged
 unfolding raw table_site ijmp_from is_scratch any_below all_below decoded device_of may_come is_never
 hangs = refl
 
--- of two depths the lower one is told
+-- of two depths the smaller one is the fault
 tells_the_least : least (TooDeep 16 2050) (TooDeep 16 2049 ∷ []) ≡ TooDeep 16 2049
 tells_the_least = refl

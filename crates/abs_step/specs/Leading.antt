@@ -1,4 +1,4 @@
--- What the code does for a whole Raw: nodes are put into a list, and what leaves the instance is told, or the fault that counts.
+-- What the code does for a whole `Raw`: it inserts nodes into a list and returns the calls and the return, or the fault that counts.
 use Rattle.std.specs.Prelude.{ℕ, ◌≡◌, ◌≢◌, List, [], Option, Some, None, Result, Ok, Err}
 use Rattle.std.specs.Global.{Vec}
 use Rattle.sb_base.specs.Answers.{Answers}
@@ -10,12 +10,12 @@ use Rattle.local_rules.specs.Local.{settled}
 use Rattle.abs_step.specs.Adding.{Moving, with_nodes, first_fault}
 use Rattle.abs_step.specs.declared.flow.Outgoing.{Outgoing}
 
--- the words to which an indirect transfer at pc may lead, or that they are too many
+-- the possible targets of an indirect transfer at pc, or the fault that there are too many
 abbrev pub FindsWords : Result (Vec ℕ) NodeFault → Option (List ℕ) → ℕ → Type 0
 FindsWords (Ok words) due pc = due ≡ Some words.items
 FindsWords (Err f) due pc = f ≢ Memory → (due ≡ None) × (f ≡ UnresolvedJump pc)
 
--- the list has got the nodes, and the calls and the return are told
+-- the nodes were inserted, and the calls and the return are given
 pub record IsLed (old new : Moving) (o : Outgoing) (r : Raw) : Type 0 where
   pub faults : r.faults ≡ []
   pub nodes : new ≡ with_nodes old r.moves
@@ -26,6 +26,6 @@ abbrev pub LeadsOn : Moving → Moving → Result Outgoing NodeFault → Raw →
 LeadsOn old new (Ok o) r = IsLed old new o r
 LeadsOn old new (Err f) r = f ≢ Memory → first_fault r.faults ≡ Some f
 
--- the one answer that is due for a Raw, unless memory was wanting
+-- the one answer that is due for a `Raw`, unless memory runs out
 abbrev pub Settles : Result Local NodeFault → Raw → Type 0
 Settles result r = Answers (λ l. l) Memory result (settled r r.faults)

@@ -1,4 +1,4 @@
--- Tests whose outcome cuts a state, where pairs are followed.
+-- Tests that cut a state, if pairs are followed.
 use Rattle.std.specs.Prelude.{◌<◌, ⊤, Bool, Option}
 use Rattle.abs_state.specs.declared.state.AbsState.{AbsState}
 use Rattle.pair_cuts.specs.Cuts.{flag_cut, bit_cut, equal_cut}
@@ -11,7 +11,7 @@ IsTest (Flag n) = n < 7
 IsTest (Bit r b) = b < 8
 IsTest (Equal d r) = ⊤
 
--- the state in which the test comes out so
+-- the state if the test has this outcome
 abbrev pub cut_by : Test → Bool → AbsState → Option AbsState
 cut_by (Flag n) on s = flag_cut n on s
 cut_by (Bit r b) on s = bit_cut r b on s

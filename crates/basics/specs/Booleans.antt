@@ -1,4 +1,4 @@
--- What tests say: facts on booleans and on what a comparison answers, beside those of std.
+-- Facts on booleans and on the answers of comparisons, beside those of std.
 use Rattle.std.proofs.Common.{◌≡◌, refl, sym, subst, Bool, true, false, not, ◌&&◌, ◌||◌, T, Ordering, Less, Equal, Greater, is_lt, arith}
 
 pub left_of_and : (a b : Bool) → (a && b) ≡ true → a ≡ true

@@ -1,4 +1,4 @@
--- What is in a list, and what holds of each item.
+-- Membership in a list, and properties of all items.
 use Rattle.std.proofs.Common.{◌≡◌, refl, sym, subst, ℕ, zero, suc, ◌+◌, ◌<◌, ◌≤◌, ◌⊎◌, inl, inr, ⊎_elim, List, [], ◌∷◌, ◌++◌, length, get_or, take, take_all, flat_map, Some, slice_get, slice_index_or, Contains, arith}
 use Rattle.std.specs.List.{AllByRecursion}
 use Rattle.std.proofs.lemmas.List.{take_more}
@@ -27,7 +27,7 @@ first_or_further y x xs h = at_index y x xs h.0 h.1 h.2
 pub only_one_in : {X : Type 0} (x y : X) → Contains (x ∷ []) y → y ≡ x
 only_one_in x y h = ⊎_elim (λ e. e) (λ i. absurd (none_in y i)) (first_or_further x y [] h)
 
--- what is read is contained, and what is contained can be read
+-- a contained item is at some place, and the item at a place is contained
 pub contained_at : {X : Type 0} (xs : List X) (i : ℕ) (x : X) → slice_get xs i ≡ Some x → Contains xs x
 contained_at xs i x e = (i, slice_get_within xs i x e, get_or_from_slice_get xs i x x e)
 

@@ -1,4 +1,4 @@
--- Facts on whole numbers, and on the tests of them.
+-- Facts on natural numbers and on tests of them.
 use Rattle.std.proofs.Common.{◌≡◌, ap, ◌∙◌, ℕ, suc, ◌+◌, ◌-◌, ◌*◌, ◌/◌, ◌%◌, ◌<◌, ◌≤◌, ◌==◌, max, nat_lt, nat_le, Bool, true, ◌⊎◌, ⊎_elim, mul-le-mul, arith}
 use Rattle.std.proofs.lemmas.Bool.{cases_lt}
 use Rattle.std.proofs.lemmas.Bool.Decides.{nat_tests}

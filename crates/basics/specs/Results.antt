@@ -1,8 +1,8 @@
--- What holds of a result, whichever it is.
+-- A property of a result, by its kind.
 use Rattle.std.proofs.Common.{Result, Ok, Err}
 use Rattle.std.specs.Result.{OnErr}
 
--- what holds anyway holds of a fault
+-- P holds of a fault if it holds anyway
 pub on_err : {X E : Type 0} (r : Result X E) (P : Type 0) → P → OnErr r P
 on_err (Ok x) P p = tt
 on_err (Err e) P p = p

@@ -1,4 +1,4 @@
--- How the nodes of a family return.
+-- The exits of the nodes of a family.
 use Rattle.std.specs.Prelude.{ℕ, ◌≡◌, ◌<◌, List, length, Option, Some, Result, Ok, Err, Contains, slice_get}
 use Rattle.avr_model.specs.declared.assumption.Entry.{Entry}
 use Rattle.avr_model.specs.Devices.{Program}
@@ -12,13 +12,13 @@ use Rattle.call_graph.specs.declared.exit_list.Leaving.{Leaving}
 use Rattle.call_graph.specs.declared.exit_list.Leaving.TheVariants.{All, Fault}
 use Rattle.call_graph.specs.Next.{exit_in}
 
--- no node has a fault, and these are their exits, by their numbers
+-- no node has a fault, and these are their exits, by number
 pub record AreExits (words : Program) (A : List Entry) (nodes : List Node) (exits : List (Option Exit)) : Type 0 where
   pub count : length exits ≡ length nodes
   pub faultless : (n : Node) → Contains nodes n → IsFaultless words A n
   pub each : (at : ℕ) (n : Node) → slice_get nodes at ≡ Some n → slice_get exits at ≡ Some (raw_of words A n).exit
 
--- the node of this number has this fault, and none before it has one
+-- the node of this number has this fault, and no node before it has one
 pub record IsFirstFault (words : Program) (A : List Entry) (nodes : List Node) (at : ℕ) (f : NodeFault) : Type 0 where
   pub node : Node
   pub present : slice_get nodes at ≡ Some node
@@ -37,7 +37,7 @@ abbrev pub exit_or : Result Local NodeFault → Result (Option Exit) NodeFault
 exit_or (Ok l) = Ok l.exit
 exit_or (Err f) = Err f
 
--- as far as exits are given, they are those of the nodes
+-- each given exit is the node's
 abbrev pub AreExitsKnown : Program → List Entry → List Node → List (Option Exit) → Type 0
 AreExitsKnown words A nodes known =
     (at : ℕ) (n : Node) (x : Option Exit) → slice_get nodes at ≡ Some n → slice_get known at ≡ Some x → x ≡ exit_in (local words A n.key n.state)

@@ -1,4 +1,4 @@
--- What an expansion answers.
+-- The answer of an expansion.
 use Rattle.std.specs.Prelude.{ℕ, Bool, ◌≡◌, ◌<◌, ⊤, List, Some}
 use Rattle.std.specs.List.{slice_get}
 use Rattle.avr_model.specs.declared.assumption.Entry.{Entry}
@@ -16,11 +16,11 @@ abbrev pub IsExpanded : Program → List Entry → Seeds → Expanded → Type 0
 IsExpanded words A nodes (Whole filled) = IsFilled words A nodes filled
 IsExpanded words A nodes (Missing at) = IsMissing words A nodes at
 
--- each of them is a node that the analysis works with, where pairs are followed or where they aren't
+-- each is a node of the analysis, which follows pairs as `followed` says
 abbrev pub AreNumbered : Bool → List Node → Type 0
 AreNumbered followed nodes = (i : ℕ) (n : Node) → slice_get nodes i ≡ Some n → IsNodeIn followed n.key n.state
 
--- a node that comes from another comes from one of the first
+-- a node that comes from another comes from one of these first ones
 abbrev pub ComesFromBelow : NodeForm → ℕ → Type 0
 ComesFromBelow (form.State s) count = ⊤
 ComesFromBelow (form.From m) count = m < count

@@ -1,4 +1,4 @@
--- Where the edges of a family land, by the numbers of its nodes. Source: own.
+-- The targets of a family's edges, by the numbers of their nodes. Source: own.
 use Rattle.std.specs.Prelude.{ℕ, ◌≡◌, ◌<◌, ◌↔◌, List, [], ◌∷◌, length, Option, Some, None, Contains, slice_get, slice_index_or}
 use Rattle.std.specs.List.{flat_map}
 use Rattle.avr_model.specs.declared.assumption.Entry.{Entry}
@@ -11,23 +11,23 @@ use Rattle.edge_rules.specs.Families.{AreFaultless}
 use Rattle.edge_rules.specs.Views.{place_of}
 use Rattle.call_graph.specs.declared.landing.Landing.{Landing}
 
--- an edge of the family leads from this node so, and lands at the node of this number
+-- an edge of this kind leads from this node to the node of this number
 pub record IsLanding (words : Program) (A : List Entry) (nodes : List Node) (n : Node) (l : Landing) : Type 0 where
   pub edge : Edge
   pub is : IsEdge words A nodes n edge
   pub kind : l.kind ≡ edge.kind
   pub at : place_of edge.to nodes ≡ Some l.at
 
--- these are all landings of the node
+-- these are exactly the landings of the node
 abbrev pub AreLandingsOf : Program → List Entry → List Node → Node → List Landing → Type 0
 AreLandingsOf words A nodes n landings = (l : Landing) → Contains landings l ↔ IsLanding words A nodes n l
 
--- those of the first nodes, by their numbers
+-- the landings of the first nodes, by number
 pub record AreLandingsTo (words : Program) (A : List Entry) (nodes : List Node) (count : ℕ) (all : List (List Landing)) : Type 0 where
   pub count_is : length all ≡ count
   pub each : (at : ℕ) (n : Node) → at < count → slice_get nodes at ≡ Some n → AreLandingsOf words A nodes n (slice_index_or all at [])
 
--- no node has a fault, and these are the landings of each, by their numbers
+-- no node has a fault, and these are the landings of each, by number
 pub record AreLandings (words : Program) (A : List Entry) (nodes : List Node) (all : List (List Landing)) : Type 0 where
   pub faultless : AreFaultless words A nodes
   pub are : AreLandingsTo words A nodes (length nodes) all
@@ -38,7 +38,7 @@ abbrev pub landing_at : EdgeKind → Option ℕ → List Landing
 landing_at kind None = []
 landing_at kind (Some at) = record { kind = kind; at = at } ∷ []
 
--- where one edge lands, if it does
+-- the landing of an edge, if its target is in the family
 abbrev pub landing_of : List Node → Edge → List Landing
 landing_of nodes e = landing_at e.kind (place_of e.to nodes)
 

@@ -24,7 +24,7 @@ use Rattle.call_graph.specs.Ways.{ways_of}
 abbrev pub HasAll : Program → List Entry → Seeds → Type 0
 HasAll words A nodes = (at : ℕ) → at < length nodes → (s : AbsState) × IsExpansion words A nodes at s
 
--- All states are given exactly where each node has one, the least node without one exactly where there is one, and there is one answer.
+-- The answer has all states exactly if each node has one, and else the least node without one. It is unique.
 pub record AnswersAreExact : Type 0 where
   pub whole : (words : Program) (A : List Entry) (nodes : Seeds) (answer : Expanded) → IsExpanded words A nodes answer
       → ((filled : List Node) × (answer ≡ Whole filled)) ↔ HasAll words A nodes
@@ -32,7 +32,7 @@ pub record AnswersAreExact : Type 0 where
       → (answer ≡ Missing at) ↔ IsMissing words A nodes at
   pub one : (words : Program) (A : List Entry) (nodes : Seeds) (a b : Expanded) → IsExpanded words A nodes a → IsExpanded words A nodes b → a ≡ b
 
--- Exits are given exactly where no node has a fault, the first fault exactly where there is one, and there is one answer.
+-- The answer has all exits exactly if no node has a fault, and else the first fault. It is unique.
 pub record ExitsAreExact : Type 0 where
   pub whole : (words : Program) (A : List Entry) (nodes : List Node) (answer : Leaving) → GivesExits words A nodes answer
       → ((exits : List (Option Exit)) × (answer ≡ All exits)) ↔ AreFaultless words A nodes
@@ -40,8 +40,8 @@ pub record ExitsAreExact : Type 0 where
       → (answer ≡ Fault at f) ↔ IsFirstFault words A nodes at f
   pub one : (words : Program) (A : List Entry) (nodes : List Node) (a b : Leaving) → GivesExits words A nodes a → GivesExits words A nodes b → a ≡ b
 
--- The local part of a node has what its edges have: it has one exactly without a fault, with its successors, its exit, and calls of
--- which the ways into other instances are made.
+-- The local part of a node agrees with its edges: it exists exactly if the node has no fault, and has the same successors, exit, and
+-- calls.
 pub record LocalPartsAreEdges : Type 0 where
   pub faultless : (words : Program) (A : List Entry) (n : Node) → ((l : Local) × (local words A n.key n.state ≡ Ok l)) ↔ IsFaultless words A n
   pub same : (words : Program) (A : List Entry) (n : Node) (l : Local) → local words A n.key n.state ≡ Ok l → l.same ≡ joined_onto [] (raw_of words A n).moves

@@ -1,4 +1,4 @@
--- The edges from a node, in the code's order.
+-- The edges from a node, in the order of the code.
 use Rattle.std.specs.Prelude.{ℕ, if◌then◌else◌, List, [], ◌∷◌, ◌++◌, map, Option, Some, None, Result, Ok, Err}
 use Rattle.avr_model.specs.declared.assumption.Entry.{Entry}
 use Rattle.avr_model.specs.Devices.{Program}
@@ -28,12 +28,12 @@ local_edge n = record { kind = kind.Local; to = n.key; state = n.state }
 abbrev pub entry_edge : AbsState → Way → Edge
 entry_edge s w = record { kind = w.kind; to = entry_key w.inst; state = entered s }
 
--- a node with a fault has no exit
+-- the exit of a node; none if it has a fault
 abbrev pub exit_in : Result Local NodeFault → Option Exit
 exit_in (Ok l) = l.exit
 exit_in (Err f) = None
 
--- where an exit leads a node that entered this way, if what is known at both goes together
+-- the target of a return to a node that entered this way; none if the states conflict
 abbrev pub returned_as : NodeKey → Way → Exit → Option AbsState → Option Node
 returned_as k w x None = None
 returned_as k w x (Some s) = Some (record { key = returned_key w.kind k w.back x; state = s })
@@ -49,20 +49,20 @@ abbrev pub returned_by : NodeKey → AbsState → Way → Option Exit → AbsSta
 returned_by k s w None t = []
 returned_by k s w (Some x) t = edge_back (returned_node k s w x t)
 
--- back from a node
+-- the edges by which a node's exit returns
 abbrev pub return_edges : Program → List Entry → NodeKey → AbsState → Way → Node → List Edge
 return_edges words A k s w leaver = returned_by k s w (exit_in (local words A leaver.key leaver.state)) leaver.state
 
--- what each gives, one after the other
+-- the items that each gives, in order
 abbrev pub gathered : {X Y : Type 0} → (X → List Y) → List X → List Y
 gathered f [] = []
 gathered f (x ∷ xs) = f x ++ gathered f xs
 
--- back from a node, if it is of the entered instance
+-- the return edges of a node, if it is of the entered instance
 abbrev pub return_if : Program → List Entry → NodeKey → AbsState → Way → Node → List Edge
 return_if words A k s w n = if same_inst n.key.inst w.inst then return_edges words A k s w n else []
 
--- back from the nodes of the entered instance
+-- the return edges of the entered instance's nodes
 abbrev pub returns_in : Program → List Entry → NodeKey → AbsState → List Node → Way → List Edge
 returns_in words A k s nodes w = gathered (return_if words A k s w) nodes
 

@@ -1,4 +1,4 @@
--- The ways out of a node's frame into other instances, in the code's order. An interrupt goes to its vector's word on the device.
+-- Entries of other instances from a node, in the order of the code. An interrupt goes to its vector's word on the device.
 use Rattle.std.specs.Prelude.{ℕ, suc, zero, ◌+◌, ◌==◌, ◌&&◌, Bool, true, false, not, if◌then◌else◌, List, [], ◌∷◌, ◌++◌, map}
 use Rattle.avr_model.specs.declared.assumption.Entry.{Entry}
 use Rattle.avr_model.specs.Devices.{Program, device_of}
@@ -22,12 +22,12 @@ vector_way words k v clears = record { kind = kind.Interrupt v clears; inst = ve
 abbrev pub may_enter : Program → List Entry → NodeKey → ℕ → Bool
 may_enter words A k v = is_enabled k.masks v && not (is_never A (vector_word (device_of words) v))
 
--- an interrupt that may come; the watchdog's in both ways
+-- the entries by an interrupt that may be taken; the watchdog's has two
 abbrev pub at_vector : Program → List Entry → NodeKey → ℕ → List Way
 at_vector words A k v =
     if may_enter words A k v then (vector_way words k v false ∷ (if v == WATCHDOG then vector_way words k v true ∷ [] else [])) else []
 
--- those of so many vectors, from 2 on
+-- the entries by this many vectors, from 2 on
 unfoldable pub vectors_below : Program → List Entry → NodeKey → ℕ → List Way
 vectors_below words A k zero = []
 vectors_below words A k (suc n) = vectors_below words A k n ++ at_vector words A k (n + 2)

@@ -1,4 +1,4 @@
--- What is worked out on the way to a verdict.
+-- Intermediate results of a verdict.
 use Rattle.std.specs.Prelude.{ℕ, Bool, suc, ◌+◌, ◌≡◌, ◌≢◌, ◌<◌, ◌≤◌, ◌↔◌, ◌⊎◌, ◌==◌, ◌&&◌, ◌||◌, nat_lt, nat_le, if◌then◌else◌, List, [], ◌∷◌, ◌++◌, length, Option, Some, None, map, Contains}
 use Rattle.std.specs.List.{slice_get, flat_map, AllByRecursion}
 use Rattle.std.specs.List.Sorted.{IsStrictlySortedBy}
@@ -38,26 +38,26 @@ use Rattle.cert_check.specs.Verdict.{IsGap, AllLanded, IsFirstGap, IsLeastReason
 
 -- ---- the least of what the items of a list offer
 
--- An item is clear, or it offers a key. All are clear; or this key is offered, and none that is offered is below it.
+-- An item is clear or offers a key. All are clear, or this key is the least that is offered.
 abbrev pub IsLeastOffered : {X K : Type 0} → (X → Type 0) → (X → K → Type 0) → (K → K → Type 0) → List X → Option K → Type 0
 IsLeastOffered {X} {K} clear offers below xs None = (x : X) → Contains xs x → clear x
 IsLeastOffered {X} {K} clear offers below xs (Some k) = ((x : X) × (Contains xs x × offers x k)) × ((x : X) (m : K) → Contains xs x → offers x m → below k m)
 
--- what is least after one item more: the same where it is clear, else the lesser of that and the only one that it offers
+-- the least key after one more item: unchanged if the item is clear, else the lesser of it and the item's only key
 abbrev pub IsOfferNoted : {X K : Type 0} → (X → Type 0) → (X → K → Type 0) → (Option K → K → K) → Option K → X → Option K → Type 0
 IsOfferNoted {X} {K} clear offers lesser old x new =
     (clear x × (new ≡ old)) ⊎ ((k : K) × (offers x k × ((m : K) → offers x m → m ≡ k) × (new ≡ Some (lesser old k))))
 
 -- ---- edges that don't land
 
--- the nodes with their states have the keys of the certificate's own, in their order
+-- the expanded nodes have the keys of the certificate's own, in the same order
 abbrev pub AreBeside : Seeds → List Node → Type 0
 AreBeside own nodes = map key_of nodes ≡ node_keys own
 
 abbrev pub LeadsToNode : Bool → Seeds → List Node → Edge → Type 0
 LeadsToNode followed own nodes e = LandsOpen followed own nodes (target e)
 
--- an edge that doesn't land offers its key
+-- an edge that does not land offers its key
 abbrev pub GapAt : Bool → Seeds → List Node → Edge → NodeKey → Type 0
 GapAt followed own nodes e k = (e.to ≡ k) × IsGap followed own nodes e
 
@@ -68,7 +68,7 @@ abbrev pub lesser_key : Option NodeKey → NodeKey → NodeKey
 lesser_key None k = k
 lesser_key (Some b) k = if is_le (node_cmp b k) then b else k
 
--- edges lead to nodes that the analysis works with
+-- edges lead to nodes of the analysis
 abbrev pub AreTargets : List Edge → Type 0
 AreTargets edges = (e : Edge) → Contains edges e → IsOwnNode e.to e.state
 
@@ -79,7 +79,7 @@ pub record AreInstances (insts : List Inst) : Type 0 where
   pub ascend : IsStrictlySortedBy inst_cmp (inst_keys insts)
   pub few : length insts ≤ most_instances
 
--- the number of the instance of a key
+-- the number of a key's instance
 abbrev pub place_in : List Inst → InstKey → ℕ
 place_in [] key = 0
 place_in (x ∷ xs) key = if same_inst x.key key then 0 else suc (place_in xs key)
@@ -92,7 +92,7 @@ abbrev pub need_of : Option Inst → ℕ
 need_of None = 0
 need_of (Some x) = x.need
 
--- by the number of an instance
+-- the rank by the number of an instance
 abbrev pub rank_at : List Inst → ℕ → ℕ
 rank_at insts j = rank_of (slice_get insts j)
 
@@ -111,18 +111,18 @@ entry_demand insts j offset e =
     then record { inst = j; into = Some (place_in insts e.to.inst); bytes = offset + 2 + need_at insts (place_in insts e.to.inst) } ∷ []
     else []
 
--- what a node of this key with these edges asks
+-- the demands of a node with this key and these edges
 abbrev pub demands_of : List Inst → NodeKey → List Edge → List Demand
 demands_of insts k edges = offset_demand (place_in insts k.inst) k.sp ++ flat_map (entry_demand insts (place_in insts k.inst) (offset_of k.sp)) edges
 
--- A node asks of its instance a closed offset; and of each way in that it has into another, a higher rank, and the offset with two bytes and
--- what that one needs.
+-- A node demands a closed offset of its instance. For each entry of another instance it demands a higher rank, and that instance's need
+-- plus the offset and two bytes.
 pub data Asks (words : Program) (A : List Entry) (insts : List Inst) (n : Node) : Demand → Type 0 where
   offset : (o : ℕ) → n.key.sp ≡ Closed o → Asks words A insts n (record { inst = place_in insts n.key.inst; into = None; bytes = o })
   entry : (way : EdgeKind) (inst : InstKey) (back : ℕ) → Enters words A n way inst back
       → Asks words A insts n (record { inst = place_in insts n.key.inst; into = Some (place_in insts inst); bytes = offset_of n.key.sp + 2 + need_at insts (place_in insts inst) })
 
--- some of these nodes asks this
+-- some of these nodes makes this demand
 pub record IsAsked (words : Program) (A : List Entry) (insts : List Inst) (nodes : List Node) (d : Demand) : Type 0 where
   pub node : Node
   pub present : Contains nodes node
@@ -131,22 +131,22 @@ pub record IsAsked (words : Program) (A : List Entry) (insts : List Inst) (nodes
 abbrev pub AreDemands : Program → List Entry → List Inst → List Node → List Demand → Type 0
 AreDemands words A insts nodes demands = (d : Demand) → Contains demands d ↔ IsAsked words A insts nodes d
 
--- the instances of all nodes are there
+-- the instances of all nodes are in the list
 abbrev pub AllBelong : List Inst → List Node → Type 0
 AllBelong insts nodes = (n : Node) → Contains nodes n → Contains (inst_keys insts) n.key.inst
 
--- all edges land, these are the demands, and here the edges of each node land; else the first gap
+-- all edges land, these are the demands, and the landings of each node; else the first gap
 abbrev pub IsGathering : Program → List Entry → Seeds → List Inst → List Node → Gathering → Type 0
 IsGathering words A own insts nodes (Gap j to) = IsFirstGap words A own nodes j to
 IsGathering words A own insts nodes (All g) = AllLanded words A own nodes × AreDemands words A insts nodes g.demands.items × AreLandings words A nodes g.landings
 
 -- ---- which demands aren't met
 
--- instances by their numbers, the entering one first
+-- instances by number, the entering one first
 abbrev pub Pair : Type 0
 Pair = ℕ × ℕ
 
--- the rank of an instance is above that of one that it enters
+-- the rank of an instance is above that of the entered one
 abbrev pub MeetsRank : List Inst → Demand → Type 0
 MeetsRank insts d = (l : ℕ) → d.into ≡ Some l → rank_at insts l < rank_at insts d.inst
 
@@ -173,16 +173,16 @@ abbrev pub lesser_number : Option ℕ → ℕ → ℕ
 lesser_number None j = j
 lesser_number (Some i) j = if nat_le i j then i else j
 
--- the most that is asked of an instance, and 0 where nothing is
+-- the greatest demand on an instance, 0 if there is none
 pub record IsMost (demands : List Demand) (j most : ℕ) : Type 0 where
   pub above : (d : Demand) → Contains demands d → d.inst ≡ j → d.bytes ≤ most
   pub attained : (most ≡ 0) ⊎ ((d : Demand) × (Contains demands d × (d.inst ≡ j) × (d.bytes ≡ most)))
 
--- the most after one demand more
+-- the greatest demand after one more
 abbrev pub more_asked : ℕ → ℕ → Demand → ℕ
 more_asked most j d = if (d.inst == j) && nat_lt most d.bytes then d.bytes else most
 
--- the numbers of instances are below that of all
+-- the numbers of instances are below their count
 abbrev pub IsInside : List Inst → Demand → Type 0
 IsInside insts d = (d.inst < length insts) × ((l : ℕ) → d.into ≡ Some l → l < length insts)
 
@@ -195,7 +195,7 @@ RanksFall insts demands = (d : Demand) → Contains demands d → MeetsRank inst
 abbrev pub AllMet : List Inst → List Demand → Type 0
 AllMet insts demands = (d : Demand) → Contains demands d → MeetsNeed insts d
 
--- the verdict where all edges land and these are the demands
+-- the verdict if all edges land and these are the demands
 abbrev pub IsWeighed : Program → Claim → List Entry → List Demand → Verdict → Type 0
 IsWeighed words c A demands (Accepted bound) =
     RanksFall c.instances demands × AllMet c.instances demands × IsBounded words c × (c.assumptions ≡ A) × (bound ≡ c.bound)
@@ -208,17 +208,17 @@ IsWeighed words c A demands (Rejected reason.Assumptions) =
     RanksFall c.instances demands × AllMet c.instances demands × IsBounded words c × (c.assumptions ≢ A)
 IsWeighed words c A demands (Rejected r) = ⊥
 
--- the verdict on the nodes with their states
+-- the verdict on the expanded nodes
 abbrev pub Decides : Program → List Entry → Claim → List Node → Verdict → Type 0
 Decides words A c nodes (Accepted bound) = MeetsConditions words A c nodes × (bound ≡ c.bound)
 Decides words A c nodes (Rejected r) = IsLeastReason words A c nodes r
 
--- the same with where the edges of each node land, in place of the bound
+-- the verdict on the expanded nodes, with the landings of each node in place of the bound
 abbrev pub SettlesClaim : Program → List Entry → Claim → List Node → Settled → Type 0
 SettlesClaim words A c nodes (Met landings) = MeetsConditions words A c nodes × AreLandings words A nodes landings
 SettlesClaim words A c nodes (Refused r) = IsLeastReason words A c nodes r
 
--- all edges of the nodes below this number land, and what is listed is asked, and what those nodes ask is listed
+-- all edges of the nodes below this number land, and the listed demands are exactly theirs
 pub record IsMidway (words : Program) (A : List Entry) (own : Seeds) (insts : List Inst) (nodes : List Node) (at : ℕ) (demands : List Demand) : Type 0 where
   pub land : (i : ℕ) (n : Node) (e : Edge) → slice_get nodes i ≡ Some n → i < at → IsEdge words A nodes n e → LandsOpen (has_pairs A) own nodes (target e)
   pub asked : (d : Demand) → Contains demands d → IsAsked words A insts nodes d
@@ -228,7 +228,7 @@ pub record IsMidway (words : Program) (A : List Entry) (own : Seeds) (insts : Li
 abbrev pub AreGathered : Program → List Entry → Claim → List Node → ℕ → LandedNodes → Type 0
 AreGathered words A c nodes at g = IsMidway words A c.nodes c.instances nodes at g.demands.items × AreLandingsTo words A nodes at g.landings
 
--- and the node of this number, where all its edges land
+-- the node of this number is gathered too, if all its edges land
 abbrev pub IsNodeGathered : Program → List Entry → Claim → List Node → ℕ → Option NodeKey → LandedNodes → Type 0
 IsNodeGathered words A c nodes at None g = AreGathered words A c nodes (at + 1) g
 IsNodeGathered words A c nodes at (Some to) g = IsFirstGap words A c.nodes nodes at to

@@ -14,11 +14,11 @@ use Rattle.cert_check.specs.Verdict.{IsVerdict}
 abbrev pub VerdictsAreOne : Type 0
 VerdictsAreOne = (words : Program) (A : List Entry) (c : Claim) (v w : Verdict) → IsClaim c → IsVerdict words A c v → IsVerdict words A c w → v ≡ w
 
--- where all conditions but that on the schedule hold, every run from reset keeps the bound
+-- if all conditions but that on the schedule hold, every run from reset stays within the bound
 abbrev pub SoundCertificatesBoundEveryRun : Type 0
 SoundCertificatesBoundEveryRun = (words : Program) (A : List Entry) (c : Claim) → AreWords words → IsClaim c → IsSound words A c → Bounded words A c.bound
 
--- a certificate is valid exactly where the verdict accepts it and its schedule, if it has one, attains its bound
+-- a certificate is valid exactly if the verdict accepts it and its schedule, if it has one, attains the bound
 abbrev pub ValidWhereAcceptedAndAttained : Type 0
 ValidWhereAcceptedAndAttained = (words : Program) (A : List Entry) (c : Claim)
     → IsValid words A c ↔ (IsVerdict words A c (Accepted c.bound) × IsAttained words A c.bound c.witness)

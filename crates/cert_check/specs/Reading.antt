@@ -1,5 +1,5 @@
--- Certificates that are judged under a list with the line `pairs` where their own has none, or the other way round: how their states are read,
--- and where edges land. Source: own.
+-- Certificates judged under a list with the line `pairs` if their own has none, or the other way round: how their states are read, and
+-- which edges land. Source: own.
 use Rattle.std.specs.Prelude.{Bool, true, false, ⊤, List, map, Contains, Option, Some, None}
 use Rattle.pair_domain.specs.declared.facts.PairFacts.{PairFacts}
 use Rattle.pair_domain.specs.Facts.{nothing, IsKnownWithin}
@@ -15,12 +15,12 @@ use Rattle.certificate.specs.Hulls.{hulls_of}
 
 -- ---- how states are read
 
--- what the bytes of the registers say of pairs
+-- the facts on pairs that the bytes of registers imply
 abbrev pub hulled : List AbsByte → PairFacts
 hulled registers = record nothing { intervals = hulls_of registers }
 
--- Where pairs aren't followed, nothing is read of them. Where they are, what a state says of them is read, and of one that says nothing at all
--- what its bytes say.
+-- If pairs aren't followed, facts are dropped. If they are, a state's facts are kept, and a state without facts gets those that its bytes
+-- imply.
 abbrev pub facts_read : Bool → List AbsByte → Option PairFacts → Option PairFacts
 facts_read false registers x = None
 facts_read true registers None = Some (hulled registers)
@@ -36,22 +36,22 @@ read_form followed (From m) = From m
 abbrev pub read_seed : Bool → NodeKey × NodeForm → NodeKey × NodeForm
 read_seed followed e = (e.0, read_form followed e.1)
 
--- the nodes of a certificate, where pairs are followed or where they aren't
+-- the nodes of a certificate, read with pairs or without
 abbrev pub read_seeds : Bool → Seeds → Seeds
 read_seeds followed nodes = map (read_seed followed) nodes
 
 -- ---- where edges land
 
--- the node's own state, if it has one, says nothing of pairs
+-- the node's own state, if it has one, has no facts on pairs
 abbrev pub TellsNothing : NodeForm → Type 0
 TellsNothing (State s) = IsKnownWithin (Some nothing) s.facts
 TellsNothing (From m) = ⊤
 
--- Where pairs aren't followed, no edge says anything of them, so none lands at a node whose own state does.
+-- If pairs aren't followed, no edge has facts on pairs, so none lands at a node whose own state has some.
 abbrev pub IsOpen : Bool → Seeds → NodeKey → Type 0
 IsOpen true own k = ⊤
 IsOpen false own k = (form : NodeForm) → Contains own (k, form) → TellsNothing form
 
--- a node with the key is there, open, and with a state at least this one; the certificate's own nodes are given beside those with their states
+-- a node with the key exists, is open, and has a state above this one; `own` are the certificate's nodes before expansion
 abbrev pub LandsOpen : Bool → Seeds → List Node → Node → Type 0
 LandsOpen followed own nodes n = IsCovered nodes n × IsOpen followed own n.key

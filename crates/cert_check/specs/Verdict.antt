@@ -1,4 +1,4 @@
--- What is said of a certificate but for its schedule: acceptance, or the least reason against it with its least numbers. Source: own.
+-- The verdict on a certificate but for its schedule: acceptance, or the first reason against it with its least numbers. Source: own.
 use Rattle.std.specs.Prelude.{ℕ, Bool, ◌≡◌, ◌≢◌, ◌<◌, ◌≤◌, List, Contains, Some, Err}
 use Rattle.std.specs.List.{slice_get}
 use Rattle.std.specs.declared.cmp.Ordering.TheVariants.{Greater}
@@ -40,7 +40,7 @@ pub record IsFirstFaultOfCause (words : Program) (A : List Entry) (nodes : List 
   pub which : cause_of fault ≡ cause
   pub earlier : (i : ℕ) (n : Node) → slice_get nodes i ≡ Some n → i < j → IsFaultless words A n
 
--- the edge doesn't land
+-- the edge does not land
 abbrev pub IsGap : Bool → Seeds → List Node → Edge → Type 0
 IsGap followed own nodes e = LandsOpen followed own nodes (target e) → ⊥
 
@@ -48,7 +48,7 @@ IsGap followed own nodes e = LandsOpen followed own nodes (target e) → ⊥
 abbrev pub AllLanded : Program → List Entry → Seeds → List Node → Type 0
 AllLanded words A own nodes = (n : Node) (e : Edge) → Contains nodes n → IsEdge words A nodes n e → LandsOpen (has_pairs A) own nodes (target e)
 
--- Node j has an edge to this key that doesn't land, and none to a lesser key; all edges of earlier nodes land.
+-- Node j has an edge to this key that does not land, and none to a smaller key; all edges of earlier nodes land.
 pub record IsFirstGap (words : Program) (A : List Entry) (own : Seeds) (nodes : List Node) (j : ℕ) (to : NodeKey) : Type 0 where
   pub node : Node
   pub is : slice_get nodes j ≡ Some node
@@ -59,7 +59,7 @@ pub record IsFirstGap (words : Program) (A : List Entry) (own : Seeds) (nodes : 
   pub least : (e : Edge) → IsEdge words A nodes node e → IsGap (has_pairs A) own nodes e → node_cmp to e.to ≢ Greater
   pub earlier : (i : ℕ) (n : Node) (e : Edge) → slice_get nodes i ≡ Some n → i < j → IsEdge words A nodes n e → LandsOpen (has_pairs A) own nodes (target e)
 
--- instance x has a node that enters instance y
+-- a node of instance x enters instance y
 pub record InstEnters (words : Program) (A : List Entry) (nodes : List Node) (x y : Inst) : Type 0 where
   pub node : Node
   pub present : Contains nodes node
@@ -68,8 +68,8 @@ pub record InstEnters (words : Program) (A : List Entry) (nodes : List Node) (x 
   pub back : ℕ
   pub enters : Enters words A node way y.key back
 
--- Instance j enters instance l, and its rank isn't above that one's; of those that j enters so l is the least, and the ranks of all earlier
--- instances are above those of what they enter.
+-- Instance j enters instance l, whose rank is not below its own. Of all such instances l is the least, and the ranks of all earlier
+-- instances are in order.
 pub record IsFirstRank (words : Program) (A : List Entry) (c : Claim) (nodes : List Node) (j l : ℕ) : Type 0 where
   pub from : Inst
   pub into : Inst
@@ -81,7 +81,7 @@ pub record IsFirstRank (words : Program) (A : List Entry) (c : Claim) (nodes : L
   pub earlier : (i m : ℕ) (x y : Inst) → slice_get c.instances i ≡ Some x → slice_get c.instances m ≡ Some y → i < j → InstEnters words A nodes x y
       → y.rank < x.rank
 
--- The need of instance j is below this number, the least that suffices for it; the needs of all earlier instances suffice.
+-- The need of instance j is below this number, the least that suffices for it. The needs of all earlier instances suffice.
 pub record IsFirstNeed (words : Program) (A : List Entry) (c : Claim) (nodes : List Node) (j need : ℕ) : Type 0 where
   pub inst : Inst
   pub is : slice_get c.instances j ≡ Some inst
@@ -90,11 +90,11 @@ pub record IsFirstNeed (words : Program) (A : List Entry) (c : Claim) (nodes : L
   pub low : inst.need < need
   pub earlier : (i : ℕ) (x : Inst) → slice_get c.instances i ≡ Some x → i < j → Suffices words A c nodes x.key x.need
 
--- the node at reset is there, open, and with a state at least that one
+-- the node at reset exists, is open, and has a state above the reset state
 abbrev pub HasReset : List Entry → Claim → List Node → Type 0
 HasReset A c nodes = LandsOpen (has_pairs A) c.nodes nodes (reset_node A)
 
--- A reason holds of the nodes with their states, none before it does, and its numbers are the least.
+-- The reason holds of the expanded nodes, no reason before it does, and its numbers are the least.
 abbrev pub IsLeastReason : Program → List Entry → Claim → List Node → Reason → Type 0
 IsLeastReason words A c nodes (reason.Expansion at) = ⊥
 IsLeastReason words A c nodes reason.Root = HasReset A c nodes → ⊥
@@ -111,31 +111,31 @@ IsLeastReason words A c nodes reason.Assumptions =
     HasReset A c nodes × AreFaultless words A nodes × AllLanded words A c.nodes nodes × AreRanked words A c nodes × NeedsSuffice words A c nodes
     × IsBounded words c × (c.assumptions ≢ A)
 
--- the reason holds of the nodes with their states, which are read as the list that is handed in says
+-- the reason holds of the expanded nodes, which are read by the list of the call
 pub record IsRejected (words : Program) (A : List Entry) (c : Claim) (r : Reason) : Type 0 where
   pub nodes : List Node
   pub expanded : IsFilled words A (read_seeds (has_pairs A) c.nodes) nodes
   pub why : IsLeastReason words A c nodes r
 
--- why a certificate is refused: a node without an expansion comes before all other reasons
+-- the reason for a refusal: a node without expansion comes before all other reasons
 abbrev pub IsReason : Program → List Entry → Claim → Reason → Type 0
 IsReason words A c (reason.Expansion at) = IsMissing words A (read_seeds (has_pairs A) c.nodes) at
 IsReason words A c r = IsRejected words A c r
 
--- The verdict: acceptance with the bound where all conditions but that on the schedule hold, else the reason.
+-- The verdict: acceptance with the bound if all conditions but that on the schedule hold, else the reason.
 abbrev pub IsVerdict : Program → List Entry → Claim → Verdict → Type 0
 IsVerdict words A c (Accepted bound) = IsSound words A c × (bound ≡ c.bound)
 IsVerdict words A c (Rejected r) = IsReason words A c r
 
 -- ---- with the family where all conditions hold
 
--- the certificate's nodes with their states, which meet the conditions, and where their edges land
+-- the expanded nodes of the certificate, which meet the conditions, and the landings of their edges
 pub record IsFamilyOf (words : Program) (A : List Entry) (c : Claim) (family : Worked) : Type 0 where
   pub filled : IsFilled words A c.nodes family.nodes
   pub meets : MeetsConditions words A c family.nodes
   pub landings : AreLandings words A family.nodes family.landings
 
--- The judgement: the family where all conditions but that on the schedule hold, else the reason.
+-- The judgement: the family if all conditions but that on the schedule hold, else the reason.
 abbrev pub IsJudgement : Program → List Entry → Claim → Judgement → Type 0
 IsJudgement words A c (judgement.Accepted family) = IsFamilyOf words A c family
 IsJudgement words A c (judgement.Rejected r) = IsReason words A c r

@@ -1,4 +1,4 @@
--- Where a text reads as a certificate, by the spelling alone.
+-- The texts that are certificates, by the spelling alone.
 use Rattle.std.specs.Prelude.{◌≡◌, ◌≤◌, ℕ, List, None, Ok}
 use Rattle.avr_model.specs.declared.assumption.Entry.{Entry}
 use Rattle.avr_model.specs.State.{SIZE}
@@ -14,14 +14,14 @@ use Rattle.cert_format.specs.Reading.{entries_at, insts_at, nodes_at, certificat
 abbrev pub ReadCertificateIsSpelled : Type 0
 ReadCertificateIsSpelled = (text : List ℕ) (c : Claim) → certificate_in text ≡ Ok c → (text ≡ text_of c) × IsCertificate c
 
--- each certificate's text is read as it
+-- the text of a certificate is read as the certificate
 abbrev pub SpelledCertificateIsRead : Type 0
 SpelledCertificateIsRead = (c : Claim) → IsCertificate c → certificate_in (text_of c) ≡ Ok c
 
 abbrev pub CertificatesHaveOneText : Type 0
 CertificatesHaveOneText = (a b : Claim) → IsCertificate a → IsCertificate b → text_of a ≡ text_of b → a ≡ b
 
--- the parts that are read make up a claim
+-- the parts that are read form a claim
 abbrev pub PartsMakeClaims : Type 0
 PartsMakeClaims =
     (version : Version) (a b c d : Place) (n : ℕ) (es : List Entry) (xs : List Inst) (ns : Seeds) → n ≤ SIZE → entries_at version a ≡ Ok (es, b) → insts_at b ≡ Ok (xs, c) → nodes_at version xs c ≡ Ok (ns, d)

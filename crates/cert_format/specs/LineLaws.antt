@@ -1,4 +1,4 @@
--- Lines of instances and nodes: what is read is spelled so, and what is spelled is read.
+-- Reading and spelling of lines of instances and nodes are inverse.
 use Rattle.std.specs.Prelude.{ℕ, ◌≡◌, ◌<◌, ◌≤◌, List, slice_get, Some}
 use Rattle.std.specs.List.{AllByRecursion}
 use Rattle.line_reading.specs.Words.{IsWord}
@@ -17,13 +17,13 @@ pub record InstLines : Type 0 where
   pub read : (x : Inst) → IsInst x → inst_in (inst_words x) ≡ Some x
   pub words : (x : Inst) → IsInst x → AllByRecursion IsWord (inst_words x)
 
--- The instance whose line has this number is there, and is the node's.
+-- The instance whose line has this number exists, and is the node's.
 pub record IsInstanceOf (insts : List Inst) (place : ℕ) (key : NodeKey) : Type 0 where
   pub inst : Inst
   pub there : slice_get insts place ≡ Some inst
   pub same : inst.key ≡ key.inst
 
--- The words are those of the line of this node of the number `at`, with the number of its instance.
+-- The words are those of the line of this node, number `at`, with the number of its instance.
 pub record IsNodeLine (version : Version) (insts : List Inst) (at : ℕ) (ws : List (List ℕ)) (n : NodeKey × NodeForm) : Type 0 where
   pub place : ℕ
   pub words : ws ≡ node_words_at version place n

@@ -1,4 +1,4 @@
--- Reading the words of an instance's line, and of a node's.
+-- Reads the words of an instance's line, and of a node's.
 use Rattle.std.specs.Prelude.{ℕ, List, codes, slice_get, Option, Some, None, if◌then◌else◌}
 use Rattle.std.specs.Option.{option_map}
 use Rattle.avr_model.specs.State.{SIZE}

@@ -1,5 +1,5 @@
--- Reading a certificate forward, line by line. A refusal tells why the first line that can't go on is refused, and where it stands:
--- of one line, form comes before order and order before limit.
+-- Reads a certificate forward, line by line. A refusal has a kind and the offset of the first refused line. Of several kinds at one line,
+-- form comes before order and order before limit.
 use Rattle.std.specs.Prelude.{ℕ, zero, suc, ◌+◌, ◌-◌, ◌&&◌, nat_le, Bool, true, false, List, [], ◌∷◌, ◌++◌, length, codes, slice_get, Option, Some, None, Result, Ok, Err, if◌then◌else◌}
 use Rattle.std.specs.Ordering.{is_lt}
 use Rattle.std.specs.Str.{bytes_eq}
@@ -32,7 +32,7 @@ use Rattle.cert_format.specs.LineReading.{inst_in, node_in}
 
 -- ---- one line
 
--- a line that isn't of its form is malformed
+-- a line with the wrong form is malformed
 abbrev pub formed : {A : Type 0} → Result (A × Place) Place → Result (A × Place) CertFault
 formed (Ok x) = Ok x
 formed (Err q) = Err (fault.Malformed q.at)
@@ -47,7 +47,7 @@ numbered_in name least most ws = do
 abbrev pub numbered_by : List ℕ → ℕ → ℕ → List ℕ → Option ℕ
 numbered_by name least most text = numbered_in name least most (words_of text)
 
--- a decimal, whose number is left out where it is too great
+-- a decimal; its number is left out if it is too great
 abbrev pub counted : Result ℕ DigitFault → Option (Option ℕ)
 counted (Ok n) = Some (Some n)
 counted (Err TooGreat) = Some None
@@ -58,14 +58,14 @@ abbrev pub count_at : List (List ℕ) → Option (Option ℕ)
 count_at [] = None
 count_at (w ∷ ws) = if is_over ws then counted (dec_answer w most_nodes) else None
 
--- how many nodes there are, if not too many
+-- the number of nodes, if it is within the limit
 unfoldable pub count_in : List (List ℕ) → Option (Option ℕ)
 count_in ws = word_at (codes "nodes") ws >>= λ w. count_at w.1
 
 abbrev pub count_by : List ℕ → Option (Option ℕ)
 count_by text = count_in (words_of text)
 
--- the line `pairs` is one of the third version alone
+-- only the third version has the line `pairs`
 abbrev pub is_admitted : Bool → Entry → Bool
 is_admitted third Pairs = third
 is_admitted third Masks = true
@@ -99,7 +99,7 @@ ending_by text = if bytes_eq text (codes "witness open") then Some false else (i
 
 -- ---- the lines of a list
 
--- the last one, if there is one
+-- the last item, if there is one
 abbrev pub last_in : {A : Type 0} → List A → Option A
 last_in xs = slice_get xs (length xs - 1)
 
@@ -111,7 +111,7 @@ abbrev pub is_node_above : Option (NodeKey × NodeForm) → NodeKey → Bool
 is_node_above None key = true
 is_node_above (Some last) key = is_lt (node_cmp last.0 key)
 
--- why an item of a line at this offset is refused behind those before it, if it is
+-- the refusal of an item after those before it, at a line of this offset, if it is refused
 abbrev pub refused_entry : List Entry → Entry → ℕ → Option CertFault
 refused_entry es e at = if is_above_last es e then None else Some (fault.Order at)
 
@@ -127,30 +127,30 @@ abbrev pub unless : {X : Type 0} → Option CertFault → X → Result X CertFau
 unless None x = Ok x
 unless (Some f) x = Err f
 
--- the items before and this one, from a line at this offset, or why it is refused
+-- the items so far with this one, from a line at this offset, or the refusal
 abbrev pub with_item : {A : Type 0} → (List A → A → ℕ → Option CertFault) → List A → A → ℕ → Result (List A) CertFault
 with_item refused xs x at = unless (refused xs x at) (xs ++ x ∷ [])
 
--- what was found in a line at this offset
+-- the item of a line at this offset, or the refusal
 abbrev pub found_at : {A : Type 0} → Option A → ℕ → Result A CertFault
 found_at None at = Err (fault.Malformed at)
 found_at (Some x) at = Ok x
 
--- the items before and that of a line's text at this offset
+-- the items so far with that of a line's text at this offset
 abbrev pub with_text : {A : Type 0} → (ℕ → List ℕ → Option A) → (List A → A → ℕ → Option CertFault) → List A → List ℕ → ℕ → Result (List A) CertFault
 with_text by refused xs text at = then_at (found_at (by (length xs) text) at) (λ x. with_item refused xs x at)
 
--- nodes, the version of their lines, and the instances that these name by number
+-- nodes, the version of their lines, and the instances that the lines number
 pub record NodesSoFar : Type 0 where
   pub version : Version
   pub instances : List Inst
   pub nodes : Seeds
 
--- the items before and that of the next line, which is read by the number of those before it
+-- the items so far with that of the next line, which is read by their number
 unfoldable pub longer_at : {A : Type 0} → (ℕ → List ℕ → Option A) → (List A → A → ℕ → Option CertFault) → List A → Place → Result (List A × Place) CertFault
 longer_at by refused xs p = then_at (formed (line_by (by (length xs)) p)) (λ x. then_at (with_item refused xs x.0 p.at) (λ ys. Ok (ys, x.1)))
 
--- the items before and those of so many lines
+-- the items so far with those of this many lines
 unfoldable pub items_from : {A : Type 0} → (ℕ → List ℕ → Option A) → (List A → A → ℕ → Option CertFault) → List A → ℕ → Place → Result (List A × Place) CertFault
 items_from by refused xs zero p = Ok (xs, p)
 items_from by refused xs (suc n) p = then_at (longer_at by refused xs p) (λ x. items_from by refused x.0 n x.1)
@@ -162,13 +162,13 @@ unfoldable pub heading_at : Place → Result ((Version × ℕ) × Place) CertFau
 heading_at p =
     then_at (formed (line_by version_by p)) (λ v. then_at (formed (line_by (numbered_by (codes "bound") 0 SIZE) v.1)) (λ b. Ok ((v.0, b.0), b.1)))
 
--- how many entries a version has at least: `pairs` in the third
+-- the least number of entries: the third version has `pairs`
 abbrev pub least_entries : Version → ℕ
 least_entries One = 0
 least_entries Two = 0
 least_entries Three = 1
 
--- the entries that a version begins with: in the third the line `pairs`
+-- the first entries: in the third version the line `pairs`
 unfoldable pub first_at : Version → Place → Result (List Entry × Place) CertFault
 first_at One p = Ok ([], p)
 first_at Two p = Ok ([], p)
@@ -201,7 +201,7 @@ abbrev pub if_last : List TextLine → Place → Result (Unit {0} × Place) Cert
 if_last [] p = Ok (tt, p)
 if_last (l ∷ ls) p = Err (fault.Malformed p.at)
 
--- the last line, behind which there is nothing
+-- the last line, with nothing after it
 unfoldable pub end_at : Place → Result (Unit {0} × Place) CertFault
 end_at p = then_at (formed (line_by (this_by (codes "end")) p)) (λ e. if_last e.1.rest e.1)
 
@@ -220,6 +220,6 @@ abbrev pub claim_alone : Result (Claim × Place) CertFault → Result Claim Cert
 claim_alone (Ok x) = Ok x.0
 claim_alone (Err f) = Err f
 
--- the claim of a text, or why it is refused
+-- the claim of a text, or the refusal
 unfoldable pub certificate_in : List ℕ → Result Claim CertFault
 certificate_in text = claim_alone (claim_at (record { at = 0; rest = lines_of text }))

@@ -1,5 +1,5 @@
--- Why a text is that of no certificate, by the spelling alone: what stands before the refused line are the first lines of a certificate,
--- and the line isn't of the form that stands behind them, or isn't above the last one, or passes a limit.
+-- The refusals of texts that are no certificates, by the spelling alone: the text before the refused line begins a certificate, and the
+-- line has the wrong form, is not above the last one, or passes a limit.
 use Rattle.std.specs.Prelude.{◌≡◌, ◌≢◌, ◌<◌, ◌≤◌, ◌⊎◌, ℕ, List, [], ◌∷◌, ◌++◌, map, length, codes, None, Result, Ok, Err, ⊤, true, false, not}
 use Rattle.std.specs.List.{position}
 use Rattle.std.specs.List.Sorted.{IsStrictlySortedBy}
@@ -29,7 +29,7 @@ use Rattle.cert_format.specs.Reading.{is_admitted, least_entries, certificate_in
 
 -- ---- how far the lines of a certificate go
 
--- the part that stands next; of a list, so many items were announced. In the third version the first entry is `pairs`.
+-- the next part; for a list, with the announced number of items. In the third version the first entry is `pairs`.
 pub data Part : Type 0 where
   Begin : Part
   Bound : Part
@@ -44,7 +44,7 @@ pub data Part : Type 0 where
   End : Part
   Nothing : Part
 
--- the lines of a certificate before this part, where the items that it has are those before it
+-- the lines of a certificate before this part, with the items read so far
 abbrev pub lines_to : Claim → Part → List (List (List ℕ))
 lines_to c Begin = []
 lines_to c Bound = version_line c.version ∷ []
@@ -59,7 +59,7 @@ lines_to c Ending = front_lines c
 lines_to c End = front_lines c ++ witness_lines c.witness
 lines_to c Nothing = certificate_lines c
 
--- fewer items than announced, and no more announced than there may be
+-- fewer items than announced, and no more announced than permitted
 abbrev pub HasRoomFor : Claim → Part → Type 0
 HasRoomFor c (FirstEntry n) = (is_third c.version ≡ true) × (1 ≤ n) × (n ≤ most_entries)
 HasRoomFor c (AnEntry n) = (length c.assumptions < n) × (n ≤ most_entries)
@@ -67,7 +67,7 @@ HasRoomFor c (AnInst n) = (length c.instances < n) × (n ≤ most_instances)
 HasRoomFor c (ANode n) = (length c.nodes < n) × (n ≤ most_nodes)
 HasRoomFor c part = ⊤
 
--- The lines of this certificate before the part stand at the first place, and the second place is behind them.
+-- The lines of this certificate before the part are at the first place, and the second place is after them.
 pub record StandsBefore (p : Place) (c : Claim) (part : Part) (q : Place) : Type 0 where
   pub fits : IsCertificate c
   pub room : HasRoomFor c part
@@ -75,22 +75,22 @@ pub record StandsBefore (p : Place) (c : Claim) (part : Part) (q : Place) : Type
 
 -- ---- the next line
 
--- a line is left, and it is whole and has these words
+-- the next line is complete and has these words
 abbrev pub IsNextLine : List TextLine → List (List ℕ) → Type 0
 IsNextLine [] ws = ⊥
 IsNextLine (l ∷ ls) ws = l ≡ whole ws
 
--- digits, of which the first of several isn't 0
+-- digits without a leading zero
 pub record IsDecimal (w : List ℕ) : Type 0 where
   pub some : w ≢ []
   pub plain : has_extra_zero w ≡ false
   pub digits : position (λ b. not (is_dec b)) w ≡ None
 
--- a name and a decimal, from this number to that one
+-- a name and a decimal between these numbers
 abbrev pub IsNumbered : List ℕ → ℕ → ℕ → List (List ℕ) → Type 0
 IsNumbered name least most ws = (n : ℕ) × (least ≤ n) × (n ≤ most) × (ws ≡ numbered name n)
 
--- the words of some entry, instance or node that can stand in a certificate of this version, where this holds of it
+-- the words of some entry, instance or node of a certificate of this version, with this property
 
 abbrev pub IsEntryWith : Version → (Entry → Type 0) → List (List ℕ) → Type 0
 IsEntryWith version P ws = (e : Entry) × (is_entry e ≡ true) × (is_admitted (is_third version) e ≡ true) × (ws ≡ entry_words e) × P e
@@ -104,7 +104,7 @@ IsNodeWith c P ws = (n : NodeKey × NodeForm) × FitsAt (is_third c.version) (le
 abbrev pub IsNodesLine : (List ℕ → Type 0) → List (List ℕ) → Type 0
 IsNodesLine P ws = (w : List ℕ) × IsDecimal w × (ws ≡ codes "nodes" ∷ w ∷ []) × P w
 
--- words of the form that stands at this part
+-- words of the form of this part
 abbrev pub IsOfForm : Claim → Part → List (List ℕ) → Type 0
 IsOfForm c Begin ws = (version : Version) × (ws ≡ version_line version)
 IsOfForm c Bound ws = IsNumbered (codes "bound") 0 SIZE ws
@@ -122,7 +122,7 @@ IsOfForm c Nothing ws = ⊥
 abbrev pub Ascend : List NodeKey → Type 0
 Ascend keys = IsStrictlySortedBy node_cmp keys
 
--- words of an item that isn't above the last
+-- words of an item that is not above the last
 abbrev pub IsLow : Claim → Part → List (List ℕ) → Type 0
 IsLow c (AnEntry n) ws = IsEntryWith c.version (λ e. is_above_last c.assumptions e ≡ false) ws
 IsLow c (AnInst n) ws = IsInstWith (λ x. IsStrictlySortedBy inst_cmp (inst_keys (c.instances ++ x ∷ [])) → ⊥) ws
@@ -132,7 +132,7 @@ IsLow c part ws = ⊥
 abbrev pub IsTooMuch : Claim → NodeKey × NodeForm → Type 0
 IsTooMuch c n = Ascend (node_keys (c.nodes ++ n ∷ [])) × (most_cells < cells_of (node_keys (c.nodes ++ n ∷ [])))
 
--- words of their form, and above the last, that pass this limit
+-- words of the right form and order that pass this limit
 abbrev pub IsPast : Claim → Part → Limit → List (List ℕ) → Type 0
 IsPast c Nodes limit.Nodes ws = IsNodesLine (λ w. most_nodes < number_from 10 0 w) ws
 IsPast c (ANode n) limit.Cells ws = IsNodeWith c (IsTooMuch c) ws
@@ -140,7 +140,7 @@ IsPast c part l ws = ⊥
 
 -- ---- refusals
 
--- no line of the form that stands at this part follows, or something follows behind the last line
+-- no line of the form of this part follows, or something follows the last line
 abbrev pub IsStopped : Claim → Part → List TextLine → Type 0
 IsStopped c Nothing ls = ls ≢ []
 IsStopped c part ls = (ws : List (List ℕ)) → IsNextLine ls ws → IsOfForm c part ws → ⊥
@@ -151,7 +151,7 @@ pub record StopsAt (p q : Place) : Type 0 where
   pub stands : StandsBefore p claim part q
   pub stop : IsStopped claim part q.rest
 
--- a schedule is to follow, and none goes on there
+-- a schedule must follow, and no schedule continues with the line there
 pub record StopsInSchedule (p q : Place) : Type 0 where
   pub claim : Claim
   pub fits : IsClaim claim
@@ -182,7 +182,7 @@ pub record IsOverLimit (p : Place) (l : Limit) : Type 0 where
   pub next : IsNextLine place.rest words
   pub past : IsPast claim part l words
 
--- the refusal that is due from this place on
+-- the due refusal from this place on
 abbrev pub IsCertificateRefused : Place → CertFault → Type 0
 IsCertificateRefused p (fault.Malformed at) = IsCertificateMalformed p at
 IsCertificateRefused p (fault.Order at) = IsCertificateOutOfOrder p at
@@ -197,11 +197,11 @@ abbrev pub IsCertificateDue : List ℕ → Result Claim CertFault → Type 0
 IsCertificateDue text (Ok c) = IsCertificate c × (text ≡ text_of c)
 IsCertificateDue text (Err f) = IsCertificateRefused (start text) f
 
--- what was answered is due, unless memory was wanting
+-- the answer is the one that is due, or memory ran out
 abbrev pub IsCertificateDueUnlessMemory : List ℕ → Result Claim CertFault → Type 0
 IsCertificateDueUnlessMemory text (Err fault.Memory) = ⊤
 IsCertificateDueUnlessMemory text answer = IsCertificateDue text answer
 
--- what is read of a text is due
+-- the result of reading a text is due
 abbrev pub ReadCertificateIsDue : Type 0
 ReadCertificateIsDue = (text : List ℕ) → IsCertificateDue text (certificate_in text)

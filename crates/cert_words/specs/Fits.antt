@@ -1,4 +1,4 @@
--- Which values, flags, slots and forms a node may have, in the root's frame or in another.
+-- The values, flags, slots and forms that a node may have in the root's frame, and in other frames.
 use Rattle.std.specs.Prelude.{◌≡◌, ◌<◌, ◌≤◌, ⊤, Bool, true, false}
 use Rattle.avr_model.specs.State.{SIZE}
 use Rattle.bit_domain.specs.declared.bits.Tri.TheVariants.{Any}
@@ -20,13 +20,13 @@ use Rattle.local_rules.specs.Cover.{TagFits}
 use Rattle.certificate.specs.declared.version.Version.{Version}
 use Rattle.certificate.specs.Versions.{ValueIsOf, CarryIsOf}
 
--- its number fits, and in the root's frame it is none
+-- its number is in range, and in the root's frame it is no tag
 pub record IsTag (root : Bool) (t : Tag) : Type 0 where
   pub names : NamesRegister t
   pub fits : TagFits t
   pub none : root ≡ true → t ≡ tag.None
 
--- its tag fits, its range lies between the least and the greatest byte of its bits, and the version can say it
+-- the tag fits, the range lies between the least and the greatest byte of the bits, and the version has the value
 pub record IsValue (version : Version) (root : Bool) (v : AbsByte) : Type 0 where
   pub fits_tag : IsTag root v.tag
   pub range : ByteFits v
@@ -36,12 +36,12 @@ abbrev pub IsSlot : Version → Bool → Slot AbsByte → Type 0
 IsSlot version root Free = ⊤
 IsSlot version root (Guarded v) = IsValue version root v
 
--- bit 7 is unknown, and in the root's frame they aren't those at the entry
+-- bit 7 is unknown, and in the root's frame the flags are not those of the entry
 pub record AreFlags (root entry : Bool) (bits : TriByte) : Type 0 where
   pub bit_7 : tri_at bits 7 ≡ Any
   pub none : root ≡ true → entry ≡ false
 
--- its numbers are bytes, a register that it names is there, in the root's frame it is of no base, and the version can say it
+-- its numbers are bytes, it names one of the 32 registers, in the root's frame it does not speak of the base, and the version has it
 pub record IsCarry (version : Version) (root : Bool) (c : CarryTag) : Type 0 where
   pub bytes : HasByteNumbers c
   pub names : CarryNamesRegister c

@@ -1,4 +1,4 @@
--- Reading the words of keys, states and forms of nodes.
+-- Reads the words of keys, states and forms of nodes.
 use Rattle.std.specs.Prelude.{ℕ, zero, suc, ◌==◌, ◌^◌, nat_lt, Bool, true, false, List, [], ◌∷◌, ◌++◌, codes, Option, Some, None, if◌then◌else◌}
 use Rattle.std.specs.Option.{option_map}
 use Rattle.std.specs.Str.{bytes_eq}
@@ -24,7 +24,7 @@ use Rattle.cert_words.specs.Reading.{value_in, slot_in, flags_in, carry_in, form
 
 -- ---- words
 
--- so many words behind these, each read by itself
+-- this many words after these, each by a reading of its bytes
 unfoldable pub words_from : {A : Type 0} → (List ℕ → Option A) → List A → ℕ → List (List ℕ) → Option (List A × List (List ℕ))
 words_from f front zero ws = Some (front, ws)
 words_from f front (suc n) ws = word_by f ws >>= λ x. words_from f (front ++ x.0 ∷ []) n x.1
@@ -39,7 +39,7 @@ flag_at ws = option_map (λ n. (n.0 == 1, n.1)) (dec_at 1 ws)
 
 -- ---- instances
 
--- the number of a vector behind its letter
+-- the number of a vector after its letter
 unfoldable pub vector_in : List ℕ → Option Kind
 vector_in w = letter_at w >>= λ l. if l.0 == 118 then option_map (λ n. Vector n.0) (dec_at 26 (l.1 ∷ [])) else None
 
@@ -61,11 +61,11 @@ is_root Root = true
 is_root Call = false
 is_root (Vector v) = false
 
--- no pick, or the byte that is picked
+-- no pick, or the picked byte
 unfoldable pub pick_in : List ℕ → Option (Option ℕ)
 pick_in w = if bytes_eq w (codes "-") then Some None else option_map (λ n. Some n.0) (hex_at 2 (w ∷ []))
 
--- the pick, for which the first version has no word
+-- the pick, which the first version has no word for
 abbrev pub pick_at : Version → List (List ℕ) → Option (Option ℕ × List (List ℕ))
 pick_at One ws = Some (None, ws)
 pick_at Two ws = word_by pick_in ws
@@ -87,7 +87,7 @@ flags_at version root ws = do
   c ← word_by (carry_in version root) f.1
   Some (record { entry = f.0.0; bits = f.0.1; carry = c.0 }, c.1)
 
--- what is known of the pairs of these registers, for which the third version alone has words
+-- the facts on pairs of these registers, which only the third version has words for
 abbrev pub pairs_at : Version → List AbsByte → List (List ℕ) → Option (Option PairFacts × List (List ℕ))
 pairs_at One registers ws = Some (None, ws)
 pairs_at Two registers ws = Some (None, ws)
@@ -105,7 +105,7 @@ state_behind version root offset first ws = do
 abbrev pub by_state : Option (AbsState × List (List ℕ)) → Option (NodeForm × List (List ℕ))
 by_state found = option_map (λ s. (State s.0, s.1)) found
 
--- behind `from`: the number of a node before this one
+-- after `from`: the number of an earlier node
 unfoldable pub from_behind : ℕ → List (List ℕ) → Option (NodeForm × List (List ℕ))
 from_behind at ws = dec_at 65535 ws >>= λ m. if nat_lt m.0 at then Some (From m.0, m.1) else None
 

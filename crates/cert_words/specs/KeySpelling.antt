@@ -29,12 +29,12 @@ kind_word (Vector v) = codes "v" ++ decimal v
 abbrev pub inst_key_words : InstKey → List (List ℕ)
 inst_key_words key = kind_word key.kind ∷ hex_digits key.entry 4 ∷ hex_digits key.masks 7 ∷ bit key.i ∷ []
 
--- no pick, or the byte that is picked
+-- no pick, or the picked byte
 abbrev pub pick_word : Option ℕ → List ℕ
 pick_word None = codes "-"
 pick_word (Some byte) = hex_digits byte 2
 
--- the pick, which the first version leaves out
+-- the pick; nothing in the first version
 abbrev pub pick_words : Version → Option ℕ → List (List ℕ)
 pick_words One pick = []
 pick_words Two pick = pick_word pick ∷ []
@@ -45,13 +45,13 @@ abbrev pub place_words : Version → NodeKey → List (List ℕ)
 place_words version key =
     hex_digits key.pc 4 ∷ hex_digits key.masks 7 ∷ bit key.i ∷ bit key.delay ∷ form_word key.sp ∷ pick_words version key.pick
 
--- a node with its instance, which ends with the pick whatever the certificate's version
+-- a node with its instance; it ends with the pick in every version
 abbrev pub node_key_words : NodeKey → List (List ℕ)
 node_key_words key = inst_key_words key.inst ++ place_words Two key
 
 -- ---- what is known at a node
 
--- what is known of the pairs of these registers, which the third version alone has
+-- the facts on pairs of these registers; nothing but in the third version
 abbrev pub pairs_words : Version → List AbsByte → Option PairFacts → List (List ℕ)
 pairs_words One registers facts = []
 pairs_words Two registers facts = []

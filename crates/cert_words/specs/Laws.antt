@@ -1,4 +1,4 @@
--- What is read is spelled so, and what is spelled is read.
+-- Reading and spelling of words are inverse.
 use Rattle.std.specs.Prelude.{ℕ, ◌≡◌, Bool, List, Some}
 use Rattle.bit_domain.specs.declared.bytes.TriByte.{TriByte}
 use Rattle.sp_domain.specs.declared.tags.CarryTag.{CarryTag}
@@ -19,7 +19,7 @@ pub record WordsAreSpelled : Type 0 where
   pub carry : (version : Version) (root : Bool) (w : List ℕ) (c : CarryTag) → carry_in version root w ≡ Some c → (w ≡ carry_word c) × IsCarry version root c
   pub form : (root : Bool) (w : List ℕ) (f : SpForm) → form_in root w ≡ Some f → (w ≡ form_word f) × IsSpForm root f
 
--- the word of a fitting value is read as it
+-- the word of a fitting value is read as the value
 pub record ValueWordsAreRead : Type 0 where
   pub value : (version : Version) (root : Bool) (v : AbsByte) → IsValue version root v → value_in version root (value_word version v) ≡ Some v
   pub slot : (version : Version) (root : Bool) (s : Slot AbsByte) → IsSlot version root s → slot_in version root (slot_word version s) ≡ Some s
@@ -27,7 +27,7 @@ pub record ValueWordsAreRead : Type 0 where
   pub carry : (version : Version) (root : Bool) (c : CarryTag) → IsCarry version root c → carry_in version root (carry_word c) ≡ Some c
   pub form : (root : Bool) (f : SpForm) → IsSpForm root f → form_in root (form_word f) ≡ Some f
 
--- no space and no line feed is in it
+-- words have no space and no line feed
 pub record WordsAreWords : Type 0 where
   pub value : (version : Version) (root : Bool) (v : AbsByte) → IsValue version root v → IsWord (value_word version v)
   pub slot : (version : Version) (root : Bool) (s : Slot AbsByte) → IsSlot version root s → IsWord (slot_word version s)

@@ -1,5 +1,4 @@
--- Reading words from their front: each reading gives a value and what stands behind it, or nothing. In the root's frame nothing is
--- tagged.
+-- Reads words from their front. A reading gives a value and the bytes behind it, or nothing. In the root's frame nothing is tagged.
 use Rattle.std.specs.Prelude.{ℕ, ◌-◌, ◌==◌, ◌&&◌, nat_lt, nat_le, not, Bool, true, false, List, [], ◌∷◌, length, take, drop, codes, Option, Some, None, if◌then◌else◌}
 use Rattle.std.specs.Option.{option_map}
 use Rattle.std.specs.Int.{bit_at}
@@ -28,18 +27,18 @@ use Rattle.certificate.specs.declared.version.Version.TheVariants.{One, Two, Thr
 
 -- ---- values
 
--- the byte with these known bits, and their values
+-- the byte with these known bits and values
 abbrev pub tri_byte : ℕ → ℕ → TriByte
 tri_byte known value = byte_of (λ i. tri_of (bit_at known i) (bit_at value i))
 
--- known bits and their values: no value is outside the known bits
+-- known bits and their values; an unknown bit must have the value 0
 unfoldable pub bits_at : List ℕ → Option (TriByte × List ℕ)
 bits_at bs = do
   k ← digits_at 2 bs
   v ← digits_at 2 k.1
   if bit_and v.0 k.0 == v.0 then Some (tri_byte k.0 v.0, v.1) else None
 
--- what a letter and what follows it say
+-- the tag of a letter and the bytes behind it
 unfoldable pub tag_by : ℕ → List ℕ → Option (Tag × List ℕ)
 tag_by letter bs =
     if letter == 101 then option_map (λ r. (tag.Entry r.0, r.1)) (register_at bs)
@@ -50,20 +49,20 @@ tag_by letter bs =
 unfoldable pub tag_at : Bool → List ℕ → Option (Tag × List ℕ)
 tag_at root bs = letter_at bs >>= λ l. if l.0 == 45 then Some (tag.None, l.1) else (if root then None else tag_by l.0 l.1)
 
--- the ends of a range that lies between the least and the greatest byte of the bits
+-- the ends of a range between the least and the greatest byte of the bits
 unfoldable pub ends_at : TriByte → List ℕ → Option ((ℕ × ℕ) × List ℕ)
 ends_at bits bs = do
   l ← digits_at 2 bs
   h ← digits_at 2 l.1
   if nat_le (least_of bits) l.0 && nat_le l.0 h.0 && nat_le h.0 (most_of bits) then Some ((l.0, h.0), h.1) else None
 
--- the ends of a value's range, which are those of its bits in the first version
+-- the ends of a value's range; in the first version those of its bits
 abbrev pub range_at : Version → TriByte → List ℕ → Option ((ℕ × ℕ) × List ℕ)
 range_at One bits bs = Some ((least_of bits, most_of bits), bs)
 range_at Two bits bs = ends_at bits bs
 range_at Three bits bs = ends_at bits bs
 
--- the value with this tag that the letters behind it say
+-- the value with this tag, from the bytes behind it
 abbrev pub value_behind : Version → Tag → List ℕ → Option AbsByte
 value_behind version tag bs = do
   b ← bits_at bs
@@ -78,11 +77,11 @@ slot_in version root w = if bytes_eq w (codes ".") then Some Free else option_ma
 
 -- ---- flags
 
--- whether they are those at the frame's entry
+-- whether flags are those of the entry
 abbrev pub entry_by : Bool → ℕ → Option Bool
 entry_by root letter = if letter == 45 then Some false else (if root then None else (if letter == 102 then Some true else None))
 
--- bit 7 is unknown
+-- flags with bit 7 unknown
 unfoldable pub flags_in : Bool → List ℕ → Option (Bool × TriByte)
 flags_in root w = do
   l ← letter_at w
@@ -90,7 +89,7 @@ flags_in root w = do
   b ← bits_at l.1
   if nat_lt b.0.known 128 && is_end b.1 then Some (e, b.0) else None
 
--- two bytes, behind which nothing stands
+-- two bytes, and nothing else
 unfoldable pub bytes_in : List ℕ → Option (ℕ × ℕ)
 bytes_in bs = do
   j ← digits_at 2 bs
@@ -109,14 +108,14 @@ less_in bs = do
   k ← digits_at 2 r.1
   if is_end k.1 then Some (carry.Less r.0 k.0) else None
 
--- what a letter and what follows it say: the root's frame has no borrow and no sum
+-- the carry tag of a letter and the bytes behind it; the root's frame has no borrow and no sum
 abbrev pub tagged_by : Bool → ℕ → List ℕ → Option CarryTag
 tagged_by root letter bs =
     if letter == 98 && not root then borrow_in bs
     else (if letter == 115 && not root then sum_in bs
     else (if letter == 99 then less_in bs else None))
 
--- the first version has no sum, and nothing of a register
+-- the first version has no sum, and no tag of a register
 unfoldable pub carry_by : Version → Bool → ℕ → List ℕ → Option CarryTag
 carry_by One root letter bs = if letter == 98 && not root then borrow_in bs else None
 carry_by Two root letter bs = tagged_by root letter bs
@@ -130,7 +129,7 @@ carry_in version root w = if bytes_eq w (codes "-") then Some carry.None else (l
 abbrev pub offset_in : List ℕ → Option ℕ
 offset_in bs = option_map (λ n. n.0) (dec_at SIZE (bs ∷ []))
 
--- a comma, a mark, and a number in so many digits
+-- a comma, a letter, and a number in this many digits
 unfoldable pub marked_in : ℕ → ℕ → List ℕ → Option ℕ
 marked_in mark digits bs = do
   c ← letter_at bs
@@ -138,12 +137,12 @@ marked_in mark digits bs = do
   n ← digits_at digits m.1
   if c.0 == 44 && m.0 == mark && is_end n.1 then Some n.0 else None
 
--- the root's high byte is known, and another's has a tag
+-- the high byte: known in the root, a tag elsewhere
 abbrev pub high_in : Bool → List ℕ → Option High
 high_in true bs = option_map (λ byte. high.Known byte) (marked_in 107 2 bs)
 high_in false bs = option_map (λ k. high.Tag k) (marked_in 116 4 bs)
 
--- how many bytes it takes
+-- the number of letters of the high byte
 abbrev pub high_size : Bool → ℕ
 high_size true = 4
 high_size false = 6

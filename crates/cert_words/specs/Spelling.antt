@@ -17,7 +17,7 @@ use Rattle.mask_states.specs.declared.keys.SpForm.TheVariants.{Closed, Open}
 use Rattle.certificate.specs.declared.version.Version.{Version}
 use Rattle.certificate.specs.declared.version.Version.TheVariants.{One, Two, Three}
 
--- which bits are known, and their values
+-- the known bits, and their values
 abbrev pub bits_text : TriByte → List ℕ
 bits_text t = hex_digits t.known 2 ++ hex_digits t.value 2
 
@@ -28,7 +28,7 @@ tag_text tag.EntryFlags = codes "f"
 tag_text (tag.SpLo j) = codes "l" ++ hex_digits j 2
 tag_text (tag.SpHi k) = codes "h" ++ hex_digits k 4
 
--- the least and the greatest byte of a value, which the first version leaves out
+-- the least and the greatest byte of a value; nothing in the first version
 abbrev pub range_text : Version → AbsByte → List ℕ
 range_text One v = []
 range_text Two v = hex_digits v.low 2 ++ hex_digits v.high 2
@@ -37,7 +37,7 @@ range_text Three v = hex_digits v.low 2 ++ hex_digits v.high 2
 abbrev pub value_word : Version → AbsByte → List ℕ
 value_word version v = tag_text v.tag ++ (bits_text v.bits ++ range_text version v)
 
--- whether the flags are those at the frame's entry
+-- whether the flags are those of the entry
 abbrev pub entry_text : Bool → List ℕ
 entry_text true = codes "f"
 entry_text false = codes "-"

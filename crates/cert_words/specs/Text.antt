@@ -64,7 +64,7 @@ open_line = codes "witness" ∷ codes "open" ∷ []
 abbrev pub attained_line : List (List ℕ)
 attained_line = codes "witness" ∷ codes "attained" ∷ []
 
--- the lines of a schedule, or of none
+-- the lines of a schedule, or of its absence
 abbrev pub witness_lines : Option Plan → List (List (List ℕ))
 witness_lines None = open_line ∷ []
 witness_lines (Some plan) = attained_line ∷ schedule_lines plan

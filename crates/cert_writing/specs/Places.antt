@@ -1,9 +1,9 @@
--- Where an instance stands in a list.
+-- The place of an instance in a list.
 use Rattle.std.specs.Prelude.{ℕ, ◌≡◌, ◌≤◌, List, slice_get, Some}
 use Rattle.mask_states.specs.declared.keys.InstKey.{InstKey}
 use Rattle.certificate.specs.declared.instance.Inst.{Inst}
 
--- an instance of this key has this number
+-- the instance of this number has this key
 abbrev pub IsAt : List Inst → InstKey → ℕ → Type 0
 IsAt insts key j = (x : Inst) × (slice_get insts j ≡ Some x) × (x.key ≡ key)
 

@@ -1,4 +1,4 @@
--- What a certificate claims, and what its type keeps. Source: own.
+-- The parts of a certificate, and the invariants of its type. Source: own.
 use Rattle.std.specs.Prelude.{ℕ, Bool, ◌+◌, ◌≡◌, ◌≤◌, ◌<◌, ⊤, List, [], ◌∷◌, map, length, Option, Contains, IfSome}
 use Rattle.std.specs.List.{AllByRecursion}
 use Rattle.std.specs.List.Sorted.{IsStrictlySortedBy}
@@ -19,8 +19,8 @@ use Rattle.certificate.specs.declared.version.Version.{Version}
 use Rattle.certificate.specs.Insts.{IsInst, inst_keys}
 use Rattle.certificate.specs.Versions.{AreOf, is_third}
 
--- The version of its text, the bound, the assumptions that it rests on, the instances and nodes that every run stays in, and the schedule. A
--- node has its state, or the number of an earlier node from which the state is worked out.
+-- The version of its text, the bound, the assumptions, the instances and nodes that every run stays in, and the schedule. A node has a
+-- state, or the number of an earlier node that determines it.
 pub record Claim : Type 0 where
   pub version : Version
   pub bound : ℕ
@@ -50,18 +50,17 @@ cells_of (k ∷ ks) = 1 + offset_of k.sp + cells_of ks
 
 -- ---- what the type keeps
 
--- the node of this number: its state is one that the analysis works with, where pairs are followed or where they aren't, or it comes from an
--- earlier node
+-- the node of this number: its state is formed, and follows pairs as `followed` says, or it comes from an earlier node
 abbrev pub FitsAt : Bool → ℕ → NodeKey → NodeForm → Type 0
 FitsAt followed at k (State s) = IsNodeIn followed k s
 FitsAt followed at k (From m) = IsKey k × (m < at)
 
--- these nodes, of which the first has the number `at`
+-- these nodes, numbered from `at` on
 abbrev pub AreFrom : Bool → ℕ → Seeds → Type 0
 AreFrom followed at [] = ⊤
 AreFrom followed at (e ∷ es) = FitsAt followed at e.0 e.1 × AreFrom followed (at + 1) es
 
--- its instance is there
+-- the node's instance is in the list
 abbrev pub Belongs : List Inst → NodeKey → Type 0
 Belongs insts k = Contains (inst_keys insts) k.inst
 
@@ -79,7 +78,7 @@ pub record IsClaim (c : Claim) : Type 0 where
   pub of_version : AreOf c.version c.nodes
   pub of_list : is_third c.version ≡ has_pairs c.assumptions
 
--- a claim whose schedule is one
+-- a claim with a valid schedule, if it has one
 pub record IsCertificate (c : Claim) : Type 0 where
   pub claim : IsClaim c
   pub schedule : IfSome c.witness IsSchedule

@@ -8,17 +8,17 @@ use Rattle.mask_states.specs.declared.keys.InstKey.{InstKey}
 use Rattle.mask_states.specs.Order.{same_inst}
 use Rattle.certificate.specs.declared.instance.Inst.{Inst}
 
--- the word of a vector from 2 on: vectors are two words long, or one on the smaller devices
+-- a vector's word, from vector 2 on; vectors are two words long, or one on smaller devices
 abbrev pub is_vector_word : ℕ → ℕ → Bool
 is_vector_word v entry = (entry == 2 * (v - 1)) || (entry == v - 1)
 
--- The root begins at word 0 with no vector enabled and I clear, a call at any word, and a vector at its own word with I clear.
+-- The root begins at word 0 with no vector enabled and I clear. A call begins at any word, a vector at its own word with I clear.
 abbrev pub fits_kind : Kind → ℕ → ℕ → Bool → Bool
 fits_kind Root entry masks i = (entry == 0) && (masks == 0) && not i
 fits_kind Call entry masks i = nat_lt entry WORDS
 fits_kind (Vector v) entry masks i = nat_le 2 v && nat_le v 26 && is_vector_word v entry && not i
 
--- its numbers are in their ranges
+-- the numbers are in range
 pub record IsInst (x : Inst) : Type 0 where
   pub kind : fits_kind x.key.kind x.key.entry x.key.masks x.key.i ≡ true
   pub masks : x.key.masks < 2 ^ 25
@@ -28,12 +28,12 @@ pub record IsInst (x : Inst) : Type 0 where
 abbrev pub inst_keys : List Inst → List InstKey
 inst_keys insts = map (λ x. x.key) insts
 
--- the rank of an instance, and 0 where it isn't there
+-- the rank of an instance, 0 if it is not in the list
 abbrev pub rank_in : List Inst → InstKey → ℕ
 rank_in [] key = 0
 rank_in (x ∷ xs) key = if same_inst x.key key then x.rank else rank_in xs key
 
--- the need of an instance, and 0 where it isn't there
+-- the need of an instance, 0 if it is not in the list
 abbrev pub need_in : List Inst → InstKey → ℕ
 need_in [] key = 0
 need_in (x ∷ xs) key = if same_inst x.key key then x.need else need_in xs key

@@ -9,11 +9,11 @@ use Rattle.edge_rules.specs.Families.{IsSoundFamily as IsSoundFamily}
 use Rattle.certificate.specs.Claims.{Claim, IsClaim}
 use Rattle.certificate.specs.Valid.{MeetsConditions, family_of}
 
--- what the type keeps is what an expansion asks for
+-- the invariants of the type are the premises of an expansion
 abbrev pub ClaimsAreSeeds : Type 0
 ClaimsAreSeeds = (c : Claim) → IsClaim c → AreSeeds (has_pairs c.assumptions) c.nodes
 
--- where the conditions hold of the nodes with their states, these are a sound family with the certificate's ranks and needs
+-- if the conditions hold of the expanded nodes, these are a sound family with the certificate's ranks and needs
 abbrev pub ConditionsMakeFamiliesSound : Type 0
 ConditionsMakeFamiliesSound = (words : Program) (A : List Entry) (c : Claim) (nodes : List Node) → IsClaim c → IsFilled words A c.nodes nodes
     → MeetsConditions words A c nodes → IsSoundFamily words A (family_of c nodes)

@@ -1,4 +1,4 @@
--- When a certificate is valid for a firmware and assumptions. Source: own.
+-- Validity of a certificate for a firmware and assumptions. Source: own.
 use Rattle.std.specs.Prelude.{ℕ, ◌+◌, ◌≡◌, ◌<◌, ◌≤◌, List, Contains, Option, Some, None, IsOkAnd, ⊤}
 use Rattle.avr_model.specs.declared.assumption.Entry.{Entry}
 use Rattle.avr_model.specs.Devices.{Program, device_of, size_of}
@@ -18,7 +18,7 @@ use Rattle.witness_replay.specs.Replay.{replay_of}
 use Rattle.certificate.specs.Insts.{rank_in, need_in}
 use Rattle.certificate.specs.Claims.{Claim}
 
--- the node at reset, of which nothing is known but that the flags are clear
+-- the node at reset: flags are clear, all else is unknown
 abbrev pub reset_node : List Entry → Node
 reset_node A = record { key = entry_key root_inst; state = root_of A }
 
@@ -26,7 +26,7 @@ reset_node A = record { key = entry_key root_inst; state = root_of A }
 
 -- 2: no node has a fault: `AreFaultless`, with the definition of families
 
--- 3: each edge lands at a node that is there, with a state at least its own
+-- 3: each edge leads to a node of the certificate, with a state within that node's
 abbrev pub AllLand : Program → List Entry → List Node → Type 0
 AllLand words A nodes = (n : Node) (e : Edge) → Contains nodes n → IsEdge words A nodes n e → IsCovered nodes (target e)
 
@@ -35,8 +35,8 @@ abbrev pub AreRanked : Program → List Entry → Claim → List Node → Type 0
 AreRanked words A c nodes = (n : Node) (way : EdgeKind) (inst : InstKey) (back : ℕ) → Contains nodes n → Enters words A n way inst back
     → rank_in c.instances inst < rank_in c.instances n.key.inst
 
--- This number is at least the offset of each node of the instance with a closed stack pointer, and at least what each instance that it
--- enters needs, behind the offset there and two bytes for the way back.
+-- This number is at least the offset of each closed node of the instance, and at least an entered instance's need plus the offset and two
+-- bytes for the return address.
 pub record Suffices (words : Program) (A : List Entry) (c : Claim) (nodes : List Node) (inst : InstKey) (need : ℕ) : Type 0 where
   pub offsets : (n : Node) (offset : ℕ) → Contains nodes n → n.key.inst ≡ inst → n.key.sp ≡ Closed offset → offset ≤ need
   pub entered : (n : Node) (way : EdgeKind) (into : InstKey) (back : ℕ) → Contains nodes n → n.key.inst ≡ inst → Enters words A n way into back
@@ -46,29 +46,29 @@ pub record Suffices (words : Program) (A : List Entry) (c : Claim) (nodes : List
 abbrev pub NeedsSuffice : Program → List Entry → Claim → List Node → Type 0
 NeedsSuffice words A c nodes = (inst : InstKey) → Suffices words A c nodes inst (need_in c.instances inst)
 
--- 6: the bound is at least the root's need, and no more than the device's SRAM has bytes
+-- 6: the bound is at least the root's need, and at most the size of the device's SRAM
 pub record IsBounded (words : Program) (c : Claim) : Type 0 where
   pub enough : need_in c.instances root_inst ≤ c.bound
   pub small : c.bound ≤ size_of (device_of words)
 
 pub record MeetsConditions (words : Program) (A : List Entry) (c : Claim) (nodes : List Node) : Type 0 where
-  -- 1: the node at reset is there, with a state at least that one
+  -- 1: the node at reset is in the certificate, with a state above the reset state
   pub reset : IsCovered nodes (reset_node A)
   pub faultless : AreFaultless words A nodes
   pub edges : AllLand words A nodes
   pub ranks : AreRanked words A c nodes
   pub needs : NeedsSuffice words A c nodes
   pub bounded : IsBounded words c
-  -- 7: the assumptions are those handed in
+  -- 7: the assumptions are those of the call
   pub assumptions : c.assumptions ≡ A
 
--- Each node has an expansion, and the nodes so expanded meet the conditions: all but that on the schedule.
+-- Each node has an expansion, and the expanded nodes meet all conditions but that on the schedule.
 pub record IsSound (words : Program) (A : List Entry) (c : Claim) : Type 0 where
   pub nodes : List Node
   pub expanded : IsFilled words A c.nodes nodes
   pub meets : MeetsConditions words A c nodes
 
--- the schedule's replay meets no illegal choice, ends without a stop, and its depth is the bound
+-- the replay of the schedule meets no illegal choice, ends without a stop, and is as deep as the bound
 abbrev pub Attains : Program → List Entry → ℕ → Plan → Type 0
 Attains words A bound plan = IsOkAnd (replay_of words A plan) (λ r. (r.stop ≡ stop.End) × (r.depth ≡ bound))
 
@@ -77,11 +77,11 @@ abbrev pub IsAttained : Program → List Entry → ℕ → Option Plan → Type 
 IsAttained words A bound None = ⊤
 IsAttained words A bound (Some plan) = Attains words A bound plan
 
--- The certificate is valid for the words of flash and the assumptions.
+-- The certificate is valid for these words of flash and these assumptions.
 pub record IsValid (words : Program) (A : List Entry) (c : Claim) : Type 0 where
   pub sound : IsSound words A c
   pub attained : IsAttained words A c.bound c.witness
 
--- the family of nodes, with ranks and needs, that a certificate with these nodes stands for
+-- the family of a certificate with these expanded nodes, with its ranks and needs
 abbrev pub family_of : Claim → List Node → RankedFamily
 family_of c nodes = record { nodes = nodes; rank_of = rank_in c.instances; need_of = need_in c.instances; bound = c.bound }

@@ -1,5 +1,5 @@
--- What each version of a certificate's text can say. The first knows no ranges, no carry tag of a register or a sum, and no picks. The third is for
--- certificates whose assumptions have the line `pairs`, and only for these: it says what is known of pairs. Source: own.
+-- What each version of a certificate's text can say. The first has no ranges, no carry tags of registers or sums, and no picks. The third
+-- is for certificates whose assumptions have the line `pairs`, and only for these; it has facts on pairs. Source: own.
 use Rattle.std.specs.Prelude.{ℕ, Bool, true, false, ◌≡◌, ⊤, List, Option, None}
 use Rattle.std.specs.List.{AllByRecursion}
 use Rattle.avr_model.specs.declared.assumption.Entry.{Entry}
@@ -19,7 +19,7 @@ use Rattle.edge_rules.specs.Expansion.{Seeds}
 use Rattle.certificate.specs.declared.version.Version.{Version}
 use Rattle.certificate.specs.declared.version.Version.TheVariants.{One, Two, Three}
 
--- a value of the first version stands for all bytes that its bits permit
+-- a value of the first version has all bytes that its bits permit
 abbrev pub ValueIsOf : Version → AbsByte → Type 0
 ValueIsOf One v = set_of v ≡ set_of_bits v.bits
 ValueIsOf Two v = ⊤
@@ -29,7 +29,7 @@ abbrev pub SlotIsOf : Version → Slot AbsByte → Type 0
 SlotIsOf version Free = ⊤
 SlotIsOf version (Guarded v) = ValueIsOf version v
 
--- a carry tag of the first version isn't of a register, and not of a sum
+-- a carry tag of the first version is no register's and no sum's
 abbrev pub HasNewCarries : Version → Type 0
 HasNewCarries One = ⊥
 HasNewCarries Two = ⊤
@@ -56,12 +56,12 @@ abbrev pub FormIsOf : Version → NodeForm → Type 0
 FormIsOf version (State s) = StateIsOf version s
 FormIsOf version (From m) = ⊤
 
--- its key and its state can be written
+-- the version can say its key and state
 pub record NodeIsOf (version : Version) (n : NodeKey × NodeForm) : Type 0 where
   pub key : PickIsOf version n.0.pick
   pub form : FormIsOf version n.1
 
--- nodes that a text of this version can have: in the second and third each
+-- the version can say these nodes; the second and third can say all
 abbrev pub AreOf : Version → Seeds → Type 0
 AreOf One nodes = AllByRecursion (NodeIsOf One) nodes
 AreOf Two nodes = ⊤
@@ -72,7 +72,7 @@ is_third One = false
 is_third Two = false
 is_third Three = true
 
--- the version in which a certificate with these assumptions is written
+-- the version of a certificate with these assumptions
 abbrev pub written_by : Bool → Version
 written_by false = Two
 written_by true = Three

@@ -1,4 +1,4 @@
--- The explanation of a certificate: its deepest chain over what is reached, and the way to each place. Source: own.
+-- The explanation of a certificate: the deepest chain over the reached nodes, and the path to each place. Source: own.
 use Rattle.std.specs.Prelude.{ℕ, ◌+◌, ◌≡◌, ⊤, List, [], ◌∷◌, Option, Some, None, slice_get}
 use Rattle.avr_model.specs.declared.assumption.Entry.{Entry}
 use Rattle.avr_model.specs.Devices.{Program}
@@ -14,7 +14,7 @@ use Rattle.chain_explain.specs.declared.explanation.Part.{Part}
 use Rattle.chain_explain.specs.Reached.{AreReached}
 use Rattle.chain_explain.specs.Walks.{IsWay}
 
--- how many bytes a link adds: its offset, and two for the way back where it goes on into another instance
+-- the bytes of a link: its offset, and two for the return address if the chain goes on into another instance
 abbrev pub adds_by : ℕ → Option EdgeKind → ℕ
 adds_by offset None = offset
 adds_by offset (Some way) = offset + 2
@@ -30,14 +30,14 @@ pub record IsPart (words : Program) (A : List Entry) (nodes reached : List Node)
   pub is : slice_get nodes target ≡ Some node
   pub way : IsWay words A nodes node.key.inst target part.walk
 
--- one for each link
+-- one part for each link
 abbrev pub AreParts : Program → List Entry → List Node → List Node → List Link → List Part → Type 0
 AreParts words A nodes reached [] [] = ⊤
 AreParts words A nodes reached [] (part ∷ parts) = ⊥
 AreParts words A nodes reached (link ∷ links) [] = ⊥
 AreParts words A nodes reached (link ∷ links) (part ∷ parts) = IsPart words A nodes reached link part × AreParts words A nodes reached links parts
 
--- The least need of the root over the nodes of the family that edges reach, and the chain with these needs.
+-- The root's least need over the reached nodes of the family, and the chain by these needs.
 pub record Explains (words : Program) (A : List Entry) (nodes : List Node) (x : Explanation) : Type 0 where
   pub reached : List Node
   pub are_reached : AreReached words A nodes reached
@@ -45,7 +45,7 @@ pub record Explains (words : Program) (A : List Entry) (nodes : List Node) (x : 
   pub deepest : IsDeepest words A reached x.least links
   pub parts : AreParts words A nodes reached links x.parts
 
--- that of a certificate's family
+-- the explanation of a certificate's family
 pub record IsExplanation (words : Program) (A : List Entry) (c : Claim) (x : Explanation) : Type 0 where
   pub nodes : List Node
   pub filled : IsFilled words A c.nodes nodes

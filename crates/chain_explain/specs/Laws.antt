@@ -12,6 +12,6 @@ use Rattle.chain_explain.specs.Told.{Tells}
 abbrev pub ExplanationsAreOne : Type 0
 ExplanationsAreOne = (words : Program) (A : List Entry) (c : Claim) (x y : Explanation) → IsClaim c → IsExplanation words A c x → IsExplanation words A c y → x ≡ y
 
--- where the conditions of a certificate hold, its explanation tells where the bytes of its bound go
+-- if the conditions of a certificate hold, its explanation accounts for the bytes of its bound
 abbrev pub ExplanationsTell : Type 0
 ExplanationsTell = (words : Program) (A : List Entry) (c : Claim) (x : Explanation) → IsSound words A c → IsExplanation words A c x → Tells words A c x

@@ -1,4 +1,4 @@
--- Words of the inner contracts.
+-- Definitions for the contracts of internal functions.
 use Rattle.std.specs.Prelude.{ℕ, ◌+◌, ◌-◌, ◌≡◌, ◌<◌, ◌≤◌, ◌↔◌, ⊤, Bool, if◌then◌else◌, List, [], ◌∷◌, length, map, slice_index_or}
 use Rattle.std.specs.List.{flat_map}
 use Rattle.avr_model.specs.declared.assumption.Entry.{Entry}
@@ -17,22 +17,22 @@ use Rattle.chain_explain.specs.Walks.{MovesTo}
 abbrev pub at_of : Landing → ℕ
 at_of l = l.at
 
--- that of an edge that enters no instance: it stays in its own
+-- the target of an edge that enters no instance
 abbrev pub move_of : Landing → List ℕ
 move_of l = if is_entry l.kind then [] else l.at ∷ []
 
 abbrev pub moves_of : List Landing → List ℕ
 moves_of landings = flat_map move_of landings
 
--- by node, to which nodes its edges lead
+-- for each node, the targets of its edges
 abbrev pub leads_by : List (List Landing) → List (List ℕ)
 leads_by all = map (map at_of) all
 
--- by node, to which nodes its local and return edges lead
+-- for each node, the targets of its local and return edges
 abbrev pub moves_by : List (List Landing) → List (List ℕ)
 moves_by all = map moves_of all
 
--- The moves of a family of at most 65,536 nodes, with the node at reset, whose edges land.
+-- The moves of a family of at most 65,536 nodes with the node at reset, all of whose edges land.
 pub record AreMoves (words : Program) (A : List Entry) (nodes : List Node) (moves : List (List ℕ)) : Type 0 where
   pub few : length nodes ≤ 65536
   pub count : length moves ≡ length nodes
@@ -55,7 +55,7 @@ pub record IsPortion (graph : List (List ℕ)) (low count : ℕ) (portion : List
 
 -- ---- links
 
--- each link's node is there
+-- the family has each link's node
 abbrev pub AreThere : List Node → List Link → Type 0
 AreThere reached [] = ⊤
 AreThere reached (link ∷ links) = (link.node < length reached) × AreThere reached links

@@ -1,4 +1,4 @@
--- Which nodes of a family edges reach from the node at reset. Source: own.
+-- The nodes of a family that edges reach from the node at reset. Source: own.
 use Rattle.std.specs.Prelude.{ℕ, ◌↔◌, List, map, Contains}
 use Rattle.std.specs.List.Sorted.{IsStrictlySortedBy}
 use Rattle.avr_model.specs.declared.assumption.Entry.{Entry}
@@ -11,12 +11,12 @@ use Rattle.edge_rules.specs.declared.edge.Edge.{Edge}
 use Rattle.edge_rules.specs.Edges.{IsEdge}
 use Rattle.edge_rules.specs.Views.{key_of}
 
--- the key of the node at reset is reached, and so is where each edge of the family from a reached node leads
+-- the key of the node at reset is reached, and so are the targets of edges from reached nodes
 pub data IsReached (words : Program) (A : List Entry) (nodes : List Node) : NodeKey → Type 0 where
   at_reset : IsReached words A nodes (entry_key root_inst)
   by_edge : (n : Node) (e : Edge) → Contains nodes n → IsReached words A nodes n.key → IsEdge words A nodes n e → IsReached words A nodes e.to
 
--- the reached nodes of a family, in the order of their keys
+-- the reached nodes of a family, ascending by key
 pub record AreReached (words : Program) (A : List Entry) (nodes reached : List Node) : Type 0 where
   pub ascending : IsStrictlySortedBy node_cmp (map key_of reached)
   pub exact : (n : Node) → Contains reached n ↔ (Contains nodes n × IsReached words A nodes n.key)

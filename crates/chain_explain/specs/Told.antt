@@ -1,4 +1,4 @@
--- What an explanation tells.
+-- What an explanation shows.
 use Rattle.std.specs.Prelude.{ℕ, ◌+◌, ◌≡◌, ◌≤◌, List, [], ◌∷◌, Option, slice_get, Some}
 use Rattle.std.specs.List.{sum_by}
 use Rattle.avr_model.specs.declared.assumption.Entry.{Entry}
@@ -15,12 +15,12 @@ use Rattle.chain_explain.specs.declared.explanation.Explanation.{Explanation}
 use Rattle.chain_explain.specs.declared.explanation.Part.{Part}
 use Rattle.chain_explain.specs.Walks.{IsWay}
 
--- the sum of the parts' numbers
+-- the sum of the parts' bytes
 abbrev pub sum_of : List Part → ℕ
 sum_of parts = sum_by (λ p. p.adds) parts
 
--- The part's place is this node of the family, at which the stack pointer is whole and so far below the instance's base; the part's
--- words are those of the first of the shortest walks to it.
+-- The part's place is this node of the family, with a whole stack pointer at this offset. The part's words are those of the first
+-- shortest walk to it.
 pub record IsPlace (words : Program) (A : List Entry) (nodes : List Node) (part : Part) (n : Node) (offset : ℕ) : Type 0 where
   pub number : ℕ
   pub at : slice_get nodes number ≡ Some n
@@ -44,7 +44,7 @@ pub record EntersNext (words : Program) (A : List Entry) (nodes : List Node) (pa
   pub back : ℕ
   pub enters : Enters words A place way next.inst back
 
--- each part goes on so into the next, to the last
+-- each part leads into the next, up to the last
 abbrev pub GoOn : Program → List Entry → List Node → Part → List Part → Type 0
 GoOn words A nodes part [] = Ends words A nodes part
 GoOn words A nodes part (next ∷ rest) = EntersNext words A nodes part next × GoOn words A nodes next rest
@@ -59,7 +59,7 @@ pub record Nest (words : Program) (A : List Entry) (c : Claim) (parts : List Par
   pub begins : root.inst ≡ root_inst
   pub go_on : GoOn words A nodes root rest
 
--- the certificate has the nodes and the bound of one at which the rounds end, with or without a schedule
+-- the certificate has the nodes and the bound of the one at which the rounds end; its schedule may differ
 pub record IsOfRounds (words : Program) (A : List Entry) (c : Claim) : Type 0 where
   pub steps : Option ℕ
   pub least : Claim
@@ -67,8 +67,8 @@ pub record IsOfRounds (words : Program) (A : List Entry) (c : Claim) : Type 0 wh
   pub nodes : c.nodes ≡ least.nodes
   pub bound : c.bound ≡ least.bound
 
--- What the explanation of a certificate tells: its parts nest from the root on and add up to its number, which is at most the bound, and the
--- bound itself where the rounds end with this certificate.
+-- The parts of the explanation nest from the root on and add up to its number. This is at most the bound, and equals it if the rounds end
+-- with this certificate.
 pub record Tells (words : Program) (A : List Entry) (c : Claim) (x : Explanation) : Type 0 where
   pub sums : sum_of x.parts ≡ x.least
   pub bounded : x.least ≤ c.bound

@@ -1,4 +1,4 @@
--- The way to a place within its instance. Source: own.
+-- The path to a place within its instance. Source: own.
 use Rattle.std.specs.Prelude.{ℕ, ◌≡◌, ◌↔◌, Bool, true, false, List, map, Option, Some, None, Contains, slice_get}
 use Rattle.avr_model.specs.declared.assumption.Entry.{Entry}
 use Rattle.avr_model.specs.Devices.{Program}
@@ -13,7 +13,7 @@ use Rattle.edge_rules.specs.Edges.{Enters, IsEdge}
 use Rattle.shortest_walk.specs.Graph.{PointsTo}
 use Rattle.shortest_walk.specs.Walk.{IsFirstOfShortest}
 
--- an edge of this kind doesn't enter an instance: it is local, or returns
+-- an edge of this kind enters no instance: it is local, or a return
 abbrev pub is_move : EdgeKind → Bool
 is_move Local = true
 is_move Call = false
@@ -32,7 +32,7 @@ pub record MovesTo (words : Program) (A : List Entry) (nodes : List Node) (i j :
   pub key : to.key ≡ edge.to
   pub stays : to.key.inst ≡ from.key.inst
 
--- A walk of the instance begins at a node that a call or interrupt edge of the family enters; one of the root at the node at reset.
+-- A walk of an instance begins at a node that a call or interrupt edge of the family enters; in the root, at the node at reset.
 pub data Begins (words : Program) (A : List Entry) (nodes : List Node) : InstKey → NodeKey → Type 0 where
   at_reset : Begins words A nodes root_inst (entry_key root_inst)
   by_entry : (n : Node) (way : EdgeKind) (inst : InstKey) (back : ℕ) → Contains nodes n → Enters words A n way inst back → Begins words A nodes inst (entry_key inst)
@@ -43,7 +43,7 @@ pub record IsStart (words : Program) (A : List Entry) (nodes : List Node) (inst 
   pub at : slice_get nodes i ≡ Some node
   pub begins : Begins words A nodes inst node.key
 
--- the program counter of a node, 0 where there is none
+-- the program counter of a node, 0 if there is none
 abbrev pub pc_of : Option Node → ℕ
 pc_of None = 0
 pc_of (Some n) = n.key.pc
@@ -51,8 +51,8 @@ pc_of (Some n) = n.key.pc
 abbrev pub pc_at : List Node → ℕ → ℕ
 pc_at nodes i = pc_of (slice_get nodes i)
 
--- The words of the first of the shortest walks to the node of this number in its instance, both ends included: of walks as long, the one
--- whose list of node numbers is the least.
+-- The words of the first shortest walk to the node of this number in its instance, both ends included. Of walks with the same length, the
+-- least list of node numbers is the first.
 pub record IsWay (words : Program) (A : List Entry) (nodes : List Node) (inst : InstKey) (target : ℕ) (walk : List ℕ) : Type 0 where
   pub graph : List (List ℕ)
   pub moves : (i j : ℕ) → PointsTo graph i j ↔ MovesTo words A nodes i j

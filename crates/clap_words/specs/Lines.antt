@@ -1,4 +1,4 @@
--- The program's command line as `clap` has it, and the words that are refused before. Source: own.
+-- The program's command line as `clap` has it, and the words that are refused before it. Source: own.
 use Rattle.std.specs.Prelude.{◌&&◌, ◌||◌, not, Bool, true, List, [], ◌∷◌, Some, codes}
 use Rattle.std.specs.Borrow.{Bor}
 use Rattle.std.specs.Str.{bytes_eq}
@@ -11,7 +11,7 @@ use Rattle.clap_words.specs.declared.line.ArgumentKind.TheVariants.{Name, Value,
 
 -- ---- what clap knows
 
--- a name that has to stand there
+-- a required name
 abbrev pub name_rule : Text → Rule
 name_rule id = record (new_rule id) { required = true }
 
@@ -19,11 +19,11 @@ name_rule id = record (new_rule id) { required = true }
 abbrev pub value_rule : Text → Rule
 value_rule id = record (new_rule id) { long = Some id }
 
--- an option that takes none
+-- an option without a value
 abbrev pub flag_rule : Text → Rule
 flag_rule id = record (new_rule id) { long = Some id; action = Some SetTrue }
 
--- the options that a command on a firmware has: an assumption file, and the device
+-- the options of a command on a firmware: an assumption file, and the device
 abbrev pub on_device : App → App
 on_device app = with_rule (with_rule app (value_rule (codes "assume"))) (value_rule (codes "device"))
 
@@ -31,7 +31,7 @@ on_device app = with_rule (with_rule app (value_rule (codes "assume"))) (value_r
 abbrev pub pair_app : Text → App
 pair_app name = with_rule (with_rule (new_app name) (name_rule (codes "firmware"))) (name_rule (codes "second"))
 
--- and these options
+-- a firmware and a second file, with the options of a firmware
 abbrev pub judging_app : Text → App
 judging_app name = on_device (pair_app name)
 
@@ -41,7 +41,7 @@ check_app = judging_app (codes "check")
 abbrev pub run_app : App
 run_app = judging_app (codes "run")
 
--- and one that takes none
+-- with an option without a value
 abbrev pub judging_flagged_app : Text → Text → App
 judging_flagged_app name id = with_rule (judging_app name) (flag_rule id)
 
@@ -51,7 +51,7 @@ report_app = judging_flagged_app (codes "report") (codes "json")
 abbrev pub explain_app : App
 explain_app = judging_app (codes "explain")
 
--- it has no assumption file
+-- without an assumption file
 abbrev pub clear_app : App
 clear_app = with_rule (pair_app (codes "clear")) (value_rule (codes "device"))
 
@@ -61,7 +61,7 @@ premises_app = judging_flagged_app (codes "premises") (codes "why")
 abbrev pub analyse_app : App
 analyse_app = with_rule (on_device (with_rule (new_app (codes "analyse")) (name_rule (codes "firmware")))) (value_rule (codes "steps"))
 
--- and another that takes the next word
+-- with an option that takes the next word
 abbrev pub judging_with_app : Text → Text → App
 judging_with_app name id = with_rule (judging_app name) (value_rule id)
 
@@ -89,7 +89,7 @@ bare_app = record {
 
 -- ---- the same, made of a table
 
--- an argument of a kind
+-- the rule of an argument by its kind
 abbrev pub rule_by : ArgumentKind → Text → Rule
 rule_by Name id = name_rule id
 rule_by Value id = value_rule id
@@ -119,6 +119,6 @@ is_option word =
     bytes_eq word (codes "--assume")
     || (bytes_eq word (codes "--steps") || (bytes_eq word (codes "--device") || (bytes_eq word (codes "--trials") || (bytes_eq word (codes "--json") || bytes_eq word (codes "--why")))))
 
--- an empty word, or one that begins with `-` and is none of the options
+-- an empty word, or one that begins with `-` and is no option
 abbrev pub is_refused : Text → Bool
 is_refused word = not (is_name word) && not (is_option word)

@@ -1,4 +1,4 @@
--- Where the byte of a store may go. Source: own.
+-- The possible addresses of a store. Source: own.
 use Rattle.std.specs.Prelude.{ℕ, zero, suc, ◌+◌, ◌*◌, ◌-◌, ◌&&◌, ◌==◌, Bool, true, false, nat_lt, nat_le, if◌then◌else◌, Option, Some, None}
 use Rattle.avr_model.specs.declared.device.Device.{Device}
 use Rattle.avr_model.specs.declared.instruction.Instr.{Instr}
@@ -25,7 +25,7 @@ pub use Rattle.clear_laws.specs.declared.stores.Aim.{Aim}
 
 -- ---- the bytes that a value permits
 
--- the least and the greatest number below n that passes a test
+-- the number so far, else n if it passes the test
 abbrev pub or_number : Option ℕ → Bool → ℕ → Option ℕ
 or_number (Some x) passes n = Some x
 or_number None passes n = if passes then Some n else None
@@ -47,7 +47,7 @@ last_byte v = greatest_below (may_be v) 256
 
 -- ---- addresses
 
--- from the number of the least bytes to that of the greatest, where there are any
+-- from the number of the least bytes to that of the greatest, if all exist
 abbrev pub spanning : Option ℕ → Option ℕ → Option ℕ → Option ℕ → Option Span
 spanning (Some a) (Some b) (Some c) (Some d) = Some (record { first = a + 256 * b; last = c + 256 * d })
 spanning _ _ _ _ = None
@@ -56,7 +56,7 @@ spanning _ _ _ _ = None
 abbrev pub pair_span : AbsState → ℕ → Option Span
 pair_span s r = spanning (first_byte (value s r)) (first_byte (value s (r + 1))) (last_byte (value s r)) (last_byte (value s (r + 1)))
 
--- with a number added to both ends, or 1 taken off both
+-- the span with a number added to both ends, or 1 subtracted from both
 abbrev pub raised : Option Span → ℕ → Reach
 raised None q = reach.Nothing
 raised (Some span) q =
@@ -79,8 +79,8 @@ pointer_reach pointer.MinusX s = lowered (pair_span s 26)
 
 -- ---- the addresses that a pointer permits
 
--- The byte of a store may go to this address, below 65,536: its pointer permits a number which gives it, with what is added to the pointer
--- modulo 65,536.
+-- The byte of a store may go to this address below 65,536: the pointer permits a number that gives it, with the displacement added modulo
+-- 65,536.
 abbrev pub may_write : AbsState → Instr → ℕ → Bool
 may_write s (i.Std b q r) a = permits_number s (base_register b) (minus16 a q)
 may_write s (i.St p r) a = permits_number s (pointer_register p) (minus16 a (step_before p))
@@ -89,7 +89,7 @@ may_write s _ a = false
 
 -- ---- slots
 
--- the slot of the running frame at an address: in the root, whose base is the top of SRAM, by a number, and elsewhere by tags
+-- the slot of the running frame at an address: by its number in the root, whose base is the top of SRAM, and by tags elsewhere
 abbrev pub slot_at_number : Device → Option ℕ → Option ℕ
 slot_at_number device None = None
 slot_at_number device (Some a) = if nat_le a (ramend device) then Some (ramend device - a) else None
@@ -102,7 +102,7 @@ slot_aimed device (Vector v) p = p.frame
 abbrev pub at_number : ℕ → Pointed
 at_number a = record { constant = Some a; frame = None }
 
--- where the byte of `st`, `std` and `sts` goes, with what is added to the pointer modulo 65,536
+-- the address of `st`, `std` and `sts`, with the displacement added modulo 65,536
 abbrev pub aim_of : Device → NodeKey → AbsState → Instr → Option Aim
 aim_of device k s (i.Std b q r) =
     Some (record { reach = raised (pair_span s (base_register b)) q; slot = slot_aimed device k.inst.kind (pointed s (base_register b) q) })

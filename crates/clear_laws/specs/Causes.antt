@@ -1,4 +1,4 @@
--- What may happen where a step may be flagged. Source: own.
+-- The possible causes of a flagged step. Source: own.
 use Rattle.std.specs.Prelude.{ℕ, ◌-◌, ◌≡◌, ◌⊎◌, ◌&&◌, ◌||◌, Bool, true, not, List, Some, Contains}
 use Rattle.avr_model.specs.declared.assumption.Entry.{Entry}
 use Rattle.avr_model.specs.declared.choice.Flag.{Flag}
@@ -18,31 +18,30 @@ use Rattle.clear_laws.specs.Clear.{IsClear, is_flagged_address, is_transfer_list
 
 -- ---- the addresses of a store
 
--- the byte of a store may go to this address, and that may be flagged as a protected one
+-- the byte of a store may go to this address, and the write may be flagged as one of a protected address
 abbrev pub may_write_protected : Program → List Entry → ℕ → AbsState → Instr → ℕ → Bool
 may_write_protected words A pc s instr a = is_flagged_address words A pc s instr a && may_write s instr a
 
--- there is such an address; none is above 255
+-- some address may be flagged as protected; all such are at most 255
 abbrev pub may_write_some_protected : Program → List Entry → ℕ → AbsState → Instr → Bool
 may_write_some_protected words A pc s instr = any_below 256 (may_write_protected words A pc s instr)
 
--- it may go to one of the addresses that the stack can reach by the bound, which are the last of SRAM
+-- the store may reach an address that the stack can have by the bound: one of the last of SRAM
 abbrev pub may_write_stack : Device → ℕ → AbsState → Instr → Bool
 may_write_stack device bound s instr = any_below bound (λ d. may_write s instr (ramend device - d))
 
--- Where pairs aren't followed, the least and the greatest address alone may not show that a store is harmless, though it may go neither where
--- the stack can reach nor to an address that is flagged as protected. Nothing else is told of such a store. Where pairs are followed there is
--- none.
+-- Without pairs, the test for harmless stores uses only the least and the greatest address. So a store may fail it although it reaches
+-- neither the stack nor a protected address; it has no other cause. With pairs no store is so.
 abbrev pub is_untold : Program → List Entry → ℕ → AbsState → Instr → Bool
 is_untold words A pc s instr = not (is_followed s.facts) && not (is_indirect instr || may_write_some_protected words A pc s instr)
 
--- a store that isn't harmless may write a pushed byte: it may go where the stack can reach, or nothing else is told of it
+-- a store that isn't harmless may write a pushed byte: it may reach the stack, or it has no other cause
 abbrev pub may_write_live : Program → List Entry → ℕ → ℕ → AbsState → Instr → Bool
 may_write_live words A bound pc s instr = may_write_stack (device_of words) bound s instr || is_untold words A pc s instr
 
 -- ---- what may happen at a word
 
--- a node of the family at this word isn't clear, and its state and instruction pass a test
+-- a node of the family at this word isn't clear, and its state and instruction pass the test
 pub record IsCause (words : Program) (A : List Entry) (f : RankedFamily) (pc : ℕ) (test : AbsState → Instr → Bool) : Type 0 where
   pub node : Node
   pub present : Contains f.nodes node
@@ -52,7 +51,8 @@ pub record IsCause (words : Program) (A : List Entry) (f : RankedFamily) (pc : �
   pub instruction : instruction_at words pc ≡ Some instr
   pub passes : test node.state instr ≡ true
 
--- a store may write this protected address, a pushed byte; an indirect transfer may go to a word that its `jump` line doesn't list
+-- a store may write this protected address; a store may write a pushed byte; an indirect transfer may go to a word that its `jump` line
+-- does not list
 abbrev pub MayWriteProtected : Program → List Entry → RankedFamily → ℕ → ℕ → Type 0
 MayWriteProtected words A f pc a = IsCause words A f pc (λ s instr. may_write_protected words A pc s instr a)
 
@@ -62,11 +62,11 @@ MayWriteLive words A f pc = IsCause words A f pc (may_write_live words A f.bound
 abbrev pub MayGoUnlisted : Program → List Entry → RankedFamily → ℕ → Type 0
 MayGoUnlisted words A f pc = IsCause words A f pc (λ s instr. not (is_transfer_listed words A pc s instr))
 
--- one of them
+-- some cause holds
 abbrev pub HasCause : Program → List Entry → RankedFamily → ℕ → Type 0
 HasCause words A f pc = ((a : ℕ) × MayWriteProtected words A f pc a) ⊎ (MayWriteLive words A f pc ⊎ MayGoUnlisted words A f pc)
 
--- that of a flag
+-- the cause of a flag
 abbrev pub MayFlag : Program → List Entry → RankedFamily → Flag → Type 0
 MayFlag words A f (Live pc a) = MayWriteLive words A f pc
 MayFlag words A f (Protected pc a) = MayWriteProtected words A f pc a

@@ -33,17 +33,17 @@ use Rattle.clear_laws.specs.Places.{ArePlaces, AllTellCauses, AreToldOf}
 abbrev pub ClearVerdictsAreOne : Type 0
 ClearVerdictsAreOne = (words : Program) (c : Claim) (v w : ClearVerdict) → IsClearVerdict words c v → IsClearVerdict words c w → v ≡ w
 
--- no run from reset is flagged, and each keeps the bound: there is no premise on flags
+-- no run from reset is flagged, and each stays within the bound, without any premise on flags
 pub record IsBoundedAndClear (words : Program) (bound : ℕ) : Type 0 where
   pub bounded : Bounded words [] bound
   pub never : NeverFlagged words []
 
--- where all conditions hold without assumptions, and each node is clear
+-- if all conditions hold without assumptions, and each node is clear
 abbrev pub ClearFirmwaresAreNeverFlagged : Type 0
 ClearFirmwaresAreNeverFlagged = (words : Program) (c : Claim) → AreWords words → IsClaim c → IsSound words [] c → AreAllClear words [] c
     → IsBoundedAndClear words c.bound
 
--- the run stops where it takes a vector that is entered at one of these words
+-- the run stops when it takes a vector that is entered at one of these words
 pub record EndsByTakeAt (words : Program) (A : List Entry) (nevers : List ℕ) (m : State) (choices : List Choice) : Type 0 where
   pub before : List Choice
   pub vector : ℕ
@@ -53,37 +53,38 @@ pub record EndsByTakeAt (words : Program) (A : List Entry) (nevers : List ℕ) (
   pub passes : stop_of words A before m ≡ stop.End
   pub word : Contains nevers (vector_word (device_of words) vector)
 
--- each run from reset that ends flagged ends at one of the first words, or by taking a vector that is entered at one of the others
+-- each run from reset that ends flagged ends at one of the first words, or by taking a vector that is entered at one of the second
 abbrev pub EndFlaggedAt : Program → List Entry → List ℕ → List ℕ → Type 0
 EndFlaggedAt words A sites nevers =
     (m : State) (choices : List Choice) (flag : Flag) → IsReset (device_of words) m → IsRun words A choices m → stop_of words A choices m ≡ stop.Flag flag
     → Contains sites (word_of_flag flag) ⊎ EndsByTakeAt words A nevers m choices
 
--- where all conditions hold, runs end flagged only at the words at which some node isn't clear, and by taking a vector that is never entered
+-- if all conditions hold, runs end flagged only at words with a node that isn't clear, or by taking a vector that is assumed never to be
+-- taken
 abbrev pub FlaggedRunsEndAtSites : Type 0
 FlaggedRunsEndAtSites =
     (words : Program) (A : List Entry) (c : Claim) (sites nevers : List ℕ) → AreWords words → IsClaim c → IsSound words A c → AreSites words A c sites
     → AreNevers words A c nevers → EndFlaggedAt words A sites nevers
 
--- each run from reset that ends flagged ends where just that is told of its word, or by taking a vector that is entered at one of the others
+-- each run from reset that ends flagged ends at a listed word with that cause, or by taking a vector that is entered at one of the others
 abbrev pub EndFlaggedAsTold : Program → List Entry → List FlaggedPlace → List ℕ → Type 0
 EndFlaggedAsTold words A places nevers =
     (m : State) (choices : List Choice) (flag : Flag) → IsReset (device_of words) m → IsRun words A choices m → stop_of words A choices m ≡ stop.Flag flag
     → AreToldOf places flag ⊎ EndsByTakeAt words A nevers m choices
 
--- where all conditions hold, runs end flagged only as it is told, and something is told of each word
+-- if all conditions hold, runs end flagged only as listed, and each listed word has a cause
 pub record FlaggedRunsEndAtPlaces : Type 0 where
   pub ends : (words : Program) (A : List Entry) (c : Claim) (places : List FlaggedPlace) (nevers : List ℕ) → AreWords words → IsClaim c → IsSound words A c
       → ArePlaces words A c places → AreNevers words A c nevers → EndFlaggedAsTold words A places nevers
   pub told : (words : Program) (A : List Entry) (c : Claim) (places : List FlaggedPlace) → ArePlaces words A c places → AllTellCauses places
 
--- With links as they are, a slot spreads to just the nodes at which it may hold a live byte.
+-- Along such links a slot spreads to exactly the nodes at which it may hold a live byte.
 abbrev pub SlotsSpreadAlongLinks : Type 0
 SlotsSpreadAlongLinks = (words : Program) (A : List Entry) (nodes : List Node) (links : List (List ℕ)) (offsets : List ℕ) (seeds : List SlotSeed)
     → AreLinks words A nodes links offsets seeds → AreShown nodes → (at d : ℕ) (n : Node) → slice_get nodes at ≡ Some n
     → SlotReaches links offsets seeds d at ↔ MayHold words A nodes n.key d
 
--- Where a node asks this of its slots, it is clear exactly where that is met.
+-- If this is a node's condition on its slots, the node is clear exactly if the condition is met.
 abbrev pub AskingsTellClearNodes : Type 0
 AskingsTellClearNodes = (words : Program) (A : List Entry) (f : RankedFamily) (n : Node) (a : Asks) → ((held : ℕ → Bool) → is_clear words A f.bound n held ≡ meets a held)
     → Meets a (λ d. MayHold words A f.nodes n.key d) ↔ IsClear words A f n

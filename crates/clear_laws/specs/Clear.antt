@@ -1,4 +1,4 @@
--- Nodes at which no step can be flagged. Source: own.
+-- Clear nodes: no step can be flagged there. Source: own.
 use Rattle.std.specs.Prelude.{ℕ, ⊤, ◌+◌, ◌++◌, ◌∷◌, ◌≡◌, ◌≢◌, ◌<◌, ◌≤◌, ◌&&◌, ◌||◌, ◌==◌, Bool, true, false, not, nat_lt, nat_le, if◌then◌else◌, List, Option, Some, None, Contains}
 use Rattle.avr_model.specs.declared.assumption.Entry.{Entry}
 use Rattle.avr_model.specs.declared.choice.Choice.{Choice}
@@ -35,35 +35,36 @@ use Rattle.clear_laws.specs.Held.{MayHold}
 
 -- ---- stores
 
--- what is known of the byte that a pointer store stores
+-- the bits of the byte that a pointer store stores
 abbrev pub stored_bits : AbsState → Instr → TriByte
 stored_bits s (i.Std b q r) = bits s r
 stored_bits s (i.St p r) = bits s r
 stored_bits s _ = byte_any
 
--- A write of a byte of this kind to this address is flagged at the unfixed site: the address is protected, and no `store` line of the site
--- lists it. Where the line `masks` admits the site: it is that of a register, of the stack pointer or of the status register, or the byte may
--- have 1 at an enable bit of a barred vector.
+-- Writing a byte of this kind to this address is flagged at the unfixed site: the address is protected, and no `store` line of the site
+-- lists it. If the line `masks` admits the site, only registers, the stack pointer and the status register are protected, and enable bits
+-- of barred vectors in which the byte may have 1.
 abbrev pub is_guarded : Device → List Entry → ℕ → TriByte → ℕ → Bool
 is_guarded device A site value a =
     if admits_enables A site
     then is_core a || may_enable_barred device A a value
     else is_protected a && not (lists (store_line A site) a)
 
--- The address may be flagged as protected: this is `st` or `std`, the site isn't fixed, and a write of its byte to the address is flagged.
+-- The write may be flagged as one of a protected address: the instruction is `st` or `std`, the site isn't fixed, and the address is
+-- protected from its byte.
 abbrev pub is_flagged_address : Program → List Entry → ℕ → AbsState → Instr → ℕ → Bool
 is_flagged_address words A pc s instr a =
     is_pointer_store instr && not (is_fixed_site words A pc) && is_guarded (device_of words) A pc (stored_bits s instr) a
 
--- The address is harmless: it lies in SRAM below what the stack can reach, or above SRAM, or below SRAM and isn't flagged.
+-- The address is harmless: in SRAM below the stack's reach, above SRAM, or below SRAM and not flagged.
 abbrev pub is_address_harmless : Program → List Entry → ℕ → ℕ → AbsState → Instr → ℕ → Bool
 is_address_harmless words A bound pc s instr a =
     (nat_lt BELOW a && nat_le (a + bound) (ramend (device_of words))) || nat_lt (ramend (device_of words)) a
     || (nat_le a BELOW && not (is_flagged_address words A pc s instr a))
 
--- A store with this aim writes no live byte and no flagged address: there is no address; all lie in SRAM below what the stack can reach; all
--- lie above SRAM; there is one, below SRAM, that isn't flagged; or the address is a slot, below the offset, that may hold no live byte. Where
--- pairs are followed it is also harmless where each address to which its byte may go is.
+-- A store with this aim writes no live byte and no flagged address: it has no address; all its addresses are in SRAM below the stack's
+-- reach; all are above SRAM; its one address is below SRAM and not flagged; or its address is a slot, below the offset, that may not hold
+-- a live byte. If pairs are followed, it is also harmless if each possible address is.
 pub data IsHarmless (words : Program) (A : List Entry) (f : RankedFamily) (n : Node) (instr : Instr) (aim : Aim) : Type 0 where
   no_address : aim.reach ≡ reach.Nothing → IsHarmless words A f n instr aim
   under_stack : (span : Span) → aim.reach ≡ reach.Within span → BELOW < span.first → span.last + f.bound ≤ ramend (device_of words)
@@ -77,7 +78,7 @@ pub data IsHarmless (words : Program) (A : List Entry) (f : RankedFamily) (n : N
 
 -- ---- transfers
 
--- registers r and r + 1 may hold this number: by their bits alone, and where pairs are followed also by their ranges and their interval
+-- registers r and r + 1 may hold this number: by their bits alone, and if pairs are followed also by their ranges and interval
 abbrev pub permits_by : Option PairFacts → AbsState → ℕ → ℕ → Bool
 permits_by None s r p = has (bits s r) (low p) && has (bits s (r + 1)) (high p)
 permits_by (Some f) s r p = permits_number s r p
@@ -85,15 +86,14 @@ permits_by (Some f) s r p = permits_number s r p
 abbrev pub permits_pair : AbsState → ℕ → ℕ → Bool
 permits_pair s r p = permits_by s.facts s r p
 
--- each word that Z may give is listed, where there is a line
+-- each possible word of Z is listed, if there is a line
 abbrev pub AreTargetsListed : Device → AbsState → Option (List ℕ) → Type 0
 AreTargetsListed device s None = ⊤
 AreTargetsListed device s (Some listed) = (z : ℕ) → z < 65536 → permits_pair s 30 z ≡ true → lists listed (wrapped device z) ≡ true
 
 -- ---- nodes
 
--- Where its instruction is a store, that is harmless; and where it is an indirect transfer, whose site has a `jump` line, the line lists all
--- words to which it may go.
+-- A store is harmless. An indirect transfer with a `jump` line goes to listed words only.
 pub record IsClear (words : Program) (A : List Entry) (f : RankedFamily) (n : Node) : Type 0 where
   pub store : (instr : Instr) (aim : Aim) → instruction_at words n.key.pc ≡ Some instr → aim_of (device_of words) n.key n.state instr ≡ Some aim
       → IsHarmless words A f n instr aim
@@ -107,8 +107,8 @@ pub record MayBeFlagged (words : Program) (A : List Entry) (f : RankedFamily) (p
   pub is : node.key.pc ≡ pc
   pub unclear : IsClear words A f node → ⊥
 
--- The word has a `never` line, and at one of these nodes a vector may be taken that is entered there: it is enabled, with I set and no delay.
--- The step is flagged.
+-- The word has a `never` line, and at one of these nodes a vector that is entered there may be taken: it is enabled, with I set and no
+-- delay. That step is flagged.
 pub record MayBeTaken (words : Program) (A : List Entry) (nodes : List Node) (word : ℕ) : Type 0 where
   pub never : is_never A word ≡ true
   pub node : Node
@@ -119,8 +119,8 @@ pub record MayBeTaken (words : Program) (A : List Entry) (nodes : List Node) (wo
   pub enabled : is_enabled node.key.masks vector ≡ true
   pub is : vector_word (device_of words) vector ≡ word
 
--- The run stops where it takes a vector that is entered at such a word. The flag is a live byte's where the entry would write one: the stack
--- pointer may be half written.
+-- The run stops when it takes a vector that is entered at such a word. If the stack pointer is half written, the entry may write a live
+-- byte, and the flag is that one's.
 pub record EndsByTake (words : Program) (A : List Entry) (nodes : List Node) (m : State) (choices : List Choice) : Type 0 where
   pub before : List Choice
   pub vector : ℕ
@@ -142,12 +142,12 @@ is_reach_harmless words A bound pc s instr reach.Nothing = true
 is_reach_harmless words A bound pc s instr (reach.Within span) = is_span_harmless words A bound pc s instr span
 is_reach_harmless words A bound pc s instr reach.Beyond = false
 
--- pairs are followed, and each address to which the byte may go is harmless
+-- pairs are followed, and each possible address is harmless
 abbrev pub are_addresses_harmless : Program → List Entry → ℕ → ℕ → AbsState → Instr → Bool
 are_addresses_harmless words A bound pc s instr =
     is_followed s.facts && all_below 65536 (λ a. not (may_write s instr a) || is_address_harmless words A bound pc s instr a)
 
--- below an offset, where `held` tells the slots that may hold a live byte
+-- the slot is below the offset and not in `held`, the slots that may hold a live byte
 abbrev pub is_slot_harmless : ℕ → (ℕ → Bool) → Option ℕ → Bool
 is_slot_harmless offset held None = false
 is_slot_harmless offset held (Some d) = nat_lt d offset && not (held d)

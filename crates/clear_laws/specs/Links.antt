@@ -1,4 +1,4 @@
--- The edges of a family that stay in their frame, by the numbers of its nodes.
+-- The edges of a family within frames, by the numbers of its nodes.
 use Rattle.std.specs.Prelude.{ℕ, ◌≡◌, ◌↔◌, true, List, length, map, Contains, Some}
 use Rattle.std.specs.List.{slice_get}
 use Rattle.avr_model.specs.declared.assumption.Entry.{Entry}
@@ -14,19 +14,19 @@ use Rattle.clear_laws.specs.Held.{StaysInFrame, is_guarded_push}
 use Rattle.clear_laws.specs.declared.slots.SlotSeed.{SlotSeed}
 use Rattle.clear_laws.specs.Reach.{links_of}
 
--- the node where the edge lands, if it stays in its frame
+-- the target of the edge, if it stays in its frame
 abbrev pub IsTarget : List Node → Edge → ℕ → Type 0
 IsTarget nodes e t = StaysInFrame e.kind × (place_of e.to nodes ≡ Some t)
 
--- the node where it lands, if it is local, with this slot
+-- the target of the edge with this slot, if the edge is local
 abbrev pub IsLandingSeed : List Node → ℕ → Edge → SlotSeed → Type 0
 IsLandingSeed nodes slot e s = (e.kind ≡ kind.Local) × (place_of e.to nodes ≡ Some s.node) × (s.slot ≡ slot)
 
--- how many slots each node has
+-- the number of slots of each node
 abbrev pub offsets_of : List Node → List ℕ
 offsets_of nodes = map (λ (n : Node). offset_of n.key.sp) nodes
 
--- the same where the edge is of a node at which a guarded byte is pushed
+-- the target with the pushed slot, if the edge is of a guarded push
 abbrev pub IsPushed : Program → List Node → NodeKey → Edge → SlotSeed → Type 0
 IsPushed words nodes k e s = (is_guarded_push words k.pc ≡ true) × IsLandingSeed nodes (offset_of k.sp) e s
 
@@ -39,8 +39,8 @@ pub record SeedComes (words : Program) (A : List Entry) (nodes : List Node) (s :
   pub from : IsEdge words A nodes node edge
   pub lands : IsPushed words nodes node.key edge s
 
--- Links by the numbers of nodes, the slots that guarded pushes add, and how many slots each node has: of each node, where its edges land that
--- stay in its frame.
+-- For each node, links are the targets of its edges within frames. The seeds are the slots of guarded pushes, and each node has its
+-- number of slots.
 pub record AreLinks (words : Program) (A : List Entry) (nodes : List Node) (links : List (List ℕ)) (offsets : List ℕ) (seeds : List SlotSeed) : Type 0 where
   pub count : length links ≡ length nodes
   pub link : (at : ℕ) (n : Node) (t : ℕ) → slice_get nodes at ≡ Some n

@@ -1,4 +1,4 @@
--- Laws of the words at which a step may be flagged.
+-- Laws of the lists of words at which a step may be flagged.
 use Rattle.std.specs.Prelude.{ℕ, ◌≡◌, ◌↔◌, List, []}
 use Rattle.avr_model.specs.declared.assumption.Entry.{Entry}
 use Rattle.avr_model.specs.Devices.{Program}
@@ -9,19 +9,19 @@ use Rattle.clear_laws.specs.declared.place.FlaggedPlace.{FlaggedPlace}
 use Rattle.clear_laws.specs.Verdict.{IsClearVerdict, AreSites, AreNevers}
 use Rattle.clear_laws.specs.Places.{ArePlaces}
 
--- a certificate has at most one list of such words
+-- the list of a certificate's words is unique
 abbrev pub SitesAreOne : Type 0
 SitesAreOne = (words : Program) (A : List Entry) (c : Claim) (xs ys : List ℕ) → AreSites words A c xs → AreSites words A c ys → xs ≡ ys
 
--- and at most one of them with what may happen there
+-- so is the list of these words with causes
 abbrev pub PlacesAreOne : Type 0
 PlacesAreOne = (words : Program) (A : List Entry) (c : Claim) (xs ys : List FlaggedPlace) → ArePlaces words A c xs → ArePlaces words A c ys → xs ≡ ys
 
--- and at most one list of words of vectors that are assumed never to be taken and that some node may take
+-- so is the list of words of vectors that are assumed never to be taken and that some node may take
 abbrev pub NeversAreOne : Type 0
 NeversAreOne = (words : Program) (A : List Entry) (c : Claim) (xs ys : List ℕ) → AreNevers words A c xs → AreNevers words A c ys → xs ≡ ys
 
--- without assumptions a certificate is clear exactly where the list is empty
+-- without assumptions a certificate is clear exactly if the list is empty
 abbrev pub ClearWhereNoSites : Type 0
 ClearWhereNoSites = (words : Program) (c : Claim) (verdict : ClearVerdict) (sites : List ℕ) → IsClearVerdict words c verdict → AreSites words [] c sites
     → (verdict ≡ Clear) ↔ (sites ≡ [])

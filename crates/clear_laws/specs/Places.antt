@@ -1,4 +1,4 @@
--- The words at which a step may be flagged, each with what may happen there. Source: own.
+-- The words at which a step may be flagged, with their causes. Source: own.
 use Rattle.std.specs.Prelude.{ℕ, ◌≡◌, ◌≢◌, ◌↔◌, ◌⊎◌, true, List, [], map, Contains}
 use Rattle.std.specs.List.Sorted.{IsStrictlySortedBy}
 use Rattle.std.specs.Ordering.{nat_cmp}
@@ -18,28 +18,28 @@ use Rattle.clear_laws.specs.Verdict.{AreSites}
 abbrev pub word_of : FlaggedPlace → ℕ
 word_of place = place.word
 
--- what may happen at its word by some node of the family that isn't clear, and nothing else
+-- exactly the causes at its word, by some node of the family that isn't clear
 pub record IsPlaceOf (words : Program) (A : List Entry) (f : RankedFamily) (place : FlaggedPlace) : Type 0 where
   pub ascending : IsStrictlySortedBy nat_cmp place.protected
   pub protected : (a : ℕ) → Contains place.protected a ↔ MayWriteProtected words A f place.word a
   pub live : (place.live ≡ true) ↔ MayWriteLive words A f place.word
   pub transfer : (place.transfer ≡ true) ↔ MayGoUnlisted words A f place.word
 
--- these are all words at which some node of the certificate isn't clear, each once, in ascending order, and what may happen there
+-- exactly the words at which some node of the certificate isn't clear, once each and ascending, with their causes
 pub record ArePlaces (words : Program) (A : List Entry) (c : Claim) (places : List FlaggedPlace) : Type 0 where
   pub sites : AreSites words A c (map word_of places)
   pub nodes : List Node
   pub expanded : IsFilled words A c.nodes nodes
   pub each : (place : FlaggedPlace) → Contains places place → IsPlaceOf words A (family_of c nodes) place
 
--- something may happen there
+-- the place has a cause
 abbrev pub TellsCause : FlaggedPlace → Type 0
 TellsCause place = (place.protected ≢ []) ⊎ ((place.live ≡ true) ⊎ (place.transfer ≡ true))
 
 abbrev pub AllTellCauses : List FlaggedPlace → Type 0
 AllTellCauses places = (place : FlaggedPlace) → Contains places place → TellsCause place
 
--- what is flagged is told of the word
+-- the place has the cause of this flag
 abbrev pub TellsFlag : FlaggedPlace → Flag → Type 0
 TellsFlag place (Live pc a) = (place.word ≡ pc) × (place.live ≡ true)
 TellsFlag place (Protected pc a) = (place.word ≡ pc) × Contains place.protected a

@@ -16,9 +16,8 @@ use Rattle.clear_laws.specs.Held.{MayHold, IsMapClosed}
 use Rattle.clear_laws.specs.Clear.{IsClear, MayBeFlagged, MayBeTaken, EndsByTake, NeverFlagged, word_of_flag, is_clear}
 use Rattle.clear_laws.specs.Causes.{HasCause, MayFlag}
 
--- A run from reset that ends flagged ends at a word of a node that may be flagged, or takes a vector whose word has a `never` line. So none
--- does where each node is clear and no such vector may be taken. What is flagged may happen at that word: the live byte may be written, this
--- protected address, or the transfer goes to an unlisted word.
+-- A run from reset that ends flagged ends at the word of a node that isn't clear, with the cause of the flag, or takes a vector whose
+-- word has a `never` line. So no run ends flagged if each node is clear and no such vector may be taken.
 pub record FlaggedRunsAreTold : Type 0 where
   pub caused : (words : Program) (A : List Entry) (f : RankedFamily) (m : State) (choices : List Choice) (flag : Flag) → AreWords words → IsSoundFamily words A f
       → IsReset (device_of words) m → IsRun words A choices m → stop_of words A choices m ≡ stop.Flag flag
@@ -29,20 +28,20 @@ pub record FlaggedRunsAreTold : Type 0 where
   pub never : (words : Program) (A : List Entry) (f : RankedFamily) → AreWords words → IsSoundFamily words A f → ((n : Node) → Contains f.nodes n → IsClear words A f n)
       → ((word : ℕ) → MayBeTaken words A f.nodes word → ⊥) → NeverFlagged words A
 
--- The slots that may hold a live byte are in every map that has what the rules give, and lie below the node's offset.
+-- The slots that may hold a live byte are in every map that the rules preserve, and below the node's offset.
 pub record HeldSlotsAreLeast : Type 0 where
   pub least : (words : Program) (A : List Entry) (nodes : List Node) (may : NodeKey → ℕ → Bool) (k : NodeKey) (d : ℕ)
       → IsMapClosed words A nodes may → MayHold words A nodes k d → may k d ≡ true
   pub below : (words : Program) (A : List Entry) (nodes : List Node) (k : NodeKey) (d : ℕ) → MayHold words A nodes k d → d < offset_of k.sp
 
--- A test tells the clear nodes by another that tells the slots which may hold a live byte: a node that passes is clear where the other tells
--- all of them, and a clear one passes where it tells no more.
+-- The test for clear nodes uses one for slots that may hold a live byte. A node that passes is clear if the slots' test has all of them.
+-- A clear node passes if it has no others.
 pub record ClearNodesAreTold : Type 0 where
   pub clear : (words : Program) (A : List Entry) (f : RankedFamily) (n : Node) (held : ℕ → Bool)
       → ((d : ℕ) → d < offset_of n.key.sp → held d ≡ false → MayHold words A f.nodes n.key d → ⊥) → is_clear words A f.bound n held ≡ true → IsClear words A f n
   pub told : (words : Program) (A : List Entry) (f : RankedFamily) (n : Node) (held : ℕ → Bool)
       → ((d : ℕ) → d < offset_of n.key.sp → held d ≡ true → MayHold words A f.nodes n.key d) → IsClear words A f n → is_clear words A f.bound n held ≡ true
 
--- Where a node may be flagged something may happen, and nothing elsewhere.
+-- A word has a cause exactly if some node there isn't clear.
 abbrev pub PlacesHaveCauses : Type 0
 PlacesHaveCauses = (words : Program) (A : List Entry) (f : RankedFamily) (pc : ℕ) → MayBeFlagged words A f pc ↔ HasCause words A f pc

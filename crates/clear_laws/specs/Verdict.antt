@@ -1,4 +1,4 @@
--- Which nodes of a certificate may flag a step. Source: own.
+-- The nodes of a certificate that may flag a step. Source: own.
 use Rattle.std.specs.Prelude.{ℕ, ◌≡◌, ◌<◌, ◌↔◌, List, [], Contains, Some}
 use Rattle.std.specs.List.{slice_get}
 use Rattle.std.specs.List.Sorted.{IsStrictlySortedBy}
@@ -13,13 +13,13 @@ use Rattle.clear_laws.specs.Clear.{IsClear, MayBeFlagged, MayBeTaken}
 use Rattle.clear_laws.specs.declared.verdict.ClearVerdict.{ClearVerdict}
 use Rattle.clear_laws.specs.declared.verdict.ClearVerdict.TheVariants.{Clear, Unclear}
 
--- each node of the certificate has an expansion, and all nodes so expanded are clear
+-- each node of the certificate has an expansion, and all expanded nodes are clear
 pub record AreAllClear (words : Program) (A : List Entry) (c : Claim) : Type 0 where
   pub nodes : List Node
   pub expanded : IsFilled words A c.nodes nodes
   pub clear : (n : Node) → Contains nodes n → IsClear words A (family_of c nodes) n
 
--- Of the nodes so expanded, node j isn't clear; this is its word, and each earlier node is clear.
+-- Among the expanded nodes, node j isn't clear and all earlier ones are; this is its word.
 pub record IsFirstUnclear (words : Program) (A : List Entry) (c : Claim) (j pc : ℕ) : Type 0 where
   pub nodes : List Node
   pub expanded : IsFilled words A c.nodes nodes
@@ -29,20 +29,19 @@ pub record IsFirstUnclear (words : Program) (A : List Entry) (c : Claim) (j pc :
   pub unclear : IsClear words A (family_of c nodes) node → ⊥
   pub earlier : (i : ℕ) (n : Node) → slice_get nodes i ≡ Some n → i < j → IsClear words A (family_of c nodes) n
 
--- what is said of a certificate without assumptions: all nodes are clear, or this one is the least that isn't
+-- the verdict on a certificate without assumptions: all nodes are clear, or the first that isn't
 abbrev pub IsClearVerdict : Program → Claim → ClearVerdict → Type 0
 IsClearVerdict words c Clear = AreAllClear words [] c
 IsClearVerdict words c (Unclear j pc) = IsFirstUnclear words [] c j pc
 
--- these are all words at which some node so expanded isn't clear, each once, in ascending order
+-- exactly the words at which some expanded node isn't clear, once each and ascending
 pub record AreSites (words : Program) (A : List Entry) (c : Claim) (sites : List ℕ) : Type 0 where
   pub nodes : List Node
   pub expanded : IsFilled words A c.nodes nodes
   pub ascending : IsStrictlySortedBy nat_cmp sites
   pub exact : (pc : ℕ) → Contains sites pc ↔ MayBeFlagged words A (family_of c nodes) pc
 
--- These are all words with a `never` line at which some node so expanded may take a vector, each once, in ascending order. Taking it is
--- flagged.
+-- Exactly the words with a `never` line at which some expanded node may take a vector, once each and ascending. Taking it is flagged.
 pub record AreNevers (words : Program) (A : List Entry) (c : Claim) (nevers : List ℕ) : Type 0 where
   pub nodes : List Node
   pub expanded : IsFilled words A c.nodes nodes

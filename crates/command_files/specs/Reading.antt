@@ -1,4 +1,4 @@
--- How the reading of files went. A files object's count of faults goes from `before` to `after`.
+-- The outcome of reading files. A files object's count of faults goes from `before` to `after`.
 use Rattle.std.specs.Prelude.{ℕ, ◌≡◌, List, [], Option, Some, None, ⊤}
 use Rattle.std.specs.Option.{option_map}
 use Rattle.std.specs.Global.{Vec}
@@ -24,7 +24,7 @@ IsUnfetched held cap name before after blamed unread.Memory = after ≡ before
 
 -- ---- a file that a command may have
 
--- where it has none, no bytes
+-- no bytes, if the command has no such file
 abbrev pub AreFetched : (List ℕ → Held) → ℕ → ℕ → ℕ → Option (List ℕ) → List ℕ → Type 0
 AreFetched holds cap before after None bytes = (bytes ≡ []) × (after ≡ before)
 AreFetched holds cap before after (Some name) bytes = IsFetched (holds name) cap before after bytes
@@ -44,7 +44,7 @@ IsUnfetchedUnder holds cap before after blamed (Some name) e = IsUnfetched (hold
 abbrev pub bytes_of : Option (Vec ℕ) → Option (List ℕ)
 bytes_of o = option_map (λ v. v.items) o
 
--- bytes are there exactly where there is a name
+-- bytes exist exactly if there is a name
 abbrev pub GoTogether : Option (List ℕ) → Option (List ℕ) → Type 0
 GoTogether None None = ⊤
 GoTogether None (Some bytes) = ⊥
@@ -55,7 +55,7 @@ abbrev pub whole_of : Option (List ℕ) → Seen
 whole_of None = Unread
 whole_of (Some bytes) = Whole bytes
 
--- a file that the command doesn't have has no bytes
+-- a file that the command does not have has no bytes
 abbrev pub GoWith : Option (List ℕ) → List ℕ → Type 0
 GoWith None bytes = bytes ≡ []
 GoWith (Some name) bytes = ⊤
@@ -64,12 +64,12 @@ abbrev pub seen_under : Option (List ℕ) → List ℕ → Seen
 seen_under None bytes = Unread
 seen_under (Some name) bytes = Whole bytes
 
--- what was read, in terms of the definitions
+-- the contents that were read, in terms of the definitions
 abbrev pub seen_whole : Command → List ℕ → List ℕ → Option (List ℕ) → read.Contents
 seen_whole command firmware second list =
     record { firmware = seen_under (name_of command Firmware) firmware; second = seen_under (name_of command Second) second; assumptions = whole_of list }
 
--- These bytes are those of the command's files, and none where it doesn't have them.
+-- These bytes are those of the command's files, and none for files that it does not have.
 pub record AreBytes (command : Command) (holds : List ℕ → Held) (firmware second : List ℕ) (list : Option (List ℕ)) : Type 0 where
   pub agree : AllAgree command holds (seen_whole command firmware second list)
   pub with_firmware : GoWith (name_of command Firmware) firmware
@@ -79,7 +79,7 @@ pub record AreBytes (command : Command) (holds : List ℕ → Held) (firmware se
 abbrev pub IsGathered : Command → (List ℕ → Held) → ℕ → ℕ → Contents → Type 0
 IsGathered command holds before after c = AreBytes command holds c.firmware.items c.second.items (bytes_of c.assumptions) × (after ≡ before)
 
--- what was read up to a file that is too long, and the answer to that
+-- the contents up to a file that is too long, and the answer to it
 pub record IsTooLong (command : Command) (holds : List ℕ → Held) (name : List ℕ) : Type 0 where
   pub seen : read.Contents
   pub agrees : AllAgree command holds seen

@@ -1,4 +1,4 @@
--- The commands, their files, and which words are a command. Source: own.
+-- The commands, their files, and the words of a command. Source: own.
 use Rattle.std.specs.Prelude.{ℕ, ◌≡◌, ◌==◌, ◌&&◌, not, nat_le, Bool, true, false, List, [], ◌∷◌, Option, Some, None, Result, Ok, Err, is_none, codes, if◌then◌else◌}
 use Rattle.std.specs.Option.{option_map}
 use Rattle.std.specs.Str.{bytes_eq}
@@ -9,10 +9,10 @@ use Rattle.sb_base.specs.Digits.{dec_answer}
 use Rattle.commands.specs.declared.line.Valued.{Valued}
 use Rattle.commands.specs.declared.line.Valued.TheVariants as option
 
--- what is to be done for a firmware of which device, with the names of the files: judge a certificate, write the least one within a
--- number of rounds if there is one, replay a schedule, judge a certificate and tell what it shows, where the bytes of its bound go, whether
--- no step can be flagged, or where one may be, judge it and write it with the schedule that a number of trials finds, run with devices for a
--- number of choices, and measure the analysis by the image of a number. What may happen where a step may be flagged is told where it is asked.
+-- A command, with its device and the names of its files: judge a certificate; write the least one, within a number of rounds if given;
+-- replay a schedule; judge a certificate and report it, or the origin of its bound, or whether no step can be flagged, or where a step
+-- may be, possibly with causes; judge it and write it with the schedule that trials find; simulate devices for a number of choices;
+-- measure the analysis on a generated image.
 pub data Command : Type 0 where
   Check : (device : Device) (firmware certificate : List ℕ) (assume : Option (List ℕ)) → Command
   Analyse : (device : Device) (firmware : List ℕ) (assume : Option (List ℕ)) (steps : Option ℕ) → Command
@@ -25,7 +25,7 @@ pub data Command : Type 0 where
   Simulate : (device : Device) (firmware devices : List ℕ) (assume : Option (List ℕ)) (steps : ℕ) → Command
   Demo : (size : ℕ) → Command
 
--- the device that it is for; the image of `demo` is the ATmega328P's
+-- the device of the command; `demo` has the ATmega328P
 abbrev pub device_for : Command → Device
 device_for (Check device firmware certificate assume) = device
 device_for (Analyse device firmware assume steps) = device
@@ -40,13 +40,13 @@ device_for (Demo size) = M328
 
 -- ---- files
 
--- what a file is to a command, in the order in which files are read
+-- the role of a file, in the order in which files are read
 pub data Role : Type 0 where
   Firmware : Role
   Second : Role
   Assumptions : Role
 
--- the name of a command's file, if it has one of this role
+-- the name of a command's file of this role, if it has one
 abbrev pub name_of : Command → Role → Option (List ℕ)
 name_of (Check device firmware certificate assume) Firmware = Some firmware
 name_of (Check device firmware certificate assume) Second = Some certificate
@@ -83,13 +83,12 @@ IsFileOf command role name = name_of command role ≡ Some name
 
 -- ---- words
 
--- a word that can be a name or the value of an option: it isn't empty, and doesn't begin with `-`
+-- a word that can be a name or an option's value: it is not empty and does not begin with `-`
 abbrev pub is_name : List ℕ → Bool
 is_name [] = false
 is_name (b ∷ bs) = not (b == 45)
 
--- What stands behind the command's name: the first two names in their order, the options with their values, and the option
--- whose value is the next word.
+-- The words after the command's name: up to two names in order, options with their values, and an option that still needs its value.
 pub record Line : Type 0 where
   pub first : Option (List ℕ)
   pub second : Option (List ℕ)
@@ -104,7 +103,7 @@ pub record Line : Type 0 where
 abbrev pub empty_line : Line
 empty_line = record { first = None; second = None; assume = None; steps = None; device = None; trials = None; json = false; why = false; waits = None }
 
--- a value where there was none
+-- the value, if there was none before
 abbrev pub once : Option (List ℕ) → List ℕ → Option (Option (List ℕ))
 once None word = Some (Some word)
 once (Some before) word = None
@@ -125,14 +124,14 @@ abbrev pub with_trials : Line → Option (Option (List ℕ)) → Option Line
 with_trials line None = None
 with_trials line (Some value) = Some (record line { trials = value; waits = None })
 
--- the value of an option, which stands at most once
+-- the value of an option, which may occur once
 abbrev pub with_value : Valued → Line → List ℕ → Option Line
 with_value option.Assume line word = with_assume line (once line.assume word)
 with_value option.Steps line word = with_steps line (once line.steps word)
 with_value option.Device line word = with_device line (once line.device word)
 with_value option.Trials line word = with_trials line (once line.trials word)
 
--- the name behind those before, of which there are at most two
+-- the next name, if there are at most two
 abbrev pub named : Option (List ℕ) → Option (List ℕ) → Line → List ℕ → Option Line
 named None second line word = Some (record line { first = Some word })
 named (Some first) None line word = Some (record line { second = Some word })
@@ -162,11 +161,11 @@ abbrev pub placed : Option Valued → Line → List ℕ → Option Line
 placed None line word = with_free line word
 placed (Some option) line word = if is_name word then with_value option line word else None
 
--- one word more
+-- one more word
 abbrev pub with_word : Line → List ℕ → Option Line
 with_word line word = placed line.waits line word
 
--- the line with all words, if each can stand where it does
+-- the line with all words, if each is permitted
 abbrev pub then_words : Option Line → List (List ℕ) → Option Line
 then_words line [] = line
 then_words None (word ∷ words) = None
@@ -174,7 +173,7 @@ then_words (Some line) (word ∷ words) = then_words (with_word line word) words
 
 -- ---- numbers
 
--- the number that a canonical decimal stands for, if it is at most `most`
+-- the number of a canonical decimal, if it is at most `most`
 abbrev pub number_of : Result ℕ DigitFault → Option ℕ
 number_of (Ok n) = Some n
 number_of (Err fault) = None
@@ -182,12 +181,12 @@ number_of (Err fault) = None
 abbrev pub decimal_in : List ℕ → ℕ → Option ℕ
 decimal_in word most = number_of (dec_answer word most)
 
--- a number of rounds, if there is one, is at most 2^64 - 1
+-- a number of rounds, at most 2^64 - 1, if there is one
 abbrev pub steps_in : Option (List ℕ) → Option (Option ℕ)
 steps_in None = Some None
 steps_in (Some word) = option_map Some (decimal_in word 18446744073709551615)
 
--- The choices of a simulated run are 200,000 where no number is said, and at most 16,777,216: a greater number counts as that one.
+-- The choices of a simulated run: 200,000 by default, and at most 16,777,216, to which greater numbers are cut.
 abbrev pub choices_of : Option ℕ → ℕ
 choices_of None = 200000
 choices_of (Some n) = if nat_le n 16777216 then n else 16777216
@@ -195,12 +194,12 @@ choices_of (Some n) = if nat_le n 16777216 then n else 16777216
 abbrev pub choices_in : Option (List ℕ) → Option ℕ
 choices_in word = option_map choices_of (steps_in word)
 
--- a number of trials is at most 65,536, and 64 where none is said
+-- the number of trials: at most 65,536, and 64 by default
 abbrev pub trials_in : Option (List ℕ) → Option ℕ
 trials_in None = Some 64
 trials_in (Some word) = decimal_in word 65536
 
--- the size of an image is 1 to 2,000
+-- the size of an image, from 1 to 2,000
 abbrev pub positive : Option ℕ → Option ℕ
 positive None = None
 positive (Some n) = if nat_le 1 n then Some n else None
@@ -210,7 +209,7 @@ size_in word = positive (decimal_in word 2000)
 
 -- ---- devices
 
--- the device of this name
+-- the device with this name
 abbrev pub device_called : List ℕ → Option Device
 device_called word =
     if bytes_eq word (codes "atmega48pa") then Some M48
@@ -219,31 +218,31 @@ device_called word =
     else (if bytes_eq word (codes "atmega328p") then Some M328
     else None)))
 
--- without a name it is the ATmega328P
+-- the device by its name, the ATmega328P by default
 abbrev pub device_in : Option (List ℕ) → Option Device
 device_in None = Some M328
 device_in (Some word) = device_called word
 
 -- ---- commands
 
--- no option is there but `--assume`, `--device` and `--steps`
+-- no options but `--assume`, `--device` and `--steps`
 abbrev pub is_stepping : Line → Bool
 is_stepping line = is_none line.trials && (not line.json && not line.why)
 
--- no option is there but `--assume` and `--device`
+-- no options but `--assume` and `--device`
 abbrev pub is_plain : Line → Bool
 is_plain line = is_none line.steps && is_stepping line
 
--- no option is there
+-- no options
 abbrev pub is_bare : Line → Bool
 is_bare line = is_none line.assume && is_none line.device && is_plain line
 
--- what a device makes, if there is one
+-- the command for a device, if there is one
 abbrev pub on_device : Option Device → (Device → Option Command) → Option Command
 on_device None command = None
 on_device (Some device) command = command device
 
--- what two names make, and what one makes that is alone
+-- the command of two names, or of one name alone
 abbrev pub with_two : Option (List ℕ) → Option (List ℕ) → (List ℕ → List ℕ → Command) → Option Command
 with_two (Some firmware) (Some second) command = Some (command firmware second)
 with_two _ _ command = None
@@ -340,13 +339,13 @@ called word line =
     else (if bytes_eq word (codes "demo") then demo_of line
     else None)))))))))
 
--- no option waits for its value
+-- no option lacks its value
 abbrev pub whole : List ℕ → Option Line → Option Command
 whole word None = None
 whole word (Some line) = if is_none line.waits then called word line else None
 
--- The command that the words are. The first is its name. Of the others, `--assume`, `--steps`, `--device` and `--trials` take the next
--- word, each option stands at most once and only where the command has it, and what is left are the names in order.
+-- The command of a list of words. The first word is its name. `--assume`, `--steps`, `--device` and `--trials` take the next word. Each
+-- option occurs at most once, and only if the command has it. The remaining words are the names in order.
 abbrev pub command_of : List (List ℕ) → Option Command
 command_of [] = None
 command_of (word ∷ words) = whole word (then_words (Some empty_line) words)

@@ -1,4 +1,4 @@
--- What the code's types say.
+-- Views of the code's types.
 use Rattle.std.specs.Prelude.{ℕ, List, Option, Some, None}
 use Rattle.std.specs.Borrow.{Bor}
 use Rattle.commands.specs.declared.line.CommandLine.{CommandLine as Words}

@@ -1,4 +1,4 @@
--- Where a text reads as a setup, and where it doesn't, by the spelling alone.
+-- The texts that are setups, and the refusals of others, by the spelling alone.
 use Rattle.std.specs.Prelude.{◌≡◌, ℕ, List, [], ◌∷◌, ◌++◌, map, Result, Ok, Err, ⊤}
 use Rattle.sb_base.specs.Lines.{TextLine, Place, lines_of}
 use Rattle.line_reading.specs.Words.{whole, Passes}
@@ -7,24 +7,24 @@ use Rattle.device_hooks.specs.declared.devices.DevicesFault.TheVariants.{Malform
 use Rattle.device_hooks.specs.Spelling.{Setup, IsSetup, setup_lines, text_of}
 use Rattle.device_hooks.specs.Reading.{setup_in}
 
--- the text is that of this setup
+-- the text is the spelling of this setup
 pub record IsSetupReading (text : List ℕ) (setup : Setup) : Type 0 where
   pub fits : IsSetup setup
   pub bytes : text ≡ text_of setup
 
--- these lines are the first ones of some setup, behind which it has these
+-- some setup begins with these lines and continues with the others
 pub record BeginsSetup (lines more : List (List (List ℕ))) : Type 0 where
   pub setup : Setup
   pub fits : IsSetup setup
   pub all : setup_lines setup ≡ lines ++ more
 
--- No setup begins with these lines and then the next one; where no line is left, the lines are those of no setup.
+-- No setup begins with these lines and the next one. If no line is left, the lines are not those of a setup.
 abbrev pub NoSetupGoesOn : List (List (List ℕ)) → List TextLine → Type 0
 NoSetupGoesOn before [] = BeginsSetup before [] → ⊥
 NoSetupGoesOn before (l ∷ ls) = (ws : List (List ℕ)) (more : List (List (List ℕ))) → l ≡ whole ws → BeginsSetup (before ++ ws ∷ []) more → ⊥
 
--- The offset is that of the first line at which no setup can go on, or the length where a line is missing: the lines before
--- it begin a setup, and with what stands there they begin none.
+-- The offset is that of the first line with which no setup continues, or the length if a line is missing: the lines before it begin a
+-- setup, but not with that line.
 pub record IsSetupStuck (text : List ℕ) (at : ℕ) : Type 0 where
   pub before : List (List (List ℕ))
   pub place : Place
@@ -40,7 +40,7 @@ IsSetupDue text (Ok setup) = IsSetupReading text setup
 IsSetupDue text (Err (Malformed at)) = IsSetupStuck text at
 IsSetupDue text (Err Memory) = ⊥
 
--- what was answered is due, unless memory was wanting
+-- the answer is the one that is due, or memory ran out
 abbrev pub IsSetupDueUnlessMemory : List ℕ → Result Setup DevicesFault → Type 0
 IsSetupDueUnlessMemory text (Err Memory) = ⊤
 IsSetupDueUnlessMemory text answer = IsSetupDue text answer
@@ -56,6 +56,6 @@ SpelledSetupIsRead = (text : List ℕ) (setup : Setup) → IsSetupReading text s
 abbrev pub RefusedSetupIsStuck : Type 0
 RefusedSetupIsStuck = (text : List ℕ) (at : ℕ) → setup_in text ≡ Err (Malformed at) → IsSetupStuck text at
 
--- no text is that of two setups
+-- no text is the spelling of two setups
 abbrev pub SetupsHaveOneText : Type 0
 SetupsHaveOneText = (a b : Setup) → IsSetup a → IsSetup b → text_of a ≡ text_of b → a ≡ b

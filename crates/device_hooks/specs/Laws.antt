@@ -1,4 +1,4 @@
--- Runs that devices choose are runs of the machine from reset, so a bound of all runs holds of them.
+-- Runs that devices choose are runs of the machine from reset, so a bound of all runs bounds them.
 use Rattle.std.specs.Prelude.{ℕ, ◌≤◌, List}
 use Rattle.avr_model.specs.declared.assumption.Entry.{Entry}
 use Rattle.avr_model.specs.Devices.{Program, device_of}

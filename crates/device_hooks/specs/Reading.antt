@@ -1,5 +1,5 @@
--- Reading a setup forward, line by line. A refusal tells the place of the first line at which no setup can go on, which is the
--- end of the text where a line is missing.
+-- Reads a setup forward, line by line. A refusal has the offset of the first line with which no setup continues, or of the end of the
+-- text if a line is missing.
 use Rattle.std.specs.Prelude.{ℕ, ◌+◌, ◌-◌, ◌&&◌, nat_le, List, [], ◌∷◌, ◌++◌, length, Option, Some, None, Result, Ok, Err, codes, if◌then◌else◌}
 use Rattle.std.specs.Option.{option_map}
 use Rattle.std.specs.Str.{bytes_eq}
@@ -24,7 +24,7 @@ times_at ws = do
   p ← dec_at most_steps f.1
   if nat_le 2 v.0 && nat_le 1 p.0 then Some (record { vector = v.0; first = f.0; period = p.0 }, p.1) else None
 
--- all words, each a byte in two digits
+-- all words, each a byte of two digits
 abbrev pub bytes_in : List (List ℕ) → Option (List ℕ)
 bytes_in [] = Some []
 bytes_in (w ∷ ws) = hex_at 2 (w ∷ ws) >>= λ b. option_map (λ bs. b.0 ∷ bs) (bytes_in ws)
@@ -32,14 +32,14 @@ bytes_in (w ∷ ws) = hex_at 2 (w ∷ ws) >>= λ b. option_map (λ bs. b.0 ∷ b
 abbrev pub source_of : Times → SourceKind → Source
 source_of t kind = record { vector = t.vector; first = t.first; period = t.period; kind = kind }
 
--- behind `timer`
+-- after `timer`
 abbrev pub timer_in : List (List ℕ) → Option Source
 timer_in ws = times_at ws >>= λ t. if is_over t.1 then Some (source_of t.0 Timer) else None
 
 abbrev pub receiver_by : Times → List ℕ → Option Source
 receiver_by t bytes = if nat_le 1 (length bytes) && nat_le (length bytes) most_bytes then Some (source_of t (Bytes bytes)) else None
 
--- behind `bytes`
+-- after `bytes`
 abbrev pub receiver_in : List (List ℕ) → Option Source
 receiver_in ws = times_at ws >>= λ t. bytes_in t.1 >>= receiver_by t.0
 
@@ -51,7 +51,7 @@ source_in (w ∷ ws) =
 
 -- ---- lines
 
--- a source, with so many lines left for sources
+-- a source, with this many lines left for sources
 abbrev pub source_by : ℕ → List ℕ → Option Source
 source_by left text = if nat_le 1 left then source_in (words_of text) else None
 
@@ -62,13 +62,13 @@ part_by left text = if bytes_eq text (codes "end") then Some None else option_ma
 abbrev pub with_front : List Source → Result (List Source × Place) Place → Result (List Source × Place) Place
 with_front front due = then_at due (λ x. Ok (front ++ x.0, x.1))
 
--- nothing, the end, or one source more and what follows it
+-- nothing, the end, or one more source and what follows it
 abbrev pub with_part : Option (Option Source) → Place → Place → (Source → Result (List Source × Place) Place) → Result (List Source × Place) Place
 with_part None here next following = Err here
 with_part (Some None) here next following = Ok ([], next)
 with_part (Some (Some s)) here next following = with_front (s ∷ []) (following s)
 
--- the sources up to `end`, with so many lines left for them
+-- the sources up to `end`, with this many lines left for them
 unfoldable pub sources_from : ℕ → ℕ → List TextLine → Result (List Source × Place) Place
 sources_from left at [] = Err (record { at = at; rest = [] })
 sources_from left at (l ∷ ls) =
@@ -94,6 +94,6 @@ abbrev pub malformed : {A : Type 0} → Result A Place → Result A DevicesFault
 malformed (Ok x) = Ok x
 malformed (Err p) = Err (Malformed p.at)
 
--- the setup of a text, or where the text is refused
+-- the setup of a text, or the refusal
 unfoldable pub setup_in : List ℕ → Result Setup DevicesFault
 setup_in text = malformed (setup_at (record { at = 0; rest = lines_of text }))

@@ -13,11 +13,11 @@ use Rattle.device_hooks.specs.Spelling.{Setup}
 use Rattle.device_hooks.specs.Due.{Progress, begun, choice_on, next_on, pick}
 use Rattle.device_hooks.specs.Hooks.{Answering}
 
--- asked with the steps so far, the takes so far and the menu of the state, one may answer this
+-- asked with the steps so far, the takes so far and the menu of the state, the rule may answer this
 abbrev pub Asked : Answering → Progress → State → Option ℕ → Type 0
 Asked answers p m answer = (menu : Menu) × IsMenuOf menu m × answers p.step p.taken menu answer
 
--- The choices are in turn those of what is answered at each moment. They end at the first stop, else after exactly n choices.
+-- The choices follow the answer at each step. They end at the first stop, else after exactly n choices.
 abbrev pub Chooses : Answering → Setup → Program → List Entry → ℕ → Progress → State → List Choice → Type 0
 Chooses answers setup words A n p m [] = n ≡ 0
 Chooses answers setup words A n p m (c ∷ cs) =
@@ -29,15 +29,15 @@ Chooses answers setup words A n p m (c ∷ cs) =
 abbrev pub picked : Setup → Progress → State → Option ℕ
 picked setup p m = pick setup (λ v. may_take m v false) p
 
--- the choices from a state on: at each step the first due timer's interrupt that may be taken, else the first such receiver's,
--- else an instruction with the input byte; they end at the first stop, else after n choices
+-- the choices from a state on: at each step the interrupt of the first due timer that may be taken, else of the first such receiver, else
+-- an instruction with the input byte; they end at the first stop, else after n choices
 abbrev pub chosen : Setup → Program → List Entry → ℕ → Progress → State → List Choice
 chosen setup words A zero p m = []
 chosen setup words A (suc n) p m =
     choice_on setup p (picked setup p m)
     ∷ choices_on (step words A m (choice_on setup p (picked setup p m))) (λ s. chosen setup words A n (next_on setup p (picked setup p m)) s)
 
--- the state at which it begins: after reset, with the fill byte everywhere, on the device whose flash has these words
+-- the initial state: after reset with the fill byte everywhere, on the device of these words
 abbrev pub initial : Program → Setup → State
 initial words setup = filled (device_of words) setup.fill
 
@@ -45,7 +45,7 @@ initial words setup = filled (device_of words) setup.fill
 abbrev pub simulated : Program → List Entry → Setup → ℕ → List Choice
 simulated words A setup n = chosen setup words A n (begun setup) (initial words setup)
 
--- its done steps, its depth and its stop
+-- the steps, depth and stop of the run
 abbrev pub simulation_of : Program → List Entry → Setup → ℕ → Report
 simulation_of words A setup n =
     record {

@@ -1,4 +1,4 @@
--- What is connected to the machine: interrupt sources, and their one text. Source: own.
+-- Devices connected to the machine: interrupt sources, and their one text. Source: own.
 use Rattle.std.specs.Prelude.{ℕ, ◌≤◌, ◌<◌, List, [], ◌∷◌, ◌++◌, map, length, codes, ⊤}
 use Rattle.std.specs.List.{AllByRecursion, flat_map}
 use Rattle.std.specs.Fmt.{decimal}
@@ -9,7 +9,7 @@ use Rattle.device_hooks.specs.declared.devices.SourceKind.{SourceKind}
 use Rattle.device_hooks.specs.declared.devices.SourceKind.TheVariants.{Timer, Bytes}
 use Rattle.device_hooks.specs.declared.devices.Source.{Source}
 
--- the byte that registers and SRAM hold at first, and the interrupt sources
+-- the initial byte of registers and SRAM, and the interrupt sources
 pub record Setup : Type 0 where
   pub fill : ℕ
   pub sources : List Source
@@ -20,7 +20,7 @@ most_sources = 32
 abbrev pub most_bytes : ℕ
 most_bytes = 64
 
--- the most steps of a run, which first steps and periods don't pass
+-- the most steps of a run, and the greatest first step and period
 abbrev pub most_steps : ℕ
 most_steps = 16777216
 

@@ -1,4 +1,4 @@
--- What is told of a run that hooks choose.
+-- Traces of runs that hooks choose.
 use Rattle.std.specs.Prelude.{ℕ, ◌≡◌, ◌-◌, ◌<◌, List, [], ◌∷◌, Option}
 use Rattle.avr_model.specs.declared.choice.Choice.{Choice}
 use Rattle.avr_model.specs.declared.assumption.Entry.{Entry}
@@ -14,8 +14,8 @@ use Rattle.device_hooks.specs.Hooks.{Answering}
 use Rattle.device_hooks.specs.Simulating.{Asked, Chooses}
 
 module _ (answers : Answering) (setup : Setup) (words : Program) (A : List Entry) where
-  -- What is told of such a run of n choices: its choices, which are a run of the machine from its state, the machine's depth
-  -- at the end, and the stop that was met.
+  -- The trace of a run of n choices: its choices, which are a run of the machine from its state, the depth at the end, and the stop, if
+  -- there was one.
   pub record IsTrace (n : ℕ) (m : Machine) (trace : DeviceTrace) (end : Machine) : Type 0 where
     pub chooses : Chooses answers setup words A n (begun setup) m.state trace.choices
     pub run : IsRun words A trace.choices m.state
@@ -23,14 +23,14 @@ module _ (answers : Answering) (setup : Setup) (words : Program) (A : List Entry
     pub depth : trace.depth ≡ end.depth
     pub stop : trace.stop ≡ stop_of words A trace.choices m.state
 
-  -- some first choices of such a run, each of which is done: they lead from what is known and the machine to these
+  -- a prefix of such a run, in which each choice is done, with the progress and the machine before and after it
   abbrev pub Leads : ℕ → Progress → Machine → List Choice → Progress → Machine → Type 0
   Leads n p m [] last end = (last ≡ p) × (end ≡ m)
   Leads n p m (c ∷ cs) last end =
       (0 < n) × HasBytes c × (answer : Option ℕ) × Asked answers p m.state answer × (c ≡ choice_on setup p answer)
       × (s : State) × (step words A m.state c ≡ Done s) × Leads (n - 1) (next_on setup p answer) (moved_on m (Done s)) cs last end
 
-  -- the machine is where some first choices left it
+  -- the machine is what a prefix leaves
   pub record Halts (n : ℕ) (m end : Machine) : Type 0 where
     pub choices : List Choice
     pub last : Progress

@@ -1,4 +1,4 @@
--- How one node's state is worked out where those of the nodes before it are known.
+-- The expansion of one node, from those of the nodes before it.
 use Rattle.std.specs.Prelude.{ℕ, ◌≡◌, List, [], ◌∷◌, length, if◌then◌else◌, Option, Some, None, Result, Ok, Err}
 use Rattle.std.specs.List.{slice_get}
 use Rattle.avr_model.specs.declared.assumption.Entry.{Entry}
@@ -33,13 +33,13 @@ abbrev pub worked : Program → List Entry → List Node → NodeKey → NodeFor
 worked words A done k (State s) = Some s
 worked words A done k (From m) = carried words A k (slice_get done m)
 
--- the node is that of this number, with its expansion
+-- the node of this number, with its expansion
 pub record IsWorked (words : Program) (A : List Entry) (nodes : Seeds) (at : ℕ) (n : Node) : Type 0 where
   pub key : HasKeyAt nodes at n.key
   pub state : IsExpansion words A nodes at n.state
   pub node : IsNodeIn (has_pairs A) n.key n.state
 
--- the first nodes, with their expansions
+-- the first nodes with their expansions
 pub record AreExpandedSoFar (words : Program) (A : List Entry) (nodes : Seeds) (at : ℕ) (done : List Node) : Type 0 where
   pub count : length done ≡ at
   pub each : (i : ℕ) (n : Node) → slice_get done i ≡ Some n → IsWorked words A nodes i n

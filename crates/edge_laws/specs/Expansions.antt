@@ -21,16 +21,17 @@ use Rattle.edge_rules.specs.Expansion.{Seeds, IsExpansion, AreSeeds, states_at, 
 pub record ExpansionsAreOne : Type 0 where
   pub one : (words : Program) (A : List Entry) (nodes : Seeds) (at : ℕ) (s t : AbsState) → IsExpansion words A nodes at s → IsExpansion words A nodes at t → s ≡ t
 
--- expansions are nodes that the analysis works with, where the seeds are
+-- expansions of valid seeds are nodes of the analysis
 pub record ExpansionsAreNodes : Type 0 where
   pub node : {followed : Bool} (words : Program) (A : List Entry) (nodes : Seeds) (at : ℕ) (k : NodeKey) (form : NodeForm) (s : AbsState) → AreSeeds followed nodes
       → slice_get nodes at ≡ Some (k, form) → IsExpansion words A nodes at s → IsNodeIn followed k s
 
--- the node j of this state has no fault, and exactly one of its successors has the key k, with the state t
+-- the node j with this state has no fault, and exactly one successor with the key k, whose state is t
 abbrev pub HasSuccessor : Program → List Entry → NodeKey → AbsState → NodeKey → AbsState → Type 0
 HasSuccessor words A j s k t = (l : Local) × ((local words A j s ≡ Ok l) × (states_at k l.same ≡ t ∷ []))
 
--- A node with a state has that one, and no other; one that comes from an earlier node has one exactly where that one has and leads to it.
+-- A node with a state has that one alone. A node from an earlier one has an expansion exactly if that one has, with a successor of its
+-- key.
 pub record ExpansionsFollow : Type 0 where
   pub own : (words : Program) (A : List Entry) (nodes : Seeds) (at : ℕ) (k : NodeKey) (s t : AbsState) → slice_get nodes at ≡ Some (k, State s)
       → IsExpansion words A nodes at t ↔ (t ≡ s)
@@ -38,11 +39,11 @@ pub record ExpansionsFollow : Type 0 where
       → m < at → slice_get nodes m ≡ Some (j, form)
       → IsExpansion words A nodes at t ↔ ((s : AbsState) × (IsExpansion words A nodes m s × HasSuccessor words A j s k t))
 
--- at most one successor of a node has a key
+-- a node has at most one successor of a key
 pub record SuccessorsAreOne : Type 0 where
   pub few : (words : Program) (A : List Entry) (j k : NodeKey) (s : AbsState) (l : Local) → local words A j s ≡ Ok l → length (states_at k l.same) ≤ 1
 
--- Either all nodes have expansions, or there is a least one that has none; the filled list and the least number are determined.
+-- Either all nodes have expansions, or there is a least one that has none. The filled list and the least number are unique.
 pub record FilledOrMissing : Type 0 where
   pub decided : (words : Program) (A : List Entry) (nodes : Seeds) → AreSeeds (has_pairs A) nodes → ((filled : List Node) × IsFilled words A nodes filled) ⊎ ((at : ℕ) × IsMissing words A nodes at)
   pub apart : (words : Program) (A : List Entry) (nodes : Seeds) (filled : List Node) (at : ℕ) → IsFilled words A nodes filled → IsMissing words A nodes at → ⊥
@@ -55,6 +56,6 @@ pub record FilledOrMissing : Type 0 where
 abbrev pub AreSeedsAscending : Seeds → Type 0
 AreSeedsAscending nodes = IsStrictlySortedBy node_cmp (map (λ e. e.0) nodes)
 
--- Where the keys ascend, the filled list ascends by key too, and all its nodes are ones that the analysis works with.
+-- If the keys ascend, so does the filled list, and all its nodes are nodes of the analysis.
 pub record FilledListsAreShown : Type 0 where
   pub shown : (words : Program) (A : List Entry) (nodes : Seeds) (filled : List Node) → IsFilled words A nodes filled → AreSeedsAscending nodes → AreShown filled

@@ -1,4 +1,4 @@
--- The frames of a machine's state: the running one, and those that were left by a call or an interrupt, the latest first. Source: own.
+-- The frames of a machine's state: the running one, and those suspended by a call or an interrupt, the latest first. Source: own.
 use Rattle.std.specs.Prelude.{ℕ, ◌+◌, ◌-◌, ◌≡◌, ◌<◌, ⊤, Bool, true, List, [], ◌∷◌, length, Some, Contains}
 use Rattle.avr_model.specs.Devices.{Program, ramend, device_of}
 use Rattle.avr_model.specs.declared.assumption.Entry.{Entry}
@@ -33,14 +33,14 @@ use Rattle.edge_rules.specs.Edges.{IsFaultless, raw_of, Enters, called_inst, vec
 use Rattle.edge_rules.specs.Families.{RankedFamily}
 use Rattle.edge_rules.specs.Roots.{root_of}
 
--- a node of the family, and the frame's origin: its registers and status register at the entry, and its base
+-- a node of the family, and the frame's origin: registers and status register at the entry, and its base
 pub record Frame : Type 0 where
   pub node : Node
   pub origin : Origin
 
--- The frame was left for one of this instance with this origin, and all that it waits for still stands: what it was left with are the
--- entry values of the next frame; its guarded slots are live and hold a byte of their values; its stack pointer was whole, and the next
--- frame's base is two below it; the two bytes between hold the way back, the low one at the higher address, and are live.
+-- The frame is suspended by the entry of this instance with this origin, and what it needs later holds: its registers and flags are the
+-- entry values of the next frame; its guarded slots are live and hold bytes of their values; its stack pointer was whole, and the next
+-- base is two below; the two bytes between are live and hold the return address, the low byte at the higher address.
 pub record IsLeft (words : Program) (A : List Entry) (f : RankedFamily) (memory : Memory) (g : Frame) (inst : InstKey) (o : Origin) : Type 0 where
   pub present : Contains f.nodes g.node
   pub registers : RegistersStand g.origin g.node.state.registers o.registers
@@ -60,23 +60,23 @@ pub record IsLeft (words : Program) (A : List Entry) (f : RankedFamily) (memory 
   pub low_live : is_live memory (o.base + 2) ≡ true
   pub high_live : is_live memory (o.base + 1) ≡ true
 
--- the frames that were left, below a frame of this instance and origin; the last of them is the root's, or this one is
+-- the suspended frames below a frame of this instance and origin; the last one is the root's, or this one is
 abbrev pub AreLeft : Program → List Entry → RankedFamily → Memory → List Frame → InstKey → Origin → Type 0
 AreLeft words A f memory [] inst o = (inst ≡ root_inst) × (o.base ≡ ramend (device_of words))
 AreLeft words A f memory (g ∷ gs) inst o = IsLeft words A f memory g inst o × AreLeft words A f memory gs g.node.key.inst g.origin
 
--- the machine is of the device of these words, and runs in the frame g, above the frames gs
+-- the machine has the device of these words, and runs in the frame g, above the frames gs
 pub record Runs (words : Program) (A : List Entry) (f : RankedFamily) (m : State) (g : Frame) (gs : List Frame) : Type 0 where
   pub device : m.device ≡ device_of words
   pub present : Contains f.nodes g.node
   pub running : InFrameIn (has_pairs A) (has_masks A) m g.origin g.node.key g.node.state
   pub left : AreLeft words A f m.memory gs g.node.key.inst g.origin
 
--- the machine has frames
+-- the machine has some frames
 abbrev pub HasFrames : Program → List Entry → RankedFamily → State → Type 0
 HasFrames words A f m = (g : Frame) × (gs : List Frame) × Runs words A f m g gs
 
--- the machine has the root's frame alone, as reset leaves it
+-- the machine has the root's frame alone, as after reset
 pub record HasRootFrame (words : Program) (A : List Entry) (f : RankedFamily) (m : State) : Type 0 where
   pub state : AbsState
   pub runs : Runs words A f m (record { node = record { key = entry_key root_inst; state = state }; origin = record { registers = m.registers; sreg = m.sreg; base = ramend (device_of words) } }) []
@@ -84,9 +84,8 @@ pub record HasRootFrame (words : Program) (A : List Entry) (f : RankedFamily) (m
 
 -- ---- one step
 
--- The frames after a step by this choice. By an instruction the running one moves along a local edge, or a called one is added above it,
--- or it is taken away and the one before moves along the edge of this return; by an interrupt its frame is added. The state where it
--- lands is at least that of the edge.
+-- The frames after a step. An instruction moves the running frame along a local edge, adds the frame of a call, or removes it and moves
+-- the one before along the return edge. An interrupt adds its frame. The new state is above that of the edge.
 pub data Change (words : Program) (A : List Entry) (g : Frame) (gs : List Frame) : Choice → Frame → List Frame → Type 0 where
   moved : (b1 b2 : ℕ) (to : Node) (state : AbsState) → IsFaultless words A g.node → Contains (joined_onto [] (raw_of words A g.node).moves) to
       → IsStateWithin to.state state
@@ -104,11 +103,11 @@ pub data Change (words : Program) (A : List Entry) (g : Frame) (gs : List Frame)
       → Change words A g gs (Take v clears) (record { node = record { key = entry_key (vector_inst words g.node.key v clears); state = state }; origin = o })
       (g ∷ gs)
 
--- the machine has frames, by one change of these
+-- the machine has frames that follow from these by one change
 abbrev pub HasNext : Program → List Entry → RankedFamily → Choice → Frame → List Frame → State → Type 0
 HasNext words A f c g gs m = (h : Frame) × (hs : List Frame) × Runs words A f m h hs × Change words A g gs c h hs
 
--- An answer after which the machine still has frames: no undefined word was met, and nothing was pushed outside SRAM.
+-- The answer of a step after which the machine still has frames: no undefined word, and no push outside SRAM.
 abbrev pub IsFine : Program → List Entry → RankedFamily → Choice → Frame → List Frame → Answer → Type 0
 IsFine words A f c g gs Illegal = ⊤
 IsFine words A f c g gs (Undefined pc) = ⊥
@@ -118,7 +117,7 @@ IsFine words A f c g gs (Done m) = HasNext words A f c g gs m
 
 -- ---- what each kind of step does to the frames
 
--- the running frame is where a local edge leads
+-- the running frame moved along a local edge
 pub record HasMoved (words : Program) (A : List Entry) (f : RankedFamily) (g : Frame) (gs : List Frame) (n : State) : Type 0 where
   pub to : Node
   pub member : Contains (joined_onto [] (raw_of words A g.node).moves) to
@@ -126,7 +125,7 @@ pub record HasMoved (words : Program) (A : List Entry) (f : RankedFamily) (g : F
   pub above : IsStateWithin to.state state
   pub runs : Runs words A f n (record { node = record { key = to.key; state = state }; origin = g.origin }) gs
 
--- a frame of a called instance is added
+-- the frame of a called instance was added
 pub record HasCalled (words : Program) (A : List Entry) (f : RankedFamily) (g : Frame) (gs : List Frame) (n : State) : Type 0 where
   pub site : CallSite
   pub member : Contains (raw_of words A g.node).calls site
@@ -135,7 +134,7 @@ pub record HasCalled (words : Program) (A : List Entry) (f : RankedFamily) (g : 
   pub origin : Origin
   pub runs : Runs words A f n (record { node = record { key = entry_key (called_inst g.node.key site.entry); state = state }; origin = origin }) (g ∷ gs)
 
--- the running frame is gone, and the one before is where this exit returns to
+-- the running frame was removed, and the one before went to the target of this exit
 pub record HasReturned (words : Program) (A : List Entry) (f : RankedFamily) (g : Frame) (gs : List Frame) (n : State) : Type 0 where
   pub caller : Frame
   pub rest : List Frame
@@ -151,7 +150,7 @@ pub record HasReturned (words : Program) (A : List Entry) (f : RankedFamily) (g 
   pub above : IsStateWithin after state
   pub runs : Runs words A f n (record { node = record { key = returned_key way caller.node.key back exit; state = state }; origin = caller.origin }) rest
 
--- the frame of this interrupt is added
+-- the frame of this interrupt was added
 pub record HasInterrupted (words : Program) (A : List Entry) (f : RankedFamily) (g : Frame) (gs : List Frame) (v : ℕ) (clears : Bool) (n : State) : Type 0 where
   pub enters : Enters words A g.node (kind.Interrupt v clears) (vector_inst words g.node.key v clears) g.node.key.pc
   pub state : AbsState
@@ -166,7 +165,7 @@ abbrev pub IsGuarded : Slot AbsByte → Type 0
 IsGuarded (Guarded v) = ⊤
 IsGuarded s = ⊥
 
--- The address is that of a guarded slot of a suspended frame, or of a byte of the way back to one.
+-- The address is a guarded slot of a suspended frame, or a byte of its return address.
 pub data FramesHold : List Frame → Origin → ℕ → Type 0 where
   slot : (g : Frame) (gs : List Frame) (o : Origin) (d : ℕ) → d < length g.node.state.slots → IsGuarded (slot_at g.node.state.slots d)
       → FramesHold (g ∷ gs) o (g.origin.base - d)

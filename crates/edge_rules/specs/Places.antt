@@ -1,4 +1,4 @@
--- Nodes by their keys and numbers, in a list that ascends.
+-- Nodes by key and by number, in an ascending list.
 use Rattle.std.proofs.Common.{◌≡◌, refl, sym, ◌∙◌, subst, ℕ, zero, suc, ◌+◌, ◌<◌, ⊎_elim, Bool, true, false, cond, List, [], ◌∷◌, map, Some, None, slice_get, Contains, arith}
 use Rattle.std.specs.List.{position_from, AllByRecursion}
 use Rattle.std.specs.List.Sorted.{IsStrictlySortedBy}

@@ -5,11 +5,11 @@ use Rattle.avr_model.specs.Assumptions.{has_pairs}
 use Rattle.abs_state.specs.declared.state.AbsState.{AbsState}
 use Rattle.abs_state.specs.Values.{root, following_root}
 
--- where pairs are followed, and where they aren't
+-- the state at reset, with pairs followed or not
 abbrev pub root_by : Bool → AbsState
 root_by false = root
 root_by true = following_root
 
--- under these assumptions, pairs are followed exactly where the list has the line `pairs`
+-- the state at reset: pairs are followed exactly if the list has the line `pairs`
 abbrev pub root_of : List Entry → AbsState
 root_of A = root_by (has_pairs A)

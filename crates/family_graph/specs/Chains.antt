@@ -10,7 +10,7 @@ use Rattle.nesting_bound.specs.Chain.{IsChain}
 use Rattle.nesting_bound.specs.Least.{IsLeast}
 use Rattle.family_graph.specs.Graphs.{insts_of, IsGraphOf}
 
--- The deepest chain of a family with the least needs, and the root's need.
+-- The deepest chain of a family by the least needs, and the root's need.
 pub record IsDeepest (words : Program) (A : List Entry) (nodes : List Node) (need : ℕ) (links : List Link) : Type 0 where
   pub graph : List GraphInst
   pub family : IsGraphOf words A nodes graph
@@ -20,6 +20,6 @@ pub record IsDeepest (words : Program) (A : List Entry) (nodes : List Node) (nee
   pub root : need ≡ slice_index needs 0
   pub chain : IsChain graph needs links
 
--- the root is the first instance of each graph of the family, where chains begin
+-- the root is the first instance in each graph of the family, and chains begin there
 abbrev pub BeginsAtRoot : Program → List Entry → List Node → Type 0
 BeginsAtRoot words A nodes = (graph : List GraphInst) → IsGraphOf words A nodes graph → slice_get (insts_of graph) 0 ≡ Some root_inst

@@ -1,4 +1,4 @@
--- The graph of a family of nodes: which instance enters which. Source: own.
+-- The graph of a family of nodes: its instances and their entries. Source: own.
 use Rattle.std.specs.Prelude.{ℕ, ◌≡◌, ◌<◌, ◌↔◌, List, [], length, map, Contains, Some, slice_get, slice_index_or}
 use Rattle.std.specs.List.Sorted.{IsStrictlySortedBy}
 use Rattle.avr_model.specs.declared.assumption.Entry.{Entry}
@@ -29,27 +29,27 @@ HasInst nodes inst = (n : Node) × Contains nodes n × (n.key.inst ≡ inst)
 abbrev pub IsPeopled : Program → List Entry → List Node → Type 0
 IsPeopled words A nodes = (n : Node) (way : EdgeKind) (into : InstKey) (back : ℕ) → Contains nodes n → Enters words A n way into back → HasKey nodes (entry_key into)
 
--- these are the ways in which the node enters instances
+-- the entries of other instances by the node
 abbrev pub AreWaysOf : Program → List Entry → Node → List Entering → Type 0
 AreWaysOf words A n ways = (w : Entering) → Contains ways w ↔ ((back : ℕ) × Enters words A n w.kind w.inst back)
 
--- those of the first nodes, by their numbers
+-- the entries of the first nodes, by number
 pub record AreWaysTo (words : Program) (A : List Entry) (nodes : List Node) (count : ℕ) (all : List (List Entering)) : Type 0 where
   pub count_is : length all ≡ count
   pub each : (at : ℕ) (n : Node) → at < count → slice_get nodes at ≡ Some n → AreWaysOf words A n (slice_index_or all at [])
 
--- those of all nodes
+-- the entries of all nodes
 abbrev pub AreWays : Program → List Entry → List Node → List (List Entering) → Type 0
 AreWays words A nodes all = AreWaysTo words A nodes (length nodes) all
 
--- the place's node is one of this instance, with a whole stack pointer
+-- the place's node belongs to this instance and has a whole stack pointer
 pub record IsGraphPlace (nodes : List Node) (inst : InstKey) (p : Place) : Type 0 where
   pub node : Node
   pub at : slice_get nodes p.node ≡ Some node
   pub same : node.key.inst ≡ inst
   pub closed : node.key.sp ≡ Closed p.offset
 
--- the edge's node is one of the first instance, and enters the second in this way
+-- the edge's node belongs to the first instance, and enters the second in this way
 pub record IsEntryOf (words : Program) (A : List Entry) (nodes : List Node) (inst into : InstKey) (e : Entered) : Type 0 where
   pub node : Node
   pub at : slice_get nodes e.node ≡ Some node
@@ -64,7 +64,7 @@ pub record HasPlaceOf (nodes : List Node) (insts : List InstKey) (i : ℕ) (p : 
   pub is : slice_get insts i ≡ Some inst
   pub place : IsGraphPlace nodes inst p
 
--- the edge leads from the instance of this number to that of the edge's
+-- the edge leads from the instance of this number to the edge's target
 pub record HasEntryOf (words : Program) (A : List Entry) (nodes : List Node) (insts : List InstKey) (i : ℕ) (e : Entered) : Type 0 where
   pub inst : InstKey
   pub is : slice_get insts i ≡ Some inst
@@ -72,8 +72,8 @@ pub record HasEntryOf (words : Program) (A : List Entry) (nodes : List Node) (in
   pub leads : slice_get insts e.into ≡ Some into
   pub entry : IsEntryOf words A nodes inst into e
 
--- The instances are those that have nodes, numbered in the order of their keys; the places of each are its nodes with a whole stack
--- pointer, and its edges are the ways in which its nodes enter instances. Nodes are named by their numbers in the family.
+-- The graph's instances are those with nodes, numbered in the order of keys. An instance's places are its nodes with a whole stack
+-- pointer, and its edges are the entries by its nodes. Nodes are named by their numbers in the family.
 pub record IsGraphOf (words : Program) (A : List Entry) (nodes : List Node) (gs : List GraphInst) : Type 0 where
   pub ascending : IsStrictlySortedBy inst_cmp (insts_of gs)
   pub insts : (inst : InstKey) → Contains (insts_of gs) inst ↔ HasInst nodes inst

@@ -26,7 +26,7 @@ pub record DeepestChainsAreOne : Type 0 where
   pub links : (words : Program) (A : List Entry) (nodes : List Node) (need need' : ℕ) (links links' : List Link) → IsDeepest words A nodes need links → IsDeepest words A nodes need' links'
       → links ≡ links'
 
--- where a certificate's conditions hold of a family, the root's least need is at most its bound, and chains begin at the root
+-- if a certificate's conditions hold of a family, the root's least need is at most its bound, and chains begin at the root
 pub record DeepestChainsAreBounded : Type 0 where
   pub need : (words : Program) (A : List Entry) (c : Claim) (nodes : List Node) (need : ℕ) (links : List Link) → MeetsConditions words A c nodes → IsDeepest words A nodes need links → need ≤ c.bound
   pub root : (words : Program) (A : List Entry) (c : Claim) (nodes : List Node) → MeetsConditions words A c nodes → BeginsAtRoot words A nodes

@@ -1,4 +1,4 @@
--- Numbers of instances, and places and edges node by node.
+-- Numbers of instances, and places and edges by node.
 use Rattle.std.specs.Prelude.{ℕ, ◌+◌, ◌-◌, ◌≡◌, ◌<◌, ◌≤◌, ◌↔◌, if◌then◌else◌, List, [], ◌∷◌, ◌++◌, length, map, Option, Some, None, Contains, slice_get, slice_index}
 use Rattle.std.specs.List.{flat_map}
 use Rattle.std.specs.List.Sorted.{IsStrictlySortedBy}
@@ -20,7 +20,7 @@ use Rattle.family_graph.specs.Graphs.{HasInst, IsGraphPlace, IsEntryOf}
 
 -- ---- numbers
 
--- the number of the first instance of this key, and how many there are where it is none of them
+-- the number of the first instance of this key, or the length of the list if there is none
 abbrev pub number_in : List InstKey → InstKey → ℕ
 number_in [] inst = 0
 number_in (i ∷ is) inst = if same_inst i inst then 0 else number_in is inst + 1
@@ -30,7 +30,7 @@ pub record EndsWith (insts : List InstKey) (inst : InstKey) : Type 0 where
   pub front : List InstKey
   pub is : insts ≡ front ++ inst ∷ []
 
--- an instance behind the others, unless it is the last of them already
+-- appends the instance, unless it is the last one already
 pub data Grows (insts : List InstKey) (inst : InstKey) : List InstKey → Type 0 where
   stays : EndsWith insts inst → Grows insts inst insts
   adds : (EndsWith insts inst → ⊥) → Grows insts inst (insts ++ inst ∷ [])
@@ -46,7 +46,7 @@ pub record AreInstNumbers (nodes : List Node) (count : ℕ) (insts : List InstKe
 
 -- ---- places and edges
 
--- the way of an edge that lands so, if it enters an instance
+-- the instance that an edge with this target enters, if it enters one
 abbrev pub inst_of : Option Node → InstKey
 inst_of None = root_inst
 inst_of (Some n) = n.key.inst
@@ -57,11 +57,11 @@ way_of nodes l = if is_entry l.kind then record { kind = l.kind; inst = inst_of 
 abbrev pub ways_by : List Node → List Landing → List Entering
 ways_by nodes landings = flat_map (way_of nodes) landings
 
--- the edge of the graph for a way of the node of this place
+-- the edge of the graph for an entry by the node of this place
 abbrev pub entry_of : List InstKey → Place → Entering → Entered
 entry_of insts p w = record { node = p.node; offset = p.offset; kind = w.kind; into = number_in insts w.inst }
 
--- what the node of this number adds to the places and edges of its instance, where it enters instances in these ways
+-- the places and edges that the node of this number adds, if it has these entries
 abbrev pub AddsAt : List InstKey → ℕ → List Entering → SpForm → List Place → List Entered → List Place → List Entered → Type 0
 AddsAt insts at ways (Open offset high) ps es ps' es' = (ps' ≡ ps) × (es' ≡ es)
 AddsAt insts at ways (Closed offset) ps es ps' es' =

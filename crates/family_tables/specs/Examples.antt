@@ -1,4 +1,4 @@
--- The instances and nodes of a firmware with one call, in which no register or flag is looked at: the worked one of edges.
+-- The instances and nodes of a firmware with one call, the worked one of edges. No register or flag matters.
 use Rattle.std.specs.Prelude.{ℕ, Bool, true, false, List, [], ◌∷◌}
 use Rattle.abs_state.specs.Values.{root}
 use Rattle.abs_state.specs.Frames.{entered}
@@ -10,11 +10,11 @@ use Rattle.edge_rules.specs.Examples.{callee}
 use Rattle.edge_rules.specs.Expansion.{Seeds}
 use Rattle.certificate.specs.declared.instance.Inst.{Inst}
 
--- the word behind the call
+-- the word after the call
 abbrev pub behind : NodeKey
 behind = record (entry_key root_inst) { pc = 1 }
 
--- it has its state, or comes from the node before
+-- the node has a state, or comes from the node before
 abbrev pub form_by : Bool → NodeForm
 form_by true = From 0
 form_by false = State root

@@ -1,4 +1,4 @@
--- Two firmwares that store onto their own stack: over a free byte, and over one that was pushed.
+-- Two firmwares that store onto their own stack: onto a free byte, and onto a pushed one.
 use Rattle.std.specs.Prelude.{ℕ, ◌≡◌, true, false, List, [], ◌∷◌, replicate, refl}
 use Rattle.avr_model.specs.Bits.{any_below, all_below}
 use Rattle.avr_model.specs.Devices.{device_of}
@@ -14,15 +14,15 @@ use Rattle.edge_rules.specs.Families.{RankedFamily}
 use Rattle.clear_laws.specs.Held.{is_guarded_push}
 use Rattle.clear_laws.specs.Clear.{is_clear}
 
--- a call of the next word makes room for two bytes; `in r28, 0x3d`; `sts 0x08FE, r0`, onto the second; a jump to itself
+-- a call of the next word makes room for two bytes; `in r28, 0x3d`; `sts 0x08FE, r0` onto the second byte; a jump to itself
 abbrev pub over_room : List ℕ
 over_room = 0xD000 ∷ 0xB7CD ∷ 0x9200 ∷ 0x08FE ∷ 0xCFFF ∷ replicate 16379 0xFFFF
 
--- the same, where two registers are pushed
+-- the same, but two registers are pushed
 abbrev pub over_pushed : List ℕ
 over_pushed = 0x920F ∷ 0x920F ∷ 0x9200 ∷ 0x08FE ∷ 0xCFFF ∷ replicate 16379 0xFFFF
 
--- a node of the root with so many bytes on the stack, none of which is known
+-- a node of the root with this many unknown bytes on the stack
 abbrev pub with_bytes : ℕ → AbsState
 with_bytes n = record top { slots = replicate n Free }
 
@@ -38,7 +38,7 @@ room_family = family_of (at_depth 0 0 ∷ at_depth 1 2 ∷ at_depth 2 2 ∷ at_d
 abbrev pub pushed_family : RankedFamily
 pushed_family = family_of (at_depth 0 0 ∷ at_depth 1 1 ∷ at_depth 2 2 ∷ at_depth 4 2 ∷ [])
 
--- the store is clear where its slot may hold no live byte, and else it isn't
+-- the store is clear exactly if its slot may not hold a live byte
 pub clear_where_free : is_clear over_room [] 2 (at_depth 2 2) (λ d. false) ≡ true
 unfolding decoded is_fixed device_of
 clear_where_free = refl
@@ -47,7 +47,7 @@ pub unclear_where_held : is_clear over_pushed [] 2 (at_depth 2 2) (λ d. true) �
 unfolding decoded is_fixed device_of
 unclear_where_held = refl
 
--- `push` is guarded, and the call that makes room isn't
+-- `push` guards its byte; the call that makes room doesn't
 pub push_is_guarded : is_guarded_push over_pushed 1 ≡ true
 unfolding is_scratch any_below all_below decoded device_of
 push_is_guarded = refl

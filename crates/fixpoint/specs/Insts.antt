@@ -12,7 +12,7 @@ use Rattle.round_rules.specs.Families.{Family, nodes_of}
 use Rattle.round_rules.specs.Refusals.{IsSolved}
 use Rattle.round_solutions.specs.Parts.{AreInsts}
 
--- the first of a graph's instances, each with its rank and its need
+-- the first of a graph's instances, with ranks and needs
 pub record AreInstsBelow (gs : List GraphInst) (ranks needs : List ℕ) (count : ℕ) (insts : List Inst) : Type 0 where
   pub all : length insts ≡ count
   pub each : (i : ℕ) (g : GraphInst) → i < count → slice_get gs i ≡ Some g

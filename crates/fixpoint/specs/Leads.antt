@@ -1,4 +1,4 @@
--- How edges lead to nodes, and the forms of the nodes by that.
+-- The edges that lead to each node, and the forms of nodes that follow from them.
 use Rattle.std.specs.Prelude.{ℕ, ◌+◌, ◌≡◌, ◌<◌, ◌==◌, nat_lt, if◌then◌else◌, List, [], ◌∷◌, length, Some, slice_get, slice_set, slice_index_or}
 use Rattle.avr_model.specs.declared.assumption.Entry.{Entry}
 use Rattle.avr_model.specs.Devices.{Program}
@@ -19,7 +19,7 @@ use Rattle.fixpoint.specs.declared.leading.Lead.TheVariants.{Nothing, Only, More
 
 -- ---- one edge more
 
--- a local edge from the node of this number
+-- one more local edge from the node of this number
 abbrev pub moved : Lead → ℕ → Lead
 moved Nothing at = Only at
 moved (Only from) at = if from == at then Only from else More
@@ -34,7 +34,7 @@ led lead at Return = More
 abbrev pub lead_at : List Lead → ℕ → Lead
 lead_at leads p = slice_index_or leads p Nothing
 
--- where an edge from the node of this number lands is noted
+-- one more edge from the node of this number
 abbrev pub noted : ℕ → List Lead → Landing → List Lead
 noted at leads l = slice_set leads l.at (led (lead_at leads l.at) at l.kind)
 
@@ -48,15 +48,15 @@ pub record LeadsTo (words : Program) (A : List Entry) (nodes : List Node) (count
   pub is : IsEdge words A nodes node e
   pub leads : e.to ≡ k
 
--- How the edges from the first nodes lead to this key: not at all, by local ones from the node of this number alone, or so that none is
--- the only one.
+-- How edges from the first nodes lead to this key: none does, only a local one from the node of this number does, or there is no only
+-- one.
 abbrev pub IsLead : Program → List Entry → List Node → ℕ → NodeKey → Lead → Type 0
 IsLead words A nodes count k Nothing = (i : ℕ) (e : Edge) → LeadsTo words A nodes count k i e → ⊥
 IsLead words A nodes count k (Only m) =
     ((e : Edge) × LeadsTo words A nodes count k m e) × ((i : ℕ) (e : Edge) → LeadsTo words A nodes count k i e → (i ≡ m) × (e.kind ≡ Local))
 IsLead words A nodes count k More = (m : ℕ) → IsOnlyFrom words A nodes k m → ⊥
 
--- how the edges from the first nodes lead to each
+-- for each node, how edges from the first nodes lead to it
 pub record AreLeads (words : Program) (A : List Entry) (nodes : List Node) (count : ℕ) (leads : List Lead) : Type 0 where
   pub all : length leads ≡ length nodes
   pub each : (p : ℕ) (n : Node) → slice_get nodes p ≡ Some n → IsLead words A nodes count n.key (lead_at leads p)
@@ -68,7 +68,7 @@ form_by at Nothing s = State s
 form_by at (Only from) s = if nat_lt from at then From from else State s
 form_by at More s = State s
 
--- the nodes with their forms, from the one of this number on
+-- the nodes with their forms, from this number on
 abbrev pub forms_from : ℕ → List Lead → List Node → Seeds
 forms_from at leads [] = []
 forms_from at leads (n ∷ ns) = (n.key, form_by at (lead_at leads at) n.state) ∷ forms_from (at + 1) leads ns

@@ -1,4 +1,4 @@
--- What holds between rounds. Source: own.
+-- Invariants between rounds. Source: own.
 use Rattle.std.specs.Prelude.{ℕ, ◌+◌, ◌≡◌, ◌⊎◌, ⊤, List, [], Option, Some, None, Contains}
 use Rattle.avr_model.specs.declared.assumption.Entry.{Entry}
 use Rattle.avr_model.specs.Devices.{Program}
@@ -53,7 +53,7 @@ pub record IsLeaver (words : Program) (A : List Entry) (f : Family) (inst : Inst
   pub of : node.key.inst ≡ inst
   pub exit : (raw_of words A node).exit ≡ Some p.exit
 
--- what is noted is so in the family
+-- the notes hold of the family
 pub record AreTrue (words : Program) (A : List Entry) (f : Family) (notes : Notes) : Type 0 where
   pub callers : (inst : InstKey) (p : Crossing) → IsCrossing notes.callers inst p → IsCaller words A f inst p
   pub leavers : (inst : InstKey) (p : Crossing) → IsCrossing notes.leavers inst p → IsLeaver words A f inst p
@@ -61,7 +61,7 @@ pub record AreTrue (words : Program) (A : List Entry) (f : Family) (notes : Note
   pub spots : (s : Spot) → Contains notes.nesting.spots s → IsSpotOf f s
   pub entrances : (e : Entrance) → Contains notes.nesting.entrances e → Entering words A f e.from e.into e.offset
 
--- all that is to be noted of the node is
+-- the notes have all that the node contributes
 pub record IsKnown (words : Program) (A : List Entry) (notes : Notes) (n : Node) : Type 0 where
   pub callers : (way : EdgeKind) (inst : InstKey) (back : ℕ) → Enters words A n way inst back
       → IsCrossing notes.callers inst (caller n.key (record { kind = way; inst = inst; back = back }))
@@ -71,7 +71,7 @@ pub record IsKnown (words : Program) (A : List Entry) (notes : Notes) (n : Node)
   pub entrances : (way : EdgeKind) (inst : InstKey) (back : ℕ) → Enters words A n way inst back
       → Contains notes.nesting.entrances (record { from = n.key.inst; into = inst; offset = offset_of n.key.sp })
 
--- all nodes of a family without faults are known, and all that is noted is so
+-- the notes have all nodes of a family without faults, and hold
 pub record AreKnown (words : Program) (A : List Entry) (f : Family) (notes : Notes) : Type 0 where
   pub faultless : HasNoFault words A f
   pub each : (n : Node) → FamilyHas f n → IsKnown words A notes n
@@ -79,14 +79,13 @@ pub record AreKnown (words : Program) (A : List Entry) (f : Family) (notes : Not
 
 -- ---- before a round
 
--- the node needs no look
+-- the node needs no visit
 pub record IsHeld (words : Program) (A : List Entry) (f : Family) (notes : Notes) (n : Node) : Type 0 where
   pub faultless : IsFaultless words A n
   pub known : IsKnown words A notes n
   pub own : (to : Node) → IsOwn words A n to → Lands f to
 
--- Each node that is not in the list needs no look, and where neither of two is, the one comes back by the other to a node that is there.
--- Where no node has a fault, all that is noted is so.
+-- Each node that is not in the list needs no visit, and between two such nodes returns land. If no node has a fault, the notes hold.
 pub record Turn (words : Program) (A : List Entry) (f : Family) (work : List NodeKey) (notes : Notes) : Type 0 where
   pub held : (n : Node) → FamilyHas f n → Contains work n.key ⊎ IsHeld words A f notes n
   pub backs : (n m to : Node) → FamilyHas f n → FamilyHas f m → ComesBack words A n m to → Contains work n.key ⊎ (Contains work m.key ⊎ Lands f to)
@@ -95,14 +94,14 @@ pub record Turn (words : Program) (A : List Entry) (f : Family) (work : List Nod
 
 -- ---- the budget
 
--- what is left of the budget after n rounds
+-- the budget that is left after n rounds
 abbrev pub IsBudgetLeft : Option ℕ → Option ℕ → ℕ → Type 0
 IsBudgetLeft None None n = ⊤
 IsBudgetLeft None (Some left) n = ⊥
 IsBudgetLeft (Some steps) None n = ⊥
 IsBudgetLeft (Some steps) (Some left) n = left + n ≡ steps
 
--- the rounds so far
+-- the state of the rounds so far
 pub record RoundsProgress (words : Program) (A : List Entry) (steps left : Option ℕ) (f : Family) (count : ℕ) (work : List NodeKey) (notes : Notes) : Type 0 where
   pub number : ℕ
   pub comes : Comes words A number f
@@ -110,7 +109,7 @@ pub record RoundsProgress (words : Program) (A : List Entry) (steps left : Optio
   pub turn : Turn words A f work notes
   pub counted : count ≡ cells f
 
--- the budget was for n rounds, and this says so
+-- the budget was for n rounds, and the refusal says so
 abbrev pub IsSpent : Option ℕ → ℕ → Refusal → Type 0
 IsSpent steps n r = (r ≡ Spent n) × (steps ≡ Some n)
 

@@ -1,4 +1,4 @@
--- What the tests of a round tell.
+-- The results of a round's tests.
 use Rattle.std.specs.Prelude.{ℕ, ◌≡◌, List, Option, Some}
 use Rattle.avr_model.specs.declared.assumption.Entry.{Entry}
 use Rattle.avr_model.specs.Devices.{Program}
@@ -24,7 +24,7 @@ pub record IsTooLarge (f : Family) (r : Refusal) : Type 0 where
   pub over : IsOverSize f limit
   pub is : r ≡ TooLarge limit
 
--- the refusal is of the fault that counts
+-- the refusal has the least fault
 pub record IsFaulty (worst : Option NodeFault) (r : Refusal) : Type 0 where
   pub fault : NodeFault
   pub found : worst ≡ Some fault
@@ -36,19 +36,19 @@ nesting_refusal (verdicts.ReEntry v word) = ReEntry v word
 nesting_refusal (verdicts.Recursion word) = Recursion word
 nesting_refusal (verdicts.TooDeep need) = TooDeep 0 need
 
--- the refusal says what the nesting tells of a device whose SRAM has so many bytes
+-- the refusal is the verdict on the nesting, for a device with this many bytes of SRAM
 pub record IsVerdictTold (size : ℕ) (n : Noted) (r : Refusal) : Type 0 where
   pub verdict : NestingVerdict
   pub tells : TellsAll size n verdict
   pub is : r ≡ nesting_refusal verdict
 
--- the refusal is of the first test that holds
+-- the refusal is that of the first test that holds
 pub record AreRoundsStopped (words : Program) (A : List Entry) (f : Family) (r : Refusal) : Type 0 where
   pub test : Test
   pub holds : FirstHolds words A f test
   pub is : r ≡ refusal_of test
 
--- No test holds; the nodes are a round of the family, none of them lands in it, and no two have the same key; and its nodes are known.
+-- No test holds; the nodes are a round of the family, none lands in it, no two have the same key, and the notes have its nodes.
 pub record IsReady (words : Program) (A : List Entry) (f : Family) (notes : Notes) (nodes : List Node) : Type 0 where
   pub passes : PassesTests words A f
   pub round : IsRoundOf words A f nodes

@@ -1,4 +1,4 @@
--- A certificate whose bound is attained where a trial shows it. Source: own.
+-- A certificate whose bound is attained if a trial shows it. Source: own.
 use Rattle.std.specs.Prelude.{ℕ, ◌≡◌, ◌<◌, ◌↔◌, ◌⊎◌, true, List, Option, Some, None}
 use Rattle.std.specs.Option.{is_some}
 use Rattle.avr_model.specs.declared.assumption.Entry.{Entry}
@@ -8,12 +8,12 @@ use Rattle.certificate.specs.Claims.{Claim}
 use Rattle.guided_trials.specs.Guides.{guide_of}
 use Rattle.guided_trials.specs.Trials.{GuidedSucceeds, IsGuidedFound}
 
--- the schedule that a certificate has, or what the first n trials find where it has none
+-- the schedule that a certificate has, or the result of the first n trials if it has none
 abbrev pub IsScheduled : Program → List Entry → ℕ → Claim → Option Plan → Option Plan → Type 0
 IsScheduled words A n c None found = IsGuidedFound words A (guide_of words A c) n found
 IsScheduled words A n c (Some plan) found = found ≡ Some plan
 
--- The certificate d is c but for its schedule, which is that of c, or that of the least of the first n trials whose depth is the bound or more.
+-- d is c with the schedule of c, or of the first trial below n whose depth is at least the bound.
 pub record IsCompleted (words : Program) (A : List Entry) (n : ℕ) (c d : Claim) : Type 0 where
   pub same : d ≡ record c { witness = d.witness }
   pub schedule : IsScheduled words A n c c.witness d.witness
@@ -22,6 +22,6 @@ pub record IsCompleted (words : Program) (A : List Entry) (n : ℕ) (c d : Claim
 abbrev pub SomeSucceeds : Program → List Entry → ℕ → Claim → Type 0
 SomeSucceeds words A n c = (t : ℕ) × (t < n) × GuidedSucceeds words A (guide_of words A c) t
 
--- the certificate is attained exactly where c is or some trial succeeds
+-- d is attained exactly if c is or some trial succeeds
 abbrev pub AttainedWhere : Program → List Entry → ℕ → Claim → Claim → Type 0
 AttainedWhere words A n c d = (is_some d.witness ≡ true) ↔ ((is_some c.witness ≡ true) ⊎ SomeSucceeds words A n c)

@@ -57,13 +57,13 @@ watchdog_twice = refl
 another_once : takes_of 8 3 ≡ record { vector = 8; clears = false; need = 3 } ∷ []
 another_once = refl
 
--- with three bytes on the stack, two for the way back and five below it the bound of ten is met, and with four it isn't
+-- three bytes on the stack, two for the return address and a need of five reach the bound of ten; with a need of four they don't
 wanted_at_the_bound : is_wanted (record { bytes = 0 ∷ []; takes = []; bound = 10 }) 3 (record { vector = 8; clears = false; need = 5 }) ≡ true
 wanted_at_the_bound = refl
 
 one_byte_short : is_wanted (record { bytes = 0 ∷ []; takes = []; bound = 10 }) 3 (record { vector = 8; clears = false; need = 4 }) ≡ false
 one_byte_short = refl
 
--- the numbers of members count modulo how many there are
+-- members are numbered modulo their count
 third_of_two : member (0x11 ∷ 0x22 ∷ []) 3 ≡ 0x22
 third_of_two = refl

@@ -1,4 +1,4 @@
--- What leads the trials, in words of the firmware and of the machine. Source: own.
+-- Laws of guided trials, in terms of the firmware and the machine. Source: own.
 use Rattle.std.specs.Prelude.{ℕ, ◌≡◌, ◌<◌, ◌≤◌, ◌↔◌, ◌⊎◌, Bool, false, IsTrue, List, length, Contains}
 use Rattle.std.specs.List.Sorted.{IsStrictlySortedBy}
 use Rattle.std.specs.Ordering.{nat_cmp}
@@ -20,19 +20,19 @@ use Rattle.guided_trials.specs.Guides.{guide_of}
 use Rattle.guided_trials.specs.Choosing.{reads, after, pick, picked}
 use Rattle.guided_trials.specs.Trials.{trial_of}
 
--- the byte is one that is always tried, or the instruction at some word of flash tells it apart
+-- the byte is one that is always tried, or an instruction of flash distinguishes it
 abbrev pub IsByteTold : Program → ℕ → Type 0
 IsByteTold words byte = Contains fills byte ⊎ ((at : ℕ) × (at < words_of (device_of words)) × Contains (told_if (instruction_at words at)) byte)
 
 pub record TrialsAreLed : Type 0 where
-  -- the bytes that are tried ascend, and are those that the firmware tells apart
+  -- the tried bytes ascend, and are exactly these
   pub ascend : (words : Program) → IsStrictlySortedBy nat_cmp (telling words)
   pub told : (words : Program) (byte : ℕ) → Contains (telling words) byte ↔ ((byte < 256) × IsByteTold words byte)
-  -- the byte stays, but at an instruction that may read an input it may become one of them
+  -- the byte stays; only at an instruction that may read an input it may become another tried one
   pub kept : (words : Program) (g : Guide) (t pc : ℕ) (l : TrialMoment) → reads words pc ≡ false → (after words g t l pc).byte ≡ l.byte
   pub changed : (words : Program) (A : List Entry) (c : Claim) (t pc : ℕ) (l : TrialMoment)
       → ((after words (guide_of words A c) t l pc).byte ≡ l.byte) ⊎ Contains (telling words) (after words (guide_of words A c) t l pc).byte
-  -- each choice stands in the menu of its moment, and is that which is picked by the state
+  -- each choice is in the menu at its step, and is the one picked by the state
   pub legal : (words : Program) (g : Guide) (t : ℕ) (l : TrialMoment) (menu : Menu) → IsTrue (has_choice menu (picked words g t l menu))
   pub alike : (words : Program) (g : Guide) (t : ℕ) (l : TrialMoment) (menu : Menu) (m : State) → IsMenuOf menu m → picked words g t l menu ≡ pick words g t l m
   -- no vector with a `never` line is taken

@@ -1,4 +1,4 @@
--- Where a text reads as an assumption list, and where it doesn't, by the spelling alone.
+-- The texts that are assumption lists, and the refusals of others, by the spelling alone.
 use Rattle.std.specs.Prelude.{◌≡◌, ◌≢◌, ◌<◌, ◌+◌, ◌++◌, ◌⊎◌, ℕ, List, [], ◌∷◌, length, true, false, Some, Result, Ok, Err, ⊤}
 use Rattle.avr_model.specs.declared.assumption.Entry.{Entry}
 use Rattle.vector_table.specs.Entries.{AreEntries, is_entry, is_above_last, most_entries}
@@ -7,22 +7,22 @@ use Rattle.indirect_targets.specs.declared.fault.AssumeText.TheVariants.{Malform
 use Rattle.indirect_targets.specs.Spelling.{entry_words, line_of, text_of}
 use Rattle.indirect_targets.specs.Reading.{entry_in, entries_in}
 
--- The text is that of this list.
+-- The text is the spelling of this list.
 pub record IsListReading (text : List ℕ) (entries : List Entry) : Type 0 where
   pub fits : AreEntries entries
   pub bytes : text ≡ text_of entries
 
--- The lines before this one, which counts from 1, are those of a list, and this is the text from it on.
+-- The lines before this one, counted from 1, are those of a list, and `here` is the text from it on.
 pub record StandsAt (text : List ℕ) (line : ℕ) (before : List Entry) (here : List ℕ) : Type 0 where
   pub fits : AreEntries before
   pub bytes : text ≡ text_of before ++ here
   pub number : line ≡ length before + 1
 
--- the text begins with the line of no entry
+-- the text begins with no entry's line
 abbrev pub BeginsWithNone : List ℕ → Type 0
 BeginsWithNone here = (e : Entry) (rest : List ℕ) → is_entry e ≡ true → here ≢ line_of e ++ rest
 
--- Something stands behind the lines of a list, and it begins with the line of no entry, or the list has room for none.
+-- After the lines of a list more text follows. It begins with no entry's line, or the list is full.
 pub record IsListMalformed (text : List ℕ) (line : ℕ) : Type 0 where
   pub before : List Entry
   pub here : List ℕ
@@ -30,7 +30,7 @@ pub record IsListMalformed (text : List ℕ) (line : ℕ) : Type 0 where
   pub some : here ≢ []
   pub stop : (length before ≡ most_entries) ⊎ BeginsWithNone here
 
--- Behind the lines of a list with room for another entry stands the line of one that isn't above the last.
+-- After the lines of a list with room for an entry follows the line of an entry that is not above the last.
 pub record IsListOutOfOrder (text : List ℕ) (line : ℕ) : Type 0 where
   pub before : List Entry
   pub entry : Entry
@@ -47,12 +47,12 @@ IsListDue text (Err (Malformed line)) = IsListMalformed text line
 IsListDue text (Err (Order line)) = IsListOutOfOrder text line
 IsListDue text (Err Memory) = ⊥
 
--- what was answered is due, unless memory was wanting
+-- the answer is the one that is due, or memory ran out
 abbrev pub IsListDueUnlessMemory : List ℕ → Result (List Entry) AssumeText → Type 0
 IsListDueUnlessMemory text (Err Memory) = ⊤
 IsListDueUnlessMemory text answer = IsListDue text answer
 
--- The lines before this one are those of a list, another line stands behind them, and no list has it behind theirs.
+-- The lines before this one are those of a list, another line follows, and no list continues with it.
 pub record IsListStuck (text : List ℕ) (line : ℕ) : Type 0 where
   pub before : List Entry
   pub here : List ℕ
@@ -62,11 +62,11 @@ pub record IsListStuck (text : List ℕ) (line : ℕ) : Type 0 where
 
 -- ---- laws
 
--- what is read of a text is due
+-- the result of reading a text is due
 abbrev pub ReadListIsDue : Type 0
 ReadListIsDue = (text : List ℕ) → IsListDue text (entries_in text)
 
--- what is due is read, so one answer alone is due
+-- the due answer is the result of reading, so it is unique
 abbrev pub DueIsRead : Type 0
 DueIsRead = (text : List ℕ) (due : Result (List Entry) AssumeText) → IsListDue text due → entries_in text ≡ due
 
@@ -74,16 +74,16 @@ pub record ReadingIsExact : Type 0 where
   pub read : ReadListIsDue
   pub due : DueIsRead
 
--- a line that is told is the first one at which no list can go on
+-- a refusal names the first line with which no list continues
 pub record RefusedListIsStuck : Type 0 where
   pub malformed : (text : List ℕ) (line : ℕ) → IsListMalformed text line → IsListStuck text line
   pub out_of_order : (text : List ℕ) (line : ℕ) → IsListOutOfOrder text line → IsListStuck text line
 
--- no text is that of two lists
+-- no text is the spelling of two lists
 abbrev pub ListsHaveOneText : Type 0
 ListsHaveOneText = (a b : List Entry) → AreEntries a → AreEntries b → text_of a ≡ text_of b → a ≡ b
 
--- the words of an entry are read as it, and words that are read are those of the entry
+-- reading the words of an entry gives the entry, and words that are read are those of the entry
 pub record EntryWords : Type 0 where
   pub read : (e : Entry) → is_entry e ≡ true → entry_in (entry_words e) ≡ Some e
   pub spelled : (ws : List (List ℕ)) (e : Entry) → entry_in ws ≡ Some e → (ws ≡ entry_words e) × (is_entry e ≡ true)

@@ -1,4 +1,4 @@
--- Worked texts, and worked targets.
+-- Worked texts and worked targets.
 use Rattle.std.specs.Prelude.{◌≡◌, ℕ, ◌==◌, List, [], ◌∷◌, ◌++◌, length, codes, Ok, Err, refl, if◌then◌else◌}
 use Rattle.std.specs.List.{flat_map}
 use Rattle.avr_model.specs.Vectors.{has_enables}
@@ -41,7 +41,7 @@ twice : entries_in (text (codes "jump 0004 0005" ∷ codes "jump 0004 0005" ∷ 
 unfolding entries_from with_line next_by entry_in numbered_in alone_by
 twice = refl
 
--- the kinds at a site stand in their order
+-- the kinds at one site must be in order
 kinds_turned : entries_in (text (codes "prove 0003" ∷ codes "store 0004 005D" ∷ codes "jump 0004 0005" ∷ [])) ≡ Err (Order 3)
 unfolding entries_from with_line next_by entry_in numbered_in alone_by has_enables
 kinds_turned = refl
@@ -54,7 +54,7 @@ frames_turned : entries_in (text (codes "frame 0004" ∷ codes "never 0004" ∷ 
 unfolding entries_from with_line next_by entry_in numbered_in alone_by
 frames_turned = refl
 
--- `pairs` stands once, before all other lines
+-- `pairs` comes at most once, first of all lines
 pairs_twice : entries_in (text (codes "pairs" ∷ codes "pairs" ∷ [])) ≡ Err (Order 2)
 unfolding entries_from with_line next_by entry_in numbered_in alone_by
 pairs_twice = refl
@@ -63,7 +63,7 @@ pairs_behind : entries_in (text (codes "jump 0000 0005" ∷ codes "pairs" ∷ []
 unfolding entries_from with_line next_by entry_in numbered_in alone_by
 pairs_behind = refl
 
--- `masks` stands once, behind `pairs` and before all other lines
+-- `masks` comes at most once, after `pairs` and before all other lines
 masks_twice : entries_in (text (codes "pairs" ∷ codes "masks" ∷ codes "masks" ∷ [])) ≡ Err (Order 3)
 unfolding entries_from with_line next_by entry_in numbered_in alone_by
 masks_twice = refl
@@ -80,17 +80,17 @@ more_than_masks : entries_in (text (codes "masks 0000" ∷ [])) ≡ Err (Malform
 unfolding entries_from with_line next_by entry_in numbered_in alone_by
 more_than_masks = refl
 
--- it names no site
+-- `pairs` has no site
 more_than_pairs : entries_in (text (codes "pairs 0000" ∷ [])) ≡ Err (Malformed 1)
 unfolding entries_from with_line next_by entry_in numbered_in alone_by
 more_than_pairs = refl
 
--- a site stands alone
+-- `free` has a site and nothing else
 more_than_a_site : entries_in (text (codes "free 0004 005D" ∷ [])) ≡ Err (Malformed 1)
 unfolding entries_from with_line next_by entry_in numbered_in alone_by
 more_than_a_site = refl
 
--- of a line that isn't above the last and not of its form either, the form is told
+-- if a line is malformed and not above the last, it is refused as malformed
 form_first : entries_in (text (codes "prove 0004" ∷ codes "prove 003" ∷ [])) ≡ Err (Malformed 2)
 unfolding entries_from with_line next_by entry_in numbered_in alone_by
 form_first = refl
@@ -108,7 +108,7 @@ unprotected : entries_in (text (codes "store 0004 0020" ∷ [])) ≡ Err (Malfor
 unfolding entries_from with_line next_by entry_in numbered_in alone_by has_enables
 unprotected = refl
 
--- the program counter has 14 bits: the two upper ones of the high byte don't count
+-- the program counter has 14 bits: the upper two bits of the high byte do not count
 one_word : targets_of (byte_known 52) (byte_known 210) ≡ 4660 ∷ []
 unfolding numbers_of packed
 one_word = refl

@@ -1,4 +1,4 @@
--- Reading an assumption list forward, line by line. A refusal tells the number of the first line at which no list can go on.
+-- Reads an assumption list forward, line by line. A refusal has the number of the first line with which no list continues.
 use Rattle.std.specs.Prelude.{ℕ, ◌+◌, nat_lt, List, [], ◌∷◌, ◌++◌, length, codes, Option, Some, None, Result, Ok, Err, if◌then◌else◌}
 use Rattle.std.specs.Option.{option_map}
 use Rattle.std.specs.Str.{bytes_eq}
@@ -12,12 +12,12 @@ use Rattle.indirect_targets.specs.declared.fault.AssumeText.TheVariants.{Malform
 
 -- ---- the words of a line
 
--- all words, each a number in four digits
+-- all words, each a number of four digits
 abbrev pub numbers_in : List (List ℕ) → Option (List ℕ)
 numbers_in [] = Some []
 numbers_in (w ∷ ws) = hex_at 4 (w ∷ ws) >>= λ n. option_map (λ ns. n.0 ∷ ns) (numbers_in ws)
 
--- a site, and the numbers behind it
+-- a site, and the numbers after it
 abbrev pub listed_in : List (List ℕ) → Option (ℕ × List ℕ)
 listed_in ws = hex_at 4 ws >>= λ site. option_map (λ ns. (site.0, ns)) (numbers_in site.1)
 
@@ -25,11 +25,11 @@ listed_in ws = hex_at 4 ws >>= λ site. option_map (λ ns. (site.0, ns)) (number
 abbrev pub alone_in : List (List ℕ) → Option ℕ
 alone_in ws = hex_at 4 ws >>= λ site. if is_over site.1 then Some site.0 else None
 
--- nothing behind a line without a site
+-- the entry of a line that is one word
 abbrev pub bare_in : Entry → List (List ℕ) → Option Entry
 bare_in entry ws = if is_over ws then Some entry else None
 
--- the entry of a kind that names a site alone
+-- the entry of a kind that has a site and nothing else
 unfoldable pub alone_by : List ℕ → List (List ℕ) → Option Entry
 alone_by kind ws =
     if bytes_eq kind (codes "prove") then option_map (λ site. Prove site) (alone_in ws)
@@ -37,7 +37,7 @@ alone_by kind ws =
     else (if bytes_eq kind (codes "never") then option_map (λ site. Never site) (alone_in ws)
     else (if bytes_eq kind (codes "frame") then option_map (λ site. Frame site) (alone_in ws) else None)))
 
--- the entry of these words, whatever its numbers are
+-- the entry of these words, whatever its numbers
 unfoldable pub numbered_in : List (List ℕ) → Option Entry
 numbered_in [] = None
 numbered_in (w ∷ ws) =
@@ -47,7 +47,7 @@ numbered_in (w ∷ ws) =
     else (if bytes_eq w (codes "store") then option_map (λ l. Store l.0 l.1) (listed_in ws)
     else alone_by w ws)))
 
--- an entry that a list can hold
+-- the entry, if a list may have it
 abbrev pub admitted : Entry → Option Entry
 admitted e = if is_entry e then Some e else None
 
@@ -57,24 +57,24 @@ entry_in ws = numbered_in ws >>= admitted
 
 -- ---- lines
 
--- the entry of a line, which has to be whole
+-- the entry of a line, which must have a line feed
 abbrev pub entry_by : TextLine → Option Entry
 entry_by l = if l.whole then entry_in (words_of l.text) else None
 
--- the same behind so many lines: a list has no line 4,097
+-- the entry of a line after this many lines: no list has a line 4,097
 unfoldable pub next_by : ℕ → TextLine → Option Entry
 next_by count l = if nat_lt count most_entries then entry_by l else None
 
--- what was found in the line behind these entries: it is refused where it isn't of its form, or where it isn't above the last
+-- these entries with the one of the next line; refused if that is malformed, or not above the last
 abbrev pub placed : List Entry → Option Entry → Result (List Entry) AssumeText
 placed es None = Err (Malformed (length es + 1))
 placed es (Some e) = if is_above_last es e then Ok (es ++ e ∷ []) else Err (Order (length es + 1))
 
--- these entries and that of the next line
+-- these entries with the one of the next line, or the refusal
 unfoldable pub with_line : List Entry → TextLine → Result (List Entry) AssumeText
 with_line es l = placed es (next_by (length es) l)
 
--- these entries and those of all lines
+-- these entries with those of all lines, or the refusal
 unfoldable pub entries_from : List Entry → List TextLine → Result (List Entry) AssumeText
 entries_from es [] = Ok es
 entries_from es (l ∷ ls) = then_at (with_line es l) (λ more. entries_from more ls)

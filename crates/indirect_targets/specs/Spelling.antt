@@ -10,7 +10,7 @@ use Rattle.sb_base.specs.Lines.{line}
 abbrev pub number_words : List ℕ → List (List ℕ)
 number_words numbers = map (λ n. hex_digits n 4) numbers
 
--- the words of an entry's line: its kind, its site, and its items; `pairs` and `masks` are a word alone
+-- the words of an entry's line: its kind, its site and its items; `pairs` and `masks` are one word
 abbrev pub entry_words : Entry → List (List ℕ)
 entry_words Pairs = codes "pairs" ∷ []
 entry_words Masks = codes "masks" ∷ []

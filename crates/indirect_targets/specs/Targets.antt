@@ -1,5 +1,5 @@
--- The words to which an indirect transfer may lead: those of all members of its pointer, of which the program counter takes
--- the low 14 bits. Source: own; the pointer and the program counter are those of the Instruction Set Manual.
+-- The possible targets of an indirect transfer: the words of all members of its pointer, of which the program counter takes the low 14
+-- bits. Source: own; the pointer and the program counter are those of the Instruction Set Manual.
 use Rattle.std.specs.Prelude.{ℕ, ◌≡◌, ◌≤◌, ◌<◌, ◌+◌, ◌*◌, ◌%◌, ◌^◌, ◌↔◌, List, length, Contains, Result, Ok, Err}
 use Rattle.std.specs.List.Sorted.{IsStrictlySortedBy}
 use Rattle.std.specs.Ordering.{nat_cmp}
@@ -10,14 +10,14 @@ use Rattle.bit_domain.specs.Numbers.{pointer_bit, targets_of, count_unknown}
 abbrev pub most_targets : ℕ
 most_targets = 64
 
--- what was answered is this list, or that it has more than 64 words
+-- the result is this list, or a fault if it has more than 64 words
 abbrev pub KeepsTargets : {E : Type 0} → Result (List ℕ) E → List ℕ → Type 0
 KeepsTargets (Ok words) due = (words ≡ due) × (length due ≤ most_targets)
 KeepsTargets (Err e) due = most_targets < length due
 
 -- ---- laws
 
--- Some member of the low byte and some member of the high byte make up this word.
+-- The word consists of members of the low and the high byte.
 pub record IsGiven (lo hi : TriByte) (word : ℕ) : Type 0 where
   pub x : ℕ
   pub y : ℕ
@@ -27,8 +27,7 @@ pub record IsGiven (lo hi : TriByte) (word : ℕ) : Type 0 where
   pub y_in : Has hi y
   pub is : (x + 256 * y) % 16384 ≡ word
 
--- the targets are just the words of members, they ascend, each unknown bit doubles their number, and more permitted bits give
--- at least these
+-- the targets are exactly the words of members, ascend, double in number with each unknown bit, and are monotone
 pub record TargetsAreThoseOfMembers : Type 0 where
   pub members : (lo hi : TriByte) (word : ℕ) → Contains (targets_of lo hi) word ↔ IsGiven lo hi word
   pub ascending : (lo hi : TriByte) → IsStrictlySortedBy nat_cmp (targets_of lo hi)

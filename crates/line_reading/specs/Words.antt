@@ -1,4 +1,4 @@
--- Words and lines that are written, and the pieces that read them.
+-- Words and lines as they are written, and the readings of them.
 use Rattle.std.specs.Prelude.{◌≡◌, ◌≤◌, ◌<◌, ◌^◌, ◌+◌, ◌++◌, ℕ, List, [], ◌∷◌, length, Some, true, decimal, map}
 use Rattle.std.specs.List.{AllByRecursion, flat_map}
 use Rattle.sb_base.specs.Digits.{hex_digits}
@@ -6,7 +6,7 @@ use Rattle.sb_base.specs.Lines.{TextLine, Place, size_of, AreLines, joined, word
 use Rattle.sb_base.specs.Spelling.{LinesMakeText, LinesOfTextAreLines}
 use Rattle.line_reading.specs.Reading.{hex_at, dec_at}
 
--- what can stand as a word in a line: no space and no line feed is in it
+-- a word of a line: it has no space and no line feed
 abbrev pub IsWord : List ℕ → Type 0
 IsWord w = Lacks 32 w × Lacks 10 w
 
@@ -14,23 +14,23 @@ IsWord w = Lacks 32 w × Lacks 10 w
 abbrev pub whole : List (List ℕ) → TextLine
 whole ws = record { text = spaced ws; whole = true }
 
--- how many bytes lines take
+-- the number of bytes of these lines
 abbrev pub sizes : List TextLine → ℕ
 sizes [] = 0
 sizes (l ∷ ls) = size_of l + sizes ls
 
--- These lines stand at the first place, and the second place is behind them.
+-- These lines are at the first place, and the second place is after them.
 pub record Passes (p : Place) (ls : List TextLine) (q : Place) : Type 0 where
   pub lines : p.rest ≡ ls ++ q.rest
   pub offset : q.at ≡ p.at + sizes ls
 
 -- ---- laws
 
--- digits that are read are the ones that are written of their number, which has no more digits
+-- digits that are read are those written for their number, which needs no more digits
 abbrev pub HexTakes : Type 0
 HexTakes = (digits n : ℕ) (ws rest : List (List ℕ)) → hex_at digits ws ≡ Some (n, rest) → (ws ≡ hex_digits n digits ∷ rest) × (n < 16 ^ digits)
 
--- digits that are written of a number are read as it
+-- the digits written for a number are read as it
 abbrev pub HexIsTaken : Type 0
 HexIsTaken = (digits n : ℕ) (rest : List (List ℕ)) → n < 16 ^ digits → hex_at digits (hex_digits n digits ∷ rest) ≡ Some (n, rest)
 
@@ -46,31 +46,31 @@ HexIsWord = (n digits : ℕ) → n < 16 ^ digits → IsWord (hex_digits n digits
 abbrev pub DecIsWord : Type 0
 DecIsWord = (n : ℕ) → n < 2 ^ 64 → IsWord (decimal n)
 
--- a line is read as the words that it was made of
+-- a line is read as its words
 abbrev pub WordsStand : Type 0
 WordsStand = (w : List ℕ) (ws : List (List ℕ)) → AllByRecursion IsWord (w ∷ ws) → words_of (spaced (w ∷ ws)) ≡ w ∷ ws
 
--- a line is its words
+-- a line has one list of words
 abbrev pub LineIsWords : Type 0
 LineIsWords = (text : List ℕ) → spaced (words_of text) ≡ text
 
--- lines of words and what follows them are the lines of a text
+-- the lines of a text that begins with lines of words begin with these lines
 abbrev pub LinesStand : Type 0
 LinesStand = (wss : List (List (List ℕ))) (ls : List TextLine) → AllByRecursion (AllByRecursion IsWord) wss → AreLines ls → AreLines (map whole wss ++ ls)
 
--- the text that lines of words make up begins the text from the place on
+-- the text from the place on begins with the text of these lines of words
 pub record PassesText (p : Place) (wss : List (List (List ℕ))) (q : Place) : Type 0 where
   pub bytes : joined p.rest ≡ flat_map line wss ++ joined q.rest
   pub offset : q.at ≡ p.at + length (flat_map line wss)
 
--- lines stand at a place exactly where their text does
+-- lines are at a place exactly when the text there begins with theirs
 abbrev pub LinesAreText : Type 0
 LinesAreText = (p : Place) (wss : List (List (List ℕ))) (q : Place) → Passes p (map whole wss) q → PassesText p wss q
 
 abbrev pub TextIsLines : Type 0
 TextIsLines = (p : Place) (wss : List (List (List ℕ))) (q : Place) → AllByRecursion (AllByRecursion IsWord) wss → AreLines p.rest → AreLines q.rest → PassesText p wss q → Passes p (map whole wss) q
 
--- all of them
+-- all laws of words
 pub record WordLaws : Type 0 where
   pub hex_takes : HexTakes
   pub hex_taken : HexIsTaken

@@ -34,67 +34,66 @@ use Rattle.avr_model.specs.Run.{HasBytes}
 use Rattle.avr_model.specs.Step.{step, Done, Undefined, after, live_write}
 use Rattle.local_rules.specs.Order.{IsBelowOne, IsBelow}
 
--- The local part of a node covers each step of the machine there, with the flash of its own device, whose words have 16 bits.
+-- The local part of a node covers each step of the machine at the node, with flash of its device, whose words have 16 bits.
 pub record LocalPartsCover : Type 0 where
   pub covered : {followed : Bool} (words : Program) (A : List Entry) (m : State) (o : Origin) (k : NodeKey) (s : AbsState) (b1 b2 : ℕ) → AreWords words → m.device ≡ device_of words
       → InFrameIn followed (has_masks A) m o k s → b1 < 256 → b2 < 256 → CoversStep words A m o k b1 b2 (instruction_at words m.pc) (raw words A k s)
 
--- each joined successor is below one of its key, the calls are among those, and the return is the same
+-- each joined successor is below one of the same key, calls are among the others' calls, and the return is the same
 pub record IsLocalWithin (l m : Local) : Type 0 where
   pub same : (to : Node) → Contains l.same to → IsBelowOne m.same to
   pub calls : (site : CallSite) → Contains l.calls site → Contains m.calls site
   pub exit : l.exit ≡ m.exit
 
--- what the node leads to, which is no more than this
+-- the local part of the node exists, and is within m
 pub record LeadsWithin (words : Program) (A : List Entry) (k : NodeKey) (s : AbsState) (m : Local) : Type 0 where
   pub part : Local
   pub leads : local words A k s ≡ Ok part
   pub within : IsLocalWithin part m
 
--- A greater state leads to more, also after successors of one key are joined.
+-- The local part is monotone in the state, also after successors of one key are joined.
 pub record LocalPartsAreMonotone : Type 0 where
   pub below : {followed : Bool} (words : Program) (A : List Entry) (k : NodeKey) (s t : AbsState) → IsNodeIn followed k s → IsNodeIn followed k t → IsStateWithin s t
       → IsBelow (raw words A k s) (raw words A k t)
   pub joined : {followed : Bool} (words : Program) (A : List Entry) (k : NodeKey) (s t : AbsState) (m : Local) → IsNodeIn followed k s → IsNodeIn followed k t → IsStateWithin s t
       → local words A k t ≡ Ok m → LeadsWithin words A k s m
 
--- Calls lead to words of the device's flash and go on at such. A return is at the frame's base, and keeps the enable bits.
+-- Calls enter words of the device's flash and return to such words. A return is at the frame's base, and keeps the enable bits.
 pub record LeadsToWords (device : Device) (k : NodeKey) (r : Raw) : Type 0 where
   pub calls : (site : CallSite) → Contains r.calls site → (site.entry < words_of device) × (site.back < words_of device)
   pub exit : (x : Exit) → r.exit ≡ Some x → (k.sp ≡ Closed 0) × (x.masks ≡ k.masks)
 
--- calls ascend strictly by the called word
+-- calls ascend strictly by entry
 abbrev pub AscendByEntry : List CallSite → Type 0
 AscendByEntry sites = IsStrictlySortedBy nat_cmp (map (λ (site : CallSite). site.entry) sites)
 
--- The numbers of calls and returns are what their types say, and with an assumption list that may be one, calls ascend. A node without
--- a fault lies in the device's flash, and its offset in its SRAM.
+-- Words and offsets of calls and returns fit their types. For a valid assumption list calls ascend. A node without a fault lies in the
+-- device's flash, and its offset in the SRAM.
 pub record LocalPartsFit : Type 0 where
   pub fit : (words : Program) (A : List Entry) (k : NodeKey) (s : AbsState) → LeadsToWords (device_of words) k (raw words A k s)
   pub ascending : (words : Program) (A : List Entry) (k : NodeKey) (s : AbsState) → AreEntries A → AscendByEntry (raw words A k s).calls
   pub inside : (words : Program) (A : List Entry) (k : NodeKey) (s : AbsState) → (raw words A k s).faults ≡ []
       → (k.pc < words_of (device_of words)) × (offset_of k.sp ≤ size_of (device_of words))
 
--- Successors are nodes that the analysis works with, in the same instance.
+-- Successors of a node of the analysis are nodes of the analysis, in the same instance.
 pub record LocalPartsAreNodes : Type 0 where
   pub nodes : {followed : Bool} (words : Program) (A : List Entry) (k : NodeKey) (s : AbsState) (to : Node) → IsNodeIn followed k s → (raw words A k s).faults ≡ []
       → Contains (raw words A k s).moves to → (to.key.inst ≡ k.inst) × IsNodeIn followed to.key to.state
 
--- A stack pointer that is half written behind an instruction has the offset that it had before it.
+-- If the stack pointer is half written after an instruction, its offset is that before the instruction.
 pub record OpenPairsStay : Type 0 where
   pub stays : (words : Program) (A : List Entry) (k : NodeKey) (s : AbsState) (to : Node) (offset : ℕ) (high : High) → (raw words A k s).faults ≡ []
       → Contains (raw words A k s).moves to → to.key.sp ≡ Open offset high → offset ≡ offset_of k.sp
 
--- one of these nodes has this key
+-- some node of the list has this key
 abbrev pub HasKey : List Node → NodeKey → Type 0
 HasKey nodes k = (n : Node) × (Contains nodes n × (n.key ≡ k))
 
--- all of them are nodes that the analysis works with
+-- all are nodes of the analysis
 abbrev pub AreNodesIn : Bool → List Node → Type 0
 AreNodesIn followed nodes = (n : Node) → Contains nodes n → IsNodeIn followed n.key n.state
 
--- Joined successors ascend strictly by key. Each raw one is below the one of its key, and a state above all raw ones of a key is above
--- the joined one.
+-- Joined successors ascend strictly by key. Each raw one is below the one of its key, which is the least upper bound.
 pub record JoinsAreLeast : Type 0 where
   pub ascending : (nodes : List Node) → IsStrictlySortedBy node_cmp (map (λ n. n.key) (joined_onto [] nodes))
   pub nodes : {followed : Bool} (nodes : List Node) → AreNodesIn followed nodes → AreNodesIn followed (joined_onto [] nodes)
@@ -103,24 +102,25 @@ pub record JoinsAreLeast : Type 0 where
   pub least : {followed : Bool} (nodes : List Node) (n : Node) (t : AbsState) → AreNodesIn followed nodes → Contains (joined_onto [] nodes) n
       → ((raw : Node) → Contains nodes raw → raw.key ≡ n.key → IsStateWithin raw.state t) → IsStateWithin n.state t
 
--- A reset state is a machine's state, and each step that is done leads to one.
+-- A reset state is a machine's state, and so is each state after a step that is done.
 pub record MachinesStay : Type 0 where
   pub reset : (device : Device) (m : State) → IsReset device m → IsMachine m
   pub step : (words : Program) (A : List Entry) (m n : State) (c : Choice) → AreWords words → IsMachine m → HasBytes c → step words A m c ≡ Done n
       → IsMachine n
 
--- What is written onto no live byte leaves live bytes above the stack pointer as they are.
+-- An effect that writes no live byte keeps the live bytes above the stack pointer.
 pub record LiveBytesStay : Type 0 where
   pub kept : (m : State) (guarded : Bool) (e : Effect) → IsMachine m → live_write m.memory (e.stores ++ e.pushes) ≡ None
       → Keeps m.memory (after m guarded e).memory (floor_of (after m guarded e).is_open (after m guarded e).sp)
 
--- An open stack pointer is hung where some vector may come: it is enabled with I set and no delay due, and its word has no `never` line.
+-- An open stack pointer is a fault if an interrupt may be taken: I is set, no delay is due, and an enabled vector's word has no `never`
+-- line.
 pub record OpenPairsHang : Type 0 where
   pub hung : (device : Device) (A : List Entry) (k : NodeKey) (v offset : ℕ) (high : High) → k.i ≡ true → k.delay ≡ false → is_enabled k.masks v ≡ true
       → is_never A (vector_word device v) ≡ false → is_hung device A k (Open offset high) ≡ true
 
--- The local part in the words of a step: where there is no fault, no step is undefined, and a step that is done is covered. No closed
--- successor may lie deeper than the base.
+-- The local part in terms of a step: without a fault no step is undefined, and a step that is done is covered. No closed successor may
+-- lie deeper than the base.
 pub record StepsAreCovered : Type 0 where
   pub defined : {followed : Bool} (words : Program) (A : List Entry) (m : State) (o : Origin) (k : NodeKey) (s : AbsState) (l : Local) (b1 b2 pc : ℕ)
       → AreWords words → m.device ≡ device_of words → InFrameIn followed (has_masks A) m o k s → b1 < 256 → b2 < 256 → local words A k s ≡ Ok l → step words A m (Go b1 b2) ≢ Undefined pc

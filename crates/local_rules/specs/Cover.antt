@@ -1,4 +1,4 @@
--- What it means that a node's local part covers a step of the machine in its frame.
+-- A node's local part covers a step of the machine in the node's frame.
 use Rattle.std.specs.Prelude.{ℕ, ◌+◌, ◌^◌, ◌%◌, ◌≡◌, ◌≢◌, ◌<◌, ◌≤◌, ⊤, Bool, true, false, not, List, [], Option, Some, None, Contains}
 use Rattle.avr_model.specs.declared.device.Device.{Device}
 use Rattle.avr_model.specs.declared.assumption.Entry.{Entry}
@@ -50,12 +50,12 @@ abbrev pub FormFitsKind : Kind → SpForm → Type 0
 FormFitsKind kind (Closed offset) = ⊤
 FormFitsKind kind (Open offset h) = HighFitsKind kind h
 
--- in the root the high byte of a half-written stack pointer is known, and elsewhere it has a tag
+-- a half-written stack pointer: in the root its high byte is known, elsewhere it has a tag
 abbrev pub FormFits : NodeKey → Type 0
 FormFits k = FormFitsKind k.inst.kind k.sp
 
--- A key by itself: a word address, at most as many bytes as SRAM has, 25 enable bits, a form that its instance's kind may have, and a byte
--- where one is picked.
+-- The parts of a key are in range: a word address, at most as many bytes as SRAM has, 25 enable bits, a form that the instance's kind
+-- permits, and a byte if one is picked.
 pub record IsKey (k : NodeKey) : Type 0 where
   pub word : k.pc < WORDS
   pub small : offset_of k.sp ≤ SIZE
@@ -63,9 +63,8 @@ pub record IsKey (k : NodeKey) : Type 0 where
   pub fits : FormFits k
   pub pick : PickFits k.pick
 
--- The key and the state of a node: a word address, at most as many bytes as the greatest SRAM has, a byte where one is picked, a state that is
--- formed for this offset, tags whose numbers fit, bytes in its carry tag, and no byte tagged in the root. It follows pairs or doesn't, and each
--- interval lies in the hull of its registers.
+-- A node of the analysis: its key is in range, its state is formed for the key's offset, numbers in tags are in range, and in the root no
+-- byte is tagged. It follows pairs or doesn't, as `followed` says, and each interval lies in the hull of its registers.
 pub record IsNodeIn (followed : Bool) (k : NodeKey) (s : AbsState) : Type 0 where
   pub word : k.pc < WORDS
   pub small : offset_of k.sp ≤ SIZE
@@ -79,14 +78,14 @@ pub record IsNodeIn (followed : Bool) (k : NodeKey) (s : AbsState) : Type 0 wher
   pub mode : is_followed s.facts ≡ followed
   pub hulls : IsInHulls s
 
--- where pairs aren't followed
+-- a node of an analysis that doesn't follow pairs
 abbrev pub IsNode : NodeKey → AbsState → Type 0
 IsNode k s = IsNodeIn false k s
 
 -- ---- where the machine is
 
--- The machine is at the node, in a frame with this origin, the state stands for it, and what it says of pairs holds. The root's frame has the top
--- of the device's SRAM as its base. Where keys say what may be enabled, the frame's slots lie in SRAM or above it, so that none is an enable bit.
+-- The machine is at the node in a frame with this origin, and the state and its facts on pairs hold. The base of the root's frame is the
+-- top of the device's SRAM. If `may`, the frame's slots lie in SRAM or above it, so none is an enable bit.
 pub record InFrameIn (followed may : Bool) (m : State) (o : Origin) (k : NodeKey) (s : AbsState) : Type 0 where
   pub machine : IsMachine m
   pub node : IsNodeIn followed k s
@@ -97,7 +96,7 @@ pub record InFrameIn (followed may : Bool) (m : State) (o : Origin) (k : NodeKey
   pub base_word : o.base < 65536
   pub room : may ≡ true → offset_of k.sp + BELOW ≤ o.base
 
--- a closed offset is at most the base, and then also leaves the stack pointer in SRAM
+-- a closed offset is at most the base, and then the stack pointer stays in SRAM
 abbrev pub IsWithinBase : ℕ → SpForm → Type 0
 IsWithinBase base (Closed offset) = offset ≤ base
 IsWithinBase base (Open offset h) = ⊤
@@ -108,13 +107,13 @@ HasRoom device base (Open offset h) = ⊤
 
 -- ---- what a step does
 
--- No protected address is written, and no transfer goes to a word that isn't listed: of these the local part says nothing. A live byte
--- may be written: that a step with this flag doesn't push outside SRAM follows from its being covered.
+-- The step writes no protected address and goes to no unlisted word. It may write a live byte: that it pushes nothing outside SRAM
+-- follows from its cover.
 pub record IsUnflagged (words : Program) (A : List Entry) (m : State) (instr : Instr) (e : Effect) : Type 0 where
   pub protected : protected_write words A m.pc instr e ≡ None
   pub listed : unlisted_transfer A m.pc instr e ≡ None
 
--- after the effect the machine is at the node, in a frame with this origin, and the node's state stands for it
+-- after the effect the machine is at the node, in a frame with this origin, and the node's state holds
 pub record ArrivesAt (may : Bool) (m : State) (o : Origin) (guarded : Bool) (e : Effect) (to : Node) : Type 0 where
   pub inside : HasRoom m.device o.base to.key.sp → all_inside m.device e.pushes ≡ true
   pub place : IsWithinBase o.base to.key.sp → AtNode may o.base (after m guarded e) to.key
@@ -146,7 +145,7 @@ pub data Follows (may : Bool) (m : State) (o : Origin) (k : NodeKey) (guarded : 
       → Follows may m o k guarded b1 b2 e r
   leaves : (x : Exit) → r.exit ≡ Some x → k.inst.kind ≢ Root → k.sp ≡ Closed 0 → IsReturn may m b1 b2 x e → Follows may m o k guarded b1 b2 e r
 
--- Where the local part has no fault, there is an instruction, and its effect is covered unless it is flagged for a protected address or an
+-- If the local part has no fault, the instruction exists, and its effect is covered unless it is flagged for a protected address or an
 -- unlisted word.
 abbrev pub CoversStep : Program → List Entry → State → Origin → NodeKey → ℕ → ℕ → Option Instr → Raw → Type 0
 CoversStep words A m o k b1 b2 None r = r.faults ≡ [] → ⊥
@@ -154,7 +153,7 @@ CoversStep words A m o k b1 b2 (Some instr) r =
     r.faults ≡ [] → IsUnflagged words A m instr (effect_of words m instr b1 b2)
     → Follows (has_masks A) m o k (not (is_scratch words m.pc)) b1 b2 (effect_of words m instr b1 b2) r
 
--- a step of the machine is one that the local part has
+-- a step of the machine that the local part has
 pub data IsStep (may : Bool) (m : State) (o : Origin) (k : NodeKey) (b1 b2 : ℕ) (l : Local) (n : State) : Type 0 where
   stays : (to : Node) → Contains l.same to → to.key.inst ≡ k.inst → AtNode may o.base n to.key → Stands o to.state n → HoldsAt to.state.facts n.registers n.sreg
       → IsStep may m o k b1 b2 l n

@@ -1,4 +1,4 @@
--- Worked nodes: each line computes.
+-- Worked nodes, each computed.
 use Rattle.std.specs.Prelude.{ℕ, ◌≡◌, Bool, true, false, List, [], ◌∷◌, length, Option, Some, None, map, replicate, refl, slice_set}
 use Rattle.avr_model.specs.declared.assumption.Entry.TheVariants.{Jump}
 use Rattle.avr_model.specs.Assumptions.{jump_line, is_frame}
@@ -32,7 +32,7 @@ use Rattle.local_rules.specs.Reads.{read_at}
 use Rattle.local_rules.specs.Writes.{written_at}
 use Rattle.local_rules.specs.Local.{below, raw}
 
--- a firmware of one or two words, and erased words behind them
+-- a firmware of one or two words, followed by erased words
 abbrev firmware : ℕ → ℕ → List ℕ
 firmware w0 w1 = w0 ∷ w1 ∷ replicate 16382 0xFFFF
 
@@ -43,14 +43,14 @@ in_root sp = record { inst = record { kind = Root; entry = 0; masks = 0; i = fal
 abbrev in_call : SpForm → NodeKey
 in_call sp = record { inst = record { kind = Call; entry = 0; masks = 0; i = false }; pc = 0; masks = 0; i = false; delay = false; sp = sp; pick = None }
 
--- the states of the call's frame: with two pushed bytes, and with r28 and r29 tagged
+-- states of the call's frame: with two pushed bytes, and with r28 and r29 tagged as well
 abbrev pushed : AbsState
 pushed = record (entered root) { slots = Free ∷ Free ∷ [] }
 
 abbrev with_frame : ℕ → ℕ → AbsState
 with_frame j k = record pushed { registers = slice_set (slice_set (entered root).registers 28 (with_bits (tag.SpLo j) unknown.bits)) 29 (with_bits (tag.SpHi k) unknown.bits) }
 
--- what is looked at: keys' places, tags of a register, faults
+-- what the rows show: the places of keys, tags of a register, faults
 abbrev places : Raw → List (ℕ × SpForm)
 places r = map (λ n. (n.key.pc, n.key.sp)) r.moves
 
@@ -83,7 +83,7 @@ closes : places (raw (firmware 0xBFCD 0xFFFF) [] (in_call (Open 2 (Tagged 34))) 
 unfolding raw table_site ijmp_from is_scratch any_below all_below decoded device_of written_at
 closes = refl
 
--- of another frame's pair it can't be followed
+-- the high byte of another offset cannot be followed
 loses_track : faults (raw (firmware 0xBFCD 0xFFFF) [] (in_call (Open 2 (Tagged 35))) (with_frame 34 34)) ≡ UntrackedSp 0 ∷ []
 unfolding raw table_site ijmp_from is_scratch any_below all_below decoded device_of written_at
 loses_track = refl
@@ -142,11 +142,11 @@ carries r = map (λ n. n.state.flags.carry) r.moves
 abbrev ranges : ℕ → Raw → List (ℕ × ℕ × ℕ)
 ranges d r = map (λ n. (n.key.pc, (value_at n.state.registers d).low, (value_at n.state.registers d).high)) r.moves
 
--- r16 is below 4 where C is 1
+-- r16 is below 4 exactly if C is 1
 abbrev compared : AbsState
 compared = record root { flags = record root.flags { bits = byte_any; carry = carry.Less 16 4 } }
 
--- the same with zeros in r1 and r2
+-- the same state with zeros in r1 and r2
 abbrev zeros : AbsState
 zeros = record compared { registers = slice_set (slice_set root.registers 1 (known 0)) 2 (known 0) }
 
@@ -155,7 +155,7 @@ compares : carries (raw (firmware 0x3004 0xFFFF) [] (in_root (Closed 0)) root) �
 unfolding raw table_site ijmp_from is_scratch any_below all_below decoded device_of is_frame
 compares = refl
 
--- `cp r16, r1` of a register that is known, and of r1 with one that isn't
+-- `cp r16, r1` with a known r1, and `cp` of r1 with an unknown register
 compares_known : carries (raw (firmware 0x1501 0xFFFF) [] (in_root (Closed 0)) zeros) ≡ carry.Less 16 0 ∷ []
 unfolding raw table_site ijmp_from is_scratch any_below all_below decoded device_of packed is_frame
 compares_known = refl
@@ -164,12 +164,12 @@ compares_unknown : carries (raw (firmware 0x1610 0xFFFF) [] (in_root (Closed 0))
 unfolding raw table_site ijmp_from is_scratch any_below all_below decoded device_of packed is_frame
 compares_unknown = refl
 
--- `brbc 0, .+2`: from 4 on two words further, and below 4 at the next one
+-- `brbc 0, .+2`: from 4 on it skips two words, below 4 it goes to the next one
 cuts : ranges 16 (raw (firmware 0xF410 0xFFFF) [] (in_root (Closed 0)) compared) ≡ (3, 4, 255) ∷ (1, 0, 3) ∷ []
 unfolding raw table_site ijmp_from is_scratch any_below all_below decoded device_of packed
 cuts = refl
 
--- after r16 < 4 no byte of it is 8 or more
+-- r16 is below 8
 abbrev compared_again : AbsState
 compared_again = record compared {
   registers = slice_set root.registers 16 (record unknown { high = 3 });
@@ -194,12 +194,12 @@ sets_carry : carries (raw (firmware 0x9408 0xFFFF) [] (in_root (Closed 0)) compa
 unfolding raw table_site ijmp_from is_scratch any_below all_below decoded device_of
 sets_carry = refl
 
--- `sts 0x0010, r0` writes r16 by its address
+-- `sts 0x0010, r0` writes r16 by its address and ends its tag
 forgets_by_address : carries (raw (firmware 0x9200 0x0010) [] (in_root (Closed 0)) compared) ≡ carry.None ∷ []
 unfolding raw table_site ijmp_from is_scratch any_below all_below decoded device_of written_at
 forgets_by_address = refl
 
--- `cpc r1, r2` of two zeros keeps it, and of unknown bytes doesn't
+-- `cpc r1, r2` keeps the tag for two zeros, and ends it for unknown bytes
 keeps_under_zeros : carries (raw (firmware 0x0412 0xFFFF) [] (in_root (Closed 0)) zeros) ≡ carry.Less 16 4 ∷ []
 unfolding raw table_site ijmp_from is_scratch any_below all_below decoded device_of packed is_frame
 keeps_under_zeros = refl
@@ -222,7 +222,7 @@ keeps_range = refl
 abbrev small : ℕ → ℕ → List ℕ
 small w0 w1 = w0 ∷ w1 ∷ replicate 2046 0xFFFF
 
--- `rjmp .-2` at word 0 leads to the last word
+-- `rjmp .-2` at word 0 goes to the last word
 leads_round : places (raw (small 0xCFFE 0xFFFF) [] (in_root (Closed 0)) root) ≡ (2047, Closed 0) ∷ []
 unfolding raw table_site ijmp_from is_scratch any_below all_below decoded device_of
 leads_round = refl
@@ -231,12 +231,12 @@ has_no_jmp : faults (raw (small 0x940C 0x0000) [] (in_root (Closed 0)) root) ≡
 unfolding raw table_site ijmp_from is_scratch any_below all_below decoded device_of
 has_no_jmp = refl
 
--- `sbrc r1, 0` of a zero passes over both words of a `jmp`
+-- `sbrc r1, 0` of a zero skips both words of a `jmp`
 skips_both : places (raw (small 0xFC10 0x940C) [] (in_root (Closed 0)) zeros) ≡ (3, Closed 0) ∷ []
 unfolding raw table_site ijmp_from is_scratch any_below all_below decoded length_of packed device_of
 skips_both = refl
 
--- a node behind the last word, and one whose own offset is above 512
+-- a node behind the last word, and one with an offset above 512
 lies_behind : faults (raw (small 0x0000 0x0000) [] (record (in_root (Closed 0)) { pc = 2048 }) root) ≡ Unsupported 2048 ∷ []
 unfolding raw table_site ijmp_from is_scratch any_below all_below decoded device_of
 lies_behind = refl
@@ -284,7 +284,7 @@ splits_by_index : picked_at (raw jump_table [] (in_root (Closed 0)) (indexed 2))
 unfolding raw table_site ijmp_from below permits_below jump_line is_scratch any_below all_below decoded device_of packed
 splits_by_index = refl
 
--- 64 members are split, and 65 aren't
+-- 64 members are split, 65 aren't
 splits_64 : length (raw jump_table [] (in_root (Closed 0)) (indexed 63)).moves ≡ 64
 unfolding raw table_site ijmp_from below permits_below jump_line is_scratch any_below all_below decoded device_of packed
 splits_64 = refl
@@ -293,7 +293,7 @@ refuses_65 : faults (raw jump_table [] (in_root (Closed 0)) (indexed 64)) ≡ Un
 unfolding raw table_site ijmp_from below permits_below jump_line is_scratch any_below all_below decoded device_of packed
 refuses_65 = refl
 
--- a `jump` line at the `ijmp`, and a pick that is there, split nothing
+-- a `jump` line of the `ijmp`, or a pick in the key, prevents the split
 is_lined : picked_at (raw jump_table (Jump 2 (3 ∷ []) ∷ []) (in_root (Closed 0)) (indexed 64)) ≡ (1, None) ∷ []
 unfolding raw table_site ijmp_from jump_line is_scratch any_below all_below decoded device_of
 is_lined = refl
@@ -302,7 +302,7 @@ keeps_its_pick : picked_at (raw jump_table [] (record (in_root (Closed 0)) { pic
 unfolding raw table_site ijmp_from is_scratch any_below all_below decoded device_of
 keeps_its_pick = refl
 
--- behind the `ijmp` there is none
+-- after the `ijmp` there is no pick
 ends_its_pick : picked_at (raw (firmware 0x9409 0xFFFF) [] (record (in_root (Closed 0)) { pick = Some 1 }) (record root { registers = slice_set (slice_set root.registers 30 (known 3)) 31 (known 0) })) ≡ (3, None) ∷ []
 unfolding raw table_site ijmp_from is_scratch any_below all_below decoded numbers_of packed device_of jump_line
 ends_its_pick = refl

@@ -1,4 +1,4 @@
--- Jumps, branches, skips, calls, returns, and bytes that are pushed and popped. Source: own.
+-- Jumps, branches, skips, calls, returns, pushes and pops. Source: own.
 use Rattle.std.specs.Prelude.{ℕ, zero, suc, ◌+◌, ◌-◌, ◌==◌, Bool, true, false, nat_lt, nat_le, min, max, if◌then◌else◌, List, [], ◌∷◌, ◌++◌, map, filter, take, length, Option, Some, None}
 use Rattle.avr_model.specs.declared.device.Device.{Device}
 use Rattle.avr_model.specs.declared.assumption.Entry.{Entry}
@@ -34,7 +34,7 @@ use Rattle.local_rules.specs.Reads.{value_of}
 
 -- ---- branches and skips
 
--- one successor where the condition is known, else two, each with its key; the state tells nothing of the condition
+-- one successor if the condition is known, else two, each with its key; the state stays
 abbrev pub branch_by : Tri → NodeKey → NodeKey → AbsState → ℕ → ℕ → Raw
 branch_by One k l s taken other = turning_to k s taken
 branch_by Zero k l s taken other = turning_to l s other
@@ -43,22 +43,21 @@ branch_by Any k l s taken other = moves_to (record { key = off_table l other; st
 abbrev pub branch : Tri → NodeKey → AbsState → ℕ → ℕ → Raw
 branch t k s taken other = branch_by t k k s taken other
 
--- past the next instruction, of one word or two, with one key, and to it with the other
+-- past the next instruction, of one or two words, with one key, and to it with the other
 abbrev pub skipping : Device → Program → NodeKey → NodeKey → AbsState → Tri → Raw
 skipping device words k l s t = branch_by t k l s (further device k (1 + length_of (word_at words (k.pc + 1)))) (further device k 1)
 
--- The key where this bit of an address reads 0. Where it is the enable bit of a vector, and the key says what may be enabled, that vector
--- isn't.
+-- The key after this bit of an address reads 0. If it is a vector's enable bit and `may`, the vector is removed.
 abbrev pub reading_zero : Bool → NodeKey → ℕ → ℕ → NodeKey
 reading_zero may k a b = record k { masks = without may (enable_of a b) k.masks }
 
--- flag n, where I is in the key
+-- flag n; I is in the key
 abbrev pub flag_at : NodeKey → AbsState → ℕ → Tri
 flag_at k s n = if n == 7 then (if k.i then One else Zero) else tri_at s.flags.bits n
 
 -- ---- branches on C
 
--- what is left of a value that is below n, or that isn't: the range is cut, and nothing else; none where it is empty
+-- the value with its range cut to numbers below n, or from n on; none if the range becomes empty
 abbrev pub part_of : Bool → AbsByte → ℕ → Option AbsByte
 part_of true v n = if nat_lt v.low n then Some (record v { high = min v.high (n - 1) }) else None
 part_of false v n = if nat_le n v.high then Some (record v { low = max v.low n }) else None
@@ -67,7 +66,7 @@ abbrev pub with_value : AbsState → ℕ → Option AbsByte → Option AbsState
 with_value s r None = None
 with_value s r (Some v) = Some (record s { registers = set s r v })
 
--- the state where C has this value
+-- the state if C has this value
 abbrev pub where_carry : CarryTag → AbsState → Bool → Option AbsState
 where_carry carry.None s c = Some s
 where_carry (carry.Borrow j l) s c = Some s
@@ -78,24 +77,24 @@ abbrev pub going_where : NodeKey → Option AbsState → ℕ → Raw
 going_where k None pc = nowhere
 going_where k (Some s) pc = turning_to k s pc
 
--- to one word where C is 1, and to the other where it is 0
+-- to one word if C is 1, and to the other if it is 0
 abbrev pub carry_branch : Tri → NodeKey → AbsState → ℕ → ℕ → Raw
 carry_branch One k s set clear = going_where k (where_carry s.flags.carry s true) set
 carry_branch Zero k s set clear = going_where k (where_carry s.flags.carry s false) clear
 carry_branch Any k s set clear =
     all_of (going_where k (where_carry s.flags.carry s false) clear ∷ going_where k (where_carry s.flags.carry s true) set ∷ [])
 
--- a branch on flag n, which is another where that is C
+-- a branch on flag n; `other` for flags but C
 abbrev pub flag_branch : ℕ → NodeKey → AbsState → ℕ → ℕ → Raw → Raw
 flag_branch n k s set clear other = if n == 0 then carry_branch (carry_bit s) k s set clear else other
 
 -- ---- where an indirect transfer leads
 
--- the words that some permitted target is, modulo the number of words, in ascending order
+-- the words of permitted targets, modulo the number of words, ascending
 abbrev pub words_on : Device → TriByte → TriByte → List ℕ
 words_on device lo hi = numbers_of (pointer_bit lo hi) (width device)
 
--- the listed words that the bits permit; without a line all of them, where the targets, which have 14 bits on every device, are few
+-- the listed words that the bits permit; without a line all permitted ones, if the 14-bit targets are few
 abbrev pub targets_by : Device → Option (List ℕ) → TriByte → TriByte → Option (List ℕ)
 targets_by device None lo hi = if nat_le (length (targets_of lo hi)) 64 then Some (words_on device lo hi) else None
 targets_by device (Some listed) lo hi = Some (filter (lists (words_on device lo hi)) listed)
@@ -113,7 +112,7 @@ abbrev pub is_half_written : SpForm → Bool
 is_half_written (Closed offset) = false
 is_half_written (Open offset h) = true
 
--- only where the stack pointer isn't half written; otherwise this return, push or pop can't be followed
+-- if the stack pointer is whole; a return, push or pop with a half-written one is a fault
 abbrev pub at_closed : SpForm → ℕ → (ℕ → Raw) → Raw
 at_closed (Closed offset) pc f = f offset
 at_closed (Open offset h) pc f = fails (UntrackedSp pc)
@@ -136,7 +135,7 @@ popping device k s d zero = fails (UntrackedSp k.pc)
 popping device k s d (suc n) =
     one (record (next device k) { sp = Closed n }) (record s { registers = set s d (value_of (slot_at s.slots n)); slots = take n s.slots })
 
--- a call of the next word that makes room on the stack stays in its frame
+-- a call of the next word only makes room on the stack, and stays in its frame
 abbrev pub making_room : Device → NodeKey → AbsState → ℕ → ℕ → Raw
 making_room device k s target offset =
     if_room device (offset + 2) k.pc
@@ -145,7 +144,7 @@ making_room device k s target offset =
 abbrev pub site : ℕ → ℕ → CallSite
 site target back = record { entry = target; back = back }
 
--- A call of these words, which goes on at the word `back`. It can't be followed where the stack pointer is half written.
+-- A call of these words that returns to the word `back`. A half-written stack pointer is a fault.
 abbrev pub calling : NodeKey → ℕ → List ℕ → Raw
 calling k back targets = untracked_if (is_half_written k.sp) k.pc (enters (map (λ t. site t back) targets))
 
@@ -164,7 +163,7 @@ returning x pc Root zero = fails (UntrackedSp pc)
 returning x pc Call zero = leaves_by x
 returning x pc (Vector v) zero = leaves_by x
 
--- `ret` keeps I; `reti` turns it on, and one more instruction executes before any interrupt
+-- `ret` keeps I; `reti` sets it, and one more instruction executes before any interrupt
 abbrev pub ret_exit : NodeKey → Exit
 ret_exit k = record { masks = k.masks; i = k.i; delay = false }
 

@@ -1,5 +1,5 @@
 -- What an instruction computes at a site with a `frame` line. Bits, ranges, flags and other registers are as without it; the register
--- that it sets, and C, say besides what they are of base - k. It is no premise: what they say is true of every run. Source: own.
+-- that it sets, and C, also get tags of base - k. The line assumes nothing: the tags hold in every run. Source: own.
 use Rattle.std.specs.Prelude.{ℕ, ◌==◌, ◌&&◌, ◌||◌, Bool, true, false, not, if◌then◌else◌, Option, Some, None}
 use Rattle.avr_model.specs.declared.instruction.BinaryOp.{BinaryOp}
 use Rattle.avr_model.specs.declared.instruction.BinaryOp.TheVariants as binary
@@ -21,19 +21,19 @@ use Rattle.local_rules.specs.Registers.{value, bits, carry_bit, borrow_tag, sum_
 
 -- ---- the operands of a sum
 
--- r28 and r29 are the frame pointer, by the convention of compilers
+-- r28 and r29 are the frame pointer by the convention of compilers
 abbrev pub is_frame_pointer : ℕ → Bool
 is_frame_pointer r = (r == 28) || (r == 29)
 
--- Of the two registers of a sum the second is followed where it alone is one of the frame pointer, otherwise the first. So registers
--- decide, and not what is known of them: a state that says less would follow another one.
+-- A sum follows its first register, or the second if only that belongs to the frame pointer. Registers decide, not their values:
+-- otherwise a greater state would follow another register.
 abbrev pub is_second : ℕ → ℕ → Bool
 is_second d r = is_frame_pointer r && not (is_frame_pointer d)
 
 abbrev pub followed : ℕ → ℕ → ℕ
 followed d r = if is_second d r then r else d
 
--- the other one
+-- the other register of the sum
 abbrev pub added : ℕ → ℕ → ℕ
 added d r = if is_second d r then d else r
 
@@ -57,7 +57,7 @@ less_tag t (Some n) = byte_less t n
 
 -- ---- by the operation
 
--- the tag of the register that is followed, and the number of the other
+-- the tag of the followed register, and the number of the other
 abbrev pub tag_followed : AbsState → ℕ → ℕ → Tag
 tag_followed s d r = (value s (followed d r)).tag
 
@@ -111,7 +111,7 @@ framed_unary s unary.Dec d = framed_step s false d
 
 -- ---- what is computed, where `line` says that the site has a `frame` line
 
--- an instruction on one register twice is as without it
+-- the line has no effect on an instruction whose two registers are the same
 abbrev pub is_followed : Bool → ℕ → ℕ → Bool
 is_followed line d r = line && not (d == r)
 

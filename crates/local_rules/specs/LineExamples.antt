@@ -1,4 +1,4 @@
--- Worked nodes at sites with lines: each line computes.
+-- Worked nodes at sites with lines, each computed.
 use Rattle.std.specs.Prelude.{ℕ, ◌≡◌, true, false, List, [], ◌∷◌, None, map, replicate, refl, slice_set}
 use Rattle.avr_model.specs.declared.assumption.Entry.{Entry}
 use Rattle.avr_model.specs.declared.assumption.Entry.TheVariants.{Prove, Free, Never, Frame}
@@ -36,7 +36,7 @@ use Rattle.local_rules.specs.Local.{raw, may_come}
 abbrev in_call : SpForm → NodeKey
 in_call sp = record { inst = record { kind = Call; entry = 0; masks = 0; i = false }; pc = 0; masks = 0; i = false; delay = false; sp = sp; pick = None }
 
--- r28 and r29 have these tags, r24 is this number and r1 is 0, and C says this
+-- r28 and r29 have these tags, r24 this number, r1 is 0, and C has this tag
 abbrev state_of : Tag → Tag → ℕ → CarryTag → AbsState
 state_of lo hi n c = record {
   registers = slice_set (slice_set (slice_set (slice_set (entered root).registers 28 (with_bits lo byte_any)) 29 (with_bits hi byte_any)) 24 (known n)) 1 (known 0);
@@ -45,14 +45,14 @@ state_of lo hi n c = record {
   facts = None;
 }
 
--- what one word leads to there, with and without the line
+-- the successors of one word there, with and without the line
 abbrev lined : ℕ → AbsState → Raw
 lined word s = raw (word ∷ replicate 16383 0xFFFF) (Frame 0 ∷ []) (in_call (Closed 2)) s
 
 abbrev plain : ℕ → AbsState → Raw
 plain word s = raw (word ∷ replicate 16383 0xFFFF) (Frame 1 ∷ []) (in_call (Closed 2)) s
 
--- the tag of a register, and what C says
+-- the tag of a register, and that of C
 abbrev says : ℕ → Raw → List (Tag × CarryTag)
 says d r = map (λ n. ((value_at n.state.registers d).tag, n.state.flags.carry)) r.moves
 
@@ -65,7 +65,7 @@ gives_low : says 28 (lined 0x0FC8 large) ≡ (tag.SpLo 2, carry.Sum 34 32) ∷ [
 unfolding raw table_site ijmp_from is_scratch any_below all_below decoded device_of packed is_frame
 gives_low = refl
 
--- the same without the line
+-- `add r28, r24` without the line
 gives_nothing : says 28 (plain 0x0FC8 large) ≡ (tag.None, carry.None) ∷ []
 unfolding raw table_site ijmp_from is_scratch any_below all_below decoded device_of packed is_frame
 gives_nothing = refl
@@ -80,17 +80,17 @@ gives_twice : says 28 (lined 0x0FCC large) ≡ (tag.None, carry.None) ∷ []
 unfolding raw table_site ijmp_from is_scratch any_below all_below decoded device_of packed is_frame
 gives_twice = refl
 
--- `add r28, r25` of a byte that isn't known
+-- `add r28, r25` of an unknown byte
 gives_unknown : says 28 (lined 0x0FC9 large) ≡ (tag.None, carry.None) ∷ []
 unfolding raw table_site ijmp_from is_scratch any_below all_below decoded device_of packed is_frame
 gives_unknown = refl
 
--- `add r24, r1` follows r24, which is no register of the frame pointer
+-- `add r24, r1` follows r24, which does not belong to the frame pointer
 follows_one : says 24 (lined 0x0D81 (record large { registers = slice_set large.registers 24 (with_bits (tag.SpLo 9) byte_any) })) ≡ (tag.SpLo 9, carry.Sum 9 0) ∷ []
 unfolding raw table_site ijmp_from is_scratch any_below all_below decoded device_of packed is_frame
 follows_one = refl
 
--- then `adc r29, r1` and, from base - 290 too, `adc r29, r24` of one page more
+-- then `adc r29, r1`, and `adc r29, r24` from base - 290 and one page more
 gives_high : says 29 (lined 0x1DD1 (state_of (tag.SpLo 2) (tag.SpHi 290) 1 (carry.Sum 34 32))) ≡ (tag.SpHi 258, carry.None) ∷ []
 unfolding raw table_site ijmp_from is_scratch any_below all_below decoded device_of packed is_frame
 gives_high = refl
@@ -99,7 +99,7 @@ gives_page : says 29 (lined 0x1FD8 (state_of (tag.SpLo 2) (tag.SpHi 290) 1 (carr
 unfolding raw table_site ijmp_from is_scratch any_below all_below decoded device_of packed is_frame
 gives_page = refl
 
--- under the carry of another byte, and under a borrow
+-- after the carry of another byte, and after a borrow
 gives_no_high : says 29 (lined 0x1DD1 (state_of (tag.SpLo 2) (tag.SpHi 290) 1 (carry.Sum 35 32))) ≡ (tag.None, carry.None) ∷ []
 unfolding raw table_site ijmp_from is_scratch any_below all_below decoded device_of packed is_frame
 gives_no_high = refl
@@ -108,7 +108,7 @@ gives_no_borrow : says 29 (lined 0x1DD1 (state_of (tag.SpLo 2) (tag.SpHi 290) 1 
 unfolding raw table_site ijmp_from is_scratch any_below all_below decoded device_of packed is_frame
 gives_no_borrow = refl
 
--- `add r29, r24` of 255 takes a page, `sub r29, r24` of 1 too, and `subi r29, 0xFF` gives one
+-- `add r29, r24` with 255 subtracts a page, so does `sub r29, r24` with 1; `subi r29, 0xFF` adds one
 moves_page : says 29 (lined 0x0FD8 (state_of (tag.SpLo 2) (tag.SpHi 258) 255 carry.None)) ≡ (tag.SpHi 514, carry.None) ∷ []
 unfolding raw table_site ijmp_from is_scratch any_below all_below decoded device_of packed is_frame
 moves_page = refl
@@ -125,12 +125,12 @@ less_plain : says 29 (plain 0x5FDF (state_of (tag.SpLo 2) (tag.SpHi 258) 1 carry
 unfolding raw table_site ijmp_from is_scratch any_below all_below decoded device_of packed is_frame
 less_plain = refl
 
--- `subi r28, 32` is as without the line
+-- `subi r28, 32` is the same with and without the line
 less_low : says 28 (lined 0x52C0 (state_of (tag.SpLo 2) (tag.SpHi 2) 1 carry.None)) ≡ (tag.SpLo 34, carry.Borrow 2 32) ∷ []
 unfolding raw table_site ijmp_from is_scratch any_below all_below decoded device_of packed is_frame
 less_low = refl
 
--- `inc r29` and `dec r29` leave C, and what it says; `inc r28` gives no carry to the high byte
+-- `inc r29` and `dec r29` keep C and its tag; `inc r28` carries nothing into the high byte
 steps_up : says 29 (lined 0x95D3 (state_of (tag.SpLo 2) (tag.SpHi 258) 1 (carry.Sum 1 1))) ≡ (tag.SpHi 2, carry.Sum 1 1) ∷ []
 unfolding raw table_site ijmp_from is_scratch any_below all_below decoded device_of packed is_frame
 steps_up = refl
@@ -163,7 +163,7 @@ is_freed_elsewhere : leads (storing (Free 1 ∷ [])) ≡ ([], UnknownPointer 2 �
 unfolding raw table_site ijmp_from is_scratch is_fixed path_behind is_loaded_behind is_proved is_freed is_fixed_site store_line any_below all_below decoded length_of device_of packed
 is_freed_elsewhere = refl
 
--- a `prove` line fixes it all the same
+-- a `prove` line fixes the site nevertheless
 is_proved_too : leads (storing (Prove 2 ∷ Free 2 ∷ [])) ≡ ([], UnknownPointer 2 ∷ [])
 unfolding raw table_site ijmp_from is_scratch is_fixed path_behind is_loaded_behind is_proved is_freed is_fixed_site store_line any_below all_below decoded length_of device_of packed
 is_proved_too = refl
@@ -185,7 +185,7 @@ none_may_be_entered : waiting (Never 28 ∷ Never 32 ∷ []) ≡ []
 unfolding raw table_site ijmp_from is_scratch may_come is_never any_below all_below decoded device_of
 none_may_be_entered = refl
 
--- the vectors' numbers, which are no words
+-- these are numbers of vectors, not their words
 others_are_never_entered : waiting (Never 15 ∷ Never 17 ∷ []) ≡ UntrackedSp 0 ∷ []
 unfolding raw table_site ijmp_from is_scratch may_come is_never any_below all_below decoded device_of
 others_are_never_entered = refl

@@ -1,4 +1,4 @@
--- Where a node leads in its own frame. Source: own.
+-- The successors of a node in its own frame. Source: own.
 use Rattle.std.specs.Prelude.{ℕ, zero, suc, ◌+◌, ◌*◌, ◌&&◌, Bool, true, false, not, nat_lt, nat_le, if◌then◌else◌, List, [], ◌∷◌, ◌++◌, length, map, filter, flat_map, Option, Some, None, Result, Ok, Err, slice_set}
 use Rattle.std.specs.declared.cmp.Ordering.{Ordering}
 use Rattle.std.specs.declared.cmp.Ordering.TheVariants.{Less, Equal, Greater}
@@ -54,7 +54,7 @@ use Rattle.local_rules.specs.Flow.{branch, skipping, reading_zero, flag_at, flag
 
 -- ---- registers
 
--- `cpse` skips where the registers are equal
+-- `cpse` skips if the registers are equal
 abbrev pub binary_row : Device → Program → Bool → NodeKey → AbsState → BinaryOp → ℕ → ℕ → Raw
 binary_row device words line k s op d r = going_by device k s (binary_at line s op d r) (skipping device words k k s (byte_equal (bits s d) (bits s r)))
 
@@ -66,7 +66,7 @@ unary_row device line k s op d = going_with device k s (unary_at line s op d)
 
 -- ---- loads and stores
 
--- what is added to a pointer for the address: -P takes one off
+-- the change of a pointer before the access: -P subtracts one
 abbrev pub step_before : Pointer → ℕ
 step_before pointer.ZPlus = 0
 step_before pointer.MinusZ = 65535
@@ -76,7 +76,7 @@ step_before pointer.X = 0
 step_before pointer.XPlus = 0
 step_before pointer.MinusX = 65535
 
--- the registers with the pointer as it is after the instruction
+-- the registers with the pointer as after the instruction
 abbrev pub pointer_moved : Pointer → AbsState → List AbsByte
 pointer_moved pointer.ZPlus s = pair_moved s 30 true 1
 pointer_moved pointer.MinusZ s = pair_moved s 30 false 1
@@ -86,7 +86,7 @@ pointer_moved pointer.X s = s.registers
 pointer_moved pointer.XPlus s = pair_moved s 26 true 1
 pointer_moved pointer.MinusX s = pair_moved s 26 false 1
 
--- A register gets what was read; there is no successor where nothing can be read.
+-- The register gets the byte that is read; no successor if nothing can be read.
 abbrev pub loading : Device → NodeKey → AbsState → List AbsByte → ℕ → Option AbsByte → Raw
 loading device k s registers d None = nowhere
 loading device k s registers d (Some v) = setting device k s (slice_set registers d v) s.flags
@@ -102,13 +102,13 @@ store_row device words A k s p r =
 abbrev pub std_row : Device → Program → List Entry → NodeKey → AbsState → ℕ → ℕ → ℕ → Raw
 std_row device words A k s b q r = pointer_write device words A s b q (pointed s b q) k.pc (next device k) s (value s r)
 
--- One bit of an I/O address is turned on or off. The other enable bits there stay, so the byte has them as the key does.
+-- Sets or clears one bit of an I/O address. Other enable bits of the byte stay as in the key.
 abbrev pub bit_row : Device → NodeKey → AbsState → ℕ → ℕ → Bool → Raw
 bit_row device k s a b on = written_at device k.pc (next device k) s false a (untagged (byte_with (read_at device false k s a).bits b (if on then One else Zero)))
 
 -- ---- the whole table, in three parts
 
--- flow, and what has no operand
+-- control flow, and instructions without operands
 abbrev pub flow_row : Device → Program → List Entry → Bool → NodeKey → AbsState → Instr → Raw
 flow_row device words A scratch k s i.Ijmp = jumping (targets_at device A k s) k s
 flow_row device words A scratch k s i.Icall = indirect_call device (targets_at device A k s) k
@@ -152,7 +152,7 @@ memory_row device words A scratch k s (i.Cbi a b) = bit_row device k s (port a) 
 memory_row device words A scratch k s (i.Sbi a b) = bit_row device k s (port a) b true
 memory_row device words A scratch k s instr = flow_row device words A scratch k s instr
 
--- What an instruction leads to, where `scratch` says that its pushes make a compiler's small frame.
+-- The successors of an instruction; `scratch` says that its pushes make a compiler's small frame.
 abbrev pub row_of : Device → Program → List Entry → Bool → NodeKey → AbsState → Instr → Raw
 row_of device words A scratch k s (i.Movw d r) = going_with device k s (pair_copied s (2 * d) (2 * r))
 row_of device words A scratch k s (i.Muls d r) = product_row device k s product.Muls d r
@@ -171,14 +171,14 @@ row_of device words A scratch k s (i.Bld d b) = going_with device k s (bit_loade
 row_of device words A scratch k s (i.Bst d b) = going_with device k s (bit_stored s d b)
 row_of device words A scratch k s instr = memory_row device words A scratch k s instr
 
--- No row reads what C says of a register but a branch on C and `cpc`, which set none: so it ends before the row where the instruction
--- sets that register. What ends of what is known of pairs ends there too.
+-- Only a branch on C and `cpc` read the carry tag of a register, and they set no register. So the tag ends before the row, if the
+-- instruction sets that register; so do facts on pairs.
 abbrev pub plain_row : Device → Program → List Entry → Bool → NodeKey → AbsState → Instr → Raw
 plain_row device words A scratch k s instr = row_of device words A scratch k (before instr s) instr
 
 -- ---- where pairs are followed
 
--- to one word where flag n is 1, and to the other where it is 0
+-- to one word if flag n is 1, and to the other if it is 0
 abbrev pub cut_branch : ℕ → NodeKey → AbsState → ℕ → ℕ → Raw
 cut_branch n k s set clear = all_of (going_where k (flag_cut n false s) clear ∷ going_where k (flag_cut n true s) set ∷ [])
 
@@ -191,14 +191,14 @@ abbrev pub node_where : NodeKey → Option AbsState → List Node
 node_where k None = []
 node_where k (Some s) = record { key = k; state = s } ∷ []
 
--- what the plain rules lead to, refined by what the instruction tells; where nothing is left there is no successor
+-- the successors by the plain rules, refined by the transfer function of pairs; none if nothing is left
 abbrev pub refined_nodes : Program → Instr → AbsState → List Node → List Node
 refined_nodes words instr s nodes = flat_map (λ (n : Node). node_where n.key (refined (marks words) words instr s n.state)) nodes
 
 abbrev pub refining : Program → Instr → AbsState → Raw → Raw
 refining words instr s r = record r { moves = refined_nodes words instr s r.moves }
 
--- The pointer moves first, and its pair is refined; then the byte is stored, which may be to a register of the pointer.
+-- The pointer moves first, and its pair is refined. Then the byte is stored, possibly to a register of the pointer.
 abbrev pub storing : Device → Program → List Entry → NodeKey → AbsState → Pointer → ℕ → Option AbsState → Raw
 storing device words A k s p r None = nowhere
 storing device words A k s p r (Some moved) =
@@ -213,12 +213,12 @@ paired_store device words A k s p r =
 abbrev pub paired_branch : ℕ → NodeKey → AbsState → ℕ → ℕ → Raw → Raw
 paired_branch n k s set clear other = if nat_lt n 7 then cut_branch n k s set clear else other
 
--- `cpse` skips where the registers are equal
+-- `cpse` skips if the registers are equal
 abbrev pub paired_binary : Device → Program → BinaryOp → NodeKey → AbsState → ℕ → ℕ → Raw → Raw
 paired_binary device words binary.Cpse k s d r other = cut_skip device words k (equal_cut d r true s) (equal_cut d r false s)
 paired_binary device words _ k s d r other = other
 
--- Branches and skips cut the state by their outcome; every other row is the plain one, refined.
+-- Branches and skips cut the state by their outcome. Other rows are the plain ones, refined.
 abbrev pub paired_row : Device → Program → List Entry → Bool → NodeKey → AbsState → Instr → Raw
 paired_row device words A scratch k s (i.Brbs n t) =
     paired_branch n k s (wrapped device (near k.pc t)) (further device k 1) (plain_row device words A scratch k s (i.Brbs n t))
@@ -231,7 +231,7 @@ paired_row device words A scratch k s (i.Binary op d r) =
 paired_row device words A scratch k s (i.St p r) = paired_store device words A k s p r
 paired_row device words A scratch k s instr = refining words instr s (plain_row device words A scratch k s instr)
 
--- by whether pairs are followed
+-- the row with pairs, or the plain row
 abbrev pub row_by : Option PairFacts → Device → Program → List Entry → Bool → NodeKey → AbsState → Instr → Raw
 row_by None device words A scratch k s instr = plain_row device words A scratch k s instr
 row_by (Some f) device words A scratch k s instr = paired_row device words A scratch k s instr
@@ -242,7 +242,7 @@ row_at device words A scratch k s (Some instr) = row_by s.facts device words A s
 
 -- ---- the node
 
--- some vector is enabled whose word has no `never` line
+-- some enabled vector's word has no `never` line
 unfoldable pub may_come : Device → List Entry → ℕ → Bool
 may_come device A masks = any_below 27 (λ v. is_enabled masks v && not (is_never A (vector_word device v)))
 
@@ -251,7 +251,7 @@ abbrev pub is_hung : Device → List Entry → NodeKey → SpForm → Bool
 is_hung device A k (Closed offset) = false
 is_hung device A k (Open offset h) = k.i && not k.delay && may_come device A k.masks
 
--- the instruction of a node; behind the device's flash there is none
+-- the instruction of a node; none behind the device's flash
 abbrev pub fetched : Device → Program → ℕ → Option Instr
 fetched device words pc = if nat_lt pc (words_of device) then instruction_at words pc else None
 
@@ -262,20 +262,20 @@ unfoldable pub below : ℕ → List ℕ
 below zero = []
 below (suc n) = below n ++ n ∷ []
 
--- the bytes that r30 may hold
+-- the possible bytes of r30
 abbrev pub picks : AbsState → List ℕ
 picks s = filter (may_be (value s 30)) (below 256)
 
--- the key where one of them is picked
+-- the key with this byte picked
 abbrev pub picking : NodeKey → ℕ → NodeKey
 picking k byte = record k { pick = Some byte }
 
--- the row of the state in which r30 is this byte; none where nothing is left of the state
+-- the row of the state in which r30 is this byte; none if nothing is left of the state
 abbrev pub picked_row : (NodeKey → AbsState → Raw) → NodeKey → Option AbsState → Raw
 picked_row row k None = nowhere
 picked_row row k (Some s) = row k s
 
--- the word of the `ijmp`, where its site has no `jump` line
+-- the word of the `ijmp`, if its site has no `jump` line
 abbrev pub unless_lined : Option (List ℕ) → ℕ → Option ℕ
 unless_lined None jump = Some jump
 unless_lined (Some listed) jump = None
@@ -284,22 +284,22 @@ abbrev pub unlined : List Entry → Option ℕ → Option ℕ
 unlined A None = None
 unlined A (Some jump) = unless_lined (jump_line A jump) jump
 
--- Where a node splits: at a table site of flash, unless an entry is picked already; the word of its `ijmp`.
+-- The word of the `ijmp` at which a node splits: at a table site of flash, unless an entry is picked already.
 abbrev pub split_site : Program → List Entry → ℕ → Option ℕ → Option ℕ
 split_site words A pc None = if nat_lt pc (words_of (device_of words)) then unlined A (table_site words pc) else None
 split_site words A pc (Some byte) = None
 
--- A node that splits leads where it would with each byte that r30 may hold, picked; with more than 64 its `ijmp` can't be resolved.
+-- A node that splits has the successors of each possible byte of r30, picked. With more than 64 bytes its `ijmp` is unresolved.
 abbrev pub splitting : Option ℕ → (NodeKey → AbsState → Raw) → NodeKey → AbsState → Raw
 splitting None row k s = row k s
 splitting (Some jump) row k s =
     if nat_le (length (picks s)) 64 then all_of (map (λ byte. picked_row row (picking k byte) (pick_cut byte s)) (picks s)) else fails (UnresolvedJump jump)
 
--- what the instruction of a node leads to, on this device
+-- the successors of a node by its instruction, on this device
 abbrev pub row_in : Device → Program → List Entry → NodeKey → AbsState → Raw
 row_in device words A k s = row_at device words A (is_scratch words k.pc) k s (fetched device words k.pc)
 
--- all that a node leads to, with all its faults, on the device of these words
+-- all successors of a node, with all its faults, on the device of these words
 unfoldable pub raw : Program → List Entry → NodeKey → AbsState → Raw
 raw words A k s =
     untracked_if (is_hung (device_of words) A k k.sp) k.pc
@@ -313,12 +313,12 @@ place_by Less n m ms placed = n ∷ m ∷ ms
 place_by Equal n m ms placed = record { key = m.key; state = state_join m.state n.state } ∷ ms
 place_by Greater n m ms placed = m ∷ placed
 
--- a node put into an ascending list: where there is one of its key, their states are joined
+-- inserts a node into an ascending list; a node with the same key joins its state
 unfoldable pub placed : Node → List Node → List Node
 placed n [] = n ∷ []
 placed n (m ∷ ms) = place_by (node_cmp n.key m.key) n m ms (placed n ms)
 
--- these nodes put into an ascending list one after the other
+-- inserts these nodes into an ascending list one after the other
 unfoldable pub joined_onto : List Node → List Node → List Node
 joined_onto done [] = done
 joined_onto done (n ∷ ns) = joined_onto (placed n done) ns
@@ -327,6 +327,6 @@ abbrev pub settled : Raw → List NodeFault → Result Local NodeFault
 settled r [] = Ok (record { same = joined_onto [] r.moves; calls = r.calls; exit = r.exit })
 settled r (f ∷ fs) = Err (least f fs)
 
--- The successors in the same instance, the calls and the return of a node, or its one fault.
+-- The joined successors, calls and return of a node, or the fault that counts.
 unfoldable pub local : Program → List Entry → NodeKey → AbsState → Result Local NodeFault
 local words A k s = settled (raw words A k s) (raw words A k s).faults

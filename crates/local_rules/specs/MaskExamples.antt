@@ -1,4 +1,4 @@
--- Worked nodes with the line `masks`: each line computes.
+-- Worked nodes with the line `masks`, each computed.
 use Rattle.std.specs.Prelude.{ℕ, ◌≡◌, false, List, [], ◌∷◌, None, map, replicate, refl, slice_set}
 use Rattle.avr_model.specs.declared.assumption.Entry.{Entry}
 use Rattle.avr_model.specs.declared.assumption.Entry.TheVariants.{Masks, Store, Never}
@@ -30,7 +30,7 @@ use Rattle.local_rules.specs.Reads.{read_at}
 use Rattle.local_rules.specs.Writes.{written_at, may_wake}
 use Rattle.local_rules.specs.Local.{raw}
 
--- a node at word 0 of a call's frame with two pushed bytes, where these vectors are enabled, or may be
+-- a node at word 0 of a call's frame with two pushed bytes; these vectors are enabled, or may be
 abbrev node : ℕ → NodeKey
 node masks = record { inst = record { kind = Call; entry = 0; masks = 0; i = false }; pc = 0; masks = masks; i = false; delay = false; sp = Closed 2; pick = None }
 
@@ -45,11 +45,11 @@ holding r n = record pushed { registers = slice_set pushed.registers r (known n)
 abbrev pointing : AbsState
 pointing = record pushed { registers = slice_set (slice_set pushed.registers 28 (with_bits (tag.SpLo 2) unknown.bits)) 29 (with_bits (tag.SpHi 2) unknown.bits) }
 
--- what one or two words lead to there
+-- the successors of one or two words there
 abbrev leads : ℕ → ℕ → List Entry → ℕ → AbsState → Raw
 leads w0 w1 A masks s = raw (w0 ∷ w1 ∷ replicate 16382 0xFFFF) A (node masks) s
 
--- the words that it leads to, and the vectors there
+-- the words of successors, and the vectors there
 abbrev ways : Raw → List (ℕ × ℕ)
 ways r = map (λ n. (n.key.pc, n.key.masks)) r.moves
 
@@ -59,7 +59,7 @@ ways r = map (λ n. (n.key.pc, n.key.masks)) r.moves
 abbrev bits_read : Raw → List (Tri × Tri × Tri)
 bits_read r = map (λ n. (tri_at (value_at n.state.registers 16).bits 2, tri_at (value_at n.state.registers 16).bits 1, tri_at (value_at n.state.registers 16).bits 0)) r.moves
 
--- `lds r16, 0x006E`: of TIMSK0's three enable bits vector 15 has the second
+-- `lds r16, 0x006E`: of TIMSK0's three enable bits the second is that of vector 15
 reads_exactly : bits_read (leads 0x9100 0x006E [] 8192 pushed) ≡ (Zero, One, Zero) ∷ []
 unfolding raw table_site ijmp_from is_scratch any_below all_below decoded device_of read_at enable_of packed has_masks length_of
 reads_exactly = refl
@@ -82,7 +82,7 @@ skips_where_set : ways (leads 0x9BE8 0xFFFF (Masks ∷ []) 1 pushed) ≡ (1, 0) 
 unfolding raw table_site ijmp_from is_scratch any_below all_below decoded device_of read_at enable_of packed has_masks length_of number_of
 skips_where_set = refl
 
--- outside the set the bit is 0
+-- the enable bit of a vector outside the set is 0
 skips_once : ways (leads 0x99E8 0xFFFF (Masks ∷ []) 2 pushed) ≡ (2, 2) ∷ []
 unfolding raw table_site ijmp_from is_scratch any_below all_below decoded device_of read_at enable_of packed has_masks length_of number_of
 skips_once = refl
@@ -103,17 +103,17 @@ stores_nowhere : ways (leads 0x920C 0xFFFF [] 1 pushed) ≡ (1, 1) ∷ []
 unfolding raw table_site ijmp_from is_scratch is_fixed path_behind is_loaded_behind is_proved is_freed is_fixed_site store_line any_below all_below decoded length_of device_of packed may_wake admits_enables has_masks
 stores_nowhere = refl
 
--- with the line all 25 vectors may be enabled then
+-- with the line all 25 vectors may be enabled afterwards
 stores_anywhere : ways (leads 0x920C 0xFFFF (Masks ∷ []) 1 pushed) ≡ (1, 1) ∷ (1, 33554431) ∷ []
 unfolding raw table_site ijmp_from is_scratch is_fixed path_behind is_loaded_behind is_proved is_freed is_fixed_site store_line any_below all_below decoded length_of device_of packed may_wake admits_enables has_masks may_enable_other widened number_of is_never permits_below
 stores_anywhere = refl
 
--- but not one whose word has a `never` line
+-- but not a vector whose word has a `never` line
 stores_but_never : ways (leads 0x920C 0xFFFF (Masks ∷ Never 2 ∷ []) 2 pushed) ≡ (1, 2) ∷ (1, 33554430) ∷ []
 unfolding raw table_site ijmp_from is_scratch is_fixed path_behind is_loaded_behind is_proved is_freed is_fixed_site store_line any_below all_below decoded length_of device_of packed may_wake admits_enables has_masks may_enable_other widened number_of is_never permits_below
 stores_but_never = refl
 
--- none where the byte has no enable bit, and where X points into SRAM
+-- nothing is enabled if the byte has no enable bit, or X points into SRAM
 stores_zero : ways (leads 0x920C 0xFFFF (Masks ∷ []) 1 (holding 0 0)) ≡ (1, 1) ∷ []
 unfolding raw table_site ijmp_from is_scratch is_fixed path_behind is_loaded_behind is_proved is_freed is_fixed_site store_line any_below all_below decoded length_of device_of packed may_wake admits_enables has_masks may_enable_other widened number_of is_never permits_below
 stores_zero = refl
@@ -122,7 +122,7 @@ stores_into_memory : ways (leads 0x920C 0xFFFF (Masks ∷ []) 1 (holding 27 1)) 
 unfolding raw table_site ijmp_from is_scratch is_fixed path_behind is_loaded_behind is_proved is_freed is_fixed_site store_line any_below all_below decoded length_of device_of packed may_wake admits_enables has_masks may_enable_other widened number_of is_never permits_below
 stores_into_memory = refl
 
--- a `store` line at the site: what it lists, as without `masks`
+-- a `store` line at the site: the listed addresses, as without `masks`
 stores_listed : ways (leads 0x920C 0xFFFF (Masks ∷ Store 0 (0 ∷ []) ∷ []) 1 pushed) ≡ (1, 1) ∷ (1, 1) ∷ []
 unfolding raw table_site ijmp_from is_scratch is_fixed path_behind is_loaded_behind is_proved is_freed is_fixed_site store_line any_below all_below decoded length_of device_of packed may_wake admits_enables has_masks written_at permits_below
 stores_listed = refl

@@ -1,4 +1,4 @@
--- The bytes that a value permits, and the numbers that a pair of registers does. Source: own.
+-- The bytes that a value permits, and the numbers that a register pair does. Source: own.
 use Rattle.std.specs.Prelude.{ℕ, ◌+◌, ◌&&◌, Bool, true, nat_le, Option, Some, None}
 use Rattle.avr_model.specs.State.{low, high}
 use Rattle.bit_domain.specs.TriByte.{has}
@@ -15,7 +15,7 @@ may_be v byte = (has v.bits byte && nat_le v.low byte) && nat_le byte v.high
 abbrev pub is_between : ℕ → ℕ → ℕ → Bool
 is_between low high p = nat_le low p && nat_le p high
 
--- where pairs are followed, the number lies in the interval of registers r and r + 1
+-- if pairs are followed, the number lies in the interval of registers r and r + 1
 abbrev pub is_in_interval : Option PairFacts → ℕ → ℕ → Bool
 is_in_interval None r p = true
 is_in_interval (Some f) r p = is_between (interval_of f r).low (interval_of f r).high p
@@ -24,6 +24,6 @@ is_in_interval (Some f) r p = is_between (interval_of f r).low (interval_of f r)
 abbrev pub permits_bytes : AbsState → ℕ → ℕ → Bool
 permits_bytes s r p = may_be (value s r) (low p) && may_be (value s (r + 1)) (high p)
 
--- and it lies in their interval
+-- bits, ranges and the interval permit the number
 abbrev pub permits_number : AbsState → ℕ → ℕ → Bool
 permits_number s r p = permits_bytes s r p && is_in_interval s.facts r p

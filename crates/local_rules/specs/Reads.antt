@@ -1,4 +1,4 @@
--- What is known of a byte that is read from data space. Source: own.
+-- The value of a byte read from data space. Source: own.
 use Rattle.std.specs.Prelude.{ℕ, ◌+◌, ◌*◌, ◌-◌, ◌==◌, Bool, true, false, nat_lt, nat_le, if◌then◌else◌, List, length, Option, Some, None}
 use Rattle.std.specs.Int.{bit_at, from_bool}
 use Rattle.avr_model.specs.declared.device.Device.{Device}
@@ -33,7 +33,7 @@ use Rattle.local_rules.specs.Registers.{value, bits, with_bits}
 
 -- ---- at an address
 
--- The bytes of a closed stack pointer: known in the root, whose base is the top of SRAM; elsewhere base - offset.
+-- The bytes of a closed stack pointer: known in the root, whose base is the top of SRAM, and base - offset elsewhere.
 abbrev pub closed_low : Device → Kind → ℕ → AbsByte
 closed_low device Root offset = known (low (ramend device - offset))
 closed_low device Call offset = with_bits (low_of offset) byte_any
@@ -44,7 +44,7 @@ closed_high device Root offset = known (high (ramend device - offset))
 closed_high device Call offset = with_bits (high_of offset) byte_any
 closed_high device (Vector v) offset = with_bits (high_of offset) byte_any
 
--- those of an open one are unknown
+-- the bytes of an open stack pointer are unknown
 abbrev pub sp_low : Device → Kind → SpForm → AbsByte
 sp_low device kind (Closed offset) = closed_low device kind offset
 sp_low device kind (Open offset h) = unknown
@@ -61,18 +61,18 @@ flags_tag false = tag.None
 abbrev pub sreg_value : NodeKey → AbsState → AbsByte
 sreg_value k s = with_bits (flags_tag s.flags.entry) (byte_with s.flags.bits 7 (tri_bit (from_bool k.i)))
 
--- a bit that is 0 where it isn't among what may be 1, and else unknown
+-- a bit of a set of what may be enabled: 0 if it is 0, else unknown
 abbrev pub loosened : Tri → Tri
 loosened Zero = Zero
 loosened One = Any
 loosened Any = Any
 
--- An enable bit is the key's; where the key says what may be enabled, it is 0 or unknown.
+-- An enable bit is read from the key. If `may`, it is 0 or unknown.
 abbrev pub enable_read : Bool → ℕ → Tri
 enable_read false bit = tri_bit bit
 enable_read true bit = loosened (tri_bit bit)
 
--- enable bits come from the key, and no other bit of I/O is known
+-- enable bits come from the key; other bits of I/O are unknown
 abbrev pub io_tri : Bool → Option ℕ → ℕ → Tri
 io_tri may None masks = Any
 io_tri may (Some v) masks = enable_read may (bit_at masks (v - 2))
@@ -84,13 +84,13 @@ abbrev pub value_of : Slot AbsByte → AbsByte
 value_of Free = unknown
 value_of (Guarded v) = v
 
--- the slot at an address: in the root, whose base is known
+-- the slot at an address, for the root, whose base is known
 abbrev pub slot_read : Device → Kind → AbsState → ℕ → AbsByte
 slot_read device Root s a = if nat_le a (ramend device) then value_of (slot_at s.slots (ramend device - a)) else unknown
 slot_read device Call s a = unknown
 slot_read device (Vector v) s a = unknown
 
--- what a read of a known address gives, at a node whose key says what is enabled, or what may be
+-- the value of a known address; `may` says whether the key has what may be enabled
 unfoldable pub read_at : Device → Bool → NodeKey → AbsState → ℕ → AbsByte
 read_at device may k s a =
     if nat_lt a 0x20 then value s a
@@ -107,7 +107,7 @@ word_of None hi = None
 word_of (Some x) None = None
 word_of (Some x) (Some y) = Some (x + 256 * y)
 
--- the number that registers r and r + 1 hold, where all their bits are known
+-- the number in registers r and r + 1, if all bits are known
 abbrev pub pair_constant : AbsState → ℕ → Option ℕ
 pair_constant s r = word_of (byte_constant (bits s r)) (byte_constant (bits s (r + 1)))
 
@@ -127,7 +127,7 @@ pointed s r up =
       frame = lowered up (frame_of (value s r).tag (value s (r + 1)).tag);
     }
 
--- by its number alone: without a tag, and of a register or I/O the bits alone; a slot keeps its range
+-- the value by the number alone: without a tag; of registers and I/O the bits alone, a slot keeps its range
 abbrev pub read_number : Device → Bool → NodeKey → AbsState → ℕ → AbsByte
 read_number device may k s a = if nat_le a BELOW then untagged (read_at device may k s a).bits else valued tag.None (set_of (read_at device may k s a))
 
@@ -135,18 +135,18 @@ abbrev pub read_constant : Device → Bool → NodeKey → AbsState → Option �
 read_constant device may k s None = unknown
 read_constant device may k s (Some a) = read_number device may k s a
 
--- a slot, with what is known by the number; none where the two have no meet
+-- the meet of a slot and of the value by the number; none if there is no meet
 abbrev pub read_both : Device → Bool → NodeKey → AbsState → Option ℕ → AbsByte → Option AbsByte
 read_both device may k s None v = Some v
 read_both device may k s (Some a) v = with_tag v.tag (set_meet (set_of (read_number device may k s a)) (set_of v))
 
--- A slot that isn't there is read by the number alone.
+-- A missing slot is read by the number alone.
 abbrev pub read_frame : Device → Bool → NodeKey → AbsState → Option ℕ → Option ℕ → Option AbsByte
 read_frame device may k s constant None = Some (read_constant device may k s constant)
 read_frame device may k s constant (Some d) =
     if nat_lt d (length s.slots) then read_both device may k s constant (value_of (slot_at s.slots d)) else Some (read_constant device may k s constant)
 
--- what a read through a pointer gives; none where it can't be
+-- the value of a read through a pointer; none if it is impossible
 abbrev pub read_pointed : Device → Bool → NodeKey → AbsState → Pointed → Option AbsByte
 read_pointed device may k s p = read_frame device may k s p.constant p.frame
 

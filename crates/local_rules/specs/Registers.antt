@@ -1,5 +1,5 @@
--- Instructions that work on registers and flags alone. Where a result has a tag, a rule here says so; all others have none. Source: own;
--- bits and flags follow the Instruction Set Manual DS40002198.
+-- Instructions that work on registers and flags alone. A result has a tag only if a rule here says so. Source: own; bits and flags follow
+-- the Instruction Set Manual DS40002198.
 use Rattle.std.specs.Prelude.{ℕ, ◌+◌, ◌%◌, ◌==◌, Bool, true, false, not, if◌then◌else◌, List, Option, Some, None, slice_set}
 use Rattle.std.specs.List.{list_any}
 use Rattle.avr_model.specs.declared.device.Device.{Device}
@@ -57,53 +57,53 @@ carry_bit s = tri_at s.flags.bits 0
 abbrev pub set : AbsState → ℕ → AbsByte → List AbsByte
 set s d v = slice_set s.registers d v
 
--- registers r and r + 1, the low byte first
+-- sets registers r and r + 1, the low byte first
 abbrev pub set_pair : List AbsByte → ℕ → AbsByte → AbsByte → List AbsByte
 set_pair registers r lo hi = slice_set (slice_set registers r lo) (r + 1) hi
 
--- What the carry tag says of a register ends where that register is written.
+-- The carry tag of a register ends when that register is written.
 abbrev pub forgotten : List ℕ → CarryTag → CarryTag
 forgotten written carry.None = carry.None
 forgotten written (carry.Borrow j l) = carry.Borrow j l
 forgotten written (carry.Sum j l) = carry.Sum j l
 forgotten written (carry.Less r k) = if list_any (λ n. n == r) written then carry.None else carry.Less r k
 
--- What is known of pairs ends with it, and what the flags tell where they are written: some flag but I, and C.
+-- Ends the facts on written registers and flags: on any flag but I, and on C.
 abbrev pub forgetting : List ℕ → Bool → Bool → AbsState → AbsState
 forgetting written flags carry s =
     record s { flags = record s.flags { carry = forgotten written s.flags.carry }; facts = ended (is_one_of written) flags carry s.facts }
 
--- what is known before an instruction is all that still holds after it
+-- the state with the facts that survive the instruction
 abbrev pub before : Instr → AbsState → AbsState
 before instr s = forgetting (written instr) (sets_flags instr) (sets_carry instr) s
 
--- Flags that are written, C among them. They are those of the frame's entry no more.
+-- Written flags, C among them. They are no longer those of the entry.
 abbrev pub with_carry : TriByte → CarryTag → AbsFlags
 with_carry b c = record { entry = false; bits = b; carry = c }
 
--- flags that are written, but C isn't
+-- written flags without C
 abbrev pub but_carry : AbsState → TriByte → AbsFlags
 but_carry s b = with_carry b s.flags.carry
 
--- what an instruction leaves that sets registers and flags alone
+-- the result of an instruction that sets registers and flags alone
 abbrev pub both_set : List AbsByte → AbsFlags → Computed
 both_set registers flags = record { registers = registers; flags = flags }
 
 abbrev pub going_with : Device → NodeKey → AbsState → Computed → Raw
 going_with device k s c = setting device k s c.registers c.flags
 
--- with what was computed, where something was
+-- continues with a computed result, if there is one
 abbrev pub going_by : Device → NodeKey → AbsState → Option Computed → Raw → Raw
 going_by device k s None other = other
 going_by device k s (Some c) other = going_with device k s c
 
--- one register is set, and the flags stay
+-- sets one register; the flags stay
 abbrev pub register_set : AbsState → ℕ → AbsByte → Computed
 register_set s d v = both_set (set s d v) s.flags
 
 -- ---- sums and differences
 
--- a sum, with the tag of the result and that of the carry
+-- a sum, with the tags of result and carry
 abbrev pub sum_tagged : AbsState → ℕ → TriByte → Tri → Tag → CarryTag → Computed
 sum_tagged s d b c t w =
     let r = abs_add (bits s d) b c s.flags.bits in
@@ -112,16 +112,16 @@ sum_tagged s d b c t w =
 abbrev pub sum_after : AbsState → ℕ → TriByte → Tri → Computed
 sum_after s d b c = sum_tagged s d b c tag.None carry.None
 
--- a comparison sets the flags alone, with what C says afterwards
+-- a comparison sets the flags alone, and the carry tag
 abbrev pub compare_after : AbsState → TriByte → TriByte → Tri → Bool → CarryTag → Computed
 compare_after s a b borrow keep_zero c = both_set s.registers (with_carry (abs_sub a b borrow keep_zero s.flags.bits).1 c)
 
--- after a comparison with a known number: whether the register is below it
+-- the carry tag after a comparison with a known number: the register is below it
 abbrev pub less_than : ℕ → Option ℕ → CarryTag
 less_than d None = carry.None
 less_than d (Some n) = carry.Less d n
 
--- a comparison of two equal numbers and a borrow leaves C as it was, and with it what C says of a register
+-- comparing two equal numbers with a borrow keeps C, and the carry tag of a register
 abbrev pub less_alone : CarryTag → CarryTag
 less_alone carry.None = carry.None
 less_alone (carry.Borrow j l) = carry.None
@@ -133,13 +133,13 @@ less_kept None b c = carry.None
 less_kept (Some x) None c = carry.None
 less_kept (Some x) (Some y) c = if x == y then less_alone c else carry.None
 
--- a difference, with the tag of the result and that of the borrow
+-- a difference, with the tags of result and borrow
 abbrev pub difference_after : AbsState → ℕ → TriByte → TriByte → Tri → Bool → Tag → CarryTag → Computed
 difference_after s d a b borrow keep_zero t c =
     let r = abs_sub a b borrow keep_zero s.flags.bits in
     both_set (set s d (with_bits t r.0)) (with_carry r.1 c)
 
--- A known number less from the low byte of base - j, and from the high byte of base - k under the borrow of the low one.
+-- Subtracts a known number from the low byte of base - j, and from the high byte of base - k with the borrow of the low one.
 abbrev pub low_tag : Tag → Option ℕ → Tag
 low_tag t None = tag.None
 low_tag t (Some l) = low_less t l
@@ -152,7 +152,7 @@ abbrev pub high_tag : Tag → Option ℕ → CarryTag → Tag
 high_tag t None c = tag.None
 high_tag t (Some m) c = high_less t m c
 
--- a register less itself is 0, whatever it holds: as 0 - 0
+-- a register less itself is 0, whatever it holds: computed as 0 - 0
 abbrev pub or_nothing : ℕ → ℕ → TriByte → TriByte
 or_nothing d r b = if d == r then byte_known 0 else b
 
@@ -164,13 +164,13 @@ sbc_after s d b number = difference_after s d (bits s d) b (carry_bit s) true (h
 
 -- ---- bit by bit
 
--- a bit operation; `and` and `or` of a register with itself change no bit, and keep the whole value
+-- a bit operation; `and` and `or` of a register with itself keep the whole value
 abbrev pub logic_after : AbsState → Logic → ℕ → TriByte → TriByte → Bool → Computed
 logic_after s op d a b same =
     let r = abs_logic op a b s.flags.bits in
     both_set (set s d (if same then value s d else untagged r.0)) (but_carry s r.1)
 
--- a register plus 1, or less 1, with the tag of the result
+-- a register plus or less 1, with the tag of the result
 abbrev pub step_tagged : AbsState → Bool → ℕ → Tag → Computed
 step_tagged s up d t =
     let r = abs_step_one up (bits s d) s.flags.bits in
@@ -203,11 +203,11 @@ product_after s op d r =
 abbrev pub product_row : Device → NodeKey → AbsState → Mul → ℕ → ℕ → Raw
 product_row device k s op d r = going_with device k s (product_after s op d r)
 
--- registers d and d + 1 become r and r + 1
+-- copies registers r and r + 1 to d and d + 1
 abbrev pub pair_copied : AbsState → ℕ → ℕ → Computed
 pair_copied s d r = both_set (set_pair s.registers d (value s r) (value s (r + 1))) s.flags
 
--- a pair plus or minus a number: its bits, and the tags of a pair that is base - k
+-- a pair plus or less a number: its bits, and its tags if it is base - k
 abbrev pub down_by : Bool → ℕ → ℕ
 down_by up n = if up then minus16 0 n else n
 
@@ -244,14 +244,14 @@ carry_tag_at s n = if n == 0 then carry.None else s.flags.carry
 abbrev pub flag_after : AbsState → ℕ → Bool → Computed
 flag_after s n on = both_set s.registers (with_carry (byte_with s.flags.bits n (tri_of_bool on)) (carry_tag_at s n))
 
--- what is computed where the flag isn't I
+-- the result, unless the flag is I
 abbrev pub flag_unless_i : AbsState → ℕ → Bool → Option Computed
 flag_unless_i s n on = if n == 7 then None else Some (flag_after s n on)
 
 abbrev pub flag_row : Device → NodeKey → AbsState → ℕ → Bool → Raw
 flag_row device k s n on = if n == 7 then interrupts_row device k s on else going_with device k s (flag_after s n on)
 
--- bit b of register d becomes T, and T that bit
+-- copies T to bit b of register d, and that bit to T
 abbrev pub bit_loaded : AbsState → ℕ → ℕ → Computed
 bit_loaded s d b = register_set s d (untagged (byte_with (bits s d) b (tri_at s.flags.bits 6)))
 
@@ -278,7 +278,7 @@ unary_after s unary.Lsr d = shift_after s shift.Lsr d
 unary_after s unary.Ror d = shift_after s shift.Ror d
 unary_after s unary.Dec d = step_after s false d
 
--- all but `cpse`
+-- all instructions of two registers but `cpse`
 abbrev pub binary_after : AbsState → BinaryOp → ℕ → ℕ → Option Computed
 binary_after s binary.Cpc d r = Some (compare_after s (bits s d) (bits s r) (carry_bit s) true (less_kept (byte_constant (bits s d)) (byte_constant (bits s r)) s.flags.carry))
 binary_after s binary.Sbc d r = Some (sbc_after s d (bits s r) (byte_constant (bits s r)))

@@ -1,4 +1,4 @@
--- What a byte that is written to data space changes. Source: own.
+-- The effect of writing a byte to data space. Source: own.
 use Rattle.std.specs.Prelude.{ℕ, ◌+◌, ◌*◌, ◌-◌, ◌%◌, ◌==◌, ◌&&◌, Bool, true, false, not, nat_lt, nat_le, if◌then◌else◌, List, [], ◌∷◌, ◌++◌, map, filter, Option, Some, None, slice_set}
 use Rattle.avr_model.specs.declared.device.Device.{Device}
 use Rattle.avr_model.specs.declared.assumption.Entry.{Entry}
@@ -35,7 +35,7 @@ use Rattle.local_rules.specs.declared.pointers.Pointed.{Pointed}
 
 -- ---- the stack pointer
 
--- the high part that a byte gives: known in the root, by its tag elsewhere
+-- the high part of a byte: known in the root, by its tag elsewhere
 abbrev pub known_high : Option ℕ → Option High
 known_high None = None
 known_high (Some h) = Some (Known h)
@@ -54,12 +54,12 @@ abbrev pub opening : Option High → NodeKey → AbsState → ℕ → Raw
 opening None k s pc = fails (UntrackedSp pc)
 opening (Some h) k s pc = one (record k { sp = Open (offset_of k.sp) h }) s
 
--- the offset at which the root's stack pointer is 256 times its high part plus a low byte; none above the top of SRAM
+-- the root's offset for a high part and a low byte; none above the top of SRAM
 abbrev pub root_offset : Device → ℕ → Option ℕ → Option ℕ
 root_offset device h None = None
 root_offset device h (Some l) = if nat_le (256 * h + l) (ramend device) then Some (ramend device - (256 * h + l)) else None
 
--- base - k, where the low byte says the same of it; a k from 0x8000 up would be above the base
+-- the offset of base - k, if the low byte agrees; a k from 0x8000 up would be above the base
 abbrev pub tagged_offset : ℕ → Tag → Option ℕ
 tagged_offset k (tag.SpLo j) = if (j == k % 256) && nat_lt k 0x8000 then Some k else None
 tagged_offset k _ = None
@@ -95,11 +95,11 @@ is_entry_flags _ = false
 abbrev pub flags_written : AbsByte → AbsFlags
 flags_written v = record { entry = is_entry_flags v.tag; bits = byte_with v.bits 7 Any; carry = carry.None }
 
--- the key with this I; after `out` that turns it on, one more instruction executes before any interrupt
+-- the key with this I; after an `out` that sets it, one more instruction executes before any interrupt
 abbrev pub with_i : NodeKey → Bool → Bool → NodeKey
 with_i k is_out on = record k { i = on; delay = is_out && on && not k.i }
 
--- one successor for each value of I that is permitted
+-- one successor for each permitted value of I
 abbrev pub sreg_written : Tri → NodeKey → AbsState → Bool → Raw
 sreg_written Zero k s is_out = one (with_i k is_out false) s
 sreg_written One k s is_out = one (with_i k is_out true) s
@@ -108,24 +108,23 @@ sreg_written Any k s is_out =
 
 -- ---- at an address
 
--- one successor for each value of the enable bits that is permitted; other addresses hold none, and nothing changes
+-- one successor for each permitted value of the enable bits; at other addresses nothing changes
 abbrev pub masks_written : NodeKey → AbsState → ℕ → AbsByte → Raw
 masks_written k s a v = moves_to (map (λ m. record { key = record k { masks = m }; state = s }) (splits k.masks a v.bits))
 
--- of a pair with a register that is written by its address the interval is the hull of what its bytes are then
+-- the interval of a pair becomes the hull of its bytes when one is written by its address
 abbrev pub hulled : ℕ → AbsState → AbsState
 hulled a s = record s { facts = written_hull s.registers a s.facts }
 
--- a register that is written by its address gets the byte's bits and tag, and what is known of its pair and what C says of it ends
+-- a register written by its address gets the byte's bits and tag, which ends facts on its pair and its carry tag
 abbrev pub register_written : AbsState → ℕ → AbsByte → AbsState
 register_written s a v = hulled a (forgetting (a ∷ []) false false (record s { registers = slice_set s.registers a (with_bits v.tag v.bits) }))
 
--- the flags are these, and what they told of pairs ends
+-- sets the flags, which ends facts that name flags
 abbrev pub put_flags : AbsState → AbsFlags → AbsState
 put_flags s f = record s { flags = f; facts = ended (λ r. false) true true s.facts }
 
--- What a byte does that is written to a known address, at the word pc, from a node whose key and state are what they are
--- otherwise after the instruction.
+-- The effect of writing a byte to a known address at the word pc. Key and state are otherwise those after the instruction.
 unfoldable pub written_at : Device → ℕ → NodeKey → AbsState → Bool → ℕ → AbsByte → Raw
 written_at device pc k s is_out a v =
     if nat_lt a 0x20 then one k (register_written s a v)
@@ -136,37 +135,37 @@ written_at device pc k s is_out a v =
 
 -- ---- through a pointer
 
--- some value of registers r and r + 1 that their bits permit, plus a number, is the address
+-- registers r and r + 1 plus a number may be the address, by their bits
 abbrev pub reaches : AbsState → ℕ → ℕ → ℕ → Bool
 reaches s r up a = has (bits s r) (low (minus16 a up)) && has (bits s (r + 1)) (high (minus16 a up))
 
--- at a fixed site: the address is known
+-- at a fixed site the address is known
 abbrev pub fixed_write : Device → Option ℕ → ℕ → NodeKey → AbsState → AbsByte → Raw
 fixed_write device None pc k s v = fails (UnknownPointer pc)
 fixed_write device (Some a) pc k s v = written_at device pc k s false a v
 
--- At an unfixed site: one successor in which the byte changes nothing that is known, and those of each listed address that can be met.
+-- At an unfixed site: one successor in which nothing known changes, and those of each listed address that is possible.
 abbrev pub listed_writes : Device → ℕ → NodeKey → AbsState → List ℕ → AbsByte → Raw
 listed_writes device pc k s addresses v = all_of (one k s ∷ map (λ a. written_at device pc k s false a v) addresses)
 
--- the pointer is known to be a slot of the running frame
+-- the pointer is a slot of the running frame
 abbrev pub is_own_slot : Option ℕ → ℕ → Bool
 is_own_slot None offset = false
 is_own_slot (Some d) offset = nat_lt d offset
 
--- The byte may be meant for the enable bit of a vector that isn't barred: the line `masks` admits the site, the pointer isn't known to be a
--- slot of the running frame, and permits an address at which the byte may have 1 at such a bit.
+-- The byte may reach the enable bit of a vector that isn't barred: the line `masks` admits the site, the pointer is not known to be a
+-- slot of the running frame, and it permits an address at which the byte may set such a bit.
 unfoldable pub may_wake : Device → List Entry → AbsState → ℕ → ℕ → Pointed → ℕ → NodeKey → AbsByte → Bool
 may_wake device A was r up p pc k v =
     admits_enables A pc && not (is_own_slot p.frame (offset_of k.sp))
     && may_enable_other device A (λ a. permits_number was r (minus16 a up)) v.bits
 
--- one successor more, in which each vector that isn't barred may be enabled: it doesn't go by the state
+-- adds a successor in which each vector that isn't barred may be enabled, whatever the state
 abbrev pub waking : Bool → Device → List Entry → NodeKey → AbsState → Raw → Raw
 waking false device A k s r = r
 waking true device A k s r = record r { moves = r.moves ++ record { key = record k { masks = widened device A k.masks }; state = s } ∷ [] }
 
--- A byte v is stored through registers r and r + 1 plus a number, as they were in the state `was`.
+-- Stores a byte v through registers r and r + 1 plus a number, as they were in the state `was`.
 abbrev pub pointer_write : Device → Program → List Entry → AbsState → ℕ → ℕ → Pointed → ℕ → NodeKey → AbsState → AbsByte → Raw
 pointer_write device words A was r up p pc k s v =
     if is_fixed_site words A pc

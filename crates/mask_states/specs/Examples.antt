@@ -1,4 +1,4 @@
--- Worked rows of the definitions, as a reader would do them by hand.
+-- Worked rows of the definitions.
 use Rattle.std.specs.Prelude.{ℕ, ◌≡◌, ◌==◌, refl, true, false, List, [], ◌∷◌, Some, None, if◌then◌else◌}
 use Rattle.std.specs.declared.cmp.Ordering.TheVariants.{Less, Greater}
 use Rattle.avr_model.specs.declared.device.Device.TheVariants.{M48, M328}
@@ -44,7 +44,7 @@ root_before_call : inst_cmp root_inst (record { kind = Call; entry = 0; masks = 
 unfolding inst_cmp inst_numbers
 root_before_call = refl
 
--- a call is before an interrupt, whatever their entries
+-- a call orders before an interrupt, whatever the entries
 call_before_vector : inst_cmp (record { kind = Call; entry = 99; masks = 0; i = true }) timer ≡ Less
 unfolding inst_cmp inst_numbers
 call_before_vector = refl
@@ -52,7 +52,7 @@ call_before_vector = refl
 abbrev root_at : ℕ → SpForm → NodeKey
 root_at pc sp = record { inst = root_inst; pc = pc; masks = 0; i = false; delay = false; sp = sp; pick = None }
 
--- the instance decides before the program counter
+-- the instance is compared before the program counter
 instance_before_pc : node_cmp (root_at 99 (Closed 0)) (entry_key timer) ≡ Less
 unfolding node_cmp node_numbers inst_numbers
 instance_before_pc = refl
@@ -65,7 +65,7 @@ tag_after_known : node_cmp (root_at 9 (Open 4 (Tag 0))) (root_at 9 (Open 4 (Know
 unfolding node_cmp node_numbers inst_numbers
 tag_after_known = refl
 
--- no pick is before any pick
+-- no pick orders before any pick
 no_pick_first : node_cmp (root_at 9 (Closed 3)) (record (root_at 9 (Closed 3)) { pick = Some 0 }) ≡ Less
 unfolding node_cmp node_numbers inst_numbers
 no_pick_first = refl
@@ -76,7 +76,7 @@ one_node = refl
 
 -- ---- places
 
--- a machine after reset is at the node at which the root begins
+-- a machine after reset is at the root's first node
 at_reset : AtNode false (ramend M328) (filled M328 0x55) (entry_key root_inst)
 at_reset = record { pc = refl; enables = refl; i = refl; delay = refl; sp = (refl, refl) }
 
@@ -94,12 +94,12 @@ known_byte : splits 5 0x3D (byte_known 2) ≡ 6 ∷ []
 unfolding numbers_of enable_tri packed row_of
 known_byte = refl
 
--- an even byte turns INT0 off, and leaves INT1 open
+-- an even byte clears INT0 and may leave INT1
 even_byte : splits 1 0x3D (byte_of (λ i. if i == 0 then Zero else Any)) ≡ 0 ∷ 2 ∷ []
 unfolding numbers_of enable_tri packed row_of
 even_byte = refl
 
--- TIMER1's four enable bits: vectors 11 to 14, of which the capture has bit 5
+-- TIMER1 has four enable bits, of vectors 11 to 14; bit 5 is that of the capture
 four_bits : splits 0 0x6F (byte_of (λ i. if i == 5 then Zero else Any)) ≡ 0 ∷ 1024 ∷ 2048 ∷ 3072 ∷ 4096 ∷ 5120 ∷ 6144 ∷ 7168 ∷ []
 unfolding numbers_of enable_tri packed row_of
 four_bits = refl
@@ -118,7 +118,7 @@ another_enabled : are_among 2 5 ≡ false
 unfolding are_among all_below
 another_enabled = refl
 
--- the word 2, at which INT0 is entered, has a `never` line: all vectors but INT0
+-- INT0's word 2 has a `never` line: vectors other than INT0
 abbrev no_INT0 : List Entry
 no_INT0 = Masks ∷ Never 2 ∷ []
 
@@ -126,7 +126,7 @@ all_but_INT0 : widened M328 no_INT0 0 ≡ 0x1FFFFFE
 unfolding widened number_of is_never
 all_but_INT0 = refl
 
--- INT0 stays where it may be enabled already
+-- INT0 stays among the vectors that may be enabled
 with_INT0 : widened M328 no_INT0 1 ≡ 0x1FFFFFF
 unfolding widened number_of is_never
 with_INT0 = refl
@@ -152,7 +152,7 @@ one_enables_no_other : may_enable_other M328 no_INT0 (λ a. a == 0x3D) (byte_kno
 unfolding may_enable_other packed is_never
 one_enables_no_other = refl
 
--- where INT1's enable bit reads 0, it leaves what may be enabled, and no set that says just what is enabled
+-- if INT1's enable bit reads 0, it leaves a set of what may be enabled, and contradicts a set of what is enabled
 reads_zero : without true (Some 3) 7 ≡ 5
 unfolding number_of
 reads_zero = refl

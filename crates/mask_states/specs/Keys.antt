@@ -1,4 +1,4 @@
--- Keys of instances and nodes: where they begin, and the numbers that tell them.
+-- Keys of instances and nodes, and the numbers that identify them.
 use Rattle.std.specs.Prelude.{ℕ, ◌<◌, ⊤, false, List, [], ◌∷◌, ◌++◌, Option, Some, None}
 use Rattle.std.specs.Int.{from_bool}
 use Rattle.mask_states.specs.declared.keys.Kind.{Kind}
@@ -10,12 +10,12 @@ use Rattle.mask_states.specs.declared.keys.SpForm.{SpForm}
 use Rattle.mask_states.specs.declared.keys.SpForm.TheVariants.{Closed, Open}
 use Rattle.mask_states.specs.declared.keys.NodeKey.{NodeKey}
 
--- how far the stack pointer is below the base, or will be
+-- bytes between the base and the stack pointer, or between the base and the one being written
 abbrev pub offset_of : SpForm → ℕ
 offset_of (Closed offset) = offset
 offset_of (Open offset high) = offset
 
--- a pick is a byte
+-- a pick is a byte, if there is one
 abbrev pub PickFits : Option ℕ → Type 0
 PickFits None = ⊤
 PickFits (Some byte) = byte < 256
@@ -24,7 +24,7 @@ PickFits (Some byte) = byte < 256
 abbrev pub root_inst : InstKey
 root_inst = record { kind = Root; entry = 0; masks = 0; i = false }
 
--- the node at which an instance begins
+-- the first node of an instance
 abbrev pub entry_key : InstKey → NodeKey
 entry_key inst = record { inst = inst; pc = inst.entry; masks = inst.masks; i = inst.i; delay = false; sp = Closed 0; pick = None }
 
@@ -47,10 +47,10 @@ abbrev pub pick_numbers : Option ℕ → List ℕ
 pick_numbers None = 0 ∷ 0 ∷ []
 pick_numbers (Some byte) = 1 ∷ byte ∷ []
 
--- an instance: its kind, entry, enable bits and I
+-- an instance: kind, entry, enable bits and I
 unfoldable pub inst_numbers : InstKey → List ℕ
 inst_numbers key = kind_numbers key.kind ++ key.entry ∷ key.masks ∷ from_bool key.i ∷ []
 
--- a node: its instance, place, enable bits, I, delay, form of the stack pointer and pick
+-- a node: instance, place, enable bits, I, delay, form of the stack pointer and pick
 unfoldable pub node_numbers : NodeKey → List ℕ
 node_numbers key = inst_numbers key.inst ++ key.pc ∷ key.masks ∷ from_bool key.i ∷ from_bool key.delay ∷ (form_numbers key.sp ++ pick_numbers key.pick)

@@ -20,12 +20,12 @@ use Rattle.mask_states.specs.Place.{AreAmong}
 use Rattle.mask_states.specs.Splits.{splits, IsWritten}
 use Rattle.mask_states.specs.Wakes.{may_enable_barred, may_enable_other, widened}
 
--- keys with the same numbers are the same
+-- keys with equal numbers are equal
 pub record KeysAreTheirNumbers : Type 0 where
   pub insts : (a b : InstKey) → inst_numbers a ≡ inst_numbers b → a ≡ b
   pub nodes : (a b : NodeKey) → node_numbers a ≡ node_numbers b → a ≡ b
 
--- the order is total, and a key is equal to itself alone: by the order, and by the test
+-- the order is total, and only equal keys compare equal
 pub record KeysAreOrdered : Type 0 where
   pub insts : IsTotalOrder inst_cmp
   pub nodes : IsTotalOrder node_cmp
@@ -34,14 +34,15 @@ pub record KeysAreOrdered : Type 0 where
   pub same_insts : (a b : InstKey) → IsTrue (same_inst a b) ↔ (a ≡ b)
   pub same_nodes : (a b : NodeKey) → IsTrue (same_node a b) ↔ (a ≡ b)
 
--- Nodes go by their instances first, so those of one instance are neighbours in an ascending list.
+-- Nodes are ordered by instance first, so nodes of one instance are adjacent in a sorted list.
 pub record NodesGoByInstance : Type 0 where
   pub first : (a b : NodeKey) → inst_cmp a.inst b.inst ≡ Less → node_cmp a b ≡ Less
   pub rises : (a b : NodeKey) → node_cmp a b ≡ Less → (inst_cmp a.inst b.inst ≡ Less) ⊎ (a.inst ≡ b.inst)
   pub between : (a b c : NodeKey) → node_cmp a b ≡ Less → node_cmp b c ≡ Less → a.inst ≡ c.inst → b.inst ≡ a.inst
 
--- What is enabled stays among what may be: by a step that takes an interrupt, by a write of one byte to both, where a bit reads 0, and by a
--- byte that is stored through a pointer, which may wake what isn't barred; by one that can wake nothing it stays among the same.
+-- What is enabled stays among what may be enabled: after an interrupt is taken, after one byte is written to both, after a bit reads 0,
+-- and after a byte is stored through a pointer, which may enable vectors that aren't barred. A byte that can enable nothing leaves the
+-- set.
 pub record EnablesStayAmong : Type 0 where
   pub tested : (enables masks : ℕ) → IsTrue (are_among enables masks) ↔ AreAmong enables masks
   pub enabled : (enables masks v : ℕ) → AreAmong enables masks → is_enabled enables v ≡ true → is_enabled masks v ≡ true
@@ -60,8 +61,8 @@ pub record EnablesStayAmong : Type 0 where
   pub other : (device : Device) (A : List Entry) (p q : ℕ → Bool) (t u : TriByte) → ((a : ℕ) → p a ≡ true → q a ≡ true) → IsWithin t u
       → may_enable_other device A p t ≡ true → may_enable_other device A q u ≡ true
 
--- The splits are what the members of the byte leave: at most 16, ascending, more where the byte stands for more, and m alone at
--- an address without enable bits.
+-- The splits are what writing each member of the byte leaves: at most 16, ascending, monotone, and m alone at an address without enable
+-- bits.
 pub record SplitsAreWrites : Type 0 where
   pub members : (m address : ℕ) (value : TriByte) (n : ℕ) → Contains (splits m address value) n ↔ IsWritten m address value n
   pub ascending : (m address : ℕ) (value : TriByte) → IsStrictlySortedBy nat_cmp (splits m address value)

@@ -1,4 +1,4 @@
--- The order of keys: that of their numbers, number by number.
+-- The lexicographic order of keys by their numbers.
 use Rattle.std.specs.Prelude.{ℕ, Bool, List}
 use Rattle.std.specs.Cmp.Lexicographic.{slice_cmp}
 use Rattle.std.specs.Ordering.{nat_cmp, is_eq}
@@ -7,7 +7,7 @@ use Rattle.mask_states.specs.declared.keys.InstKey.{InstKey}
 use Rattle.mask_states.specs.declared.keys.NodeKey.{NodeKey}
 use Rattle.mask_states.specs.Keys.{inst_numbers, node_numbers}
 
--- the first number that differs decides
+-- the first difference decides
 abbrev pub numbers_cmp : List ℕ → List ℕ → Ordering
 numbers_cmp = slice_cmp nat_cmp
 
@@ -17,7 +17,7 @@ inst_cmp a b = numbers_cmp (inst_numbers a) (inst_numbers b)
 unfoldable pub node_cmp : NodeKey → NodeKey → Ordering
 node_cmp a b = numbers_cmp (node_numbers a) (node_numbers b)
 
--- whether all numbers are the same
+-- whether two instances have the same numbers
 unfoldable pub same_inst : InstKey → InstKey → Bool
 same_inst a b = is_eq (inst_cmp a b)
 

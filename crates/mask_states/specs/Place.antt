@@ -1,4 +1,4 @@
--- What a node's key says of a machine, in a frame with this base: the stack pointer after the frame's entry.
+-- The meaning of a node's key for a machine, in a frame with this base: the stack pointer after the frame's entry.
 use Rattle.std.specs.Prelude.{ℕ, ◌+◌, ◌≡◌, ◌≤◌, ◌<◌, Bool, true, false}
 use Rattle.std.specs.Int.{bit_at}
 use Rattle.avr_model.specs.State.{State, minus16, low, high, i_flag}
@@ -13,22 +13,23 @@ abbrev pub HighIs : ℕ → High → ℕ → Type 0
 HighIs base (Known h) byte = byte ≡ h
 HighIs base (Tag k) byte = byte ≡ high (minus16 base k)
 
--- Closed, the stack pointer is this far below the base. Open, its low byte is still that of the base less the offset, and its
--- high byte is as the form says.
+-- Closed: the stack pointer is the base less the offset. Open: its low byte is still that of the base less the offset, and its high byte
+-- is as the form says.
 abbrev pub SpIs : ℕ → Bool → ℕ → SpForm → Type 0
 SpIs base is_open sp (Closed offset) = (is_open ≡ false) × (sp + offset ≡ base)
 SpIs base is_open sp (Open offset h) = (is_open ≡ true) × (low sp ≡ low (minus16 base offset)) × HighIs base h (high sp)
 
--- each vector that is enabled by the first is enabled by the second
+-- each vector enabled in the first set is enabled in the second
 abbrev pub AreAmong : ℕ → ℕ → Type 0
 AreAmong enables masks = (k : ℕ) → k < 25 → bit_at enables k ≤ bit_at masks k
 
--- The enable bits are the key's; where it says what may be enabled, they are among the key's.
+-- The enable bits equal the key's; if `may`, they are among the key's.
 abbrev pub EnablesAre : Bool → ℕ → ℕ → Type 0
 EnablesAre false enables masks = enables ≡ masks
 EnablesAre true enables masks = AreAmong enables masks
 
--- The machine is at this node, whose key says what is enabled, or what may be; of the pick the machine knows nothing.
+-- The machine is at this node. If `may`, the key has the vectors that may be enabled, else those that are. The pick says nothing of the
+-- machine.
 pub record AtNode (may : Bool) (base : ℕ) (m : State) (key : NodeKey) : Type 0 where
   pub pc : m.pc ≡ key.pc
   pub enables : EnablesAre may m.enables key.masks

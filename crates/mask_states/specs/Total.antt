@@ -1,4 +1,4 @@
--- The laws of the order of keys.
+-- Laws of the order of keys.
 use Rattle.std.proofs.Common.{◌≡◌, refl}
 use Rattle.std.specs.Cmp.{IsTotalOrder, IsPartialOrder, IsEquivalence, IsPartialEquivalence, partial_equiv_from_equiv, partial_order_from_total}
 use Rattle.std.specs.Ordering.{as_partial_cmp, eq_by_cmp}

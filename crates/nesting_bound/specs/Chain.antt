@@ -1,4 +1,4 @@
--- The deepest chain: how calls and interrupts nest where the stack is deepest.
+-- The deepest chain: the nested calls and interrupts at the greatest depth.
 use Rattle.std.specs.Prelude.{◌≡◌, ◌≢◌, ℕ, ◌+◌, ◌≤◌, List, [], ◌∷◌, ◌++◌, Option, Some, None, slice_get, slice_index}
 use Rattle.std.specs.Int.{from_bool}
 use Rattle.std.specs.Cmp.Lexicographic.{slice_cmp}
@@ -13,7 +13,7 @@ use Rattle.nesting_bound.specs.declared.graph.Link.{Link}
 use Rattle.nesting_bound.specs.declared.graph.Place.{Place}
 use Rattle.nesting_bound.specs.Graph.{EntersAlong, HasPlace}
 
--- calls before interrupts, these by vector, and one that keeps its own enable bit before one that clears it
+-- calls before interrupts; interrupts by vector, and one that keeps its own enable bit before one that clears it
 abbrev pub kind_numbers : EdgeKind → List ℕ
 kind_numbers Local = 0 ∷ 0 ∷ 0 ∷ []
 kind_numbers Call = 1 ∷ 0 ∷ 0 ∷ []
@@ -25,37 +25,37 @@ abbrev pub entry_of : Option GraphInst → ℕ
 entry_of None = 0
 entry_of (Some inst) = inst.key.entry
 
--- the numbers by which edges are ordered: node, kind, target, and the number of the instance that is entered
+-- the numbers that order edges: node, kind, target, and the number of the entered instance
 unfoldable pub turn_of : List GraphInst → Entered → List ℕ
 turn_of gs e = e.node ∷ kind_numbers e.kind ++ entry_of (slice_get gs e.into) ∷ e.into ∷ []
 
--- the first number that differs decides
+-- the first difference decides
 unfoldable pub edge_cmp : List GraphInst → Entered → Entered → Ordering
 edge_cmp gs a b = slice_cmp nat_cmp (turn_of gs a) (turn_of gs b)
 
--- x is one of these, and none of them is before it
+-- x has the property, and orders up to each other item that has it
 pub record IsFirst {X : Type 0} (Is : X → Type 0) (IsUpTo : X → X → Type 0) (x : X) : Type 0 where
   pub is : Is x
   pub first : (y : X) → Is y → IsUpTo x y
 
--- a place by its node
+-- places are ordered by node
 abbrev pub IsPlaceUpTo : Place → Place → Type 0
 IsPlaceUpTo p q = p.node ≤ q.node
 
--- an edge by its numbers
+-- edges are ordered by their numbers
 abbrev pub IsEdgeUpTo : List GraphInst → Entered → Entered → Type 0
 IsEdgeUpTo gs e d = edge_cmp gs d e ≢ Less
 
--- a place of instance i at which the stack is as deep as the instance's need
+-- a place of instance i at which the stack is as deep as its need
 abbrev pub IsDeepPlace : List GraphInst → List ℕ → ℕ → Place → Type 0
 IsDeepPlace gs needs i p = HasPlace gs i p × (p.offset ≡ slice_index needs i)
 
--- an edge out of instance i below which the stack becomes as deep as the instance's need
+-- an edge out of instance i that attains its need
 abbrev pub IsDeepEdge : List GraphInst → List ℕ → ℕ → Entered → Type 0
 IsDeepEdge gs needs i e = EntersAlong gs i e × (e.offset + 2 + slice_index needs e.into ≡ slice_index needs i)
 
--- The chain from instance i on, where the base of i is `above` bytes below the root's: it ends at the least place as deep as the
--- need, if there is one, and else goes by the least edge that is.
+-- The chain from instance i on, whose base is `above` bytes below the root's. It ends at the least place as deep as the need, if there is
+-- one; else it follows the least edge that attains the need.
 pub data IsChainFrom (gs : List GraphInst) (needs : List ℕ) : ℕ → ℕ → List Link → Type 0 where
   ends : (i above : ℕ) (p : Place) → IsFirst (IsDeepPlace gs needs i) IsPlaceUpTo p
       → IsChainFrom gs needs i above (record { inst = i; node = p.node; depth = above + p.offset; kind = None } ∷ [])
@@ -63,7 +63,7 @@ pub data IsChainFrom (gs : List GraphInst) (needs : List ℕ) : ℕ → ℕ → 
       → IsChainFrom gs needs e.into (above + e.offset + 2) rest
       → IsChainFrom gs needs i above (record { inst = i; node = e.node; depth = above + e.offset; kind = Some e.kind } ∷ rest)
 
--- the chain from the root on
+-- the chain from the root
 abbrev pub IsChain : List GraphInst → List ℕ → List Link → Type 0
 IsChain gs needs links = IsChainFrom gs needs 0 0 links
 
@@ -71,7 +71,7 @@ IsChain gs needs links = IsChainFrom gs needs 0 0 links
 abbrev pub HasSome : List GraphInst → ℕ → Type 0
 HasSome gs i = (p : Place) × HasPlace gs i p
 
--- the root and each instance that is entered have a place
+-- the root and each entered instance have a place
 pub record HavePlaces (gs : List GraphInst) : Type 0 where
   pub root : HasSome gs 0
   pub entered : (i : ℕ) (e : Entered) → EntersAlong gs i e → HasSome gs e.into

@@ -1,4 +1,4 @@
--- Worked rows of the definitions, as a reader would do them by hand.
+-- Worked rows of the definitions.
 use Rattle.std.specs.Prelude.{◌≡◌, ℕ, refl, true, false, List, [], ◌∷◌, slice_get}
 use Rattle.std.specs.declared.cmp.Ordering.TheVariants.{Less, Greater, Equal}
 use Rattle.mask_states.specs.declared.keys.EdgeKind.TheVariants.{Call, Interrupt}
@@ -68,7 +68,7 @@ the_one_that_keeps_before_the_one_that_clears : edge_cmp firmware (clears 5) (ke
 unfolding edge_cmp turn_of
 the_one_that_keeps_before_the_one_that_clears = refl
 
--- by target, whatever the numbers of the instances
+-- edges are ordered by target, whatever the numbers of the instances
 calls_by_target : edge_cmp firmware (calls 5 2) (calls 5 3) ≡ Greater
 unfolding edge_cmp turn_of
 calls_by_target = refl

@@ -1,4 +1,4 @@
--- A graph of instances: which enters which, and what ranks and needs are.
+-- A graph of instances: its edges, and the meaning of ranks and needs.
 use Rattle.std.specs.Prelude.{◌≡◌, ℕ, ◌+◌, ◌<◌, ◌≤◌, List, length, Some, Contains, slice_get}
 use Rattle.nesting_bound.specs.declared.graph.Entered.{Entered}
 use Rattle.nesting_bound.specs.declared.graph.GraphInst.{GraphInst}
@@ -10,7 +10,7 @@ pub record EntersAlong (gs : List GraphInst) (i : ℕ) (e : Entered) : Type 0 wh
   pub is : slice_get gs i ≡ Some inst
   pub has : Contains inst.entered e
 
--- this is a node of instance i at which the stack pointer is whole
+-- a node of instance i whose stack pointer is whole
 pub record HasPlace (gs : List GraphInst) (i : ℕ) (p : Place) : Type 0 where
   pub inst : GraphInst
   pub is : slice_get gs i ≡ Some inst
@@ -25,13 +25,13 @@ pub data ReachesBy (gs : List GraphInst) : ℕ → ℕ → Type 0 where
 abbrev pub AreGraphRanks : List GraphInst → (ℕ → ℕ) → Type 0
 AreGraphRanks gs rank = (i : ℕ) (e : Entered) → EntersAlong gs i e → rank e.into < rank i
 
--- An instance's need is at least the offset of each of its nodes at which the stack pointer is whole, and, for each instance that it
--- enters, at least the offset there, two bytes for the return address and the need of that instance.
+-- An instance's need is at least the offset of each of its nodes whose stack pointer is whole. For each instance that it enters, it is at
+-- least the offset there, two bytes for the return address, and the need of that instance.
 pub record AreGraphNeeds (gs : List GraphInst) (need : ℕ → ℕ) : Type 0 where
   pub offsets : (i : ℕ) (p : Place) → HasPlace gs i p → p.offset ≤ need i
   pub entered : (i : ℕ) (e : Entered) → EntersAlong gs i e → e.offset + 2 + need e.into ≤ need i
 
--- what a graph must be: 1 to 65,537 instances, each instance that is entered among them, each offset at most 2,048
+-- a valid graph: 1 to 65,537 instances, each entered instance among them, each offset at most 2,048
 pub record IsGraph (gs : List GraphInst) : Type 0 where
   pub some : 0 < length gs
   pub few : length gs ≤ 65537

@@ -3,7 +3,7 @@ use Rattle.std.specs.Prelude.{◌≡◌, ℕ, ◌<◌, ◌≤◌, List, length, 
 use Rattle.nesting_bound.specs.declared.graph.GraphInst.{GraphInst}
 use Rattle.nesting_bound.specs.Graph.{AreGraphRanks, AreGraphNeeds}
 
--- these are ranks and needs, one of each for each instance, and no others are smaller anywhere
+-- ranks and needs, one of each for each instance, and none are smaller anywhere
 pub record IsLeast (gs : List GraphInst) (ranks needs : List ℕ) : Type 0 where
   pub ranks_length : length ranks ≡ length gs
   pub needs_length : length needs ≡ length gs

@@ -1,4 +1,4 @@
--- The instances that are reached from one, marked in a list.
+-- The instances that one instance reaches, as marks in a list.
 use Rattle.std.specs.Prelude.{◌≡◌, ℕ, ◌+◌, ◌*◌, ◌≤◌, Bool, true, false, List, length, Contains, slice_index_or, ◌⊎◌}
 use Rattle.std.specs.List.{sum_by}
 use Rattle.nesting_bound.specs.declared.graph.GraphInst.{GraphInst}
@@ -18,7 +18,7 @@ one_if_new false = 1
 abbrev pub count_new : List Bool → ℕ
 count_new seen = sum_by one_if_new seen
 
--- while marking: what is marked is reached, and each marked one that is not on the stack has all that it enters marked
+-- loop invariant: marked instances are reached, and all successors of a marked one that is not on the stack are marked
 pub record IsMarked (gs : List GraphInst) (from : ℕ) (seen : List Bool) (stack : List ℕ) : Type 0 where
   pub same : length seen ≡ length gs
   pub reached : (j : ℕ) → marked seen j ≡ true → ReachesBy gs from j
@@ -26,7 +26,7 @@ pub record IsMarked (gs : List GraphInst) (from : ℕ) (seen : List Bool) (stack
   pub first : (e : Entered) → EntersAlong gs from e → marked seen e.into ≡ true
   pub rest : (j : ℕ) (e : Entered) → marked seen j ≡ true → EntersAlong gs j e → Contains stack j ⊎ (marked seen e.into ≡ true)
 
--- what it does to mark these
+-- the marks and the stack after the targets of these edges are marked
 pub record IsSpread (es : List Entered) (old : List Bool) (old_stack : List ℕ) (new : List Bool) (new_stack : List ℕ) : Type 0 where
   pub same : length new ≡ length old
   pub kept : (j : ℕ) → marked old j ≡ true → marked new j ≡ true

@@ -1,4 +1,4 @@
--- Where a chain goes on: the first of those looked at so far.
+-- The next step of a chain: the first among those visited so far.
 use Rattle.std.specs.Prelude.{◌++◌, ◌≡◌, ℕ, ◌+◌, ◌<◌, ◌≤◌, length, List, Option, MatchOption, Contains, slice_index}
 use Rattle.nesting_bound.specs.declared.chaining.Turn.{Turn}
 use Rattle.nesting_bound.specs.declared.chaining.Turn.TheVariants.{Ends, Enters}
@@ -9,7 +9,7 @@ use Rattle.nesting_bound.specs.declared.graph.Place.{Place}
 use Rattle.nesting_bound.specs.Graph.{AreGraphNeeds}
 use Rattle.nesting_bound.specs.Chain.{IsFirst, IsPlaceUpTo, IsEdgeUpTo, IsDeepPlace, IsDeepEdge, IsChainFrom, IsChain, HasSome}
 
--- the first of those in the list that are so, if any is
+-- the first item of the list with the property, if any has it
 abbrev pub IsBest : {X : Type 0} → (X → Type 0) → (X → X → Type 0) → List X → Option X → Type 0
 IsBest {X} Is IsUpTo xs best = MatchOption best ((y : X) → Contains xs y → Is y → ⊥) (IsFirst (λ x. Contains xs x × Is x) IsUpTo)
 
@@ -17,11 +17,11 @@ IsBest {X} Is IsUpTo xs best = MatchOption best ((y : X) → Contains xs y → I
 abbrev pub IsBestPlace : ℕ → List Place → Option Place → Type 0
 IsBestPlace need = IsBest (λ p. p.offset ≡ need) IsPlaceUpTo
 
--- the first edge below which the stack becomes so deep
+-- the first edge with this need
 abbrev pub IsBestEdge : List GraphInst → List ℕ → ℕ → List Entered → Option Entered → Type 0
 IsBestEdge gs needs need = IsBest (λ e. e.offset + 2 + slice_index needs e.into ≡ need) (IsEdgeUpTo gs)
 
--- how the chain goes on from instance i
+-- the next step of the chain from instance i
 abbrev pub IsTurn : List GraphInst → List ℕ → ℕ → Turn → Type 0
 IsTurn gs needs i (Ends p) = IsFirst (IsDeepPlace gs needs i) IsPlaceUpTo p
 IsTurn gs needs i (Enters e) = ((p : Place) → IsDeepPlace gs needs i p → ⊥) × IsFirst (IsDeepEdge gs needs i) (IsEdgeUpTo gs) e
@@ -32,7 +32,7 @@ pub record AreLeastNeeds (gs : List GraphInst) (needs : List ℕ) : Type 0 where
   pub are : AreGraphNeeds gs (slice_index needs)
   pub least : (need : ℕ → ℕ) → AreGraphNeeds gs need → (i : ℕ) → i < length gs → slice_index needs i ≤ need i
 
--- The chain from the root on is these links, and then what it is from instance i on, whose base is so many bytes below the root's.
+-- The chain from the root is these links, followed by the chain from instance i, whose base is `above` bytes below the root's.
 pub record IsOnWay (gs : List GraphInst) (needs : List ℕ) (i above : ℕ) (links : List Link) : Type 0 where
   pub inside : i < length gs
   pub place : HasSome gs i

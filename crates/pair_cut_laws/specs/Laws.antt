@@ -1,5 +1,4 @@
--- Laws of cuts: what is left of a state keeps the machine whose test comes out so, says more, and stays such a state as the analysis works
--- with; of more, more is left.
+-- Laws of cuts: a cut keeps each machine whose test has the outcome, is within its argument, is formed, and is monotone.
 use Rattle.std.specs.Prelude.{ℕ, ◌≡◌, ◌<◌, ◌≤◌, ◌==◌, Bool, true, false, Option, Some}
 use Rattle.std.specs.Int.{bit_at, from_bool}
 use Rattle.avr_model.specs.Sreg.{flag}
@@ -19,12 +18,12 @@ use Rattle.abs_state.specs.Hulls.{IsInHulls}
 use Rattle.abs_state.specs.Laws.{HoldsAt}
 use Rattle.pair_cuts.specs.Cuts.{flag_cut, bit_cut, equal_cut, with_index, pick_cut}
 
--- the state stands for the machine, and what it knows of pairs holds
+-- the state and its facts on pairs hold of the machine
 pub record StandsFor (o : Origin) (s : AbsState) (m : State) : Type 0 where
   pub stands : Stands o s m
   pub facts : HoldsAt s.facts m.registers m.sreg
 
--- t is what a cut leaves of s: it says more, has the same tags and slots, and is such a state as the analysis works with where s is
+-- t is within s, has its tags and slots, and is formed if s is
 pub record IsLeftOf (s t : AbsState) (offset : ℕ) : Type 0 where
   pub within : IsStateWithin t s
   pub formed : IsFormed t offset
@@ -38,7 +37,7 @@ pub record IsLeftOf (s t : AbsState) (offset : ℕ) : Type 0 where
 
 -- ---- what is said of a cut
 
--- it keeps each state that stands for the machine
+-- the cut keeps each state that holds of the machine
 abbrev pub KeepsMachine : State → (AbsState → Option AbsState) → Type 0
 KeepsMachine m cut =
     (o : Origin) (s : AbsState) (offset : ℕ) → IsFormed s offset → StandsFor o s m → (t : AbsState) × ((cut s ≡ Some t) × StandsFor o t m)
@@ -46,7 +45,7 @@ KeepsMachine m cut =
 abbrev pub LeavesLess : (AbsState → Option AbsState) → Type 0
 LeavesLess cut = (s t : AbsState) (offset : ℕ) → IsFormed s offset → cut s ≡ Some t → IsLeftOf s t offset
 
--- more is left of more, also where the greater state doesn't follow pairs
+-- the cut is monotone, also if the greater state doesn't follow pairs
 abbrev pub LeavesMoreOfMore : (AbsState → Option AbsState) → Type 0
 LeavesMoreOfMore cut =
     (s s' t : AbsState) (offset : ℕ) → IsFormed s offset → IsFormed s' offset → IsStateWithin s s' → cut s ≡ Some t
@@ -54,7 +53,7 @@ LeavesMoreOfMore cut =
 
 -- ---- the cuts
 
--- Of a flag: where something is left the flag may be so, and C cuts the register that it speaks of.
+-- Cuts by a flag keep each machine with this flag; a cut by C bounds the register of the carry tag.
 pub record FlagsAreCut : Type 0 where
   pub keeps : (n : ℕ) (b : Bool) (m : State) → n < 7 → flag m.sreg n ≡ b → KeepsMachine m (flag_cut n b)
   pub leaves : (n : ℕ) (b : Bool) → n < 7 → LeavesLess (flag_cut n b)
@@ -65,7 +64,7 @@ pub record FlagsAreCut : Type 0 where
   pub from : (s t : AbsState) (offset r k : ℕ) (f : PairFacts) → IsFormed s offset → s.facts ≡ Some f → s.flags.carry ≡ carry.Less r k → flag_cut 0 false s ≡ Some t
       → k ≤ (value_at t.registers r).low
 
--- Of one bit of a register.
+-- Cuts by one bit of a register.
 pub record BitsAreCut : Type 0 where
   pub keeps : (r bit : ℕ) (on : Bool) (m : State) → r < 32 → bit < 8 → bit_at (register m r) bit ≡ from_bool on → KeepsMachine m (bit_cut r bit on)
   pub leaves : (r bit : ℕ) (on : Bool) → r < 32 → bit < 8 → LeavesLess (bit_cut r bit on)
@@ -73,8 +72,8 @@ pub record BitsAreCut : Type 0 where
   pub may : (r bit : ℕ) (on : Bool) (s t : AbsState) (f : PairFacts) → s.facts ≡ Some f → bit_cut r bit on s ≡ Some t
       → Permits (tri_at (value_at s.registers r).bits bit) (from_bool on)
 
--- Of two registers that are equal or aren't. Which of the two is cut goes by what is known, so of more more is left where the intervals of the
--- lesser state lie in their hulls; where the greater one doesn't follow pairs, what is left lies within it.
+-- Cuts by two equal or different registers. Which one is cut depends on what is known, so the cut is monotone if the intervals of the
+-- lesser state lie in their hulls. If the greater state doesn't follow pairs, the lesser cut is within it.
 pub record EqualsAreCut : Type 0 where
   pub keeps : (d r : ℕ) (b : Bool) (m : State) → d < 32 → r < 32 → (register m d == register m r) ≡ b → KeepsMachine m (equal_cut d r b)
   pub leaves : (d r : ℕ) (b : Bool) → d < 32 → r < 32 → LeavesLess (equal_cut d r b)
@@ -83,7 +82,7 @@ pub record EqualsAreCut : Type 0 where
   pub may : (d r : ℕ) (b : Bool) (s t : AbsState) → equal_cut d r b s ≡ Some t
       → Permits (byte_equal (value_at s.registers d).bits (value_at s.registers r).bits) (from_bool b)
 
--- Of the byte that is picked: what is left is left of the state with this byte.
+-- Cuts by a picked byte: each lies within the state with this byte.
 pub record PicksAreCut : Type 0 where
   pub keeps : (byte : ℕ) (m : State) → byte < 256 → register m 30 ≡ byte → KeepsMachine m (pick_cut byte)
   pub leaves : (byte : ℕ) (s t : AbsState) (offset : ℕ) → IsFormed s offset → pick_cut byte s ≡ Some t → IsLeftOf (with_index byte s) t offset

@@ -22,7 +22,7 @@ set_pair registers n p = slice_set (slice_set registers (2 * n) p.low) (2 * n + 
 abbrev pub with_bytes : AbsState → PairFacts → ℕ → PairBytes → AbsState
 with_bytes s f n p = record s { registers = set_pair s.registers n p; facts = Some (record f { intervals = slice_set f.intervals n p.interval }) }
 
--- what is left of the pair is written back; without pairs the state stays
+-- writes back the cut pair; if pairs aren't followed the state stays
 abbrev pub put_known : AbsState → ℕ → Option PairBytes → Option PairFacts → Option AbsState
 put_known s n o None = Some s
 put_known s n None (Some f) = None
@@ -35,6 +35,6 @@ put s n o = put_known s n o s.facts
 abbrev pub byte_left : ℕ → (ByteSet → Option ByteSet) → PairBytes → Option PairBytes
 byte_left r cut p = left_by p (on_byte r cut (sets p))
 
--- the bytes from low to high as an interval
+-- the range of a byte as an interval
 abbrev pub ranged : ℕ → ℕ → Interval
 ranged low high = record { low = low; high = high }

@@ -1,5 +1,5 @@
--- The states behind a test, where its outcome is known. There is none where the test can't come out so, and where nothing is left of a
--- register or a pair. Source: own.
+-- The states after a test with a known outcome. A state is none if the outcome is impossible, or nothing is left of a register or a pair.
+-- Source: own.
 use Rattle.std.specs.Prelude.{ℕ, ◌+◌, ◌-◌, ◌*◌, ◌%◌, ◌==◌, ◌&&◌, Bool, true, false, if◌then◌else◌, List, Option, Some, None, slice_set}
 use Rattle.std.specs.Int.{from_bool}
 use Rattle.bit_domain.specs.declared.bytes.TriByte.{TriByte}
@@ -32,18 +32,18 @@ use Rattle.pair_cuts.specs.Outcomes.{left_part, right_part, outcome_of}
 abbrev pub just : ℕ → Interval
 just k = record { low = k; high = k }
 
--- what is left of x where it is k, and where it isn't
+-- x cut to k if `equal`, else x without k
 abbrev pub equal_part : Bool → ℕ → Interval → Option Interval
 equal_part true k x = Some (just k)
 equal_part false k x = off x (just k)
 
--- the number at a place is k where `equal`, else it isn't
+-- the number at a place is k if `equal`, else it isn't
 abbrev pub same_cut : CutPlace → Bool → ℕ → AbsState → Option AbsState
 same_cut p equal k s = narrow_to p (equal_part equal k (range_at s p)) s
 
 -- ---- flags
 
--- C tells whether a register is below k
+-- the bytes below k, or from k on
 abbrev pub below_part : Bool → ℕ → Option Interval
 below_part true k = if k == 0 then None else Some (record { low = 0; high = k - 1 })
 below_part false k = Some (record { low = k; high = 255 })
@@ -57,7 +57,7 @@ less_by (carry.Less r k) b s = narrow_to (place.Byte r) (below_part b k) s
 abbrev pub less_cut : ℕ → Bool → AbsState → Option AbsState
 less_cut n b s = if n == 0 then less_by s.flags.carry b s else Some s
 
--- Z tells whether a register or a pair is 0
+-- cuts the register or pair of a zero tag to 0, or to other numbers
 abbrev pub zero_by : ZeroTag → Bool → AbsState → Option AbsState
 zero_by zero.None b s = Some s
 zero_by (zero.Byte x) b s = same_cut (place.Byte x) b 0 s
@@ -66,7 +66,7 @@ zero_by (zero.Pair r) b s = same_cut (place.Pair r) b 0 s
 abbrev pub zero_cut : ℕ → Bool → AbsState → Option AbsState
 zero_cut n b s = if n == 1 then zero_by (known_or_nothing s.facts).zero b s else Some s
 
--- C, Z and S tell how two sides compare. The right side of a comparison of bytes, and its range.
+-- The right side of a comparison of bytes, and its range.
 abbrev pub side_place : Side → CutPlace
 side_place (side.Byte k) = place.Neither
 side_place (side.Register q) = place.Byte q
@@ -75,7 +75,7 @@ abbrev pub side_range : List AbsByte → Side → Interval
 side_range registers (side.Byte k) = just k
 side_range registers (side.Register q) = range_of registers q
 
--- The right side of a comparison of pairs: the pair of q where it is registers q and q + 1; else its range is from the least bytes to the
+-- The right side of a comparison of pairs: the pair of q if the sides are registers q and q + 1, else a range from the least bytes to the
 -- greatest.
 abbrev pub pair_place : Side → ℕ → CutPlace
 pair_place (side.Byte k) p = place.Neither
@@ -89,13 +89,13 @@ pair_range s place.Neither y p = word_range (side_range s.registers y) (range_of
 pair_range s (place.Byte q) y p = word_range (side_range s.registers y) (range_of s.registers p)
 pair_range s (place.Pair q) y p = interval_of s.facts q
 
--- the left side is cut first, and then the right one
+-- cuts the left side first, and then the right side
 abbrev pub narrow_both : CutPlace → CutPlace → Option Interval → Option Interval → AbsState → Option AbsState
 narrow_both left right None j s = None
 narrow_both left right (Some i) None s = None
 narrow_both left right (Some i) (Some j) s = after (narrow_at left i s) (narrow_at right j)
 
--- both, whose ranges are x and y
+-- cuts both sides, whose ranges are x and y
 abbrev pub both_cut : Outcome → ℕ → CutPlace → CutPlace → Interval → Interval → AbsState → Option AbsState
 both_cut o half left right x y s = narrow_both left right (left_part o half x y) (right_part o x y) s
 
@@ -111,25 +111,25 @@ compare_told (Some o) s = compare_by (known_or_nothing s.facts).compare o s
 abbrev pub compare_cut : ℕ → Bool → AbsState → Option AbsState
 compare_cut n b s = compare_told (outcome_of n b) s
 
--- the bits where one of them is on, or off; none where it is known to be the other
+-- the bits with this bit set or clear; none if it is known to be the other
 abbrev pub bit_known : TriByte → ℕ → Bool → Option TriByte
 bit_known bits n on = if permits (tri_at bits n) (from_bool on) then Some (byte_with bits n (tri_bit (from_bool on))) else None
 
 abbrev pub flags_known : TriByte → AbsState → Option AbsState
 flags_known bits s = Some (record s { flags = record s.flags { bits = bits } })
 
--- what C tells of a register, what Z tells of a register or a pair, what the three tell of two sides, in this order, and then the flag itself
+-- the cuts by the carry tag, by the zero tag and by the compare tag, in this order, and then the flag itself
 abbrev pub flag_by : ℕ → Bool → Option TriByte → AbsState → Option AbsState
 flag_by n b None s = None
 flag_by n b (Some bits) s = after (after (after (less_cut n b s) (zero_cut n b)) (compare_cut n b)) (flags_known bits)
 
--- The state where flag n, below 7, is b.
+-- The state if flag n, below 7, is b.
 abbrev pub flag_cut : ℕ → Bool → AbsState → Option AbsState
 flag_cut n b s = flag_by n b (bit_known s.flags.bits n b) s
 
 -- ---- one bit of a register
 
--- the bytes whose bit is on, or off
+-- the bytes with the bit set, or clear
 abbrev pub bytes_by : Option TriByte → ByteSet → Option ByteSet
 bytes_by None b = None
 bytes_by (Some bits) b = narrow (record b { bits = bits }) 0 255
@@ -137,19 +137,19 @@ bytes_by (Some bits) b = narrow (record b { bits = bits }) 0 255
 abbrev pub with_bit : ℕ → Bool → ByteSet → Option ByteSet
 with_bit bit on b = bytes_by (bit_known b.bits bit on) b
 
--- The state where this bit of register r is on, or off.
+-- The state if this bit of register r is set, or clear.
 abbrev pub bit_cut : ℕ → ℕ → Bool → AbsState → Option AbsState
 bit_cut r bit on s = cut_byte r (with_bit bit on) s
 
 -- ---- two registers that are compared by `cpse`
 
--- a known one tells of the other: r of d, else d of r
+-- if one register is known, cuts the other: r by d, else d by r
 abbrev pub equal_by : ℕ → ℕ → Bool → Option ℕ → Option ℕ → AbsState → Option AbsState
 equal_by d r equal (Some k) x s = same_cut (place.Byte d) equal k s
 equal_by d r equal None (Some k) s = same_cut (place.Byte r) equal k s
 equal_by d r equal None None s = Some s
 
--- The state where registers d and r are equal, or aren't.
+-- The state if registers d and r are equal, or differ.
 abbrev pub equal_cut : ℕ → ℕ → Bool → AbsState → Option AbsState
 equal_cut d r equal s =
     if permits (byte_equal (value_at s.registers d).bits (value_at s.registers r).bits) (from_bool equal)
@@ -158,10 +158,10 @@ equal_cut d r equal s =
 
 -- ---- the pick of a jump table's entry
 
--- register 30 is this byte, with its tag as it was
+-- register 30 is this byte; its tag stays
 abbrev pub with_index : ℕ → AbsState → AbsState
 with_index byte s = record s { registers = slice_set s.registers 30 (with_bits (value_at s.registers 30).tag (byte_known byte)) }
 
--- The state where this byte is picked: where pairs aren't followed, this alone.
+-- The state if this byte is picked; if pairs aren't followed only the register changes.
 abbrev pub pick_cut : ℕ → AbsState → Option AbsState
 pick_cut byte s = cut_pair 30 (with_index byte s)

@@ -1,4 +1,4 @@
--- Worked cases of the cuts, as a reader would do them by hand.
+-- Worked cases of the cuts.
 use Rattle.std.specs.Prelude.{ℕ, ◌≡◌, ◌/◌, refl, true, false, List, [], ◌∷◌, Option, Some, None, slice_set}
 use Rattle.bit_domain.specs.Packed.{packed}
 use Rattle.bit_domain.specs.TriByte.{permits_below, byte_any}
@@ -66,7 +66,7 @@ flag_is_known : shown 24 (flag_cut 0 true following_root) ≡ []
 unfolding packed all_below permits_below least_from greatest_from
 flag_is_known = refl
 
--- N tells nothing but itself
+-- N is cut alone
 flag_alone : shown 24 (flag_cut 2 true (less (carry.Less 24 16))) ≡ (0 ∷ 255 ∷ []) ∷ (0 ∷ 0xFFFF ∷ []) ∷ (4 ∷ 4 ∷ []) ∷ []
 unfolding packed all_below permits_below least_from greatest_from
 flag_alone = refl
@@ -140,7 +140,7 @@ left_is_not_right : shown 24 (flag_cut 1 false (is 22 9 two)) ≡ (3 ∷ 8 ∷ [
 unfolding packed all_below permits_below least_from greatest_from
 left_is_not_right = refl
 
--- a signed comparison tells nothing of the right side
+-- a signed comparison does not cut the right side
 right_stays : shown 22 (flag_cut 4 true two) ≡ (0 ∷ 255 ∷ []) ∷ (0 ∷ 0xFFFF ∷ []) ∷ (16 ∷ 16 ∷ []) ∷ []
 unfolding packed all_below permits_below least_from greatest_from
 right_stays = refl
@@ -187,7 +187,7 @@ bit_is_known : shown 24 (bit_cut 24 0 true (is 24 6 start)) ≡ []
 unfolding packed all_below permits_below least_from greatest_from
 bit_is_known = refl
 
--- from 6 to 9 the bytes with bit 3 are 8 and 9
+-- the bytes from 6 to 9 with bit 3 set are 8 and 9
 bit_moves_the_range : shown 24 (bit_cut 24 3 true (from 24 6 9 start)) ≡ (8 ∷ 9 ∷ []) ∷ (8 ∷ 0xFF09 ∷ []) ∷ (0 ∷ 0 ∷ []) ∷ []
 unfolding packed all_below permits_below least_from greatest_from
 bit_moves_the_range = refl
@@ -224,7 +224,7 @@ picked_outside : shown 30 (pick_cut 7 (paired 30 0 5)) ≡ []
 unfolding packed all_below permits_below least_from greatest_from
 picked_outside = refl
 
--- where pairs aren't followed, the byte alone
+-- if pairs aren't followed, only the register changes
 picked_alone : shown 30 (pick_cut 7 root) ≡ (7 ∷ 7 ∷ []) ∷ (0 ∷ 0xFFFF ∷ []) ∷ (127 ∷ 0 ∷ []) ∷ []
 unfolding packed all_below permits_below least_from greatest_from
 picked_alone = refl

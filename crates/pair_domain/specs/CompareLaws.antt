@@ -1,4 +1,4 @@
--- Laws of comparisons: what the flags tell after `cp` and `cpc`, and that a cut keeps what agrees with the outcome and leaves more of more.
+-- Laws of comparisons: the flags after `cp` and `cpc`. A cut keeps each pair of numbers with the outcome, and is monotone.
 use Rattle.std.specs.Prelude.{ℕ, ◌+◌, ◌*◌, ◌≡◌, ◌≢◌, ◌<◌, ◌≤◌, true, false, Option, Some}
 use Rattle.avr_model.specs.Sreg.{flag}
 use Rattle.avr_model.specs.Sums.{flags_of_difference}
@@ -7,15 +7,15 @@ use Rattle.pair_domain.specs.Intervals.{InInterval, IsIntervalWithin, interval_m
 use Rattle.pair_domain.specs.Tags.{signed_below, IsCompared}
 use Rattle.pair_domain.specs.Compare.{left_below, left_from, right_above, right_to, off, left_less, left_not_less}
 
--- what is left is there, and has x
+-- something is left, and x is in it
 abbrev pub KeepsMember : Option Interval → ℕ → Type 0
 KeepsMember o x = (m : Interval) × ((o ≡ Some m) × InInterval m x)
 
--- more is left by the second
+-- if the first leaves something, the second leaves at least as much
 abbrev pub LeavesMore : Option Interval → Option Interval → Type 0
 LeavesMore o p = (m : Interval) → o ≡ Some m → (n : Interval) × ((p ≡ Some n) × IsIntervalWithin m n)
 
--- C and Z after a comparison of bytes, and after one of the high bytes that goes on from it
+-- C and Z after a comparison of bytes, and after `cpc` of the high bytes
 pub record ComparesAreTold : Type 0 where
   pub low : (x y sreg : ℕ) → x < 256 → y < 256
       → IsCompared 128 x y (flag (flags_of_difference x y false false sreg) 0) (flag (flags_of_difference x y false false sreg) 1) (flag (flags_of_difference x y false false sreg) 4)

@@ -1,4 +1,4 @@
--- Worked cases of the definitions, as a reader would do them by hand.
+-- Worked cases of the definitions.
 use Rattle.std.specs.Prelude.{ℕ, ◌≡◌, ◌==◌, refl, true, List, [], ◌∷◌, Option, Some, None, if◌then◌else◌}
 use Rattle.bit_domain.specs.declared.bits.Tri.TheVariants.{Zero, Any}
 use Rattle.bit_domain.specs.Packed.{packed}
@@ -32,7 +32,7 @@ any = record { bits = byte_any; low = 0; high = 255 }
 abbrev even : ByteSet
 even = record { bits = byte_of (λ i. if i == 0 then Zero else Any); low = 0; high = 254 }
 
--- the known bits, their values, and the ends of what is left
+-- the known bits, their values, and the ends of the range that is left
 abbrev told : Option ByteSet → List ℕ
 told None = []
 told (Some s) = s.bits.known ∷ s.bits.value ∷ s.low ∷ s.high ∷ []
@@ -83,7 +83,7 @@ two_pages : told_of_pair (narrow_pair any_pair (from 0x01F0 0x0210))
 unfolding packed all_below permits_below least_from greatest_from
 two_pages = refl
 
--- the interval is cut to the hull of the bytes that are left
+-- the interval is cut to the hull of the remaining bytes
 cut_to_the_hull : told_of_pair (narrow_pair (record { low = any; high = even; interval = whole }) (from 0x0180 0x02FF))
     ≡ (0 ∷ 0 ∷ 0 ∷ 255 ∷ []) ∷ (0xFD ∷ 0 ∷ 2 ∷ 2 ∷ []) ∷ (0x0200 ∷ 0x02FF ∷ []) ∷ []
 unfolding packed all_below permits_below least_from greatest_from
@@ -97,7 +97,7 @@ no_common_number = refl
 
 -- ---- sums and differences
 
--- numbers that wrap, all or none of them, are told, and others not
+-- a sum is told if all numbers wrap or none does
 sum_below : moved_up (from 10 20) 5 ≡ just 15 25
 sum_below = refl
 
@@ -129,14 +129,14 @@ low_byte_is_added = refl
 carry_is_added : carried_up 0x0300 0x0308 0 0 ≡ just 0x0200 0x0208
 carry_is_added = refl
 
--- 0x0200 less a low byte from 1 to 3: 0x02FF to 0x02FD with C, and taking 0 and the borrow off gives 0x01FD to 0x01FF
+-- 0x0200 less a low byte from 1 to 3 gives 0x02FF to 0x02FD with C; subtracting 0 and the borrow gives 0x01FD to 0x01FF
 low_byte_is_taken_off : down_tag 24 (from 0x0200 0x0200) 1 3 ≡ sum.Down 24 0x02FD 0x02FF
 low_byte_is_taken_off = refl
 
 borrow_is_taken_off : carried_down 0x02FD 0x02FF 0 0 ≡ just 0x01FD 0x01FF
 borrow_is_taken_off = refl
 
--- ends that are 65,535 apart aren't kept, and those that are 65,534 apart are
+-- ends that are 65,535 apart aren't kept; ends that are 65,534 apart are
 sum_of_any_pair : up_tag 24 whole 5 5 ≡ sum.None
 sum_of_any_pair = refl
 
@@ -160,7 +160,7 @@ sum_and_difference = refl
 sums_of_two_pairs : sum_join (sum.Up 24 256 256) (sum.Up 26 256 256) ≡ sum.None
 sums_of_two_pairs = refl
 
--- a byte and a register of the same number aren't one side
+-- a byte and a register with the same number are different sides
 sides_differ : compare_join (compare.Byte 24 (side.Byte 3)) (compare.Byte 24 (side.Register 3)) ≡ compare.None
 sides_differ = refl
 
@@ -181,7 +181,7 @@ above_three = refl
 up_to_nine : right_to (from 3 9) (from 0 255) ≡ just 0 9
 up_to_nine = refl
 
--- a number that is an end is taken off, one inside isn't, and of two none is
+-- a number that is an end of x is cut off, one inside isn't; an interval of two numbers cuts nothing
 off_the_low_end : off (from 0 10) (from 0 0) ≡ just 1 10
 off_the_low_end = refl
 
@@ -201,7 +201,7 @@ off_all = refl
 signed_order : signed_below 128 255 0 ≡ true
 signed_order = refl
 
--- of 0 to 127 those that are signed below 5; of all the negative ones are, too, so nothing is cut; below -1 are 128 to 254
+-- of 0 to 127 those signed below 5 remain; all negative numbers are below 5, so nothing is cut; below -1 lie 128 to 254
 less_than_five : left_less 128 (from 0 127) (from 5 5) ≡ just 0 4
 less_than_five = refl
 

@@ -1,4 +1,4 @@
--- What is known of all pairs and of the flags that speak of them. Source: own.
+-- The facts of the pair domain: intervals of all pairs, and tags of the flags. Source: own.
 use Rattle.std.specs.Prelude.{ℕ, ◌*◌, ◌≡◌, ◌<◌, ⊤, Bool, true, false, List, [], ◌∷◌, length, replicate, slice_index_or, Box, Option, Some, None}
 use Rattle.std.specs.Global.{Global}
 use Rattle.pair_domain.specs.declared.intervals.Interval.{Interval}
@@ -9,11 +9,11 @@ use Rattle.pair_domain.specs.declared.facts.PairFacts.{PairFacts}
 use Rattle.pair_domain.specs.Intervals.{whole, InInterval, IsIntervalWithin, interval_join}
 use Rattle.pair_domain.specs.Tags.{pair_number, SumHolds, CompareHolds, ZeroHolds, IsSumTagWithin, IsCompareWithin, IsZeroWithin, IsNear, sum_join, compare_join, zero_join}
 
--- nothing is known
+-- the top element: any interval, no tag
 abbrev pub nothing : PairFacts
 nothing = record { intervals = replicate 16 whole; sum = sum.None; compare = compare.None; zero = zero.None }
 
--- the facts that are kept
+-- the facts behind the box
 abbrev pub seen : Option (Box PairFacts Global) → Option PairFacts
 seen None = None
 seen (Some known) = Some known.value
@@ -36,14 +36,14 @@ pub record FactsHold (f : PairFacts) (registers : List ℕ) (c z s : Bool) : Typ
 
 -- ---- order and join
 
--- g says no more than f
+-- each fact of g is at least as weak as that of f
 pub record AreFactsWithin (f g : PairFacts) : Type 0 where
   pub intervals : (n : ℕ) → n < 16 → IsIntervalWithin (interval_at f.intervals n) (interval_at g.intervals n)
   pub sum : IsSumTagWithin f.sum g.sum
   pub compare : IsCompareWithin f.compare g.compare
   pub zero : IsZeroWithin f.zero g.zero
 
--- pair by pair
+-- joins the intervals pair by pair
 unfoldable pub intervals_join : List Interval → List Interval → List Interval
 intervals_join [] js = []
 intervals_join (i ∷ is) [] = []
@@ -58,7 +58,7 @@ facts_join f g =
       zero = zero_join f.zero g.zero;
     }
 
--- u is the least above f and g
+-- u is the least upper bound of f and g
 pub record AreLeastFactsAbove (f g u : PairFacts) : Type 0 where
   pub first : AreFactsWithin f u
   pub second : AreFactsWithin g u
@@ -66,7 +66,7 @@ pub record AreLeastFactsAbove (f g u : PairFacts) : Type 0 where
 
 -- ---- where pairs are followed, and where they aren't
 
--- what is known of a pair where pairs aren't followed is nothing
+-- facts hold; a state that doesn't follow pairs claims nothing
 abbrev pub KnownHolds : Option PairFacts → List ℕ → Bool → Bool → Bool → Type 0
 KnownHolds None registers c z s = ⊤
 KnownHolds (Some f) registers c z s = FactsHold f registers c z s
@@ -79,7 +79,7 @@ abbrev pub IsKnownNear : Option PairFacts → Type 0
 IsKnownNear None = ⊤
 IsKnownNear (Some f) = IsNear f.sum
 
--- sixteen intervals, and a sum tag that is kept
+-- sixteen intervals, and a sum tag whose ends are kept
 pub record AreFactsKept (x : Option PairFacts) : Type 0 where
   pub sixteen : HasSixteen x
   pub near : IsKnownNear x
@@ -88,12 +88,12 @@ abbrev pub is_followed : Option PairFacts → Bool
 is_followed None = false
 is_followed (Some f) = true
 
--- these facts, where pairs are followed
+-- these facts, if pairs are followed
 abbrev pub known_set : Option PairFacts → PairFacts → Option PairFacts
 known_set None g = None
 known_set (Some f) g = Some g
 
--- none is above all
+-- none is above all facts
 abbrev pub IsKnownWithin : Option PairFacts → Option PairFacts → Type 0
 IsKnownWithin x None = ⊤
 IsKnownWithin None (Some g) = ⊥

@@ -1,5 +1,5 @@
--- Laws of intervals, of the tags of flags and of facts: they are ordered, a join is the least above both, what says less holds where more
--- holds, and none is above a height.
+-- Laws of intervals, tags of flags and facts: their order, joins as least upper bounds, that facts hold of more in a greater element, and
+-- a height.
 use Rattle.std.specs.Prelude.{ℕ, ◌+◌, ◌*◌, ◌≡◌, ◌<◌, ◌≤◌, ◌↔◌, ◌⊎◌, ◌&&◌, Bool, List, length, Option, Some, None}
 use Rattle.bit_domain.specs.Ranges.{ByteSet, SetHas, IsSetWithin}
 use Rattle.pair_domain.specs.declared.intervals.Interval.{Interval}
@@ -12,8 +12,8 @@ use Rattle.pair_domain.specs.Tags.{SumHolds, CompareHolds, ZeroHolds, IsSumTagWi
 use Rattle.pair_domain.specs.Facts.{is_followed, nothing, FactsHold, AreFactsWithin, facts_join, AreLeastFactsAbove, HasSixteen, IsKnownNear, KnownHolds, IsKnownWithin, known_join}
 use Rattle.pair_domain.specs.Rank.{FactsFit, KnownFits, facts_rank, facts_height, known_rank}
 
--- `within` is a partial order on intervals, and a join is the least above both; a meet holds just what both hold, lies below both and says
--- less where both say less
+-- `within` is a partial order on intervals and a join is the least upper bound; a meet has exactly the numbers in both, lies below both
+-- and is monotone
 pub record IntervalsAreOrdered : Type 0 where
   pub same : (i : Interval) → IsIntervalWithin i i
   pub through : (i j k : Interval) → IsIntervalWithin i j → IsIntervalWithin j k → IsIntervalWithin i k
@@ -23,7 +23,7 @@ pub record IntervalsAreOrdered : Type 0 where
   pub least : (i j k : Interval) → IsIntervalWithin i k → IsIntervalWithin j k → IsIntervalWithin (interval_join i j) k
   pub top : (i : Interval) → i.high < 65536 → IsIntervalWithin i whole
 
--- A number that lies in both lies in the meet, which is there; the meet lies in both; where both say less it is there and says less.
+-- The meet of two intervals with a common number exists and has it. A meet is within both, and is monotone.
 pub record IntervalsMeet : Type 0 where
   pub meets : (i j : Interval) (x : ℕ) → InInterval i x → InInterval j x → (m : Interval) × ((interval_meet i j ≡ Some m) × InInterval m x)
   pub under : (i j m : Interval) → interval_meet i j ≡ Some m → IsIntervalWithin m i × IsIntervalWithin m j
@@ -32,12 +32,13 @@ pub record IntervalsMeet : Type 0 where
       → (m' : Interval) × ((interval_meet i' j' ≡ Some m') × IsIntervalWithin m m')
   pub none : (i j : Interval) → i.low ≤ i.high → j.low ≤ j.high → interval_meet i j ≡ None ↔ ((x : ℕ) → InInterval i x → InInterval j x → ⊥)
 
--- the number of a pair lies in the hull of its bytes, which says less where they do
+-- the number of a pair lies in the hull of its bytes, and the hull is monotone
 pub record HullsHold : Type 0 where
   pub holds : (lo hi : ByteSet) (x y : ℕ) → SetHas lo x → SetHas hi y → InInterval (hull lo hi) (x + 256 * y)
   pub more : (lo hi lo' hi' : ByteSet) → IsSetWithin lo lo' → IsSetWithin hi hi' → IsIntervalWithin (hull lo hi) (hull lo' hi')
 
--- `within` is a partial order on tags of flags, of sums on those that are kept, and a join is the least above both; what isn't kept is above all
+-- `within` is a partial order on tags, for sum tags on those that are kept; a join is the least upper bound; a sum tag that isn't kept is
+-- above all
 pub record SumsAreOrdered : Type 0 where
   pub same : (t : SumTag) → IsSumTagWithin t t
   pub through : (t u v : SumTag) → IsSumTagWithin t u → IsSumTagWithin u v → IsSumTagWithin t v
@@ -64,7 +65,7 @@ pub record ZerosAreOrdered : Type 0 where
   pub second : (t u : ZeroTag) → IsZeroWithin u (zero_join t u)
   pub least : (t u v : ZeroTag) → IsZeroWithin t v → IsZeroWithin u v → IsZeroWithin (zero_join t u) v
 
--- the same of facts, of sixteen pairs each; of these that fit, nothing is above all
+-- `within` is a partial order on facts of sixteen pairs, a join is the least upper bound, and `nothing` is above all that fit
 pub record FactsAreOrdered : Type 0 where
   pub same : (f : PairFacts) → AreFactsWithin f f
   pub through : (f g h : PairFacts) → AreFactsWithin f g → AreFactsWithin g h → AreFactsWithin f h
@@ -75,7 +76,7 @@ pub record FactsAreOrdered : Type 0 where
       → AreFactsWithin f f' → AreFactsWithin g g' → AreFactsWithin (facts_join f g) (facts_join f' g')
   pub top : (f : PairFacts) → FactsFit f → AreFactsWithin f nothing
 
--- what holds still holds where less is said, and nothing always holds
+-- what holds of facts holds of greater ones, and `nothing` always holds
 pub record FactsSayLess : Type 0 where
   pub interval : (i j : Interval) (x : ℕ) → IsIntervalWithin i j → InInterval i x → InInterval j x
   pub sum : (registers : List ℕ) (t u : SumTag) (c : Bool) → IsSumTagWithin t u → SumHolds registers t c → SumHolds registers u c
@@ -83,14 +84,14 @@ pub record FactsSayLess : Type 0 where
   pub zero : (registers : List ℕ) (t u : ZeroTag) (z : Bool) → IsZeroWithin t u → ZeroHolds registers t z → ZeroHolds registers u z
   pub facts : (f g : PairFacts) (registers : List ℕ) (c z s : Bool) → AreFactsWithin f g → FactsHold f registers c z s → FactsHold g registers c z s
 
--- Of two facts of which the second says no more, they are the same or the second is further up; none is above the height; joins fit.
+-- Greater facts are equal or of greater rank; no rank exceeds the height; joins fit.
 pub record FactsRise : Type 0 where
   pub rises : (f g : PairFacts) → FactsFit f → FactsFit g → AreFactsWithin f g → (f ≡ g) ⊎ (facts_rank f < facts_rank g)
   pub high : (f : PairFacts) → FactsFit f → facts_rank f ≤ facts_height
   pub joins_fit : (f g : PairFacts) → FactsFit f → FactsFit g → FactsFit (facts_join f g)
   pub nothing_fits : FactsFit nothing
 
--- The same of what is known where pairs are followed and where they aren't.
+-- `FactsAreOrdered` and `FactsRise` for optional facts: none if pairs aren't followed.
 pub record KnownIsOrdered : Type 0 where
   pub same : (x : Option PairFacts) → IsKnownWithin x x
   pub through : (x y w : Option PairFacts) → IsKnownWithin x y → IsKnownWithin y w → IsKnownWithin x w

@@ -1,5 +1,5 @@
--- How far up facts are: one for each step from the low end of an interval or a sum tag to its high end, and one for each compare
--- and zero tag that there is none of. The ends of a sum tag have five hexadecimal digits. Source: own.
+-- The rank of facts: high - low of each interval and of the sum tag, and one for each missing compare and zero tag. The ends of a sum tag
+-- have five hexadecimal digits. Source: own.
 use Rattle.std.specs.Prelude.{ℕ, ◌+◌, ◌-◌, ◌*◌, ◌%◌, ◌≡◌, ◌<◌, ◌≤◌, ⊤, List, [], ◌∷◌, length, Option, Some, None}
 use Rattle.pair_domain.specs.declared.intervals.Interval.{Interval}
 use Rattle.pair_domain.specs.declared.tags.SumTag.{SumTag}
@@ -19,12 +19,12 @@ pub record IntervalFits (i : Interval) : Type 0 where
   pub ordered : i.low ≤ i.high
   pub small : i.high < 65536
 
--- r is that of a pair
+-- r is the low register of a pair
 pub record IsPair (r : ℕ) : Type 0 where
   pub register : r < 32
   pub even : r % 2 ≡ 0
 
--- r is that of a pair, and the ends are ordered, are kept and have five hexadecimal digits
+-- r is the low register of a pair, and the ends are ordered, are kept and have five hexadecimal digits
 pub record EndsFit (r a b : ℕ) : Type 0 where
   pub pair : IsPair r
   pub ordered : a ≤ b
@@ -40,7 +40,7 @@ abbrev pub SideFits : Side → Type 0
 SideFits (side.Byte k) = k < 256
 SideFits (side.Register q) = q < 32
 
--- the tag is of some of the 32 registers, and of pairs of them
+-- the tag names some of the 32 registers, and pairs of them
 abbrev pub CompareFits : CompareTag → Type 0
 CompareFits compare.None = ⊤
 CompareFits (compare.Byte x y) = (x < 32) × SideFits y
@@ -85,7 +85,7 @@ intervals_rank (i ∷ is) = interval_rank i + intervals_rank is
 abbrev pub facts_rank : PairFacts → ℕ
 facts_rank f = intervals_rank f.intervals + sum_rank f.sum + compare_rank f.compare + zero_rank f.zero
 
--- no facts are further up
+-- the greatest rank of facts
 abbrev pub facts_height : ℕ
 facts_height = 17 * 65535 + 2
 
@@ -93,7 +93,7 @@ abbrev pub KnownFits : Option PairFacts → Type 0
 KnownFits None = ⊤
 KnownFits (Some f) = FactsFit f
 
--- where pairs aren't followed is above all
+-- pairs that aren't followed have the greatest rank
 abbrev pub known_rank : Option PairFacts → ℕ
 known_rank None = facts_height + 1
 known_rank (Some f) = facts_rank f

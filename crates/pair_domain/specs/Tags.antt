@@ -14,12 +14,12 @@ use Rattle.pair_domain.specs.declared.tags.ZeroTag.TheVariants as zero
 abbrev pub pair_number : List ℕ → ℕ → ℕ
 pair_number registers r = slice_index registers r + 256 * slice_index registers (r + 1)
 
--- the byte of a side
+-- the byte that a side of a comparison stands for
 abbrev pub side_byte : List ℕ → Side → ℕ
 side_byte registers (side.Byte k) = k
 side_byte registers (side.Register q) = slice_index registers q
 
--- the place of x among the signed numbers, of which there are twice `half`: those from `half` on are negative and come first
+-- the place of x among 2 * `half` signed numbers: those from `half` on are negative and come first
 abbrev pub signed_place : ℕ → ℕ → ℕ
 signed_place half x = if nat_lt x half then x + half else x - half
 
@@ -28,21 +28,21 @@ signed_below half x y = nat_lt (signed_place half x) (signed_place half y)
 
 -- ---- what they say
 
--- the number w and 256 and 256 C lies from a to b
+-- w + 256 + 256 C lies from a to b
 pub record LiesUp (a b w c : ℕ) : Type 0 where
   pub low : a ≤ w + 256 + 256 * c
   pub high : w + 256 + 256 * c ≤ b
 
--- the number w and 256, less 256 C, lies from a to b
+-- w + 256 - 256 C lies from a to b
 pub record LiesDown (a b w c : ℕ) : Type 0 where
   pub low : a + 256 * c ≤ w + 256
   pub high : w + 256 ≤ b + 256 * c
 
--- only ends that are less than 65,535 apart are kept
+-- a tag is kept only if its ends are less than 65,535 apart
 abbrev pub AreNear : ℕ → ℕ → Type 0
 AreNear a b = b < a + 65535
 
--- a tag with other ends says nothing
+-- a tag with ends further apart claims nothing
 abbrev pub SumHolds : List ℕ → SumTag → Bool → Type 0
 SumHolds registers sum.None c = ⊤
 SumHolds registers (sum.Up r a b) c = AreNear a b → LiesUp a b (pair_number registers r) (from_bool c)
@@ -67,13 +67,13 @@ ZeroHolds registers (zero.Pair r) z = z ≡ (pair_number registers r == 0)
 
 -- ---- order and join
 
--- the numbers from a to b are among those from c to d, and the pairs are one
+-- the numbers from a to b are among those from c to d, for the same pair
 pub record AreEndsWithin (r a b s c d : ℕ) : Type 0 where
   pub pair : r ≡ s
   pub low : c ≤ a
   pub high : b ≤ d
 
--- the second says no more than the first
+-- the second tag claims no more than the first
 abbrev pub IsSumTagWithin : SumTag → SumTag → Type 0
 IsSumTagWithin t sum.None = ⊤
 IsSumTagWithin (sum.Up r a b) (sum.Up s c d) = AreNear c d → AreEndsWithin r a b s c d
@@ -91,7 +91,7 @@ IsZeroWithin t zero.None = ⊤
 IsZeroWithin t (zero.Byte x) = t ≡ zero.Byte x
 IsZeroWithin t (zero.Pair r) = t ≡ zero.Pair r
 
--- the tag is one that is kept
+-- the tag is kept: its ends are near
 abbrev pub IsNear : SumTag → Type 0
 IsNear sum.None = ⊤
 IsNear (sum.Up r a b) = AreNear a b
@@ -111,13 +111,13 @@ down_if false r a b = sum.None
 abbrev pub down_from : ℕ → ℕ → ℕ → SumTag
 down_from r a b = down_if (nat_lt b (a + 65535)) r a b
 
--- the least ends that hold both, where both are of one kind and pair, and these ends are kept
+-- the least ends with both, if kind and pair agree and these ends are kept
 abbrev pub sum_join : SumTag → SumTag → SumTag
 sum_join (sum.Up r a b) (sum.Up s c d) = if r == s then up_from r (min a c) (max b d) else sum.None
 sum_join (sum.Down r a b) (sum.Down s c d) = if r == s then down_from r (min a c) (max b d) else sum.None
 sum_join t u = sum.None
 
--- the same tag, with the same numbers
+-- the tags are equal
 abbrev pub is_same_side : Side → Side → Bool
 is_same_side (side.Byte k) (side.Byte l) = k == l
 is_same_side (side.Register q) (side.Register r) = q == r
@@ -135,7 +135,7 @@ is_same_zero (zero.Byte x) (zero.Byte y) = x == y
 is_same_zero (zero.Pair r) (zero.Pair s) = r == s
 is_same_zero t u = false
 
--- equal tags are kept
+-- the tag if both are equal, else none
 abbrev pub compare_join : CompareTag → CompareTag → CompareTag
 compare_join t u = if is_same_compare t u then t else compare.None
 

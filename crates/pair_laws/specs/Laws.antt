@@ -1,4 +1,4 @@
--- Laws of what instructions do to what is known of pairs.
+-- Laws of the transfer functions of the pair domain.
 use Rattle.std.specs.Prelude.{ℕ, ◌+◌, ◌*◌, ◌≡◌, ◌<◌, true, false, List, length, Some, slice_index}
 use Rattle.std.specs.List.{All}
 use Rattle.avr_model.specs.declared.instruction.Instr.{Instr}
@@ -32,7 +32,7 @@ use Rattle.pair_rules.specs.Values.{doubled}
 abbrev pub AreRegisterBytes : List ℕ → Type 0
 AreRegisterBytes registers = (r : ℕ) → slice_index registers r < 256
 
--- the registers and the status register behind an instruction, before a byte is stored
+-- the registers and the status register after an instruction, before a byte is stored
 abbrev pub registers_set : Program → State → Instr → ℕ → ℕ → List ℕ
 registers_set words m instr b1 b2 = with_registers m.registers (effect_of words m instr b1 b2).registers
 
@@ -41,12 +41,12 @@ sreg_set words m instr b1 b2 = (effect_of words m instr b1 b2).sreg
 
 -- ---- what laws of the rows ask for
 
--- the registers of an instruction at a word of flash are there
+-- the registers of each instruction of a program are among the 32
 pub record OperandsFit : Type 0 where
   pub fit : (words : Program) (pc : ℕ) (instr : Instr) → instruction_at words pc ≡ Some instr → HasRegisters instr
 
--- The sum of a byte with itself is above the doubled byte; what is read at a constant address, or isn't known, is above what is read at each
--- number that the pair permits.
+-- The plain sum of a byte with itself is above the doubled byte. A plain read of flash is above each byte at a permitted number of the
+-- pair.
 pub record ValuesAreCovered : Type 0 where
   pub doubled : (bits flags : TriByte) (carry : Tri) → IsByteWithin (untagged (doubled bits carry)) (with_bits tag.None (abs_add bits bits carry flags).0)
   pub constant : (words : Program) (p : PairSet) (x y : ℕ) → byte_constant p.low.bits ≡ Some x → byte_constant p.high.bits ≡ Some y
@@ -56,7 +56,7 @@ pub record ValuesAreCovered : Type 0 where
 
 -- ---- refined states
 
--- the state stands for the machine before the instruction
+-- the state holds of the machine before the instruction
 pub record IsBefore (o : Origin) (s : AbsState) (m : State) : Type 0 where
   pub count : length m.registers ≡ 32
   pub bytes : AreRegisterBytes m.registers
@@ -64,23 +64,23 @@ pub record IsBefore (o : Origin) (s : AbsState) (m : State) : Type 0 where
   pub flags : FlagsStand o s.flags m.sreg
   pub facts : HoldsAt s.facts m.registers m.sreg
 
--- the plain state stands for what the instruction leaves, before a byte is stored
+-- the plain state holds after the instruction, before a byte is stored
 pub record IsBehind (o : Origin) (t : AbsState) (rs : List ℕ) (sreg : ℕ) : Type 0 where
   pub registers : RegistersStand o t.registers rs
   pub facts : HoldsAt t.facts rs sreg
 
--- the flags and the slots stay
+-- flags and slots are the same
 pub record IsLike (t u : AbsState) : Type 0 where
   pub flags : u.flags ≡ t.flags
   pub slots : u.slots ≡ t.slots
 
--- A machine that the state before an instruction and the plain one behind it stand for is one that the refined one, which is there, stands for.
+-- If the state before the instruction and the plain one after it hold, the refined one exists and holds.
 pub record RefinedHolds : Type 0 where
   pub holds : (marks : List ℕ) (words : Program) (o : Origin) (m : State) (instr : Instr) (b1 b2 n k : ℕ) (s t : AbsState) → All (λ w. w < 65536) words
       → HasRegisters instr → IsFormed s n → IsFormed t k → IsBefore o s m → IsBehind o t (registers_set words m instr b1 b2) (sreg_set words m instr b1 b2)
       → (u : AbsState) × (refined marks words instr s t ≡ Some u) × IsBehind o u (registers_set words m instr b1 b2) (sreg_set words m instr b1 b2)
 
--- It says more than the plain one, which it is like; where the two before it say more, so does it; and it is formed where the plain one is.
+-- The refined state is within the plain one, with the same flags and slots. It is monotone, and formed if the plain one is.
 pub record RefinedIsOrdered : Type 0 where
   pub like : (marks : List ℕ) (words : Program) (instr : Instr) (s t u : AbsState) → refined marks words instr s t ≡ Some u → IsLike t u
   pub under : (marks : List ℕ) (words : Program) (instr : Instr) (n k : ℕ) (s t u : AbsState) → HasRegisters instr → IsFormed s n → IsFormed t k
@@ -94,7 +94,7 @@ pub record RefinedIsOrdered : Type 0 where
       → refined marks words instr s t ≡ Some u → TagsFit u
   pub untagged : (marks : List ℕ) (words : Program) (instr : Instr) (n k : ℕ) (s t u : AbsState) → HasRegisters instr → IsFormed s n → IsFormed t k → IsUntagged t
       → refined marks words instr s t ≡ Some u → IsUntagged u
-  -- where the registers that aren't written have the sets that they had
+  -- registers that are not written keep their sets
   pub hulls : (marks : List ℕ) (words : Program) (instr : Instr) (n k : ℕ) (s t u : AbsState) → HasRegisters instr → IsFormed s n → IsFormed t k
       → t.facts ≡ ended_by instr s.facts
       → ((r : ℕ) → r < 32 → is_one_of (written instr) r ≡ false → set_of (value_at t.registers r) ≡ set_of (value_at s.registers r)) → IsInHulls s

@@ -1,4 +1,4 @@
--- Worked instructions: each line computes.
+-- Worked instructions, each computed.
 use Rattle.std.specs.Prelude.{ℕ, ◌≡◌, refl, List, [], ◌∷◌, Option, Some, None, slice_set}
 use Rattle.avr_model.specs.declared.instruction.Instr.TheVariants as i
 use Rattle.avr_model.specs.declared.instruction.BinaryOp.TheVariants as binary
@@ -35,11 +35,11 @@ use Rattle.pair_rules.specs.Refined.{refined}
 abbrev from : ℕ → ℕ → Interval
 from low high = record { low = low; high = high }
 
--- nothing is known but that pair 2 n lies there
+-- only the interval of pair 2 n is known
 abbrev lies : ℕ → Interval → PairFacts
 lies n j = record nothing { intervals = slice_set nothing.intervals n j }
 
--- nothing is known but a tag
+-- only a tag is known
 abbrev summed : SumTag → PairFacts
 summed t = record nothing { sum = t }
 
@@ -49,7 +49,7 @@ compared t = record nothing { compare = t }
 abbrev zeroed : ZeroTag → PairFacts
 zeroed t = record nothing { zero = t }
 
--- register 16 is a byte from 1 to 3, and all others are unknown
+-- register 16 is a byte from 1 to 3, and other registers are unknown
 abbrev small : AbsByte
 small = record unknown { low = 1; high = 3 }
 
@@ -77,7 +77,7 @@ pair_is_kept = refl
 pair_is_lost : told_by registers (lies 12 (from 10 20)) (i.Binary binary.And 25 24) ≡ told.Nothing
 pair_is_lost = refl
 
--- a byte from 1 to 3 on the high byte, and off it
+-- a byte from 1 to 3 added to the high byte, and subtracted from it
 high_byte_grows : told_by registers (lies 12 (from 0x0110 0x0120)) (i.Binary binary.Add 25 16) ≡ told.Computed 12 (from 0x0210 0x0420)
 high_byte_grows = refl
 
@@ -97,7 +97,7 @@ carry_comes_in = refl
 borrow_comes_in : told_by registers (summed (sum.Down 24 0x02FD 0x02FF)) (i.Immediate immediate.Sbci 25 0) ≡ told.Computed 12 (from 0x01FD 0x01FF)
 borrow_comes_in = refl
 
--- of another pair, of the low byte, and where the tag is of a sum
+-- the carry of another pair or of the low byte, and a borrow in place of a carry
 carry_of_another_pair : told_by registers (summed (sum.Up 26 0x0300 0x0308)) (i.Binary binary.Adc 25 16) ≡ told.Nothing
 carry_of_another_pair = refl
 
@@ -157,7 +157,7 @@ one_byte_is_zero = refl
 word_is_zero : zero_of nothing (i.Adiw 12 1) ≡ zero.Pair 24
 word_is_zero = refl
 
--- `cp` ends what Z told of a register, and `ldi` ends nothing
+-- `cp` ends the zero tag of a register, and `ldi` ends nothing
 comparison_ends_zero : (facts_tagged registers nothing (i.Binary binary.Cp 24 16) (zeroed (zero.Byte 20))).zero ≡ zero.None
 comparison_ends_zero = refl
 
@@ -192,7 +192,7 @@ three_numbers : count_below (pair_permits (z_of z_state nothing)) 9 ≡ 3
 unfolding count_below packed permits_below
 three_numbers = refl
 
--- the interval has one of them
+-- the interval has one of the permitted numbers
 one_number : count_below (pair_permits (z_of z_state (lies 15 (from 4 9)))) 9 ≡ 1
 unfolding count_below packed permits_below
 one_number = refl
@@ -213,11 +213,11 @@ marks = 0 ∷ 255 ∷ 256 ∷ 300 ∷ 0xFFFF ∷ []
 abbrev before : AbsState
 before = record { registers = slice_set (slice_set root.registers 24 small) 25 (known 1); flags = root.flags; slots = []; facts = Some (lies 12 (from 257 259)) }
 
--- what the plain rules leave of it: nothing of the pair
+-- the state by the plain rules: nothing is known of the pair
 abbrev behind : AbsState
 behind = record { registers = root.registers; flags = root.flags; slots = []; facts = ended_by (i.Adiw 12 5) before.facts }
 
--- the pair whose number Z tells to be 0
+-- the pair of a zero tag
 abbrev zero_told : ZeroTag → ℕ
 zero_told zero.None = 99
 zero_told (zero.Byte x) = 98
@@ -227,16 +227,16 @@ abbrev facts_of : Option PairFacts → List ℕ
 facts_of None = []
 facts_of (Some f) = (interval_at f.intervals 12).low ∷ (interval_at f.intervals 12).high ∷ zero_told f.zero ∷ []
 
--- the interval and Z's tag, and the low and the high byte
+-- the interval and the zero tag, and the ranges of the low and the high byte
 abbrev row_of : Option AbsState → List (List ℕ)
 row_of None = []
 row_of (Some u) = facts_of u.facts ∷ told_of (Some (value_at u.registers 24)) ∷ told_of (Some (value_at u.registers 25)) ∷ []
 
--- 262 to 264 is widened to 256 to 300, in which the high byte is 1 and the low one from 0 to 44
+-- 262 to 264 is widened to 256 to 300: the high byte is 1 and the low byte from 0 to 44
 row_is_refined : row_of (refined marks table (i.Adiw 12 5) before behind) ≡ (256 ∷ 300 ∷ 24 ∷ []) ∷ (0xC0 ∷ 0 ∷ 0 ∷ 44 ∷ []) ∷ (0xFF ∷ 1 ∷ 1 ∷ 1 ∷ []) ∷ []
 unfolding packed all_below permits_below least_from greatest_from intervals_ended
 row_is_refined = refl
 
--- where pairs aren't followed nothing is refined
+-- without pairs nothing is refined
 row_is_plain : row_of (refined marks table (i.Adiw 12 5) root behind) ≡ row_of (Some behind)
 row_is_plain = refl

@@ -1,4 +1,4 @@
--- What laws ask of an instruction, and of what the plain rules leave. Source: own.
+-- Premises of the laws on an instruction and on the state by the plain rules. Source: own.
 use Rattle.std.specs.Prelude.{ℕ, ◌≡◌, ◌<◌, ⊤, true, if◌then◌else◌, List}
 use Rattle.avr_model.specs.declared.instruction.Instr.{Instr}
 use Rattle.avr_model.specs.declared.instruction.Instr.TheVariants as i
@@ -17,7 +17,7 @@ use Rattle.pair_rules.specs.Hulls.{ended_by}
 use Rattle.pair_rules.specs.Flash.{pair_permits, flash_known, is_flash}
 use Rattle.pair_rules.specs.Values.{doubled_value, z_of}
 
--- Registers are among the 32, pairs among the 16, and immediate numbers are bytes, as in each instruction of the table.
+-- Registers are among the 32, pairs among the 16, and immediate numbers are bytes, as in each row of the instruction table.
 abbrev pub HasRegisters : Instr → Type 0
 HasRegisters (i.Movw d r) = (d < 16) × (r < 16)
 HasRegisters (i.Binary op d r) = (d < 32) × (r < 32)
@@ -35,11 +35,11 @@ HasRegisters (i.In d a) = d < 32
 HasRegisters (i.Bld d b) = d < 32
 HasRegisters _ = ⊤
 
--- what is known of a byte of flash, and of what is read behind it
+-- the value of a byte of flash, as it is read
 abbrev pub flash_at : Program → ℕ → AbsByte
 flash_at words z = if is_flash words z then flash_known words z else unknown
 
--- the value is above what is read at each number that the pair permits
+-- the value is above each byte of flash at a permitted number of the pair
 abbrev pub CoversFlash : Program → PairSet → AbsByte → Type 0
 CoversFlash words p v = (z : ℕ) → z < 65536 → pair_permits p z ≡ true → IsByteWithin (flash_at words z) v
 
@@ -48,7 +48,7 @@ CoversDoubled s binary.Add d v = IsByteWithin (doubled_value s d Zero) v
 CoversDoubled s binary.Adc d v = IsByteWithin (doubled_value s d (tri_at s.flags.bits 0)) v
 CoversDoubled s _ d v = ⊤
 
--- in t the register that is set is above what is told of its value
+-- the register that t sets is above the refined value
 abbrev pub CoversTold : Program → AbsState → Instr → AbsState → Type 0
 CoversTold words s (i.Binary op d r) t = d ≡ r → CoversDoubled s op d (value_at t.registers d)
 CoversTold words s (i.LpmZ d) t = (f : PairFacts) → CoversFlash words (z_of s f) (value_at t.registers d)
@@ -56,7 +56,7 @@ CoversTold words s (i.LpmZPlus d) t = (f : PairFacts) → CoversFlash words (z_o
 CoversTold words s i.Lpm t = (f : PairFacts) → CoversFlash words (z_of s f) (value_at t.registers 0)
 CoversTold words s _ t = ⊤
 
--- t is what the plain rules leave of s: its facts are those of s less what is written, and its values are above those that are told
+-- t is a state by the plain rules after s: its facts are those of s without the ended ones, and its values are above the refined ones
 pub record IsPlain (words : Program) (instr : Instr) (s t : AbsState) : Type 0 where
   pub facts : t.facts ≡ ended_by instr s.facts
   pub value : CoversTold words s instr t

@@ -1,4 +1,4 @@
--- Bytes of flash at the numbers that a pair of registers may hold. Source: own.
+-- Bytes of flash at the possible numbers of a register pair. Source: own.
 use Rattle.std.specs.Prelude.{ℕ, zero, suc, ◌*◌, ◌/◌, ◌%◌, ◌&&◌, ◌||◌, Bool, not, nat_lt, nat_le, if◌then◌else◌, List, Option, Some, None}
 use Rattle.avr_model.specs.Bits.{all_below}
 use Rattle.avr_model.specs.Devices.{Program, words_of, device_of}
@@ -22,7 +22,7 @@ pair_permits p x = nat_le p.interval.low x && nat_le x p.interval.high && set_pe
 
 -- ---- joins over the numbers below a bound
 
--- how many of them are permitted
+-- the number of permitted numbers
 unfoldable pub count_below : (ℕ → Bool) → ℕ → ℕ
 count_below permits zero = 0
 count_below permits (suc n) = if permits n then suc (count_below permits n) else count_below permits n
@@ -31,7 +31,7 @@ abbrev pub joined_with : Option AbsByte → AbsByte → AbsByte
 joined_with None v = v
 joined_with (Some w) v = value_join w v
 
--- the join of the values of those that are permitted; none where none is
+-- the join of the values of the permitted numbers; none if no number is permitted
 unfoldable pub joined_below : (ℕ → Bool) → (ℕ → AbsByte) → ℕ → Option AbsByte
 joined_below permits value zero = None
 joined_below permits value (suc n) = if permits n then Some (joined_with (joined_below permits value n) (value n)) else joined_below permits value n
@@ -44,10 +44,10 @@ flash_known words z = known (byte_at words z)
 abbrev pub is_flash : Program → ℕ → Bool
 is_flash words z = nat_lt z (2 * words_of (device_of words))
 
--- at most 64 numbers are permitted, and all are addresses of bytes of the device's flash
+-- at most 64 numbers are permitted, and all are byte addresses in the device's flash
 abbrev pub few_in_flash : Program → (ℕ → Bool) → Bool
 few_in_flash words permits = nat_le (count_below permits 65536) 64 && all_below 65536 (λ z. not (permits z) || is_flash words z)
 
--- the join of the bytes at the numbers that are permitted; none where none is
+-- the join of the bytes at the permitted numbers; none if no number is permitted
 abbrev pub flash_joined : Program → (ℕ → Bool) → Option AbsByte
 flash_joined words permits = joined_below permits (flash_known words) 65536

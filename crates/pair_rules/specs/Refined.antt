@@ -1,5 +1,5 @@
--- What an instruction leaves where pairs are followed: what the plain rules leave, refined by what it tells. Branches, skips and the
--- pick of a jump table have cuts of their own, and aren't refined here. Source: own.
+-- The state after an instruction if pairs are followed: the state by the plain rules, refined by the transfer function of pairs.
+-- Branches, skips and picks of a jump table have their own cuts. Source: own.
 use Rattle.std.specs.Prelude.{ℕ, List, Option, Some, None}
 use Rattle.avr_model.specs.declared.instruction.Instr.{Instr}
 use Rattle.avr_model.specs.Written.{written}
@@ -18,24 +18,24 @@ use Rattle.pair_rules.specs.Told.{told_by}
 use Rattle.pair_rules.specs.Tags.{tagged}
 use Rattle.pair_rules.specs.Values.{retold}
 
--- the interval is cut, and the bytes stay
+-- cuts the interval; the bytes stay
 abbrev pub meet_pair : PairSet → Interval → Option PairSet
 meet_pair p j = with_interval p (interval_meet p.interval j)
 
--- What is told cuts the state; there is none where nothing is left.
+-- Cuts the state by the result of the transfer function; none if nothing is left.
 abbrev pub cut_told : List ℕ → Told → AbsState → Option AbsState
 cut_told marks told.Nothing t = Some t
 cut_told marks (told.Kept n j) t = cut_state (λ p. meet_pair p j) t n
 cut_told marks (told.Computed n j) t = cut_state (λ p. narrow_pair p (outward marks j)) t n
 
--- the intervals of the pairs that are written become their hulls
+-- the intervals of written pairs become their hulls
 abbrev pub with_hulls : List ℕ → AbsState → AbsState
 with_hulls rs t = record t { facts = all_hulled t.registers rs t.facts }
 
 abbrev pub with_tags : AbsState → PairFacts → Instr → AbsState → AbsState
 with_tags s f instr t = record t { facts = tagged s.registers f instr t.facts }
 
--- values of which more is told, then hulls, then what is told, then tags
+-- refined values, then hulls, then the interval of the transfer function, then tags
 abbrev pub tags_then : AbsState → PairFacts → Instr → Option AbsState → Option AbsState
 tags_then s f instr None = None
 tags_then s f instr (Some t) = Some (with_tags s f instr t)
@@ -48,7 +48,7 @@ abbrev pub refined_known : List ℕ → Program → Instr → AbsState → AbsSt
 refined_known marks words instr s t None = Some t
 refined_known marks words instr s t (Some f) = told_then marks s f instr (retold words s f instr t)
 
--- Of the state s before an instruction and what the plain rules leave of it, in which the facts on what it writes are ended. Of a store
--- it is what is left before the byte is stored. There is none where the instruction tells that no machine gets there.
+-- s is the state before an instruction, and the other the one after it by the plain rules, with the facts on written registers ended. For
+-- a store it is the state before the byte is stored. None if no machine gets there.
 abbrev pub refined : List ℕ → Program → Instr → AbsState → AbsState → Option AbsState
 refined marks words instr s t = refined_known marks words instr s t s.facts

@@ -1,4 +1,4 @@
--- The tags of flags that an instruction gives, from the state before it. They speak of registers as they are behind it. Source: own.
+-- The flag tags that an instruction sets, from the state before it. They name registers as they are after it. Source: own.
 use Rattle.std.specs.Prelude.{ℕ, ◌+◌, ◌*◌, ◌==◌, ◌&&◌, if◌then◌else◌, List, Option, Some, None}
 use Rattle.avr_model.specs.declared.instruction.Instr.{Instr}
 use Rattle.avr_model.specs.declared.instruction.Instr.TheVariants as i
@@ -46,7 +46,7 @@ sum_of registers f _ = sum.None
 
 -- ---- comparisons
 
--- `cpc` of the high byte of a pair goes on from the comparison of its low byte
+-- `cpc` of the high byte of a pair completes the comparison of its low byte
 abbrev pub compare_high : CompareTag → ℕ → ℕ → CompareTag
 compare_high compare.None d p = compare.None
 compare_high (compare.Byte x y) d p = if is_odd d && (x + 1 == d) then compare.Pair x y p else compare.None
@@ -68,7 +68,7 @@ compare_of f _ = compare.None
 
 -- ---- results that are 0
 
--- `sbc` of the high byte of a pair leaves Z only where its low byte was 0
+-- `sbc` of the high byte of a pair keeps Z only if its low byte was 0
 abbrev pub zero_high : ZeroTag → ℕ → ZeroTag
 zero_high zero.None d = zero.None
 zero_high (zero.Byte x) d = if is_odd d && (x + 1 == d) then zero.Pair x else zero.None
@@ -110,7 +110,7 @@ zero_of f _ = zero.None
 
 -- ---- behind the instruction
 
--- what is known before is f, and g what its writes left: a tag is given just where its flags are written
+-- f has the facts before, g those that the writes left; a tag is set exactly if its flags are written
 abbrev pub facts_tagged : List AbsByte → PairFacts → Instr → PairFacts → PairFacts
 facts_tagged registers f instr g =
     record g {

@@ -1,5 +1,5 @@
--- What an instruction tells of the number of a pair, from the state before it. Where a sum or a product could wrap in part nothing is told.
--- Source: own.
+-- The transfer function of the pair domain: the interval of a pair after an instruction, from the state before it. It claims nothing if
+-- only some of the numbers wrap. Source: own.
 use Rattle.std.specs.Prelude.{ℕ, ◌+◌, ◌/◌, ◌%◌, ◌==◌, Bool, if◌then◌else◌, List, Option, Some, None}
 use Rattle.avr_model.specs.declared.instruction.Instr.{Instr}
 use Rattle.avr_model.specs.declared.instruction.Instr.TheVariants as i
@@ -20,35 +20,35 @@ use Rattle.abs_state.specs.Values.{value_at}
 use Rattle.pair_rules.specs.declared.told.Told.{Told}
 use Rattle.pair_rules.specs.declared.told.Told.TheVariants as told
 
--- the interval of the pair with register r
+-- the interval of the pair that has register r
 abbrev pub interval_of : PairFacts → ℕ → Interval
 interval_of f r = interval_at f.intervals (r / 2)
 
 abbrev pub is_odd : ℕ → Bool
 is_odd r = r % 2 == 1
 
--- of pair n, where something is computed
+-- an interval for pair n, if there is one
 abbrev pub computed : ℕ → Option Interval → Told
 computed n None = told.Nothing
 computed n (Some j) = told.Computed n j
 
--- of the pair with register d, where that is the high byte of its pair
+-- an interval for the pair whose high byte is register d
 abbrev pub computed_high : ℕ → Option Interval → Told
 computed_high d j = if is_odd d then computed (d / 2) j else told.Nothing
 
--- the pair keeps its interval where a register is its own AND or OR
+-- `and` and `or` of a register with itself keep the pair's interval
 abbrev pub kept_same : PairFacts → ℕ → ℕ → Told
 kept_same f d r = if d == r then told.Kept (d / 2) (interval_of f d) else told.Nothing
 
 -- ---- a byte from low to high goes to register d
 
--- under a sum of the pair whose high byte is d it is added with the carry
+-- the carry added to the high byte d completes a sum of its pair
 abbrev pub carried : SumTag → ℕ → ℕ → ℕ → Option Interval
 carried sum.None d low high = None
 carried (sum.Up r a b) d low high = if r + 1 == d then carried_up a b low high else None
 carried (sum.Down r a b) d low high = None
 
--- and under a difference it is taken off with the borrow
+-- the borrow subtracted from the high byte d completes a difference of its pair
 abbrev pub borrowed : SumTag → ℕ → ℕ → ℕ → Option Interval
 borrowed sum.None d low high = None
 borrowed (sum.Up r a b) d low high = None
@@ -68,11 +68,11 @@ told_sbc f d low high = computed_high d (borrowed f.sum d low high)
 
 -- ---- a pointer that grows or falls by one
 
--- No instruction sets a register of the pointer that it moves; d is what it sets.
+-- An interval for a pointer, unless the instruction sets one of its registers; d is the register that it sets.
 abbrev pub unless_set : ℕ → ℕ → Option Interval → Told
 unless_set d n j = if d / 2 == n then told.Nothing else computed n j
 
--- nothing of a pointer that stays
+-- the interval of a pointer that moves; one that stays claims nothing
 abbrev pub told_pointer : PairFacts → ℕ → Pointer → Told
 told_pointer f d pointer.ZPlus = unless_set d 15 (moved_up (interval_at f.intervals 15) 1)
 told_pointer f d pointer.MinusZ = unless_set d 15 (moved_down (interval_at f.intervals 15) 1)
@@ -100,7 +100,7 @@ told_immediate f immediate.Subi d k = told_sub f d k k
 told_immediate f immediate.Sbci d k = told_sbc f d k k
 told_immediate f _ d k = told.Nothing
 
--- A load or a store through a pointer that moves tells its number: of a store, before the byte is stored.
+-- A load or store through a moving pointer gives the pointer's interval; for a store, before the byte is stored.
 abbrev pub told_by : List AbsByte → PairFacts → Instr → Told
 told_by registers f (i.Movw d r) = told.Kept d (interval_at f.intervals r)
 told_by registers f (i.Binary op d r) = told_binary registers f op d r

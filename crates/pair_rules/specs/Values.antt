@@ -1,4 +1,4 @@
--- Values of registers of which more is told where pairs are followed: of a byte that is doubled, and of a byte of flash. Source: own.
+-- Register values that are refined if pairs are followed: a doubled byte, and a byte of flash. Source: own.
 use Rattle.std.specs.Prelude.{ℕ, ◌-◌, ◌==◌, Bool, if◌then◌else◌, List, Option, Some, None, slice_set}
 use Rattle.avr_model.specs.declared.instruction.Instr.{Instr}
 use Rattle.avr_model.specs.declared.instruction.Instr.TheVariants as i
@@ -22,11 +22,11 @@ with_value t d v = record t { registers = slice_set t.registers d v }
 
 -- ---- a byte and itself, and a carry
 
--- each bit one place up, with a new lowest bit
+-- each bit moved one place up, with a new lowest bit
 abbrev pub doubled : TriByte → Tri → TriByte
 doubled b low = byte_of (λ k. if k == 0 then low else tri_at b (k - 1))
 
--- what the two operations leave in their register where it is both operands
+-- the register after `add` or `adc` with itself
 abbrev pub doubled_value : AbsState → ℕ → Tri → AbsByte
 doubled_value s d low = untagged (doubled (value_at s.registers d).bits low)
 
@@ -37,16 +37,16 @@ doubled_by s _ d t = t
 
 -- ---- bytes of flash
 
--- there is none where no number is permitted
+-- none if no number is permitted
 abbrev pub with_joined : AbsState → ℕ → Option AbsByte → Option AbsState
 with_joined t d None = None
 with_joined t d (Some v) = Some (with_value t d v)
 
--- where few numbers are permitted, and all in flash; else as in the plain rules
+-- the join of the bytes if few numbers are permitted and all are in flash, else the plain value
 abbrev pub flash_read : Program → AbsState → ℕ → (ℕ → Bool) → Option AbsState
 flash_read words t d permits = if few_in_flash words permits then with_joined t d (flash_joined words permits) else Some t
 
--- what is known of Z before
+-- the registers and interval of Z before the instruction
 abbrev pub z_of : AbsState → PairFacts → PairSet
 z_of s f = pair_of s.registers f.intervals 15
 

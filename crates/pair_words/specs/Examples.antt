@@ -11,7 +11,7 @@ use Rattle.pair_domain.specs.Intervals.{whole}
 use Rattle.pair_words.specs.Spelling.{sum_word, compare_word, intervals_text, intervals_word}
 use Rattle.pair_words.specs.Reading.{register_at, pair_at, ends_in, sum_in, side_at, compare_behind, compare_by, compare_in, zero_in, inside_at, interval_at, intervals_at, intervals_in}
 
--- r25:r24, r25:r24 + 256 and 256 C from 256 to 4,351
+-- r25:r24: the pair + 256 + 256 C is from 256 to 4,351
 up : sum_word (sum.Up 24 0x100 0x10FF) ≡ codes "u1800100010FF"
 unfolding hex_digits
 up = refl
@@ -24,7 +24,7 @@ down_again : sum_in (codes "d00000010FFFF") ≡ Some (sum.Down 0 1 0xFFFF)
 unfolding sum_in ends_in pair_at register_at digits_at
 down_again = refl
 
--- ends that are 65,535 apart, or out of order, and an odd register
+-- ends that are 65,535 apart, ends out of order, and an odd register
 too_far : sum_in (codes "d00000000FFFF") ≡ None
 unfolding sum_in ends_in pair_at register_at digits_at
 too_far = refl
@@ -54,7 +54,7 @@ with_pair_again : compare_in (codes "18r1617") ≡ Some (compare.Pair 24 (side.R
 unfolding compare_in compare_by compare_behind side_at register_at digits_at
 with_pair_again = refl
 
--- an odd register is no pair, and there is no register 32
+-- an odd register is no pair's, and there is no register 32
 odd_left : compare_in (codes "19r1617") ≡ None
 unfolding compare_in compare_by compare_behind side_at register_at digits_at
 odd_left = refl
@@ -99,7 +99,7 @@ none_read : intervals_in hulls (codes "-") ≡ Some hulls
 unfolding intervals_in
 none_read = refl
 
--- the hull itself isn't written, nothing outside it is, and pairs ascend
+-- an interval that equals the hull or leaves it is refused; pairs must ascend
 hull_read : intervals_in hulls (codes "02000001FF") ≡ None
 unfolding intervals_in intervals_at interval_at inside_at digits_at
 hull_read = refl

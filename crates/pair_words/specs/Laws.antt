@@ -1,4 +1,4 @@
--- What is read is spelled so, and what is spelled is read.
+-- Reading and spelling are inverse.
 use Rattle.std.specs.Prelude.{ℕ, ◌≡◌, ◌<◌, ◌++◌, List, length, Some}
 use Rattle.std.specs.List.{AllByRecursion}
 use Rattle.line_reading.specs.Words.{IsWord}
@@ -15,7 +15,7 @@ pub record AreHulls (hulls : List Interval) : Type 0 where
   pub count : length hulls ≡ 16
   pub each : (n : ℕ) → n < 16 → IntervalFits (interval_at hulls n)
 
--- facts that fit, whose intervals lie within these hulls
+-- facts that fit, with intervals within these hulls
 pub record FitWithin (hulls : List Interval) (f : PairFacts) : Type 0 where
   pub fit : FactsFit f
   pub within : (n : ℕ) → n < 16 → IsIntervalWithin (interval_at f.intervals n) (interval_at hulls n)

@@ -1,4 +1,4 @@
--- Reading the four words of what is known of pairs.
+-- Reads the four words of facts on pairs.
 use Rattle.std.specs.Prelude.{ℕ, ◌+◌, ◌%◌, ◌==◌, ◌&&◌, nat_lt, nat_le, not, Bool, List, [], ◌∷◌, codes, Option, Some, None, if◌then◌else◌}
 use Rattle.std.specs.Option.{option_map}
 use Rattle.std.specs.Str.{bytes_eq}
@@ -31,11 +31,11 @@ pair_at bs = register_at bs >>= λ r. if is_even r.0 then Some r else None
 
 -- ---- the sum tag
 
--- ends in order that are less than 65,535 apart
+-- ordered ends that are less than 65,535 apart
 abbrev pub are_near : ℕ → ℕ → Bool
 are_near a b = nat_le a b && nat_lt b (a + 65535)
 
--- a pair and two ends, behind which nothing stands
+-- a pair and two ends, and nothing else
 unfoldable pub ends_in : List ℕ → Option (ℕ × ℕ × ℕ)
 ends_in bs = do
   r ← pair_at bs
@@ -43,7 +43,7 @@ ends_in bs = do
   b ← digits_at 5 a.1
   if are_near a.0 b.0 && is_end b.1 then Some (r.0, a.0, b.0) else None
 
--- what a letter and what follows it say
+-- the sum tag of a letter and the bytes behind it
 abbrev pub sum_by : ℕ → List ℕ → Option SumTag
 sum_by letter bs =
     if letter == 117 then option_map (λ e. sum.Up e.0 e.1 e.2) (ends_in bs)
@@ -63,7 +63,7 @@ side_by letter bs =
 unfoldable pub side_at : List ℕ → Option (Side × List ℕ)
 side_at bs = letter_at bs >>= λ l. side_by l.0 l.1
 
--- behind a register and a side stands nothing, or where the register is that of a pair the register beside the side
+-- after a register and a side: nothing for bytes, or the second register of the side for pairs
 unfoldable pub compare_behind : ℕ → Side → List ℕ → Option CompareTag
 compare_behind x y bs =
     if is_end bs then Some (compare.Byte x y)
@@ -80,7 +80,7 @@ compare_in w = if bytes_eq w (codes "-") then Some compare.None else compare_by 
 
 -- ---- the zero tag
 
--- a number behind which nothing stands
+-- a number, and nothing else
 abbrev pub alone : Option (ℕ × List ℕ) → Option ℕ
 alone found = found >>= λ r. if is_end r.1 then Some r.0 else None
 
@@ -94,18 +94,18 @@ zero_in w = if bytes_eq w (codes "-") then Some zero.None else (letter_at w >>= 
 
 -- ---- intervals
 
--- low and high are in order and lie within the hull, and aren't its ends
+-- low and high are ordered and within the hull, but not equal to its ends
 abbrev pub is_inside : Interval → ℕ → ℕ → Bool
 is_inside hull low high = nat_le hull.low low && nat_le low high && nat_le high hull.high && not (are_ends hull low high)
 
--- the ends of an interval that lies within the hull and isn't it
+-- the ends of an interval that is within the hull and differs from it
 unfoldable pub inside_at : Interval → List ℕ → Option (Interval × List ℕ)
 inside_at hull bs = do
   l ← digits_at 4 bs
   h ← digits_at 4 l.1
   if is_inside hull l.0 h.0 then Some (record { low = l.0; high = h.0 }, h.1) else None
 
--- the interval of pair r by the number that stands next: it is the hull where that is none, or another pair's
+-- the interval of pair r, by the next number: the hull if there is none or it names another pair
 abbrev pub interval_by : ℕ → Interval → List ℕ → Option (ℕ × List ℕ) → Option (Interval × List ℕ)
 interval_by r hull bs None = Some (hull, bs)
 interval_by r hull bs (Some n) = if n.0 == r then inside_at hull n.1 else Some (hull, bs)
@@ -113,16 +113,16 @@ interval_by r hull bs (Some n) = if n.0 == r then inside_at hull n.1 else Some (
 unfoldable pub interval_at : ℕ → Interval → List ℕ → Option (Interval × List ℕ)
 interval_at r hull bs = interval_by r hull bs (digits_at 2 bs)
 
--- those of the pairs from r on
+-- the intervals of the pairs from r on
 unfoldable pub intervals_at : ℕ → List Interval → List ℕ → Option (List Interval × List ℕ)
 intervals_at r [] bs = Some ([], bs)
 intervals_at r (hull ∷ hulls) bs = interval_at r hull bs >>= λ i. option_map (λ is. (i.0 ∷ is.0, is.1)) (intervals_at (r + 2) hulls i.1)
 
--- intervals behind which nothing stands
+-- intervals, and nothing else
 abbrev pub ended : Option (List Interval × List ℕ) → Option (List Interval)
 ended found = found >>= λ is. if is_end is.1 then Some is.0 else None
 
--- the intervals of a word: a dash is that of the hulls, and no text is none
+-- the intervals of a word: a dash stands for the hulls, and an empty word is refused
 unfoldable pub intervals_in : List Interval → List ℕ → Option (List Interval)
 intervals_in hulls w = if bytes_eq w (codes "-") then Some hulls else (if is_end w then None else ended (intervals_at 0 hulls w))
 

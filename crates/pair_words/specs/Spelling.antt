@@ -1,4 +1,4 @@
--- The four words of what is known of pairs: the sum tag, the compare tag, the zero tag, and the intervals. Source: own.
+-- The four words of facts on pairs: the sum tag, the compare tag, the zero tag, and the intervals. Source: own.
 use Rattle.std.specs.Prelude.{ℕ, ◌+◌, ◌==◌, ◌&&◌, Bool, List, [], ◌∷◌, ◌++◌, codes, if◌then◌else◌}
 use Rattle.sb_base.specs.Digits.{hex_digits}
 use Rattle.pair_domain.specs.declared.intervals.Interval.{Interval}
@@ -28,7 +28,7 @@ abbrev pub side_text : Side → List ℕ
 side_text (side.Byte k) = codes "k" ++ hex_digits k 2
 side_text (side.Register q) = codes "r" ++ hex_digits q 2
 
--- the left register or pair, the side, and the register beside the side
+-- the left register or pair, the side, and for pairs the second register of the side
 abbrev pub compare_word : CompareTag → List ℕ
 compare_word compare.None = codes "-"
 compare_word (compare.Byte x y) = hex_digits x 2 ++ side_text y
@@ -41,21 +41,21 @@ zero_word (zero.Pair r) = codes "p" ++ hex_digits r 2
 
 -- ---- intervals
 
--- low and high are the ends of this interval
+-- low and high are the ends of the interval
 abbrev pub are_ends : Interval → ℕ → ℕ → Bool
 are_ends i low high = (low == i.low) && (high == i.high)
 
--- pair r with its interval, which is left out where it is the hull
+-- pair r and its interval; nothing if it is the hull
 abbrev pub interval_text : ℕ → Interval → Interval → List ℕ
 interval_text r hull i = if are_ends hull i.low i.high then [] else hex_digits r 2 ++ (hex_digits i.low 4 ++ hex_digits i.high 4)
 
--- the pairs from r on, by their hulls and their intervals
+-- the pairs from r on, with their hulls and intervals
 unfoldable pub intervals_text : ℕ → List Interval → List Interval → List ℕ
 intervals_text r [] is = []
 intervals_text r (hull ∷ hulls) [] = []
 intervals_text r (hull ∷ hulls) (i ∷ is) = interval_text r hull i ++ intervals_text (r + 2) hulls is
 
--- a dash stands for no text
+-- a dash in place of an empty text
 abbrev pub or_dash : List ℕ → List ℕ
 or_dash [] = codes "-"
 or_dash (b ∷ bs) = b ∷ bs
@@ -65,6 +65,6 @@ intervals_word hulls is = or_dash (intervals_text 0 hulls is)
 
 -- ---- all four
 
--- what is known of pairs whose registers have these hulls
+-- the words of facts on pairs whose registers have these hulls
 abbrev pub facts_words : List Interval → PairFacts → List (List ℕ)
 facts_words hulls f = sum_word f.sum ∷ compare_word f.compare ∷ zero_word f.zero ∷ intervals_word hulls f.intervals ∷ []

@@ -1,4 +1,4 @@
--- What an analysis writes: the least certificate with the schedule that trials find, or why there is none.
+-- The result of an analysis: the least certificate with the schedule that trials find, or the reason for having none.
 use Rattle.std.specs.Prelude.{ℕ, ◌≡◌, List, Option}
 use Rattle.avr_model.specs.declared.assumption.Entry.{Entry}
 use Rattle.avr_model.specs.Devices.{Program}
@@ -10,14 +10,14 @@ use Rattle.witness_search.specs.declared.waypoint.Waypoint.{Waypoint}
 use Rattle.witness_search.specs.Chains.{AreWaypoints}
 use Rattle.witness_search.specs.Trials.{IsFound}
 
--- The trials along the deepest chain of a certificate find this schedule, the first whose run is as deep as its bound, or none where no
--- run is.
+-- The trials along the deepest chain of a certificate find this schedule, the first whose run is as deep as the bound, or none if no run
+-- is.
 pub record TrialsFind (words : Program) (A : List Entry) (c : Claim) (found : Option Plan) : Type 0 where
   pub points : List Waypoint
   pub chain : AreWaypoints words A c points
   pub first : IsFound words A points c.bound found
 
--- This is the certificate at which the rounds end within the budget, with the schedule that the trials find, which attains its bound.
+-- The certificate at which the rounds end within the budget, with the schedule that the trials find, which attains its bound.
 pub record IsAnalysis (words : Program) (A : List Entry) (steps : Option ℕ) (c : Claim) : Type 0 where
   pub least : Claim
   pub claim : IsClaim least

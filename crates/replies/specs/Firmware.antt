@@ -1,4 +1,4 @@
--- The words of flash that a firmware file stands for, or its refusal, and what else it gives.
+-- The words of flash of a firmware file, or its refusal, and its names and static data.
 use Rattle.std.specs.Prelude.{ℕ, zero, suc, ◌+◌, ◌*◌, ◌%◌, ◌==◌, nat_lt, Bool, true, false, List, [], ◌∷◌, length, take, Option, Some, None, if◌then◌else◌}
 use Rattle.std.specs.Option.{option_map}
 use Rattle.avr_model.specs.declared.device.Device.{Device}
@@ -9,22 +9,22 @@ use Rattle.flash_image.specs.Naming.{Named}
 use Rattle.elf_load.specs.Elf.{is_elf, elf_fault, elf_byte, IsElfImage, elf_names, static_end}
 use Rattle.replies.specs.Texts.{elf_refused, raw_fault, firmware_outside}
 
--- a file that begins 7F 45 4C 46 is an ELF file, and any other is a raw one
+-- a file that begins with 7F 45 4C 46 is an ELF file, any other a raw image
 abbrev pub IsImageBy : Bool → List ℕ → List ℕ → Type 0
 IsImageBy true bytes all = IsElfImage bytes all
 IsImageBy false bytes all = IsRawImage bytes all
 
--- the words of the greatest flash under a firmware file
+-- the words of a firmware file in the greatest flash
 abbrev pub IsImage : List ℕ → List ℕ → Type 0
 IsImage bytes all = IsImageBy (is_elf bytes) bytes all
 
--- The words that a firmware file stands for on a device: those of its image, of which all behind the device's flash are erased.
+-- The words of a firmware file on a device: those of its image; all behind the device's flash are erased.
 pub record IsFirmware (device : Device) (bytes : List ℕ) (words : Program) : Type 0 where
   pub all : List ℕ
   pub image : IsImage bytes all
   pub narrowed : IsNarrowed device all words
 
--- the list of f at, f (at + 1), .., n numbers
+-- the list of f at, f (at + 1), .., with n items
 unfoldable pub tabulated : ℕ → ℕ → (ℕ → ℕ) → List ℕ
 tabulated at zero f = []
 tabulated at (suc n) f = f at ∷ tabulated (at + 1) n f
@@ -32,11 +32,11 @@ tabulated at (suc n) f = f at ∷ tabulated (at + 1) n f
 abbrev pub elf_word : List ℕ → ℕ → ℕ
 elf_word bytes a = elf_byte bytes (2 * a) + 256 * elf_byte bytes (2 * a + 1)
 
--- the words of an ELF file in order
+-- the words of an ELF file
 abbrev pub elf_words : List ℕ → List ℕ
 elf_words bytes = tabulated 0 WORDS (elf_word bytes)
 
--- the words of the greatest flash under a firmware file in order, and the text of its refusal
+-- the words of a firmware file in the greatest flash, and the text of its refusal
 abbrev pub words_by : Bool → List ℕ → List ℕ
 words_by true bytes = elf_words bytes
 words_by false bytes = raw_words bytes
@@ -45,11 +45,11 @@ abbrev pub fault_by : Bool → List ℕ → Option (List ℕ)
 fault_by true bytes = option_map elf_refused (elf_fault bytes)
 fault_by false bytes = if length bytes % 2 == 1 then Some (raw_fault 1) else (if nat_lt 32768 (length bytes) then Some (raw_fault 2) else None)
 
--- the words of a firmware file on a device in order
+-- the words of a firmware file on a device
 abbrev pub firmware_words : Device → List ℕ → List ℕ
 firmware_words device bytes = take (words_of device) (words_by (is_elf bytes) bytes)
 
--- the text of the refusal of an image that has a word behind a device's flash
+-- the text of the refusal of an image with a word behind the device's flash
 abbrev pub outside_fault : Device → List ℕ → Option (List ℕ)
 outside_fault device all = option_map firmware_outside (outside_word device all)
 
@@ -57,7 +57,7 @@ abbrev pub fault_or : Option (List ℕ) → Option (List ℕ) → Option (List �
 fault_or None later = later
 fault_or (Some text) later = Some text
 
--- the text of the refusal of a firmware file for a device: the file is looked at first
+-- the text of the refusal of a firmware file for a device; refusals of the file itself come first
 abbrev pub firmware_fault : Device → List ℕ → Option (List ℕ)
 firmware_fault device bytes = fault_or (fault_by (is_elf bytes) bytes) (outside_fault device (words_by (is_elf bytes) bytes))
 

@@ -1,4 +1,4 @@
--- What the answers say of the bytes that were read, and when they are given.
+-- What answers state of the bytes that were read, and when they are given.
 use Rattle.std.specs.Prelude.{◌≡◌, ◌≢◌, ◌↔◌, ◌≤◌, ⊤, Bool, true, false, ℕ, List, [], length, Option, Some, None}
 use Rattle.std.specs.Option.{is_some}
 use Rattle.avr_model.specs.declared.assumption.Entry.{Entry}
@@ -42,33 +42,33 @@ use Rattle.replies.specs.Reading.{Seen, Whole, Contents, certificate_cap}
 use Rattle.replies.specs.Analysis.{TrialsFind}
 use Rattle.replies.specs.Reply.{AcceptedReply, IsReply}
 
--- these bytes were read of a file that a command may have
+-- these bytes were read of an optional file
 abbrev pub IsSeen : Option (List ℕ) → Seen → Option (List ℕ) → Type 0
 IsSeen None seen list = list ≡ None
 IsSeen (Some name) seen None = ⊥
 IsSeen (Some name) seen (Some bytes) = seen ≡ Whole bytes
 
--- these bytes were read of the firmware and of the assumption file, if there is one of this name
+-- these bytes were read of the firmware, and of the assumption file if there is one
 pub record AreLoaded (assume : Option (List ℕ)) (seen : Contents) (firmware : List ℕ) (list : Option (List ℕ)) : Type 0 where
   pub firmware_read : seen.firmware ≡ Whole firmware
   pub list_read : IsSeen assume seen.assumptions list
 
--- and these of the second file
+-- these bytes were read of the second file too
 pub record AreRead (assume : Option (List ℕ)) (seen : Contents) (firmware second : List ℕ) (list : Option (List ℕ)) : Type 0 where
   pub loaded : AreLoaded assume seen firmware list
   pub second_read : seen.second ≡ Whole second
 
--- the assumptions of an assumption file's bytes, or none without such a file
+-- the assumptions in an assumption file's bytes, or none without such a file
 abbrev pub IsListOf : Option (List ℕ) → List Entry → Type 0
 IsListOf None A = A ≡ []
 IsListOf (Some bytes) A = IsListReading bytes A
 
--- the bytes of a firmware for a device and of an assumption file stand for these words and these assumptions
+-- the bytes of a firmware for a device and of an assumption file stand for these words and assumptions
 pub record Mean (device : Device) (firmware : List ℕ) (list : Option (List ℕ)) (words : Program) (A : List Entry) : Type 0 where
   pub image : IsFirmware device firmware words
   pub assumptions : IsListOf list A
 
--- and those of a certificate for this claim
+-- the bytes of a certificate stand for this claim too
 pub record StandFor (device : Device) (firmware certificate : List ℕ) (list : Option (List ℕ)) (words : Program) (claim : Claim) (A : List Entry) : Type 0 where
   pub mean : Mean device firmware list words A
   pub fits : IsCertificate claim
@@ -76,16 +76,16 @@ pub record StandFor (device : Device) (firmware certificate : List ℕ) (list : 
 
 -- ---- a certificate that is accepted
 
--- The text is that of the certificate's explanation, with these names of words, and this tells where the bytes of the bound go.
+-- The text is that of the certificate's explanation with these names of words, and the explanation accounts for the bytes of the bound.
 pub record IsExplained (names : List Named) (words : Program) (A : List Entry) (c : Claim) (text : List ℕ) : Type 0 where
   pub explanation : Explanation
   pub is : IsExplanation words A c explanation
   pub tells : Tells words A c explanation
   pub told : text ≡ explanation_text c.bound names explanation
 
--- The text tells, with these names, the words at which some node isn't clear, and those of vectors that may be taken though they have `never`
--- lines: each run from reset that ends flagged ends at one of the first, or by taking a vector at one of the others, so that none is flagged
--- where there are none. Without assumptions there are none exactly where `clear` accepts the certificate.
+-- The text lists, with these names, the words at which some node isn't clear, and those of vectors that may be taken despite `never`
+-- lines. Each run from reset that ends flagged ends at one of the first, or by taking a vector at one of the second, so no run does if
+-- there are none. Without assumptions there are none exactly if `clear` accepts the certificate.
 pub record TellsFlagged (names : List Named) (words : Program) (A : List Entry) (c : Claim) (text : List ℕ) : Type 0 where
   pub sites : List ℕ
   pub nevers : List ℕ
@@ -96,8 +96,8 @@ pub record TellsFlagged (names : List Named) (words : Program) (A : List Entry) 
   pub as_clear : A ≡ [] → (verdict : ClearVerdict) → IsClearVerdict words c verdict → (verdict ≡ AllClear) ↔ (sites ≡ [])
   pub told : text ≡ premises_text words names c.bound sites nevers
 
--- The same with what may happen there, for each word something: each run from reset that ends flagged ends where just what is flagged is told of
--- its word (this protected address, a pushed byte, or an unlisted word), or by taking a vector at one of the other words.
+-- As `TellsFlagged`, and each word has its causes: each run from reset that ends flagged ends at a word with the cause of its flag (this
+-- protected address, a pushed byte, or an unlisted word), or by taking a vector at one of the other words.
 pub record TellsCauses (names : List Named) (words : Program) (A : List Entry) (c : Claim) (text : List ℕ) : Type 0 where
   pub places : List FlaggedPlace
   pub nevers : List ℕ
@@ -109,7 +109,7 @@ pub record TellsCauses (names : List Named) (words : Program) (A : List Entry) (
   pub as_clear : A ≡ [] → (verdict : ClearVerdict) → IsClearVerdict words c verdict → (verdict ≡ AllClear) ↔ (places ≡ [])
   pub told : text ≡ why_text words names c.bound places nevers
 
--- by whether that is asked
+-- the list of words, with causes if they are asked for
 abbrev pub TellsPlaces : Bool → List Named → Program → List Entry → Claim → List ℕ → Type 0
 TellsPlaces false names words A c text = TellsFlagged names words A c text
 TellsPlaces true names words A c text = TellsCauses names words A c text
@@ -123,10 +123,10 @@ pub record IsDepthReached (words : Program) (A : List Entry) (depth : ℕ) : Typ
   pub ends : stop_of words A choices state ≡ End
   pub deep : depth_of words A choices state ≡ depth
 
--- The text is that of a certificate that is the accepted one but for its schedule, so that it has its bound, assumptions, instances and nodes,
--- and that is valid for the same words and assumptions. It is attained exactly where the accepted one is, or where one of so many guided trials
--- is as deep as the bound; its schedule is then that of the accepted one, or of the least such trial, and reaches the bound exactly. It is no
--- longer than a certificate that is read may be, where the accepted one is no longer.
+-- The text is that of a certificate that equals the accepted one but for its schedule, and is valid for the same words and assumptions.
+-- It is attained exactly if the accepted one is, or one of this many guided trials is as deep as the bound. Its schedule is that of the
+-- accepted one, or of the first such trial, and reaches the bound exactly. If the accepted text is within the limit for certificates, so
+-- is this one.
 pub record IsWrittenAttained (words : Program) (A : List Entry) (trials : ℕ) (c : Claim) (text : List ℕ) : Type 0 where
   pub claim : Claim
   pub fits : IsCertificate claim
@@ -137,7 +137,7 @@ pub record IsWrittenAttained (words : Program) (A : List Entry) (trials : ℕ) (
   pub reached : is_some claim.witness ≡ true → IsDepthReached words A claim.bound
   pub short : length (text_of c) ≤ certificate_cap → length text ≤ certificate_cap
 
--- what is said of an accepted certificate besides that its bound holds, for a firmware of these bytes with these words, by a text
+-- what a text states of an accepted certificate besides its bound, for a firmware of these bytes with these words
 abbrev pub Shows : Command → List ℕ → Program → List Entry → Claim → List ℕ → Type 0
 Shows (Explain device firmware certificate assume) bytes words A c text = IsExplained (firmware_names bytes) words A c text
 Shows (Clear device firmware certificate) bytes words A c text = IsBoundedAndClear words c.bound
@@ -145,10 +145,9 @@ Shows (Premises device firmware certificate assume why) bytes words A c text = T
 Shows (Attain device firmware certificate assume trials) bytes words A c text = IsWrittenAttained words A trials c text
 Shows command bytes words A c text = ⊤
 
--- The firmware's words on the command's device are such that no run of that machine from reset is deeper than the bound of the certificate with this text:
--- whatever memory held, whatever interrupts are taken and whatever bytes are read, up to the first step that is flagged under the
--- assumptions of the assumption file. The text that is printed is what the command answers of this certificate, the bound among it, and
--- shows what else it says.
+-- No run of the firmware's words on the command's device, from reset, is deeper than the bound of the certificate with this text. This
+-- holds whatever memory held, whatever interrupts are taken and whatever bytes are read, up to the first step that is flagged under the
+-- assumption file. The printed text is the command's answer on this certificate, with its bound, and states what else it should.
 pub record Holds (command : Command) (firmware certificate : List ℕ) (list : Option (List ℕ)) (text : List ℕ) : Type 0 where
   pub words : List ℕ
   pub claim : Claim
@@ -158,7 +157,7 @@ pub record Holds (command : Command) (firmware certificate : List ℕ) (list : O
   pub told : AcceptedReply command firmware words assumptions claim 0 text
   pub shows : Shows command firmware words assumptions claim text
 
--- bytes were read of all files of a command that judges a certificate, and the bound holds of them
+-- all files of a command that judges a certificate were read, and the bound holds of their bytes
 pub record HoldsAsRead (command : Command) (assume : Option (List ℕ)) (seen : Contents) (text : List ℕ) : Type 0 where
   pub firmware : List ℕ
   pub certificate : List ℕ
@@ -168,10 +167,10 @@ pub record HoldsAsRead (command : Command) (assume : Option (List ℕ)) (seen : 
 
 -- ---- a certificate that is written
 
--- The text is that of a valid certificate for the firmware on the device and the assumptions. No valid one has a smaller bound, and no run of the
--- machine is deeper than this one's. Where it has a schedule, the bound is reached, so that it is the worst case; it has one exactly where
--- one of the trials along its deepest chain is as deep as the bound. The text is no longer than a certificate that is read may be, so that a file
--- with it isn't refused as too long.
+-- The text is that of a valid certificate for the firmware on the device and the assumptions. No valid one has a smaller bound, and no
+-- run of the machine is deeper. With a schedule the bound is reached, so it is the worst case. The certificate has a schedule exactly if
+-- one of the trials along its deepest chain is as deep as the bound. The text is within the limit for certificates, so a file with it is
+-- not refused as too long.
 pub record IsLeastCertificate (device : Device) (firmware : List ℕ) (list : Option (List ℕ)) (text : List ℕ) : Type 0 where
   pub words : List ℕ
   pub claim : Claim
@@ -184,12 +183,12 @@ pub record IsLeastCertificate (device : Device) (firmware : List ℕ) (list : Op
   pub trials : TrialsFind words assumptions claim claim.witness
   pub short : length text ≤ certificate_cap
 
--- a `check` of this text, with the same device, firmware and assumptions, accepts it
+-- `check` of this text accepts, with the same device, firmware and assumptions
 abbrev pub IsAcceptedAgain : Device → Option (List ℕ) → Contents → List ℕ → Claim → Type 0
 IsAcceptedAgain device assume seen text c =
     (firmware certificate : List ℕ) → IsReply (Check device firmware certificate assume) (record seen { second = Whole text }) 0 (accepted c.bound (is_some c.witness))
 
--- bytes were read of all files of an analysis, and its text is that of their least certificate
+-- all files of an analysis were read, and its text is that of their least certificate
 pub record IsLeastAsRead (device : Device) (assume : Option (List ℕ)) (seen : Contents) (text : List ℕ) : Type 0 where
   pub firmware : List ℕ
   pub list : Option (List ℕ)
@@ -197,15 +196,15 @@ pub record IsLeastAsRead (device : Device) (assume : Option (List ℕ)) (seen : 
   pub certificate : IsLeastCertificate device firmware list text
   pub again : IsAcceptedAgain device assume seen text certificate.claim
 
--- bytes were read of all files of `attain`, the bound holds of them, and `check` accepts what is written
+-- all files of `attain` were read, the bound holds of their bytes, and `check` accepts what is written
 pub record IsAttainedAsRead (device : Device) (firmware certificate : List ℕ) (assume : Option (List ℕ)) (trials : ℕ) (seen : Contents) (text : List ℕ) : Type 0 where
   pub holds : HoldsAsRead (Attain device firmware certificate assume trials) assume seen text
   pub again : IsAcceptedAgain device assume seen text holds.holds.shows.claim
 
 -- ---- a run that is simulated
 
--- The text tells the run that the devices of this text choose. It is no deeper than the bound of any certificate that is valid for the same
--- firmware and assumptions, which are those that `check` accepts.
+-- The text reports the run that these devices choose. It is no deeper than the bound of any certificate that is valid for this firmware
+-- and these assumptions, and those are the ones that `check` accepts.
 pub record IsSimulated (device : Device) (steps : ℕ) (firmware devices : List ℕ) (list : Option (List ℕ)) (text : List ℕ) : Type 0 where
   pub words : List ℕ
   pub setup : Setup
@@ -215,7 +214,7 @@ pub record IsSimulated (device : Device) (steps : ℕ) (firmware devices : List 
   pub told : text ≡ run_text (simulation_of words assumptions setup steps)
   pub within : (c : Claim) → IsClaim c → IsValid words assumptions c → (simulation_of words assumptions setup steps).depth ≤ c.bound
 
--- bytes were read of all its files
+-- all files of a simulation were read, and its text is such a report
 pub record IsSimulatedAsRead (device : Device) (assume : Option (List ℕ)) (steps : ℕ) (seen : Contents) (text : List ℕ) : Type 0 where
   pub firmware : List ℕ
   pub devices : List ℕ
@@ -225,7 +224,7 @@ pub record IsSimulatedAsRead (device : Device) (assume : Option (List ℕ)) (ste
 
 -- ---- the numbers of an image
 
--- the text tells the size of the image and the numbers of the certificate at which its rounds end
+-- the text has the size of the image and the numbers of the certificate at which its rounds end
 pub record IsMeasured (size : ℕ) (text : List ℕ) : Type 0 where
   pub claim : Claim
   pub fits : IsClaim claim
@@ -234,10 +233,9 @@ pub record IsMeasured (size : ℕ) (text : List ℕ) : Type 0 where
 
 -- ---- what status 0 says
 
--- where a certificate is accepted, the bound holds, an explanation tells where its bytes go, no step is flagged where all nodes are clear, and
--- steps are flagged only at the words that are told, and as it is told; where one is written, it is the least, or the accepted one with a schedule that reaches its
--- bound; a simulated run keeps each bound that is accepted;
--- the numbers of an image are those of its rounds
+-- If a certificate is accepted, the bound holds, an explanation accounts for its bytes, no step is flagged if all nodes are clear, and
+-- steps are flagged only at listed words with listed causes. If one is written, it is the least, or the accepted one with a schedule that
+-- reaches its bound. A simulated run stays within each accepted bound. The numbers of an image are those of its rounds.
 abbrev pub Headline : Command → Contents → ℕ → List ℕ → Type 0
 Headline (Check device firmware certificate assume) seen status text = status ≡ 0 → HoldsAsRead (Check device firmware certificate assume) assume seen text
 Headline (Analyse device firmware assume steps) seen status text = status ≡ 0 → IsLeastAsRead device assume seen text
@@ -254,23 +252,23 @@ Headline (Demo size) seen status text = status ≡ 0 → IsMeasured size text
 
 -- ---- when the answers come
 
--- when a command accepts a certificate, for these words under these assumptions: it is valid, and for `clear` all nodes are clear
+-- the certificate that a command accepts, for these words under these assumptions: it is valid, and for `clear` all nodes are clear
 abbrev pub Accepts : Command → Program → List Entry → Claim → Type 0
 Accepts (Clear device firmware certificate) words A c = IsValid words A c × AreAllClear words A c
 Accepts command words A c = IsValid words A c
 
--- when it says that a node isn't clear
+-- the certificate has a node that isn't clear, for a command that asks
 abbrev pub Blames : Command → Program → List Entry → Claim → Type 0
 Blames (Clear device firmware certificate) words A c = IsValid words A c × ((node pc : ℕ) × IsFirstUnclear words A c node pc)
 Blames command words A c = ⊥
 
--- the status says whether the certificate is accepted, whether a node isn't clear, and whether it isn't valid
+-- the status says whether the certificate is accepted, has a node that isn't clear, or isn't valid
 pub record SaysWhether (command : Command) (words : Program) (A : List Entry) (c : Claim) (status : ℕ) : Type 0 where
   pub accepted : (status ≡ 0) ↔ Accepts command words A c
   pub unclear : (status ≡ 13) ↔ Blames command words A c
   pub rejected : (status ≡ 1) ↔ (IsValid words A c → ⊥)
 
--- the same of the files of a command, where they read as values
+-- `SaysWhether` for the files of a command, if they are well-formed
 abbrev pub AcceptsExactly : Command → Option (List ℕ) → Contents → ℕ → Type 0
 AcceptsExactly command assume seen status =
     (firmware certificate : List ℕ) (list : Option (List ℕ)) (words : Program) (claim : Claim) (A : List Entry)
@@ -280,22 +278,22 @@ AcceptsExactly command assume seen status =
 abbrev pub HasValid : Program → List Entry → Type 0
 HasValid words A = (c : Claim) × IsClaim c × IsValid words A c
 
--- The status says how the rounds end: within the budget with a certificate, or with a cause against it, or at none of the families that
--- the budget serves for. Without a budget there is a certificate exactly where one is valid.
+-- The status says how the rounds end: within the budget with a certificate, or with a cause against it, or at no family within the
+-- budget. Without a budget the answer is a certificate exactly if a valid one exists.
 pub record SaysHowRoundsEnd (words : Program) (A : List Entry) (steps : Option ℕ) (status : ℕ) : Type 0 where
   pub solved : (status ≡ 0) ↔ ((c : Claim) × IsClaim c × IsAnswer words A steps c)
   pub refused : (status ≡ 10) ↔ ((r : Refusal) × (r ≢ Memory) × IsRefusal words A steps r)
   pub spent : (status ≡ 11) ↔ ((n : ℕ) × (steps ≡ Some n) × GoesBeyond words A n)
   pub valid : steps ≡ None → (status ≡ 0) ↔ HasValid words A
 
--- the same of the files of an analysis, where they read as values
+-- `SaysHowRoundsEnd` for the files of an analysis, if they are well-formed
 abbrev pub AnswersRounds : Device → Option (List ℕ) → Option ℕ → Contents → ℕ → Type 0
 AnswersRounds device assume steps seen status =
     (firmware : List ℕ) (list : Option (List ℕ)) (words : Program) (A : List Entry)
     → AreLoaded assume seen firmware list → Mean device firmware list words A → SaysHowRoundsEnd words A steps status
 
--- Where the files of a simulation read, and firmware and assumptions stand for values, it is refused exactly where the devices' text is that
--- of none.
+-- If the files of a simulation were read, and firmware and assumptions are well-formed, it is refused exactly if the devices' text is
+-- malformed.
 abbrev pub AnswersDevices : Device → Option (List ℕ) → Contents → ℕ → Type 0
 AnswersDevices device assume seen status =
     (firmware devices : List ℕ) (list : Option (List ℕ)) (words : Program) (A : List Entry)
@@ -315,16 +313,16 @@ IsExact (Demo size) seen status = SaysHowRoundsEnd (demo_words size) [] None sta
 
 -- ---- laws
 
--- what was read of a command's files has one answer
+-- the answer to what was read of a command's files is unique
 abbrev pub RepliesAreOne : Type 0
 RepliesAreOne = (command : Command) (seen : Contents) (s t : ℕ) (a b : List ℕ) → IsReply command seen s a → IsReply command seen t b → (s ≡ t) × (a ≡ b)
 
--- the words of a command's firmware have 16 bits, as those of every flash have
+-- the words of a command's firmware have 16 bits
 abbrev pub HasWords : Command → List ℕ → Type 0
 HasWords (Demo size) firmware = ⊤
 HasWords command firmware = AreWords (firmware_words (device_for command) firmware)
 
--- the same of the firmware that was read
+-- `HasWords` for the firmware that was read
 abbrev pub ReadsWords : Command → Contents → Type 0
 ReadsWords command seen = (firmware : List ℕ) → seen.firmware ≡ Whole firmware → HasWords command firmware
 
@@ -335,13 +333,13 @@ AcceptingRepliesHold =
 abbrev pub RepliesAreExact : Type 0
 RepliesAreExact = (command : Command) (seen : Contents) (status : ℕ) (text : List ℕ) → IsReply command seen status text → IsExact command seen status
 
--- names that say the same give the same texts of words at which a step may be flagged
+-- lists of names that agree on each word give the same texts of words at which a step may be flagged
 abbrev pub PlacesSayTheSame : Type 0
 PlacesSayTheSame =
     (words : Program) (names others : List Named) (bound : ℕ) (sites nevers : List ℕ) → SayTheSame names others
     → premises_text words names bound sites nevers ≡ premises_text words others bound sites nevers
 
--- and the same texts of them with what may happen there
+-- they also give the same texts of these words with causes
 abbrev pub CausesSayTheSame : Type 0
 CausesSayTheSame =
     (words : Program) (names others : List Named) (bound : ℕ) (places : List FlaggedPlace) (nevers : List ℕ) → SayTheSame names others

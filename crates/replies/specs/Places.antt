@@ -1,4 +1,4 @@
--- What is told of the words at which a step may be flagged. Source: own.
+-- The texts of the words at which a step may be flagged. Source: own.
 use Rattle.std.specs.Prelude.{ℕ, zero, suc, ◌+◌, Bool, true, false, nat_lt, List, [], ◌∷◌, ◌++◌, length, map, take, codes, decimal, Option, Some, None}
 use Rattle.std.specs.List.{flat_map}
 use Rattle.sb_base.specs.Digits.{hex_digits}
@@ -18,7 +18,7 @@ clear_text bound = told (codes "clear" ∷ codes "bound" ∷ decimal bound ∷ [
 abbrev pub place_words : Program → ℕ → List (List ℕ)
 place_words words pc = codes "at" ∷ hex_digits pc 4 ∷ instruction_told words pc
 
--- the number of the least node that may, and its place
+-- the number of the first node that may, and its place
 abbrev pub unclear_text : Program → ℕ → ℕ → List ℕ
 unclear_text words node pc = told (codes "unclear" ∷ codes "node" ∷ decimal node ∷ place_words words pc)
 
@@ -28,26 +28,26 @@ abbrev pub name_or : Option (List ℕ) → Option (List ℕ) → Option (List �
 name_or None other = other
 name_or (Some name) other = Some name
 
--- the name of the greatest word that has one, of this word and those before it
+-- the name of this word, or else of the nearest named word before it
 unfoldable pub name_up_to : List Named → ℕ → Option (List ℕ)
 name_up_to names zero = least_name names zero
 name_up_to names (suc pc) = name_or (least_name names (suc pc)) (name_up_to names pc)
 
--- a word, the instruction there, and the name under which it stands
+-- a word, the instruction there, and the name of its function
 abbrev pub place_line : Program → List Named → ℕ → List (List ℕ)
 place_line words names pc = place_words words pc ++ codes "in" ∷ name_word (name_up_to names pc) ∷ []
 
 abbrev pub place_text : Program → List Named → ℕ → List ℕ
 place_text words names pc = line (place_line words names pc)
 
--- a word at which a vector is entered that may be taken, though it is said that it never is
+-- the word of a vector that may be taken although it is assumed never to be
 abbrev pub never_line : ℕ → List (List ℕ)
 never_line word = codes "never" ∷ hex_digits word 4 ∷ []
 
 abbrev pub never_text : ℕ → List ℕ
 never_text word = line (never_line word)
 
--- the bound of the certificate, and how many such words there are of both kinds
+-- the bound of the certificate, and the number of words of both kinds
 abbrev pub count_line : ℕ → ℕ → List (List ℕ)
 count_line bound count = codes "bound" ∷ decimal bound ∷ codes "places" ∷ decimal count ∷ []
 
@@ -61,7 +61,7 @@ abbrev pub word_where : Bool → List ℕ → List (List ℕ)
 word_where true word = word ∷ []
 word_where false word = []
 
--- the first eight data addresses, and dots where there are more
+-- the first eight data addresses, and dots if there are more
 abbrev pub first_addresses : List ℕ → List (List ℕ)
 first_addresses addresses = map word_text (take 8 addresses) ++ word_where (nat_lt 8 (length addresses)) (codes "..")
 
@@ -73,7 +73,7 @@ protected_words (address ∷ addresses) = codes "protected" ∷ first_addresses 
 abbrev pub cause_words : FlaggedPlace → List (List ℕ)
 cause_words place = protected_words place.protected ++ (word_where place.live (codes "live") ++ word_where place.transfer (codes "transfer"))
 
--- a word with what may happen there
+-- a word with its causes
 abbrev pub why_line : Program → List Named → FlaggedPlace → List (List ℕ)
 why_line words names place = place_line words names place.word ++ cause_words place
 

@@ -1,15 +1,15 @@
--- What is read of a command's files. Source: own.
+-- The contents of a command's files, as read. Source: own.
 use Rattle.std.specs.Prelude.{ℕ, ◌≡◌, ◌≤◌, List, length, ⊤, Bool, true, false, Option, Some, None}
 use Rattle.sb_base.specs.Outside.{Held, Blamed, Gives, MayExceed, IsBlamed}
 use Rattle.commands.specs.Commands.{Command, Run, Simulate, Role, Firmware, Second, Assumptions, name_of, IsFileOf}
 
--- what was read of a file: nothing so far, all its bytes, or that it is longer than its cap
+-- nothing was read of a file yet, all its bytes were, or it is longer than its cap
 pub data Seen : Type 0 where
   Unread : Seen
   Whole : (bytes : List ℕ) → Seen
   Long : Seen
 
--- what was read of the files of a command, each by its role
+-- the contents of a command's files, by role
 pub record Contents : Type 0 where
   pub firmware : Seen
   pub second : Seen
@@ -50,7 +50,7 @@ cap_of command Assumptions = assumption_cap
 
 -- ---- what files tell
 
--- what was read agrees with what a files object tells of it
+-- the contents agree with what the files object reports
 abbrev pub Agrees : Held → ℕ → Seen → Type 0
 Agrees held cap Unread = ⊤
 Agrees held cap (Whole bytes) = Gives held bytes × (length bytes ≤ cap)
@@ -60,13 +60,13 @@ abbrev pub AgreesUnder : (List ℕ → Held) → ℕ → Option (List ℕ) → S
 AgreesUnder holds cap None seen = ⊤
 AgreesUnder holds cap (Some name) seen = Agrees (holds name) cap seen
 
--- the same of each file of a command
+-- the contents of each file of a command agree with what the files object reports
 abbrev pub AllAgree : Command → (List ℕ → Held) → Contents → Type 0
 AllAgree command holds seen = (role : Role) → AgreesUnder holds (cap_of command role) (name_of command role) (seen_of seen role)
 
 -- ---- a read that failed
 
--- files are read in the order firmware, second file, assumptions
+-- the order of reading: firmware, second file, assumptions
 abbrev pub is_before : Role → Role → Bool
 is_before Firmware Firmware = false
 is_before Firmware role = true
@@ -74,12 +74,12 @@ is_before Second Assumptions = true
 is_before Second role = false
 is_before Assumptions role = false
 
--- some bytes within the cap agree with what is told of the file, if the command has one
+-- if the command has this file, some bytes within the cap agree with what is reported
 abbrev pub WasRead : (List ℕ → Held) → ℕ → Option (List ℕ) → Type 0
 WasRead holds cap None = ⊤
 WasRead holds cap (Some name) = (bytes : List ℕ) × Agrees (holds name) cap (Whole bytes)
 
--- The file of this name is the first of the command's that couldn't be read: those before it were, and the files object blames it.
+-- The file of this name is the first of the command's that could not be read: those before it were, and the files object names it.
 pub record IsFirstFailed (command : Command) (holds : List ℕ → Held) (blamed : Blamed) (name : List ℕ) : Type 0 where
   pub role : Role
   pub is : IsFileOf command role name

@@ -1,4 +1,4 @@
--- What the program answers to a command, in terms of what was read of its files. Source: own.
+-- The program's answer to a command, by the contents of its files. Source: own.
 use Rattle.std.specs.Prelude.{◌⊎◌, ℕ, ◌==◌, ◌&&◌, List, [], ◌∷◌, Bool, true, false, Option, Some, None, Result, Ok, Err}
 use Rattle.std.specs.Option.{is_some}
 use Rattle.avr_model.specs.declared.assumption.Entry.{Entry}
@@ -49,18 +49,18 @@ pub use Rattle.replies.specs.Says.{Reply, Says, Refuses}
 
 -- ---- files
 
--- the bytes of a file that is read, and what follows with them
+-- continues with the bytes of a file that was read
 abbrev pub WithFile : List ℕ → Seen → (List ℕ → Reply) → Reply
 WithFile name Unread next status text = ⊥
 WithFile name (Whole bytes) next status text = next bytes status text
 WithFile name Long next status text = Says 5 (too_long name) status text
 
--- the same of a file that a command may have; where it has none, no bytes
+-- continues with the bytes of an optional file, or with none
 abbrev pub WithBytes : Option (List ℕ) → Seen → (List ℕ → Reply) → Reply
 WithBytes None seen next status text = next [] status text
 WithBytes (Some name) seen next status text = WithFile name seen next status text
 
--- the same where no file isn't the same as an empty one
+-- continues with the bytes of an optional file, where no file differs from an empty one
 abbrev pub WithOptional : Option (List ℕ) → Seen → (Option (List ℕ) → Reply) → Reply
 WithOptional None seen next status text = next None status text
 WithOptional (Some name) seen next status text = WithFile name seen (λ bytes. next (Some bytes)) status text
@@ -71,7 +71,7 @@ abbrev pub ImageBy : Option (List ℕ) → Reply → Reply
 ImageBy (Some refusal) reply status text = Says 6 refusal status text
 ImageBy None reply status text = reply status text
 
--- the words of a firmware on a device, and what follows with them
+-- continues with the words of a firmware on a device
 abbrev pub WithImage : Device → List ℕ → (List ℕ → Reply) → Reply
 WithImage device bytes next = ImageBy (firmware_fault device bytes) (next (firmware_words device bytes))
 
@@ -79,7 +79,7 @@ abbrev pub ListBy : Result (List Entry) AssumeText → (List Entry → Reply) �
 ListBy (Ok entries) next status text = next entries status text
 ListBy (Err fault) next status text = Refuses 7 (assumptions_refused fault) status text
 
--- the assumptions of a file, or none without one, and what follows with them
+-- continues with the assumptions of a file, or with none
 abbrev pub WithList : Option (List ℕ) → (List Entry → Reply) → Reply
 WithList None next = next []
 WithList (Some bytes) next = ListBy (entries_in bytes) next
@@ -90,12 +90,12 @@ abbrev pub is_end : Stop → Bool
 is_end stop.End = true
 is_end _ = false
 
--- the schedule meets no illegal choice, ends without a stop, and its depth is the bound
+-- the schedule meets no illegal choice, ends without a stop, and is as deep as the bound
 abbrev pub attains : ℕ → Result Replayed ℕ → Bool
 attains bound (Err step) = false
 attains bound (Ok r) = is_end r.stop && (r.depth == bound)
 
--- what follows where it does
+-- continues if the schedule attains the bound
 abbrev pub AttainedBy : Reply → Bool → Reply
 AttainedBy next true status text = next status text
 AttainedBy next false status text = Says 1 witness_rejected status text
@@ -108,13 +108,13 @@ abbrev pub VerdictReply : Program → List Entry → (Claim → Reply) → Claim
 VerdictReply words A next c (Rejected reason) status text = Says 1 (rejected reason) status text
 VerdictReply words A next c (Accepted bound) status text = WitnessReply words A (next c) bound c.witness status text
 
--- by the verdict on a certificate
+-- the answer by the verdict on a certificate
 pub record JudgedReply (words : Program) (A : List Entry) (next : Claim → Reply) (c : Claim) (status : ℕ) (text : List ℕ) : Type 0 where
   pub verdict : Verdict
   pub is : IsVerdict words A c verdict
   pub reply : VerdictReply words A next c verdict status text
 
--- of a certificate that is read, and what follows with one that is accepted
+-- the answer to a certificate that is read; continues with an accepted one
 abbrev pub CertificateReply : Program → List Entry → (Claim → Reply) → Result Claim CertFault → Reply
 CertificateReply words A next (Err fault) status text = Refuses 8 (certificate_refused fault) status text
 CertificateReply words A next (Ok c) status text = JudgedReply words A next c status text
@@ -123,18 +123,18 @@ abbrev pub report_by : Bool → Device → List Named → Option ℕ → Claim �
 report_by true device names end c = json_text device c names end
 report_by false device names end c = plain_text device c names end
 
--- what a command tells of a certificate that it accepts, for a firmware of these bytes
+-- what a command prints of a certificate that it accepts, for a firmware of these bytes
 abbrev pub told_of : Command → List ℕ → Claim → List ℕ
 told_of (Report device firmware certificate assume json) bytes c = report_by json device (firmware_names bytes) (firmware_end bytes) c
 told_of command bytes c = accepted c.bound (is_some c.witness)
 
--- the explanation of a certificate is told, with these names of words
+-- the answer is the explanation of a certificate, with these names of words
 pub record ExplainReply (names : List Named) (words : Program) (A : List Entry) (c : Claim) (status : ℕ) (text : List ℕ) : Type 0 where
   pub explanation : Explanation
   pub is : IsExplanation words A c explanation
   pub says : Says 0 (explanation_text c.bound names explanation) status text
 
--- all nodes of a certificate are clear, or the least that isn't is told
+-- the answer by whether all nodes of a certificate are clear
 abbrev pub ClearSays : Program → Claim → ClearVerdict → Reply
 ClearSays words c clear.Clear status text = Says 0 (clear_text c.bound) status text
 ClearSays words c (clear.Unclear node pc) status text = Says 13 (unclear_text words node pc) status text
@@ -144,8 +144,8 @@ pub record ClearReply (words : Program) (c : Claim) (status : ℕ) (text : List 
   pub is : IsClearVerdict words c verdict
   pub says : ClearSays words c verdict status text
 
--- All words at which some node of a certificate isn't clear are told, with these names of words, and those of vectors that may be taken
--- though they have `never` lines.
+-- The answer lists all words at which some node of a certificate isn't clear, with these names, and those of vectors that may be taken
+-- despite `never` lines.
 pub record PremisesReply (names : List Named) (words : Program) (A : List Entry) (c : Claim) (status : ℕ) (text : List ℕ) : Type 0 where
   pub sites : List ℕ
   pub nevers : List ℕ
@@ -153,7 +153,7 @@ pub record PremisesReply (names : List Named) (words : Program) (A : List Entry)
   pub are_nevers : AreNevers words A c nevers
   pub says : Says 0 (premises_text words names c.bound sites nevers) status text
 
--- the same with what may happen there
+-- the answer lists the words of `PremisesReply`, with causes
 pub record WhyReply (names : List Named) (words : Program) (A : List Entry) (c : Claim) (status : ℕ) (text : List ℕ) : Type 0 where
   pub places : List FlaggedPlace
   pub nevers : List ℕ
@@ -161,20 +161,19 @@ pub record WhyReply (names : List Named) (words : Program) (A : List Entry) (c :
   pub are_nevers : AreNevers words A c nevers
   pub says : Says 0 (why_text words names c.bound places nevers) status text
 
--- by whether that is asked
+-- the list with causes, or without
 abbrev pub PlacesReply : Bool → List Named → Program → List Entry → Claim → Reply
 PlacesReply false names words A c status text = PremisesReply names words A c status text
 PlacesReply true names words A c status text = WhyReply names words A c status text
 
--- The certificate is written, as it is where it has a schedule, and else with the one that so many guided trials find, which attains its
--- bound.
+-- The answer is the certificate with its own schedule, or else with the one that guided trials find, which attains its bound.
 pub record AttainReply (words : Program) (A : List Entry) (trials : ℕ) (c : Claim) (status : ℕ) (text : List ℕ) : Type 0 where
   pub claim : Claim
   pub completed : IsCompleted words A trials c claim
   pub attained : IsAttained words A c.bound claim.witness
   pub says : Says 0 (text_of claim) status text
 
--- what a command answers where it accepts a certificate, for a firmware of these bytes with these words, under these assumptions
+-- the answer of a command that accepts a certificate, for a firmware of these bytes with these words, under these assumptions
 abbrev pub AcceptedReply : Command → List ℕ → Program → List Entry → Claim → Reply
 AcceptedReply (Explain device firmware certificate assume) bytes words A c = ExplainReply (firmware_names bytes) words A c
 AcceptedReply (Clear device firmware certificate) bytes words A c = ClearReply words c
@@ -199,20 +198,20 @@ ScheduleReply words A (Ok read) status text = EndsBefore read.1.rest read.1.at (
 
 -- ---- simulate
 
--- of the text of devices that is read: what a replay tells, of the run that they choose
+-- the report of the run that devices choose, if their text is well-formed
 abbrev pub SimulateReply : Program → List Entry → ℕ → Result Setup DevicesFault → Reply
 SimulateReply words A steps (Err fault) status text = Refuses 14 (devices_refused fault) status text
 SimulateReply words A steps (Ok setup) status text = Says 0 (run_text (simulation_of words A setup steps)) status text
 
 -- ---- analyse and demo
 
--- the certificate of an analysis is written
+-- the answer is the certificate of an analysis
 pub record AnalysedReply (words : Program) (A : List Entry) (steps : Option ℕ) (status : ℕ) (text : List ℕ) : Type 0 where
   pub claim : Claim
   pub analysis : IsAnalysis words A steps claim
   pub says : Says 0 (text_of claim) status text
 
--- it is told why there is none
+-- the answer is the reason for having no certificate
 pub record WhyNotReply (words : Program) (A : List Entry) (steps : Option ℕ) (status : ℕ) (text : List ℕ) : Type 0 where
   pub refusal : Refusal
   pub why : IsWhyNot words A steps refusal
@@ -221,7 +220,7 @@ pub record WhyNotReply (words : Program) (A : List Entry) (steps : Option ℕ) (
 abbrev pub AnalyseReply : Program → List Entry → Option ℕ → Reply
 AnalyseReply words A steps status text = AnalysedReply words A steps status text ⊎ WhyNotReply words A steps status text
 
--- the numbers of the certificate of an image are told
+-- the answer has the numbers of an image's certificate
 pub record MeasuredReply (size : ℕ) (status : ℕ) (text : List ℕ) : Type 0 where
   pub claim : Claim
   pub fits : IsClaim claim
@@ -233,7 +232,7 @@ DemoReply size status text = MeasuredReply size status text ⊎ WhyNotReply (dem
 
 -- ---- all
 
--- What is made of the words of a firmware of these bytes, and of the bytes of its second file, under these assumptions. `clear` has none.
+-- The answer for the words of a firmware of these bytes, the bytes of its second file, and these assumptions. `clear` has none.
 abbrev pub FlashReply : Command → List ℕ → List ℕ → Program → List Entry → Reply
 FlashReply (Analyse device name assume steps) firmware bytes words A = AnalyseReply words A steps
 FlashReply (Run device name schedule assume) firmware bytes words A = ScheduleReply words A (schedule_in (record { at = 0; rest = lines_of bytes }))
@@ -242,13 +241,12 @@ FlashReply (Demo size) firmware bytes words A = DemoReply size
 FlashReply (Clear device name certificate) firmware bytes words A = CertificateReply words [] (ClearReply words) (certificate_in bytes)
 FlashReply command firmware bytes words A = CertificateReply words A (AcceptedReply command firmware words A) (certificate_in bytes)
 
--- The firmware, the assumptions and the second file are looked at in this order. `demo` has none of them.
+-- Firmware, assumptions and the second file are examined in this order. `demo` has none of them.
 abbrev pub WorkReply : Command → List ℕ → List ℕ → Option (List ℕ) → Reply
 WorkReply (Demo size) firmware second list = DemoReply size
 WorkReply command firmware second list = WithImage (device_for command) firmware (λ words. WithList list (λ A. FlashReply command firmware second words A))
 
--- The status and the text are the answer to a command of whose files this was read. The files are read in this order, and only then is
--- anything made of them.
+-- The status and the text answer a command whose files have these contents. Files are read in this order before any is examined.
 abbrev pub IsReply : Command → Contents → Reply
 IsReply command seen =
     WithBytes (name_of command Firmware) seen.firmware

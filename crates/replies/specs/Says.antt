@@ -1,7 +1,7 @@
--- A status, and the text that goes with it.
+-- A status with its text.
 use Rattle.std.specs.Prelude.{◌≡◌, ℕ, List, Option, Some, None}
 
--- which status and which text are the answer
+-- which status and text are the answer
 abbrev pub Reply : Type 1
 Reply = ℕ → List ℕ → Type 0
 

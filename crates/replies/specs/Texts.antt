@@ -1,5 +1,5 @@
--- What is printed: one line of words. `line_writing` of sb_base says that a writer's line of words is their text with one
--- space between each two and a line feed behind them.
+-- Printed texts, each one line of words. `line_writing` of sb_base writes a line of words as their text with one space between each two
+-- and a line feed at the end.
 use Rattle.std.specs.Option.{option_map}
 use Rattle.std.specs.Prelude.{ℕ, List, [], ◌∷◌, length, codes, decimal, Bool, true, false, ◌≡◌, Option, Some, None}
 use Rattle.sb_base.specs.Digits.{hex_digits}
@@ -56,12 +56,12 @@ refusal_words EntrySize = codes "5" ∷ []
 refusal_words (SegmentOutside i) = codes "6" ∷ codes "segment" ∷ decimal i ∷ []
 refusal_words (Overlap j i) = codes "7" ∷ codes "segments" ∷ decimal j ∷ decimal i ∷ []
 
--- the words of a refusal were written; where there is none, nothing is said
+-- the words of a refusal were written; nothing is claimed without a refusal
 abbrev pub IsRefusalWritten : Written → Written → Option ElfRefusal → Type 0
 IsRefusalWritten before after None = ⊥
 IsRefusalWritten before after (Some refusal) = after ≡ with_words before (refusal_words refusal)
 
--- these words were written; where there are none, nothing is said
+-- these words were written; nothing is claimed without words
 abbrev pub AreWritten : Written → Written → Option (List (List ℕ)) → Type 0
 AreWritten before after None = ⊥
 AreWritten before after (Some words) = after ≡ with_words before words
@@ -69,11 +69,11 @@ AreWritten before after (Some words) = after ≡ with_words before words
 abbrev pub elf_refused : ElfRefusal → List ℕ
 elf_refused refusal = told (codes "firmware" ∷ codes "elf" ∷ refusal_words refusal)
 
--- the least word behind the device's flash that the firmware fills
+-- the first word behind the device's flash that the firmware fills
 abbrev pub firmware_outside : ℕ → List ℕ
 firmware_outside word = told (codes "firmware" ∷ codes "outside" ∷ codes "at" ∷ hex_digits word 4 ∷ [])
 
--- the line of an assumption file that is refused, from 1; want of memory has no text
+-- the line of an assumption file that is refused, from 1; running out of memory has no text
 abbrev pub assumption_words : AssumeText → Option (List (List ℕ))
 assumption_words (assume.Malformed line) = Some (codes "malformed" ∷ codes "line" ∷ decimal line ∷ [])
 assumption_words (assume.Order line) = Some (codes "order" ∷ codes "line" ∷ decimal line ∷ [])
@@ -86,7 +86,7 @@ abbrev pub limit_word : Limit → List ℕ
 limit_word limit.Nodes = codes "nodes"
 limit_word limit.Cells = codes "cells"
 
--- the offset of the line of a certificate that is refused, or the limit that is passed; want of memory has no text
+-- the offset of the line of a certificate that is refused, or the limit that is passed; running out of memory has no text
 abbrev pub certificate_words : CertFault → Option (List (List ℕ))
 certificate_words (cert.Malformed at) = Some (codes "malformed" ∷ codes "at" ∷ decimal at ∷ [])
 certificate_words (cert.Order at) = Some (codes "order" ∷ codes "at" ∷ decimal at ∷ [])
@@ -102,12 +102,12 @@ schedule_malformed at = told (codes "schedule" ∷ codes "malformed" ∷ codes "
 abbrev pub schedule_illegal : ℕ → List ℕ
 schedule_illegal step = told (codes "schedule" ∷ codes "illegal" ∷ codes "step" ∷ decimal step ∷ [])
 
--- the offset of the line of the devices' text that is refused; want of memory has no text
+-- the offset of the line of the devices' text that is refused; running out of memory has no text
 abbrev pub devices_refused : DevicesFault → Option (List ℕ)
 devices_refused (devices.Malformed at) = Some (told (codes "devices" ∷ codes "malformed" ∷ codes "at" ∷ decimal at ∷ []))
 devices_refused devices.Memory = None
 
--- attained where the certificate has a schedule
+-- attained, if the certificate has a schedule
 abbrev pub witness_word : Bool → List ℕ
 witness_word true = codes "attained"
 witness_word false = codes "open"
@@ -115,7 +115,7 @@ witness_word false = codes "open"
 abbrev pub accepted : ℕ → Bool → List ℕ
 accepted bound attained = told (codes "accepted" ∷ codes "bound" ∷ decimal bound ∷ witness_word attained ∷ [])
 
--- the words behind `rejected`, the first one the reason's number
+-- the words after `rejected`, the first one the reason's number
 abbrev pub reason_words : Reason → List (List ℕ)
 reason_words Root = codes "1" ∷ codes "root" ∷ []
 reason_words (Node at cause) = codes "2" ∷ codes "node" ∷ decimal at ∷ codes "cause" ∷ decimal cause ∷ []
@@ -147,21 +147,21 @@ run_text r =
 
 -- ---- in place of a certificate
 
--- the text of the instruction, or the word in digits where it is none on the device
+-- the text of the instruction, or the word in digits if it is no instruction of the device
 abbrev pub instruction_words : Option Instr → ℕ → ℕ → List (List ℕ)
 instruction_words (Some instr) word at = instruction.text_of instr at ∷ []
 instruction_words None word at = codes "opcode" ∷ hex_digits word 4 ∷ []
 
--- the same of the instruction at a word address
+-- the instruction at a word address, or the word in digits
 abbrev pub instruction_told : Program → ℕ → List (List ℕ)
 instruction_told words at = instruction_words (instruction_at words at) (word_at words at) at
 
--- the number of a cause, its name, and the word at which it is
+-- the number and name of a cause, and its word
 abbrev pub cause_at : List ℕ → List ℕ → ℕ → List (List ℕ) → Option (List (List ℕ))
 cause_at number name at more = Some (codes "refused" ∷ number ∷ name ∷ codes "at" ∷ hex_digits at 4 ∷ more)
 
--- The words in place of a certificate: the cause for which there is none with what it names, or the number of rounds that don't suffice.
--- Want of memory has none.
+-- The words in place of a certificate: the cause with what it names, or the number of rounds that did not suffice. Running out of memory
+-- has none.
 abbrev pub why_not_words : Program → Refusal → Option (List (List ℕ))
 why_not_words words (refusal.UnresolvedJump at) = cause_at (codes "1") (codes "unresolved-jump") at (instruction_told words at)
 why_not_words words (refusal.Recursion at) = cause_at (codes "2") (codes "recursion") at []

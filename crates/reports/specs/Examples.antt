@@ -14,14 +14,14 @@ use Rattle.certificate.specs.Claims.{Claim}
 use Rattle.reports.specs.Report.{room, fits_word, text_lines}
 use Rattle.reports.specs.Json.{json_text}
 
--- a root that needs 9 bytes, a call of word 0040, and the vector 17
+-- a root with a need of 9 bytes, a call of word 0040, and the vector 17
 abbrev pub blinker_insts : List Inst
 blinker_insts =
     record { key = record { kind = Root; entry = 0; masks = 0; i = false }; rank = 2; need = 9 }
     ∷ record { key = record { kind = Call; entry = 0x40; masks = 0; i = false }; rank = 1; need = 7 }
     ∷ record { key = record { kind = Vector 17; entry = 0x20; masks = 0x8000; i = false }; rank = 0; need = 5 } ∷ []
 
--- a certificate of these instances; nodes aren't reported
+-- a certificate of these instances; a report has no nodes
 abbrev pub blinker : Option Plan → Claim
 blinker witness = record { version = Two; bound = 9; assumptions = []; instances = blinker_insts; nodes = []; witness = witness }
 
@@ -45,7 +45,7 @@ just_fits = refl
 one_too_many : fits_word M328 2045 0x0104 ≡ codes "no"
 one_too_many = refl
 
--- on a small device static data may end behind SRAM, and then nothing fits
+-- on a small device static data may end behind SRAM; then nothing fits
 small_room : room M48 0x0104 ≡ 508
 small_room = refl
 

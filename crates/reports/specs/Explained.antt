@@ -1,4 +1,4 @@
--- The text of an explanation: where the bytes of a bound go, as lines of words. Source: own.
+-- The text of an explanation as lines of words. Source: own.
 use Rattle.std.specs.Prelude.{ℕ, List, [], ◌∷◌, ◌++◌, map, codes, decimal}
 use Rattle.std.specs.List.{flat_map}
 use Rattle.sb_base.specs.Digits.{hex_digits}
@@ -9,11 +9,11 @@ use Rattle.chain_explain.specs.declared.explanation.Explanation.{Explanation}
 use Rattle.chain_explain.specs.declared.explanation.Part.{Part}
 use Rattle.reports.specs.Report.{name_word}
 
--- the bound of the certificate, and what the links add up to
+-- the bound of the certificate, and the sum of the links
 abbrev pub explain_line : ℕ → Explanation → List (List ℕ)
 explain_line bound x = codes "explain" ∷ codes "bound" ∷ decimal bound ∷ codes "least" ∷ decimal x.least ∷ []
 
--- a link: its instance, the name of the entry, the word of its place, and the bytes that it adds
+-- a link: its instance, the name of the entry, the word of its place, and its bytes
 abbrev pub link_line : List Named → Part → List (List ℕ)
 link_line names part =
     codes "link" ∷ inst_key_words part.inst ++ name_word (least_name names part.inst.entry) ∷ codes "at" ∷ hex_digits part.pc 4 ∷ codes "adds" ∷ decimal part.adds ∷ []
@@ -21,7 +21,7 @@ link_line names part =
 abbrev pub word_text : ℕ → List ℕ
 word_text word = hex_digits word 4
 
--- the words of the way to its place
+-- the words of the path to its place
 abbrev pub path_line : Part → List (List ℕ)
 path_line part = codes "path" ∷ map word_text part.walk
 

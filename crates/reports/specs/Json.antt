@@ -1,4 +1,4 @@
--- What a report of a certificate tells, as one JSON object. Source: own; JSON is RFC 8259.
+-- A report of a certificate as one JSON object. Source: own; JSON is RFC 8259.
 use Rattle.std.specs.Prelude.{ℕ, List, [], ◌∷◌, ◌++◌, map, codes, Option, Some, None, if◌then◌else◌}
 use Rattle.std.specs.List.{flat_map}
 use Rattle.std.specs.Str.Lossy.{utf8_lossy}
@@ -18,7 +18,7 @@ count n = number (unsigned n)
 
 -- ---- members
 
--- yes or no, and null without static data
+-- true or false, and null without static data
 abbrev pub fits_data : Device → ℕ → Option ℕ → Data
 fits_data device bound None = null
 fits_data device bound (Some end) = string (fits_word device bound end)
@@ -35,7 +35,7 @@ abbrev pub witness_data : Option Plan → Data
 witness_data None = string (codes "open")
 witness_data (Some plan) = string (codes "attained")
 
--- A name, or null where there is none. JSON is Unicode: bytes that are no UTF-8, which no ELF file's names have, are replaced.
+-- A name, or null if there is none. Bytes that are no UTF-8, which names of an ELF file never have, are replaced.
 abbrev pub name_data : Option (List ℕ) → Data
 name_data None = null
 name_data (Some name) = string (utf8_lossy name)
@@ -55,16 +55,16 @@ inst_data names x = object
 abbrev pub insts_data : List Named → List Inst → Data
 insts_data names insts = array (items_of (map (inst_data names) insts))
 
--- the texts of instances behind another, with a comma before each
+-- the texts of instances after another, each after a comma
 abbrev pub others_text : List Named → List Inst → List ℕ
 others_text names insts = flat_map (λ x. 44 ∷ compact_text (inst_data names x)) insts
 
--- the texts of instances, divided by commas
+-- the texts of instances, separated by commas
 abbrev pub insts_text : List Named → List Inst → List ℕ
 insts_text names [] = []
 insts_text names (x ∷ xs) = compact_text (inst_data names x) ++ others_text names xs
 
--- A report of a certificate for a device: names are those of words of flash, and static data ends at this data address. Keys ascend.
+-- A report of a certificate for a device, with names for words of flash, and static data that ends at this data address. Keys ascend.
 abbrev pub report_data : Device → Claim → List Named → Option ℕ → Data
 report_data device c names static_end = object
     (member (codes "bound") (count c.bound)

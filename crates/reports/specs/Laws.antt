@@ -1,4 +1,4 @@
--- What holds of reports. Source: own.
+-- Laws of reports. Source: own.
 use Rattle.std.specs.Prelude.{ℕ, ◌≡◌, List, Option, Some}
 use Rattle.std.specs.Str.{IsAscii}
 use Rattle.serde_json.specs.Data.{string}
@@ -10,7 +10,7 @@ use Rattle.reports.specs.Report.{plain_text}
 use Rattle.reports.specs.Json.{name_data, json_text}
 use Rattle.reports.specs.Explained.{explanation_text}
 
--- A report depends on what the names say, and not on how they are listed.
+-- A report depends on the name of each word, not on the order of the list.
 abbrev pub NamesThatSayTheSame : Type 0
 NamesThatSayTheSame =
     (device : Device) (c : Claim) (names others : List Named) (static_end : Option ℕ) → SayTheSame names others
@@ -20,6 +20,6 @@ NamesThatSayTheSame =
 abbrev pub ExplanationsSayTheSame : Type 0
 ExplanationsSayTheSame = (bound : ℕ) (names others : List Named) (x : Explanation) → SayTheSame names others → explanation_text bound names x ≡ explanation_text bound others x
 
--- A name of ASCII characters, as all names of an ELF file are, stands in JSON as it is.
+-- A name of ASCII characters, as all names of an ELF file are, is unchanged in JSON.
 abbrev pub AsciiNamesStay : Type 0
 AsciiNamesStay = (name : List ℕ) → IsAscii name → name_data (Some name) ≡ string name

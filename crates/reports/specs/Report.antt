@@ -1,4 +1,4 @@
--- What a report of a certificate tells, as lines of words. Source: own.
+-- A report of a certificate as lines of words. Source: own.
 use Rattle.std.specs.Prelude.{ℕ, ◌+◌, ◌-◌, nat_le, Bool, List, [], ◌∷◌, ◌++◌, map, codes, decimal, Option, Some, None, if◌then◌else◌}
 use Rattle.std.specs.List.{flat_map}
 use Rattle.avr_model.specs.declared.device.Device.{Device}
@@ -18,11 +18,11 @@ use Rattle.cert_words.specs.Text.{numbered, open_line, attained_line}
 abbrev pub sram_end : Device → ℕ
 sram_end device = ramend device + 1
 
--- how many bytes of SRAM are left behind the static data that ends at this data address
+-- the bytes of SRAM behind the static data that ends at this data address
 abbrev pub room : Device → ℕ → ℕ
 room device static_end = sram_end device - static_end
 
--- a stack of so many bytes doesn't meet the static data
+-- a stack of this many bytes does not reach the static data
 abbrev pub fits : Device → ℕ → ℕ → Bool
 fits device bound static_end = nat_le (static_end + bound) (sram_end device)
 
@@ -40,7 +40,7 @@ static_line device bound None = codes "static" ∷ codes "none" ∷ []
 static_line device bound (Some end) =
     codes "static" ∷ hex_digits end 4 ∷ codes "room" ∷ decimal (room device end) ∷ codes "fits" ∷ fits_word device bound end ∷ []
 
--- a name, or a hyphen where there is none
+-- a name, or a hyphen if there is none
 abbrev pub name_word : Option (List ℕ) → List ℕ
 name_word None = codes "-"
 name_word (Some name) = name
@@ -56,7 +56,7 @@ inst_line names x =
 abbrev pub heading : Device → Claim → Option ℕ → List (List (List ℕ))
 heading device c static_end = numbered (codes "bound") c.bound ∷ witness_line c.witness ∷ static_line device c.bound static_end ∷ []
 
--- The lines of a report of a certificate for a device, each by its words: names are those of words of flash, and static data ends at
+-- The lines of a report of a certificate for a device, each by its words, with names for words of flash, and static data that ends at
 -- this data address.
 abbrev pub text_lines : Device → Claim → List Named → Option ℕ → List (List (List ℕ))
 text_lines device c names static_end = heading device c static_end ++ map (inst_line names) c.instances

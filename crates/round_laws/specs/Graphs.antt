@@ -1,5 +1,5 @@
--- The graph of a family: each instance with a node has one number, and the lists are the family's. An entered instance without a node goes
--- by a number behind these, from which nothing is entered.
+-- The graph of a family: each instance with a node has a number of its own. An entered instance without a node gets one number behind
+-- these, which has no edges.
 use Rattle.std.specs.Prelude.{ℕ, ◌+◌, ◌≡◌, ◌<◌, ◌≤◌, ◌⊎◌, List, [], ◌∷◌, length, map, Some, slice_get, slice_index, if◌then◌else◌}
 use Rattle.avr_model.specs.declared.assumption.Entry.{Entry}
 use Rattle.avr_model.specs.Devices.{Program}
@@ -23,7 +23,7 @@ use Rattle.round_rules.specs.Rounds.{Entering, IsAcyclic, AreRanks, AreNeeds, Is
 abbrev pub IsNumber : List InstKey → ℕ → InstKey → Type 0
 IsNumber keys i inst = slice_get keys i ≡ Some inst
 
--- the number stands for the instance: it is its own, or one behind all, and the instance has none
+-- the number of the instance: its own, or the one behind all if it has none
 abbrev pub IsNumberFor : List InstKey → ℕ → InstKey → Type 0
 IsNumberFor keys i inst = IsNumber keys i inst ⊎ ((length keys ≤ i) × ((j : ℕ) → IsNumber keys j inst → ⊥))
 
@@ -36,7 +36,7 @@ pub record HasEntryEdge (keys : List InstKey) (gs : List GraphInst) (i j : InstK
   pub to : IsNumberFor keys edge.into j
   pub at : edge.offset ≡ offset
 
--- an entry of the family for this edge
+-- an entry of the family for this edge of the graph
 pub record IsEntered (words : Program) (A : List Entry) (f : Family) (keys : List InstKey) (i : ℕ) (e : Entered) : Type 0 where
   pub inst : InstKey
   pub into : InstKey
@@ -71,14 +71,14 @@ pub record IsGraphOver (words : Program) (A : List Entry) (f : Family) (keys : L
   pub places : (i : ℕ) (p : Place) → graph.HasPlace gs i p → IsFamilyPlace f keys i p.offset
   pub all_places : (n : Node) (offset : ℕ) → FamilyHas f n → n.key.sp ≡ Closed offset → HasNodePlace keys gs n.key.inst offset
 
--- the value of an instance by its number, and 0 where it has none
+-- the value of an instance by its number, 0 if it has none
 abbrev pub valued : List InstKey → List ℕ → InstKey → ℕ
 valued [] xs inst = 0
 valued (k ∷ ks) [] inst = 0
 valued (k ∷ ks) (x ∷ xs) inst = if same_inst k inst then x else valued ks xs inst
 
--- A cycle of one is one of the other, and the instance that is named is the one of the refusal. Least ranks and needs are those of the
--- family, and the least need of instance 0 is the least need of the root. Needs may all be greater by one number.
+-- The graph has the cycles of the family, and its named instance is that of the refusal. Least ranks and needs are those of the family,
+-- and the least need of instance 0 is the root's. Needs remain needs if all grow by one number.
 pub record GraphsTell : Type 0 where
   pub acyclic : (words : Program) (A : List Entry) (f : Family) (keys : List InstKey) (gs : List GraphInst) → IsGraphOver words A f keys gs
       → ((i : ℕ) → graph.ReachesBy gs i i → ⊥) → IsAcyclic words A f

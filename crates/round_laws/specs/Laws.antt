@@ -31,7 +31,7 @@ pub record IsValidFamily (words : Program) (A : List Entry) (g : Family) : Type 
   pub bound : ℕ
   pub sound : IsSoundFamily words A (record { nodes = nodes_of g; rank_of = rank_of; need_of = need_of; bound = bound })
 
--- the family that a shown certificate stands for, within the limits
+-- the family of a shown certificate, within the limits
 pub record StandsForShown (words : Program) (A : List Entry) (c : Claim) : Type 0 where
   pub family : Family
   pub valid : IsValidFamily words A family
@@ -39,10 +39,10 @@ pub record StandsForShown (words : Program) (A : List Entry) (c : Claim) : Type 
   pub bound : valid.bound ≡ c.bound
 
 pub record RoundsAreLeast : Type 0 where
-  -- one family for each number, of nodes that the analysis works with
+  -- the family of a number is unique, and has nodes of the analysis
   pub one : (words : Program) (A : List Entry) (n : ℕ) (f g : Family) → Comes words A n f → Comes words A n g → f ≡ g
   pub formed : (words : Program) (A : List Entry) (n : ℕ) (f : Family) → Comes words A n f → AreFormed (has_pairs A) f
-  -- below each valid one
+  -- it is below each valid family
   pub below : (words : Program) (A : List Entry) (n : ℕ) (f g : Family) → IsValidFamily words A g → Comes words A n f → Below f g
   pub faultless : (words : Program) (A : List Entry) (n : ℕ) (f g : Family) → IsValidFamily words A g → Comes words A n f → HasNoFault words A f
   pub ranks : (words : Program) (A : List Entry) (n : ℕ) (f g : Family) (valid : IsValidFamily words A g) → Comes words A n f → AreRanks words A f valid.rank_of
@@ -52,15 +52,15 @@ pub record RoundsAreLeast : Type 0 where
   pub fewer : (words : Program) (A : List Entry) (n : ℕ) (f g : Family) → IsValidFamily words A g → Comes words A n f → cells f ≤ cells g
   -- a certificate whose nodes meet the conditions stands for a valid family
   pub stands : (words : Program) (A : List Entry) (c : Claim) → IsShown words A c → StandsForShown words A c
-  -- no refusal where one is valid
+  -- if a valid certificate exists, the rounds do not refuse
   pub never : (words : Program) (A : List Entry) (n : ℕ) (c : Claim) (r : Refusal) → IsShown words A c → IsRefused words A n r → ⊥
-  -- no needs of a solved family, and no bound of a valid certificate, are below the least need of the root
+  -- needs of a solved family, and bounds of valid certificates, are at least the root's least need
   pub bound : (words : Program) (A : List Entry) (n : ℕ) (f : Family) (c : Claim) (d : ℕ) → IsShown words A c → Comes words A n f → IsRootNeed words A f d → d ≤ c.bound
-  -- what enters no instance of its own has a need no greater than the root's
+  -- what enters no instance of its own has a need of at most the root's
   pub under_root : (words : Program) (A : List Entry) (n : ℕ) (f : Family) (need : InstKey → ℕ) → Comes words A n f → HasNoFault words A f → AreNeeds words A f need
       → (inst : InstKey) → FamilyHasInst f inst → need inst ≤ need root_inst
 
--- The rounds end at one number, with one family or one refusal, and go on before it.
+-- The rounds end at one number, with one family or one refusal, and not before.
 pub record RoundsEndOnce : Type 0 where
   pub solved : (words : Program) (A : List Entry) (m n : ℕ) (f g : Family) → IsSolved words A m f → IsSolved words A n g → (m ≡ n) × (f ≡ g)
   pub either : (words : Program) (A : List Entry) (m n : ℕ) (f : Family) (r : Refusal) → IsSolved words A m f → IsRefused words A n r → ⊥
@@ -74,8 +74,8 @@ pub record SolutionsAreValid : Type 0 where
   pub least : (words : Program) (A : List Entry) (n : ℕ) (f : Family) (c other : Claim) → IsSolved words A n f → IsSolution words A f c → IsShown words A other
       → c.bound ≤ other.bound
 
--- What the code does is a round: nodes joined into the family one after the other make the next family. Each join leaves the family as it was
--- or raises it, and it can't rise for ever.
+-- The code computes a round: joining the nodes one after the other gives the next family. Each join leaves the family or raises its
+-- weight, which is bounded.
 pub record RoundsAreJoins : Type 0 where
   pub next : (words : Program) (A : List Entry) (f : Family) (ns : List Node) → AreFormed (has_pairs A) f → IsRoundOf words A f ns → IsNext words A f (raised_all f ns)
   pub joined : {followed : Bool} (f : Family) (ns : List Node) → AreFormed followed f → AreNodesIn followed ns → AreJoined followed f ns (raised_all f ns)

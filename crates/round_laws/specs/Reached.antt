@@ -1,4 +1,4 @@
--- Edges lead to each node to which the rounds come.
+-- Edges lead to all nodes of the rounds.
 use Rattle.std.specs.Prelude.{ℕ, ◌≡◌, Bool, true, List}
 use Rattle.avr_model.specs.declared.assumption.Entry.{Entry}
 use Rattle.avr_model.specs.Devices.{Program}
@@ -10,12 +10,12 @@ use Rattle.edge_rules.specs.Edges.{IsEdge}
 use Rattle.round_rules.specs.Families.{Family, nodes_of, FamilyHas, HasNoFault}
 use Rattle.round_rules.specs.Rounds.{Comes}
 
--- a property of keys is kept along each edge of the family
+-- a property of keys is preserved by each edge of the family
 abbrev pub IsKept : Program → List Entry → Family → (NodeKey → Bool) → Type 0
 IsKept words A f holds = (n : Node) (e : Edge) → FamilyHas f n → holds n.key ≡ true → IsEdge words A (nodes_of f) n e → holds e.to ≡ true
 
--- What holds of the node at reset, and is kept along each edge of a family to which the rounds come and which has no fault, holds of each
--- of its nodes: edges lead to all of them.
+-- A property of keys that the node at reset has, and that the edges of all families of the rounds without faults preserve, holds of all
+-- their nodes.
 abbrev pub RoundsAreReached : Type 0
 RoundsAreReached = (words : Program) (A : List Entry) (n : ℕ) (f : Family) (holds : NodeKey → Bool) → Comes words A n f → HasNoFault words A f
     → holds (entry_key root_inst) ≡ true → IsKept words A f holds → (m : Node) → FamilyHas f m → holds m.key ≡ true

@@ -1,4 +1,4 @@
--- One round as a list of nodes that are joined into the family one after the other.
+-- One round as a list of nodes that are joined one after the other.
 use Rattle.std.specs.Prelude.{ℕ, Bool, ◌+◌, ◌≡◌, ◌⊎◌, ⊤, List, [], ◌∷◌, Option, Some, None, Contains}
 use Rattle.std.specs.FinMap.{get, insert, entries}
 use Rattle.avr_model.specs.declared.assumption.Entry.{Entry}
@@ -15,12 +15,12 @@ use Rattle.edge_rules.specs.Families.{IsCovered}
 use Rattle.abs_state.specs.Rank.{state_rank}
 use Rattle.round_rules.specs.Families.{Family, nodes_of, FamilyHas, Lands, Below, AreFormed, LandIn}
 
--- a state joined with that which is there, if any
+-- a state joined with the present one, if any
 abbrev pub joined_with : Option AbsState → AbsState → AbsState
 joined_with None s = s
 joined_with (Some t) s = state_join t s
 
--- the family with this node joined into it, and with these
+-- the family with this node joined, and with these nodes joined
 abbrev pub raised : Family → Node → Family
 raised f n = insert f n.key (joined_with (get f n.key) n.state)
 
@@ -28,14 +28,13 @@ abbrev pub raised_all : Family → List Node → Family
 raised_all f [] = f
 raised_all f (n ∷ ns) = raised_all (raised f n) ns
 
--- Nodes to be joined into f so that all its edges land: each edge lands already or is below one of them, and where all edges land, so do
--- they.
+-- Nodes whose join makes all edges of f land: each edge lands already or is below one of them; and wherever all edges land, so do they.
 pub record IsRoundOf (words : Program) (A : List Entry) (f : Family) (ns : List Node) : Type 0 where
   pub formed : (to : Node) → Contains ns to → IsNodeIn (has_pairs A) to.key to.state
   pub all : (n : Node) (e : Edge) → FamilyHas f n → IsEdge words A (nodes_of f) n e → Lands f (target e) ⊎ IsCovered ns (target e)
   pub least : (h : Family) → Below f h → LandIn words A f h → (to : Node) → Contains ns to → Lands h to
 
--- g is f with all of these nodes joined into it: the least family above f in which they land
+-- g is f with all these nodes joined: the least family above f that has them
 pub record AreJoined (followed : Bool) (f : Family) (ns : List Node) (g : Family) : Type 0 where
   pub formed : AreFormed followed g
   pub above : Below f g
@@ -47,7 +46,7 @@ abbrev pub HaveOwnKeys : List Node → Type 0
 HaveOwnKeys [] = ⊤
 HaveOwnKeys (n ∷ ns) = ((m : Node) → Contains ns m → m.key ≡ n.key → ⊥) × HaveOwnKeys ns
 
--- how far a family is up: one for each node, and the rank of its state
+-- the weight of a family: one for each node, and the rank of its state
 abbrev pub weight_of : List (NodeKey × AbsState) → ℕ
 weight_of [] = 0
 weight_of (e ∷ es) = state_rank e.1 + 1 + weight_of es

@@ -1,4 +1,4 @@
--- Allowances: ranks and needs of instances that leave room for more than is noted.
+-- Allowances: ranks and needs with slack, which stay valid while notes grow.
 use Rattle.std.specs.Prelude.{ℕ, ◌+◌, ◌≡◌, ◌<◌, ◌≤◌, Bool, true, List, Option, Some, Contains}
 use Rattle.std.specs.Map.{lookup}
 use Rattle.mask_states.specs.declared.keys.InstKey.{InstKey}
@@ -11,28 +11,28 @@ use Rattle.round_nesting.specs.Drawn.{AreOthersApart}
 abbrev pub Granted : Type 0
 Granted = List (InstKey × Allowance)
 
--- what an instance is allowed, if it has an allowance
+-- the allowance of an instance, if it has one
 abbrev pub allowed : Granted → InstKey → Option Allowance
 allowed gs inst = lookup (same_inst inst) gs
 
--- what the first is allowed covers that it enters the second at this offset
+-- the allowances cover that the first instance enters the second at this offset
 pub record Allows (from into : Allowance) (offset : ℕ) : Type 0 where
   pub rank : into.rank < from.rank
   pub need : offset + 2 + into.need ≤ from.need
 
--- the root is allowed no more than so many bytes
+-- the root's need is at most this many bytes
 pub record AllowsRoot (gs : Granted) (size : ℕ) : Type 0 where
   pub most : Allowance
   pub is : allowed gs root_inst ≡ Some most
   pub fits : most.need ≤ size
 
--- the spot's instance is allowed its offset
+-- the allowance of the spot's instance covers its offset
 pub record AllowsSpot (gs : Granted) (s : Spot) : Type 0 where
   pub most : Allowance
   pub is : allowed gs s.inst ≡ Some most
   pub fits : s.offset ≤ most.need
 
--- what both instances are allowed covers the entrance
+-- the allowances of both instances cover the entrance
 pub record AllowsEntrance (gs : Granted) (x : Entrance) : Type 0 where
   pub from : Allowance
   pub into : Allowance
@@ -40,16 +40,16 @@ pub record AllowsEntrance (gs : Granted) (x : Entrance) : Type 0 where
   pub is_into : allowed gs x.into ≡ Some into
   pub allows : Allows from into x.offset
 
--- what is allowed covers all spots and entrances
+-- the allowances cover all spots and entrances
 pub record CoversNoted (gs : Granted) (spots : List Spot) (entrances : List Entrance) : Type 0 where
   pub each_spot : (s : Spot) → Contains spots s → AllowsSpot gs s
   pub each_entrance : (x : Entrance) → Contains entrances x → AllowsEntrance gs x
 
--- each instance that had an allowance keeps it
+-- each allowance stays
 abbrev pub AreAllowancesKept : Granted → Granted → Type 0
 AreAllowancesKept gs new = (inst : InstKey) (most : Allowance) → allowed gs inst ≡ Some most → allowed new inst ≡ Some most
 
--- the other instances are apart from the root, and where the nesting says so, its allowances cover what is noted
+-- the root is kept apart from the other instances, and if `covered`, the allowances cover all notes
 pub record IsCoverKept (covered : Bool) (gs : Granted) (others : List InstKey) (spots : List Spot) (entrances : List Entrance) : Type 0 where
   pub apart : AreOthersApart others
   pub covers : covered ≡ true → CoversNoted gs spots entrances

@@ -1,4 +1,4 @@
--- The graph of what is noted.
+-- The graph of a nesting.
 use Rattle.std.specs.Prelude.{ℕ, ◌+◌, ◌≡◌, ◌↔◌, ◌⊎◌, Bool, if◌then◌else◌, List, ◌∷◌, Some, length, Contains, slice_get}
 use Rattle.std.specs.List.{position_or_len}
 use Rattle.avr_model.specs.declared.assumption.Entry.{Entry}
@@ -15,35 +15,35 @@ use Rattle.round_laws.specs.Graphs.{IsGraphOver}
 use Rattle.round_nesting.specs.Nestings.{Spot, Entrance, AreOnce, VerdictTells}
 use Rattle.round_nesting.specs.declared.verdict.NestingVerdict.{NestingVerdict}
 
--- the instances of a nesting, where the root is kept apart from the others
+-- the instances of a nesting, in which the root is kept apart
 abbrev pub insts_of : Bool → List InstKey → List InstKey
 insts_of has_root others = if has_root then root_inst ∷ others else others
 
--- each of the others is kept once, and none is the root
+-- the other instances occur once, and the root is not among them
 pub record AreOthersApart (others : List InstKey) : Type 0 where
   pub once : AreOnce others
   pub rootless : Contains others root_inst → ⊥
 
--- one more is kept, if it is new
+-- one more item, if it is new
 abbrev pub HasMore : {X : Type 0} → List X → X → List X → Type 0
 HasMore {X} old y new = (x : X) → Contains new x ↔ (Contains old x ⊎ (x ≡ y))
 
--- the number of an instance, or the one behind all where it has none
+-- the number of an instance, or the one behind all if it has none
 abbrev pub number_of : List InstKey → InstKey → ℕ
 number_of keys inst = position_or_len (same_inst inst) keys
 
--- the instances are those that there were
+-- the instances of both graphs are the same
 pub record IsSame (old new : List GraphInst) : Type 0 where
   pub count : length new ≡ length old
   pub keys : (i : ℕ) (g : GraphInst) → slice_get new i ≡ Some g → (h : GraphInst) × (slice_get old i ≡ Some h) × (g.key ≡ h.key)
 
--- the instance of this number has this place besides
+-- the instance of this number has one more place
 pub record HasPlaced (old : List GraphInst) (at : ℕ) (place : Place) (new : List GraphInst) : Type 0 where
   pub same : IsSame old new
   pub places : (i : ℕ) (p : Place) → HasPlace new i p ↔ (HasPlace old i p ⊎ ((i ≡ at) × (p ≡ place)))
   pub entered : (i : ℕ) (e : Entered) → EntersAlong new i e ↔ EntersAlong old i e
 
--- the instance of this number has this edge besides
+-- the instance of this number has one more edge
 pub record IsEntranceDrawn (old : List GraphInst) (at : ℕ) (edge : Entered) (new : List GraphInst) : Type 0 where
   pub same : IsSame old new
   pub places : (i : ℕ) (p : Place) → HasPlace new i p ↔ HasPlace old i p
@@ -64,20 +64,20 @@ pub record IsEdgeOf (keys : List InstKey) (entrances : List Entrance) (i : ℕ) 
   pub into : number_of keys entrance.into ≡ e.into
   pub at : entrance.offset ≡ e.offset
 
--- a place for the spot
+-- the graph has a place for the spot
 pub record HasSpot (keys : List InstKey) (gs : List GraphInst) (s : Spot) : Type 0 where
   pub place : Place
   pub has : HasPlace gs (number_of keys s.inst) place
   pub at : s.offset ≡ place.offset
 
--- an edge for the entrance
+-- the graph has an edge for the entrance
 pub record HasEntranceEdge (keys : List InstKey) (gs : List GraphInst) (x : Entrance) : Type 0 where
   pub edge : Entered
   pub enters : EntersAlong gs (number_of keys x.from) edge
   pub into : number_of keys x.into ≡ edge.into
   pub at : x.offset ≡ edge.offset
 
--- the graph of these spots and entrances: an instance for each key, and one more for all that has none
+-- the graph of these spots and entrances: an instance for each key, and one more for all others
 pub record IsDrawn (keys : List InstKey) (spots : List Spot) (entrances : List Entrance) (gs : List GraphInst) : Type 0 where
   pub is_graph : IsGraph gs
   pub count : length gs ≡ length keys + 1
@@ -87,7 +87,7 @@ pub record IsDrawn (keys : List InstKey) (spots : List Spot) (entrances : List E
   pub edges : (i : ℕ) (e : Entered) → EntersAlong gs i e → IsEdgeOf keys entrances i e
   pub all_edges : (x : Entrance) → Contains entrances x → HasEntranceEdge keys gs x
 
--- the verdict is told by the graph, of each family of which it is the graph and whose device's SRAM has so many bytes
+-- the graph justifies the verdict, for each family with this graph on a device with this many bytes of SRAM
 abbrev pub GraphTells : ℕ → List GraphInst → NestingVerdict → Type 0
 GraphTells size gs w =
     (words : Program) (A : List Entry) (f : Family) (keys : List InstKey) → size_of (device_of words) ≡ size → IsGraphOver words A f keys gs → VerdictTells words A f w

@@ -1,4 +1,4 @@
--- When two notes are the same, and what of a note is fed to a hasher.
+-- Equality of notes, and what a note feeds to a hasher.
 use Rattle.std.specs.Prelude.{ℕ, ◌≡◌, List, ◌++◌, Bool, ◌&&◌, true, nat_eq, IsTrue}
 use Rattle.std.proofs.Common.{ap}
 use Rattle.std.proofs.lemmas.Bool.Decides.{Decides-eqb}

@@ -1,4 +1,4 @@
--- The nesting of a family's instances: what is noted of it, and what it tells. Source: own.
+-- The nesting of a family's instances: its notes, and the verdict from them. Source: own.
 use Rattle.std.specs.Prelude.{ℕ, ◌≡◌, ◌<◌, ◌≤◌, ◌↔◌, ◌⊎◌, List, [], length, Contains, Some, slice_get}
 use Rattle.std.specs.FinMap.{len}
 use Rattle.avr_model.specs.declared.assumption.Entry.{Entry}
@@ -27,7 +27,7 @@ pub record Entrance : Type 0 where
   pub into : InstKey
   pub offset : ℕ
 
--- the instances that have nodes, these nodes' offsets, and which enters which
+-- the instances with nodes, the offsets of these nodes, and the entrances
 pub record Noted : Type 0 where
   pub insts : List InstKey
   pub spots : List Spot
@@ -36,24 +36,24 @@ pub record Noted : Type 0 where
 abbrev pub nothing : Noted
 nothing = record { insts = []; spots = []; entrances = [] }
 
--- each instance is noted once
+-- no instance is noted twice
 abbrev pub AreOnce : List InstKey → Type 0
 AreOnce insts = (i j : ℕ) (inst : InstKey) → slice_get insts i ≡ Some inst → slice_get insts j ≡ Some inst → i ≡ j
 
--- a node of this key was noted besides
+-- the notes grew by a node of this key
 pub record IsNodeNoted (old : Noted) (key : NodeKey) (new : Noted) : Type 0 where
   pub insts : (inst : InstKey) → Contains new.insts inst ↔ (Contains old.insts inst ⊎ (inst ≡ key.inst))
   pub spots : (s : Spot) → Contains new.spots s ↔ (Contains old.spots s ⊎ ((s.inst ≡ key.inst) × (key.sp ≡ Closed s.offset)))
   pub entrances : (e : Entrance) → Contains new.entrances e ↔ Contains old.entrances e
 
--- the entrance of this instance from a node of this key was noted besides
+-- the notes grew by the entrance of this instance from a node of this key
 pub record HasEntrance (old : Noted) (key : NodeKey) (into : InstKey) (new : Noted) : Type 0 where
   pub insts : (inst : InstKey) → Contains new.insts inst ↔ Contains old.insts inst
   pub spots : (s : Spot) → Contains new.spots s ↔ Contains old.spots s
   pub entrances : (e : Entrance) → Contains new.entrances e
       ↔ (Contains old.entrances e ⊎ (e ≡ record { from = key.inst; into = into; offset = offset_of key.sp }))
 
--- as much is noted of one as of the other
+-- both have the same notes
 pub record AreAlike (m n : Noted) : Type 0 where
   pub insts : (inst : InstKey) → Contains m.insts inst ↔ Contains n.insts inst
   pub spots : (s : Spot) → Contains m.spots s ↔ Contains n.spots s
@@ -68,7 +68,7 @@ pub record IsSpotOf (f : Family) (s : Spot) : Type 0 where
   pub of : node.key.inst ≡ s.inst
   pub closed : node.key.sp ≡ Closed s.offset
 
--- what is noted is what the family has
+-- the notes are exactly those of the family
 pub record IsNestingOf (words : Program) (A : List Entry) (f : Family) (n : Noted) : Type 0 where
   pub insts : (inst : InstKey) → Contains n.insts inst ↔ FamilyHasInst f inst
   pub spots : (s : Spot) → Contains n.spots s ↔ IsSpotOf f s
@@ -82,13 +82,13 @@ VerdictTells words A f (ReEntry v word) = IsReEntry words A f v word
 VerdictTells words A f (Recursion word) = IsRecursion words A f word
 VerdictTells words A f (TooDeep d) = IsAcyclic words A f × IsRootNeed words A f d × (size_of (device_of words) < d)
 
--- of each family of which it is the nesting, in which the root has a node, and whose device's SRAM has so many bytes
+-- the verdict holds of each family with these notes in which the root has a node, on a device with this many bytes of SRAM
 abbrev pub TellsAll : ℕ → Noted → NestingVerdict → Type 0
 TellsAll size n w =
     (words : Program) (A : List Entry) (f : Family) → size_of (device_of words) ≡ size → FamilyHasInst f root_inst → IsNestingOf words A f n → VerdictTells words A f w
 
 -- ---- laws
 
--- no more instances are noted than the family has nodes
+-- at most as many instances are noted as the family has nodes
 abbrev pub NestingsAreSmall : Type 0
 NestingsAreSmall = (words : Program) (A : List Entry) (f : Family) (n : Noted) → IsNestingOf words A f n → AreOnce n.insts → length n.insts ≤ len f

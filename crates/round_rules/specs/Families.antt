@@ -1,4 +1,4 @@
--- Families: the state of each node. Source: own.
+-- Families: finite maps from keys to states. Source: own.
 use Rattle.std.specs.Prelude.{ℕ, Bool, ◌≡◌, ◌≤◌, List, map, Some}
 use Rattle.std.specs.FinMap.{FinMap, get, entries, keys, len}
 use Rattle.avr_model.specs.declared.assumption.Entry.{Entry}
@@ -20,18 +20,18 @@ Family = FinMap node_cmp AbsState
 abbrev pub node_of : NodeKey × AbsState → Node
 node_of e = record { key = e.0; state = e.1 }
 
--- its nodes, ascending by their keys
+-- the nodes, ascending by key
 abbrev pub nodes_of : Family → List Node
 nodes_of f = map node_of (entries f)
 
 abbrev pub FamilyHas : Family → Node → Type 0
 FamilyHas f n = get f n.key ≡ Some n.state
 
--- a node of the instance is there
+-- the family has a node of the instance
 abbrev pub FamilyHasInst : Family → InstKey → Type 0
 FamilyHasInst f inst = (n : Node) × FamilyHas f n × (n.key.inst ≡ inst)
 
--- the family has a node of this key, with a state at least this one
+-- the family has a node of this key, with a state above this one
 pub record Lands (f : Family) (n : Node) : Type 0 where
   pub at : AbsState
   pub is : get f n.key ≡ Some at
@@ -40,14 +40,14 @@ pub record Lands (f : Family) (n : Node) : Type 0 where
 abbrev pub Below : Family → Family → Type 0
 Below f g = (n : Node) → FamilyHas f n → Lands g n
 
--- its nodes are ones that the analysis works with, where pairs are followed or where they aren't
+-- all nodes are nodes of the analysis, which follow pairs as `followed` says
 abbrev pub AreFormed : Bool → Family → Type 0
 AreFormed followed f = (n : Node) → FamilyHas f n → IsNodeIn followed n.key n.state
 
 abbrev pub HasNoFault : Program → List Entry → Family → Type 0
 HasNoFault words A f = (n : Node) → FamilyHas f n → IsFaultless words A n
 
--- each edge of f lands in the family h
+-- each edge of f leads to a node of h, with a state within that node's
 abbrev pub LandIn : Program → List Entry → Family → Family → Type 0
 LandIn words A f h = (n : Node) (e : Edge) → FamilyHas f n → IsEdge words A (nodes_of f) n e → Lands h (target e)
 
@@ -56,7 +56,7 @@ IsClosed words A f = LandIn words A f f
 
 -- ---- limits
 
--- one for each node and one for each of its slots
+-- the cells: one for each node and one for each slot
 abbrev pub cells : Family → ℕ
 cells f = cells_of (keys f)
 

@@ -1,4 +1,4 @@
--- How the rounds end: at the first family of which a test holds, by the first such test, or at the first that is closed.
+-- The end of the rounds: the first family on which a test holds, refused by the first such test, or the first closed one.
 use Rattle.std.specs.Prelude.{ℕ, ◌≡◌, ◌<◌, ◌≤◌, ◌⊎◌, List, Err}
 use Rattle.std.specs.FinMap.{len}
 use Rattle.avr_model.specs.declared.assumption.Entry.{Entry}
@@ -20,12 +20,12 @@ use Rattle.round_rules.specs.Rounds.{Reaches, IsAcyclic, IsRootNeed, PassesTests
 
 -- ---- the tests, in their order
 
--- the nodes, else the cells, are above the limits
+-- the nodes are above the limit, or else the cells
 abbrev pub IsOverSize : Family → Limit → Type 0
 IsOverSize f Nodes = most_nodes < len f
 IsOverSize f Cells = (len f ≤ most_nodes) × (most_cells < cells f)
 
--- the word at which a fault is
+-- the word of a fault
 abbrev pub word_of : NodeFault → ℕ
 word_of (fault.UnresolvedJump pc) = pc
 word_of (fault.UntrackedSp pc) = pc
@@ -40,7 +40,7 @@ pub record FaultAt (words : Program) (A : List Entry) (f : Family) (x : NodeFaul
   pub has : FamilyHas f node
   pub is : local words A node.key node.state ≡ Err x
 
--- by cause, then word, then offset
+-- faults are ordered by cause, then word, then offset
 abbrev pub IsFaultNoLater : NodeFault → NodeFault → Type 0
 IsFaultNoLater x y =
     (cause_of x < cause_of y) ⊎ ((cause_of x ≡ cause_of y) × ((word_of x < word_of y) ⊎ ((word_of x ≡ word_of y) × (fault_offset x ≤ fault_offset y))))
@@ -49,7 +49,7 @@ IsFaultNoLater x y =
 abbrev pub IsLeastFault : Program → List Entry → Family → NodeFault → Type 0
 IsLeastFault words A f x = FaultAt words A f x × ((y : NodeFault) → FaultAt words A f y → IsFaultNoLater x y)
 
--- an instance of this vector, which begins at the word, reaches itself, and none of a lesser vector does
+-- an instance of this vector at this word is on a cycle, and none of a smaller vector is
 pub record IsReEntry (words : Program) (A : List Entry) (f : Family) (v word : ℕ) : Type 0 where
   pub inst : InstKey
   pub reaches : Reaches words A f inst inst
@@ -57,7 +57,7 @@ pub record IsReEntry (words : Program) (A : List Entry) (f : Family) (v word : �
   pub entry : inst.entry ≡ word
   pub least : (other : InstKey) (u : ℕ) → Reaches words A f other other → other.kind ≡ Vector u → v ≤ u
 
--- no vector's instance reaches itself, one that begins at this word does, and none of a lesser word does
+-- no instance of a vector is on a cycle, one at this word is, and none at a smaller word is
 pub record IsRecursion (words : Program) (A : List Entry) (f : Family) (word : ℕ) : Type 0 where
   pub inst : InstKey
   pub reaches : Reaches words A f inst inst
@@ -72,10 +72,10 @@ pub data Test : Type 0 where
   re_entry : ℕ → ℕ → Test
   -- at this word
   recursion : ℕ → Test
-  -- the least need of the root, more than the device's SRAM has bytes
+  -- the root's least need exceeds the size of the device's SRAM
   too_deep : ℕ → Test
 
--- the first test that holds of the family
+-- the first test that holds on the family
 abbrev pub FirstHolds : Program → List Entry → Family → Test → Type 0
 FirstHolds words A f (over limit) = IsOverSize f limit
 FirstHolds words A f (faulty x) = FitsLimits f × IsLeastFault words A f x
@@ -112,7 +112,7 @@ pub record IsRefused (words : Program) (A : List Entry) (n : ℕ) (r : Refusal) 
   pub ends : EndsBy words A n test
   pub is : r ≡ refusal_of test
 
--- the rounds end at family n, which is this one, without a refusal
+-- the rounds end at family n, which is f, without a refusal
 pub record IsSolved (words : Program) (A : List Entry) (n : ℕ) (f : Family) : Type 0 where
   pub comes : Comes words A n f
   pub passes : PassesTests words A f

@@ -1,4 +1,4 @@
--- The rounds: family 0 is the root's node after reset, and the next family is one joined with the targets of all its edges.
+-- The rounds. Family 0 is the root's node after reset. The next family is one joined with the targets of all its edges.
 use Rattle.std.specs.Prelude.{ℕ, zero, suc, ◌+◌, ◌≡◌, ◌<◌, ◌≤◌, List}
 use Rattle.std.specs.FinMap.{insert, empty}
 use Rattle.avr_model.specs.declared.assumption.Entry.{Entry}
@@ -25,7 +25,7 @@ pub record Entering (words : Program) (A : List Entry) (f : Family) (i j : InstK
   pub back : ℕ
   pub enters : Enters words A node way j back
 
--- the second instance is entered from the first by one or more entries
+-- one or more entries lead from the first instance to the second
 pub data Reaches (words : Program) (A : List Entry) (f : Family) : InstKey → InstKey → Type 0 where
   once : (i j : InstKey) (offset : ℕ) → Entering words A f i j offset → Reaches words A f i j
   more : (i j k : InstKey) (offset : ℕ) → Entering words A f i j offset → Reaches words A f j k → Reaches words A f i k
@@ -33,12 +33,12 @@ pub data Reaches (words : Program) (A : List Entry) (f : Family) : InstKey → I
 abbrev pub IsAcyclic : Program → List Entry → Family → Type 0
 IsAcyclic words A f = (i : InstKey) → Reaches words A f i i → ⊥
 
--- an instance's rank is above that of each that it enters
+-- an instance's rank is above that of each instance that it enters
 abbrev pub AreRanks : Program → List Entry → Family → (InstKey → ℕ) → Type 0
 AreRanks words A f rank = (i j : InstKey) (offset : ℕ) → Entering words A f i j offset → rank j < rank i
 
--- An instance's need is at least the offset of each of its closed nodes, and at least what each instance that it enters needs behind the
--- offset there and two bytes for the way back. An instance that has no node yet may have any need.
+-- An instance's need is at least the offset of each of its closed nodes, and at least an entered instance's need plus the offset and two
+-- bytes for the return address. An instance without nodes may have any need.
 pub record AreNeeds (words : Program) (A : List Entry) (f : Family) (need : InstKey → ℕ) : Type 0 where
   pub offsets : (n : Node) (offset : ℕ) → FamilyHas f n → n.key.sp ≡ Closed offset → offset ≤ need n.key.inst
   pub entered : (i j : InstKey) (offset : ℕ) → Entering words A f i j offset → offset + 2 + need j ≤ need i
@@ -50,7 +50,7 @@ pub record IsRootNeed (words : Program) (A : List Entry) (f : Family) (d : ℕ) 
   pub is : need root_inst ≡ d
   pub least : (other : InstKey → ℕ) → AreNeeds words A f other → d ≤ other root_inst
 
--- the least need of the root is no more than the device's SRAM has bytes: some needs keep it there
+-- the root's least need is at most the size of the device's SRAM: some needs are
 pub record IsShallow (words : Program) (A : List Entry) (f : Family) : Type 0 where
   pub need : InstKey → ℕ
   pub are : AreNeeds words A f need
@@ -61,21 +61,21 @@ pub record IsShallow (words : Program) (A : List Entry) (f : Family) : Type 0 wh
 abbrev pub first : List Entry → Family
 first A = insert empty (entry_key root_inst) (root_of A)
 
--- g is f joined with the targets of all its edges: the least family above f in which they land
+-- g is f joined with the targets of all its edges: the least family above f to which they lead
 pub record IsNext (words : Program) (A : List Entry) (f g : Family) : Type 0 where
   pub formed : AreFormed (has_pairs A) g
   pub above : Below f g
   pub edges : LandIn words A f g
   pub least : (h : Family) → Below f h → LandIn words A f h → Below g h
 
--- no test holds of the family
+-- no test holds on the family
 pub record PassesTests (words : Program) (A : List Entry) (f : Family) : Type 0 where
   pub fits : FitsLimits f
   pub faultless : HasNoFault words A f
   pub acyclic : IsAcyclic words A f
   pub shallow : IsShallow words A f
 
--- the rounds come to family n, which is this one
+-- family n of the rounds is f
 abbrev pub Comes : Program → List Entry → ℕ → Family → Type 0
 Comes words A zero f = f ≡ first A
 Comes words A (suc n) g = (f : Family) × Comes words A n f × PassesTests words A f × (IsClosed words A f → ⊥) × IsNext words A f g

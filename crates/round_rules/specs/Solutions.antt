@@ -1,4 +1,4 @@
--- What the analysis answers.
+-- The answer of the analysis.
 use Rattle.std.specs.Prelude.{ℕ, ◌≡◌, ◌≤◌, ◌↔◌, ⊤, List, Option, Some, None, Contains}
 use Rattle.avr_model.specs.declared.assumption.Entry.{Entry}
 use Rattle.avr_model.specs.Devices.{Program}
@@ -16,13 +16,13 @@ use Rattle.round_rules.specs.Rounds.{AreRanks, AreNeeds}
 use Rattle.round_rules.specs.Refusals.{IsSolved, IsRefused, GoesBeyond}
 use Rattle.round_rules.specs.Sparse.{AreSparse}
 
--- a certificate whose nodes meet all conditions: valid, but for its schedule
+-- the certificate meets all conditions but that on the schedule
 pub record IsShown (words : Program) (A : List Entry) (c : Claim) : Type 0 where
   pub claim : IsClaim c
   pub sound : IsSound words A c
 
--- The certificate of a solved family: it is of the version that its assumptions ask for, and has the family's nodes and their instances, least ranks and needs, and the root's need as bound.
--- A node's state is left out exactly where the one edge that leads to it gives it.
+-- The certificate of a solved family, in the version for its assumptions: the family's nodes and instances, least ranks and needs, and
+-- the root's need as bound. A node's state is left out exactly if its only edge determines it.
 pub record IsSolution (words : Program) (A : List Entry) (f : Family) (c : Claim) : Type 0 where
   pub version : c.version ≡ written_version A
   pub expands : IsFilled words A c.nodes (nodes_of f)
@@ -36,7 +36,7 @@ pub record IsSolution (words : Program) (A : List Entry) (f : Family) (c : Claim
   pub assumptions : c.assumptions ≡ A
   pub unwitnessed : c.witness ≡ None
 
--- the budget serves for family n
+-- the budget suffices for family n
 abbrev pub IsWithinBudget : Option ℕ → ℕ → Type 0
 IsWithinBudget None n = ⊤
 IsWithinBudget (Some steps) n = n ≤ steps
@@ -55,7 +55,7 @@ pub record IsRefusal (words : Program) (A : List Entry) (steps : Option ℕ) (r 
   pub within : IsWithinBudget steps number
   pub refused : IsRefused words A number r
 
--- What may be answered in place of a certificate: the one refusal, that the budget is spent, or want of memory, which says nothing.
+-- The answer without a certificate: the one refusal, a spent budget, or running out of memory, which says nothing.
 abbrev pub IsWhyNot : Program → List Entry → Option ℕ → Refusal → Type 0
 IsWhyNot words A steps (Spent n) = (steps ≡ Some n) × GoesBeyond words A n
 IsWhyNot words A steps Memory = ⊤

@@ -1,4 +1,4 @@
--- Which nodes of a solved family are written without their states. Source: own.
+-- The nodes of a solved family that are written without states. Source: own.
 use Rattle.std.specs.Prelude.{ℕ, ◌≡◌, ◌<◌, ◌↔◌, List, Some, Contains, slice_get}
 use Rattle.avr_model.specs.declared.assumption.Entry.{Entry}
 use Rattle.avr_model.specs.Devices.{Program}
@@ -21,8 +21,8 @@ pub record IsOnlyFrom (words : Program) (A : List Entry) (nodes : List Node) (k 
   pub moves : edge.kind ≡ kind.Local
   pub only : (other : Node) (e : Edge) → Contains nodes other → IsEdge words A nodes other e → e.to ≡ k → (other ≡ node) × (e ≡ edge)
 
--- A node is written with the number of an earlier one exactly where the one edge that leads to it is local and comes from there. So the
--- first node, which is the root's after reset, has its state, and so has every other node to which more leads, or a later node alone.
+-- A node is written with the number of an earlier one exactly if its only edge is local and comes from there. Other nodes have states:
+-- the first, which is the root's after reset, and those with several edges, or with one from a later node.
 abbrev pub AreSparse : Program → List Entry → List Node → Seeds → Type 0
 AreSparse words A nodes seeds = (at m : ℕ) (k : NodeKey) (form : NodeForm) → slice_get seeds at ≡ Some (k, form)
     → (form ≡ From m) ↔ ((m < at) × IsOnlyFrom words A nodes k m)

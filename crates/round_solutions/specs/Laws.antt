@@ -25,8 +25,7 @@ use Rattle.round_rules.specs.Solutions.{IsSolution}
 use Rattle.round_rules.specs.Sparse.{IsOnlyFrom, AreSparse}
 use Rattle.round_solutions.specs.Parts.{AreForms, AreCertificateParts, claim_of}
 
--- A solved family can be seen by numbers: it has 1 to 65,536 nodes, ascending by key, none with a fault, and each instance that one of
--- them enters has its first node.
+-- A solved family has 1 to 65,536 nodes, ascending by key, none with a fault, and each entered instance has its first node.
 pub record SolvedFamiliesAreShown : Type 0 where
   pub shown : (words : Program) (A : List Entry) (n : ℕ) (f : Family) → IsSolved words A n f → AreShown (nodes_of f)
   pub some : (words : Program) (A : List Entry) (n : ℕ) (f : Family) → IsSolved words A n f → 0 < length (nodes_of f)
@@ -34,8 +33,8 @@ pub record SolvedFamiliesAreShown : Type 0 where
   pub faultless : (words : Program) (A : List Entry) (n : ℕ) (f : Family) → IsSolved words A n f → (m : Node) → Contains (nodes_of f) m → IsFaultless words A m
   pub peopled : (words : Program) (A : List Entry) (n : ℕ) (f : Family) → IsSolved words A n f → IsPeopled words A (nodes_of f)
 
--- Local edges from one node to one key are one. In a solved family the state of a node to which exactly one edge leads, where that is
--- local, is the edge's, unless the node is the root's after reset. So nodes with their forms stand for the family.
+-- A node has at most one local edge to a key. In a solved family, the only edge to a node determines its state if it is local, unless the
+-- node is the root's after reset. So nodes with their forms determine the family.
 pub record LoneEdgesTell : Type 0 where
   pub one : (words : Program) (A : List Entry) (nodes : List Node) (n : Node) (d e : Edge) → IsEdge words A nodes n d → IsEdge words A nodes n e
       → d.kind ≡ Local → e.kind ≡ Local → d.to ≡ e.to → d ≡ e
@@ -50,7 +49,7 @@ abbrev pub GraphsAreAcyclic : Type 0
 GraphsAreAcyclic = (words : Program) (A : List Entry) (n : ℕ) (f : Family) (gs : List GraphInst) (at : ℕ) → IsSolved words A n f → IsGraph gs
     → IsGraphOf words A (nodes_of f) gs → IsNamed gs at → ⊥
 
--- The least need of the root is no more than SRAM has bytes, and with it as bound the parts are a certificate: that of the family.
+-- The root's least need is at most the size of SRAM, and with it as bound the parts form the certificate of the family.
 pub record SolutionsAreMade : Type 0 where
   pub bound : (words : Program) (A : List Entry) (n : ℕ) (f : Family) (insts : List Inst) (seeds : Seeds) → IsSolved words A n f
       → (parts : AreCertificateParts words A f insts seeds) → slice_index parts.needs 0 ≤ size_of (device_of words)

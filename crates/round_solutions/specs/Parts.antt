@@ -1,4 +1,4 @@
--- What a certificate of a family is made of. Source: own.
+-- The parts of a family's certificate. Source: own.
 use Rattle.std.specs.Prelude.{ℕ, ◌≡◌, ◌<◌, List, length, None, Some, slice_get, slice_index}
 use Rattle.avr_model.specs.declared.assumption.Entry.{Entry}
 use Rattle.avr_model.specs.Devices.{Program}
@@ -18,8 +18,7 @@ use Rattle.round_rules.specs.Sparse.{IsOnlyFrom}
 
 -- ---- nodes
 
--- This is the form of the node of this number: the number of an earlier node where the one edge that leads to it is local and comes from
--- there, and else its state.
+-- The form of the node of this number: the number of an earlier node if its only edge is local and comes from there, else its state.
 abbrev pub IsForm : Program → List Entry → List Node → ℕ → Node → NodeForm → Type 0
 IsForm words A nodes at n (State s) = (s ≡ n.state) × ((m : ℕ) → m < at → IsOnlyFrom words A nodes n.key m → ⊥)
 IsForm words A nodes at n (From m) = (m < at) × IsOnlyFrom words A nodes n.key m
@@ -28,14 +27,14 @@ IsForm words A nodes at n (From m) = (m < at) × IsOnlyFrom words A nodes n.key 
 abbrev pub IsGivenAt : Program → List Entry → List Node → Seeds → ℕ → Node → Type 0
 IsGivenAt words A nodes seeds at n = (form : NodeForm) × ((slice_get seeds at ≡ Some (n.key, form)) × IsForm words A nodes at n form)
 
--- these are the nodes, each with its form
+-- these are the nodes with their forms
 pub record AreForms (words : Program) (A : List Entry) (nodes : List Node) (seeds : Seeds) : Type 0 where
   pub count : length seeds ≡ length nodes
   pub each : (at : ℕ) (n : Node) → slice_get nodes at ≡ Some n → IsGivenAt words A nodes seeds at n
 
 -- ---- instances
 
--- these are the graph's instances, each with its rank and its need
+-- these are the graph's instances with ranks and needs
 pub record AreInsts (gs : List GraphInst) (ranks needs : List ℕ) (insts : List Inst) : Type 0 where
   pub count : length insts ≡ length gs
   pub each : (i : ℕ) (g : GraphInst) → slice_get gs i ≡ Some g
@@ -54,6 +53,6 @@ pub record AreCertificateParts (words : Program) (A : List Entry) (f : Family) (
   pub insts_are : AreInsts graph ranks needs insts
   pub forms : AreForms words A (nodes_of f) seeds
 
--- the certificate of these parts with this bound, without a schedule, in the version that the assumptions ask for
+-- the certificate of these parts with this bound, without a schedule, in the version for the assumptions
 abbrev pub claim_of : ℕ → List Entry → List Inst → Seeds → Claim
 claim_of bound A insts seeds = record { version = written_version A; bound = bound; assumptions = A; instances = insts; nodes = seeds; witness = None }

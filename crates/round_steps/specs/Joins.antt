@@ -1,4 +1,4 @@
--- What changes as nodes are joined into a family.
+-- What a join of nodes into a family changes.
 use Rattle.std.specs.Prelude.{ℕ, Bool, ◌+◌, ◌≡◌, ◌≤◌, List, ◌++◌, map, length, Contains}
 use Rattle.std.specs.FinMap.{get}
 use Rattle.mask_states.specs.declared.keys.NodeKey.{NodeKey}
@@ -14,17 +14,17 @@ keys_of = map (λ (n : Node). n.key)
 abbrev pub AreNew : Family → List Node → Type 0
 AreNew f ns = (n : Node) → Contains ns n → Lands f n → ⊥
 
--- the two families have the same at each key that is not in the list
+-- the families agree on each key that is not in the list
 abbrev pub KeptBut : Family → Family → List NodeKey → Type 0
 KeptBut f g changed = (k : NodeKey) → (Contains changed k → ⊥) → get g k ≡ get f k
 
--- the family's nodes and these are ones that the analysis works with: all of them follow pairs, or none does
+-- the family's nodes and these are nodes of the analysis: all follow pairs, or none does
 pub record FitTogether (f : Family) (ns : List Node) : Type 0 where
   pub followed : Bool
   pub formed : AreFormed followed f
   pub nodes : AreNodesIn followed ns
 
--- g is f with some of the nodes joined into it, and these are left
+-- g is f with some of the nodes joined, and the others are left
 pub record AreJoinedSoFar (f : Family) (all : List Node) (g : Family) (count : ℕ) (left : List Node) (changed : List NodeKey) : Type 0 where
   pub joined : raised_all g left ≡ raised_all f all
   pub counted : count ≡ cells g

@@ -1,4 +1,4 @@
--- What is found at the nodes of a family: where each leads, or its fault.
+-- A look is a visit of a node of the family: it finds its successors or its fault.
 use Rattle.std.specs.Prelude.{ℕ, ◌≡◌, ◌≢◌, ◌⊎◌, List, [], ◌∷◌, ◌++◌, Option, Some, Result, Ok, Err, Contains}
 use Rattle.std.specs.FinMap.{get}
 use Rattle.avr_model.specs.declared.assumption.Entry.{Entry}
@@ -14,7 +14,7 @@ use Rattle.round_rules.specs.Refusals.{FaultAt, IsFaultNoLater}
 use Rattle.round_steps.specs.declared.looking.Look.{Look}
 use Rattle.round_steps.specs.declared.looking.Seen.{Seen}
 
--- the look is at a node of the family, and this is where it leads
+-- the look is at a node of the family, and has its successors
 pub record IsLook (words : Program) (A : List Entry) (f : Family) (x : Look) : Type 0 where
   pub state : AbsState
   pub has : get f x.key ≡ Some state
@@ -27,7 +27,7 @@ pub record HasLook (xs : List Look) (k : NodeKey) : Type 0 where
   pub member : Contains xs look
   pub at : look.key ≡ k
 
--- the node has a fault, and the worst one counts before it
+-- the node has a fault, and the worst fault is at least as bad
 pub record HasFault (words : Program) (A : List Entry) (worst : Option NodeFault) (k : NodeKey) (s : AbsState) : Type 0 where
   pub fault : NodeFault
   pub is : local words A k s ≡ Err fault
@@ -35,7 +35,7 @@ pub record HasFault (words : Program) (A : List Entry) (worst : Option NodeFault
   pub found : worst ≡ Some first
   pub no_later : IsFaultNoLater first fault
 
--- of these nodes of the family, each was looked at or has a fault, and the worst fault is one of theirs
+-- each of these nodes of the family was visited or has a fault, and the worst fault is the least of theirs
 pub record AreSeen (words : Program) (A : List Entry) (f : Family) (keys : List NodeKey) (seen : Seen) : Type 0 where
   pub looks : (x : Look) → Contains seen.looks.items x → IsLook words A f x
   pub each : (k : NodeKey) (s : AbsState) → Contains keys k → get f k ≡ Some s → HasLook seen.looks.items k ⊎ HasFault words A seen.worst k s
@@ -43,7 +43,7 @@ pub record AreSeen (words : Program) (A : List Entry) (f : Family) (keys : List 
 
 -- ---- one more
 
--- of the fault that counted and another, this counts
+-- the worse of the fault so far and another
 pub record IsWorst (before : Option NodeFault) (fault now : NodeFault) : Type 0 where
   pub later : IsFaultNoLater now fault
   pub kept : (x : NodeFault) → before ≡ Some x → IsFaultNoLater now x

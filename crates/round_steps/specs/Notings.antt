@@ -1,4 +1,4 @@
--- What is noted of nodes: who enters an instance and who leaves it, and how instances nest.
+-- Notes of visits: the nodes that enter or leave an instance, and the nesting of instances.
 use Rattle.std.specs.Prelude.{◌≡◌, ◌↔◌, ◌⊎◌, List, [], Option, Some, Contains}
 use Rattle.mask_states.specs.declared.keys.InstKey.{InstKey}
 use Rattle.mask_states.specs.declared.keys.NodeKey.{NodeKey}
@@ -18,13 +18,13 @@ blank = record { callers = []; leavers = []; nesting = nothing }
 
 -- ---- what comes besides
 
--- one of the list has it
+-- some item of the list has the property
 pub record AnyHas {X Y : Type 0} (xs : List X) (P : X → Y → Type 0) (y : Y) : Type 0 where
   pub one : X
   pub member : Contains xs one
   pub has : P one y
 
--- what this has, and no more, is there besides
+-- the second property is the first one or P
 abbrev pub Besides : {Y : Type 0} → (Y → Type 0) → (Y → Type 0) → (Y → Type 0) → Type 0
 Besides old more new = (y : _) → new y ↔ (old y ⊎ more y)
 
@@ -32,7 +32,7 @@ Besides old more new = (y : _) → new y ↔ (old y ⊎ more y)
 abbrev pub HasCrossing : Groups → InstKey × Crossing → Type 0
 HasCrossing gs y = IsCrossing gs y.0 y.1
 
--- a node that enters an instance this way, and one that leaves its instance
+-- the crossing of a node that enters an instance this way, and of one that leaves its instance
 abbrev pub caller : NodeKey → Way → Crossing
 caller k w = record { node = k; kind = w.kind; back = w.back; exit = record { masks = k.masks; i = k.i; delay = k.delay } }
 
@@ -79,7 +79,7 @@ SpotAt x s = (s.inst ≡ x.key.inst) × (x.key.sp ≡ Closed s.offset)
 abbrev pub EntersAt : Look → Entrance → Type 0
 EntersAt x = AnyHas x.ways.items (EntersBy x.key)
 
--- what was found at one node is noted besides
+-- the notes grew by what was found at one node
 pub record IsNoted (old : Notes) (x : Look) (new : Notes) : Type 0 where
   pub callers : Besides (HasCrossing old.callers) (CallsAt x) (HasCrossing new.callers)
   pub leavers : Besides (HasCrossing old.leavers) (LeavesAt x) (HasCrossing new.leavers)
@@ -87,7 +87,7 @@ pub record IsNoted (old : Notes) (x : Look) (new : Notes) : Type 0 where
   pub spots : Besides (Contains old.nesting.spots) (SpotAt x) (Contains new.nesting.spots)
   pub entrances : Besides (Contains old.nesting.entrances) (EntersAt x) (Contains new.nesting.entrances)
 
--- the same of several
+-- the notes grew by what was found at several nodes
 pub record AreNoted (old : Notes) (xs : List Look) (new : Notes) : Type 0 where
   pub callers : Besides (HasCrossing old.callers) (AnyHas xs CallsAt) (HasCrossing new.callers)
   pub leavers : Besides (HasCrossing old.leavers) (AnyHas xs LeavesAt) (HasCrossing new.leavers)

@@ -1,4 +1,4 @@
--- What the edges of nodes lead to, in the code's order.
+-- The targets of edges, in the order of the code.
 use Rattle.std.specs.Prelude.{List, [], ◌∷◌, ◌++◌, map, Option, Some, None}
 use Rattle.std.specs.FinMap.{get}
 use Rattle.abs_state.specs.declared.state.AbsState.{AbsState}
@@ -28,7 +28,7 @@ if_any (Some n) = n ∷ []
 abbrev pub returned_to : NodeKey → AbsState → Way → Exit → AbsState → List Node
 returned_to k s w x leaving = if_any (returned_node k s w x leaving)
 
--- back to a node from one that leaves what it enters
+-- the return to a node from one that leaves the entered instance
 abbrev pub back_from : NodeKey → AbsState → Way → Exit → Option AbsState → List Node
 back_from k s w x None = []
 back_from k s w x (Some leaving) = returned_to k s w x leaving
@@ -45,11 +45,11 @@ backs_in f leavers k s w = backs_by f k s w (crossings_at leavers w.inst)
 abbrev pub all_backs : Family → Groups → NodeKey → AbsState → List Way → List Node
 all_backs f leavers k s = gathered (backs_in f leavers k s)
 
--- how the node enters the instance
+-- the way in which a node enters the instance
 abbrev pub way_of : InstKey → Crossing → Way
 way_of inst c = record { kind = c.kind; inst = inst; back = c.back }
 
--- from a node to one that enters what it leaves
+-- the return from a node to one that entered its instance
 abbrev pub onward_from : InstKey → AbsState → Exit → Crossing → Option AbsState → List Node
 onward_from inst leaving x c None = []
 onward_from inst leaving x c (Some s) = returned_to c.node s (way_of inst c) x leaving
@@ -64,12 +64,12 @@ abbrev pub onwards_if : Family → Groups → InstKey → AbsState → Option Ex
 onwards_if f callers inst leaving None = []
 onwards_if f callers inst leaving (Some x) = onwards_by f inst leaving x (crossings_at callers inst)
 
--- those of one node that are not to nodes of its own instance alone
+-- the targets of one node but for local ones
 abbrev pub crossings_of : Family → Notes → Look → AbsState → List Node
 crossings_of f notes x s =
     map (entry_node s) x.ways.items ++ (all_backs f notes.leavers x.key s x.ways.items ++ onwards_if f notes.callers x.key.inst s x.part.exit)
 
--- all of one node
+-- all targets of one node
 abbrev pub targets_with : Family → Notes → Look → Option AbsState → List Node
 targets_with f notes x None = []
 targets_with f notes x (Some s) =

@@ -1,4 +1,4 @@
--- What is noted of instances: the nodes that enter or leave them, by the instance.
+-- Crossings by instance: the nodes that enter or leave it.
 use Rattle.std.specs.Prelude.{ℕ, ◌≡◌, ◌↔◌, ◌⊎◌, List, [], map, Some, slice_get, Contains, unwrap_or}
 use Rattle.std.specs.Map.{lookup}
 use Rattle.indexmap.specs.IndexSet.{IndexSet}
@@ -6,7 +6,7 @@ use Rattle.mask_states.specs.declared.keys.InstKey.{InstKey}
 use Rattle.mask_states.specs.Order.{same_inst}
 use Rattle.round_table.specs.declared.crossings.Crossing.{Crossing}
 
--- the crossings of each instance, in the order in which the instances came
+-- the crossings of each instance, in order of first use
 abbrev pub Groups : Type 0
 Groups = List (InstKey × List Crossing)
 
@@ -25,10 +25,10 @@ crossings_at gs inst = unwrap_or (lookup (same_inst inst) gs) []
 abbrev pub IsCrossing : Groups → InstKey → Crossing → Type 0
 IsCrossing gs inst c = Contains (crossings_at gs inst) c
 
--- one crossing more, if it is new
+-- one more crossing, if it is new
 abbrev pub IsCrossingAdded : Groups → InstKey → Crossing → Groups → Type 0
 IsCrossingAdded gs inst crossing new = (i : InstKey) (c : Crossing) → IsCrossing new i c ↔ (IsCrossing gs i c ⊎ ((i ≡ inst) × (c ≡ crossing)))
 
--- each stands once
+-- no crossing occurs twice
 abbrev pub AreCrossingsOnce : List Crossing → Type 0
 AreCrossingsOnce cs = (i j : ℕ) (c : Crossing) → slice_get cs i ≡ Some c → slice_get cs j ≡ Some c → i ≡ j

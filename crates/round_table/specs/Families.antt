@@ -1,3 +1,3 @@
--- Families of nodes: the state of each.
+-- Families: finite maps from keys to states.
 pub use Rattle.round_rules.specs.Families.{Family, node_of, nodes_of, Lands}
 pub use Rattle.round_laws.specs.Steps.{joined_with, raised}

@@ -1,4 +1,4 @@
--- States that nodes share, by their numbers in a pool.
+-- States shared by nodes, by their numbers in a pool.
 use Rattle.std.specs.Prelude.{ℕ, ◌+◌, ◌≡◌, ◌<◌, List, [], ◌∷◌, map}
 use Rattle.std.specs.List.{IsDistinct}
 use Rattle.std.specs.Map.{keys_of}
@@ -14,26 +14,26 @@ use Rattle.round_table.specs.Sized.{AreStatesSized}
 abbrev pub with_state : Uses → NodeKey × ℕ → NodeKey × AbsState
 with_state pool e = (e.0, state_at pool e.1)
 
--- the nodes' keys with their states
+-- keys with their states
 abbrev pub stated : Uses → List (NodeKey × ℕ) → List (NodeKey × AbsState)
 stated pool es = map (with_state pool) es
 
--- how many nodes have this number
+-- the number of nodes with this number
 abbrev pub times : ℕ → List (NodeKey × ℕ) → ℕ
 times n [] = 0
 times n (e ∷ es) = share n e.1 + times n es
 
--- each number is used as often as nodes have it
+-- each number has as many uses as nodes
 abbrev pub AreCounted : Uses → List (NodeKey × ℕ) → Type 0
 AreCounted pool es = (n : ℕ) → count_at pool n ≡ times n es
 
--- each node has a number of the pool, which no one else uses, and no two nodes have the same key
+-- each node has a number of the pool, whose uses are those of the nodes, and no two nodes have the same key
 pub record IsShared (pool : Uses) (es : List (NodeKey × ℕ)) : Type 0 where
   pub sized : AreStatesSized (from_entries (stated pool es))
   pub distinct : IsDistinct same_node (keys_of es)
   pub counted : AreCounted pool es
 
--- one use of a number goes over to the number of this state; the other states that are still used stay
+-- one use of a number moves to the number of this state; the states of other used numbers stay
 pub record IsMoved (old : Uses) (n : ℕ) (s : AbsState) (m : ℕ) (new : Uses) : Type 0 where
   pub own : state_at new m ≡ s
   pub counts : (x : ℕ) → count_at new x + share x n ≡ count_at old x + share x m

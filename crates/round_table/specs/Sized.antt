@@ -1,4 +1,4 @@
--- Families whose states have as many slots as their keys' offsets say.
+-- Families whose states have as many slots as the offsets of their keys.
 use Rattle.std.specs.Prelude.{◌≡◌, length, Some}
 use Rattle.std.specs.FinMap.{FinMap, get}
 use Rattle.abs_state.specs.declared.state.AbsState.{AbsState}

@@ -54,7 +54,7 @@ empty_line = refl
 go_line : with_end (with_words (record { bytes = []; begun = false }) (codes "go" ∷ codes "4" ∷ codes "00" ∷ [])) ≡ record { bytes = codes "go 4 00" ++ 10 ∷ []; begun = false }
 go_line = refl
 
--- a name added twice, a second read that is to fail
+-- a name that was added twice, and a store whose second read fails
 store : ℕ → Store
 store calls = record {
   files = record { name = codes "a"; bytes = codes "new" } ∷ record { name = codes "a"; bytes = codes "older" } ∷ [];
@@ -80,7 +80,7 @@ missing : read_answer (store 0) (codes "b") 3 ≡ Err read.Failed
 unfolding store
 missing = refl
 
--- a put that fails, one that takes two bytes at most, one that takes none
+-- a put that fails, one that takes at most two bytes, one that takes none
 sink : ℕ → Taken
 sink calls = record { bytes = codes "x"; calls = calls; failing = 0 ∷ []; shorts = (1, 2) ∷ (2, 0) ∷ []; faults = 0 }
 

@@ -2,12 +2,12 @@
 use Rattle.std.specs.Prelude.{◌≡◌, ◌<◌, ℕ, ◌+◌, ◌==◌, List, [], ◌∷◌, ◌++◌, length, Bool, true, false, ⊤, if◌then◌else◌, Option, Some, None}
 use Rattle.std.specs.List.{slice_split, join_with_byte, flat_map, AllByRecursion}
 
--- a line without its line feed, and whether one ended it
+-- a line without its line feed, and whether a line feed ended it
 pub record TextLine : Type 0 where
   pub text : List ℕ
   pub whole : Bool
 
--- one more byte at the front of the first line
+-- one byte in front of the first line
 abbrev pub onto_line : ℕ → List TextLine → List TextLine
 onto_line b [] = record { text = b ∷ []; whole = false } ∷ []
 onto_line b (l ∷ ls) = record { text = b ∷ l.text; whole = l.whole } ∷ ls
@@ -17,7 +17,7 @@ abbrev pub lines_of : List ℕ → List TextLine
 lines_of [] = []
 lines_of (b ∷ bs) = if b == 10 then record { text = []; whole = true } ∷ lines_of bs else onto_line b (lines_of bs)
 
--- no byte of the text is this one
+-- the byte does not occur in the text
 abbrev pub Lacks : ℕ → List ℕ → Type 0
 Lacks c text = AllByRecursion (λ b. (b == c) ≡ false) text
 
@@ -28,11 +28,11 @@ bytes_of l = if l.whole then l.text ++ 10 ∷ [] else l.text
 abbrev pub size_of : TextLine → ℕ
 size_of l = if l.whole then length l.text + 1 else length l.text
 
--- the text that lines make up
+-- the text of these lines
 abbrev pub joined : List TextLine → List ℕ
 joined ls = flat_map bytes_of ls
 
--- a line feed ends the line, but may be lacking where no line follows and the line isn't empty
+-- the line ends with a line feed; only a last line that is not empty may lack it
 abbrev pub IsEnded : TextLine → List TextLine → Type 0
 IsEnded l [] = l.whole ≡ false → 0 < length l.text
 IsEnded l (m ∷ ms) = l.whole ≡ true
@@ -46,12 +46,12 @@ abbrev pub first_line : List TextLine → Option TextLine
 first_line [] = None
 first_line (l ∷ ls) = Some l
 
--- where a reader of lines stands: the offset of the next line, and the lines from there on
+-- the position of a reader of lines: the offset of the next line, and the lines from there on
 pub record Place : Type 0 where
   pub at : ℕ
   pub rest : List TextLine
 
--- the words of a line: what stands between single spaces
+-- the words of a line: the bytes between single spaces
 abbrev pub words_of : List ℕ → List (List ℕ)
 words_of line = slice_split (λ b. b == 32) line
 

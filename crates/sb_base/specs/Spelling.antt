@@ -4,11 +4,11 @@ use Rattle.std.specs.List.{AllByRecursion}
 use Rattle.sb_base.specs.Digits.{hex_answer, dec_answer, hex_digits}
 use Rattle.sb_base.specs.Lines.{TextLine, lines_of, joined, AreLines, size_of, bytes_of, words_of, spaced, Lacks}
 
--- the digits that are written of a number are read as that number
+-- reading the digits of a number gives the number
 abbrev pub HexIsRead : Type 0
 HexIsRead = (n digits : ℕ) → n < 16 ^ digits → hex_answer (hex_digits n digits) digits ≡ Ok n
 
--- digits that are read as a number are the ones that are written of it
+-- digits that are read as a number are the digits of that number
 abbrev pub HexIsSpelled : Type 0
 HexIsSpelled = (text : List ℕ) (n digits : ℕ) → hex_answer text digits ≡ Ok n → text ≡ hex_digits n digits
 
@@ -18,22 +18,22 @@ DecimalIsRead = (n most : ℕ) → most < 2 ^ 64 → n ≤ most → dec_answer (
 abbrev pub DecimalIsSpelled : Type 0
 DecimalIsSpelled = (text : List ℕ) (n most : ℕ) → most < 2 ^ 64 → dec_answer text most ≡ Ok n → text ≡ decimal n
 
--- lines that make up a text are read from it
+-- reading the text of lines gives the lines
 abbrev pub LinesAreRead : Type 0
 LinesAreRead = (ls : List TextLine) → AreLines ls → lines_of (joined ls) ≡ ls
 
--- the lines of any text make it up
+-- the lines of a text make up the text
 abbrev pub LinesMakeText : Type 0
 LinesMakeText = (text : List ℕ) → joined (lines_of text) ≡ text
 
--- they are lines: no line feed stands in them, and only the last one can lack the one behind it
+-- no line has a line feed in it, and only the last one may lack the one at its end
 abbrev pub LinesOfTextAreLines : Type 0
 LinesOfTextAreLines = (text : List ℕ) → AreLines (lines_of text)
 
--- the size by which a reader's offset moves is the number of the line's bytes
+-- a reader's offset moves by the number of the line's bytes
 abbrev pub SizesAreLengths : Type 0
 SizesAreLengths = (l : TextLine) → size_of l ≡ length (bytes_of l)
 
--- words without a space in them, at least one, are read from the line that they make up
+-- reading the line of one or more words without spaces gives the words
 abbrev pub WordsAreRead : Type 0
 WordsAreRead = (w : List ℕ) (ws : List (List ℕ)) → AllByRecursion (Lacks 32) (w ∷ ws) → words_of (spaced (w ∷ ws)) ≡ w ∷ ws

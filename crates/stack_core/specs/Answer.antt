@@ -1,4 +1,4 @@
--- What the top call does.
+-- The top call.
 use Rattle.std.specs.Prelude.{◌≡◌, ◌≢◌, ◌⊎◌, ◌↔◌, ◌≤◌, ℕ, Bool, List, length, Option, Some, None}
 use Rattle.avr_model.specs.declared.assumption.Entry.{Entry}
 use Rattle.avr_model.specs.declared.device.Device.{Device}
@@ -15,9 +15,9 @@ use Rattle.replies.specs.Headline.{Mean, StandFor, Holds, IsLeastCertificate, Is
 
 -- ---- the answer where no call failed and memory sufficed
 
--- For each file of a command there is one value, by its place, that was read: it agrees with what the files tell, also where one name
--- stands twice. Of these values the answer is the one reply. One that accepts a certificate says that the bound holds, and comes exactly
--- where the certificate is valid. One that writes a certificate says that it is the least, and its status says how the rounds end.
+-- Each file of a command has one value, by its place, which agrees with what the files object reports, also if one name occurs twice. The
+-- answer is the one reply to these values. A reply that accepts a certificate says that the bound holds, and comes exactly if the
+-- certificate is valid. One that writes a certificate says that it is the least, and its status says how the rounds end.
 pub record IsAnswered (command : Command) (holds : List ℕ → Held) (status : ℕ) (text : List ℕ) : Type 0 where
   pub seen : Contents
   pub agrees : AllAgree command holds seen
@@ -30,7 +30,7 @@ abbrev pub IsReplyDue : Option Command → (List ℕ → Held) → ℕ → List 
 IsReplyDue None holds status text = (status ≡ 2) × (text ≡ usage)
 IsReplyDue (Some command) holds status text = IsAnswered command holds status text
 
--- the same, and its text was written
+-- the reply is due, and its text was written
 pub record IsReplyWritten (command : Option Command) (holds : List ℕ → Held) (status : ℕ) (before after : Option (List ℕ)) : Type 0 where
   pub text : List ℕ
   pub due : IsReplyDue command holds status text
@@ -38,14 +38,14 @@ pub record IsReplyWritten (command : Option Command) (holds : List ℕ → Held)
 
 -- ---- a read that failed
 
--- The count of faults rose, and this is the command's first file that couldn't be read.
+-- The count of faults rose, and this is the command's first file that could not be read.
 abbrev pub IsReadFault : Option Command → (List ℕ → Held) → ℕ → ℕ → Blamed → List ℕ → Type 0
 IsReadFault None holds before after blamed name = ⊥
 IsReadFault (Some command) holds before after blamed name = IsFirstFailed command holds blamed name × Rose before after
 
 -- ---- before anything is written
 
--- an answer that no read fault comes before
+-- an answer before which no read failed
 pub record IsSettledAnswer (command : Option Command) (holds : List ℕ → Held) (before after : ℕ) (status : ℕ) (text : List ℕ) : Type 0 where
   pub quiet : after ≡ before
   pub due : IsReplyDue command holds status text
@@ -54,7 +54,7 @@ pub record IsSettledAnswer (command : Option Command) (holds : List ℕ → Held
   pub write : status ≢ 4
   pub ample : status ≢ 12
 
--- a read fault is told
+-- the answer names the read that failed
 pub record IsFaultTold (command : Option Command) (holds : List ℕ → Held) (before after : ℕ) (blamed : Blamed) (status : ℕ) (text : List ℕ) : Type 0 where
   pub three : status ≡ 3
   pub name : List ℕ
@@ -64,13 +64,13 @@ pub record IsFaultTold (command : Option Command) (holds : List ℕ → Held) (b
 abbrev pub IsOutcome : Option Command → (List ℕ → Held) → ℕ → ℕ → Blamed → ℕ → List ℕ → Type 0
 IsOutcome command holds before after blamed status text = IsSettledAnswer command holds before after status text ⊎ IsFaultTold command holds before after blamed status text
 
--- where memory is wanting: no read failed, or one did that is to be told
+-- when memory runs out: no read failed, or one did whose fault is due
 abbrev pub IsCutOff : Option Command → (List ℕ → Held) → ℕ → ℕ → Blamed → Type 0
 IsCutOff command holds before after blamed = (after ≡ before) ⊎ ((name : List ℕ) × IsReadFault command holds before after blamed name)
 
 -- ---- a write fault, and want of memory
 
--- Some first bytes were written of the text that is due: that of the answer where no read failed, else that of the read fault.
+-- A prefix of the due text was written: that of the answer if no read failed, else that of the read fault.
 abbrev pub Cuts : Option Command → (List ℕ → Held) → ℕ → ℕ → Blamed → Option (List ℕ) → Option (List ℕ) → Type 0
 Cuts command holds before after blamed old new =
     ((after ≡ before) × ((new ≡ old) ⊎ ((status : ℕ) × (text : List ℕ) × IsReplyDue command holds status text × GrewByPrefix old new text)))
@@ -83,7 +83,7 @@ AreHeld holds None list = list ≡ None
 AreHeld holds (Some name) None = ⊥
 AreHeld holds (Some name) (Some bytes) = (holds name ≡ Bytes bytes) × (length bytes ≤ assumption_cap)
 
--- the command judges the certificate of this name for the firmware, and under the assumptions, of those names
+-- the command judges the certificate for the firmware and the assumptions, by their names
 pub data Judges : Command → (firmware certificate : List ℕ) (assume : Option (List ℕ)) → Type 0 where
   checks : (device : Device) (firmware certificate : List ℕ) (assume : Option (List ℕ)) → Judges (Check device firmware certificate assume) firmware certificate assume
   reports : (device : Device) (firmware certificate : List ℕ) (assume : Option (List ℕ)) (json : Bool) → Judges (Report device firmware certificate assume json) firmware certificate assume
@@ -92,7 +92,7 @@ pub data Judges : Command → (firmware certificate : List ℕ) (assume : Option
   explains : (device : Device) (firmware certificate : List ℕ) (assume : Option (List ℕ)) → Judges (Explain device firmware certificate assume) firmware certificate assume
   completes : (device : Device) (firmware certificate : List ℕ) (assume : Option (List ℕ)) (trials : ℕ) → Judges (Attain device firmware certificate assume trials) firmware certificate assume
 
--- The words are this command, which judges, and these bytes are held under the names in them, within the caps.
+-- The words are this command, which judges, and these bytes are held under its names, within the caps.
 pub record IsJudging (command : Option Command) (judge : Command) (holds : List ℕ → Held) (firmware certificate : List ℕ) (list : Option (List ℕ)) : Type 0 where
   pub firmware_name : List ℕ
   pub certificate_name : List ℕ
@@ -105,19 +105,19 @@ pub record IsJudging (command : Option Command) (judge : Command) (holds : List 
   pub certificate_fits : length certificate ≤ certificate_cap
   pub list_held : AreHeld holds assume list
 
--- where a command of held bytes accepts a certificate, the bound holds of them, and is told
+-- if a command on held bytes accepts a certificate, the bound holds of them and is printed
 abbrev pub HeldHeadline : Option Command → (List ℕ → Held) → ℕ → Option (List ℕ) → Option (List ℕ) → Type 0
 HeldHeadline command holds status before after =
     (judge : Command) (firmware certificate : List ℕ) (list : Option (List ℕ)) → IsJudging command judge holds firmware certificate list → status ≡ 0
     → (text : List ℕ) × Holds judge firmware certificate list text × (after ≡ grown before text)
 
--- where held bytes read as values, it accepts exactly where the certificate is valid, and for `clear` all nodes are clear
+-- if held bytes are well-formed, it accepts exactly if the certificate is valid, and for `clear` all nodes are clear
 abbrev pub IsHeldExact : Option Command → (List ℕ → Held) → ℕ → Type 0
 IsHeldExact command holds status =
     (judge : Command) (firmware certificate : List ℕ) (list : Option (List ℕ)) (words : Program) (claim : Claim) (A : List Entry)
     → IsJudging command judge holds firmware certificate list → StandFor (device_for judge) firmware certificate list words claim A → SaysWhether judge words A claim status
 
--- The words are an analysis for this device with this budget, and these bytes are held under the names in them, within the caps.
+-- The words are an analysis for this device with this budget, and these bytes are held under its names, within the caps.
 pub record IsAnalysing (command : Option Command) (device : Device) (steps : Option ℕ) (holds : List ℕ → Held) (firmware : List ℕ) (list : Option (List ℕ)) : Type 0 where
   pub firmware_name : List ℕ
   pub assume : Option (List ℕ)
@@ -126,19 +126,19 @@ pub record IsAnalysing (command : Option Command) (device : Device) (steps : Opt
   pub firmware_fits : length firmware ≤ firmware_cap
   pub list_held : AreHeld holds assume list
 
--- where an analysis of held bytes answers 0, it has written the text of their least certificate, and nothing else
+-- if an analysis of held bytes answers 0, it has written exactly the text of their least certificate
 abbrev pub HeldLeast : Option Command → (List ℕ → Held) → ℕ → Option (List ℕ) → Option (List ℕ) → Type 0
 HeldLeast command holds status before after =
     (device : Device) (steps : Option ℕ) (firmware : List ℕ) (list : Option (List ℕ)) → IsAnalysing command device steps holds firmware list → status ≡ 0
     → (text : List ℕ) × IsLeastCertificate device firmware list text × (after ≡ grown before text)
 
--- where held bytes read as values, the status says how the rounds end
+-- if held bytes are well-formed, the status says how the rounds end
 abbrev pub IsHeldEnd : Option Command → (List ℕ → Held) → ℕ → Type 0
 IsHeldEnd command holds status =
     (device : Device) (steps : Option ℕ) (firmware : List ℕ) (list : Option (List ℕ)) (words : Program) (A : List Entry)
     → IsAnalysing command device steps holds firmware list → Mean device firmware list words A → SaysHowRoundsEnd words A steps status
 
--- The words are a simulation for this device of so many choices, and these bytes are held under the names in them, within the caps.
+-- The words are a simulation for this device of this many choices, and these bytes are held under its names, within the caps.
 pub record IsSimulating (command : Option Command) (device : Device) (steps : ℕ) (holds : List ℕ → Held) (firmware devices : List ℕ) (list : Option (List ℕ)) : Type 0 where
   pub firmware_name : List ℕ
   pub devices_name : List ℕ
@@ -150,13 +150,14 @@ pub record IsSimulating (command : Option Command) (device : Device) (steps : �
   pub devices_fit : length devices ≤ devices_cap
   pub list_held : AreHeld holds assume list
 
--- where a simulation of held bytes answers 0, it has told the run that the devices choose, which keeps each bound that `check` accepts
+-- if a simulation of held bytes answers 0, it has printed the run that the devices choose, which stays within each bound that `check`
+-- accepts
 abbrev pub HeldSimulated : Option Command → (List ℕ → Held) → ℕ → Option (List ℕ) → Option (List ℕ) → Type 0
 HeldSimulated command holds status before after =
     (device : Device) (steps : ℕ) (firmware devices : List ℕ) (list : Option (List ℕ)) → IsSimulating command device steps holds firmware devices list → status ≡ 0
     → (text : List ℕ) × IsSimulated device steps firmware devices list text × (after ≡ grown before text)
 
--- where held firmware and assumptions read as values, it answers 0 exactly where the devices' text reads as such
+-- if held firmware and assumptions are well-formed, it answers 0 exactly if the devices' text is well-formed
 abbrev pub AreHeldDevices : Option Command → (List ℕ → Held) → ℕ → Type 0
 AreHeldDevices command holds status =
     (device : Device) (steps : ℕ) (firmware devices : List ℕ) (list : Option (List ℕ)) (words : Program) (A : List Entry)
@@ -164,7 +165,7 @@ AreHeldDevices command holds status =
 
 -- ---- laws
 
--- what holds of an answer whose text was written, over files that tell what they hold
+-- what holds of an answer whose text was written, if the files object reports what it holds
 pub record WrittenAnswersHold : Type 0 where
   pub headline : (command : Option Command) (holds : List ℕ → Held) (status : ℕ) (before after : Option (List ℕ)) → IsReplyWritten command holds status before after
       → HeldHeadline command holds status before after

@@ -1,4 +1,4 @@
--- What is made of a firmware and of an assumption file, and what is told.
+-- Intermediate values for a firmware and an assumption file, and their answers.
 use Rattle.std.specs.Prelude.{ℕ, ◌≡◌, List, [], Bool, length, Option, Some, None, Result, Ok, Err}
 use Rattle.std.specs.Global.{Vec}
 use Rattle.avr_model.specs.declared.assumption.Entry.{Entry}
@@ -31,7 +31,7 @@ use Rattle.stack_core.specs.declared.judging.Judged.{Judged}
 use Rattle.stack_core.specs.declared.judging.Judged.TheVariants.{Accepted}
 use Rattle.stack_core.specs.declared.judging.Judged.TheVariants as judged
 
--- a firmware that was loaded into the greatest flash gives what the file's bytes give
+-- a firmware in the greatest flash has the words, names and static data of the file's bytes
 pub record GivesAs (elf : Bool) (bytes : List ℕ) (loaded : Firmware) : Type 0 where
   pub loads : fault_by elf bytes ≡ None
   pub size : length loaded.flash ≡ WORDS
@@ -39,7 +39,7 @@ pub record GivesAs (elf : Bool) (bytes : List ℕ) (loaded : Firmware) : Type 0 
   pub names : SayTheSame loaded.names (names_by elf bytes)
   pub static_end : loaded.static_end ≡ end_by elf bytes
 
--- a firmware that was loaded, or refused
+-- a firmware that was loaded, or its refusal
 abbrev pub LoadsBy : Bool → List ℕ → Image → Type 0
 LoadsBy elf bytes (Loaded loaded) = GivesAs elf bytes loaded
 LoadsBy elf bytes (Refused r) = (r.status ≡ 6) × (fault_by elf bytes ≡ Some r.text.items)
@@ -47,30 +47,30 @@ LoadsBy elf bytes (Refused r) = (r.status ≡ 6) × (fault_by elf bytes ≡ Some
 abbrev pub LoadsAs : List ℕ → Image → Type 0
 LoadsAs bytes image = LoadsBy (is_elf bytes) bytes image
 
--- the same firmware on a device, or its refusal where it has a word behind the device's flash
+-- the same firmware on a device, or its refusal if it has a word behind the device's flash
 abbrev pub NarrowedTo : Device → Firmware → Image → Type 0
 NarrowedTo device before (Loaded after) =
     IsNarrowed device before.flash after.flash × ((after.names ≡ before.names) × (after.static_end ≡ before.static_end))
 NarrowedTo device before (Refused r) = (r.status ≡ 6) × (outside_fault device before.flash ≡ Some r.text.items)
 
--- a firmware that was loaded for a device gives what the file's bytes give there
+-- a firmware on a device has the words, names and static data of the file's bytes there
 pub record GivesOn (device : Device) (bytes : List ℕ) (loaded : Firmware) : Type 0 where
   pub loads : firmware_fault device bytes ≡ None
   pub words : loaded.flash ≡ firmware_words device bytes
   pub names : SayTheSame loaded.names (firmware_names bytes)
   pub static_end : loaded.static_end ≡ firmware_end bytes
 
--- a firmware that was loaded for a device, or refused
+-- a firmware that was loaded for a device, or its refusal
 abbrev pub LoadsOn : Device → List ℕ → Image → Type 0
 LoadsOn device bytes (Loaded loaded) = GivesOn device bytes loaded
 LoadsOn device bytes (Refused r) = (r.status ≡ 6) × (firmware_fault device bytes ≡ Some r.text.items)
 
--- a list that was read, or a refusal
+-- a list that was read, or its refusal
 abbrev pub ReadsAs : List ℕ → Listing → Type 0
 ReadsAs bytes (Listed A) = entries_in bytes ≡ Ok A
 ReadsAs bytes (Unlisted r) = (fault : AssumeText) × (entries_in bytes ≡ Err fault) × (r.status ≡ 7) × (assumptions_refused fault ≡ Some r.text.items)
 
--- the same of a file that there may be; without one the list is empty
+-- the list of an optional file, or its refusal; without a file the list is empty
 abbrev pub ListsAs : Option (List ℕ) → Listing → Type 0
 ListsAs None (Listed A) = A ≡ []
 ListsAs None (Unlisted r) = ⊥
@@ -80,17 +80,17 @@ ListsAs (Some bytes) listing = ReadsAs bytes listing
 abbrev pub nothing : Claim → Reply
 nothing c status text = ⊥
 
--- a certificate that is valid, with its family, or what is answered of one that isn't, or that isn't read
+-- a valid certificate with its family, or the answer to one that isn't valid or isn't read
 abbrev pub IsJudgedAs : Program → List Entry → Result Claim CertFault → Judged → Type 0
 IsJudgedAs words A x (Accepted c family) = ((x ≡ Ok c) × IsValid words A c) × IsFamilyOf words A c family
 IsJudgedAs words A x (judged.Refused r) = CertificateReply words A nothing x r.status r.text.items
 
--- a certificate is accepted with its family, unless a line says that it isn't
+-- a certificate is accepted with its family, unless a line refuses it
 abbrev pub judged_by : Claim → Result Worked (Vec ℕ) → Judged
 judged_by c (Ok family) = Accepted c family
 judged_by c (Err text) = judged.Refused (record { status = 1; text = text })
 
--- the certificate is the first one with the schedule that the trials find, which attains its bound
+-- the certificate is the least one with the schedule that the trials find, which attains its bound
 pub record IsWitnessed (words : Program) (A : List Entry) (least c : Claim) : Type 0 where
   pub found : Option Plan
   pub trials : TrialsFind words A least found
@@ -103,7 +103,7 @@ pub record IsWitnessedText (words : Program) (A : List Entry) (least : Claim) (t
   pub witnessed : IsWitnessed words A least claim
   pub is : text ≡ text_of claim
 
--- what is answered for a firmware that was loaded, with the names and the static data that it was loaded with
+-- the answer for a loaded firmware, with its names and static data
 abbrev pub LoadedReply : Command → Firmware → List ℕ → List Entry → Reply
 LoadedReply (Report device name certificate assume json) loaded bytes A =
     CertificateReply loaded.flash A (λ c. Says 0 (report_by json device loaded.names loaded.static_end c)) (certificate_in bytes)

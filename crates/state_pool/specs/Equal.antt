@@ -1,4 +1,4 @@
--- The test of states decides whether they are the same.
+-- The test of states decides equality.
 use Rattle.std.proofs.Common.{◌≡◌, refl, ap, ◌∙◌, subst, true}
 use Rattle.std.specs.Prelude.{IsTrue}
 use Rattle.std.specs.Bool.{Decides}
@@ -43,6 +43,6 @@ same_state_decides s t =
 pub state_equivalence : IsPartialEquivalence same_state × IsEquivalence same_state
 state_equivalence = let all = decided same_state same_state_decides in (partial_equiv_from_equiv all, all)
 
--- the same states are fed alike
+-- equal states feed a hasher alike
 pub fed_alike : (s t : AbsState) → IsTrue (same_state s t) → state_hash s ≡ state_hash t
 fed_alike s t e = ap state_hash ((same_state_decides s t).0 e)

@@ -1,4 +1,4 @@
--- States and counts by their places, and their numbers.
+-- States and counts by place, and their numbers.
 use Rattle.std.specs.Prelude.{ℕ, ◌≡◌, ◌<◌, ◌≤◌, List, [], ◌∷◌, length, Some, slice_get}
 use Rattle.std.specs.List.{IsDistinct}
 use Rattle.std.specs.Map.{keys_of}
@@ -6,13 +6,13 @@ use Rattle.abs_state.specs.declared.state.AbsState.{AbsState}
 use Rattle.state_pool.specs.SameState.{same_state}
 use Rattle.state_pool.specs.Numbers.{AreNumbers}
 
--- each state and its count under the number of its place
+-- each state with its count, under the number of its place
 abbrev pub numbered : List ℕ → List (AbsState × ℕ) → List (ℕ × (AbsState × ℕ))
 numbered [] es = []
 numbered (n ∷ ns) [] = []
 numbered (n ∷ ns) (e ∷ es) = (n, e) ∷ numbered ns es
 
--- each place has a number of its own, equal states have one place, and each is used
+-- each place has its own number, no two places have equal states, and each state is used
 pub record ArePlacesKept (ns : List ℕ) (es : List (AbsState × ℕ)) : Type 0 where
   pub numbers : AreNumbers ns
   pub within : length es ≤ length ns

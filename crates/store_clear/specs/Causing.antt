@@ -1,4 +1,4 @@
--- What may happen at a word, node by node. Words of the inner contracts.
+-- The causes at a word, node by node. Definitions for the contracts of internal functions.
 use Rattle.std.specs.Prelude.{ℕ, ◌≡◌, ◌<◌, ◌==◌, ◌&&◌, ◌↔◌, Bool, true, not, List, [], map, Some, Contains, slice_get}
 use Rattle.avr_model.specs.declared.assumption.Entry.{Entry}
 use Rattle.avr_model.specs.declared.instruction.Instr.{Instr}
@@ -17,17 +17,17 @@ use Rattle.store_clear.specs.Settling.{ask_at, passes, IsTold}
 
 -- ---- addresses
 
--- a store may write this address, which is flagged as protected, and it is below the other
+-- a store may write this address, which is flagged as protected and below the limit
 abbrev pub IsProtectedBelow : Program → List Entry → ℕ → AbsState → Instr → ℕ → ℕ → Type 0
 IsProtectedBelow words A pc s instr count a = (a < count) × (may_write_protected words A pc s instr a ≡ true)
 
 -- ---- nodes
 
--- a node with this key still asks this, and lies at the word
+-- the node with this key still has a condition, and is at this word
 abbrev pub is_unclear_at : ℕ → NodeKey → Asks → Bool
 is_unclear_at pc k asks = not (passes asks) && (k.pc == pc)
 
--- one of the first nodes still asks something, lies at the word, and passes a test
+-- one of the first nodes still has a condition, is at this word, and passes the test
 pub record PassesBelow (nodes : List Node) (asks : List Asks) (pc : ℕ) (test : AbsState → Bool) (count : ℕ) : Type 0 where
   pub at : ℕ
   pub node : Node
@@ -44,12 +44,12 @@ IsLiveAt words A bound nodes asks pc instr count = PassesBelow nodes asks pc (λ
 
 -- ---- words
 
--- the list tells what it should, of whichever certificate the nodes are told
+-- the list is right for each certificate of these nodes and conditions
 abbrev pub AreSitesTold : List Node → List Asks → List ℕ → Type 0
 AreSitesTold nodes asks sites =
     (words : Program) (A : List Entry) (c : Claim) → IsTold words A c nodes asks → AreSites words A c sites × ((sites ≡ []) ↔ AreAllClear words A c)
 
--- these are the first words with what may happen there
+-- the first words with their causes
 pub record ArePlacesOf (words : Program) (A : List Entry) (f : RankedFamily) (sites : List ℕ) (places : List FlaggedPlace) : Type 0 where
   pub are : map word_of places ≡ sites
   pub each : (place : FlaggedPlace) → Contains places place → IsPlaceOf words A f place

@@ -1,4 +1,4 @@
--- What the numbers of a store lead to. Words of the inner contracts.
+-- The addresses by the numbers of a store's pointer. Definitions for the contracts of internal functions.
 use Rattle.std.specs.Prelude.{ℕ, ◌+◌, ◌&&◌, ◌||◌, Bool, not, nat_lt, nat_le, List}
 use Rattle.avr_model.specs.declared.assumption.Entry.{Entry}
 use Rattle.avr_model.specs.declared.device.Device.{Device}
@@ -10,16 +10,16 @@ use Rattle.abs_state.specs.declared.state.AbsState.{AbsState}
 use Rattle.clear_laws.specs.Aims.{permits_bytes, permits_number}
 use Rattle.clear_laws.specs.Clear.{is_address_harmless}
 
--- the addresses from the first to the last lie in SRAM below what the stack can reach, or above SRAM
+-- all addresses from the first to the last are in SRAM below the stack's reach, or above SRAM
 abbrev pub is_range_harmless : Device → ℕ → ℕ → ℕ → Bool
 is_range_harmless device bound first last =
     nat_le first last && ((nat_lt BELOW first && nat_le (last + bound) (ramend device)) || nat_lt (ramend device) first)
 
--- the bytes of registers r and r + 1 don't permit the number, or the address is harmless that it gives with `up` added modulo 65,536
+-- the bytes of registers r and r + 1 exclude the number, or the address `up` further, modulo 65,536, is harmless
 abbrev pub is_number_harmless : Program → List Entry → ℕ → ℕ → AbsState → Instr → ℕ → ℕ → ℕ → Bool
 is_number_harmless words A bound pc s instr r up p = not (permits_bytes s r p) || is_address_harmless words A bound pc s instr (plus16 p up)
 
--- each address is harmless that a permitted number of registers r and r + 1 gives, with `up` added modulo 65,536
+-- for each permitted number of registers r and r + 1 the address `up` further, modulo 65,536, is harmless
 abbrev pub are_numbers_harmless : Program → List Entry → ℕ → ℕ → AbsState → Instr → ℕ → ℕ → Bool
 are_numbers_harmless words A bound pc s instr r up =
     all_below 65536 (λ a. not (permits_number s r (minus16 a up)) || is_address_harmless words A bound pc s instr a)

@@ -1,4 +1,4 @@
--- What nodes still ask, slot by slot, and the words of those that ask something. Words of the inner contracts.
+-- Conditions of nodes that remain, slot by slot, and the words of nodes with some. Definitions for the contracts of internal functions.
 use Rattle.std.specs.Prelude.{ℕ, ◌+◌, ◌≡◌, ◌<◌, ◌≤◌, ◌↔◌, ◌⊎◌, ⊤, ◌==◌, Bool, true, false, not, if◌then◌else◌, List, [], ◌∷◌, length, Option, Some, None, Contains, slice_get, slice_index_or}
 use Rattle.std.specs.List.{flat_map}
 use Rattle.avr_model.specs.declared.assumption.Entry.{Entry}
@@ -28,15 +28,15 @@ is_local kind.Call = false
 is_local (kind.Interrupt v clears) = false
 is_local kind.Return = false
 
--- the node where an edge lands so, if it stays in its frame
+-- the target of an edge with this landing, if it stays in its frame
 abbrev pub link_of : Landing → List ℕ
 link_of l = if not (is_entry l.kind) then l.at ∷ [] else []
 
--- that node with this slot, if the edge is local
+-- the target with this slot, if the edge is local
 abbrev pub seed_of : ℕ → Landing → List SlotSeed
 seed_of slot l = if is_local l.kind then record { node = l.at; slot = slot } ∷ [] else []
 
--- of edges that land so
+-- the targets within frames of these landings
 abbrev pub links_by : List Landing → List ℕ
 links_by landings = flat_map link_of landings
 
@@ -55,7 +55,7 @@ AreSeedsTo words A nodes count seeds = (s : SlotSeed) → Contains seeds s ↔ S
 abbrev pub AreSlotSeeds : Program → List Entry → List Node → List SlotSeed → Type 0
 AreSlotSeeds words A nodes seeds = AreSeedsTo words A nodes (length nodes) seeds
 
--- links and seeds of all nodes, which lead to nodes
+-- links and seeds of all nodes; they lead to nodes
 pub record SpreadsAlong (words : Program) (A : List Entry) (nodes : List Node) (links : List (List ℕ)) (offsets : List ℕ) (seeds : List SlotSeed) : Type 0 where
   pub are : AreLinks words A nodes links offsets seeds
   pub inside : AreInside links offsets seeds
@@ -65,45 +65,45 @@ pub record SpreadsAlong (words : Program) (A : List Entry) (nodes : List Node) (
 abbrev pub ask_at : List Asks → ℕ → Asks
 ask_at asks i = slice_index_or asks i Nothing
 
--- what each of the first nodes asks to be clear
+-- the condition for each of the first nodes to be clear
 pub record AreAskedTo (words : Program) (A : List Entry) (bound : ℕ) (nodes : List Node) (count : ℕ) (asks : List Asks) : Type 0 where
   pub count_is : length asks ≡ count
   pub each : (at : ℕ) (n : Node) → at < count → slice_get nodes at ≡ Some n → (held : ℕ → Bool) → is_clear words A bound n held ≡ meets (ask_at asks at) held
 
--- what each node asks
+-- the condition of each node
 abbrev pub AreAsked : Program → List Entry → ℕ → List Node → List Asks → Type 0
 AreAsked words A bound nodes asks = AreAskedTo words A bound nodes (length nodes) asks
 
--- what is left to ask, where this tells whether the slot may hold a live byte
+-- the condition that remains; the test says whether the slot may hold a live byte
 abbrev pub settled : Asks → ℕ → Bool → Asks
 settled Nothing slot held = Nothing
 settled (Free d) slot held = if d == slot then (if held then Never else Nothing) else Free d
 settled Never slot held = Never
 
--- what is left of what the first nodes ask, where these marks tell it
+-- the conditions of the first nodes that remain, by these marks
 pub record AreMarkedOff (slot : ℕ) (marks : List Bool) (count : ℕ) (old new : List Asks) : Type 0 where
   pub same : length new ≡ length old
   pub done : (i : ℕ) → i < count → ask_at new i ≡ settled (ask_at old i) slot (is_on marks i)
   pub rest : (i : ℕ) → count ≤ i → ask_at new i ≡ ask_at old i
 
--- it asks for no slot
+-- the condition names no slot
 abbrev pub IsDone : Asks → Type 0
 IsDone Nothing = ⊤
 IsDone (Free d) = ⊥
 IsDone Never = ⊤
 
--- what a node asks is met, where slots spread along links
+-- a node's condition is met, if slots spread along links
 abbrev pub IsMet : List (List ℕ) → List ℕ → List SlotSeed → ℕ → Asks → Type 0
 IsMet links offsets seeds i asks = Meets asks (λ d. SlotReaches links offsets seeds d i)
 
--- what is left to ask is met where that was, and none asks for the slot any more
+-- a remaining condition is met if the old one is, and none names the slot any more
 pub record AreAsksSettled (links : List (List ℕ)) (offsets : List ℕ) (seeds : List SlotSeed) (slot : ℕ) (old new : List Asks) : Type 0 where
   pub same : length new ≡ length old
   pub met : (i : ℕ) → IsMet links offsets seeds i (ask_at new i) ↔ IsMet links offsets seeds i (ask_at old i)
   pub kept : (i : ℕ) → IsDone (ask_at old i) → IsDone (ask_at new i)
   pub done : (i : ℕ) → ask_at old i ≡ Free slot → IsDone (ask_at new i)
 
--- the same for all slots for which one of the first nodes asks
+-- `AreAsksSettled` for all slots that conditions of the first nodes name
 pub record AreSettled (links : List (List ℕ)) (offsets : List ℕ) (seeds : List SlotSeed) (count : ℕ) (old new : List Asks) : Type 0 where
   pub same : length new ≡ length old
   pub met : (i : ℕ) → IsMet links offsets seeds i (ask_at new i) ↔ IsMet links offsets seeds i (ask_at old i)
@@ -116,21 +116,21 @@ passes Nothing = true
 passes (Free d) = false
 passes Never = false
 
--- what is left to ask tells which nodes are clear
+-- the remaining conditions decide which nodes are clear
 pub record AreTold (words : Program) (A : List Entry) (c : Claim) (nodes : List Node) (asks : List Asks) : Type 0 where
   pub count : length asks ≡ length nodes
   pub each : (at : ℕ) (n : Node) → slice_get nodes at ≡ Some n → (passes (ask_at asks at) ≡ true) ↔ IsClear words A (family_of c nodes) n
 
--- the same of the nodes of a certificate
+-- the remaining conditions of a certificate's nodes decide which are clear
 pub record IsTold (words : Program) (A : List Entry) (c : Claim) (nodes : List Node) (asks : List Asks) : Type 0 where
   pub filled : IsFilled words A c.nodes nodes
   pub told : AreTold words A c nodes asks
 
--- each of the first passes
+-- each of the first nodes has no condition left
 abbrev pub ArePassing : List Asks → ℕ → Type 0
 ArePassing asks count = (i : ℕ) → i < count → passes (ask_at asks i) ≡ true
 
--- the first that doesn't
+-- the first node with a condition left
 pub record IsFirstAt (asks : List Asks) (at : ℕ) : Type 0 where
   pub inside : at < length asks
   pub is : passes (ask_at asks at) ≡ false
@@ -142,7 +142,7 @@ IsFirstAsking asks (Some at) = IsFirstAt asks at
 
 -- ---- words
 
--- one of the first nodes doesn't pass, and lies at this word
+-- one of the first nodes has a condition left, and is at this word
 pub record IsWordOf (nodes : List Node) (asks : List Asks) (count pc : ℕ) : Type 0 where
   pub at : ℕ
   pub node : Node
@@ -151,12 +151,12 @@ pub record IsWordOf (nodes : List Node) (asks : List Asks) (count pc : ℕ) : Ty
   pub fails : passes (ask_at asks at) ≡ false
   pub word : node.key.pc ≡ pc
 
--- beside what was marked these are
+-- exactly these words are newly marked
 pub record AreWordsMarked (nodes : List Node) (asks : List Asks) (count : ℕ) (old new : List Bool) : Type 0 where
   pub same : length new ≡ length old
   pub exact : (pc : ℕ) → (is_on new pc ≡ true) ↔ ((is_on old pc ≡ true) ⊎ IsWordOf nodes asks count pc)
 
--- the numbers of what is marked, counted from this one on
+-- the places of the marks, counted from this number on
 abbrev pub places_from : ℕ → List Bool → List ℕ
 places_from n [] = []
 places_from n (mark ∷ marks) = if mark then n ∷ places_from (n + 1) marks else places_from (n + 1) marks

@@ -1,4 +1,4 @@
--- The words of vectors that are assumed never to be taken, as they are marked. Words of the inner contracts.
+-- Marking of the words of vectors that are assumed never to be taken. Definitions for the contracts of internal functions.
 use Rattle.std.specs.Prelude.{ℕ, ◌+◌, ◌≡◌, ◌<◌, ◌↔◌, ◌⊎◌, ◌&&◌, Bool, true, not, List, length, Some, slice_get}
 use Rattle.avr_model.specs.declared.assumption.Entry.{Entry}
 use Rattle.avr_model.specs.Assumptions.{is_never}
@@ -8,7 +8,7 @@ use Rattle.mask_states.specs.declared.keys.NodeKey.{NodeKey}
 use Rattle.local_rules.specs.declared.local.Node.{Node}
 use Rattle.clear_laws.specs.Reach.{is_on}
 
--- beside what was marked, those of which P holds are
+-- exactly the numbers with P are newly marked
 pub record AreMarkedBeside (P : ℕ → Type 0) (old new : List Bool) : Type 0 where
   pub same : length new ≡ length old
   pub exact : (word : ℕ) → (is_on new word ≡ true) ↔ ((is_on old word ≡ true) ⊎ P word)
@@ -17,22 +17,22 @@ pub record AreMarkedBeside (P : ℕ → Type 0) (old new : List Bool) : Type 0 w
 abbrev pub is_take : Program → List Entry → NodeKey → ℕ → Bool
 is_take words A k v = is_enabled k.masks v && is_never A (vector_word (device_of words) v)
 
--- one of so many vectors, from 2 on, is such a one, and this is its word
+-- one of this many vectors, from 2 on, is so, and this is its word
 pub record IsTakenBelow (words : Program) (A : List Entry) (k : NodeKey) (count word : ℕ) : Type 0 where
   pub vector : ℕ
   pub below : vector < count + 2
   pub take : is_take words A k vector ≡ true
   pub is : vector_word (device_of words) vector ≡ word
 
--- an interrupt may come
+-- an interrupt may be taken
 abbrev pub may_take : NodeKey → Bool
 may_take k = k.i && not k.delay
 
--- the same, where an interrupt may come
+-- `IsTakenBelow`, if an interrupt may be taken
 abbrev pub IsTakenFrom : Program → List Entry → NodeKey → ℕ → Type 0
 IsTakenFrom words A k word = (may_take k ≡ true) × IsTakenBelow words A k 25 word
 
--- one of the first nodes is so
+-- `IsTakenFrom` for one of the first nodes
 pub record IsTakenAt (words : Program) (A : List Entry) (nodes : List Node) (count word : ℕ) : Type 0 where
   pub at : ℕ
   pub node : Node

@@ -1,6 +1,6 @@
--- How long a trial is. Source: own.
+-- The length of a trial. Source: own.
 use Rattle.std.specs.Prelude.{ℕ}
 
--- how many choices a trial has at most
+-- the most choices of a trial
 unfoldable pub most_choices : ℕ
 most_choices = 200000

@@ -1,4 +1,4 @@
--- What is told of one trial. Source: own.
+-- The result of one trial. Source: own.
 use Rattle.std.specs.Prelude.{ℕ, ◌≡◌, ◌≢◌, List, Option, Some, None}
 use Rattle.avr_model.specs.declared.choice.Choice.{Choice}
 use Rattle.avr_model.specs.declared.assumption.Entry.{Entry}
@@ -14,7 +14,7 @@ pub record IsAttempt (steps : ℕ) (words : Program) (A : List Entry) (points : 
   pub run : IsRun words A choices (filled (device_of words) fill)
   pub depth : depth_of words A choices (filled (device_of words) fill) ≡ bound
 
--- these, or none where its depth isn't the bound
+-- the choices, or none if the depth is not the bound
 abbrev pub IsAttempted : ℕ → Program → List Entry → List Waypoint → ℕ → ℕ → Option (List Choice) → Type 0
 IsAttempted steps words A points bound fill None = depth_of words A (trial_by steps words A points bound fill) (filled (device_of words) fill) ≢ bound
 IsAttempted steps words A points bound fill (Some choices) = IsAttempt steps words A points bound fill choices

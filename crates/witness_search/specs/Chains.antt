@@ -12,7 +12,7 @@ use Rattle.family_graph.specs.Chains.{IsDeepest}
 use Rattle.certificate.specs.Claims.{Claim}
 use Rattle.witness_search.specs.declared.waypoint.Waypoint.{Waypoint}
 
--- the interrupt by which a chain goes on from a node, at this depth below where the stack begins on the device
+-- the interrupt by which a chain leaves a node, at this depth below the beginning of the device's stack
 abbrev pub interrupt_at : Program → Option Node → ℕ → Option EdgeKind → List Waypoint
 interrupt_at words (Some n) depth (Some (Interrupt v clears)) =
     record { pc = n.key.pc; masks = n.key.masks; depth = depth; end = ramend (device_of words); vector = v; clears = clears } ∷ []
@@ -32,7 +32,7 @@ pub record AreInterrupts (words : Program) (A : List Entry) (nodes : List Node) 
   pub deepest : IsDeepest words A nodes need links
   pub are : points ≡ interrupts_of words nodes links
 
--- those of a certificate's family
+-- the waypoints of a certificate's family
 pub record AreWaypoints (words : Program) (A : List Entry) (c : Claim) (points : List Waypoint) : Type 0 where
   pub nodes : List Node
   pub filled : IsFilled words A c.nodes nodes

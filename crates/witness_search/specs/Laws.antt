@@ -7,7 +7,7 @@ use Rattle.witness_search.specs.declared.waypoint.Waypoint.{Waypoint}
 use Rattle.witness_search.specs.Chains.{AreWaypoints}
 use Rattle.witness_search.specs.Trials.{trial_of}
 
--- a certificate has one list of waypoints
+-- the list of a certificate's waypoints is unique
 abbrev pub WaypointsAreOne : Type 0
 WaypointsAreOne = (words : Program) (A : List Entry) (c : Claim) (points points' : List Waypoint) → AreWaypoints words A c points → AreWaypoints words A c points' → points ≡ points'
 

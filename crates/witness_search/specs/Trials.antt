@@ -1,4 +1,4 @@
--- Trials along waypoints, and which of them succeeds first. Source: own.
+-- Trials along waypoints, and the first that succeeds. Source: own.
 use Rattle.std.specs.Prelude.{ℕ, ◌≡◌, List, [], ◌∷◌, ◌++◌, Option, Some, None, Contains}
 use Rattle.avr_model.specs.declared.choice.Choice.{Choice}
 use Rattle.avr_model.specs.declared.assumption.Entry.{Entry}
@@ -12,18 +12,18 @@ use Rattle.trial_runs.specs.Length.{most_choices}
 use Rattle.witness_search.specs.declared.waypoint.Waypoint.{Waypoint}
 use Rattle.witness_search.specs.Waypoints.{pick_due, due_left}
 
--- the bytes that fill the memory at reset and are all input of a trial, in the order of the trials
+-- the fill bytes of the trials in order: the initial memory and all input of a trial
 abbrev pub fills : List ℕ
 fills = 0x00 ∷ 0xFF ∷ 0x55 ∷ 0xAA ∷ 0x01 ∷ 0x80 ∷ 0x7F ∷ 0xFE ∷ []
 
--- The choices of the trial with this fill byte: from reset, until the depth is the bound or more, or a stop, or after so many steps.
+-- The choices of the trial with this fill byte, from reset until the depth is at least the bound, or a stop, or this many steps.
 abbrev pub trial_by : ℕ → Program → List Entry → List Waypoint → ℕ → ℕ → List Choice
 trial_by steps words A points bound fill = choices_by (pick_due (has_masks A) fill) (due_left (has_masks A)) words A bound steps points (starting (filled (device_of words) fill))
 
 unfoldable pub trial_of : Program → List Entry → List Waypoint → ℕ → ℕ → List Choice
 trial_of words A points bound fill = trial_by most_choices words A points bound fill
 
--- it succeeds where its depth is the bound
+-- a trial succeeds if its depth is the bound
 abbrev pub Succeeds : Program → List Entry → List Waypoint → ℕ → ℕ → Type 0
 Succeeds words A points bound fill = depth_of words A (trial_of words A points bound fill) (filled (device_of words) fill) ≡ bound
 
@@ -35,7 +35,7 @@ pub record IsTrial (words : Program) (A : List Entry) (points : List Waypoint) (
   pub fits : IsSchedule plan
   pub choices : choices_of plan.runs ≡ trial_of words A points bound plan.fill
 
--- what one trial finds: a schedule where it succeeds
+-- the result of one trial: a schedule if it succeeds
 abbrev pub IsTried : Program → List Entry → List Waypoint → ℕ → ℕ → Option Plan → Type 0
 IsTried words A points bound fill None = Succeeds words A points bound fill → ⊥
 IsTried words A points bound fill (Some plan) = (plan.fill ≡ fill) × Succeeds words A points bound fill × IsTrial words A points bound plan
@@ -49,7 +49,7 @@ pub record IsFirstFilled (words : Program) (A : List Entry) (points : List Waypo
   pub succeeds : Succeeds words A points bound plan.fill
   pub trial : IsTrial words A points bound plan
 
--- what the trials find: that schedule, or none where none succeeds
+-- the result of the trials: the first schedule, or none if no trial succeeds
 abbrev pub IsFound : Program → List Entry → List Waypoint → ℕ → Option Plan → Type 0
 IsFound words A points bound None = NoneSucceeds words A points bound fills
 IsFound words A points bound (Some plan) = IsFirstFilled words A points bound plan

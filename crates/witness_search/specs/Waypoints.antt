@@ -1,4 +1,4 @@
--- Waypoints: interrupts that are taken where they are due. Source: own.
+-- Waypoints: interrupts that a trial takes when they are due. Source: own.
 use Rattle.std.specs.Prelude.{ℕ, ◌+◌, Bool, if◌then◌else◌, ◌==◌, ◌&&◌, List, [], ◌∷◌}
 use Rattle.avr_model.specs.declared.choice.Choice.{Choice}
 use Rattle.avr_model.specs.declared.choice.Choice.TheVariants.{Go, Take}
@@ -12,17 +12,17 @@ use Rattle.witness_search.specs.declared.waypoint.Waypoint.{Waypoint}
 abbrev pub interrupt_of : Waypoint → Choice
 interrupt_of w = Take w.vector w.clears
 
--- The enable bits are those of the way; where keys say what may be enabled, they are among them.
+-- The enable bits equal the waypoint's; if `may`, they are among the waypoint's.
 abbrev pub fits_way : Bool → ℕ → ℕ → Bool
 fits_way may enables masks = if may then are_among enables masks else enables == masks
 
 -- ---- by a machine's state
 
--- the state is where the waypoint's interrupt is to be taken, and it may be taken there
+-- the state is at the waypoint, and its interrupt may be taken
 abbrev pub due_at : Bool → Waypoint → State → Bool
 due_at may w m = (m.pc == w.pc) && fits_way may m.enables w.masks && (m.sp + w.depth == w.end) && may_take m w.vector w.clears
 
--- what is chosen: the next waypoint's interrupt where it is due, and else an instruction with the fill byte as its input
+-- the choice: the next waypoint's interrupt if it is due, else an instruction with the fill byte as input
 abbrev pub pick_due : Bool → ℕ → List Waypoint → State → Choice
 pick_due may fill [] m = Go fill fill
 pick_due may fill (w ∷ ws) m = if due_at may w m then interrupt_of w else Go fill fill
