@@ -52,7 +52,7 @@ module _ (vs : List AbsByte) (n : ℕ) (p : PairSet) (count : length vs ≡ 32) 
       value_other (slice_set vs (2 * n) (valued (value_at vs (2 * n)).tag p.low)) (2 * n + 1) r (valued (value_at vs (2 * n + 1)).tag p.high) high
       ∙ value_other vs (2 * n) r (valued (value_at vs (2 * n)).tag p.low) low
 
--- what holds of the two registers of the pair and of each other register holds of all
+-- a property of the pair's registers and of each other register holds of all
 each_register : (Q : ℕ → AbsByte → Type 0) (vs : List AbsByte) (n : ℕ) (p : PairSet) → length vs ≡ 32 → n < 16 → Q (2 * n) (valued (value_at vs (2 * n)).tag p.low)
     → Q (2 * n + 1) (valued (value_at vs (2 * n + 1)).tag p.high) → ((r : ℕ) → r < 32 → Q r (value_at vs r)) → (r : ℕ) → r < 32 → Q r (value_at (pair_set vs n p) r)
 each_register Q vs n p count lt low high rest r small = by (cases_eq r (2 * n + 1)) (cases_eq r (2 * n))
@@ -76,7 +76,7 @@ each_interval Q is n i count lt here rest k small = by (cases_eq k n)
         subst P (sym e) (subst (Q n) (sym (interval_there is n i (omega (arith, lt, count)))) here)
     by (inr ne) = subst (Q k) (sym (interval_other is n k i ne)) (rest k small)
 
--- the same of two lists
+-- a relation of the pair's registers and of each other register holds of all, in two lists
 both_registers : (vs ws : List AbsByte) (n : ℕ) (p q : PairSet) → length vs ≡ 32 → length ws ≡ 32 → n < 16
     → IsByteWithin (valued (value_at vs (2 * n)).tag p.low) (valued (value_at ws (2 * n)).tag q.low)
     → IsByteWithin (valued (value_at vs (2 * n + 1)).tag p.high) (valued (value_at ws (2 * n + 1)).tag q.high) → ((r : ℕ) → r < 32 → IsByteWithin (value_at vs r) (value_at ws r))

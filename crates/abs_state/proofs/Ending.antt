@@ -1,4 +1,4 @@
--- What writes end of what is known of pairs.
+-- Facts on pairs that a write ends.
 use Rattle.std.proofs.Common.{◌≡◌, ◌≢◌, refl, sym, ◌∙◌, ap, ap₂, subst, subst₂, ⊎_elim, ℕ, zero, suc, ◌+◌, ◌*◌, ◌/◌, ◌<◌, ◌≤◌, Bool, true, false, List, [], ◌∷◌, length, Option, Some, None, slice_set, slice_index, length-set, arith}
 use Rattle.std.specs.Prelude.{◌==◌, ◌||◌, nat_lt, if◌then◌else◌}
 use Rattle.std.specs.Int.{from_bool}
@@ -127,7 +127,7 @@ near_down sum.None s d e h = λ near. h near near
 near_down (sum.Up q x y) s d e h = λ near. h near near
 near_down (sum.Down q x y) s d e h = λ near. h near near
 
--- ends that lie within kept ones are of one pair
+-- ends within kept ones are of the same pair
 up_more : (written : ℕ → Bool) (b : Bool) (r a c s d e : ℕ) → IsSumTagWithin (sum.Up r a c) (sum.Up s d e)
     → IsSumTagWithin (if b || in_pair written r then sum.None else sum.Up r a c) (if b || in_pair written s then sum.None else sum.Up s d e)
 up_more written b r a c s d e le = by (b || in_pair written s) refl
@@ -148,7 +148,7 @@ down_more written b r a c s d e le = by (b || in_pair written s) refl
         near_down (if b || in_pair written r then sum.None else sum.Down r a c) s d e (λ near.
         subst (λ (x : Bool). IsSumTagWithin (if x then sum.None else sum.Down r a c) (sum.Down s d e)) (sym (ap (λ (q : ℕ). b || in_pair written q) (le near).pair ∙ is)) le)
 
--- a tag of another kind says nothing that a kept one does
+-- a tag of another kind claims nothing that a kept one does
 other_more : (t u : SumTag) (x y : Bool) → (IsNear u → ⊥) → IsSumTagWithin (if x then sum.None else t) (if y then sum.None else u)
 other_more t u x true wide = tt
 other_more t u x false wide = sums_are_ordered.wide (if x then sum.None else t) u wide
@@ -337,7 +337,7 @@ holds written flags carry (Some f) old new sreg sreg' are set h =
 
 -- ---- the hull of what is written
 
--- what holds of each interval holds with one that is written, where there is such a pair
+-- a property of each interval holds with one of them written, if that pair exists
 each_written : (Q : ℕ → Interval → Type 0) (is : List Interval) (n : ℕ) (i : Interval) → length is ≡ 16 → (n < 16 → Q n i) → ((k : ℕ) → k < 16 → Q k (interval_at is k))
     → (k : ℕ) → k < 16 → Q k (interval_at (slice_set is n i) k)
 each_written Q is n i count here rest k small =

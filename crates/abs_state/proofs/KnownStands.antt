@@ -1,4 +1,4 @@
--- What is known of pairs after a return holds, and is more where more was known.
+-- Facts on pairs after a return hold, and are monotone.
 use Rattle.std.proofs.Common.{◌≡◌, refl, sym, ◌∙◌, ap, subst, ℕ, ◌+◌, ◌*◌, ◌%◌, ◌<◌, Bool, true, false, ◌&&◌, List, Option, Some, None, slice_index, arith}
 use Rattle.std.specs.Prelude.{◌==◌, if◌then◌else◌}
 use Rattle.std.proofs.lemmas.Bool.{eqb-true, eq-eqb, false≢true}
@@ -77,7 +77,7 @@ module _ (o callee : Origin) (exit after : List AbsByte) (registers : List ℕ) 
       let met = intervals_meet.meets kept.0 (hull lo hi) w kept.1.1 inside in
       (met.0, (ap (cut_to (hull lo hi)) kept.1.0 ∙ met.1.0, met.1.1))
 
-  -- the tags of the caller's flags, whose flags are c, z and s again
+  -- the tags of the caller's flags, if these flags are c, z and s again
   kept_number : (r : ℕ) → r < 32 → r % 2 ≡ 0 → keeps exit r ≡ true → keeps exit (r + 1) ≡ true → pair_number callee.registers r ≡ pair_number registers r
   kept_number r lt even a b = omega (arith, kept_register r lt a, kept_register (r + 1) (omega (arith, lt, even)) b)
 
@@ -207,7 +207,7 @@ module _ (exit exit' after after' : List AbsByte) (over : (r : ℕ) → r < 32 �
       let met = intervals_meet.more was.0 h kept.0 h' m kept.1.1 hulls was.1.1 in
       (met.0, (ap (cut_to h') kept.1.0 ∙ met.1.0, met.1.1))
 
-  -- what the lesser keeps where the greater does
+  -- the lesser keeps what the greater keeps
   keeps_more : (r : ℕ) → r < 32 → keeps exit' r ≡ true → keeps exit r ≡ true
   keeps_more r lt e =
       let is : IsTagWithin (value_at exit r).tag (tag.Entry r) = subst (IsTagWithin (value_at exit r).tag) (same_entry (value_at exit' r).tag r e) (over r lt).tag in

@@ -1,4 +1,4 @@
--- A pair that is cut to an interval.
+-- A pair cut to an interval.
 use Rattle.std.proofs.Common.{◌≡◌, refl, sym, ◌∙◌, ap, subst₂, ℕ, ◌+◌, ◌*◌, ◌/◌, Option, Some, None}
 use Rattle.std.proofs.lemmas.Option.{same_Some}
 use Rattle.bit_domain.specs.Ranges.{ByteSet}

@@ -19,11 +19,11 @@ use Rattle.abs_state.proofs.PairsBack.{with_pairs_was, pairs_none, made}
 use Rattle.abs_state.proofs.KnownBack.{following_was, known_fits}
 use Rattle.abs_state.proofs.KnownStands.{known_holds, known_more}
 
--- flags 0 to 6 of two registers that agree modulo 128
+-- flags 0 to 6 of two status registers that agree modulo 128
 same_flag : (x y i : ℕ) → i < 7 → x % 128 ≡ y % 128 → flag x i ≡ flag y i
 same_flag x y i h e = ap (λ (n : ℕ). n == 1) (low_bits x 7 i h ∙ ap (λ (n : ℕ). bit_at n i) e ∙ sym (low_bits y 7 i h))
 
--- where the callee kept the flags, they are those that the caller was left with
+-- if the callee kept the flags, they are those of the caller at the call
 kept_flags : (callee : Origin) (entry : Bool) (left_sreg sreg new : ℕ) → EntryHolds callee entry sreg → callee.sreg % 128 ≡ left_sreg % 128 → new % 128 ≡ sreg % 128
     → entry ≡ true → (flag new 0 ≡ flag left_sreg 0) × (flag new 1 ≡ flag left_sreg 1) × (flag new 4 ≡ flag left_sreg 4)
 kept_flags callee true left_sreg sreg new h kept same e =
@@ -31,7 +31,7 @@ kept_flags callee true left_sreg sreg new h kept same e =
     (same_flag new left_sreg 0 (omega arith) all, same_flag new left_sreg 1 (omega arith) all, same_flag new left_sreg 4 (omega arith) all)
 kept_flags callee false left_sreg sreg new h kept same e = absurd (cc)
 
--- what is known of a state after a return that is answered
+-- parts of the state after a return, if it exists
 pub answer_none : (caller exit : AbsState) → length exit.registers ≡ 32 → (t : Option AbsState) → t ≡ returned caller exit
     → (t ≡ None → Conflict caller exit) × (Conflict caller exit → t ≡ None)
 answer_none caller exit n t e =
@@ -54,7 +54,7 @@ formed caller exit t offset a b e =
       facts = known_fits caller.facts exit.registers exit.flags.entry exit.facts was.0.registers was.1.0 a.facts b.facts was.1.1.1;
     }
 
--- pairs are followed where both states follow them
+-- pairs are followed if both states follow them
 known_followed : (caller : Option PairFacts) (exit : List AbsByte) (entry : Bool) (found : Option PairFacts) (registers : List AbsByte) (x : Option PairFacts)
     → known_back caller exit entry found registers ≡ Some x → is_followed x ≡ (is_followed caller && is_followed found)
 known_followed None exit entry found registers x e = let same : None ≡ x = cc in ap is_followed (sym same)

@@ -43,7 +43,7 @@ clear_has : Has clear_flags 0
 clear_has = bytes_are_sets.built (λ i. if i == 7 then Any else Zero) 0 (λ i h.
     subst (λ (n : ℕ). Permits (if i == 7 then Any else Zero) n) (sym (bit_at-zero i)) (clear_permits (i == 7)))
 
--- the flags after reset as code writes them
+-- the flags after reset, as the code writes them
 pub cleared : byte_of (λ i. tri_of (bit_at 0x7F i) (bit_at 0 i)) ≡ clear_flags
 unfolding packed
 cleared = bytes_are_their_bits.from_fields (byte_of (λ i. tri_of (bit_at 0x7F i) (bit_at 0 i))) clear_flags refl refl
@@ -112,11 +112,11 @@ low_bits x k i h =
     let e : x ≡ x / 2 ^ k * 2 ^ k + x % 2 ^ k = omega arith in
     ap (λ (n : ℕ). bit_at n i) e ∙ bit_at_cat_low (x / 2 ^ k) k (x % 2 ^ k) i h
 
--- bits 0 to 6 of two registers that agree modulo 128
+-- bits 0 to 6 of two status registers that agree modulo 128
 same_low_bit : (x y i : ℕ) → i < 7 → x % 128 ≡ y % 128 → bit_at x i ≡ bit_at y i
 same_low_bit x y i h e = low_bits x 7 i h ∙ ap (λ (n : ℕ). bit_at n i) e ∙ sym (low_bits y 7 i h)
 
--- bits of which bit 7 is unknown stand for each register with these bits 0 to 6
+-- if bit 7 is unknown, the bits permit each status register with these bits 0 to 6
 pub has_flags : (t : TriByte) (x y : ℕ) → tri_at t 7 ≡ Any → x % 128 ≡ y % 128 → Has t x → Has t y
 has_flags t x y any e has i h = elim (cases_eq i 7) [
   | inl same ↦ subst (λ (u : Tri). Permits u (bit_at y i)) (sym (ap (tri_at t) same ∙ any)) tt

@@ -40,7 +40,7 @@ pub fn facts_returned(
     }
 }
 
-// The case in which both follow pairs.
+// The case that both states follow pairs.
 fn pairs_returned(
     caller: &PairFacts,
     exit: &[AbsByte; 32],
@@ -110,7 +110,7 @@ fn interval_returned(
     interval.meet(hull_of(registers[2 * n], registers[2 * n + 1]))
 }
 
-// The entry pair that two registers of a pair hold.
+// The entry pair in the two registers of a pair, if it is one.
 fn kept_pair(low: Tag, high: Tag) -> Option<u8>
     ensures { result ≡ kept_pair low high }
 {

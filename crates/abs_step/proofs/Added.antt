@@ -56,7 +56,7 @@ pub put_added : (old new : List Node) (k : NodeKey) (s : AbsState) → new ≡ p
 unfolding joined_onto
 put_added old new k s e = record { moves = refl; nodes = ap plain e }
 
--- what is left of the node was put into the list
+-- the refined node was inserted
 pub one_added : (by : Option Teller) (old new : List Node) (k : NodeKey) (s : AbsState)
     → AreNodesAdded (plain old) (plain new) (moves_to (node_where k (left_by by s)))
     → AreNodesAdded (record { by = by; nodes = old }) (record { by = by; nodes = new }) (one k s)
@@ -73,7 +73,7 @@ two_added old mid new j k s t p q = record {
       ∙ sym (with_all old (record { key = j; state = s } ∷ []) (record { key = k; state = t } ∷ []));
 }
 
--- the second may be refused
+-- the second insertion may fail
 pub two_add : {U : Type 0} (result : Result U NodeFault) (old mid new : Moving) (j k : NodeKey) (s t : AbsState) → AreNodesAdded old mid (one j s)
     → Adds mid new result (one k t) → Adds old new result (moves_to (record { key = j; state = s } ∷ record { key = k; state = t } ∷ []))
 two_add (Ok u) old mid new j k s t p q = two_added old mid new j k s t p q

@@ -23,7 +23,7 @@ both_added old mid new r q p s =
           ∙ ap (λ (ms : List Node). with_nodes old (r.moves ++ ms)) (sym (append-nil q.moves));
     }
 
--- the second may be refused
+-- the second insertion may fail
 pub both_add : {U : Type 0} (result : Result U NodeFault) (old mid new : Moving) (r q : Raw) → AreNodesAdded old mid r → Adds mid new result q
     → Adds old new result (all_of (r ∷ q ∷ []))
 both_add (Ok u) old mid new r q p s = both_added old mid new r q p s
@@ -31,7 +31,7 @@ both_add (Err f) old mid new r q p s = λ free.
     let none : r.faults ≡ [] = ap (λ (x : Raw). x.faults) p.moves in
     ap (λ (fs : List NodeFault). first_fault (fs ++ (q.faults ++ []))) none ∙ ap first_fault (append-nil q.faults) ∙ s free
 
--- the state with these registers, if there are such
+-- the state with these registers, if they exist
 abbrev pub state_where : AbsState → Option (List AbsByte) → Option AbsState
 state_where s None = None
 state_where s (Some registers) = Some (record s { registers = registers })

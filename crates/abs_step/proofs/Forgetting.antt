@@ -1,4 +1,4 @@
--- What a state tells once something that is known ends.
+-- The state after some facts ended.
 use Rattle.std.proofs.Common.{◌≡◌, refl, sym, ◌∙◌, ap, ap₂, subst, ⊎_elim, ℕ, ◌/◌, ◌^◌, ◌<◌, Bool, true, false, List, [], ◌∷◌, Option, bit_and, arith}
 use Rattle.std.specs.Prelude.{◌==◌, ◌&&◌, nat_lt, slice_set}
 use Rattle.std.proofs.lemmas.Bool.{cases_lt}

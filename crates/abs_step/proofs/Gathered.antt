@@ -23,7 +23,7 @@ not_less_through f g h = grind (arith, nat_tests)
 abbrev chosen : Bool → NodeFault → NodeFault → NodeFault
 chosen b f g = if b then g else f
 
--- of three, whichever two are compared first
+-- the least of three, in either order of comparison
 apart : (f g h : NodeFault) → (a b c : Bool) → is_less g f ≡ a → is_less h g ≡ b → is_less h f ≡ c → lesser (chosen a f g) h ≡ lesser f (chosen b g h)
 apart f g h true true c x y z = ap (λ t. chosen t g h) y ∙ sym (ap (λ t. chosen t f h) (less_through f g h x y))
 apart f g h true false c x y z = ap (λ t. chosen t g h) y ∙ sym (ap (λ t. chosen t f g) x)
@@ -98,7 +98,7 @@ filter_more p (x ∷ xs) (suc at) (suc next) lt e = by (p x) (filter p (take nex
     by true ns ms os e = ap (λ ns. x ∷ ns) e
     by false ns ms os e = e
 
--- one element more, which is kept or isn't
+-- one more item, which is kept or not
 pub kept_more : (p : ℕ → Bool) (xs ws new : List ℕ) (at : ℕ) (b : Bool) → at < length xs → ws ≡ filter p (take at xs) → b ≡ p (slice_index_or xs at 0) → b ≡ true
     → new ≡ ws ++ slice_index_or xs at 0 ∷ [] → new ≡ filter p (take (at + 1) xs)
 kept_more p xs ws new at b lt is test e put =

@@ -1,4 +1,4 @@
--- What leaves the instance.
+-- Calls and returns.
 use Rattle.std.proofs.Common.{◌≡◌, ◌∙◌, sym, ap, List, [], Option}
 use Rattle.local_rules.specs.declared.local.CallSite.{CallSite}
 use Rattle.local_rules.specs.declared.local.Exit.{Exit}

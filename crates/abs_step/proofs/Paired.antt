@@ -1,4 +1,4 @@
--- Which instructions leave what the plain rules do, refined.
+-- Instructions whose successors are those of the plain rules, refined.
 use Rattle.std.proofs.Common.{◌≡◌, refl, sym, subst, ℕ, Bool, List}
 use Rattle.avr_model.specs.declared.assumption.Entry.{Entry}
 use Rattle.avr_model.specs.declared.device.Device.{Device}
@@ -24,7 +24,7 @@ others_refined device words A scratch k s (i.Sbrc r b) binary st brbs brbc sbrc 
 others_refined device words A scratch k s (i.Sbrs r b) binary st brbs brbc sbrc sbrs = absurd (sbrs r b refl)
 others_refined device words A scratch k s _ binary st brbs brbc sbrc sbrs = refl
 
--- of what is done to two registers `cpse` alone is a test
+-- among instructions of two registers only `cpse` is a test
 binary_same : (device : Device) (words : Program) (A : List Entry) (scratch : Bool) (k : NodeKey) (s : AbsState) (op : BinaryOp) (d r : ℕ) → (op ≡ binary.Cpse → ⊥)
     → paired_row device words A scratch k s (i.Binary op d r) ≡ refining words (i.Binary op d r) s (plain_row device words A scratch k s (i.Binary op d r))
 binary_same device words A scratch k s binary.Cpse d r ne = absurd (ne refl)

@@ -1,4 +1,4 @@
--- What a node leads to with one picked byte after the other.
+-- The successors with one picked byte after the other.
 use Rattle.std.proofs.Common.{refl, sym, ap, ◌∙◌, subst, ℕ, ◌+◌, ◌<◌, List, [], ◌∷◌, ◌++◌, length, map, take, slice_index_or, Option, None}
 use Rattle.std.proofs.lemmas.List.{append-nil}
 use Rattle.local_rules.specs.declared.local.NodeFault.{NodeFault}
@@ -12,7 +12,7 @@ use Rattle.abs_step.specs.Leading.{IsLed}
 pub none_gathered : (old : Moving) → AreMovesGathered old old None (all_of [])
 none_gathered old = record { fault = refl; nodes = λ none. with_none old }
 
--- one more that has no fault
+-- one more part without a fault
 pub gathered_led : (old mid new : Moving) (fault : Option NodeFault) (r q : Raw) (o : Outgoing) → AreMovesGathered old mid fault r → IsLed mid new o q
     → AreMovesGathered old new fault (with_another r q)
 gathered_led old mid new fault r q o g h = record {

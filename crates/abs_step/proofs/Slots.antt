@@ -1,4 +1,4 @@
--- What is left of a state has its slots.
+-- Cut states keep their slots.
 use Rattle.std.specs.Prelude.{⊤, ◌/◌}
 use Rattle.std.specs.Int.{from_bool}
 use Rattle.std.proofs.Common.{◌≡◌, refl, sym, subst, ℕ, ◌==◌, Bool, true, false, if◌then◌else◌, List, Option, Some, None}
@@ -46,7 +46,7 @@ use Rattle.abs_step.specs.declared.pairs.Test.{Test}
 use Rattle.abs_step.specs.declared.pairs.Test.TheVariants.{Flag, Bit, Equal}
 use Rattle.abs_step.specs.Tests.{cut_by}
 
--- where something is left it has these slots
+-- if anything is left, it has these slots
 abbrev KeepsSlots : List (Slot AbsByte) → Option AbsState → Type 0
 KeepsSlots slots None = ⊤
 KeepsSlots slots (Some t) = t.slots ≡ slots

@@ -1,4 +1,4 @@
-//! Bits of I/O, and the flags by their numbers.
+//! Bits of I/O, and single flags.
 
 ghost use Rattle.avr_model.specs.Assumptions.{has_masks};
 ghost use Rattle.avr_model.specs.Effects as effects;
@@ -19,7 +19,7 @@ use local_rows::bits::flag;
 use local_rules::local::NodeFault;
 use mask_states::NodeKey;
 
-/// One bit of an I/O address is turned on or off.
+/// Sets or clears one bit of an I/O address.
 pub fn bit_row(
     nodes: &mut Moves<'_>,
     site: &Site<'_>,
@@ -43,7 +43,7 @@ pub fn bit_row(
     written_at(nodes, site.alloc, &write, false, address)
 }
 
-/// `bset` of flag `n` where `on`, else `bclr`. I is in the key: after `sei` one more instruction executes before any interrupt.
+/// `bset` of flag `n` if `on`, else `bclr`. I is in the key: after `sei` one more instruction executes before any interrupt.
 pub fn flag_row(nodes: &mut Moves<'_>, site: &Site<'_>, n: Bit, on: bool) -> Result<(), NodeFault>
     ensures { Adds nodes.old nodes.new result (registers.flag_row site.now.device site.now.key.now site.now.state.now n on) }
 {

@@ -1,4 +1,4 @@
-//! Branches on C, which cut the range of the register that C speaks of.
+//! Branches on C, which cut the range of the carry tag's register.
 
 ghost use Rattle.std.specs.Prelude.{◌≡◌, IfErr};
 ghost use Rattle.local_rules.specs.declared.local.NodeFault.TheVariants.{Memory};
@@ -12,7 +12,7 @@ use bit_domain::Tri;
 use local_reads::cuts::registers_where;
 use local_rules::local::NodeFault;
 
-// Going on at a word where C has this value, if it can.
+// Continues at a word if C may have this value.
 fn going_where(
     nodes: &mut Moves<'_>,
     site: &Site<'_>,
@@ -31,7 +31,7 @@ fn going_where(
     }
 }
 
-/// To one word where C is 1, and to the other where it is 0.
+/// To one word if C is 1, and to the other if it is 0.
 pub fn carry_branch(
     nodes: &mut Moves<'_>,
     site: &Site<'_>,

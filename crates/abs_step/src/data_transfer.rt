@@ -23,7 +23,7 @@ use local_rows::registers::{set, value};
 use local_rows::transfer::{base_register, pointer_moved, pointer_register};
 use local_rules::local::NodeFault;
 
-/// `ld` and `ldd`: register `d` of these gets what is at an address that registers give. There is no successor where nothing can be read.
+/// `ld` and `ldd`: register `d` of these gets the byte at an address in registers. No successor if nothing can be read.
 pub fn load_row(
     nodes: &mut Moves<'_>,
     site: &Site<'_>,
@@ -44,7 +44,7 @@ pub fn load_row(
     }
 }
 
-/// `in` and `lds`, of so many words: register `d` gets what is known of an address.
+/// `in` and `lds`, of this many words: register `d` gets the value of a known address.
 pub fn read_row(
     nodes: &mut Moves<'_>,
     site: &Site<'_>,
@@ -76,7 +76,7 @@ pub fn lpm_row(
     setting(nodes, site, &registers, site.state.flags)
 }
 
-/// `st`: through a pointer that may move.
+/// `st`, through a pointer that may move.
 pub fn store_row(
     nodes: &mut Moves<'_>,
     site: &Site<'_>,

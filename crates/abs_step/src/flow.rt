@@ -1,4 +1,4 @@
-//! Change of flow: jumps, skips, calls and returns.
+//! Control flow: jumps, skips, calls and returns.
 
 ghost use Rattle.std.specs.Prelude.{◌≡◌, ◌<◌, ◌+◌, map, filter, None, IfOk, IfErr, if◌then◌else◌};
 ghost use Rattle.avr_model.specs.Image.{WORDS, word_at};
@@ -37,8 +37,8 @@ use local_rules::local::{CallSite, Exit, NodeFault};
 use mask_states::{Kind, NodeKey, SpForm};
 use std::alloc::Global;
 
-// `brbs` of flag `n` where `on`, else `brbc`: to the first word where it is taken, else to the other one. A branch on C cuts what C
-// speaks of.
+// `brbs` of flag `n` if `on`, else `brbc`: to the first word if it is taken, else to the other. A branch on C cuts the register of the
+// carry tag.
 pub(crate) fn flag_branch(
     nodes: &mut Moves<'_>,
     site: &Site<'_>,
@@ -58,7 +58,7 @@ pub(crate) fn flag_branch(
     branch(nodes, site, condition, words)
 }
 
-// The word past the next instruction, and that of the next one.
+// The word after the next instruction, and that of the next instruction.
 fn skip_words(site: &Site<'_>) -> (u16, u16)
     requires { site.now.key.now.pc < WORDS }
     ensures past { result.0 ≡ raw.further site.now.device site.now.key.now (1 + length_of (word_at site.now.flash.now (site.now.key.now.pc + 1))) }
@@ -71,7 +71,7 @@ fn skip_words(site: &Site<'_>) -> (u16, u16)
     )
 }
 
-// Past the next instruction where the condition holds.
+// Skips the next instruction if the condition holds.
 pub(crate) fn skipping(
     nodes: &mut Moves<'_>,
     site: &Site<'_>,
@@ -83,7 +83,7 @@ pub(crate) fn skipping(
     branch(nodes, site, condition, skip_words(site))
 }
 
-// Past the next instruction where a bit of an I/O address is 1 (`sbis`), or where it is 0 (`sbic`). Where it reads 0 the key may tell more.
+// Skips the next instruction if a bit of an I/O address is 1 (`sbis`), or 0 (`sbic`). A bit that reads 0 may refine the key.
 pub(crate) fn port_skip(
     nodes: &mut Moves<'_>,
     site: &Site<'_>,
@@ -126,7 +126,7 @@ fn listed_targets(
     Ok(words)
 }
 
-// All words that the bits permit, where these are few.
+// All words that the bits permit; a fault if there are too many.
 fn unlisted_targets(
     alloc: Global,
     device: Device,
@@ -145,7 +145,7 @@ fn unlisted_targets(
     }
 }
 
-// The words to which an indirect transfer may lead.
+// The possible targets of an indirect transfer.
 pub(crate) fn targets_at(site: &Site<'_>) -> Result<Vec<u16>, NodeFault>
     ensures { FindsWords result (flow.targets_at site.now.device site.now.assumptions.now site.now.key.now site.now.state.now) site.now.key.now.pc }
 {
@@ -155,7 +155,7 @@ pub(crate) fn targets_at(site: &Site<'_>) -> Result<Vec<u16>, NodeFault>
     }
 }
 
-// Going on at each of these words.
+// Continues at each of these words.
 fn add_words(nodes: &mut Moves<'_>, site: &Site<'_>, words: &[u16]) -> Result<(), NodeFault>
     ensures { Adds nodes.old nodes.new result (moves_to (map (λ t. record { key = raw.off_table site.now.key.now t; state = site.now.state.now }) words.now)) }
 {
@@ -180,7 +180,7 @@ pub(crate) fn jumping(nodes: &mut Moves<'_>, site: &Site<'_>) -> Result<(), Node
     added
 }
 
-/// What leaves the instance.
+/// Calls and return of an instruction.
 #[derive(Drop)]
 pub struct Outgoing {
     /// Calls.
@@ -189,7 +189,7 @@ pub struct Outgoing {
     pub exit: Option<Exit>,
 }
 
-// Nothing leaves it where nodes were added.
+// No calls and no return, for an instruction that only adds nodes.
 pub(crate) fn staying(alloc: Global, added: Result<(), NodeFault>) -> Result<Outgoing, NodeFault>
     ensures { (old new : Moving) (r : Raw) → Adds old new added r → LeadsOn old new result r }
 {
@@ -202,7 +202,7 @@ pub(crate) fn staying(alloc: Global, added: Result<(), NodeFault>) -> Result<Out
     }
 }
 
-// Calls of these words that go on at the word `back`.
+// Calls of these words that return to the word `back`.
 fn sites(alloc: Global, entries: &[u16], back: u16) -> Result<Listed<CallSite>, NodeFault>
     ensures ok { IfOk result (λ sites. sites ≡ map (λ t. flow.site t back) entries.now) }
     ensures err { IfErr result (λ e. e ≡ Memory) }
@@ -217,7 +217,7 @@ fn sites(alloc: Global, entries: &[u16], back: u16) -> Result<Listed<CallSite>, 
     Ok(sites)
 }
 
-// A call of these words, which goes on at the word `back`.
+// A call of these words that returns to the word `back`.
 pub(crate) fn calling(
     alloc: Global,
     key: &NodeKey,
@@ -246,7 +246,7 @@ pub(crate) fn indirect_call(site: &Site<'_>) -> Result<Outgoing, NodeFault>
     outside
 }
 
-// A return, where the stack pointer isn't half written.
+// A return, if the stack pointer is whole.
 pub(crate) fn returning(site: &Site<'_>, exit: Exit) -> Result<Outgoing, NodeFault>
     ensures { (nodes : Moving) → LeadsOn nodes nodes result (flow.at_closed site.now.key.now.sp site.now.key.now.pc (flow.returning exit site.now.key.now.pc site.now.key.now.inst.kind)) }
 {

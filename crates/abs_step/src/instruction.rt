@@ -1,4 +1,4 @@
-//! What the instruction at a node leads to.
+//! The successors of a node by its instruction.
 
 ghost use Rattle.std.specs.Prelude.{◌≡◌, ◌<◌, false, if◌then◌else◌, IfOk, IfErr};
 ghost use Rattle.local_rules.specs.declared.local.NodeFault.TheVariants.{Memory};
@@ -24,14 +24,14 @@ use pair_told::{sets_carry, sets_flags};
 use sp_domain::CarryTag;
 use std::alloc::Global;
 
-// Whether something that is known ends: what the carry says of a register that the instruction sets, or maybe something of pairs.
+// Whether the instruction ends some fact: the carry tag of a register that it sets, or possibly a fact on pairs.
 fn is_ended(state: &AbsState, instr: &Instr) -> bool
     ensures { result ≡ false → registers.before instr.now state.now ≡ state.now }
 {
     ends(state.flags.carry, instr) || state.facts.is_followed()
 }
 
-// The state with what still holds after the instruction.
+// The state with the facts that survive the instruction.
 pub(crate) fn before(alloc: Global, state: &AbsState, instr: &Instr) -> Result<AbsState, NodeFault>
     ensures ok { IfOk result (λ s. s ≡ registers.before instr.now state.now) }
     ensures err { IfErr result (λ e. e ≡ Memory) }
@@ -55,7 +55,7 @@ pub(crate) fn before(alloc: Global, state: &AbsState, instr: &Instr) -> Result<A
     Ok(left)
 }
 
-// Whether what the carry says of a register ends, since the instruction sets that.
+// Whether the carry tag ends, because the instruction sets its register.
 fn ends(carry: CarryTag, instr: &Instr) -> bool
     ensures { registers.forgotten (written instr.now) carry ≡ (if result then tag.None else carry) }
 {
@@ -65,7 +65,7 @@ fn ends(carry: CarryTag, instr: &Instr) -> bool
     }
 }
 
-// What the instruction leads to by the plain rules. A state is copied only where something that is known may end.
+// The successors by the plain rules. The state is copied only if some fact may end.
 pub(crate) fn row_forgetting(
     nodes: &mut Moves<'_>,
     site: &Site<'_>,
@@ -94,7 +94,7 @@ pub(crate) fn row_forgetting(
     led
 }
 
-// What the instruction at the node leads to; its word may lie behind the device's flash.
+// The successors by the node's instruction; its word may lie behind the device's flash.
 pub(crate) fn at_instruction(nodes: &mut Nodes, site: &Site<'_>) -> Result<Outgoing, NodeFault>
     requires word { site.now.key.now.pc < WORDS }
     ensures { LeadsOn (plain nodes.old) (plain nodes.new) result (rows.row_in site.now.device site.now.flash.now site.now.assumptions.now site.now.key.now site.now.state.now) }

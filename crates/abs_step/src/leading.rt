@@ -1,4 +1,4 @@
-//! The local part of a node: all successors in its instance, its calls and its return, or its one fault.
+//! The local part of a node: the successors in its instance, its calls and its return, or its fault.
 
 ghost use Rattle.std.specs.Prelude.{◌≡◌, ◌<◌, ◌∷◌, nat_lt, length, Err};
 ghost use Rattle.avr_model.specs.Devices.{size_of};
@@ -20,7 +20,7 @@ use mask_states::NodeKey;
 use std::alloc::Global;
 use vector_table::Assumptions;
 
-// What the node leads to, where it splits too.
+// The local part, also of a node that splits, before its depth is checked.
 fn led(site: &Site<'_>) -> Result<Local, NodeFault>
     requires word { site.now.key.now.pc < WORDS }
     ensures { Settles result (rows.splitting (rows.split_site site.now.flash.now site.now.assumptions.now site.now.key.now.pc site.now.key.now.pick) (rows.row_in site.now.device site.now.flash.now site.now.assumptions.now) site.now.key.now site.now.state.now) }
@@ -34,7 +34,7 @@ fn led(site: &Site<'_>) -> Result<Local, NodeFault>
     })
 }
 
-// The fault that counts where the node has this one besides.
+// The fault that counts if the node has this one as well.
 fn stopped(found: &Result<Local, NodeFault>, besides: NodeFault) -> NodeFault
     ensures { (r : Raw) → Settles found.now r → Settles (Err result) (record r { faults = besides ∷ r.faults }) }
 {
@@ -50,7 +50,7 @@ fn stopped(found: &Result<Local, NodeFault>, besides: NodeFault) -> NodeFault
     }
 }
 
-// The same, and that the frame lies in the device's SRAM.
+// The local part, or a fault if the frame is deeper than the device's SRAM.
 fn in_sram(site: &Site<'_>) -> Result<Local, NodeFault>
     requires word { site.now.key.now.pc < WORDS }
     ensures { Settles result (too_deep_if (nat_lt (size_of site.now.device) (offset_of site.now.key.now.sp)) site.now.key.now.pc (offset_of site.now.key.now.sp) (rows.splitting (rows.split_site site.now.flash.now site.now.assumptions.now site.now.key.now.pc site.now.key.now.pick) (rows.row_in site.now.device site.now.flash.now site.now.assumptions.now) site.now.key.now site.now.state.now)) }
@@ -64,8 +64,8 @@ fn in_sram(site: &Site<'_>) -> Result<Local, NodeFault>
     found
 }
 
-/// Where a node leads in its own frame: the successors in its instance, joined where they have one key, its calls and its
-/// return, or the one of its faults that counts. `Memory` is no fault of the node.
+/// The local part of a node: the successors in its instance, joined by key, its calls and its return, or the fault that counts. `Memory`
+/// is no fault of the node.
 #[tactic(auto, unfolding(local_rules::specs::Local::local, local_rules::specs::Local::raw))]
 pub fn local(
     alloc: Global,

@@ -1,4 +1,5 @@
-//! Where a node leads in its own frame: what one instruction does to what is known of the machine. Source: own.
+//! The code of the transfer function of a node: the effect of one instruction on the abstract state. Source: own. Tests:
+//! `crates/node_table`.
 #![tactic(auto)]
 
 mod bits;

@@ -16,8 +16,8 @@ use mask_states::NodeKey;
 use pair_steps::refine;
 use std::marker::Model;
 
-/// The nodes so far. Before another is put among them, its state is refined by what the instruction tells, or it isn't; it is left out
-/// where nothing is left of its state. Seen as the nodes and what refines.
+/// The nodes so far, and how states are refined before their nodes are inserted. A node is left out if nothing is left of its state. Seen
+/// as the nodes and what refines.
 #[derive(Drop)]
 pub struct Moves<'a> {
     nodes: Nodes,
@@ -36,7 +36,7 @@ impl<'a> Model for Moves<'a> {
 }
 
 impl<'a> Moves<'a> {
-    /// These nodes; others are refined by what the instruction at the site tells, where `refines`.
+    /// These nodes. If `refines`, states of further nodes are refined by the transfer function of pairs.
     pub fn new(nodes: Nodes, site: &Site<'a>, instr: &'a Instr, refines: bool) -> Moves<'a>
         ensures { result ≡ record { by = teller refines site.now.flash.now instr.now site.now.state.now; nodes = nodes } }
     {
@@ -56,7 +56,7 @@ impl<'a> Moves<'a> {
         self.nodes
     }
 
-    // Refines a state. Gives whether something is left.
+    // Refines a state. Returns whether anything is left.
     fn refine(&self, state: &mut AbsState) -> bool
         ensures left { left_in result state.new ≡ left_by self.now.by state.old }
         ensures slots { result ≡ true → state.new.slots ≡ state.old.slots }
@@ -67,7 +67,7 @@ impl<'a> Moves<'a> {
         true
     }
 
-    /// One node.
+    /// Adds one node.
     pub fn add(&mut self, key: NodeKey, mut state: AbsState) -> Result<(), NodeFault>
         requires { length state.slots ≡ offset_of key.sp }
         ensures { Adds self.old self.new result (one key state) }
@@ -77,7 +77,7 @@ impl<'a> Moves<'a> {
     }
 }
 
-/// One node, where something is left of its state.
+/// Adds one node, if anything is left of its state.
 #[tactic(auto, using(crate::proofs::Added::adding))]
 pub fn put(nodes: &mut Nodes, key: NodeKey, left: bool, state: AbsState) -> Result<(), NodeFault>
     requires { left ≡ true → length state.slots ≡ offset_of key.sp }

@@ -1,4 +1,4 @@
-//! Where pairs are followed: branches and skips cut the state by their outcome, and what other instructions leave is refined.
+//! Instructions if pairs are followed: branches and skips cut the state by their outcome, and other successors are refined.
 
 ghost use Rattle.std.specs.Prelude.{◌≡◌, ◌<◌, ◌∷◌, [], true, not, length};
 ghost use Rattle.mask_states.specs.Keys.{offset_of};
@@ -28,7 +28,7 @@ use pair_cuts::{bit_cut, equal_cut, flag_cut};
 use pair_steps::refine;
 use std::mem;
 
-// A test whose outcome tells of the state.
+// A test that cuts the state by its outcome.
 #[derive(Clone, Copy)]
 pub(crate) enum Test {
     // Whether this flag is 1.
@@ -39,12 +39,12 @@ pub(crate) enum Test {
     Equal(u8, u8),
 }
 
-// Two words that a test leads to.
+// The two targets of a test.
 #[derive(Clone, Copy)]
 pub(crate) struct Ways {
-    // Where it comes out so.
+    // The word if the test has the outcome.
     pub pc: u16,
-    // Where it doesn't.
+    // The word if it has the other.
     pub other: u16,
 }
 
@@ -53,13 +53,13 @@ pub(crate) struct Ways {
 pub(crate) struct FlagBranch {
     // The flag.
     pub n: Bit,
-    // The word where it is 0.
+    // The word if it is 0.
     pub clear: u16,
-    // The word where it is 1.
+    // The word if it is 1.
     pub set: u16,
 }
 
-// An `st`, and what it names.
+// An `st` with its operands.
 #[derive(Drop)]
 pub(crate) struct StoreInstr<'a> {
     // The instruction.
@@ -70,7 +70,7 @@ pub(crate) struct StoreInstr<'a> {
     pub r: Register,
 }
 
-// Cuts the state to where the test comes out so. Gives whether something is left.
+// Cuts the state to the outcome of the test. Returns whether anything is left.
 #[tactic(auto, using(crate::proofs::Slots::cut_slots))]
 fn cut(test: Test, on: bool, state: &mut AbsState) -> bool
     requires { IsTest test }
@@ -84,7 +84,7 @@ fn cut(test: Test, on: bool, state: &mut AbsState) -> bool
     }
 }
 
-// Going on at a word where the test comes out so, if it can.
+// Continues at a word if the test may have this outcome.
 fn going_where(
     nodes: &mut Nodes,
     site: &Site<'_>,
@@ -100,7 +100,7 @@ fn going_where(
     put(nodes, off_table(site.key, pc), left, after)
 }
 
-// To one word where the test comes out so, and then to another where it doesn't.
+// To one word if the test has the outcome, and to another if it has the other.
 fn both_ways(
     nodes: &mut Nodes,
     site: &Site<'_>,
@@ -115,7 +115,7 @@ fn both_ways(
     going_where(nodes, site, test, !on, ways.other)
 }
 
-// To the next instruction where the test comes out so, else past it.
+// To the next instruction if the test has the outcome, else past it.
 fn skip_unless(nodes: &mut Nodes, site: &Site<'_>, test: Test, on: bool) -> Result<(), NodeFault>
     requires word { site.now.key.now.pc < WORDS }
     requires test { IsTest test }
@@ -153,7 +153,7 @@ fn store_row(
     added
 }
 
-// The byte is stored, where something is left of the state.
+// Stores the byte, if anything is left of the state.
 fn stored(
     nodes: &mut Nodes,
     site: &Site<'_>,
@@ -178,7 +178,7 @@ fn stored(
     added
 }
 
-// What the instruction leads to by the plain rules, refined by what it tells, where `refines`.
+// The successors by the plain rules, refined by the transfer function of pairs if `refines`.
 pub(crate) fn row_through(
     nodes: &mut Nodes,
     site: &Site<'_>,
@@ -196,7 +196,7 @@ pub(crate) fn row_through(
     led
 }
 
-// A branch on a flag: to one word where it is 0, and then to another where it is 1. One on I, which is in the key, goes by the plain rules.
+// A branch on a flag: to one word if it is 0, and to another if it is 1. For I, which is in the key, the plain rules apply.
 fn paired_branch(
     nodes: &mut Nodes,
     site: &Site<'_>,
@@ -219,7 +219,7 @@ fn paired_branch(
     staying(site.alloc, added)
 }
 
-// What an instruction leads to where pairs are followed.
+// The successors of an instruction if pairs are followed.
 pub(crate) fn paired_row(
     nodes: &mut Nodes,
     site: &Site<'_>,

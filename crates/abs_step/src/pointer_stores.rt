@@ -23,7 +23,7 @@ use local_rules::local::NodeFault;
 use mask_states::{NodeKey, widened};
 use std::alloc::Global;
 
-/// An address as registers give it: that in registers `r` and `r + 1`, plus a number.
+/// An address in registers `r` and `r + 1`, plus a number.
 #[derive(Clone, Copy)]
 pub struct Indirect {
     /// The first register.
@@ -32,7 +32,7 @@ pub struct Indirect {
     pub up: u16,
 }
 
-/// The one that counts of a fault so far and another.
+/// The fault that counts, of the one so far and another.
 pub fn first(fault: Option<NodeFault>, found: NodeFault) -> NodeFault
     ensures { result ≡ first_of fault found }
 {
@@ -42,7 +42,7 @@ pub fn first(fault: Option<NodeFault>, found: NodeFault) -> NodeFault
     }
 }
 
-// The byte is stored at an address, too, where a fault was found so far or not.
+// Stores the byte at one more address, also if a fault was found before.
 fn stored_too(
     nodes: &mut Moves<'_>,
     alloc: Global,
@@ -65,7 +65,7 @@ fn stored_too(
     }
 }
 
-// At an unfixed site: one successor in which the byte changes nothing that is known, and those of each listed address that can be met.
+// At an unfixed site: one successor in which nothing known changes, and those of each listed address that is possible.
 fn listed_writes(
     nodes: &mut Moves<'_>,
     site: &Site<'_>,
@@ -88,7 +88,7 @@ fn listed_writes(
     }
 }
 
-// Whether the pointer is known to be a slot of the running frame.
+// Whether the pointer is a slot of the running frame.
 fn is_own_slot(slot: Option<u16>, offset: u16) -> bool
     ensures { result ≡ writes.is_own_slot slot offset }
 {
@@ -98,7 +98,7 @@ fn is_own_slot(slot: Option<u16>, offset: u16) -> bool
     }
 }
 
-// Whether the byte may be meant for the enable bit of a vector that isn't barred.
+// Whether the byte may reach the enable bit of a vector that isn't barred.
 #[tactic(auto, unfolding(local_rules::specs::Writes::may_wake))]
 fn may_wake(site: &Site<'_>, write: &ByteWrite<'_>, to: &Indirect) -> bool
     ensures { result ≡ writes.may_wake site.now.device site.now.assumptions.now site.now.state.now to.now.r to.now.up (pointed site.now.state.now to.now.r to.now.up) site.now.key.now.pc write.now.key write.now.value }
@@ -121,7 +121,7 @@ fn may_wake(site: &Site<'_>, write: &ByteWrite<'_>, to: &Indirect) -> bool
     may_enable_other(&byte)
 }
 
-// Where the byte may be meant for an enable bit: one successor more, in which each vector that isn't barred may be enabled.
+// If the byte may reach an enable bit, adds a successor in which each vector that isn't barred may be enabled.
 fn waking(
     nodes: &mut Moves<'_>,
     site: &Site<'_>,
@@ -138,7 +138,7 @@ fn waking(
     add_copy(nodes, site.alloc, key, write.state)
 }
 
-// At an unfixed site: the byte changes nothing that is known, is stored at a listed address, or may be meant for an enable bit.
+// At an unfixed site: nothing known changes, a listed address is written, or an enable bit may be set.
 fn unfixed_write(
     nodes: &mut Moves<'_>,
     site: &Site<'_>,
@@ -152,7 +152,7 @@ fn unfixed_write(
     waking(nodes, site, write, to)
 }
 
-/// Register `source` is stored at an address that registers give as they are before the instruction.
+/// Stores register `source` at an address in registers, as they are before the instruction.
 pub fn pointer_write(
     nodes: &mut Moves<'_>,
     site: &Site<'_>,

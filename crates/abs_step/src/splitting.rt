@@ -1,4 +1,4 @@
-//! Jump tables: a node at a table site splits by the bytes that r30 may hold, so that the ways to the entries stay apart.
+//! Jump tables: a node at a table site splits by the possible bytes of r30, so that the paths to the entries stay apart.
 
 ghost use Rattle.std.specs.Prelude.{◌≡◌, ◌<◌, Some, map, IfOk, IfErr};
 ghost use Rattle.avr_model.specs.Image.{WORDS};
@@ -22,7 +22,7 @@ use pair_cuts::pick_cut;
 // The most bytes by which a node splits.
 const MOST_PICKS: usize = 64;
 
-// Where the node splits: the word of the `ijmp` of its table, where that has no `jump` line.
+// The word of the `ijmp` of the table at which the node splits, if that has no `jump` line.
 fn split_site(site: &Site<'_>) -> Option<u16>
     ensures { result ≡ rows.split_site site.now.flash.now site.now.assumptions.now site.now.key.now.pc site.now.key.now.pick }
 {
@@ -36,7 +36,7 @@ fn split_site(site: &Site<'_>) -> Option<u16>
     }
 }
 
-// What the node leads to with this byte picked, where something is left of its state.
+// The successors with this byte picked, if anything is left of the state.
 #[tactic(auto, using(crate::proofs::Slots::pick_slots))]
 fn with_pick(nodes: &mut Nodes, site: &Site<'_>, byte: u8) -> Result<Outgoing, NodeFault>
     requires word { site.now.key.now.pc < WORDS }
@@ -65,7 +65,7 @@ fn with_pick(nodes: &mut Nodes, site: &Site<'_>, byte: u8) -> Result<Outgoing, N
     led
 }
 
-// One more byte is picked, where a fault was found so far or not.
+// Adds the successors for one more byte, also if a fault was found before.
 fn picked_too(
     nodes: &mut Nodes,
     site: &Site<'_>,
@@ -88,7 +88,7 @@ fn picked_too(
     }
 }
 
-// What the node leads to with each of these bytes picked.
+// The successors for each of these bytes picked.
 fn all_picked(nodes: &mut Nodes, site: &Site<'_>, picks: &[u8]) -> Result<(), NodeFault>
     requires word { site.now.key.now.pc < WORDS }
     ensures { Adds (plain nodes.old) (plain nodes.new) result (all_of (map (λ byte. rows.picked_row (rows.row_in site.now.device site.now.flash.now site.now.assumptions.now) (rows.picking site.now.key.now byte) (pick_cut byte site.now.state.now)) picks.now)) }
@@ -103,7 +103,7 @@ fn all_picked(nodes: &mut Nodes, site: &Site<'_>, picks: &[u8]) -> Result<(), No
     }
 }
 
-// The node splits, where the bytes are few enough. `jump` is the word of its `ijmp`.
+// Splits the node, if there are few enough bytes. `jump` is the word of its `ijmp`.
 fn split(nodes: &mut Nodes, site: &Site<'_>, jump: u16) -> Result<(), NodeFault>
     requires word { site.now.key.now.pc < WORDS }
     ensures { Adds (plain nodes.old) (plain nodes.new) result (rows.splitting (Some jump) (rows.row_in site.now.device site.now.flash.now site.now.assumptions.now) site.now.key.now site.now.state.now) }
@@ -117,7 +117,7 @@ fn split(nodes: &mut Nodes, site: &Site<'_>, jump: u16) -> Result<(), NodeFault>
     added
 }
 
-// What the node leads to: where it splits, all that it would with each byte that r30 may hold.
+// The successors of the node; if it splits, those with each possible byte of r30.
 pub(crate) fn splitting(nodes: &mut Nodes, site: &Site<'_>) -> Result<Outgoing, NodeFault>
     requires word { site.now.key.now.pc < WORDS }
     ensures { LeadsOn (plain nodes.old) (plain nodes.new) result (rows.splitting (rows.split_site site.now.flash.now site.now.assumptions.now site.now.key.now.pc site.now.key.now.pick) (rows.row_in site.now.device site.now.flash.now site.now.assumptions.now) site.now.key.now site.now.state.now) }

@@ -1,4 +1,4 @@
-//! Bytes that are pushed and popped, and calls that make room.
+//! Pushes and pops, and calls that make room.
 
 ghost use Rattle.std.specs.Prelude.{◌≡◌, ◌<◌, ◌++◌, ◌∷◌, [], length, IfOk, IfErr};
 ghost use Rattle.local_rules.specs.declared.local.NodeFault.TheVariants.{Memory};
@@ -18,7 +18,7 @@ use mask_states::SpForm;
 use sp_domain::Slot;
 use std::alloc::Global;
 
-// The state with another slot.
+// The state with one more slot.
 fn with_slot(alloc: Global, state: &AbsState, slot: Slot<AbsByte>) -> Result<AbsState, NodeFault>
     requires { length state.now.slots < 65535 }
     ensures ok { IfOk result (λ s. s ≡ record state.now { slots = state.now.slots ++ slot ∷ [] }) }
@@ -34,7 +34,7 @@ fn with_slot(alloc: Global, state: &AbsState, slot: Slot<AbsByte>) -> Result<Abs
     }
 }
 
-/// `push`: register `r` goes to another slot. A scratch push makes a free slot, and any other a guarded one.
+/// `push`: register `r` goes to a new slot. A scratch push makes a free slot, any other a guarded one.
 pub fn push_row(
     nodes: &mut Moves<'_>,
     site: &Site<'_>,
@@ -62,7 +62,7 @@ pub fn push_row(
     }
 }
 
-/// `pop`: register `d` gets the byte in the last slot, which goes.
+/// `pop`: register `d` gets the byte of the last slot, which is removed.
 pub fn pop_row(nodes: &mut Moves<'_>, site: &Site<'_>, d: Register) -> Result<(), NodeFault>
     ensures { Adds nodes.old nodes.new result (flow.at_closed site.now.key.now.sp site.now.key.now.pc (flow.popping site.now.device site.now.key.now site.now.state.now d)) }
 {
@@ -82,7 +82,7 @@ pub fn pop_row(nodes: &mut Moves<'_>, site: &Site<'_>, d: Register) -> Result<()
     }
 }
 
-/// A call of the next word makes room for two bytes, and stays in its frame.
+/// A call of the next word: it makes room for two bytes, and stays in its frame.
 pub fn room_row(nodes: &mut Moves<'_>, site: &Site<'_>, target: u16) -> Result<(), NodeFault>
     ensures { Adds nodes.old nodes.new result (flow.at_closed site.now.key.now.sp site.now.key.now.pc (flow.making_room site.now.device site.now.key.now site.now.state.now target)) }
 {

@@ -1,4 +1,4 @@
-//! Writes to data space: what a byte changes that is written to a known address.
+//! The effect of writing a byte to a known data address.
 
 ghost use Rattle.std.specs.Prelude.{◌≡◌, ◌∷◌, [], length, map, IfOk, IfErr};
 ghost use Rattle.avr_model.specs.Written.{bits_of};
@@ -27,16 +27,16 @@ use sp_domain::CarryTag;
 use std::alloc::Global;
 use vector_table::Masks;
 
-/// What is written: the device, the byte, the word of the instruction, and the node that the machine is at after it otherwise.
+/// A write: the device, the byte, the word of the instruction, and the node that the machine is otherwise at afterwards.
 #[derive(Drop)]
 pub struct ByteWrite<'a> {
     /// The device.
     pub device: Device,
     /// The word of the instruction.
     pub pc: u16,
-    /// The key after it.
+    /// The key after the instruction.
     pub key: NodeKey,
-    /// The state after it.
+    /// The state after the instruction.
     pub state: &'a AbsState,
     /// The byte.
     pub value: AbsByte,
@@ -62,7 +62,7 @@ fn opening(
     }
 }
 
-/// The state with so many slots.
+/// The state with this many slots.
 pub fn with_slots(alloc: Global, state: &AbsState, count: u16) -> Result<AbsState, NodeFault>
     ensures ok { IfOk result (λ s. s ≡ record state.now { slots = resized count state.now.slots }) }
     ensures err { IfErr result (λ e. e ≡ Memory) }
@@ -77,7 +77,7 @@ pub fn with_slots(alloc: Global, state: &AbsState, count: u16) -> Result<AbsStat
     }
 }
 
-// A write of its low byte.
+// A write of the low byte of the stack pointer.
 fn closing(
     nodes: &mut Moves<'_>,
     alloc: Global,
@@ -126,7 +126,7 @@ fn add_masks(
     Ok(())
 }
 
-// What C says of a register ends where that register is written.
+// The carry tag ends if it names the written register.
 fn forgotten(carry: CarryTag, d: Register) -> CarryTag
     ensures { result ≡ forgotten (d ∷ []) carry }
 {
@@ -142,7 +142,7 @@ fn forgotten(carry: CarryTag, d: Register) -> CarryTag
     }
 }
 
-// A write of a register by its address: it gets the byte's bits and tag.
+// A write of a register by its address. The register gets the byte's bits and tag.
 fn register_written(
     nodes: &mut Moves<'_>,
     alloc: Global,
@@ -171,7 +171,7 @@ fn set_of(d: Register) -> u32
     1u32 << d.get()
 }
 
-// A write of the status register by its address: one successor for each value of I that is permitted.
+// A write of the status register by its address: one successor for each permitted value of I.
 fn flags_set(
     nodes: &mut Moves<'_>,
     alloc: Global,
@@ -194,7 +194,7 @@ fn flags_set(
     added
 }
 
-/// A byte is written to a known address, by `out` or otherwise.
+/// Writes a byte to a known address, by `out` or another instruction.
 #[tactic(auto, unfolding(local_rules::specs::Writes::written_at))]
 pub fn written_at(
     nodes: &mut Moves<'_>,

@@ -1,4 +1,4 @@
-//! Successors in the same instance, which are put into a list of nodes.
+//! Adds successors in the same instance to a list of nodes.
 
 ghost use Rattle.std.specs.Prelude.{◌≡◌, ◌<◌, ◌∷◌, [], length, IfOk, IfErr};
 ghost use Rattle.mask_states.specs.Keys.{offset_of};
@@ -18,7 +18,7 @@ use local_rules::local::NodeFault;
 use mask_states::NodeKey;
 use std::alloc::Global;
 
-/// The state again.
+/// A copy of the state.
 pub fn copied(alloc: Global, state: &AbsState) -> Result<AbsState, NodeFault>
     ensures ok { IfOk result (λ s. s ≡ state.now) }
     ensures err { IfErr result (λ e. e ≡ Memory) }
@@ -61,7 +61,7 @@ pub fn at_word(key: &NodeKey, pc: u16) -> NodeKey
     }
 }
 
-/// The same behind an indirect transfer, a branch or a skip, where no entry of a jump table is picked any more.
+/// The key at another word after an indirect transfer, branch or skip, which ends the pick of a jump table.
 pub fn off_table(key: &NodeKey, pc: u16) -> NodeKey
     ensures { result ≡ raw.off_table key.now pc }
 {
@@ -110,14 +110,14 @@ pub fn add_two(
     add_copy(nodes, alloc, second, state)
 }
 
-/// Going on at another word.
+/// Continues at another word.
 pub fn going_to(nodes: &mut Moves<'_>, site: &Site<'_>, pc: u16) -> Result<(), NodeFault>
     ensures { Adds nodes.old nodes.new result (raw.going_to site.now.key.now site.now.state.now pc) }
 {
     add_copy(nodes, site.alloc, at_word(site.key, pc), site.state)
 }
 
-/// Going on at the next word with these registers and flags.
+/// Continues at the next word with these registers and flags.
 pub fn setting(
     nodes: &mut Moves<'_>,
     site: &Site<'_>,
@@ -130,7 +130,7 @@ pub fn setting(
     nodes.add(next(site.device, site.key), after)
 }
 
-/// One successor where the condition is known, else two, each with its key and its word.
+/// One successor if the condition is known, else two, each with its key and word.
 pub fn branch_by(
     nodes: &mut Moves<'_>,
     site: &Site<'_>,
@@ -151,7 +151,7 @@ pub fn branch_by(
     }
 }
 
-/// One successor where the condition is known, else two.
+/// One successor if the condition is known, else two.
 pub fn branch(
     nodes: &mut Moves<'_>,
     site: &Site<'_>,

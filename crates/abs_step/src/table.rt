@@ -1,4 +1,4 @@
-//! The whole table: where an instruction leads, and what leaves its instance.
+//! The instruction table: successors, calls and return of each instruction.
 
 ghost use Rattle.std.specs.Prelude.{◌<◌};
 ghost use Rattle.avr_model.specs.Assumptions.{is_frame};
@@ -27,7 +27,7 @@ use local_rows::rows::{binary_at, computed_by};
 use local_rows::transfer::{base_register, pointer_moved, pointer_register};
 use local_rules::local::{Exit, NodeFault};
 
-// Flow, and what has no operand.
+// Control flow, and instructions without operands.
 fn flow_row(
     nodes: &mut Moves<'_>,
     site: &Site<'_>,
@@ -134,7 +134,7 @@ fn memory_row(
     staying(site.alloc, added)
 }
 
-// What is done to two registers. `cpse` alone skips, where they are equal.
+// Instructions of two registers. Only `cpse` skips, if they are equal.
 fn binary_row(
     nodes: &mut Moves<'_>,
     site: &Site<'_>,
@@ -155,7 +155,7 @@ fn binary_row(
     }
 }
 
-// Where an instruction leads: nodes are put into the list, and what leaves the instance is told.
+// Adds the successors of an instruction to the list, and returns its calls and return.
 pub(crate) fn row(
     nodes: &mut Moves<'_>,
     site: &Site<'_>,

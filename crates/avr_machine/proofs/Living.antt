@@ -1,4 +1,4 @@
--- Places of SRAM that are live, of which those below a floor aren't.
+-- Live places of SRAM; none is below the floor.
 use Rattle.std.proofs.Common.{◌≡◌, ◌<◌, ◌≤◌, ◌+◌, ◌-◌, ℕ, Bool, true, false, List, length, take, drop, ◌++◌, replicate, sym, ap, ap₂, ◌∙◌, arith, ◌⊎◌, inl, inr}
 use Rattle.std.specs.Prelude.{min, slice_index_or, slice_set}
 use borrow.Rule.Slice.PartMut.{put_mid, mid_of}
@@ -20,7 +20,7 @@ has_taken size place flags lt = sym (get_or-take size flags place false lt)
 pub none_past : (size place : ℕ) (flags : List Bool) → size ≤ place → slice_index_or (take size flags) place false ≡ false
 none_past size place flags le = get_or_past (take size flags) place false (let e = length-take size flags in omega (arith, le, e))
 
--- fewer places are clear too
+-- a lower floor holds too
 clear_below : (flags : List Bool) (floor n : ℕ) → IsBitClear floor flags → n ≤ floor → IsBitClear n flags
 clear_below flags floor n clear le =
     ap (take n) (sym (take-append-drop floor flags))
@@ -36,7 +36,7 @@ clear_set flags floor place n x clear is =
 pub set_part : (flags : List Bool) (size place : ℕ) → place < size → take size (slice_set flags place true) ≡ slice_set (take size flags) place true
 set_part flags size place lt = take-set-lt size flags place true lt
 
--- the places below `end` are cleared, and the others kept
+-- the places below `end` are cleared, and the others are kept
 abbrev pub IsCleared : ℕ → List Bool → List Bool → Type 0
 IsCleared end before after = after ≡ replicate end false ++ drop end before
 
@@ -66,7 +66,7 @@ clear_after before after end cleared =
     ∙ ap (λ (n : ℕ). take n (replicate end false ++ drop end before)) (sym (length-replicate {A = Bool} end false))
     ∙ take-append_seam (replicate end false) (drop end before)
 
--- what is seen of it: the first places
+-- the used first places
 pub cleared_part : (before after : List Bool) (size count end : ℕ) → size ≤ length before → end ≡ min count size → IsCleared end before after
     → take size after ≡ replicate (min count (length (take size before))) false ++ drop count (take size before)
 cleared_part before after size count end fits is cleared =

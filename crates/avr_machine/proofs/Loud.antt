@@ -1,4 +1,4 @@
--- Answers to instructions that store, push or go to a computed word, by rows.
+-- Answers of instructions that store, push or go to a computed word, by rows.
 use Rattle.std.proofs.Common.{◌≡◌, ◌∙◌, sym, ap, ap₂, refl, subst, ℕ, ◌+◌, ◌%◌, true, false, not, List, Option, None}
 use Rattle.avr_model.specs.declared.instruction.Instr.{Instr}
 use Rattle.avr_model.specs.declared.instruction.Instr.TheVariants as i
@@ -83,7 +83,7 @@ ijmp_row words entries m instr b1 b2 is =
     subst (λ x. jump_answer m (unless_listed (jump_line entries m.pc) (wrapped m.device (pair m 30 % WORDS))) (pair m 30 % WORDS) ≡ answer_to words entries m x (effect_of words m x b1 b2)) (sym is)
     (jumped_answer words entries m i.Ijmp (pair m 30 % WORDS) (unless_listed (jump_line entries m.pc) (wrapped m.device (pair m 30 % WORDS))) refl (indirect_unlisted entries m.pc i.Ijmp (going_to m (pair m 30 % WORDS)) refl))
 
--- stores whose parts are given as what they are
+-- stores, with given parts
 pub std_row : (words : Program) (entries : List Entry) (m : State) (instr : Instr) (b1 b2 : ℕ) (b : Base) (n r address byte next : ℕ) (protected : Option ℕ) → instr ≡ i.Std b n r → address ≡ plus16 (pair m (base_register b)) n → byte ≡ register m r → next ≡ further m 1 → protected ≡ protected_at words entries m.pc (record { address = address; byte = byte })
     → store_answer m protected (record (storing m address byte) { pc = next; delay = false }) ≡ answer_to words entries m instr (effect_of words m instr b1 b2)
 std_row words entries m instr b1 b2 b n r address byte next protected is at held to told =
@@ -96,7 +96,7 @@ pub sts_row : (words : Program) (entries : List Entry) (m : State) (instr : Inst
 sts_row words entries m instr b1 b2 k r byte next is held to =
     ap₂ (λ (byte next : ℕ). store_answer m None (record (storing m k byte) { pc = next; delay = false })) held to ∙ sts_answer words entries m instr b1 b2 k r is
 
--- a call whose words are given as what they are
+-- a call, with given words
 pub call_answer : (words : Program) (entries : List Entry) (m : State) (instr : Instr) (b1 b2 : ℕ) (k back target : ℕ) → instr ≡ i.Call k → back ≡ further m 2 → target ≡ k
     → push_answer (not (is_scratch words m.pc)) m None (way_back m.sp back) (minus16 m.sp 2) target ≡ answer_to words entries m instr (effect_of words m instr b1 b2)
 call_answer words entries m instr b1 b2 k back target is there to =
@@ -114,7 +114,7 @@ icall_answer words entries m instr b1 b2 unlisted back target is other there to 
     ∙ ap₂ (λ (back target : ℕ). push_answer (not (is_scratch words m.pc)) m (unless_listed (jump_line entries m.pc) (wrapped m.device (pair m 30 % WORDS))) (way_back m.sp back) (minus16 m.sp 2) target) there to
     ∙ icall_row words entries m instr b1 b2 is
 
--- no other instruction is left
+-- there is no further instruction
 pub none_left : (instr : Instr) → is_quiet instr ≡ false
     → ((b : Base) (n r : ℕ) → instr ≡ i.Std b n r → ⊥)
     → ((k r : ℕ) → instr ≡ i.Sts k r → ⊥)

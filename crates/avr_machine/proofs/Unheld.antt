@@ -1,4 +1,4 @@
--- Addresses at which no enable bit stands.
+-- Addresses without enable bits.
 use Rattle.std.proofs.Common.{◌≡◌, ◌∙◌, sym, ap, subst, refl, ℕ, ◌+◌, ◌<◌, ◌^◌, ◌==◌, not, Bool, true, false, if◌then◌else◌, List, [], ◌∷◌, Option, Some}
 use Rattle.std.proofs.lemmas.Nat.Bits.{bit_at-lt, same_from_bits_below}
 use Rattle.std.specs.Int.{bit_at}
@@ -11,7 +11,7 @@ use Rattle.avr_model.specs.State.{io_bit, io_byte}
 use Rattle.avr_machine.proofs.ByteBits.{number_below, bit_of_number}
 use Rattle.avr_machine.proofs.HeldBits.{io_byte_by_bits}
 
--- a test by a mask of the enable bits
+-- a test of enable bits by a mask
 pub by_mask : (zero has : Bool) → zero ≡ not has → not zero ≡ has
 by_mask true true e = cc
 by_mask true false e = refl
@@ -33,7 +33,7 @@ kept p (r ∷ rs) address byte old e =
     let both = or_parts (r.address == address) (list_any (λ x. x.address == address) rs) e in
     kept_or (p r) r (find p rs) address byte old both.0 (kept p rs address byte old both.1)
 
--- a byte that is stored there leaves the enable bits
+-- a byte stored there keeps the enable bits
 pub enables_stay : (enables address byte : ℕ) → enables < 2 ^ 25 → has_enables address ≡ false → enables ≡ written_enables enables address byte
 unfolding has_enables row_of written_enables
 enables_stay enables address byte small none =

@@ -25,7 +25,7 @@ same_memory memory false true is_open sp stores [] e = refl
 same_memory memory false false is_open sp stores [] e = refl
 same_memory memory one other is_open sp stores (p ∷ ps) e = cc
 
--- it doesn't matter whether pushes are guarded
+-- whether pushes are guarded does not matter
 same_after : (m : State) (one other : Bool) (e : Effect) → e.pushes ≡ [] → after m one e ≡ after m other e
 same_after m one other e none =
     ap (λ (memory : Memory). record (after m one e) { memory = memory })
@@ -35,7 +35,7 @@ first_of : (b t : Bool) (x y : Answer) → b ≡ true → (if b || t then x else
 first_of true t x y e = refl
 first_of false t x y e = cc
 
--- the step is flagged, or else done
+-- the step is flagged or done
 pub unpushed_answer : (words : Program) (entries : List Entry) (m : State) (instr : Instr) (e : Effect) (guarded : Bool) → length e.pushes ≡ 0
     → flagged_or (flag_by m.pc (live_write m.memory (e.stores ++ e.pushes)) (protected_write words entries m.pc instr e) (unlisted_transfer entries m.pc instr e)) (after m guarded e)
     ≡ answer_to words entries m instr e

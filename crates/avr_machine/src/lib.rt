@@ -1,4 +1,4 @@
-//! The machine as code: one step at a time, with the answer and the state that `avr_model` defines.
+//! The machine as code: one step at a time, with the answer and the state that `avr_model` defines. Tests: `machine_tables`.
 #![tactic(auto)]
 
 mod arithmetic;

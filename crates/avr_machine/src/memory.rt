@@ -1,4 +1,4 @@
-//! SRAM: its bytes, and which of them are live.
+//! SRAM: its bytes and live marks.
 
 ghost use Rattle.std.specs.Prelude.{◌≡◌, ◌↔◌, ◌<◌, ◌≤◌, ◌+◌, ◌-◌, false, true, length, take, replicate, IsTrue, if◌then◌else◌};
 ghost use Rattle.avr_model.specs.Devices.{size_of};
@@ -9,31 +9,31 @@ use avr_model::device::{self, BELOW, Device};
 use avr_model::effect::Write;
 use std::marker::Model;
 
-/// How many bytes the greatest SRAM has.
+/// The number of bytes of the greatest SRAM.
 pub const SIZE: usize = device::SIZE as usize;
 
-/// Whether a data address is one of a device's SRAM.
+/// Whether a data address is in the device's SRAM.
 pub fn is_sram(device: Device, address: u16) -> bool
     ensures { result ≡ is_sram device address }
 {
     BELOW < address && address <= device.ramend()
 }
 
-// No place is live any more.
+// Clears all live marks.
 fn clear_all(live: &mut [bool])
     ensures { live.new ≡ replicate (length live.old) false }
 {
     live.fill(false);
 }
 
-/// The bytes of SRAM, and which of them are live: pushed, guarded, and not popped yet. There is room for the bytes of the
-/// greatest SRAM, of which the first `size` are used.
+/// The bytes of SRAM with live marks: pushed, guarded, and not yet popped. There is room for the greatest SRAM; the first `size` bytes
+/// are used.
 #[derive(Drop)]
 pub struct Memory {
     size: usize,
     bytes: [u8; SIZE],
     live: [bool; SIZE],
-    // No place before this one is live, so that a step of the stack pointer clears a few places alone.
+    // No place below this one is live, so a move of the stack pointer clears few places.
     floor: usize,
 }
 
@@ -49,7 +49,7 @@ impl Model for Memory {
 }
 
 impl Memory {
-    /// The memory of a device with the first of these bytes, as many as it has, none of them live.
+    /// The memory of a device with the first of these bytes, none of them live.
     pub fn new(device: Device, bytes: &[u8; SIZE]) -> Memory
         ensures { result ≡ record { bytes = take (size_of device) bytes.now; live = replicate (size_of device) false } }
     {
@@ -61,7 +61,7 @@ impl Memory {
         }
     }
 
-    /// The same memory again.
+    /// A copy.
     pub fn copy(&self) -> Memory
         ensures { result ≡ self.now }
     {
@@ -73,7 +73,7 @@ impl Memory {
         }
     }
 
-    /// Whether another memory has the same bytes and live ones.
+    /// Whether another memory has the same bytes and live marks.
     #[tactic(auto, using(crate::proofs::Alike::memory_is))]
     pub fn is_same(&self, other: &Memory) -> bool
         ensures { IsTrue result ↔ (self.now ≡ other.now) }
@@ -92,7 +92,7 @@ impl Memory {
         self.bytes[(address - 1 - BELOW) as usize]
     }
 
-    /// Whether the byte at an address is live; none outside SRAM is.
+    /// Whether the byte at an address is live; false outside SRAM.
     #[tactic(auto, using(crate::proofs::Living::has_taken), unfolding(avr_model::specs::State::live_in))]
     #[inline(always)]
     pub fn is_live(&self, address: u16) -> bool
@@ -103,7 +103,7 @@ impl Memory {
             && self.live[usize::from(address - 1 - BELOW)]
     }
 
-    /// Writes a byte; outside SRAM nothing changes.
+    /// Writes a byte; no effect outside SRAM.
     #[tactic(auto, using(crate::proofs::Remembering::set_taken, crate::proofs::Remembering::set_missed), unfolding(avr_model::specs::State::set_at))]
     pub fn set_byte(&mut self, address: u16, byte: u8)
         ensures value { self.new ≡ record self.old { bytes = set_at self.old.bytes address byte } }
@@ -114,7 +114,7 @@ impl Memory {
         }
     }
 
-    // Makes a byte live; outside SRAM nothing changes.
+    // Makes a byte live; no effect outside SRAM.
     #[tactic(auto, using(crate::proofs::Living::clear_set, crate::proofs::Living::set_part, crate::proofs::Remembering::set_missed), unfolding(avr_model::specs::State::set_at))]
     fn set_live(&mut self, address: u16)
         ensures { self.new ≡ record self.old { live = set_at self.old.live address true } }
@@ -126,7 +126,7 @@ impl Memory {
         }
     }
 
-    /// Writes the bytes in order. Where they are guarded they become live.
+    /// Writes the bytes in order. If `guarded`, they become live.
     pub fn push(&mut self, writes: &[Write], guarded: bool)
         ensures value { self.new ≡ record { bytes = written self.old.bytes writes.now; live = if guarded then with_live self.old.live writes.now else self.old.live } }
         ensures size { length self.new.bytes ≡ length self.old.bytes }
@@ -139,7 +139,7 @@ impl Memory {
         }
     }
 
-    /// Addresses at most the stack pointer are live no more.
+    /// Addresses up to the stack pointer are no longer live.
     #[inline(always)]
     pub fn prune(&mut self, sp: u16)
         ensures { self.new ≡ record self.old { live = pruned sp self.old.live } }
@@ -151,7 +151,7 @@ impl Memory {
         }
     }
 
-    /// The address of the first write that goes onto a live byte.
+    /// The address of the first write onto a live byte.
     #[tactic(auto, unfolding(avr_model::specs::Step::live_write))]
     #[inline(always)]
     pub fn live_write(&self, writes: &[Write]) -> Option<u16>

@@ -1,4 +1,4 @@
-//! The rows that push or go to a computed word, and the entry of an interrupt.
+//! The rows that push or go to a computed word, and interrupt entry.
 
 ghost use Rattle.std.specs.Prelude.{◌≡◌, ◌<◌, ◌≤◌, ◌%◌, None, not};
 ghost use Rattle.avr_model.specs.Devices.{wrapped};
@@ -23,7 +23,7 @@ use avr_model::effect::{Write, Writes};
 use flash_image::Flash;
 use vector_table::Assumptions;
 
-// Whether all writes go to a device's SRAM.
+// Whether all writes go to the device's SRAM.
 #[inline(always)]
 fn all_inside(device: Device, writes: &[Write]) -> bool
     ensures { result ≡ all_inside device writes.now }
@@ -37,8 +37,8 @@ fn all_inside(device: Device, writes: &[Write]) -> bool
 }
 
 impl Processor {
-    // The answer to a push, after which the machine goes on at a word: overflow, but not at an unlisted indirect call; then
-    // the flags; then it is done. Where it is guarded its bytes become live.
+    // The answer to a push and transfer: overflow, unless it is an unlisted indirect call; then the flags; then done. If `guarded`, the
+    // pushed bytes become live.
     #[tactic(auto, unfolding(avr_model::specs::Step::memory_after))]
     #[inline(always)]
     fn push_step(
@@ -68,7 +68,7 @@ impl Processor {
         }
     }
 
-    /// `push`, which is guarded unless it makes room for a compiler's small frame.
+    /// `push`, guarded unless it makes a compiler's small frame.
     pub fn push(&mut self, flash: &Flash, r: u16) -> StepResult
         requires { r < 32 }
         ensures answer { result ≡ result_of (push_answer (not (is_scratch flash.now self.old.pc)) self.old None (set self.old.sp (register self.old r)) (minus16 self.old.sp 1) (further self.old 1)) }
@@ -84,7 +84,7 @@ impl Processor {
         self.push_step(guarded, None, pushes.as_slice(), sp, next)
     }
 
-    /// A call of a word: the word `back` at which the caller goes on is pushed.
+    /// A call of a word; pushes the return address `back`.
     pub fn call(
         &mut self,
         flash: &Flash,
@@ -101,7 +101,7 @@ impl Processor {
         self.push_step(!is_scratch, transfer, pushes.as_slice(), sp, target)
     }
 
-    /// The word in Z, modulo the words of the greatest flash, and the word that it is here where the site doesn't list it.
+    /// The word in Z, modulo the words of the greatest flash, and the word on this device if the site does not list it.
     pub fn computed(&self, assumptions: &Assumptions) -> (u16, Option<u16>)
         ensures target { result.0 ≡ pair self.now 30 % WORDS }
         ensures unlisted { result.1 ≡ unless_listed (jump_line assumptions.now self.now.pc) (wrapped self.now.device (pair self.now 30 % WORDS)) }
@@ -129,8 +129,7 @@ impl Processor {
         }
     }
 
-    /// Enters an interrupt that may be entered, unless the vector's word has a `never` line: the way back is pushed, and I is
-    /// cleared.
+    /// Enters an interrupt that may be entered, unless the vector's word has a `never` line: pushes the return address and clears I.
     pub fn take(&mut self, assumptions: &Assumptions, vector: u8, clears: bool) -> StepResult
         requires least { 2 ≤ vector }
         requires most { vector ≤ 26 }

@@ -22,7 +22,7 @@ use flash_image::Flash;
 use vector_table::Assumptions;
 
 impl Processor {
-    /// Stores a byte at a data address, and goes on at a word, unless it goes onto a live byte or a protected address is told.
+    /// Stores a byte at a data address and continues at a word, unless the step is flagged: the byte is live, or `protected` is given.
     #[tactic(auto, unfolding(avr_model::specs::Step::memory_after))]
     #[inline(always)]
     pub fn store_step(
@@ -49,7 +49,7 @@ impl Processor {
         }
     }
 
-    /// `st` through a pointer: the byte is read, then the pointer changes, then the byte is stored.
+    /// `st` through a pointer: reads the byte, moves the pointer, then stores the byte.
     #[tactic(auto, unfolding(avr_model::specs::Step::memory_after))]
     pub fn store_through(
         &mut self,
@@ -78,7 +78,7 @@ impl Processor {
         }
     }
 
-    /// `out`: one more instruction executes before any interrupt where it turns I on (own for `out`).
+    /// `out`. If it sets I, one more instruction executes before any interrupt (own for `out`).
     pub fn output(&mut self, address: u16, r: u16) -> StepResult
         requires address { address < 64 }
         requires r { r < 32 }
@@ -92,7 +92,7 @@ impl Processor {
         self.store_step(None, Write { address, byte }, next, delay)
     }
 
-    /// `sbi` where `on` holds, and else `cbi`: that bit alone changes, where it is held.
+    /// `sbi` if `on`, else `cbi`: changes this bit alone, if it is held.
     pub fn change_bit(&mut self, address: u16, index: u16, on: bool) -> StepResult
         requires address { address < 64 }
         requires index { index < 8 }

@@ -1,4 +1,4 @@
--- There is one answer.
+-- The answer is unique.
 use Rattle.std.proofs.Common.{◌≡◌, refl, ap, subst, ℕ, List, arith}
 use Rattle.std.specs.Prelude.{◌↔◌}
 use Rattle.basics.specs.Lists.{get_inside}

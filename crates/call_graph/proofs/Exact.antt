@@ -109,7 +109,7 @@ vectors_in words A k (suc n) v clears low high on c =
     (eqb_tells v (n + 2))
 
 module _ (words : Program) (A : List Entry) (n : Node) (clean : IsFaultless words A n) where
-  -- the way is one that the node has
+  -- the entry is one of the node's
   abbrev IsWay : Way → Type 0
   IsWay w = Enters words A n w.kind w.inst w.back
 

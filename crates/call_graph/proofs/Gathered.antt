@@ -1,4 +1,4 @@
--- What each of a list gives.
+-- The results of a list's items.
 use Rattle.std.proofs.Common.{◌≡◌, refl, sym, ◌∙◌, ap, ℕ, zero, suc, ◌<◌, ◌≤◌, List, [], ◌∷◌, ◌++◌, take, Some, slice_get, append_assoc, arith}
 use Rattle.std.proofs.lemmas.List.{append-nil}
 use Rattle.std.proofs.lemmas.Option.{same_Some, none-some}
@@ -9,7 +9,7 @@ one_more f [] at x e = absurd (none-some x e)
 one_more f (y ∷ ys) zero x e = rw (same_Some y x e) (append-nil (f x))
 one_more f (y ∷ ys) (suc at) x e = ap (λ l. f y ++ l) (one_more f ys at x e) ∙ sym (append_assoc (f y) (gathered f (take at ys)) (f x))
 
--- those that give nothing may be left out
+-- items without results may be left out
 pub none_before : {X Y : Type 0} (f : X → List Y) (xs : List X) (low : ℕ) → ((at : ℕ) (x : X) → slice_get xs at ≡ Some x → at < low → f x ≡ []) → gathered f (take low xs) ≡ []
 none_before f [] zero h = refl
 none_before f [] (suc low) h = refl

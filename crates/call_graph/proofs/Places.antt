@@ -1,4 +1,4 @@
--- Where a key and an instance's nodes are in a list that ascends.
+-- The place of a key, and of an instance's nodes, in an ascending list.
 use Rattle.std.proofs.Common.{◌≡◌, refl, sym, ap, ◌∙◌, subst, ℕ, zero, suc, ◌+◌, ◌<◌, ◌≤◌, ◌⊎◌, inl, inr, ⊎_elim, Bool, true, false, List, [], ◌∷◌, length, Some, None, slice_get, get_or, arith}
 use Rattle.std.specs.List.{position_from}
 use Rattle.std.specs.List.Sorted.{IsPartitionedBy, IsPartitionPoint}
@@ -48,7 +48,7 @@ none_at : (t : Node → Bool) (xs : List Node) (s : ℕ) → ((j : ℕ) (y : Nod
 none_at t [] s h = refl
 none_at t (y ∷ ys) s h = rw (h 0 y refl) (none_at t ys (s + 1) (λ j z g. h (suc j) z g))
 
--- a test that holds of what comes before where it holds of what comes after parts the list
+-- a test that holds up to some place and not after it splits the list
 parted_by : (p : Node → Bool) (nodes : List Node) → AreShown nodes → ((a b : Node) → node_cmp a.key b.key ≡ Less → p b ≡ true → p a ≡ true)
     → IsPartitionedBy p nodes
 parted_by p nodes shown falls = λ i j d le lt up.
@@ -58,7 +58,7 @@ parted_by p nodes shown falls = λ i j d le lt up.
     (let d = ne.1 in omega (arith, le, d))) up)
     (eqb_tells i j)
 
--- the test at a number, before and from the point on
+-- the test at a number, before the point and from it on
 module _ (p : Node → Bool) (nodes : List Node) (point : ℕ) (h : IsPartitionPoint (λ n. p n ≡ true) (λ n. p n ≡ false) nodes point) where
   pub before : (at : ℕ) (n : Node) → slice_get nodes at ≡ Some n → at < point → p n ≡ true
   before at n e lt = subst (λ m. p m ≡ true) (get_or_from_slice_get nodes at n n e) (h.0 at n (omega arith) lt)
@@ -101,7 +101,7 @@ module _ (nodes : List Node) (k : NodeKey) (at : ℕ) (shown : AreShown nodes)
   pub place_past : length nodes ≤ at → None ≡ place_of k nodes
   place_past le = sym (none_at (λ m. same_node k m.key) nodes 0 (λ j y e. lower j y (let i = slice_get_within nodes j y e in omega (arith, i, le)) e))
 
-  -- those behind are above the one at the point, which isn't below the key
+  -- later nodes are above the one at the point, which isn't below the key
   later : (n : Node) → slice_get nodes at ≡ Some n → (n.key ≡ k → ⊥) → (j : ℕ) (y : Node) → at ≤ j → slice_get nodes j ≡ Some y → same_node k y.key ≡ false
   later n e other j y le g =
       not_same k y
@@ -167,7 +167,7 @@ module _ (nodes : List Node) (inst : InstKey) (low high : ℕ) (low_bound : low 
     );
   }
 
--- a key that a node has is found there
+-- a node's key is found at its number
 pub place_is : (nodes : List Node) (k : NodeKey) (at : ℕ) (n : Node) → AreShown nodes → slice_get nodes at ≡ Some n → n.key ≡ k → Some at ≡ place_of k nodes
 place_is nodes k at n shown e same =
     let zero_more : at ≡ 0 + at = omega arith in

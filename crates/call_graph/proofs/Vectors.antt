@@ -1,4 +1,4 @@
--- The ways of one vector more.
+-- The entries by one more vector.
 use Rattle.std.proofs.Common.{◌≡◌, sym, ap, ◌∙◌, ℕ, ◌+◌, List, ◌++◌, append_assoc, add-one}
 use Rattle.std.proofs.lemmas.List.{append-nil}
 use Rattle.avr_model.specs.declared.assumption.Entry.{Entry}

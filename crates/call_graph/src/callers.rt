@@ -1,4 +1,4 @@
-//! Back from an instance to a node that entered it.
+//! Returns from an instance to a node that entered it.
 
 ghost use Rattle.std.specs.Prelude.{ℕ, ◌≡◌, ◌<◌, IfOk};
 ghost use Rattle.abs_state.specs.Values.{value_at};
@@ -14,16 +14,16 @@ use std::alloc::{AllocError, Global};
 /// A node that entered an instance.
 #[derive(Clone, Copy)]
 pub struct Caller<'a> {
-    /// Where it is.
+    /// Its key.
     pub key: &'a NodeKey,
-    /// What is known there.
+    /// Its state.
     pub state: &'a AbsState,
-    /// The way by which it entered.
+    /// How it entered the instance.
     pub way: Way,
 }
 
-/// Where an exit of the instance leads its caller, in the caller's own frame: to the word behind the call or the interrupted word, with
-/// what the exit leaves. None where what is known at the exit and at the caller can't both be.
+/// The target of the instance's exit in the caller's own frame: the word after the call, or the interrupted word, with the exit's enable
+/// bits and I. None if the states at the exit and at the caller conflict.
 pub fn returned(
     alloc: Global,
     caller: &Caller<'_>,

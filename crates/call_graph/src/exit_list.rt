@@ -1,13 +1,13 @@
-//! How nodes return.
+//! Exits of nodes.
 
 use avr_model::listed::Listed;
 use local_rules::{Exit, NodeFault};
 
-/// How the nodes of a family return, or why one of them leads nowhere.
+/// The exits of a family's nodes, or the first fault.
 #[derive(Drop)]
 pub enum Leaving {
-    /// No node has a fault, and these are their exits by their numbers: none where a node does not return.
+    /// No node has a fault; the exits by number, none for a node that does not return.
     All(Listed<Option<Exit>>),
-    /// The least number of a node with a fault, counted from 0, and that fault.
+    /// The number of the first node with a fault, counted from 0, and the fault.
     Fault(usize, NodeFault),
 }

@@ -1,4 +1,4 @@
-//! The state of each node, worked out once, in the order of the nodes.
+//! Expansion: the state of each node, computed once, in order.
 
 ghost use Rattle.std.specs.Prelude.{◌≡◌, length, Some, IfOk};
 ghost use Rattle.avr_model.specs.Assumptions.{has_pairs};
@@ -30,7 +30,7 @@ fn state_in(nodes: Vec<Node>, key: &NodeKey) -> Option<AbsState>
     None
 }
 
-// The state of a node of this key that comes from another.
+// The state of a node of this key that comes from this one.
 fn carry(task: &Task<'_>, from: &Node, key: &NodeKey) -> Result<Option<AbsState>, AllocError>
     requires { IsNodeIn (has_pairs task.now.assumptions.now) from.now.key from.now.state }
     ensures { IfOk result (λ found. found ≡ carried task.now.flash.now task.now.assumptions.now key.now (Some from.now)) }
@@ -48,7 +48,7 @@ fn carry(task: &Task<'_>, from: &Node, key: &NodeKey) -> Result<Option<AbsState>
     }
 }
 
-// The state of one node, where those before it are done.
+// The state of one node, after those before it.
 fn work(
     task: &Task<'_>,
     done: &[Node],
@@ -65,7 +65,8 @@ fn work(
     }
 }
 
-/// The expansion of each node, or the least node that has none. The local part of a node is worked out once for each that comes from it.
+/// The expansion of each node, or the first node that has none. The local part of a node is computed once for each node that comes from
+/// it.
 pub fn expand<S: Seeded>(task: &Task<'_>, nodes: &S) -> Result<Expanded, AllocError>
     requires seeds { AreSeeds (has_pairs task.now.assumptions.now) (S.nodes nodes.now) }
     requires ascending { AreSeedsAscending (S.nodes nodes.now) }

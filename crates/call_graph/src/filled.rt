@@ -1,4 +1,4 @@
-//! Nodes with their states, in the order of their keys, by their numbers from 0 on.
+//! Nodes with their states, in the order of keys, numbered from 0.
 
 ghost use Rattle.std.specs.Prelude.{◌≡◌, ◌<◌, length, Some, slice_get};
 ghost use Rattle.std.specs.Option.{option_map};
@@ -28,7 +28,7 @@ impl Model for Filled {
 }
 
 impl Filled {
-    /// These nodes, which ascend strictly by key.
+    /// These nodes; they must ascend strictly by key.
     pub fn new(items: Vec<Node>) -> Filled
         requires { AreShown items.items }
         ensures { result ≡ items.items }
@@ -36,7 +36,7 @@ impl Filled {
         Filled { items }
     }
 
-    /// How many nodes there are.
+    /// The number of nodes.
     pub fn count(&self) -> usize
         ensures count { result ≡ length self.now }
         ensures shown { AreShown self.now }
@@ -52,7 +52,7 @@ impl Filled {
         &self.items[at].key
     }
 
-    /// What is known at the node of this number.
+    /// The state of the node of this number.
     pub fn state(&self, at: usize) -> &AbsState
         requires { at < length self.now }
         ensures { option_map state_of (slice_get self.now at) ≡ Some result.now }
@@ -72,7 +72,7 @@ impl Filled {
         None
     }
 
-    /// The first number of the instance's nodes and the one behind their last, or two equal ones.
+    /// The number of the instance's first node and the one after its last; equal if it has none.
     pub fn span(&self, inst: &InstKey) -> (usize, usize)
         ensures { IsSpan self.now inst.now result.0 result.1 }
     {
@@ -82,21 +82,21 @@ impl Filled {
         (low, high)
     }
 
-    /// The nodes in their order.
+    /// The nodes in order.
     pub fn as_slice(&self) -> &[Node]
         ensures { result.now ≡ self.now }
     {
         &self.items
     }
 
-    /// The vector that the list was made from.
+    /// Returns the vector of the nodes.
     pub fn into_vec(self) -> Vec<Node>
         ensures { result.items ≡ self }
     {
         self.items
     }
 
-    /// The number of the node of this key. Four nodes from the number `first` on are looked at before all others.
+    /// The number of the node of this key. Four nodes from the number `first` on are searched first.
     pub fn find_from(&self, first: usize, key: &NodeKey) -> Option<usize>
         ensures { result ≡ place_of key.now self.now }
     {
@@ -110,11 +110,11 @@ impl Filled {
     }
 }
 
-/// What an expansion answers.
+/// The answer of an expansion.
 #[derive(Drop)]
 pub enum Expanded {
-    /// All nodes with their states.
+    /// All nodes with their expansions.
     Whole(Filled),
-    /// The least number of a node that has no expansion, counted from 0.
+    /// The number of the first node without an expansion, counted from 0.
     Missing(u32),
 }

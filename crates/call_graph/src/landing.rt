@@ -1,4 +1,4 @@
-//! Where edges land, by the numbers of nodes.
+//! Landings of edges, by the numbers of nodes.
 
 ghost use Rattle.std.specs.Prelude.{◌≡◌, ◌≤◌, length, IfOk};
 ghost use Rattle.call_graph.specs.Landings.{landings_by};
@@ -9,16 +9,16 @@ use edge_rules::Edge;
 use mask_states::EdgeKind;
 use std::alloc::{AllocError, Global};
 
-/// Where an edge lands.
+/// The landing of an edge.
 #[derive(Clone, Copy)]
 pub struct Landing {
-    /// How the edge leads there.
+    /// The kind of the edge.
     pub kind: EdgeKind,
-    /// The number of the node, from 0 on.
+    /// The number of the target, from 0.
     pub at: u32,
 }
 
-/// Where these edges land. Nodes are sought from the number `first` on.
+/// The landings of these edges. Targets are looked up from the number `first` on.
 pub fn landings_of(
     alloc: Global,
     nodes: &Filled,

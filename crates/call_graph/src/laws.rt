@@ -1,11 +1,10 @@
-//! Laws of answers, as the contract of a function that does nothing.
+//! Laws of answers, as the contract of a function with an empty body.
 
 ghost use Rattle.call_graph.specs.Laws.{AnswersAreExact, ExitsAreExact, LocalPartsAreEdges};
 
-/// All states are given exactly where each node has one, the least node without one exactly where there is one, and there is one answer.
-/// Exits are given exactly where no node has a fault, the first fault exactly where there is one, and there is one answer. The local part of
-/// a node has what its edges have: it has one exactly without a fault, with its successors, its exit, and calls of which the ways into other
-/// instances are made.
+/// An expansion answers with all states exactly if each node has one, else with the first node without one; the answer is unique. Exits
+/// are given exactly if no node has a fault, else the first fault; the answer is unique. The local part of a node agrees with its edges:
+/// it exists exactly if the node has no fault, and has the same successors, exit, and calls.
 pub fn answers_are_exact()
     ensures states { AnswersAreExact }
     ensures exits { ExitsAreExact }

@@ -1,4 +1,4 @@
-//! How the nodes of a family return, each worked out once.
+//! The exits of a family's nodes, each computed once.
 
 ghost use Rattle.std.specs.Prelude.{◌≡◌, ◌<◌, length, slice_get, Some, IfOk};
 ghost use Rattle.sb_base.specs.Answers.{Answers};
@@ -18,7 +18,7 @@ use avr_model::listed::Listed;
 use local_rules::{Exit, NodeFault};
 use std::alloc::AllocError;
 
-// How the node of this number returns, or its fault.
+// The exit of the node of this number, or its fault.
 fn exit_at(task: &Task<'_>, nodes: &Filled, at: usize) -> Result<Option<Exit>, NodeFault>
     requires place { at < length nodes.now }
     requires shown { AreShown nodes.now }
@@ -30,7 +30,7 @@ fn exit_at(task: &Task<'_>, nodes: &Filled, at: usize) -> Result<Option<Exit>, N
     Ok(found.exit)
 }
 
-// How the node of this number returns, if it has no fault. The exits of the first nodes may be known.
+// The exit of the node of this number, if it has no fault. The exits of the first nodes may be given.
 pub(crate) fn exit_of(
     task: &Task<'_>,
     nodes: &Filled,
@@ -52,7 +52,7 @@ pub(crate) fn exit_of(
     }
 }
 
-/// How all nodes return, where none of them has a fault; else the first fault. The local part of each node is worked out once.
+/// The exits of all nodes if none has a fault, else the first fault. The local part of each node is computed once.
 pub fn exits(task: &Task<'_>, nodes: &Filled) -> Result<Leaving, AllocError>
     ensures { IfOk result (λ answer. GivesExits task.now.flash.now task.now.assumptions.now nodes.now answer) }
 {
@@ -67,7 +67,7 @@ pub fn exits(task: &Task<'_>, nodes: &Filled) -> Result<Leaving, AllocError>
     Ok(Leaving::All(Listed::new(items)))
 }
 
-/// How all nodes return, none of which has a fault. The local part of each node is worked out once.
+/// The exits of all nodes, none of which may have a fault. The local part of each node is computed once.
 pub fn all_exits(task: &Task<'_>, nodes: &Filled) -> Result<Listed<Option<Exit>>, AllocError>
     requires faultless { AreFaultless task.now.flash.now task.now.assumptions.now nodes.now }
     ensures { IfOk result (λ exits. AreExits task.now.flash.now task.now.assumptions.now nodes.now exits) }

@@ -1,4 +1,4 @@
-//! The edges of a family of nodes, and the states of nodes that are given by earlier ones. Source: own.
+//! The edges of a family of nodes, and the expansion of nodes that are given by earlier ones. Source: own. Tests: `family_tables`.
 #![tactic(auto)]
 
 pub mod callers;

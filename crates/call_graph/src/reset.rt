@@ -1,4 +1,4 @@
-//! What is known at reset.
+//! The state at reset.
 
 ghost use Rattle.std.specs.Prelude.{◌≡◌, IfOk};
 ghost use Rattle.edge_rules.specs.Roots.{root_of};
@@ -7,7 +7,7 @@ use abs_state::AbsState;
 use std::alloc::{AllocError, Global};
 use vector_table::Assumptions;
 
-/// What is known in the root's frame at reset. Pairs of registers are followed exactly where the assumptions have the line `pairs`.
+/// The state of the root's frame at reset. Pairs are followed exactly if the assumptions have the line `pairs`.
 pub fn root_of(alloc: Global, assumptions: &Assumptions) -> Result<AbsState, AllocError>
     ensures { IfOk result (λ s. s ≡ root_of assumptions.now) }
 {

@@ -27,7 +27,7 @@ use local_rules::{Exit, Local, Node, NodeFault};
 use mask_states::{EdgeKind, NodeKey};
 use std::alloc::{AllocError, Global};
 
-// The nodes of a family, and the exits of the first of them, as far as they are known.
+// The nodes of a family, and the exits of the first of them, if they are given.
 #[derive(Clone, Copy)]
 struct Known<'a> {
     nodes: &'a Filled,
@@ -75,8 +75,8 @@ fn add_entries(
     Ok(())
 }
 
-// The edge back from a node of the entered instance that returns so, if its state fits. It is a function of its own, so that room for
-// the edge is cleared only where a node returns.
+// The edge back from a node of the entered instance with this exit, if the states fit. It is a function of its own, so that memory for
+// the edge is cleared only if a node returns.
 fn add_return(
     alloc: Global,
     edges: &mut Listed<Edge>,
@@ -138,7 +138,7 @@ fn add_returns(
     Ok(())
 }
 
-// The edges back from all instances that are entered.
+// The edges back from all entered instances.
 fn add_all_returns(
     task: &Task<'_>,
     edges: &mut Listed<Edge>,
@@ -180,7 +180,7 @@ fn edges_of(
     Ok(edges)
 }
 
-// The edges in the order in which they are found. The exits of the first nodes may be known.
+// The edges in order of discovery. The exits of the first nodes may be given.
 fn listed(
     task: &Task<'_>,
     nodes: &Filled,
@@ -207,8 +207,8 @@ fn listed(
     }
 }
 
-/// The edges from the node of this number, in no order that is promised, or the fault of the node that counts. `Memory` is no fault
-/// of the node. The local part of each node that may return to it is worked out anew.
+/// The edges from the node of this number, in no particular order, or the node's fault that counts. `Memory` is no fault of the node. The
+/// local part of each node that may return to it is computed again.
 pub fn next(task: &Task<'_>, nodes: &Filled, at: usize) -> Result<Listed<Edge>, NodeFault>
     requires { at < length nodes.now }
     ensures edges { (n : Node) → slice_get nodes.now at ≡ Some n → IfOk result (λ edges. AreEdges task.now.flash.now task.now.assumptions.now nodes.now n edges) }
@@ -218,8 +218,8 @@ pub fn next(task: &Task<'_>, nodes: &Filled, at: usize) -> Result<Listed<Edge>, 
     listed(task, nodes, at, &[])
 }
 
-/// The edges from the node of this number, in no order that is promised, where no node has a fault and these are their exits. The
-/// local part of this node alone is worked out.
+/// The edges from the node of this number, in no particular order. No node may have a fault, and `exits` are those of the nodes. Only the
+/// local part of this node is computed.
 pub fn next_with(
     task: &Task<'_>,
     nodes: &Filled,

@@ -1,16 +1,16 @@
-//! What is worked on.
+//! The input of an analysis.
 
 use flash_image::Flash;
 use std::alloc::Global;
 use vector_table::Assumptions;
 
-/// A firmware and what is assumed of it, with where memory is taken from.
+/// A firmware, its assumptions, and the allocator.
 #[derive(Clone, Copy)]
 pub struct Task<'a> {
-    /// Where memory is taken from.
+    /// The allocator.
     pub alloc: Global,
     /// The words of flash.
     pub flash: &'a Flash,
-    /// What is assumed.
+    /// The assumptions.
     pub assumptions: &'a Assumptions,
 }

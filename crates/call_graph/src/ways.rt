@@ -1,4 +1,4 @@
-//! The ways out of a node's frame into other instances.
+//! Entries of other instances from a node.
 
 ghost use Rattle.std.specs.Prelude.{◌≡◌, ◌≤◌, ◌++◌, map, true, IfOk, OnOk};
 ghost use Rattle.call_graph.specs.Ways.{call_way, vector_way, at_vector, vectors_below, ways_of};
@@ -8,18 +8,18 @@ use local_rules::CallSite;
 use mask_states::{EdgeKind, InstKey, Kind, NodeKey, SpForm};
 use std::alloc::AllocError;
 
-/// A way into an instance: how, into which, and the word at which the entering node goes on afterwards. Source: own.
+/// An entry of an instance: its kind, the instance, and the return address. Source: own.
 #[derive(Clone, Copy)]
 pub struct Way {
-    /// By a call or an interrupt.
+    /// A call or an interrupt.
     pub kind: EdgeKind,
     /// The entered instance.
     pub inst: InstKey,
-    /// The word behind the call, or the interrupted one.
+    /// The word after the call, or the interrupted one.
     pub back: u16,
 }
 
-// The way of a call.
+// The entry by a call.
 fn call_way(key: &NodeKey, site: CallSite) -> Way
     ensures { result ≡ call_way key.now site }
 {
@@ -35,7 +35,7 @@ fn call_way(key: &NodeKey, site: CallSite) -> Way
     }
 }
 
-// The way of an interrupt.
+// The entry by an interrupt.
 fn vector_way(task: &Task<'_>, key: &NodeKey, v: u8, clears: bool) -> Way
     requires low { 2 ≤ v }
     requires high { v ≤ 26 }
@@ -58,7 +58,7 @@ fn vector_way(task: &Task<'_>, key: &NodeKey, v: u8, clears: bool) -> Way
     }
 }
 
-// The ways of calls.
+// The entries by calls.
 fn add_calls(ways: &mut Vec<Way>, key: &NodeKey, calls: &[CallSite]) -> Result<(), AllocError>
     ensures { OnOk result (ways.new.items ≡ ways.old.items ++ map (call_way key.now) calls.now) }
 {
@@ -68,7 +68,7 @@ fn add_calls(ways: &mut Vec<Way>, key: &NodeKey, calls: &[CallSite]) -> Result<(
     Ok(())
 }
 
-// The ways of a vector's interrupt, if it is enabled and its word has no `never` line.
+// The entries by a vector's interrupt, if it is enabled and its word has no `never` line.
 fn add_vector(ways: &mut Vec<Way>, task: &Task<'_>, key: &NodeKey, v: u8) -> Result<(), AllocError>
     requires low { 2 ≤ v }
     requires high { v ≤ 26 }
@@ -83,7 +83,7 @@ fn add_vector(ways: &mut Vec<Way>, task: &Task<'_>, key: &NodeKey, v: u8) -> Res
     Ok(())
 }
 
-// The ways of all interrupts.
+// The entries by all interrupts.
 fn add_vectors(ways: &mut Vec<Way>, task: &Task<'_>, key: &NodeKey) -> Result<(), AllocError>
     ensures { OnOk result (ways.new.items ≡ ways.old.items ++ vectors_below task.now.flash.now task.now.assumptions.now key.now 25) }
 {
@@ -93,7 +93,7 @@ fn add_vectors(ways: &mut Vec<Way>, task: &Task<'_>, key: &NodeKey) -> Result<()
     Ok(())
 }
 
-/// The ways of a node with these calls into other instances on the device: its calls, then the interrupts that may come, by vector.
+/// The entries of other instances from a node with these calls, on the device: its calls, then interrupts by vector.
 pub fn ways(task: &Task<'_>, key: &NodeKey, calls: &[CallSite]) -> Result<Vec<Way>, AllocError>
     ensures { IfOk result (λ all. all.items ≡ ways_of task.now.flash.now task.now.assumptions.now key.now calls.now) }
 {

@@ -1,4 +1,4 @@
-//! Families that are worked out.
+//! Families with their landings.
 
 ghost use Rattle.std.specs.Prelude.{◌≡◌, ◌≤◌, length, IfOk};
 ghost use Rattle.edge_rules.specs.Families.{AreFaultless};
@@ -14,16 +14,16 @@ use avr_model::listed::Listed;
 use local_rules::Exit;
 use std::alloc::AllocError;
 
-/// A family of nodes, none of which has a fault, with where the edges of each land, worked out once.
+/// A family of nodes, none of which has a fault, with the landings of their edges, computed once.
 #[derive(Drop)]
 pub struct Worked {
     /// The nodes with their states.
     pub nodes: Filled,
-    /// Where the edges of each node land, by its number.
+    /// The landings of each node's edges, by number.
     pub landings: Listed<Listed<Landing>>,
 }
 
-// Where edges land, where these are the exits of the nodes.
+// The landings of edges, with these exits of the nodes.
 fn landings_with(
     task: &Task<'_>,
     nodes: &Filled,
@@ -42,7 +42,7 @@ fn landings_with(
     Ok(all)
 }
 
-// The same, where none has a fault.
+// The landings of edges, if no node has a fault.
 fn all_landings(task: &Task<'_>, nodes: &Filled) -> Result<Listed<Listed<Landing>>, AllocError>
     requires few { length nodes.now ≤ 65536 }
     requires faultless { AreFaultless task.now.flash.now task.now.assumptions.now nodes.now }
@@ -53,7 +53,7 @@ fn all_landings(task: &Task<'_>, nodes: &Filled) -> Result<Listed<Listed<Landing
 }
 
 impl Worked {
-    /// The family of these nodes, at most 65,536, none of which has a fault. The local part of each is worked out twice.
+    /// The family of these nodes, at most 65,536, none of which may have a fault. The local part of each is computed twice.
     pub fn of(task: &Task<'_>, nodes: Filled) -> Result<Worked, AllocError>
         requires few { length nodes ≤ 65536 }
         requires faultless { AreFaultless task.now.flash.now task.now.assumptions.now nodes }

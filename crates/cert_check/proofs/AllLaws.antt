@@ -1,2 +1,2 @@
--- The laws, each under the name of the public function that carries it. Crates above cite them from here.
+-- The laws, each under the name of its public function. Crates above cite them from here.
 pub use Rattle.cert_check.proofs.One.{verdicts_are_one, sound_certificates_bound_every_run}

@@ -1,4 +1,4 @@
--- Demands that aren't met, and what they say of ranks and needs.
+-- Demands that aren't met, and the ranks and needs that they concern.
 use Rattle.std.proofs.Common.{◌≡◌, refl, sym, ap, ◌∙◌, subst, ℕ, ◌+◌, ◌<◌, ◌≤◌, ◌==◌, ◌&&◌, ◌||◌, nat_lt, nat_le, ◌⊎◌, inl, inr, ⊎_elim, Bool, true, false, cond, List, [], ◌∷◌, ◌++◌, length, take, get_or, Some, None, slice_get, Contains, arith}
 use Rattle.std.proofs.lemmas.Bool.{cases_lt}
 use Rattle.std.proofs.lemmas.Bool.Decides.{nat_tests}
@@ -144,7 +144,7 @@ pub most_more : (ds : List Demand) (at : ℕ) (d : Demand) (j old : ℕ) → at 
 most_more ds at d j old lt h =
     subst (λ l. IsMost l j (more_asked old j (get_or ds at d))) (sym (take_more ds at d lt)) (most_after (take at ds) (get_or ds at d) j old h)
 
--- what is read past the end
+-- an item read past the end
 abbrev pub no_demand : Demand
 no_demand = record { inst = 0; into = None; bytes = 0 }
 
@@ -204,7 +204,7 @@ module _ (words : Program) (A : List Entry) (c : Claim) (nodes : List Node) (are
   need_is : (j : ℕ) (x : Inst) → slice_get c.instances j ≡ Some x → need_at c.instances j ≡ x.need
   need_is j x is = ap need_of is
 
-  -- a demand with an entered instance is a way into it
+  -- a demand with an entered instance is an entry of it
   record IsWay (j l : ℕ) : Type 0 where
     node : Node
     present : Contains nodes node
@@ -269,13 +269,13 @@ module _ (words : Program) (A : List Entry) (c : Claim) (nodes : List Node) (are
   own_number n _ (offset o e) = refl
   own_number n _ (entry way inst back e) = refl
 
-  -- what suffices is at least what is asked
+  -- a number that suffices is at least each demand
   suffices_for : (n : Node) (k : InstKey) (d : Demand) (m : ℕ) → Contains nodes n → Asks words A c.instances n d → n.key.inst ≡ k → Suffices words A c nodes k m → d.bytes ≤ m
   suffices_for n k _ m h (offset o e) is s = s.offsets n o h is e
   suffices_for n k _ m h (entry way inst back e) is s =
       subst (λ r. offset_of n.key.sp + 2 + r ≤ m) (sym (need_there c.instances inst)) (s.entered n way inst back h is e)
 
-  -- and what is at least all that is asked suffices
+  -- a number that is at least all demands suffices
   suffices_by : (x : Inst) (j m : ℕ) → slice_get c.instances j ≡ Some x → ((d : Demand) → Contains demands d → d.inst ≡ j → d.bytes ≤ m)
       → Suffices words A c nodes x.key m
   suffices_by x j m is above = record {
@@ -285,7 +285,7 @@ module _ (words : Program) (A : List Entry) (c : Claim) (nodes : List Node) (are
         (above _ (entry_listed n way into back h e) (number_is n.key.inst j x is same));
   }
 
-  -- what suffices for an instance is at least each demand of it
+  -- a number that suffices for an instance is at least each demand on it
   above_asked : (x : Inst) (j m : ℕ) → slice_get c.instances j ≡ Some x → Suffices words A c nodes x.key m → (d : Demand) → Contains demands d → d.inst ≡ j
       → d.bytes ≤ m
   above_asked x j m is s d h e = by ((asked d).0 h)
@@ -302,7 +302,7 @@ module _ (words : Program) (A : List Entry) (c : Claim) (nodes : List Node) (are
   above_most x j need m is most s =
       ⊎_elim (λ z. omega (arith, z)) (λ w. let le = above_asked x j m is s w.0 w.1.0 w.1.1 in omega (arith, le, w.1.2)) most.attained
 
-  -- an instance of which a demand isn't met, and none before it has one
+  -- the first instance with an unmet demand
   need_at_place : (j need : ℕ) (d : Demand) (k : InstKey) → Contains demands d → d.inst ≡ j → need_at c.instances j < d.bytes → IsMost demands j need
       → ((e : Demand) (m : ℕ) → Contains demands e → LowNeed c.instances e m → j ≤ m) → HasInstPlace c.instances k j → IsFirstNeed words A c nodes j need
   need_at_place j need d k h is low most before p = record {

@@ -1,4 +1,4 @@
--- What is found by its key, and the least key of an edge that doesn't land.
+-- Look-ups by key, and the least key of an edge that does not land.
 use Rattle.std.proofs.Common.{◌≡◌, refl, sym, ap, ◌∙◌, subst, ℕ, ◌⊎◌, inl, inr, Bool, true, false, cond, List, length, Some, None, slice_get, Contains}
 use Rattle.std.specs.Prelude.{◌↔◌}
 use Rattle.std.specs.Option.{option_map}

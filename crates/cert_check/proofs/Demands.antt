@@ -1,4 +1,4 @@
--- What is listed of a node's edges is what the node asks.
+-- The listed demands of a node's edges are exactly the node's.
 use Rattle.std.proofs.Common.{◌≡◌, refl, sym, subst, ℕ, ◌+◌, ◌<◌, ⊎_elim, Bool, true, false, cond, List, [], ◌∷◌, length, Some, None, Contains}
 use Rattle.std.specs.List.{flat_map}
 use Rattle.std.proofs.lemmas.List.Elements.{Contains-append_left, Contains-append_right, Contains-append_cases}
@@ -27,7 +27,7 @@ module _ (words : Program) (A : List Entry) (insts : List Inst) (n : Node) where
   from_offset (Closed o) e d h = subst (Asks words A insts n) (sym (only_one_in (record { inst = place_in insts n.key.inst; into = None; bytes = o }) d h)) (offset o e)
   from_offset (Open o high) e d h = absurd (none_in d h)
 
-  -- an edge into another instance is a way into it
+  -- an edge into another instance is an entry of it
   pub record WayIn (e : Edge) : Type 0 where
     pub way : EdgeKind
     pub inst : InstKey
@@ -75,7 +75,7 @@ module _ (words : Program) (A : List Entry) (insts : List Inst) (n : Node) where
         Contains-append_right (offset_demand (place_in insts n.key.inst) n.key.sp) (flat_map f edges) d
         (contained_in_join f edges _ d ((are _).1 (entering way inst back enters)) (rw (is_way way inst back enters) (first_in d [])))
 
--- where an edge lands, its node's instance is there
+-- the instance of an edge's landing is in the list
 pub landed_belongs : (insts : List Inst) (nodes : List Node) (n : Node) → AllBelong insts nodes → IsCovered nodes n → Contains (inst_keys insts) n.key.inst
 landed_belongs insts nodes n belong h = belong (record { key = n.key; state = h.state }) h.present
 

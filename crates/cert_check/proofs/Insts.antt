@@ -67,7 +67,7 @@ place_at (y ∷ ys) (suc j) x s e =
 pub place_is : (xs : List Inst) (key : InstKey) (j : ℕ) → AreInstances xs → HasInstPlace xs key j → place_in xs key ≡ j
 place_is xs key j are h = subst (λ k. place_in xs k ≡ j) h.same (place_at xs j h.inst are.ascend h.is)
 
--- the number that is worked out is its number
+-- the computed number is its number
 pub placed : (xs : List Inst) (key : InstKey) → AreInstances xs → Contains (inst_keys xs) key → HasInstPlace xs key (place_in xs key)
 placed xs key are h =
     let w = place_there xs key h in

@@ -1,4 +1,4 @@
--- Items of lists, and the least of what they offer.
+-- Items of lists, and the least of their keys.
 use Rattle.std.proofs.Common.{◌≡◌, sym, ap, ◌∙◌, subst, ℕ, ◌+◌, ◌<◌, ◌≤◌, ◌⊎◌, inl, inr, ⊎_elim, List, [], ◌∷◌, ◌++◌, length, take, get_or, Option, Some, None, Contains}
 use Rattle.std.proofs.lemmas.List.{take_more, take_all}
 use Rattle.std.proofs.lemmas.List.Elements.{Contains-append_left, Contains-append_right, Contains-append_cases}
@@ -11,7 +11,7 @@ read_in xs at d x lt is = contained_at xs at x (slice_get-get_or xs at d lt ∙ 
 
 -- ---- the least
 
--- what is known of an order, and of the lesser of two by it
+-- an order, and the lesser of two keys by it
 pub record IsLesser {X K : Type 0} (clear : X → Type 0) (offers : X → K → Type 0) (below : K → K → Type 0) (lesser : Option K → K → K) : Type 0 where
   pub apart : (x : X) (k : K) → clear x → offers x k → ⊥
   pub first : (k : K) → lesser None k ≡ k

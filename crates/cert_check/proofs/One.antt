@@ -1,4 +1,4 @@
--- A certificate has one verdict.
+-- The verdict on a certificate is unique.
 use Rattle.std.proofs.Common.{◌≡◌, refl, sym, ap, ◌∙◌, subst, ℕ, ◌<◌, ◌≤◌, ◌⊎◌, inl, inr, ⊎_elim, List, [], ◌∷◌, length, Some, Result, Err, slice_get, arith}
 use Rattle.std.specs.Prelude.{◌↔◌}
 use Rattle.basics.specs.Numbers.{same_if_neither}
@@ -92,7 +92,7 @@ module _ (words : Program) (A : List Entry) (c : Claim) (claim : IsClaim c) (nod
       let le = h.least (need_in c.instances h.inst.key) (enough h.inst.key) in
       omega (arith, le, need_is j h.inst h.is, h.low)
 
-  -- where all conditions hold, the list that is handed in is the certificate's own, so that each node is open
+  -- if all conditions hold, the list of the call is the certificate's own, so each node is open
   open_by : c.assumptions ≡ A → (k : NodeKey) → IsOpen (has_pairs A) c.nodes k
   open_by same k = subst (λ B. IsOpen (has_pairs B) c.nodes k) same (own_is_open c claim k)
 
@@ -239,7 +239,7 @@ module _ (words : Program) (A : List Entry) (c : Claim) (claim : IsClaim c) (nod
 
 -- ---- the whole
 
--- either a node has no expansion, or the verdict is on the nodes with their states
+-- either a node has no expansion, or the verdict is on the expanded nodes
 pub record IsOnNodes (words : Program) (A : List Entry) (c : Claim) (v : Verdict) : Type 0 where
   pub nodes : List Node
   pub filled : IsFilled words A (read_seeds (has_pairs A) c.nodes) nodes
@@ -251,7 +251,7 @@ IsOnMissing words A c v = (at : ℕ) × ((v ≡ Rejected (reason.Expansion at)) 
 on_rejected : (words : Program) (A : List Entry) (c : Claim) (r : Reason) → IsRejected words A c r → IsOnMissing words A c (Rejected r) ⊎ IsOnNodes words A c (Rejected r)
 on_rejected words A c r h = inr (record { nodes = h.nodes; filled = h.expanded; decides = h.why })
 
--- where the list that is handed in is the certificate's own, its nodes are read as they are
+-- if the list of the call is the certificate's own, its nodes are read unchanged
 as_own : (A : List Entry) (c : Claim) → IsClaim c → c.assumptions ≡ A → read_seeds (has_pairs A) c.nodes ≡ c.nodes
 as_own A c claim same = ap (λ B. read_seeds (has_pairs B) c.nodes) (sym same) ∙ own_is_read c claim
 

@@ -1,4 +1,4 @@
--- Certificates as they are read under a list that follows pairs where their own doesn't, or the other way round.
+-- Certificates read under a list that follows pairs if their own does not, or the other way round.
 use Rattle.std.proofs.Common.{◌≡◌, refl, sym, ap, ◌∙◌, subst, ℕ, suc, ◌+◌, ◌<◌, ⊎_elim, Bool, true, false, List, [], ◌∷◌, ◌++◌, length, take, Option, Some, None, slice_get, Contains, get_or, arith}
 use mathlib.Core.Bool.{beq}
 use Rattle.std.specs.Prelude.{◌↔◌}
@@ -63,7 +63,7 @@ read_in_hulls false registers x h = tt
 read_in_hulls true registers None h = λ n lt. subst (IsIntervalWithin _) (hull_here registers n lt) (intervals_are_ordered.same _)
 read_in_hulls true registers (Some f) h = h
 
--- a node that the analysis works with, as it is read
+-- a node of the analysis, as read
 pub read_node : {other : Bool} (followed : Bool) (k : NodeKey) (s : AbsState) → IsNodeIn other k s → IsNodeIn followed k (read_state followed s)
 read_node followed k s h = record {
   word = h.word;
@@ -99,7 +99,7 @@ length_read : (followed : Bool) (own : Seeds) → length (read_seeds followed ow
 length_read followed [] = refl
 length_read followed (e ∷ es) = ap suc (length_read followed es)
 
--- how the node of a number is given before and after
+-- how the node of a number is given before and after reading
 record IsReadAt (followed : Bool) (own : Seeds) (at : ℕ) (k : NodeKey) (form : NodeForm) : Type 0 where
   before : NodeForm
   is : slice_get own at ≡ Some (k, before)
@@ -212,7 +212,7 @@ one_seed (x ∷ xs) s d e hd he same =
     (λ j. one_seed xs s.1 d e i j same) (first_or_further x e xs he))
     (first_or_further x d xs hd)
 
--- the node of a number is open just where its own form says nothing
+-- the node of a number is open exactly if its own form has no facts on pairs
 pub open_at : (own : Seeds) (at : ℕ) (k : NodeKey) (form : NodeForm) → AreSeedsAscending own → slice_get own at ≡ Some (k, form) → TellsNothing form ↔ IsOpen false own k
 open_at own at k form ascend is = (
   λ t other h. subst TellsNothing (ap (λ (p : NodeKey × NodeForm). p.1) (one_seed own ascend (k, form) (k, other) (contained_at own at (k, form) is) h refl)) t,

@@ -9,8 +9,8 @@ use flash_image::Flash;
 use vector_table::Assumptions;
 use witness_replay::replay;
 
-/// Whether the certificate's schedule attains its bound: no illegal choice is reached, the run ends without a stop, and its
-/// depth is the bound. A certificate without a schedule says nothing of this, and passes.
+/// Whether the certificate's schedule attains its bound: no illegal choice is reached, the run ends without a stop, and its depth is the
+/// bound. A certificate without a schedule passes.
 pub fn is_attained(flash: &Flash, assumptions: &Assumptions, certificate: &Certificate) -> bool
     ensures { IsTrue result ↔ IsAttained flash.now assumptions.now certificate.now.bound certificate.now.witness }
 {

@@ -1,4 +1,4 @@
-//! What nodes ask of their instances.
+//! Demands of nodes on their instances.
 
 ghost use Rattle.std.specs.Prelude.{◌≡◌, ◌≤◌, ◌<◌, ◌++◌, length, Some, OnOk, Contains};
 ghost use Rattle.avr_model.specs.State.{SIZE};
@@ -13,14 +13,14 @@ use edge_rules::edge::is_entry;
 use mask_states::{InstKey, NodeKey, SpForm};
 use std::alloc::AllocError;
 
-// What a node asks of its instance, by the numbers of instances.
+// A demand of a node on its instance, by the numbers of instances.
 #[derive(Clone, Copy)]
 pub(crate) struct Demand {
     // The node's instance.
     pub inst: usize,
-    // The instance that the node enters, whose rank must be lower; none for the node's own offset.
+    // The entered instance, whose rank must be lower; none for the node's own offset.
     pub into: Option<usize>,
-    // How many bytes the node's instance needs at least.
+    // The least need of the node's instance, in bytes.
     pub bytes: u32,
 }
 
@@ -42,7 +42,7 @@ pub(crate) fn need_at(instances: &[Inst], j: usize) -> u32
     instances[j].need
 }
 
-// The number of the instance of a key that is there.
+// The number of a key's instance, which must be in the list.
 pub(crate) fn number_of(instances: &[Inst], key: &InstKey) -> usize
     requires instances { AreInstances instances.now }
     requires there { Contains (inst_keys instances.now) key.now }
@@ -52,7 +52,7 @@ pub(crate) fn number_of(instances: &[Inst], key: &InstKey) -> usize
     instances.partition_point(|inst| inst.key.cmp(key).is_lt())
 }
 
-// A closed offset.
+// The demand of a closed offset.
 fn add_offset(demands: &mut Vec<Demand>, inst: usize, form: &SpForm) -> Result<(), AllocError>
     ensures { OnOk result (demands.new.items ≡ demands.old.items ++ offset_demand inst form.now) }
 {
@@ -66,7 +66,7 @@ fn add_offset(demands: &mut Vec<Demand>, inst: usize, form: &SpForm) -> Result<(
     Ok(())
 }
 
-// A way into another instance.
+// The demand of an entry of another instance.
 fn add_entry(
     demands: &mut Vec<Demand>,
     instances: &[Inst],
@@ -89,7 +89,7 @@ fn add_entry(
     Ok(())
 }
 
-// All ways into other instances.
+// The demands of all entries of other instances.
 fn add_entries(
     demands: &mut Vec<Demand>,
     instances: &[Inst],
@@ -107,7 +107,7 @@ fn add_entries(
     Ok(())
 }
 
-// What a node of this key with these edges asks.
+// The demands of a node with this key and these edges.
 pub(crate) fn add_demands(
     demands: &mut Vec<Demand>,
     instances: &[Inst],

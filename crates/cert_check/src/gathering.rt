@@ -15,25 +15,25 @@ use local_rules::Exit;
 use mask_states::NodeKey;
 use std::alloc::AllocError;
 
-// What is known of nodes whose edges all land.
+// The results for nodes all of whose edges land.
 #[derive(Drop)]
 pub(crate) struct LandedNodes {
-    // What they ask of their instances.
+    // Their demands on instances.
     pub demands: Vec<Demand>,
-    // Where the edges of each land.
+    // The landings of each.
     pub landings: Listed<Listed<Landing>>,
 }
 
-// What a pass over all edges finds.
+// The result of a pass over all edges.
 #[derive(Drop)]
 pub(crate) enum Gathering {
-    // This node is the first with an edge that doesn't land, and the key is the least of such an edge.
+    // The first node with an edge that does not land, and the least key of such an edge.
     Gap(usize, NodeKey),
     // All edges land.
     All(LandedNodes),
 }
 
-// The least key to which an edge of the node of this number leads that doesn't land. Where all of them land, the node is gathered.
+// The least key of an edge of this node that does not land. If all edges land, the node is gathered.
 fn gather_node(
     task: &Task<'_>,
     site: &LandingSite<'_, '_>,
@@ -68,7 +68,7 @@ fn gather_node(
     Ok(None)
 }
 
-// The first gap, or what all nodes ask of their instances and where their edges land.
+// The first gap, or all demands and landings.
 pub(crate) fn gather(
     task: &Task<'_>,
     certificate: &Certificate,

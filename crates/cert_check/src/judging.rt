@@ -30,16 +30,16 @@ use mask_states::{InstKey, NodeKey};
 use std::alloc::{AllocError, Global};
 use vector_table::Assumptions;
 
-// What is said of the nodes with their states.
+// The result for the expanded nodes.
 #[derive(Drop)]
 pub(crate) enum Settled {
-    // All conditions hold, and here the edges of each node land.
+    // All conditions hold; the landings of each node.
     Met(Listed<Listed<Landing>>),
-    // The least reason against them.
+    // The first reason against them.
     Refused(Reason),
 }
 
-// What is said where no node has a fault.
+// The result if no node has a fault.
 fn settle_edges(
     task: &Task<'_>,
     certificate: &Certificate,
@@ -68,7 +68,7 @@ fn settle_edges(
     }
 }
 
-// Whether the node at reset is there, open, and with a state at least that one.
+// Whether the node at reset exists, is open, and has a state above the reset state.
 fn has_reset(task: &Task<'_>, certificate: &Certificate, nodes: &Filled) -> Result<bool, AllocError>
     requires { AreBeside certificate.now.nodes nodes.now }
     ensures { IfOk result (λ there. IsTrue there ↔ HasReset task.now.assumptions.now certificate.now nodes.now) }
@@ -83,7 +83,7 @@ fn has_reset(task: &Task<'_>, certificate: &Certificate, nodes: &Filled) -> Resu
     Ok(lands(&site, nodes.find(&key), &key, &state))
 }
 
-// What is said of the nodes with their states, by the conditions in their order.
+// The result for the expanded nodes, by the conditions in order.
 fn settle(task: &Task<'_>, certificate: &Certificate, nodes: &Filled) -> Result<Settled, AllocError>
     requires claim { IsClaim certificate.now }
     requires filled { IsFilled task.now.flash.now task.now.assumptions.now (read_seeds (has_pairs task.now.assumptions.now) certificate.now.nodes) nodes.now }
@@ -98,7 +98,7 @@ fn settle(task: &Task<'_>, certificate: &Certificate, nodes: &Filled) -> Result<
     }
 }
 
-// The judgement on nodes with their states, which are the family where all conditions hold.
+// The judgement on the expanded nodes: they are the family if all conditions hold.
 fn judge_nodes(
     task: &Task<'_>,
     certificate: &Certificate,
@@ -121,7 +121,7 @@ fn judge_nodes(
     }
 }
 
-// The states of all nodes, which are read as the list says, or the least node that has none.
+// The expanded nodes, read by the list of the call, or the first node without an expansion.
 fn expanded(task: &Task<'_>, certificate: &Certificate) -> Result<Expanded, AllocError>
     requires { IsClaim certificate.now }
     ensures { IfOk result (λ answer. IsExpanded task.now.flash.now task.now.assumptions.now (read_seeds (has_pairs task.now.assumptions.now) certificate.now.nodes) answer) }
@@ -134,11 +134,11 @@ fn expanded(task: &Task<'_>, certificate: &Certificate) -> Result<Expanded, Allo
     expand(task, &reading)
 }
 
-/// What is said of a certificate for a firmware under assumptions, by the conditions in their order. Where each condition on all
-/// but the schedule holds, this is its family, at most 65,536 nodes: its nodes with their states, which meet the conditions, and
-/// where their edges land. Else it is the least reason with its least numbers. The error is want of memory. Each edge is looked
-/// at once, and each node's local part is worked out twice, and once more for each node that comes from it. The nodes are
-/// copied where the list handed in has the line `pairs` and the certificate's own doesn't, or the other way round.
+/// Judges a certificate for a firmware under assumptions, by the conditions in order. If all conditions but that on the schedule hold,
+/// the result is its family of at most 65,536 nodes: the expanded nodes, which meet the conditions, and the landings of their edges. Else
+/// it is the first reason, with its least numbers. Fails if memory runs out. Each edge is visited once. The local part of each node is
+/// computed twice, and once more for each node that comes from it. The nodes are copied if exactly one of the list of the call and the
+/// certificate's own has the line `pairs`.
 pub fn judge_family(task: &Task<'_>, certificate: &Certificate) -> Result<Judgement, AllocError>
     ensures exact { IfOk result (λ judgement. IsJudgement task.now.flash.now task.now.assumptions.now certificate.now judgement) }
     ensures few { IfOk result (λ judgement. (family : worked_type.Worked) → judgement ≡ Judgement.Accepted family → length family.nodes ≤ 65536) }
@@ -150,7 +150,7 @@ pub fn judge_family(task: &Task<'_>, certificate: &Certificate) -> Result<Judgem
     }
 }
 
-// The verdict that a judgement gives.
+// The verdict of a judgement.
 fn verdict_of(certificate: &Certificate, judgement: Judgement) -> Verdict
     ensures { (words : List ℕ) (A : List Entry) → IsJudgement words A certificate.now judgement → IsVerdict words A certificate.now result }
 {
@@ -163,11 +163,11 @@ fn verdict_of(certificate: &Certificate, judgement: Judgement) -> Verdict
     }
 }
 
-/// The verdict on a certificate for a firmware under assumptions. It accepts exactly where each condition on all but the
-/// schedule holds, and then every run from reset keeps the certificate's bound and meets neither an undefined word nor a
-/// push outside SRAM. Else it gives the least reason with its least numbers. The error is want of memory. Each edge is looked
-/// at once, and each node's local part is worked out twice, and once more for each node that comes from it. The nodes are
-/// copied where the list handed in has the line `pairs` and the certificate's own doesn't, or the other way round.
+/// The verdict on a certificate for a firmware under assumptions. It accepts exactly if all conditions but that on the schedule hold.
+/// Then every run from reset stays within the certificate's bound, and meets neither an undefined word nor a push outside SRAM. Else the
+/// verdict is the first reason, with its least numbers. Fails if memory runs out. Each edge is visited once. The local part of each node
+/// is computed twice, and once more for each node that comes from it. The nodes are copied if exactly one of the list of the call and the
+/// certificate's own has the line `pairs`.
 pub fn judge(
     alloc: Global,
     flash: &Flash,

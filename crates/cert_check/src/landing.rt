@@ -1,4 +1,4 @@
-//! Where edges land.
+//! Landings of edges.
 
 ghost use Rattle.std.specs.Prelude.{◌≡◌, ◌≤◌, ◌<◌, ◌↔◌, ◌++◌, length, IsTrue, IfOk, OnOk};
 ghost use Rattle.edge_rules.specs.Views.{IsOwnNode, place_of};
@@ -23,18 +23,18 @@ use std::alloc::{AllocError, Global};
 pub(crate) struct LandingSite<'c, 'n> {
     // Whether pairs are followed.
     pub followed: bool,
-    // The certificate's own nodes.
+    // The certificate's nodes before expansion.
     pub certificate: &'c Certificate,
-    // The same nodes with their states.
+    // The expanded nodes.
     pub nodes: &'n Filled,
 }
 
-// Where edges of a node land.
+// The landings of a node's edges.
 #[derive(Drop)]
 pub(crate) struct Landed {
-    // The least key to which one of them leads that doesn't land.
+    // The least key of an edge that does not land.
     pub gap: Option<NodeKey>,
-    // The nodes to which they lead, as far as nodes of their keys are there.
+    // The nodes to which edges lead, if the certificate has nodes of their keys.
     pub landings: Listed<Landing>,
 }
 
@@ -47,8 +47,7 @@ fn is_open(followed: bool, certificate: &Certificate, at: usize) -> bool
     followed || tells_nothing(certificate.seed(at))
 }
 
-// Whether an edge with this state lands at the node of this key, which is at this number if it is there: it is there, open, and
-// with a state at least this one.
+// Whether an edge with this state lands at the node of this key and number: the node exists, is open, and has a state above this one.
 pub(crate) fn lands(
     site: &LandingSite<'_, '_>,
     place: Option<usize>,
@@ -80,7 +79,7 @@ fn lesser(least: Option<NodeKey>, key: &NodeKey) -> NodeKey
     }
 }
 
-// Where edges of a node land, with one edge more, whose node is sought once, from the number `first` on.
+// The landings of a node with one more edge, whose target is looked up once, from the number `first` on.
 fn note(
     site: &LandingSite<'_, '_>,
     first: usize,
@@ -106,7 +105,7 @@ fn note(
     Ok(())
 }
 
-// Where these edges land. Their nodes are sought from the number `first` on.
+// The landings of these edges. Targets are looked up from the number `first` on.
 pub(crate) fn landed_from(
     alloc: Global,
     site: &LandingSite<'_, '_>,

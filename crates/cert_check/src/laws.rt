@@ -1,4 +1,4 @@
-//! What is proved of the definitions alone, each as the contract of a function that does nothing.
+//! Laws of the definitions, each as the contract of a function with an empty body.
 
 ghost use Rattle.cert_check.specs.Laws.{SoundCertificatesBoundEveryRun, ValidWhereAcceptedAndAttained, VerdictsAreOne};
 
@@ -10,7 +10,7 @@ pub fn verdicts_are_one()
     ensures { VerdictsAreOne }
 {}
 
-/// Where all conditions but that on the schedule hold, every run from reset keeps the bound.
+/// If all conditions but that on the schedule hold, every run from reset stays within the bound.
 pub fn sound_certificates_bound_every_run()
     ensures { SoundCertificatesBoundEveryRun }
 {
@@ -18,7 +18,7 @@ pub fn sound_certificates_bound_every_run()
     sound_families_bound_every_run();
 }
 
-/// A certificate is valid exactly where the verdict accepts it and its schedule, if it has one, attains its bound.
+/// A certificate is valid exactly if the verdict accepts it and its schedule, if it has one, attains its bound.
 pub fn valid_where_accepted_and_attained()
     ensures { ValidWhereAcceptedAndAttained }
 {}

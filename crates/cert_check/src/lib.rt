@@ -1,4 +1,4 @@
-//! The checker: it judges a certificate for a firmware under assumptions, and trusts nobody who made it.
+//! The checker: it judges a certificate for a firmware under assumptions, and trusts nobody who made it. Tests: `family_tables`.
 #![tactic(auto)]
 
 mod attaining;

@@ -1,4 +1,4 @@
-//! The nodes of a certificate, read where pairs are followed or where they aren't.
+//! The nodes of a certificate, read with pairs or without.
 
 ghost use Rattle.std.specs.Prelude.{◌≡◌, IsTrue, ◌↔◌, IfOk};
 ghost use Rattle.edge_rules.specs.Seeds.{form_of};
@@ -10,7 +10,7 @@ use mask_states::NodeKey;
 use pair_domain::{Facts, PairFacts};
 use std::alloc::{AllocError, Global};
 
-// Nodes by their keys, each given by its state or by an earlier node.
+// Nodes by key, each given by its state or by an earlier node.
 #[derive(Drop)]
 pub(crate) struct ReadNodes {
     nodes: Vec<(NodeKey, NodeForm)>,
@@ -35,7 +35,7 @@ impl Seeded for ReadNodes {
     }
 }
 
-// What is known of pairs where they aren't followed, and what is known or their bytes say where they are.
+// The facts on pairs as read: none if pairs aren't followed, else the state's facts, or those that its bytes imply.
 fn facts_read(alloc: Global, followed: bool, state: &AbsState) -> Result<Facts, AllocError>
     ensures { IfOk result (λ facts. facts ≡ facts_read followed state.now.registers state.now.facts) }
 {
@@ -52,7 +52,7 @@ fn facts_read(alloc: Global, followed: bool, state: &AbsState) -> Result<Facts, 
     Facts::new(alloc, hulled)
 }
 
-// How a state is given, with what is read of pairs.
+// A node's form, with its facts on pairs as read.
 fn read_form(alloc: Global, followed: bool, form: &NodeForm) -> Result<NodeForm, AllocError>
     ensures { IfOk result (λ read. read ≡ read_form followed form.now) }
 {
@@ -73,7 +73,7 @@ fn read_form(alloc: Global, followed: bool, form: &NodeForm) -> Result<NodeForm,
     }
 }
 
-// The certificate's nodes, where pairs are followed or where they aren't.
+// The certificate's nodes, read with pairs or without.
 pub(crate) fn read(
     alloc: Global,
     followed: bool,
@@ -90,7 +90,7 @@ pub(crate) fn read(
     Ok(ReadNodes { nodes })
 }
 
-// Whether the node's own state, if it has one, says nothing of pairs.
+// Whether the node's own state, if it has one, has no facts on pairs.
 pub(crate) fn tells_nothing(seed: Seed<'_>) -> bool
     ensures { IsTrue result ↔ TellsNothing (form_of seed.entry) }
 {

@@ -1,26 +1,27 @@
-//! What is said of a certificate.
+//! Verdicts on a certificate.
 
 use call_graph::Worked;
 use mask_states::NodeKey;
 
-/// Why a certificate is refused. Nodes and instances are numbered from 0 in their order.
+/// The reason for a refusal. Nodes and instances are numbered from 0 in order.
 #[derive(Clone, Copy)]
 pub enum Reason {
-    /// The root's node is missing, or its state is not at least that at reset.
+    /// The root's node is missing, or its state is not above that at reset.
     Root,
-    /// This node has a fault of this cause (1, 4, 5, 6 or 8), and is the least that has one.
+    /// The first node with a fault, and its cause (1, 4, 5, 6 or 8).
     Node(u32, u8),
-    /// This node, the least such, has an edge to this key, its least such, where no node has a state at least that of the edge.
+    /// The first node with an edge that lands nowhere, and the least key of such an edge: no node of this key has a state above the
+    /// edge's.
     Edge(u32, NodeKey),
-    /// The rank of this instance, the least such, is not above that of this one, the least such that it enters.
+    /// The first instance whose rank is not above that of one that it enters, and the least such one.
     Rank(u32, u32),
-    /// The need of this instance, the least such, is too low; the least that suffices is this number of bytes.
+    /// The first instance whose need is too low; the least that suffices, in bytes.
     Need(u32, u32),
-    /// The bound is below the root's need, which is this, or above the number of bytes that the device's SRAM has.
+    /// The bound is below the root's need, given here, or above the size of the device's SRAM.
     Bound(u32),
-    /// The assumptions are not those handed in.
+    /// The assumptions are not those of the call.
     Assumptions,
-    /// This node, the least such, has no expansion: it comes from an earlier node that doesn't lead to it.
+    /// The first node without an expansion: it comes from an earlier node that does not lead to it.
     Expansion(u32),
 }
 
@@ -29,15 +30,15 @@ pub enum Reason {
 pub enum Verdict {
     /// All conditions hold; the bound.
     Accepted(u16),
-    /// The least reason against it.
+    /// The first reason against it.
     Rejected(Reason),
 }
 
-/// What is said of a certificate but for its schedule, with its family where all conditions hold.
+/// The judgement on a certificate but for its schedule, with its family if all conditions hold.
 #[derive(Drop)]
 pub enum Judgement {
-    /// All conditions hold; the certificate's nodes with their states, and where their edges land.
+    /// All conditions hold; the expanded nodes, and the landings of their edges.
     Accepted(Worked),
-    /// The least reason against it.
+    /// The first reason against it.
     Rejected(Reason),
 }

@@ -1,4 +1,4 @@
-//! Ranks and needs against what is asked of them.
+//! Ranks and needs against the demands on them.
 
 ghost use Rattle.std.specs.Prelude.{◌≡◌, ◌≤◌, ◌↔◌, Contains, IsTrue};
 ghost use Rattle.avr_model.specs.Devices.{device_of, size_of};
@@ -14,7 +14,7 @@ use certificate::{Certificate, Inst};
 use flash_image::Flash;
 use mask_states::InstKey;
 
-// The lesser of two pairs, by their first numbers, then by their second ones.
+// The lesser of two pairs, in lexicographic order.
 fn lesser_pair(least: Option<(usize, usize)>, pair: (usize, usize)) -> (usize, usize)
     ensures { result ≡ lesser_pair least pair }
 {
@@ -24,7 +24,7 @@ fn lesser_pair(least: Option<(usize, usize)>, pair: (usize, usize)) -> (usize, u
     }
 }
 
-// The least pair after one demand more.
+// The least pair after one more demand.
 fn noted_rank(
     instances: &[Inst],
     least: Option<(usize, usize)>,
@@ -41,7 +41,7 @@ fn noted_rank(
     }
 }
 
-// The least instance whose rank isn't above that of one that it enters, and the least such one.
+// The first instance whose rank isn't above that of one that it enters, and the least such one.
 fn low_rank(instances: &[Inst], demands: &[Demand]) -> Option<(usize, usize)>
     requires { AreDemandsInside instances.now demands.now }
     ensures { IsLeastOffered (MeetsRank instances.now) (LowRank instances.now) PairBelow demands.now result }
@@ -63,7 +63,7 @@ fn lesser_number(least: Option<usize>, number: usize) -> usize
     }
 }
 
-// The least instance after one demand more.
+// The least instance after one more demand.
 fn noted_need(instances: &[Inst], least: Option<usize>, demand: &Demand) -> Option<usize>
     requires inside { IsInside instances.now demand.now }
     requires instances { AreInstances instances.now }
@@ -76,7 +76,7 @@ fn noted_need(instances: &[Inst], least: Option<usize>, demand: &Demand) -> Opti
     }
 }
 
-// The least instance whose need is too low.
+// The first instance whose need is too low.
 fn low_need(instances: &[Inst], demands: &[Demand]) -> Option<usize>
     requires inside { AreDemandsInside instances.now demands.now }
     requires instances { AreInstances instances.now }
@@ -89,7 +89,7 @@ fn low_need(instances: &[Inst], demands: &[Demand]) -> Option<usize>
     least
 }
 
-// The most after one demand more.
+// The greatest demand after one more.
 fn more_asked(most: u32, j: usize, demand: &Demand) -> u32
     ensures { result ≡ more_asked most j demand.now }
 {
@@ -100,7 +100,7 @@ fn more_asked(most: u32, j: usize, demand: &Demand) -> u32
     }
 }
 
-// The most that is asked of an instance.
+// The greatest demand on an instance.
 fn most_asked(demands: &[Demand], j: usize) -> u32
     ensures { IsMost demands.now j result }
 {
@@ -111,14 +111,14 @@ fn most_asked(demands: &[Demand], j: usize) -> u32
     most
 }
 
-// Whether the bound is at least this need, and no more than the device's SRAM has bytes.
+// Whether the bound is at least this need, and at most the size of the device's SRAM.
 fn is_bounded(flash: &Flash, bound: u16, need: u32) -> bool
     ensures { IsTrue result ↔ ((need ≤ bound) × (bound ≤ size_of (device_of flash.now))) }
 {
     need <= u32::from(bound) && bound <= flash.device().size()
 }
 
-// The verdict where all edges land, by what nodes ask of their instances.
+// The verdict if all edges land, by the demands of nodes.
 pub(crate) fn weigh(task: &Task<'_>, certificate: &Certificate, demands: &[Demand]) -> Verdict
     requires claim { IsClaim certificate.now }
     requires inside { AreDemandsInside certificate.now.instances demands.now }

@@ -1,4 +1,4 @@
--- The line `pairs` in lists of entries: it is the first of a list of the third version, and in no other list.
+-- The line `pairs` in lists of entries: it is the first in a list of the third version, and in no other list.
 use Rattle.std.proofs.Common.{◌≡◌, ◌||◌, List, [], ◌∷◌, ◌++◌, length, Bool, true, false, refl, ap, sym, ◌∙◌, arith}
 use Rattle.std.specs.List.{AllByRecursion}
 use Rattle.std.proofs.lemmas.Bool.{false≢true, and_parts}
@@ -19,7 +19,7 @@ or_stays : (b rest more : Bool) → (b || rest) ≡ true → (rest ≡ true → 
 or_stays true rest more e h = refl
 or_stays false rest more e h = h e
 
--- behind a list with the line there is still the line
+-- a longer list still has the line
 line_stays : (es ys : List Entry) → has_line 0 es 0 ≡ true → has_line 0 (es ++ ys) 0 ≡ true
 line_stays [] ys e = absurd (false≢true e)
 line_stays (x ∷ xs) ys e = or_stays (is_line 0 0 x) (has_line 0 xs 0) (has_line 0 (xs ++ ys) 0) e (line_stays xs ys)
@@ -42,7 +42,7 @@ mode_kept es (Frame site) h = other_pushed es (Frame site) refl
 
 -- ---- the first line
 
--- nothing is before it
+-- no entry is before it
 not_before : (x y : Entry) → is_before x y ≡ true → is_line 0 0 y ≡ false
 not_before x Pairs e = absurd (grind (arith, nat_tests, e))
 not_before x Masks e = refl
@@ -59,7 +59,7 @@ none_behind x (y ∷ ys) e =
     let t = and_parts (is_before_first x (y ∷ ys)) (are_in_order (y ∷ ys)) e in
     ap (λ (b : Bool). b || has_line 0 ys 0) (not_before x y t.0) ∙ none_behind y ys t.1
 
--- entries of which none is the line
+-- no entry is the line
 pub all_other : (es : List Entry) → has_line 0 es 0 ≡ false → AllByRecursion (λ e. is_admitted false e ≡ true) es
 all_other [] h = tt
 all_other (Pairs ∷ xs) h = absurd (false≢true (sym h))
@@ -87,7 +87,7 @@ all_entries (e ∷ es) = (any_entry e, all_entries es)
 
 -- ---- by the version
 
--- the entries that a version begins with
+-- the first entries of a version
 abbrev pub firsts : Version → List Entry
 firsts One = []
 firsts Two = []

@@ -1,4 +1,4 @@
--- The lines of instances and nodes: what is read is spelled so, and what is spelled is read.
+-- Reading and spelling of the lines of instances and nodes are inverse.
 use Rattle.std.proofs.Common.{Bool, ℕ, ◌<◌, ◌≤◌, ◌≡◌, List, [], ◌∷◌, ◌++◌, codes, refl, ap, ◌∙◌, arith, Some, None, cond, subst, lit<, slice_get}
 use Rattle.std.specs.List.{AllByRecursion}
 use Rattle.std.specs.Fmt.{decimal}

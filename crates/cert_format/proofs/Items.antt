@@ -1,4 +1,4 @@
--- One line more of a list.
+-- One more line of a list.
 use Rattle.std.proofs.Common.{ℕ, suc, ◌+◌, ◌-◌, ◌<◌, ◌≤◌, ◌≡◌, List, [], ◌∷◌, ◌++◌, length, refl, ap, sym, ◌∙◌, arith, Option, Result, Ok, Err}
 use Rattle.basics.specs.Numbers.{one_of_the_rest}
 use Rattle.std.proofs.lemmas.List.{length_push}
@@ -32,7 +32,7 @@ pub item_more : {A : Type 0} (by : ℕ → List ℕ → Option A) (refused : Lis
     → longer_at by refused xs p ≡ Ok (ys, q) → items_from by refused xs (count - i) p ≡ all → items_from by refused ys (count - (i + 1)) q ≡ all
 item_more by refused xs ys count i p q all h e is = sym (more by refused xs count i p (Ok (ys, q)) h e) ∙ is
 
--- a line that is read is one item more
+-- a line that is read is one more item
 pub item_longer : {A : Type 0} (by : ℕ → List ℕ → Option A) (refused : List A → A → ℕ → Option CertFault) (xs ys : List A) (p q : Place) → longer_at by refused xs p ≡ Ok (ys, q) → length ys ≡ length xs + 1
 unfolding longer_at
 item_longer {A} by refused xs ys p q e =

@@ -1,4 +1,4 @@
--- What the three lists of a certificate keep, and that their items are then admitted.
+-- The invariants of the three lists of a certificate, by which their items are valid.
 use Rattle.std.proofs.Common.{ℕ, suc, ◌+◌, ◌-◌, ◌<◌, ◌≤◌, ◌≡◌, List, [], ◌∷◌, ◌++◌, length, length-append, Bool, true, false, refl, ap, sym, ◌∙◌, arith, Some, None, cond, subst, slice_get, nat_le}
 use Rattle.std.specs.List.{AllByRecursion}
 use Rattle.std.specs.List.Sorted.{IsStrictlySortedBy}

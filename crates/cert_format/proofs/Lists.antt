@@ -1,4 +1,4 @@
--- Lists of items: what is read is spelled so, and what is spelled is read.
+-- Reading and spelling of lists are inverse.
 use Rattle.std.proofs.Common.{ℕ, zero, suc, ◌+◌, ◌≤◌, ◌≡◌, List, [], ◌∷◌, ◌++◌, length, length-append, map, Bool, true, refl, ap, ap₂, sym, ◌∙◌, arith, Option, Some, None, Result, Ok, Err, subst, append_assoc}
 use Rattle.std.specs.Prelude.{⊤}
 use Rattle.std.specs.List.{AllByRecursion}
@@ -44,11 +44,11 @@ abbrev pub Admitted : {A : Type 0} → (ℕ → A → Type 0) → (List A → A 
 Admitted P refused xs [] = ⊤
 Admitted P refused xs (y ∷ ys) = P (length xs) y × ((at : ℕ) → refused xs y at ≡ None) × Admitted P refused (xs ++ y ∷ []) ys
 
--- where an item isn't refused, it isn't wherever it stands
+-- an item that isn't refused at one line isn't at another
 abbrev pub Steady : {A : Type 0} → (List A → A → ℕ → Option CertFault) → Type 0
 Steady {A} refused = (xs : List A) (x : A) (a b : ℕ) → refused xs x a ≡ None → refused xs x b ≡ None
 
--- a line is the words of what is read of it, by its number in the list
+-- a line has the words of its item, by its number in the list
 abbrev pub Spells : {A : Type 0} → (ℕ → List ℕ → Option A) → (A → List (List ℕ)) → (ℕ → A → Type 0) → Type 0
 Spells {A} by words P = (at : ℕ) (text : List ℕ) (x : A) → by at text ≡ Some x → (text ≡ spaced (words x)) × P at x
 
@@ -152,7 +152,7 @@ admitted_by P refused Q step xs (y ∷ ys) q h =
     let R : ℕ → Type 0 = λ n. AllFrom P n ys in
     (h.0, (λ at. step xs y ys q at), admitted_by P refused Q step (xs ++ y ∷ []) ys (subst Q (sym (append_assoc xs (y ∷ []) ys)) q) (subst R (sym (length_push xs y)) h.1))
 
--- items of which each fits whatever its number
+-- each item fits, whatever its number
 pub all_of_any : {A : Type 0} (P : A → Type 0) (at : ℕ) (xs : List A) → AllFrom (λ n. P) at xs → AllByRecursion P xs
 all_of_any P at [] h = tt
 all_of_any P at (x ∷ xs) h = (h.0, all_of_any P (at + 1) xs h.1)

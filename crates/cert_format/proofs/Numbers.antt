@@ -1,4 +1,4 @@
--- How many nodes a line says that there are: any canonical decimal, of which one may be too great.
+-- The number of nodes in a line: any canonical decimal, which may be too great.
 use Rattle.std.proofs.Common.{ℕ, ◌<◌, ◌≡◌, ◌==◌, List, [], ◌∷◌, length, codes, Bool, true, false, refl, ap, ◌∙◌, arith, Option, Some, None, Ok, Err, inl, inr, nat_lt, cond, not, lit<}
 use Rattle.std.specs.Prelude.{◌≢◌}
 use Rattle.std.specs.List.{position, AllByRecursion}
@@ -31,7 +31,7 @@ digits_lack : (c : ℕ) (w : List ℕ) → c < 48 → AllByRecursion (λ b. is_d
 digits_lack c [] low h = tt
 digits_lack c (b ∷ bs) low h = (grind (arith, nat_tests, low, h.0), digits_lack c bs low h.1)
 
--- no space and no line feed is in a decimal
+-- a decimal has no space and no line feed
 pub decimal_word : (w : List ℕ) → IsDecimal w → IsWord w
 decimal_word w h = let all = all_pass_if_none_fails is_dec w h.digits in (digits_lack 32 w (lit< tt) all, digits_lack 10 w (lit< tt) all)
 

@@ -1,4 +1,4 @@
--- The parts of a certificate: what is read is spelled so, and what is spelled is read.
+-- Reading and spelling of the parts of a certificate are inverse.
 use Rattle.std.proofs.Common.{nat_le, ℕ, ◌+◌, ◌<◌, ◌≤◌, ◌^◌, ◌≡◌, ◌==◌, ◌&&◌, inl, inr, List, [], ◌∷◌, ◌++◌, length, map, codes, Bool, true, false, not, refl, ap, sym, ◌∙◌, arith, Option, Some, None, Result, Ok, Err, subst, lit<, append_assoc}
 use Rattle.std.specs.Prelude.{IfSome}
 use Rattle.std.specs.List.{AllByRecursion, flat_map}
@@ -49,11 +49,11 @@ stand_cut p q xs bs h =
       record { lines = refl; offset = omega (arith, g.offset, sizes_append (map whole xs) (map whole bs)) },
     )
 
--- where a reader stands before a text
+-- the place of a reader before a text
 abbrev pub before : ℕ → List ℕ → Place
 before at text = record { at = at; rest = lines_of text }
 
--- lines of words stand where their text does
+-- lines of words are at a place exactly when their text is
 pub stand : WordLaws → (wss : List (List (List ℕ))) (at : ℕ) (text : List ℕ) → AllByRecursion (AllByRecursion IsWord) wss → Stand (before at (flat_map line wss ++ text)) wss (before (at + length (flat_map line wss)) text)
 stand k wss at text h =
     k.text_lines (before at (flat_map line wss ++ text)) wss (before (at + length (flat_map line wss)) text) h (k.are_lines (flat_map line wss ++ text)) (k.are_lines text)
@@ -285,7 +285,7 @@ witness_part read p z e =
     let l = line_takes ending_by p b.0.0 b.0.1 (formed_ok (line_by ending_by p) b.0 b.1) in
     plan_take read b.0.0 p b.0.1 z (as_words ending_by p b.0.0 b.0.1 l (ending_words b.0.0) (ending_is l.text b.0.0 l.read)) b.2
 
--- a witness that is read from a text, and behind it the rest of the text
+-- a witness that is read from a text, and the rest of the text
 pub witness_again : WordLaws → TextIsReading → ScheduleIsRead → (w : Option Plan) (at : ℕ) (text : List ℕ) → IfSome w IsSchedule
     → (behind : ℕ) × (witness_at (before at (flat_map line (witness_lines w) ++ text)) ≡ Ok (w, before behind text))
 unfolding witness_at

@@ -1,4 +1,4 @@
--- Each refusal is due: what stands before it are the first lines of a certificate, and the line there tells why.
+-- Each refusal is due: the text before it begins a certificate, and the line there has the reason.
 use Rattle.std.proofs.Common.{◌-◌, length-append, ℕ, ◌+◌, ◌<◌, ◌≤◌, ◌^◌, ◌≡◌, List, [], ◌∷◌, ◌++◌, length, map, codes, Bool, true, false, refl, ap, sym, ◌∙◌, arith, Option, Some, None, Result, Ok, Err, ◌⊎◌, inl, inr, cond, subst, lit<, nat_le}
 use Rattle.std.specs.Prelude.{◌≢◌, ⊤}
 use Rattle.std.specs.List.{AllByRecursion}
@@ -71,7 +71,7 @@ certificate_of version n es xs ns small he mode hx ax few hn kn most = record { 
 with_entries : (version : Version) (n : ℕ) (es : List Entry) → n ≤ SIZE → AreEntries es → is_third version ≡ has_pairs es → IsCertificate (claim_to version n es [] [] None)
 with_entries version n es small h mode = certificate_of version n es [] [] small h mode tt no_insts (omega arith) tt no_nodes (omega arith)
 
--- the bound, and the entries that the version begins with
+-- the bound, and the first entries of the version
 bound_only : (version : Version) (n : ℕ) → n ≤ SIZE → IsCertificate (claim_to version n (firsts version) [] [] None)
 bound_only version n small = with_entries version n (firsts version) small (firsts_are version) (firsts_mode version)
 
@@ -121,7 +121,7 @@ heading_stops k p g e = elim (then_stop (formed (line_by version_by p)) _ g e) [
 
 -- ---- a list
 
--- a number of items and some of them stand behind lines
+-- a number of items, and some of them, after lines
 behind : {A : Type 0} (words : A → List (List ℕ)) (name : List ℕ) (front : List (List (List ℕ))) (p a m q : Place) (n : ℕ) (xs : List A) → Stand p front a → Stand a (numbered name n ∷ []) m → Passes m (lines words xs) q
     → Stand p (front ++ numbered name n ∷ map words xs) q
 behind words name front p a m q n xs h count items =
@@ -131,7 +131,7 @@ low_by : (b : Bool) (f g : CertFault) → cond b None (Some f) ≡ Some g → (b
 low_by true f g e = absurd (none-some g e)
 low_by false f g e = (refl, sym (same_Some f g e))
 
--- why an item is refused
+-- the reason why an item is refused
 entry_low : (es : List Entry) (e : Entry) (at : ℕ) (g : CertFault) → refused_entry es e at ≡ Some g → (is_above_last es e ≡ false) × (g ≡ fault.Order at)
 entry_low es e at g h = low_by (is_above_last es e) (fault.Order at) g h
 
@@ -170,7 +170,7 @@ first_stops Three p a m n count g small h k least most e = elim (then_stop (form
 abbrev EntriesStop : Version → List Entry → ℕ → Place → CertFault → Type 0
 EntriesStop version front n p g = ItemsStop (λ at. entry_by (is_third version)) entry_words (EntryOf (is_third version)) refused_entry front n p g
 
--- a line behind the first ones
+-- a line after the first ones
 further_stops : LowerLaws → (version : Version) (p a m f : Place) (n count : ℕ) (g : CertFault) → n ≤ SIZE → Stand p (heading version n) a → Stand a (numbered (codes "assume") count ∷ []) m → least_entries version ≤ count → count ≤ most_entries
     → Stand m (map entry_words (firsts version)) f → EntriesStop version (firsts version) (count - least_entries version) f g → IsCertificateRefused p g
 further_stops b version p a m f n count g small h k least most first s =

@@ -1,4 +1,4 @@
--- Where nothing is read, the refusal is due.
+-- If nothing is read, the refusal is due.
 use Rattle.std.proofs.Common.{ℕ, zero, suc, ◌<◌, ◌≡◌, List, [], ◌∷◌, ◌++◌, length, refl, ap, sym, ◌∙◌, arith, Option, Some, None, Result, Ok, Err, ◌⊎◌, inl, inr, subst, append-nil, append_assoc}
 use Rattle.basics.specs.Lists.{nil_not_cons, same_head}
 use Rattle.std.proofs.lemmas.Option.{none-some}
@@ -33,7 +33,7 @@ line_stop f p g e =
     let l = line_refuses f p r.0 r.1 in
     (l.0, r.2 ∙ ap (λ (q : Place). fault.Malformed q.at) (sym l.1))
 
--- words that a reading reads aren't those of a line that it doesn't
+-- a line that one reading refuses does not have the words that it accepts
 pub not_next : {A : Type 0} (f : List ℕ → Option A) (ls : List TextLine) (ws : List (List ℕ)) (x : A) → first_by f ls ≡ None → IsNextLine ls ws → f (spaced ws) ≡ Some x → ⊥
 not_next f [] ws x none next e = next
 not_next f (l ∷ ls) ws x none next e = none-some x (sym none ∙ ap (λ (y : TextLine). first_by f (y ∷ ls)) next ∙ e)
@@ -59,7 +59,7 @@ pub record ItemRefused {A : Type 0} (words : A → List (List ℕ)) (P : ℕ →
   pub refuses : refused xs item p.at ≡ Some g
   pub next : IsNextLine p.rest (words item)
 
--- no item is read, or one that is refused
+-- no item is read, or a refused one
 abbrev pub Stop : {A : Type 0} → (ℕ → List ℕ → Option A) → (A → List (List ℕ)) → (ℕ → A → Type 0) → (List A → A → ℕ → Option CertFault) → List A → Place → CertFault → Type 0
 Stop by words P refused xs p g = ((first_by (by (length xs)) p.rest ≡ None) × (g ≡ fault.Malformed p.at)) ⊎ ItemRefused words P refused xs p g
 

@@ -1,4 +1,4 @@
--- Nodes that a text of each version can have.
+-- The nodes that a text of each version can have.
 use Rattle.std.proofs.Common.{List, [], ◌∷◌}
 use Rattle.std.specs.List.{AllByRecursion}
 use Rattle.sp_domain.specs.declared.tags.CarryTag.{CarryTag}
@@ -17,7 +17,7 @@ all_of : {A : Type 0} (P : A → Type 0) → ((x : A) → P x) → (xs : List A)
 all_of P each [] = tt
 all_of P each (x ∷ xs) = (each x, all_of P each xs)
 
--- a version that can say each value and each carry tag
+-- a version with each value and each carry tag
 
 any_slot : (version : Version) → ((v : AbsByte) → ValueIsOf version v) → (s : Slot AbsByte) → SlotIsOf version s
 any_slot version values Free = tt

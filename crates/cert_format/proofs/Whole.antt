@@ -1,4 +1,4 @@
--- A certificate: what is read is spelled so, and what is spelled is read.
+-- Reading and spelling of certificates are inverse.
 use Rattle.std.proofs.Common.{true, ◌-◌, length-append, ℕ, ◌+◌, ◌≤◌, ◌≡◌, List, [], ◌∷◌, ◌++◌, length, map, codes, refl, ap, sym, ◌∙◌, arith, Option, None, Result, Ok, Err, subst, append-nil, lit<}
 use Rattle.std.specs.Prelude.{IfOk}
 use Rattle.std.specs.List.{AllByRecursion, flat_map}
@@ -42,7 +42,7 @@ use Rattle.cert_format.proofs.Kept.{FitsEntry, EntryOf, EntriesKeep, entry_stead
 use Rattle.cert_format.proofs.Versions.{each_of, are_of}
 use Rattle.cert_format.proofs.Parts.{Stand, stand_more, stand_cut, before, stand, plain, numbered_plain, this_take, this_line, number_take, number_line, nodes_take, nodes_line, ListPart, list_take, list_again, version_plain, heading_take, heading_again, witness_part, witness_again, end_part, end_again}
 
--- what the laws of the lower crates say
+-- the laws of the lower crates
 pub record LowerLaws : Type 0 where
   pub words : WordLaws
   pub insts : InstLines
@@ -79,7 +79,7 @@ pub record EntriesPart (version : Version) (p : Place) (z : List Entry × Place)
   pub mode : is_third version ≡ has_pairs z.0
   pub lines : Stand p (entry_lines z.0) z.1
 
--- the entries that a version begins with, and some behind them
+-- the first entries of a version, and some more
 pub some_keep : (version : Version) (items : List Entry) → Admitted (EntryOf (is_third version)) refused_entry (firsts version) items → EntriesKeep (is_third version) (firsts version ++ items)
 some_keep version items h = entries_kept (is_third version) (firsts version) items (record { are = λ _. firsts_are version; mode = sym (firsts_mode version) }) h
 
@@ -327,7 +327,7 @@ one_text k a b h g e = ok_is a b (sym (spelled_is_read k a h) ∙ ap certificate
 
 -- ---- what is answered
 
--- the claim at a text's begin is that of the text
+-- the claim read at the beginning of a text is that of the text
 pub answered : (text : List ℕ) (p q : Place) (r : Result Claim CertFault) → p ≡ record { at = 0; rest = lines_of text } → Answers (λ c. (c, q)) fault.Memory r (claim_at p) → Answers (λ c. c) fault.Memory r (certificate_in text)
 unfolding certificate_in
 answered text p q (Ok c) e h = ap claim_alone (rw e at h)

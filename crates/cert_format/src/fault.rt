@@ -1,23 +1,23 @@
-//! Why a text is no certificate.
+//! Faults of the text of a certificate.
 
 use certificate::Limit;
 use line_reading::Malformed;
 use std::alloc::AllocError;
 use thiserror::Error;
 
-/// Why a text is no certificate, or isn't read. The places are offsets of lines.
+/// Why a text is not read as a certificate. Places are offsets of lines.
 #[derive(Clone, Copy, Debug, PartialEq, Eq, Drop, Error)]
 pub enum CertFault {
-    /// The line at this offset is the first that isn't of its form; or a line is missing, and this is the text's length.
+    /// The first line with the wrong form is at this offset; or a line is missing, and this is the text's length.
     #[error("certificate malformed at {0}")]
     Malformed(usize),
-    /// The line at this offset is of its form but isn't above the last one.
+    /// The line at this offset has the right form but is not above the last one.
     #[error("certificate order at {0}")]
     Order(usize),
     /// A limit is passed.
     #[error("certificate limit")]
     Limit(Limit),
-    /// Want of memory.
+    /// Out of memory.
     #[error("out of memory")]
     Memory,
 }

@@ -1,4 +1,4 @@
-//! The lists of a certificate: one reader of so many lines, and what each list does with a line.
+//! The lists of a certificate: one reader for a given number of lines, and what each list does with a line.
 
 ghost use Rattle.std.specs.Prelude.{◌≡◌, ◌≤◌, ◌<◌, ◌+◌, ℕ, List, [], Option, length};
 ghost use Rattle.avr_model.specs.State as model;
@@ -31,13 +31,13 @@ pub(crate) trait Gathered {
     /// The items so far.
     ghost items: { Self → List Self.Item };
 
-    /// The most items.
+    /// The greatest number of items.
     ghost most: { ℕ };
 
     /// The item of a line's text, by the number of items before it.
     ghost by: { Self → ℕ → List ℕ → Option Self.Item };
 
-    /// Why an item of a line at an offset is refused behind those before it, if it is.
+    /// The refusal of an item of a line at an offset, after those before it, if it is refused.
     ghost refused: { List Self.Item → Self.Item → ℕ → Option CertFault };
 
     // Appends the item of a line's text at this offset.
@@ -47,7 +47,7 @@ pub(crate) trait Gathered {
         ensures same { by self.new ≡ by self.old };
 }
 
-// Reads the item of the next line behind those before it.
+// Reads the item of the next line.
 #[tactic(auto, unfolding(crate::specs::Reading::longer_at, line_reading::specs::Reading::line_by))]
 fn read_next<G: Gathered>(
     alloc: Global,
@@ -65,7 +65,7 @@ fn read_next<G: Gathered>(
     }
 }
 
-// Reads so many items behind those before them.
+// Reads this many items.
 pub(crate) fn read_each<G: Gathered>(
     alloc: Global,
     reader: &mut LineReader<'_>,
@@ -83,7 +83,7 @@ pub(crate) fn read_each<G: Gathered>(
     Ok(())
 }
 
-// Whether an entry can stand behind these: `pairs` is no line behind entries without it.
+// Whether an entry may follow these: `pairs` may not follow entries without it.
 fn is_admitted(list: &Assumptions, entry: &Entry) -> bool
     ensures { result ≡ is_admitted (has_pairs list.now) entry.now }
 {
@@ -155,7 +155,7 @@ impl Gathered for Vec<Inst> {
     }
 }
 
-// Nodes with the version of their lines and the instances that these name by number. It is seen as all three.
+// Nodes, with the version of their lines and the instances that the lines number. Seen as all three.
 #[derive(Drop)]
 pub(crate) struct NodeList<'a> {
     version: Version,

@@ -1,4 +1,4 @@
-//! Laws of certificates' texts. Each function does nothing; its contract is the laws.
+//! Laws of certificates' texts, as contracts of functions with an empty body.
 
 ghost use Rattle.cert_format.specs.LineLaws.{InstLines, NodeLines};
 ghost use Rattle.cert_format.specs.Exact.{ReadCertificateIsSpelled, SpelledCertificateIsRead, CertificatesHaveOneText, PartsMakeClaims};
@@ -10,8 +10,7 @@ use line_reading::laws::word_laws;
 use mask_states::laws::keys_are_ordered;
 use witness_replay::laws::{reading_is_exact, reading_is_text};
 
-/// The words of an instance's line are read as it, and words that are read are those of the instance; the same holds of a node's
-/// line.
+/// Reading and spelling of the lines of instances and nodes are inverse.
 pub fn item_lines()
     ensures instances { InstLines }
     ensures nodes { NodeLines }
@@ -20,8 +19,8 @@ pub fn item_lines()
     key_words();
 }
 
-/// What is read is a certificate's text, each certificate's text is read as it, and no text is that of two certificates; where a
-/// text is refused, the line there tells why. What the parts of a text are read as makes up a claim.
+/// Reading and spelling of certificates are inverse, and no text is that of two certificates. A refused line has the reason. The parts of
+/// a text form a claim.
 pub fn certificate_texts()
     ensures read { ReadCertificateIsSpelled }
     ensures spelled { SpelledCertificateIsRead }

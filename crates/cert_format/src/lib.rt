@@ -1,4 +1,4 @@
-//! Certificates of a whole analysis as text: their reader, and their writer from below. Source: own.
+//! Certificates as text: their reader, and their writer from below. Source: own. Tests: `text_tables`.
 #![tactic(auto)]
 
 pub mod fault;

@@ -16,7 +16,7 @@ use mask_states::NodeKey;
 use sb_base::Words;
 use std::alloc::{AllocError, Global};
 
-// The most that a need can be.
+// The greatest need.
 const SIZE: u64 = device::SIZE as u64;
 
 // The instance of a line.
@@ -46,7 +46,7 @@ pub(crate) fn instance_of(text: &[u8]) -> Option<Inst>
     }
 }
 
-// What a node is, with its instance, which the line names by its number.
+// A node's key: its place, and its instance by number.
 #[tactic(auto, unfolding(crate::specs::LineReading::whole_key_at, crate::specs::LineReading::place_at))]
 fn whole_key_of(words: &mut Words<'_>, version: Version, instances: &[Inst]) -> Option<NodeKey>
     ensures exact { option_map (λ k. (k, words.new)) result ≡ whole_key_at version instances.now words.old }
@@ -59,7 +59,7 @@ fn whole_key_of(words: &mut Words<'_>, version: Version, instances: &[Inst]) -> 
     node_key_of(words, version, &instance.key)
 }
 
-// The node of the line of the number `at` in a certificate of this version.
+// The node of the line number `at` in a certificate of this version.
 #[tactic(auto, unfolding(crate::specs::LineReading::node_in))]
 pub(crate) fn node_of(
     alloc: Global,

@@ -26,7 +26,7 @@ use std::alloc::Global;
 use vector_table::{Assumptions, Entry};
 use witness_replay::{Schedule, ScheduleFault};
 
-// The bytes of SRAM, which are the most that a bound can be.
+// The greatest bound: the size of SRAM.
 const SIZE: u64 = device::SIZE as u64;
 
 // The most assumptions.
@@ -38,7 +38,7 @@ const MOST_INSTANCES: u64 = 65_536;
 // The most nodes.
 const MOST_NODES: u64 = 65_536;
 
-// The number of the next line, where it is a name and a number from a least to a greatest one.
+// The number of the next line, if it is this name and a number in the range.
 #[tactic(auto, unfolding(crate::specs::Reading::numbered_in))]
 fn numbered(reader: &LineReader<'_>, name: &[u8], least: u64, most: u64) -> Option<u64>
     ensures exact { result ≡ first_by (numbered_by name.now least most) reader.now.rest }
@@ -57,7 +57,7 @@ fn numbered(reader: &LineReader<'_>, name: &[u8], least: u64, most: u64) -> Opti
     }
 }
 
-// Reads a line that is a name and a number, from a least to a greatest one.
+// Reads a line of a name and a number in the range.
 #[tactic(auto, unfolding(line_reading::specs::Reading::line_by))]
 fn read_numbered(
     reader: &mut LineReader<'_>,
@@ -74,7 +74,7 @@ fn read_numbered(
     Ok(number)
 }
 
-// How many nodes the next line says that there are, if not too many.
+// The number of nodes in the next line, if it is within the limit.
 #[tactic(auto, unfolding(crate::specs::Reading::count_in))]
 fn count_of(reader: &LineReader<'_>) -> Option<Option<u64>>
     ensures exact { result ≡ first_by count_by reader.now.rest }
@@ -95,7 +95,7 @@ fn count_of(reader: &LineReader<'_>) -> Option<Option<u64>>
     }
 }
 
-// Reads how many nodes there are.
+// Reads the number of nodes.
 #[tactic(auto, unfolding(line_reading::specs::Reading::line_by))]
 fn read_count(reader: &mut LineReader<'_>) -> Result<u64, CertFault>
     ensures exact { Answers (λ n. (n, reader.new)) fault.Memory result (limited (formed (line_by count_by reader.old))) }
@@ -108,7 +108,7 @@ fn read_count(reader: &mut LineReader<'_>) -> Result<u64, CertFault>
     }
 }
 
-// How many assumptions a version has at least.
+// The least number of assumptions of a version.
 fn least_entries(version: Version) -> u64
     ensures { result ≡ least_entries version }
 {
@@ -118,7 +118,7 @@ fn least_entries(version: Version) -> u64
     }
 }
 
-// Reads the assumptions that a version begins with: in the third the line `pairs`.
+// Reads the first assumptions of a version: in the third the line `pairs`.
 #[tactic(auto, unfolding(crate::specs::Reading::first_at, avr_model::specs::Assumptions::has_pairs))]
 fn read_first(
     alloc: Global,
@@ -185,7 +185,7 @@ fn read_nodes(
     told.and(Ok(list.into_nodes()))
 }
 
-// Whether the next line says that a schedule follows.
+// Whether a schedule follows, by the next line.
 #[tactic(auto, unfolding(crate::specs::Reading::ending_by))]
 fn ending_of(reader: &LineReader<'_>) -> Option<bool>
     ensures { result ≡ first_by ending_by reader.now.rest }
@@ -216,7 +216,7 @@ fn read_witness(alloc: Global, reader: &mut LineReader<'_>) -> Result<Option<Sch
     }
 }
 
-// The version that the next line tells.
+// The version in the next line.
 #[tactic(auto, unfolding(crate::specs::Reading::version_by))]
 fn version_of(reader: &LineReader<'_>) -> Option<Version>
     ensures { result ≡ first_by version_by reader.now.rest }
@@ -245,7 +245,7 @@ fn read_heading(reader: &mut LineReader<'_>) -> Result<(Version, u64), CertFault
     Ok((version, bound))
 }
 
-// Reads the last line, behind which there has to be nothing.
+// Reads the last line, after which nothing may follow.
 #[tactic(auto, unfolding(crate::specs::Reading::end_at))]
 fn read_end(reader: &mut LineReader<'_>) -> Result<(), CertFault>
     ensures { Answers (λ u. (u, reader.new)) fault.Memory result (end_at reader.old) }
@@ -273,10 +273,10 @@ fn read_claim(alloc: Global, reader: &mut LineReader<'_>) -> Result<Certificate,
     Ok(claim.with_witness(witness))
 }
 
-/// Reads the certificate whose text this is.
+/// Reads a certificate. The inverse of `cert_writing::writing::write`.
 ///
-/// Where it is that of none, the first line that can't go on decides: `Malformed` where it isn't of its form or is missing,
-/// else `Order` where it isn't above the last one, else `Limit` where a limit is passed.
+/// A text of no certificate is refused at its first bad line: as `Malformed` if it has the wrong form or is missing, else as `Order` if
+/// it is not above the last one, else as `Limit` if a limit is passed.
 pub fn read(alloc: Global, text: &[u8]) -> Result<Certificate, CertFault>
     ensures exact { Answers (λ c. c) fault.Memory result (certificate_in text.now) }
     ensures found { IfOk result (λ c. text.now ≡ text_of c) }

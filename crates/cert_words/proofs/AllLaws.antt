@@ -1,4 +1,4 @@
--- Crates above cite this crate's proofs from here.
+-- The lemmas that crates above cite.
 pub use Rattle.cert_words.proofs.Fields.{word_take, dec_take, joined_words, same_text}
 pub use Rattle.cert_words.proofs.InstKeys.{cons}
 pub use Rattle.cert_words.proofs.Places.{place_unique, has_place}

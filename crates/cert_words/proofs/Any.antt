@@ -1,4 +1,4 @@
--- The letters behind a tag that say that a byte may be any.
+-- The letters after a tag that stand for any byte.
 use Rattle.std.proofs.Common.{◌≡◌, ℕ, List, [], ◌∷◌, length, get_or, codes, Some, refl, sym, ap, subst, ◌∙◌, arith}
 use Rattle.line_reading.specs.Letters.{digits_at}
 use Rattle.bit_domain.specs.Packed.{packed}
@@ -19,7 +19,7 @@ long : SaysAny Two (codes "000000FF")
 unfolding digits_at bits_at ends_at packed
 long tag = refl
 
--- so many letters, told by place
+-- this many letters, by place
 four : (bs : List ℕ) → length bs ≡ 4 → bs ≡ get_or bs 0 0 ∷ get_or bs 1 0 ∷ get_or bs 2 0 ∷ get_or bs 3 0 ∷ []
 four [] h = absurd (omega arith)
 four (a ∷ []) h = absurd (omega arith)

@@ -1,4 +1,4 @@
--- The fields of a line: what is read is spelled so, and what is spelled is read.
+-- Reading and spelling of the fields of a line are inverse.
 use Rattle.std.proofs.Common.{ℕ, zero, suc, ◌<◌, ◌≤◌, ◌^◌, ◌≡◌, ◌==◌, List, [], ◌∷◌, ◌++◌, length, map, codes, Bool, true, false, refl, ap, ap₂, sym, ◌∙◌, arith, Option, Some, nat_lt, subst, lit<, append_assoc}
 use Rattle.std.specs.List.{AllByRecursion}
 use Rattle.std.specs.Str.{bytes_eq}

@@ -1,4 +1,4 @@
--- The key of an instance: what is read is spelled so, and what is spelled is read.
+-- Reading and spelling of the key of an instance are inverse.
 use Rattle.std.proofs.Common.{ℕ, ◌*◌, ◌-◌, ◌<◌, ◌≤◌, ◌≡◌, ◌==◌, ◌&&◌, ◌||◌, ◌⊎◌, inl, inr, List, [], ◌∷◌, ◌++◌, codes, Bool, true, false, not, refl, ap, ap₂, ◌∙◌, arith, Some, nat_le, subst, lit<}
 use Rattle.std.specs.List.{AllByRecursion}
 use Rattle.std.specs.Str.{bytes_eq}

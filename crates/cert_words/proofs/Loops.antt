@@ -1,4 +1,4 @@
--- One word more.
+-- One more word.
 use Rattle.std.proofs.Common.{ℕ, suc, ◌+◌, ◌-◌, ◌<◌, ◌≤◌, ◌≡◌, List, [], ◌∷◌, ◌++◌, length, length-append, take, refl, ap, sym, ◌∙◌, arith, Option, Some, None}
 use Rattle.std.proofs.lemmas.List.{append-nil}
 use Rattle.std.proofs.Math.Seq.{take-append_seam}
@@ -21,7 +21,7 @@ pub word_more : {A : Type 0} (f : List ℕ → Option A) (front longer : List A)
 word_more f front longer count i ws rest x all h e same is =
     ap (λ xs. words_from f xs (count - (i + 1)) rest) same ∙ sym (more f front count i ws (Some (x, rest)) h (sym e)) ∙ is
 
--- a word that isn't
+-- a word that isn't read
 pub no_word : {A : Type 0} (f : List ℕ → Option A) (front : List A) (count i : ℕ) (ws : List (List ℕ)) (all : Option (List A × List (List ℕ))) → i < count
     → None ≡ word_by f ws → words_from f front (count - i) ws ≡ all → None ≡ all
 no_word f front count i ws all h e is = sym (more f front count i ws None h (sym e)) ∙ is

@@ -1,4 +1,4 @@
--- The place of a node in its instance: what is read is spelled so, and what is spelled is read.
+-- Reading and spelling of a node's place in its instance are inverse.
 use Rattle.std.proofs.Common.{ℕ, ◌<◌, ◌≤◌, ◌≡◌, inl, inr, List, [], ◌∷◌, ◌++◌, length, codes, Bool, true, false, refl, ap, ap₂, sym, ◌∙◌, arith, Option, Some, None, nat_lt, subst}
 use Rattle.std.specs.List.{AllByRecursion}
 use Rattle.std.specs.Str.{bytes_eq}

@@ -1,4 +1,4 @@
--- The hulls of all pairs of registers are hulls that words are read beside.
+-- The hulls of all register pairs are valid for reading intervals.
 use Rattle.std.proofs.Common.{ℕ, ◌<◌, List}
 use Rattle.bit_domain.specs.Ranges.{RangesFit}
 use Rattle.abs_state.specs.declared.values.AbsByte.{AbsByte}

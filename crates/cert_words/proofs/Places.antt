@@ -32,7 +32,7 @@ less_differs : (a b : InstKey) → inst_cmp a b ≡ Less → same_inst a b ≡ f
 unfolding same_inst
 less_differs a b e = ap is_eq e
 
--- an instance's number is where it stands
+-- an instance's number is its place
 pub place_unique : KeysAreOrdered → (xs : List Inst) (i : ℕ) (x : Inst) → IsStrictlySortedBy inst_cmp (inst_keys xs) → slice_get xs i ≡ Some x → inst_number x.key xs ≡ i
 unfolding IsStrictlySortedBy
 place_unique o [] i x h e = absurd (none-some x e)
@@ -42,7 +42,7 @@ place_unique o (y ∷ ys) (suc i) x h e =
     let more = place_unique o ys i x h.1 e in
     rw (other, more) (omega arith)
 
--- an instance that is there has a number
+-- an instance in the list has a number
 pub record HasWordPlace (xs : List Inst) (key : InstKey) : Type 0 where
   pub inst : Inst
   pub there : slice_get xs (inst_number key xs) ≡ Some inst

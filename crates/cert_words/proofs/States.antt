@@ -1,4 +1,4 @@
--- The form of a node: what is read is spelled so, and what is spelled is read.
+-- Reading and spelling of the form of a node are inverse.
 use Rattle.std.proofs.Common.{ℕ, ◌<◌, ◌≤◌, ◌≡◌, inl, inr, List, [], ◌∷◌, ◌++◌, length, length-append, map, codes, Bool, true, false, refl, ap, ap₂, sym, ◌∙◌, arith, Option, Some, None, nat_lt, subst, lit<, append_assoc}
 use Rattle.std.specs.List.{AllByRecursion}
 use Rattle.std.specs.Str.{bytes_eq}
@@ -55,7 +55,7 @@ use Rattle.cert_words.proofs.PairHulls.{hull_here, are_hulls}
 
 -- ---- what is known of pairs
 
--- nothing in the first and the second version, and what fits the hulls of these registers in the third
+-- none in the first and second versions; facts that fit the hulls of these registers in the third
 abbrev PairsFit : Version → List AbsByte → Option PairFacts → Type 0
 PairsFit One registers x = x ≡ None
 PairsFit Two registers x = x ≡ None

@@ -1,4 +1,4 @@
--- The words of values, slots, flags, carry tags and forms: what is read is spelled so, and what is spelled is read.
+-- Reading and spelling of values, slots, flags, carry tags and forms are inverse.
 use Rattle.std.proofs.Common.{ℕ, ◌-◌, ◌%◌, ◌<◌, ◌≤◌, ◌^◌, ◌≡◌, ◌==◌, ◌&&◌, not, nat_le, inl, inr, List, [], ◌∷◌, ◌++◌, length, take, drop, codes, Bool, true, false, refl, ap, ap₂, sym, ◌∙◌, arith, Some, cond, nat_lt, subst, length-append, append_assoc}
 use Rattle.std.proofs.lemmas.Bool.{eqb-true, false≢true, not-true, and_parts}
 use Rattle.std.proofs.lemmas.Bool.Decides.{nat_tests}
@@ -149,7 +149,7 @@ ends_again k r bits low high least ordered most =
     let first : low < 16 ^ 2 = omega (arith, ordered, last) in
     rw (digits_again k 2 low (hex_digits high 2) first, digits_alone k 2 high last, test_from_at_most (least_of bits) low least, test_from_at_most low high ordered, test_from_at_most high (most_of bits) most) refl
 
--- the value of these parts
+-- the value from these parts
 abbrev value_of : Tag → TriByte → ℕ × ℕ → AbsByte
 value_of t bits ends = record { tag = t; bits = bits; low = ends.0; high = ends.1 }
 

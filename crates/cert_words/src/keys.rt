@@ -53,7 +53,7 @@ fn kind_of(word: &[u8]) -> Option<Kind>
     }
 }
 
-// Whether the vector begins at this word, where vectors are two words long or one.
+// Whether the vector begins at this word, for vectors of two words or of one.
 fn is_vector_word(vector: u8, entry: u16) -> bool
     requires { 2 ≤ vector }
     ensures { result ≡ is_vector_word vector entry }
@@ -62,7 +62,7 @@ fn is_vector_word(vector: u8, entry: u16) -> bool
     entry == 2 * before || entry == before
 }
 
-// Whether an instance of this kind can have this entry, these enable bits and this I.
+// Whether an instance of this kind may have this entry, these enable bits and this I.
 fn fits_kind(kind: Kind, entry: u16, masks: Masks, i: bool) -> bool
     ensures { result ≡ fits_kind kind entry masks i }
 {
@@ -73,8 +73,7 @@ fn fits_kind(kind: Kind, entry: u16, masks: Masks, i: bool) -> bool
     }
 }
 
-/// An instance by its next words: kind, entry, enable bits and I. None exactly where they are those of no instance that there
-/// can be.
+/// An instance by its next words: kind, entry, enable bits and I. None exactly if they are those of no valid instance.
 #[tactic(auto, unfolding(crate::specs::KeyReading::inst_key_at))]
 pub fn inst_key_of(words: &mut Words<'_>) -> Option<InstKey>
     ensures { option_map (λ k. (k, words.new)) result ≡ inst_key_at words.old }
@@ -108,7 +107,7 @@ pub fn is_root(kind: Kind) -> bool
     }
 }
 
-// The pick, for which the first version has no word.
+// The pick, which the first version has no word for.
 #[tactic(auto, unfolding(crate::specs::KeyReading::pick_in))]
 fn pick_of(words: &mut Words<'_>, version: Version) -> Option<Option<u8>>
     ensures { option_map (λ p. (p, words.new)) result ≡ pick_at version words.old }
@@ -128,8 +127,8 @@ fn pick_of(words: &mut Words<'_>, version: Version) -> Option<Option<u8>>
     }
 }
 
-/// A node of this instance by its next words in a certificate of this version: word, enable bits, I, delay, form of the stack
-/// pointer and, but in the first, pick. None exactly where they are those of no node that it can have.
+/// A node of this instance by its next words in a certificate of this version: word, enable bits, I, delay, form of the stack pointer
+/// and, except in the first version, pick. None exactly if they are those of no valid node.
 #[tactic(auto, unfolding(crate::specs::KeyReading::node_key_at))]
 pub fn node_key_of(words: &mut Words<'_>, version: Version, inst: &InstKey) -> Option<NodeKey>
     ensures exact { option_map (λ k. (k, words.new)) result ≡ node_key_at version inst.now words.old }

@@ -1,5 +1,5 @@
-//! The words of certificates: the one spelling of values, keys and forms of nodes, the certificate's text made up of them, and
-//! readers of the words. Source: own.
+//! The words of certificates: the one spelling of values, keys and forms of nodes, the certificate's text from them, and readers of the
+//! words. Source: own. Tests: `text_tables`.
 #![tactic(auto)]
 
 mod keys;

@@ -1,4 +1,4 @@
-//! The words of what is known at a node.
+//! The words of a node's state.
 
 ghost use Rattle.std.specs.Prelude.{◌≡◌, ◌∷◌, [], IfOk};
 ghost use Rattle.std.specs.Option.{option_map};
@@ -43,7 +43,7 @@ fn registers_of(
     Some(registers)
 }
 
-// So many slots.
+// This many slots.
 fn slots_of(
     alloc: Global,
     words: &mut Words<'_>,
@@ -78,7 +78,7 @@ fn both_flags_of(words: &mut Words<'_>, version: Version, root: bool) -> Option<
     Some(AbsFlags { entry, bits, carry })
 }
 
-// What is known of the pairs of these registers, for which the third version alone has words.
+// The facts on pairs of these registers, which only the third version has words for.
 fn pairs_of(
     alloc: Global,
     words: &mut Words<'_>,
@@ -96,7 +96,7 @@ fn pairs_of(
     }
 }
 
-// What is known at a node, where the first register has this value.
+// A node's state, whose first register has this value.
 #[tactic(auto, unfolding(crate::specs::KeyReading::state_behind))]
 fn state_of(
     alloc: Global,
@@ -128,9 +128,9 @@ fn state_of(
     }))
 }
 
-/// The form of the node of the number `at` by its next words in a certificate of this version, whose frame is the root's or another
-/// and whose stack pointer has this offset: a state, or `from` and the number of an earlier node. None exactly where they are those
-/// of no such node.
+/// The form of node number `at` by its next words in a certificate of this version: a state, or `from` and the number of an earlier node.
+/// `root` says whether its frame is the root's, and `offset` is that of its stack pointer. None exactly if they are the words of no valid
+/// form.
 #[tactic(auto, unfolding(crate::specs::KeyReading::form_at, crate::specs::KeyReading::from_behind))]
 pub fn node_form_of(
     alloc: Global,

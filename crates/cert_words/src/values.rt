@@ -20,7 +20,7 @@ use pair_words::register_of;
 use sb_base::{Words, read_dec};
 use sp_domain::{CarryTag, Slot, Tag};
 
-// The most that an offset can be.
+// The greatest offset.
 const SIZE: u64 = device::SIZE as u64;
 
 // Known bits and their values.
@@ -37,7 +37,7 @@ fn bits_of(letters: &mut Letters<'_>) -> Option<TriByte>
     }
 }
 
-// The tag of a value, which the root's frame hasn't.
+// The tag of a value; the root's frame has none.
 #[tactic(auto, unfolding(crate::specs::Reading::tag_at, crate::specs::Reading::tag_by))]
 fn tag_of(letters: &mut Letters<'_>, root: bool) -> Option<Tag>
     ensures { option_map (λ t. (t, letters.new)) result ≡ tag_at root letters.old }
@@ -60,7 +60,7 @@ fn tag_of(letters: &mut Letters<'_>, root: bool) -> Option<Tag>
     }
 }
 
-// The ends of the range of a value with these bits: it lies between the least and the greatest byte of the bits.
+// The ends of a value's range, between the least and the greatest byte of the bits.
 #[tactic(auto, unfolding(crate::specs::Reading::ends_at))]
 fn range_of(letters: &mut Letters<'_>, version: Version, bits: TriByte) -> Option<(u8, u8)>
     ensures { option_map (λ r. (r, letters.new)) result ≡ range_at version bits letters.old }
@@ -81,7 +81,7 @@ fn range_of(letters: &mut Letters<'_>, version: Version, bits: TriByte) -> Optio
     }
 }
 
-// Whether these letters say that a byte may be any, as most do behind a value's tag: so they are known at sight.
+// Whether these letters stand for any byte, as most letters after a tag do: a fast path.
 fn are_any(letters: &[u8], version: Version) -> bool
     ensures { IsTrue result → (tag : Tag) → value_behind version tag letters.now ≡ Some (with_bits tag (tri_byte 0 0)) }
 {
@@ -129,7 +129,7 @@ pub(crate) fn slot_of(words: &mut Words<'_>, version: Version, root: bool) -> Op
     }
 }
 
-// The flags of a word: whether they are those at the frame's entry, and their bits.
+// The flags of a word: whether they are those of the entry, and their bits.
 #[tactic(auto, unfolding(crate::specs::Reading::flags_in))]
 pub(crate) fn flags_of(word: &[u8], root: bool) -> Option<(bool, TriByte)>
     ensures { result ≡ flags_in root word.now }
@@ -148,7 +148,7 @@ pub(crate) fn flags_of(word: &[u8], root: bool) -> Option<(bool, TriByte)>
     }
 }
 
-// Two bytes, behind which nothing stands.
+// Two bytes, and nothing else.
 #[tactic(auto, unfolding(crate::specs::Reading::bytes_in))]
 fn bytes_of(letters: &mut Letters<'_>) -> Option<(u8, u8)>
     ensures { result ≡ bytes_in letters.old }
@@ -162,7 +162,7 @@ fn bytes_of(letters: &mut Letters<'_>) -> Option<(u8, u8)>
     }
 }
 
-// The carry tag that a letter begins, which isn't that of none.
+// The carry tag of a letter, other than none.
 #[tactic(auto, unfolding(crate::specs::Reading::less_in))]
 fn tagged_by(letter: u8, letters: &mut Letters<'_>, root: bool) -> Option<CarryTag>
     ensures { result ≡ tagged_by root letter letters.old }
@@ -219,7 +219,7 @@ fn offset_of(digits: &[u8]) -> Option<u16>
     }
 }
 
-// A number behind a comma and a mark.
+// A number after a comma and a letter.
 #[tactic(auto, unfolding(crate::specs::Reading::marked_in))]
 fn marked_of(text: &[u8], mark: u8, digits: usize) -> Option<u32>
     requires some { 1 ≤ digits }

@@ -1,4 +1,4 @@
--- Where an instance stands in a list.
+-- The place of an instance in a list.
 use Rattle.std.proofs.Common.{ℕ, zero, suc, ◌+◌, ◌<◌, ◌≤◌, ◌≡◌, List, [], ◌∷◌, length, get_or, Bool, true, false, refl, ap, sym, ◌∙◌, arith, Option, Some, None, nat_lt, subst}
 use Rattle.std.specs.Prelude.{IfSome, IfNone, Contains, slice_get}
 use Rattle.std.specs.Option.{unwrap_or}
@@ -28,7 +28,7 @@ none_by insts key from j i x false before here other low lt e at =
     let same : i ≡ j = grind (arith, nat_tests, e, lt) in
     other (ap (λ (y : Inst). y.key) (same_Some x at.0 (sym here ∙ ap (slice_get insts) (sym same) ∙ at.1)) ∙ at.2)
 
--- one instance more has another key
+-- one more instance, with another key
 pub none_more : (insts : List Inst) (key : InstKey) (from j : ℕ) (x : Inst) → NoneBefore insts key from j → j < length insts → x ≡ get_or insts j x → ((get_or insts j x).key ≡ key → ⊥) → NoneBefore insts key from (j + 1)
 none_more insts key from j x before lt is other = λ i low less at.
     none_by insts key from j i x (nat_lt i j) before (slice_get_read insts (length insts) j x refl lt is) (λ e. other (ap (λ (y : Inst). y.key) (sym is) ∙ e)) low less refl at

@@ -1,4 +1,4 @@
--- How long the words and lines of a certificate are.
+-- The length of the words and lines of a certificate.
 use Rattle.std.proofs.Common.{ℕ, ◌+◌, ◌*◌, ◌-◌, ◌<◌, ◌≤◌, ◌≡◌, ◌&&◌, List, [], ◌∷◌, ◌++◌, length, length-append, map, codes, Bool, true, false, not, refl, ap, ◌∙◌, arith, Option, Some, None, cond, nat_le}
 use Rattle.std.specs.Prelude.{IfSome}
 use Rattle.std.specs.Fmt.{decimal}
@@ -60,7 +60,7 @@ use Rattle.cert_writing.specs.Sizes.{HasFewChoices, TextsFit}
 
 -- ---- lines
 
--- how many bytes words take, each with what stands behind it
+-- the number of bytes of words, each with the separator after it
 abbrev taken : List (List ℕ) → ℕ
 taken [] = 0
 taken (w ∷ ws) = length w + 1 + taken ws
@@ -77,7 +77,7 @@ taken_both : (vs ws : List (List ℕ)) → taken (vs ++ ws) ≡ taken vs + taken
 taken_both [] ws = omega arith
 taken_both (v ∷ vs) ws = omega (arith, taken_both vs ws)
 
--- words of which none is above 13 bytes
+-- words of at most 13 bytes
 taken_few : {A : Type 0} (word : A → List ℕ) → ((x : A) → length (word x) ≤ 13) → (xs : List A) → taken (map word xs) ≤ 14 * length xs
 taken_few word short [] = omega arith
 taken_few word short (x ∷ xs) = omega (arith, short x, taken_few word short xs)
@@ -135,7 +135,7 @@ carry_short (carry.Borrow j l) = omega (arith, pair_long j l)
 carry_short (carry.Sum j l) = omega (arith, pair_long j l)
 carry_short (carry.Less r k) = omega (arith, pair_long r k)
 
--- four words: at most 13, 7, 3 and 160 bytes, each with what stands behind it
+-- four words of at most 13, 7, 3 and 160 bytes, each with the separator after it
 pairs_short : (version : Version) (registers : List AbsByte) (x : Option PairFacts) → KnownFits x → taken (pairs_words version registers x) ≤ 187
 pairs_short One registers x h = omega arith
 pairs_short Two registers x h = omega arith
@@ -295,7 +295,7 @@ heading_short version bound h =
     let number = line_more (numbered (codes "bound") bound) [] in
     omega (arith, line_more (version_line version) (numbered (codes "bound") bound ∷ []), version_short version, number, number_short bound (omega (arith, h)))
 
--- a list with its number
+-- a list with its count
 list_short : (name : List ℕ) (n most : ℕ) (ls : List (List (List ℕ))) → length name ≤ 9 → n ≤ 65536 → size ls ≤ most → size (numbered name n ∷ ls) ≤ most + 100
 list_short name n most ls short few h = omega (arith, line_more (numbered name n) ls, short, number_short n (omega (arith, few)), h)
 

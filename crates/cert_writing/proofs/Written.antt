@@ -1,4 +1,4 @@
--- What is written, digit by digit, word by word and line by line.
+-- The output, digit by digit, word by word and line by line.
 use Rattle.std.proofs.Common.{ℕ, ◌+◌, ◌<◌, ◌≡◌, List, [], ◌∷◌, ◌++◌, length, map, take, get_or, refl, ap, ap₂, sym, ◌∙◌, append-nil, codes, Some, None}
 use Rattle.std.proofs.lemmas.List.{map-append, take_more}
 use Rattle.std.proofs.lemmas.Grind.{flat_map-append}
@@ -22,7 +22,7 @@ use Rattle.cert_words.specs.Spelling.{tag_text, bits_text, range_text, value_wor
 use Rattle.cert_words.specs.KeySpelling.{pairs_words, state_words}
 use Rattle.cert_words.specs.Text.{numbered, version_line, heading, entry_lines, inst_words, inst_lines, node_words, node_lines, front_lines, open_line, attained_line, witness_lines, end_line, text_of}
 
--- the word of a value by its three parts
+-- the word of a value from its three parts
 pub spelled : (v : AbsByte) (ts bs rs : List ℕ) → tag_text v.tag ≡ ts → bits_text v.bits ≡ bs → range_text Two v ≡ rs → ts ++ (bs ++ rs) ≡ value_word Two v
 spelled v ts bs rs t b r = sym (ap₂ (λ (xs ys : List ℕ). xs ++ ys) t (ap₂ (λ (xs ys : List ℕ). xs ++ ys) b r))
 
@@ -114,7 +114,7 @@ all_written w a b u c e f g =
     both_written w a u (front_lines c) (witness_lines c.witness ++ end_line ∷ []) e
     (both_written a b u (witness_lines c.witness) (end_line ∷ []) f (g ∙ ap (with_text b) (sym (one_line end_line))))
 
--- all parts, each behind the one before it
+-- all parts, one after the other
 pub parts_written : AppendingLaws → (w h a e n i m x t v u : Written) (c : Claim) → h ≡ with_text w (flat_map line (heading c.version c.bound))
     → a ≡ with_text h (line (numbered (codes "assume") (length c.assumptions))) → e ≡ with_text a (entries_text c.assumptions)
     → n ≡ with_text e (line (numbered (codes "instances") (length c.instances))) → i ≡ with_text n (flat_map line (map inst_words c.instances))

@@ -71,7 +71,7 @@ fn write_form(out: &mut LineWriter, alloc: Global, form: &SpForm) -> Result<(), 
     out.word(&word)
 }
 
-/// Writes an instance: kind, entry, enable bits and I. After want of memory some first words are written.
+/// Writes an instance: kind, entry, enable bits and I. If memory runs out, a prefix of the words was written.
 pub fn write_inst_key(out: &mut LineWriter, alloc: Global, key: &InstKey) -> Result<(), AllocError>
     ensures { OnOk result (out.new ≡ with_words out.old (inst_key_words key.now)) }
 {
@@ -81,7 +81,7 @@ pub fn write_inst_key(out: &mut LineWriter, alloc: Global, key: &InstKey) -> Res
     write_bit(out, key.i)
 }
 
-// Writes a pick, for which the first version has no word.
+// Writes a pick, which the first version has no word for.
 fn write_pick(out: &mut LineWriter, version: Version, pick: Option<u8>) -> Result<(), AllocError>
     ensures { OnOk result (out.new ≡ with_words out.old (pick_words version pick)) }
 {
@@ -94,7 +94,7 @@ fn write_pick(out: &mut LineWriter, version: Version, pick: Option<u8>) -> Resul
     }
 }
 
-// Writes a node within its instance: word, enable bits, I, delay, form of the stack pointer and, but in the first version, pick.
+// Writes a node within its instance: word, enable bits, I, delay, form of the stack pointer and, except in the first version, pick.
 pub(crate) fn write_place(
     out: &mut LineWriter,
     alloc: Global,
@@ -111,8 +111,8 @@ pub(crate) fn write_place(
     write_pick(out, version, key.pick)
 }
 
-/// Writes a node with its instance: kind, entry, enable bits and I of the instance, then word, enable bits, I, delay, form of the
-/// stack pointer and pick. After want of memory some first words are written.
+/// Writes a node with its instance: kind, entry, enable bits and I of the instance, then word, enable bits, I, delay, form of the stack
+/// pointer and pick. If memory runs out, a prefix of the words was written.
 pub fn write_key(out: &mut LineWriter, alloc: Global, key: &NodeKey) -> Result<(), AllocError>
     ensures { OnOk result (out.new ≡ with_words out.old (node_key_words key.now)) }
 {

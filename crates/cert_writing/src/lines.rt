@@ -66,7 +66,7 @@ fn place_from(insts: &[Inst], from: usize, key: &InstKey) -> Option<usize>
     None
 }
 
-// The number of the instance, which is there. It is looked for from the guess on first.
+// The number of the instance, which must be in the list. The search begins at the guess.
 fn place(insts: &[Inst], guess: usize, key: &InstKey) -> usize
     requires sorted { IsStrictlySortedBy inst_cmp (inst_keys insts.now) }
     requires there { Contains (inst_keys insts.now) key.now }

@@ -1,4 +1,4 @@
-//! The words of what is known at a node.
+//! The words of a node's state.
 
 ghost use Rattle.std.specs.Prelude.{◌≡◌, map, OnOk};
 ghost use Rattle.sb_base.specs.Writing.{with_words};
@@ -42,7 +42,7 @@ fn write_slots(
     Ok(())
 }
 
-// Writes what is known of the pairs of a state's registers, for which the third version alone has words.
+// Writes the facts on pairs of a state, which only the third version has words for.
 fn write_pairs(
     out: &mut LineWriter,
     alloc: Global,

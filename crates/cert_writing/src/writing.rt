@@ -51,7 +51,7 @@ fn write_heading(out: &mut LineWriter, version: Version, bound: u16) -> Result<(
     Ok(())
 }
 
-// Writes the schedule, or that there is none.
+// Writes the schedule, or the line that there is none.
 #[tactic(auto, using(crate::proofs::Written::open_written))]
 fn write_witness(out: &mut LineWriter, certificate: &Certificate) -> Result<(), AllocError>
     requires { out.old.begun ≡ false }
@@ -94,7 +94,7 @@ fn write_all(
     Ok(())
 }
 
-// What is seen of a certificate is one.
+// A certificate meets the definition of one.
 fn keeps(certificate: &Certificate)
     ensures { IsCertificate certificate.now }
 {
@@ -105,7 +105,7 @@ fn keeps(certificate: &Certificate)
     }
 }
 
-/// The one text of a certificate. `cert_format::read` reads it as that certificate.
+/// The text of the certificate. The inverse of `cert_format::read`. Fails if memory runs out.
 pub fn write(alloc: Global, certificate: &Certificate) -> Result<Vec<u8>, AllocError>
     ensures text { IfOk result (λ v. v.items ≡ text_of certificate.now) }
     ensures kept { IsCertificate certificate.now }

@@ -1,3 +1,3 @@
--- Crates above cite this crate's proofs from here.
+-- The lemmas that crates above cite.
 pub use Rattle.certificate.proofs.Sound.{conditions_make_families_sound, claims_are_seeds, number_of}
 pub use Rattle.certificate.proofs.PairHulls.{hull_here, count_hulls, hull_fits}

@@ -1,4 +1,4 @@
--- What a certificate keeps when its schedule changes.
+-- Changing the schedule keeps the invariants of a certificate.
 use Rattle.std.proofs.Common.{Option}
 use Rattle.witness_replay.specs.Spelling.{Plan}
 use Rattle.certificate.specs.Claims.{Claim, IsClaim}

@@ -1,4 +1,4 @@
--- The hulls of all pairs of registers, by their numbers.
+-- The hulls of all register pairs, by number.
 use Rattle.std.proofs.Common.{◌≡◌, sym, ◌∙◌, ap₂, subst, ℕ, ◌+◌, ◌*◌, ◌<◌, ◌≤◌, List, length, length-set, get_or, slice_set, arith}
 use Rattle.std.proofs.lemmas.List.{get_or_default}
 use Rattle.std.proofs.lemmas.List.Edits.{fill_by_more}
@@ -34,12 +34,12 @@ hull_fits registers n h each = subst IntervalFits (sym (hull_here registers n h)
           small = omega (arith, lo.high, hi.high, ranges_fit.most (value_at registers (2 * n)).bits, ranges_fit.most (value_at registers (2 * n + 1)).bits);
         }
 
--- the loop that writes them has written this many
+-- the first hulls are written
 pub record AreFirst (registers : List AbsByte) (hulls : List Interval) (n : ℕ) : Type 0 where
   pub count : length hulls ≡ 16
   pub done : (k : ℕ) → k < n → get_or hulls k whole ≡ hull_at registers k
 
--- one more, made of two registers as they are read
+-- one more hull, of two registers as they are read
 pub one_more : (registers : List AbsByte) (hulls : List Interval) (n : ℕ) (lo hi : AbsByte) (i : Interval) → 2 * n + 1 < length registers → n < length hulls
     → i ≡ hull (set_of (get_or registers (2 * n) lo)) (set_of (get_or registers (2 * n + 1) hi)) → AreFirst registers hulls n
     → AreFirst registers (slice_set hulls n i) (n + 1)

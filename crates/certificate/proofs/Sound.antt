@@ -1,4 +1,4 @@
--- What the type of a certificate keeps is what an expansion asks for, and the conditions make a family sound.
+-- The invariants of the type are the premises of an expansion, and the conditions make a family sound.
 use Rattle.std.proofs.Common.{Bool, ◌≡◌, refl, sym, subst, ℕ, zero, suc, ◌+◌, List, [], ◌∷◌, length, Some, Contains, arith}
 use Rattle.std.specs.List.{slice_get}
 use Rattle.std.proofs.lemmas.Option.{none-some, same_Some, slice_get_read}

@@ -1,4 +1,4 @@
-//! What a certificate is.
+//! Certificates.
 
 ghost use Rattle.std.specs.Prelude.{◌≡◌, ◌<◌, length, slice_get, Some, None};
 ghost use Rattle.std.specs.Option.{option_copied};
@@ -13,9 +13,9 @@ use std::marker::Model;
 use vector_table::Assumptions;
 use witness_replay::Schedule;
 
-/// A claim about a firmware: at most `bound` bytes lie on the stack. Beside the bound it has the assumptions that it rests on,
-/// the instances and the nodes that every run stays in, and maybe a schedule whose run attains the bound. Its numbers are in
-/// range, its lists ascend strictly, the instance of each node is there, and it keeps the limits. Source: own.
+/// A claim on a firmware: its stack takes at most `bound` bytes. Besides the bound it has the assumptions, the instances and nodes that
+/// every run stays in, and possibly a schedule whose run attains the bound. Its numbers are in range, its lists ascend strictly, each
+/// node's instance is in the list, and it is within the limits. Source: own.
 #[derive(Drop)]
 pub struct Certificate {
     version: Version,
@@ -37,8 +37,8 @@ impl Model for Certificate {
 }
 
 impl Certificate {
-    /// The certificate of these parts, which keep to the ranges, the order and the limits. It is of the version in which one with these
-    /// assumptions is written, and has no schedule.
+    /// The certificate of these parts, which must be in range, in order and within the limits. Its version is the one for these
+    /// assumptions, and it has no schedule.
     pub fn build(
         bound: u16,
         assumptions: Assumptions,
@@ -52,8 +52,8 @@ impl Certificate {
         Certificate::of_version(version, bound, assumptions, instances, nodes)
     }
 
-    /// The certificate of this version and these parts, which keep to the ranges, the order and the limits, and to what a text of the
-    /// version can say. It has no schedule.
+    /// The certificate of this version and these parts, which must be in range, in order, within the limits, and in the version. It has
+    /// no schedule.
     pub fn of_version(
         version: Version,
         bound: u16,
@@ -74,7 +74,7 @@ impl Certificate {
         }
     }
 
-    /// The same with another schedule, or with none.
+    /// The certificate with another schedule, or with none.
     #[tactic(auto, using(crate::proofs::Kept::with_witness))]
     pub fn with_witness(self, schedule: Option<Schedule>) -> Certificate
         ensures { result ≡ record { version = self.version; bound = self.bound; assumptions = self.assumptions; instances = self.instances; nodes = self.nodes; witness = schedule } }
@@ -103,7 +103,7 @@ impl Certificate {
         self.bound
     }
 
-    /// The assumptions that it rests on.
+    /// The assumptions.
     pub fn assumptions(&self) -> &Assumptions
         ensures { result.now ≡ self.now.assumptions }
     {
@@ -117,14 +117,14 @@ impl Certificate {
         &self.instances
     }
 
-    /// How many instances there are.
+    /// The number of instances.
     pub fn count_instances(&self) -> usize
         ensures { result ≡ length self.now.instances }
     {
         self.instances.len()
     }
 
-    /// Instance `j`, which is there.
+    /// Instance `j`; `j` must be below the count.
     pub fn instance(&self, j: usize) -> Inst
         requires { j < length self.now.instances }
         ensures { Some result ≡ slice_get self.now.instances j }
@@ -132,7 +132,7 @@ impl Certificate {
         self.instances[j]
     }
 
-    /// The nodes, strictly ascending by key, at most 65,536. With the other parts they keep what every certificate keeps.
+    /// The nodes, strictly ascending by key, at most 65,536. All parts meet the definition of a certificate.
     pub fn nodes(&self) -> &[(NodeKey, NodeForm)]
         ensures value { result.now ≡ self.now.nodes }
         ensures kept { IsClaim self.now }

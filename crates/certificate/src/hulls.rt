@@ -1,4 +1,4 @@
-//! The hulls of all pairs of registers.
+//! The hulls of all register pairs.
 
 ghost use Rattle.std.specs.Prelude.{◌≡◌};
 ghost use Rattle.certificate.specs.Hulls.{hulls_of};

@@ -5,10 +5,10 @@ use mask_states::InstKey;
 /// An instance of a certificate: the root, one call or one interrupt entry.
 #[derive(Clone, Copy)]
 pub struct Inst {
-    /// What it is.
+    /// Its key.
     pub key: InstKey,
     /// Above the ranks of all instances that it enters, at most 65,535.
     pub rank: u32,
-    /// How many bytes it needs below its base with all that it enters, at most 2,048.
+    /// The bytes that it needs below its base with all that it enters, at most 2,048.
     pub need: u32,
 }

@@ -1,4 +1,4 @@
-//! Certificates: what they claim of a firmware, and when they are valid. Source: own.
+//! Certificates: their claim on a firmware, and when they are valid. Source: own.
 #![tactic(auto)]
 
 pub mod certificate;

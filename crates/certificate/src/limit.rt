@@ -1,6 +1,6 @@
 //! The limits of certificates. Source: own.
 
-/// What a certificate has too many of.
+/// The limit that a certificate exceeds.
 #[derive(Clone, Copy, Debug, PartialEq, Eq, Drop)]
 pub enum Limit {
     /// Nodes: more than 65,536.

@@ -8,17 +8,16 @@ use vector_table::Assumptions;
 /// The version of a certificate, which decides what its text can say.
 #[derive(Clone, Copy, PartialEq, Eq)]
 pub enum Version {
-    /// The first: a value's range is that of its bits, no carry tag is of a register or a sum, and no node has a pick.
+    /// The first: a value's range is that of its bits, no carry tag is a register's or a sum's, and no node has a pick.
     One,
     /// The second: ranges, carry tags of registers and of sums, and picks are written.
     Two,
-    /// The third: also what is known of pairs of registers. It is for certificates whose assumptions have the line `pairs`, and only for
+    /// The third: facts on register pairs are written too. It is for certificates whose assumptions have the line `pairs`, and only for
     /// these.
     Three,
 }
 
-/// The version in which a certificate with these assumptions is written: the third exactly where they have the line `pairs`, else the
-/// second.
+/// The version of a certificate with these assumptions: the third exactly if they have the line `pairs`, else the second.
 pub fn written_version(assumptions: &Assumptions) -> Version
     ensures { result ≡ written_version assumptions.now }
 {

@@ -1,4 +1,4 @@
--- A level that has a command's names and options takes every line of them that is the command.
+-- A level with a command's names and options accepts every line that is the command.
 use Rattle.std.proofs.Common.{◌≡◌, ℕ, suc, ◌||◌, ◌&&◌, not, nat_lt, List, [], ◌∷◌, ◌++◌, Bool, true, false, refl, ap, ap₂, sym, subst, ◌∙◌, codes, Option, Some, None, cond, is_some}
 use Rattle.std.specs.List.{list_all}
 use Rattle.std.specs.Option.{option_map_or}
@@ -20,7 +20,7 @@ use Rattle.clap_words.proofs.Rows.{is_explicit, new_row, has_row_end, explicit_e
 
 -- ---- what is asked of a level
 
--- what is found once a value that waits is used
+-- the rows after a waiting value is used
 abbrev pub rows_at : Shape → Held → List Row
 rows_at s h = (settled s.rules h).rows
 
@@ -30,7 +30,7 @@ settles s h = settle_passes s.rules s.args_override_self h
 abbrev pub row : Text → Reading → List Text → Row
 row id how values = record { id = id; values = values; count = None; source = Some CommandLine; reading = how }
 
--- an argument of one value, which is used once
+-- an argument of one value that is used once
 pub record IsUsable (s : Shape) (a : Rule) (id : Text) : Type 0 where
   pub how : Reading
   pub found : arg_by_id s.rules a.id ≡ Some a
@@ -55,7 +55,7 @@ pub record IsOption (s : Shape) (name : Text) : Type 0 where
   pub takes : takes_values rule ≡ true
   pub one : (word : Text) → not (nat_lt (pending_count rule (Some (rule.id, word ∷ []))) (most_values rule)) ≡ true
 
--- an option that takes none
+-- an option without a value
 pub record IsFlag (s : Shape) (name : Text) : Type 0 where
   pub rule : Rule
   pub how : Reading
@@ -65,7 +65,7 @@ pub record IsFlag (s : Shape) (name : Text) : Type 0 where
   pub passes : (rows : List Row) → has_row name rows ≡ false → use_passes s.args_override_self rule [] rows ≡ true
   pub adds : (rows : List Row) → used rule [] rows ≡ with_values name how CommandLine values (without name rows)
 
--- which options a command has, and whether it has a second name
+-- the options of a command, and whether it has a second name
 pub record AllowsWords : Type 0 where
   pub second : Bool
   pub given : Valued → Bool
@@ -84,7 +84,7 @@ pub record IsWordLevel (s : Shape) (w : AllowsWords) (id : Text) : Type 0 where
   pub of_given : (v : Valued) → (bytes_eq id (option_name v) ≡ false) × (bytes_eq (option_name v) id ≡ false)
   pub of_marked : (m : Mark) → (bytes_eq id (mark_name m) ≡ false) × (bytes_eq (mark_name m) id ≡ false)
 
--- the line has what the command wants, and nothing else
+-- the line has all that the command requires, and nothing else
 pub record IsWanted (w : AllowsWords) (l : Line) : Type 0 where
   pub first : is_some l.first ≡ true
   pub second : is_some l.second ≡ w.second
@@ -188,7 +188,7 @@ module _ (s : Shape) (w : AllowsWords) (id : Text) (level : IsWordLevel s w id) 
     order = λ h. ap is_some (marked_first m line) ∙ k.order (ap is_some (sym (marked_second m line)) ∙ h);
   }
 
-  -- of one option's row and another's
+  -- of one option's row and of another's
   one_more : (v u : Valued) (line : Line) (word : Text) (rows : List Row) (how : Reading) → has_row (option_name u) rows ≡ is_some (value_of u line)
       → has_row (option_name u) (rows ++ row (option_name v) how (word ∷ []) ∷ []) ≡ is_some (value_of u (valued v line word))
   one_more Assume Assume line word rows how k = gains (option_name Assume) (row (option_name Assume) how (word ∷ [])) rows refl
@@ -248,7 +248,7 @@ module _ (s : Shape) (w : AllowsWords) (id : Text) (level : IsWordLevel s w id) 
 
   -- ---- one piece
 
-  -- a value that waits for its use
+  -- a value that waits for its option
   abbrev kept : Rule → Text → Held → Held
   kept a word h = record { rows = rows_at s h; pending = Some (a.id, word ∷ []); skip = h.skip }
 

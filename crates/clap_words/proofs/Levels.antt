@@ -1,4 +1,4 @@
--- A command's words are taken where its own level takes them.
+-- A command's words are accepted exactly if its own level accepts them.
 use Rattle.std.proofs.Common.{◌≡◌, ◌&&◌, List, [], ◌∷◌, ◌++◌, Bool, true, false, Some, refl, ap, sym, ◌∙◌, codes, append_assoc, append-nil, is_some}
 use Rattle.std.specs.Prelude.{find, fold}
 use Rattle.std.specs.List.{list_all}
@@ -14,7 +14,7 @@ use Rattle.clap_words.specs.Lines.{bare_app, check_app, analyse_app, run_app, re
 abbrev pub below : App → Shape
 below app = built_leaf (inherited bare_app.top app.top)
 
--- its own level takes the words
+-- its own level accepts the words
 abbrev pub level_takes : Shape → List Text → Bool
 level_takes s ws = level_passes s [] nothing_held ws false
 

@@ -1,4 +1,4 @@
--- A line of words, cut into names and options.
+-- A line of words as a list of names and options.
 use Rattle.std.proofs.Common.{◌≡◌, ℕ, ◌==◌, List, [], ◌∷◌, ◌++◌, Bool, true, false, not, refl, ap, sym, subst, ◌∙◌, codes, Option, Some, None, cond, is_some, length, suc, zero, ◌≤◌, arith}
 use Rattle.std.specs.Prelude.{⊤}
 use Rattle.std.specs.Str.{bytes_eq}
@@ -8,18 +8,18 @@ use Rattle.commands.specs.declared.line.Valued.{Valued}
 use Rattle.commands.specs.declared.line.Valued.TheVariants.{Assume, Steps, Device, Trials}
 use Rattle.commands.specs.Commands.{Line, is_name, once, with_assume, with_steps, with_device, with_trials, with_value, with_json, with_why, named, waiting, with_free, placed, then_words}
 
--- an option that takes no word
+-- an option without a value
 pub data Mark : Type 0 where
   Json : Mark
   Why : Mark
 
--- a name, an option with its value, and one without; texts by their first byte
+-- a name, an option with its value, or an option without one; texts by their first byte
 pub data Piece : Type 0 where
   Named : ℕ → List ℕ → Piece
   Given : Valued → ℕ → List ℕ → Piece
   Marked : Mark → Piece
 
--- the name of an option that takes the next word, and how it is written
+-- an option that takes the next word, and its text
 abbrev pub option_name : Valued → List ℕ
 option_name Assume = codes "assume"
 option_name Steps = codes "steps"
@@ -32,7 +32,7 @@ spelled Steps = codes "--steps"
 spelled Device = codes "--device"
 spelled Trials = codes "--trials"
 
--- the same of one that takes none
+-- an option without a value, and its text
 abbrev pub mark_name : Mark → List ℕ
 mark_name Json = codes "json"
 mark_name Why = codes "why"
@@ -50,7 +50,7 @@ abbrev pub all_words : List Piece → List (List ℕ)
 all_words [] = []
 all_words (p ∷ ps) = words_of p ++ all_words ps
 
--- its text doesn't begin with a hyphen
+-- its text does not begin with a hyphen
 abbrev pub IsPieceFit : Piece → Type 0
 IsPieceFit (Named b bs) = (b == 45) ≡ false
 IsPieceFit (Given v b bs) = (b == 45) ≡ false
@@ -79,7 +79,7 @@ all_added (Some line) (p ∷ ps) = all_added (added line p) ps
 pub some_is : (a b : Line) → ◌≡◌ {A = Option Line} (Some a) (Some b) → a ≡ b
 some_is a b e = cc
 
--- the value of an option, and the line with another
+-- the value of an option, and the line with another value
 abbrev pub value_of : Valued → Line → Option (List ℕ)
 value_of Assume line = line.assume
 value_of Steps line = line.steps
@@ -92,7 +92,7 @@ valued Steps line word = record line { steps = Some word; waits = None }
 valued Device line word = record line { device = Some word; waits = None }
 valued Trials line word = record line { trials = Some word; waits = None }
 
--- whether an option is there, and the line with it
+-- whether an option is present, and the line with it
 abbrev pub is_marked : Mark → Line → Bool
 is_marked Json line = line.json
 is_marked Why line = line.why
@@ -140,7 +140,7 @@ mark_rests : (m : Mark) (line : Line) → (marked m line).waits ≡ line.waits
 mark_rests Json line = refl
 mark_rests Why line = refl
 
--- no option waits on a line, and none does after a piece
+-- no option lacks its value on a line, nor after a piece
 value_rests : (v : Valued) (line : Line) (word : List ℕ) → (valued v line word).waits ≡ None
 value_rests Assume line word = refl
 value_rests Steps line word = refl
@@ -175,7 +175,7 @@ none_waits e = cc
 is_text : (w t : List ℕ) → bytes_eq w t ≡ true → w ≡ t
 is_text w t h = (bytes_eq-Decides w t).0 h
 
--- one piece at the front
+-- one more piece at the front
 more : (line next l : Line) (p : Piece) (w vs : List (List ℕ)) → w ≡ words_of p ++ vs → IsPieceFit p → added line p ≡ Some next → Cut next vs l → Cut line w l
 more line next l p w vs e fit is c = record {
   pieces = p ∷ c.pieces;
@@ -184,12 +184,12 @@ more line next l p w vs e fit is c = record {
   ends = ap (λ (o : Option Line). all_added o c.pieces) is ∙ c.ends;
 }
 
--- what is to be had of lines of at most n words
+-- lines of at most n words can be cut
 CutsWords : Line → ℕ → Type 0
 CutsWords l n = (vs : List (List ℕ)) (line : Line) → line.waits ≡ None → length vs ≤ n → then_words (Some line) vs ≡ Some l → Cut line vs l
 
 module _ (l : Line) (whole : l.waits ≡ None) (n : ℕ) (go : CutsWords l n) where
-  -- one piece, and the words behind it
+  -- one piece, and the words after it
   cut_piece : (p : Piece) (w vs : List (List ℕ)) (line : Line) → line.waits ≡ None → length vs ≤ n → w ≡ words_of p ++ vs → IsPieceFit p → then_words (added line p) vs ≡ Some l → Cut line w l
   unfolding CutsWords
   cut_piece p w vs line rests le is fit e = by (added line p) refl e where
@@ -212,7 +212,7 @@ module _ (l : Line) (whole : l.waits ≡ None) (n : ℕ) (go : CutsWords l n) wh
     by true m e = absurd (none_words ws l e)
     by false m e = cut_piece (Named b bs) ((b ∷ bs) ∷ ws) ws line rests le refl m e
 
-  -- what a word is that is none of the options before
+  -- a word that is none of the options before
   abbrev else_name : Line → List ℕ → Option Line
   else_name line w = cond (is_name w) (named line.first line.second line w) None
 
@@ -333,12 +333,12 @@ same_value Steps line next a s d t = s
 same_value Device line next a s d t = d
 same_value Trials line next a s d t = t
 
--- of lines that differ in a name
+-- for lines that differ in a name
 pub same_mark : (m : Mark) (line next : Line) → next.json ≡ line.json → next.why ≡ line.why → is_marked m next ≡ is_marked m line
 same_mark Json line next j w = j
 same_mark Why line next j w = w
 
--- an option that is there, and another
+-- an option that is present, and another
 both_marked : (m k : Mark) (line : Line) → is_marked k line ≡ true → is_marked k (marked m line) ≡ true
 both_marked Json Json line h = refl
 both_marked Json Why line h = h

@@ -1,4 +1,4 @@
--- What was found for arguments, row by row: an argument that has none gets one at the end.
+-- The rows of arguments: an argument without a row gets one at the end.
 use Rattle.std.proofs.Common.{◌≡◌, ◌||◌, ◌&&◌, List, [], ◌∷◌, ◌++◌, Bool, true, false, refl, ap, ◌∙◌, Some, None, cond, append-nil}
 use Rattle.std.specs.Prelude.{find, fold}
 use Rattle.std.specs.List.{list_all}
@@ -14,7 +14,7 @@ use Rattle.clap.specs.Words.{Text, Rule}
 use Rattle.clap.specs.Walk.{Row, has_row, at_row, without, with_values, more_values, with_default, default_rows, reading_by}
 use Rattle.clap.specs.Takes.{is_given}
 
--- a row that the command line gave
+-- a row from the command line
 abbrev pub is_explicit : Row → Bool
 is_explicit r = explicit_source r.source
 
@@ -24,7 +24,7 @@ missing_row id change missing (r ∷ rs) h =
     let k : (bytes_eq r.id id ≡ false) × (has_row id rs ≡ false) = or_parts (bytes_eq r.id id) (has_row id rs) h in
     ap (λ (b : Bool). cond b (change r ++ rs) (r ∷ at_row id change missing rs)) k.0 ∙ ap (λ (xs : List Row). r ∷ xs) (missing_row id change missing rs k.1)
 
--- values of an argument that has none are a row at the end
+-- the values of an argument without a row become a row at the end
 pub new_row : (id : Text) (how : Reading) (source : ValueSource) (values : List Text) (rows : List Row) → has_row id rows ≡ false
     → with_values id how source values (without id rows) ≡ rows ++ record { id = id; values = values; count = None; source = Some source; reading = how } ∷ []
 new_row id how source values rows h =
@@ -45,7 +45,7 @@ explicit_end r (q ∷ qs) h k =
     let p : (is_explicit q ≡ true) × (list_all is_explicit qs ≡ true) = and_parts (is_explicit q) (list_all is_explicit qs) h in
     ap (λ (b : Bool). b && list_all is_explicit (qs ++ r ∷ [])) p.0 ∙ explicit_end r qs p.1 k
 
--- an argument with a row of the command line is given
+-- an argument with a row from the command line is given
 pub is_given_here : (id : Text) (rows : List Row) → list_all is_explicit rows ≡ true → has_row id rows ≡ true → is_given id rows ≡ true
 is_given_here id [] h k = absurd (cc)
 is_given_here id (r ∷ rs) h k = by (is_given_here id rs (and_parts (is_explicit r) (list_all is_explicit rs) h).1) (bytes_eq r.id id) refl k where
@@ -56,7 +56,7 @@ is_given_here id (r ∷ rs) h k = by (is_given_here id rs (and_parts (is_explici
   by later true is k = ap (λ (b : Bool). option_map_or is_explicit (cond b (Some r) (find (λ r. bytes_eq r.id id) rs)) false) is ∙ p.0
   by later false is k = ap (λ (b : Bool). option_map_or is_explicit (cond b (Some r) (find (λ r. bytes_eq r.id id) rs)) false) is ∙ later k
 
--- and stays so when defaults are added
+-- and remains given when defaults are added
 still_given : (id : Text) (rows more : List Row) → is_given id rows ≡ true → is_given id (rows ++ more) ≡ true
 still_given id [] more h = absurd (cc)
 still_given id (r ∷ rs) more h = by (still_given id rs more) (bytes_eq r.id id) refl h where

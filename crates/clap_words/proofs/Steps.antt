@@ -1,4 +1,4 @@
--- What a command's level makes of pieces, one after the other.
+-- A command's level after each piece.
 use Rattle.std.proofs.Common.{◌≡◌, ℕ, ◌==◌, ◌&&◌, ◌||◌, not, nat_lt, List, [], ◌∷◌, Bool, true, false, Option, Some, None, refl, ap, ap₂, ◌∙◌}
 use Rattle.std.specs.Prelude.{fold, if◌then◌else◌}
 use Rattle.std.specs.List.{list_all}
@@ -14,15 +14,15 @@ use Rattle.commands.specs.declared.line.Valued.{Valued}
 use Rattle.commands.specs.declared.line.Valued.TheVariants.{Assume, Steps, Device, Trials}
 use Rattle.clap_words.proofs.Pieces.{Piece, Named, Given, Marked, Mark, Json, Why, option_name, spelled, mark_name, mark_spelled, all_words, AreFit}
 
--- where the walk stands between two pieces
+-- the walk between two pieces
 abbrev at : Held → Waiting → ℕ → Walk
 at h waiting i = record { held = h; waiting = waiting; position = i; is_trailing = false; stopped = None }
 
--- what is tested once the walk is over
+-- the test at the end of the walk
 abbrev pub final : Shape → Held → Bool
 final s h = settle_passes s.rules s.args_override_self h && (list_all default_passes s.rules && is_valid s (finished s.rules h) false)
 
--- an option whose value is to come
+-- an option that lacks its value
 abbrev pub begun : List Rule → Rule → Held → Held
 begun c a h = record (settled c h) { pending = Some (a.id, []) }
 
@@ -47,7 +47,7 @@ abbrev pub flag_goes : Shape → Held → Option Rule → (Held → Bool) → Bo
 flag_goes s h None later = false
 flag_goes s h (Some a) later = not (takes_values a) && (react_passes s.rules s.args_override_self a [] h && later (reacted s.rules a [] h))
 
--- the level takes these pieces from what is held on
+-- the level accepts these pieces from here on
 unfoldable pub goes : Shape → Held → ℕ → List Piece → Bool
 goes s h i [] = final s h
 goes s h i (Named b bs ∷ ps) = name_goes s h i (b ∷ bs) (arg_by_index s.rules i) (λ k j. goes s k j ps)
@@ -70,7 +70,7 @@ step s w after_word word ws turn e k = record {
 dashes : List ℕ
 dashes = 45 ∷ 45 ∷ []
 
--- what a word comes to, by what it looks like
+-- the effect of a word by its form
 abbrev met : Shape → Held → ℕ → Waiting → Text → Bool → Option (Text × Option Text) → Held × Step
 met s h i waiting word is_dashes long = if is_dashes then (h, trailing i) else long_or_other s.rules waiting word long h
 
@@ -232,7 +232,7 @@ take_flag s h word name i ws go later d l e = by (arg_by_long s.rules name) refl
       step s (at h idle i) (at (reacted s.rules a [] h) idle i) word ws (flag_turn s h i word name a d l is (not-true (takes_values a) p.0) q.0) (flag_walked s h i word name a d l is (not-true (takes_values a) p.0))
       (later (reacted s.rules a [] h) q.1)
 
--- how an option is read
+-- how an option is parsed
 no_option_dashes : (v : Valued) → bytes_eq (spelled v) dashes ≡ false
 unfolding dashes
 no_option_dashes Assume = refl

@@ -1,4 +1,4 @@
--- No row of a table, and the first with those behind it.
+-- The empty table, and a table with one more row in front.
 use Rattle.std.proofs.Common.{◌≡◌, ◌≤◌, ◌<◌, ◌-◌, List, [], ◌∷◌, length, get_or, drop, take, take_all, ap, ◌∙◌, refl, arith}
 use Rattle.std.specs.Borrow.{Bor}
 use Rattle.clap.specs.Words.{App, Text, new_app, with_rule, with_subcommand}

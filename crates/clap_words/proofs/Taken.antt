@@ -1,4 +1,4 @@
--- Words that are a command are taken, and none of them is refused.
+-- Words that are a command are accepted, and none of them is refused.
 use Rattle.std.proofs.Common.{◌≡◌, ◌≢◌, ℕ, ◌==◌, ◌&&◌, ◌||◌, List, [], ◌∷◌, Bool, true, false, not, refl, ap, ap₂, sym, subst, ◌∙◌, codes, Option, Some, None, cond, is_some, is_none}
 use Rattle.std.specs.Option.{option_map}
 use Rattle.std.specs.List.{list_any}
@@ -97,7 +97,7 @@ name_at s i = the (arg_by_index s.rules i)
 abbrev option_of : Shape → Text → Rule
 option_of s name = the (arg_by_long s.rules name)
 
--- a use passes where there was none
+-- the first use passes
 abbrev once : Rule → List Text → Bool → Bool
 once a values there = (not there || false) && values_pass a values
 
@@ -599,7 +599,7 @@ plain_facts None second None None false false (Some d) command x e = absurd (non
 plain_facts (Some f) None None None false false (Some d) command x e = absurd (none-some x e)
 plain_facts (Some f) (Some g) None None false false (Some d) command x e = (refl, (refl, (refl, (refl, (refl, refl)))))
 
--- of a command with two names that has one option without a value, of which this is the other
+-- for a command with two names and one option without a value, which is not this one
 flagged_facts : (first second steps trials : Option Text) (other : Bool) (device : Option Chip) (command : Chip → Text → Text → Command) (x : Command)
     → cond (is_none steps && (is_none trials && not other)) (on_device device (λ d. with_two first second (command d))) None ≡ Some x
     → (is_some first ≡ true) × ((is_some second ≡ true) × ((is_some steps ≡ false) × ((is_some trials ≡ false) × (other ≡ false))))
@@ -635,7 +635,7 @@ analyse_facts None second None false false (Some d) command x e = absurd (none-s
 analyse_facts (Some f) (Some g) None false false (Some d) command x e = absurd (none-some x e)
 analyse_facts (Some f) None None false false (Some d) command x e = (refl, (refl, (refl, (refl, refl))))
 
--- of a command with two names that has all options but this one and those without a value
+-- for a command with two names and all options but this one and those without a value
 both_facts : (first second other : Option Text) (json why : Bool) (device : Option Chip) (command : Chip → Text → Text → Option Command) (x : Command)
     → cond (is_none other && (not json && not why)) (on_device device (λ d. with_both first second (command d))) None ≡ Some x
     → (is_some first ≡ true) × ((is_some second ≡ true) × ((is_some other ≡ false) × ((json ≡ false) × (why ≡ false))))
@@ -750,7 +750,7 @@ demo_wanted l x e =
 
 -- ---- all
 
--- clap takes the words, and none of them is refused before
+-- `clap` accepts the words, and none of them is refused before
 record IsGood (ws : List (List ℕ)) : Type 0 where
   taken : takes line_app ws ≡ true
   free : list_any is_refused ws ≡ false
@@ -796,7 +796,7 @@ good name s w id level takes_at plain word words l waits e is n =
       free = ap₂ (λ (x y : Bool). x || y) plain (pieces_free c.pieces c.fit);
     })
 
--- the command of the name that the word is, or one of those that follow
+-- the command with this name, or one of the others
 either : {G : Type 0} (b : Bool) (first rest : Option Command) (x : Command) → (b ≡ true → first ≡ Some x → G) → (rest ≡ Some x → G) → cond b first rest ≡ Some x → G
 either true first rest x here later h = here refl h
 either false first rest x here later h = later h
@@ -826,14 +826,14 @@ good_words : (ws : List (List ℕ)) (x : Command) → command_of ws ≡ Some x �
 good_words [] x h = absurd (none-some x h)
 good_words (word ∷ words) x h = whole_good word words (then_words (Some empty_line) words) x refl h
 
--- words that clap doesn't take are no command
+-- words that `clap` does not accept are no command
 pub not_taken : (ws : List (List ℕ)) → takes line_app ws ≢ true → None ≡ command_of ws
 not_taken ws n = by (command_of ws) refl where
   by : (o : Option Command) → command_of ws ≡ o → None ≡ command_of ws
   by None e = sym e
   by (Some x) e = absurd (n (good_words ws x e).taken)
 
--- nor are those of which one is refused
+-- words of which one is refused are no command
 pub not_free : (ws : List (List ℕ)) → list_any is_refused ws ≡ true → None ≡ command_of ws
 not_free ws n = by (command_of ws) refl where
   true_is_false : true ≡ false → ⊥

@@ -1,4 +1,4 @@
--- Where a store's byte goes: to an address that its aim reaches, and at its slot.
+-- The byte of a store goes to an address in its aim's reach, and at its slot.
 use Rattle.std.proofs.Common.{◌≡◌, ◌∙◌, refl, sym, ap, subst, ℕ, zero, suc, ◌+◌, ◌-◌, ◌*◌, ◌<◌, ◌≤◌, ◌&&◌, ⊎_elim, Bool, true, false, nat_lt, nat_le, if◌then◌else◌, Option, Some, None, arith}
 use Rattle.std.specs.Prelude.{⊤}
 use Rattle.std.proofs.lemmas.Bool.{cases_lt}
@@ -92,13 +92,13 @@ abbrev IsSpanned : Option Span → ℕ → Type 0
 IsSpanned None a = ⊥
 IsSpanned (Some span) a = IsInSpan span a
 
--- the address is one that a store may reach
+-- the address is within the reach of a store
 abbrev pub IsStoreReached : Reach → ℕ → Type 0
 IsStoreReached reach.Nothing a = ⊥
 IsStoreReached (reach.Within span) a = IsInSpan span a
 IsStoreReached reach.Beyond a = ⊤
 
--- what an aim says of an address
+-- the address agrees with the aim
 pub record IsAimed (base : ℕ) (aim : Aim) (a : ℕ) : Type 0 where
   pub reach : IsStoreReached aim.reach a
   pub slot : (d : ℕ) → aim.slot ≡ Some d → a ≡ minus16 base d
@@ -140,7 +140,7 @@ no_more p h = omega arith
 one_less : (p : ℕ) → p < 65536 → plus16 p 65535 ≡ minus16 p 1
 one_less p h = omega arith
 
--- the address taken back is the pointer
+-- subtracting the displacement from the address gives the pointer
 back_by : (p q : ℕ) → p < 65536 → minus16 (plus16 p q) q ≡ p
 back_by p q h = omega arith
 
@@ -152,7 +152,7 @@ back_one p h = omega arith
 
 -- ---- what a pointer gives
 
--- the slot at a number, where the base is the top of SRAM
+-- the slot by a number, if the base is the top of SRAM
 fold : (r base a d x : ℕ) → r < 65536 → base ≡ r → x ≤ r → r - x ≡ d → a ≡ x → a ≡ minus16 base d
 fold r base a d x small top fits slot same = omega arith
 

@@ -1,4 +1,4 @@
--- The laws, each under the name of the public function that carries it. Crates above cite them from here.
+-- The laws, each under the name of its public function. Crates above cite them from here.
 pub use Rattle.clear_laws.proofs.Runs.{flagged_runs_are_told}
 pub use Rattle.clear_laws.proofs.Least.{held_slots_are_least}
 pub use Rattle.clear_laws.proofs.Told.{clear_nodes_are_told, each_below, passes, may_pass}

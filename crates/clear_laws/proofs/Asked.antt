@@ -1,4 +1,4 @@
--- What nodes ask is met exactly where they are clear.
+-- Conditions of nodes are met exactly if the nodes are clear.
 use Rattle.std.proofs.Common.{◌≡◌, refl, sym, ap, ◌∙◌, subst, ℕ, ◌==◌, Bool, true, false, not, List, eqb-true}
 use Rattle.std.proofs.lemmas.Bool.{both_ways, not-false}
 use Rattle.basics.specs.Numbers.{equals_itself}

@@ -1,4 +1,4 @@
--- What the needs of suspended frames say of the base of the one above them.
+-- The needs of suspended frames bound the base of the frame above them.
 use Rattle.std.proofs.Common.{ℕ, ◌+◌, ◌≤◌, List, [], ◌∷◌, ap, arith}
 use Rattle.avr_model.specs.Devices.{Program, ramend, device_of}
 use Rattle.avr_model.specs.declared.assumption.Entry.{Entry}
@@ -10,7 +10,7 @@ use Rattle.edge_rules.specs.Families.{RankedFamily, IsSoundFamily}
 use Rattle.edge_rules.specs.Frames.{Frame, AreLeft}
 
 module _ (words : Program) (A : List Entry) (f : RankedFamily) (memory : Memory) where
-  -- what the frames above a base take, and what its instance needs, is within the bound
+  -- the frames above a base, and the need of its instance, are within the bound
   pub within : IsSoundFamily words A f → (gs : List Frame) (inst : InstKey) (o : Origin) → AreLeft words A f memory gs inst o
       → ramend (device_of words) + f.need_of inst ≤ o.base + f.bound
   within sound [] inst o l = omega (arith, ap f.need_of l.0, l.1, sound.bounded)

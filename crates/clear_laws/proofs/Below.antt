@@ -1,4 +1,4 @@
--- Some number below another passes a test.
+-- Some number below a limit passes a test.
 use Rattle.std.proofs.Common.{◌≡◌, sym, ap, ℕ, zero, suc, ◌<◌, ⊎_elim, Bool, true, arith, ◌∙◌}
 use Rattle.std.proofs.lemmas.Bool.{cases_lt, or_left, or_right, or_cases}
 use Rattle.avr_model.specs.Bits.{any_below}

@@ -1,4 +1,4 @@
--- What is flagged may happen at the node's word, and where a node may be flagged something may happen.
+-- A flag has its cause at the node's word, and a node that isn't clear has a cause.
 use Rattle.std.proofs.Common.{◌≡◌, refl, sym, ap, ap₂, ◌∙◌, subst, ℕ, ◌+◌, ◌-◌, ◌<◌, ◌≤◌, nat_lt, nat_le, Bool, true, false, not, ◌&&◌, ◌||◌, ◌⊎◌, inl, inr, ⊎_elim, if◌then◌else◌, List, ◌++◌, Option, Some, None, arith}
 use Rattle.std.proofs.lemmas.Bool.{false_from_ne_true as never, and_from, or_left, or_right, cases_lt}
 use Rattle.std.proofs.lemmas.Option.{same_Some}
@@ -75,7 +75,7 @@ indirect_by false o x e = absurd (cc)
 
 -- ---- transfers
 
--- an indirect transfer whose words are listed is clear
+-- an indirect transfer to listed words is clear
 aim_none : (device : Device) (k : NodeKey) (s : AbsState) (instr : Instr) → is_indirect instr ≡ true → aim_of device k s instr ≡ None
 aim_none device k s i.Ijmp e = refl
 aim_none device k s i.Icall e = refl
@@ -92,8 +92,7 @@ module _ (words : Program) (A : List Entry) (f : RankedFamily) (n : Node) where
   pub not_listed : (instr : Instr) → instruction_at words n.key.pc ≡ Some instr → is_indirect instr ≡ true → (IsClear words A f n → ⊥) → not (is_transfer_listed words A n.key.pc n.state instr) ≡ true
   not_listed instr is indirect unclear = not_from_never (is_transfer_listed words A n.key.pc n.state instr) (λ listed. unclear (clear_listed instr is indirect listed))
 
-  -- Where pairs are followed, a store that may go neither where the stack can reach nor to an address that is flagged as protected goes to
-  -- harmless addresses alone.
+  -- With pairs, a store that may reach neither the stack nor an address that is flagged as protected goes to harmless addresses only.
   module _ (instr : Instr) (is : instruction_at words n.key.pc ≡ Some instr) (followed : is_followed n.state.facts ≡ true) (direct : is_indirect instr ≡ false)
       (dead : may_write_stack (device_of words) f.bound n.state instr ≡ false) (free : may_write_some_protected words A n.key.pc n.state instr ≡ false) where
     abbrev last : ℕ
@@ -161,7 +160,7 @@ module _ (words : Program) (A : List Entry) (f : RankedFamily) (sound : IsSoundF
     abbrev Store : Type 0
     Store = IsStore words A f sound m g gs runs holds b1 b2 instr is
 
-    -- where a live byte lies the stack can reach
+    -- the stack reaches each live byte
     live_reached : (x : ℕ) → is_live m.memory x ≡ true → may_write g.node.state instr x ≡ true → may_write_stack (device_of words) f.bound g.node.state instr ≡ true
     live_reached x live may =
         let le : x ≤ top = inside words A f sound m g gs runs holds x live in
@@ -214,7 +213,7 @@ module _ (words : Program) (A : List Entry) (f : RankedFamily) (sound : IsSoundF
       (protected_write words A m.pc instr effect) (unlisted_transfer A m.pc instr effect) (after m (not (is_scratch words m.pc)) effect) flag e)
       (λ clear. by_instruction words A f sound m g gs runs holds clear flag b1 b2 (Some instr) is e)
 
-  -- a step is flagged only for what may happen there, or where it takes such a vector
+  -- a step is flagged only for a cause, or for taking such a vector
   pub caused_here : (c : Choice) (flag : Flag) → step words A m c ≡ Flagged flag → MayFlag words A f flag ⊎ IsTaken words A f sound m g gs runs holds c
   caused_here (Go b1 b2) flag e = inl (going b1 b2 flag (instruction_at words m.pc) refl e)
   caused_here (Take v clears) flag e =
@@ -239,7 +238,7 @@ module _ (words : Program) (A : List Entry) (f : RankedFamily) where
     caused test instr is passes =
         record { node = may.node; present = may.present; is = may.is; unclear = may.unclear; instr = instr; instruction = at_pc instr is; passes = passes }
 
-    -- nothing else is told of it where pairs aren't followed
+    -- a store without pairs has no other cause
     untold : (followed l : Bool) (instr : Instr) → instruction_at words may.node.key.pc ≡ Some instr → is_followed may.node.state.facts ≡ followed
         → may_write_stack (device_of words) f.bound may.node.state instr ≡ l → is_indirect instr ≡ false → may_write_some_protected words A pc may.node.state instr ≡ false
         → may_write_live words A f.bound pc may.node.state instr ≡ true

@@ -1,4 +1,4 @@
--- What each instruction stores and pushes.
+-- The stores and pushes of each instruction.
 use Rattle.std.proofs.Common.{◌≡◌, refl, subst, ℕ, ◌<◌, ◌≤◌, Bool, true, false, List, [], Option, Some, None, arith}
 use Rattle.avr_model.specs.declared.assumption.Entry.{Entry}
 use Rattle.avr_model.specs.declared.device.Device.{Device}
@@ -40,12 +40,13 @@ use Rattle.clear_laws.proofs.Ports.{PortFits}
 use Rattle.clear_laws.proofs.Rows.{pushes}
 use Rattle.clear_laws.proofs.Aims.{IsAimed, displaced, by_pointer, direct, displaced_permitted, pointer_permitted}
 
--- the stack pointer isn't half written
+-- the stack pointer is whole
 abbrev pub IsSpWhole : SpForm → Type 0
 IsSpWhole sp = (offset : ℕ) × (sp ≡ Closed offset)
 
--- What an instruction stores and pushes: nothing; a byte in I/O, a byte where its aim says and its pointer permits, a register's byte on the stack, or the way back
--- of a call. It pushes only where a node with no fault has a whole stack pointer. A guarded call has no successor in its frame.
+-- The stores and pushes of an instruction: none; a byte in I/O; a byte within its aim, at a permitted address; a register pushed; or a
+-- return address pushed. It pushes only if the stack pointer is whole, at a node without a fault. A guarded call has no successor in its
+-- frame.
 pub data Does (device : Device) (m : State) (base : ℕ) (k : NodeKey) (s : AbsState) (instr : Instr) (e : Effect) (row guarded_row : Raw) : Type 0 where
   nothing : e.stores ≡ [] → e.pushes ≡ [] → Does device m base k s instr e row guarded_row
   to_port : (a byte : ℕ) → a ≤ BELOW → is_pointer_store instr ≡ false → e.stores ≡ set a byte → e.pushes ≡ [] → Does device m base k s instr e row guarded_row

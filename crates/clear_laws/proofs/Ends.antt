@@ -1,4 +1,4 @@
--- There is one verdict, and no run of a clear firmware is flagged.
+-- The verdict is unique, and no run of a clear firmware is flagged.
 use Rattle.std.proofs.Common.{◌≡◌, refl, sym, ap, ap₂, ◌∙◌, subst, ℕ, ◌<◌, ⊎_elim, inl, inr, true, List, [], ◌∷◌, map, Some, slice_get, Contains, arith}
 use Rattle.std.specs.Prelude.{◌↔◌}
 use Rattle.std.proofs.lemmas.Bool.{cases_lt}
@@ -63,7 +63,7 @@ clear_verdicts_are_one words c Clear (Unclear j pc) a b = absurd (not_both words
 clear_verdicts_are_one words c (Unclear j pc) Clear a b = absurd (not_both words [] c j pc b a)
 clear_verdicts_are_one words c (Unclear i pc) (Unclear j pc') a b = let same = one_first words [] c i j pc pc' a b in ap₂ (λ x y. Unclear x y) same.0 same.1
 
--- an empty list has no `never` line
+-- the empty list has no `never` line
 no_line : (word : ℕ) → is_never [] word ≡ true → ⊥
 unfolding is_never
 no_line word e = cc
@@ -78,7 +78,7 @@ clear_firmwares_are_never_flagged words c sized claim sound all =
       never = flagged_runs_are_told.never words [] (family_of c sound.nodes) sized family clear (λ word taken. no_line word taken.never);
     }
 
--- a take that a node may do is one of the words that are told
+-- a take that a node may do is at one of the listed words
 take_at : (words : Program) (A : List Entry) (c : Claim) (nodes : List Node) (nevers : List ℕ) (m : State) (choices : List Choice) → IsFilled words A c.nodes nodes
     → AreNevers words A c nevers → EndsByTake words A nodes m choices → EndsByTakeAt words A nevers m choices
 take_at words A c nodes nevers m choices filled all at =

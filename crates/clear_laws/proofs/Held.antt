@@ -1,4 +1,4 @@
--- What a slot reaches along links is the nodes at which it may hold a live byte.
+-- Along links a slot reaches exactly the nodes at which it may hold a live byte.
 use Rattle.std.proofs.Common.{◌≡◌, refl, sym, ap, ◌∙◌, subst, ℕ, zero, suc, ◌<◌, List, [], ◌∷◌, length, Some, slice_get, Contains, arith}
 use Rattle.std.specs.Prelude.{◌↔◌}
 use Rattle.std.proofs.lemmas.Bool.{cases_lt}
@@ -34,7 +34,7 @@ module _ (words : Program) (A : List Entry) (nodes : List Node) (links : List (L
   offset_is : (at : ℕ) (n : Node) → slice_get nodes at ≡ Some n → offset_at offsets at ≡ offset_of n.key.sp
   offset_is at n e = ap (λ (xs : List ℕ). offset_at xs at) are.offsets_are ∙ offset_there nodes at n e
 
-  -- a number from which a link leads is that of a node
+  -- a link starts at the number of a node
   leads_inside : (k t : ℕ) → Contains (links_of links k) t → k < length nodes
   leads_inside k t h =
       ⊎_elim (λ lt. omega (arith, lt, are.count))

@@ -1,4 +1,4 @@
--- Every live byte lies in a slot at which its frame's node may hold one, or in the way back to a frame; each step keeps this.
+-- Every live byte is in a slot at which its frame's node may hold one, or in a return address; each step keeps this.
 use Rattle.std.proofs.Common.{◌≡◌, refl, sym, ap, ◌∙◌, subst, ℕ, ◌+◌, ◌-◌, ◌<◌, ◌≤◌, Bool, true, false, List, [], ◌∷◌, length, Some, ⊎_elim, Contains, arith}
 use Rattle.std.specs.Prelude.{⊤}
 use Rattle.basics.specs.Items.{none_in}
@@ -35,7 +35,7 @@ use Rattle.clear_laws.proofs.Bases.{within}
 use Rattle.clear_laws.proofs.Effects.{IsSpWhole}
 use Rattle.clear_laws.proofs.Steps.{Fresh, ComesFrom, IsLiveAbove, comes_by_go, comes_by_take, is_above}
 
--- the frame's live slots are ones at which its node may hold a live byte
+-- the frame's live slots may hold a live byte at its node
 abbrev pub IsFrameHeld : Program → List Entry → List Node → Memory → Frame → Type 0
 IsFrameHeld words A nodes memory g = (d : ℕ) → d < offset_of g.node.key.sp → is_live memory (g.origin.base - d) ≡ true → MayHold words A nodes g.node.key d
 
@@ -43,7 +43,7 @@ abbrev pub AreFramesHeld : Program → List Entry → List Node → Memory → L
 AreFramesHeld words A nodes memory [] = ⊤
 AreFramesHeld words A nodes memory (g ∷ gs) = IsFrameHeld words A nodes memory g × AreFramesHeld words A nodes memory gs
 
--- No byte is live below the running frame's slots, which lie within the bound; and so it is in each frame.
+-- No byte is live below the running frame's slots, which lie within the bound; each suspended frame was so too.
 pub record Holding (words : Program) (A : List Entry) (f : RankedFamily) (memory : Memory) (g : Frame) (gs : List Frame) : Type 0 where
   pub above : (a : ℕ) → is_live memory a ≡ true → g.origin.base < a + offset_of g.node.key.sp
   pub depth : ramend (device_of words) + offset_of g.node.key.sp ≤ g.origin.base + f.bound
@@ -67,7 +67,7 @@ few_live : (n : State) → IsMachine n → length n.memory.live ≤ 2048
 few_live n machine = omega (arith, machine.count_live, devices_are_alike.most_bytes n.device)
 
 module _ (words : Program) (A : List Entry) (f : RankedFamily) (sound : IsSoundFamily words A f) where
-  -- what holds where the running frame's stack pointer is whole
+  -- if the running frame's stack pointer is whole
   closed_above : (n : State) (h : Frame) (hs : List Frame) → Runs words A f n h hs → IsLiveAbove n → IsSpWhole h.node.key.sp → (a : ℕ) → is_live n.memory a ≡ true
       → h.origin.base < a + offset_of h.node.key.sp
   closed_above n h hs next above form a live =
@@ -80,7 +80,7 @@ module _ (words : Program) (A : List Entry) (f : RankedFamily) (sound : IsSoundF
       let offset : offset_of h.node.key.sp ≡ form.0 = ap offset_of form.1 in
       omega (arith, offset, within words A f n.memory sound hs h.node.key.inst h.origin next.left, sound.offsets h.node form.0 next.present form.1)
 
-  -- frames that were left stay so where no byte above the next one's way back has come to be live
+  -- suspended frames keep this if no byte above the next return address became live
   left_held : (memory old new : Memory) (gs : List Frame) (inst : InstKey) (o : Origin) → AreLeft words A f memory gs inst o
       → ((a : ℕ) → o.base + 2 < a → is_live new a ≡ true → is_live old a ≡ true) → AreFramesHeld words A f.nodes old gs → AreFramesHeld words A f.nodes new gs
   left_held memory old new [] inst o left was held = tt
@@ -95,7 +95,7 @@ module _ (words : Program) (A : List Entry) (f : RankedFamily) (sound : IsSoundF
     was_above : (c : Choice) → ComesFrom words A g m n c → (a : ℕ) → g.origin.base < a → is_live n.memory a ≡ true → is_live m.memory a ≡ true
     was_above c comes a lt live = ⊎_elim (λ l. l) (λ (new : Fresh words A g n c a). absurd (omega (arith, lt, new.low))) (comes a live)
 
-    -- a slot that was live is one of those that the running frame has
+    -- a slot that was live is one of the running frame's
     slot_below : (d : ℕ) → is_live m.memory (g.origin.base - d) ≡ true → d < offset_of g.node.key.sp
     slot_below d live = omega (arith, holds.above (g.origin.base - d) live, above_if_live m.memory.live (g.origin.base - d) live)
 
@@ -109,13 +109,13 @@ module _ (words : Program) (A : List Entry) (f : RankedFamily) (sound : IsSoundF
       is_edge : IsEdge words A f.nodes g.node edge
       is_edge = moving to faultless member
 
-      -- a half-written stack pointer's offset is the one before
+      -- a half-written stack pointer has the old offset
       offset_kept : (offset : ℕ) (high : High) → to.key.sp ≡ Open offset high → offset ≡ offset_of g.node.key.sp
       offset_kept offset high e =
           let from = joins_are_least.keys (raw_of words A g.node).moves to member in
           open_pairs_stay.stays words A g.node.key g.node.state from.0 offset high faultless from.1.0 (ap (λ (k : NodeKey). k.sp) from.1.1 ∙ e)
 
-      -- a pushed byte is at the slot that this move adds
+      -- a pushed byte is in the slot that this move adds
       new_slot : (d : ℕ) → Fresh words A g n (Go b1 b2) (g.origin.base - d) → is_live n.memory (g.origin.base - d) ≡ true → MayHold words A f.nodes to.key d
       new_slot d new live =
           let inside = above_if_live n.memory.live (g.origin.base - d) live in
@@ -154,7 +154,7 @@ module _ (words : Program) (A : List Entry) (f : RankedFamily) (sound : IsSoundF
             left = left_held m.memory m.memory n.memory gs g.node.key.inst g.origin runs.left (λ a lt live. was_above (Go b1 b2) comes a (omega (arith, lt)) live) holds.left;
           }
 
-    -- an entry: the new frame has no slots yet
+    -- an entry: the new frame has no slots
     after_entry : (c : Choice) (h : Frame) → h.node.key.sp ≡ Closed 0 → Runs words A f n h (g ∷ gs) → IsLiveAbove n → ComesFrom words A g m n c → Holding words A f n.memory h (g ∷ gs)
     after_entry c h form next above comes =
         let none : offset_of h.node.key.sp ≡ 0 = ap offset_of form in
@@ -169,7 +169,7 @@ module _ (words : Program) (A : List Entry) (f : RankedFamily) (sound : IsSoundF
               (holds.running, holds.left);
         }
 
-    -- a return: the frame before has the slots that it was left with
+    -- a return: the frame before has the slots that it had at the entry
     module _ (b1 b2 : ℕ) (h : Frame) (hs : List Frame) (way : EdgeKind) (back : ℕ) (x : Exit) (after state : AbsState) (frames : gs ≡ h ∷ hs)
         (enters : Enters words A h.node way g.node.key.inst back) (faultless : IsFaultless words A g.node) (exit : (raw_of words A g.node).exit ≡ Some x)
         (returns : returned h.node.state g.node.state ≡ Some after) where
@@ -211,7 +211,7 @@ module _ (words : Program) (A : List Entry) (f : RankedFamily) (sound : IsSoundF
     comes few (Go b1 b2) h hs change e = comes_by_go words A f sound m n few g gs runs b1 b2 e
     comes few (Take v clears) h hs change e = comes_by_take words A f sound m n few g gs runs v clears e (whole_at_take v clears h hs change)
 
-    -- a step keeps what holds of live bytes
+    -- a step keeps the invariant of live bytes
     pub step_holds : (c : Choice) (h : Frame) (hs : List Frame) → step words A m c ≡ Done n → Runs words A f n h hs → Change words A g gs c h hs → Holding words A f n.memory h hs
     step_holds c h hs e next change =
         let few = few_live n next.running.machine in

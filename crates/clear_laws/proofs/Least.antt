@@ -1,4 +1,4 @@
--- The slots that may hold a live byte are the least map with its rules.
+-- The slots that may hold a live byte are the least map that the rules preserve.
 use Rattle.std.proofs.Common.{◌≡◌, refl, subst, ℕ, ◌+◌, ◌<◌, Bool, true, false, if◌then◌else◌, nat_le, List, [], Option, Some, None, Contains, arith}
 use Rattle.basics.specs.Booleans.{left_of_and}
 use Rattle.basics.specs.Items.{none_in, each_of_join}
@@ -62,7 +62,7 @@ row_above : (device : Device) (words : Program) (A : List Entry) (scratch : Bool
 row_above device words A scratch k s (i.Push r) push = push_above device scratch k s r k.sp
 row_above device words A scratch k s _ push = absurd (cc)
 
--- where pairs are followed, what is refined leads to the same keys
+-- with pairs, refined successors have the same keys
 where_above : (offset : ℕ) (k : NodeKey) (x : Option AbsState) → offset < offset_of k.sp → (to : Node) → Contains (node_where k x) to → offset < offset_of to.key.sp
 where_above offset k None lt to h = absurd (none_in to h)
 where_above offset k (Some s) lt to h = one_above offset k s lt to h

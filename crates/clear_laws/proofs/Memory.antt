@@ -1,4 +1,4 @@
--- Which bytes are live after an effect: those that were, and those that it pushes, above the stack pointer.
+-- Live bytes after an effect: the old ones and those that it pushes, above the stack pointer.
 use Rattle.std.proofs.Common.{◌≡◌, ℕ, zero, suc, ◌+◌, ◌-◌, ◌<◌, ◌&&◌, Bool, true, false, if◌then◌else◌, List, [], ◌∷◌, length, nat_lt, slice_set, slice_index_or, ◌⊎◌, inl, inr, ⊎_elim, refl, ap, arith}
 use Rattle.std.proofs.lemmas.Bool.{and_parts, cases_lt}
 use Rattle.std.proofs.lemmas.Bool.Decides.{nat_tests}
@@ -50,7 +50,7 @@ module _ (memory : Memory) (sp : ℕ) (stores pushes : List Write) (a : ℕ) whe
   from_guarded true h = ⊎_elim (λ p. inr (refl, p)) (λ l. inl l) (pushed_or_live memory.live pushes a h)
   from_guarded false h = inl h
 
-  -- a byte that is live was, or a guarded push made it so
+  -- a live byte was live, or a guarded push made it so
   pub live_comes : (guarded is_open : Bool) → is_live (memory_after memory guarded is_open sp stores pushes) a ≡ true
       → (is_live memory a ≡ true) ⊎ ((guarded ≡ true) × IsPushedAt pushes a)
   unfolding memory_after

@@ -1,4 +1,4 @@
--- There is one list of words at which a step may be flagged.
+-- The list of words at which a step may be flagged is unique.
 use Rattle.std.proofs.Common.{◌≡◌, refl, sym, ap, ap₂, ◌∙◌, subst, ℕ, ◌<◌, ⊎_elim, Bool, true, false, List, [], ◌∷◌, map, Contains, arith}
 use Rattle.std.specs.Prelude.{◌↔◌}
 use Rattle.std.specs.List.{AllByRecursion}

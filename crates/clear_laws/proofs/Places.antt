@@ -1,4 +1,4 @@
--- Nodes by their keys and numbers, in a list that ascends.
+-- Nodes by key and by number, in an ascending list.
 use Rattle.std.proofs.Common.{◌≡◌, refl, sym, ap, ◌∙◌, ℕ, ⊎_elim, List, Option, Some, None, slice_get, Contains, arith}
 use Rattle.std.proofs.lemmas.Bool.{cases_lt}
 use Rattle.std.proofs.lemmas.Option.{same_Some, slice_get_within, get_or_from_slice_get}
@@ -18,7 +18,7 @@ same_node_at nodes i a b e f = same_Some a b (sym e ∙ f)
 
 -- ---- by key
 
--- a key that is there has a number
+-- a key in the list has a number
 pub there_is : (k : NodeKey) (nodes : List Node) (n : Node) → Contains nodes n → n.key ≡ k → (at : ℕ) × (place_of k nodes ≡ Some at)
 there_is k nodes n h same = by (place_of k nodes) refl
   where

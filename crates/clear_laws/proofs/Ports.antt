@@ -1,4 +1,4 @@
--- The numbers of I/O registers that instructions name are below 64.
+-- I/O register numbers in instructions are below 64.
 use Rattle.std.proofs.Common.{◌≡◌, refl, subst, ℕ, ◌+◌, ◌<◌, ◌&&◌, not, Bool, true, false, List, [], ◌∷◌, Option, Some, None, if◌then◌else◌, arith}
 use Rattle.std.specs.Prelude.{⊤}
 use Rattle.local_laws.proofs.AllLaws.{bound_of, letter_below}
@@ -17,7 +17,7 @@ PortFits (i.Cbi a b) = a < 64
 PortFits (i.Sbi a b) = a < 64
 PortFits instr = ⊤
 
--- a number in five or six places
+-- a number of five or six places
 small : (p : List ℕ) (w n : ℕ) → bound_of 65 1 p ≡ n → letter 65 0 p w < n
 small p w n e = subst (λ (n : ℕ). letter 65 0 p w < n) e (letter_below 65 p w 0 1 (omega arith))
 
@@ -48,7 +48,7 @@ decoded_fits : (w next : ℕ) (instr : Instr) → decoded w next ≡ Some instr 
 unfolding decoded
 decoded_fits w next instr e = rows_fit table w next instr (table_fits w next) e
 
--- a device leaves an instruction out or has it as it is
+-- a device either lacks an instruction or has it unchanged
 device_fits : (device : Device) (x : Option Instr) (instr : Instr) → ((y : Instr) → x ≡ Some y → PortFits y) → on_device device x ≡ Some instr → PortFits instr
 device_fits device None instr h e = absurd (cc)
 device_fits device (Some y) instr h e = by (is_long_transfer y && not (has_jmp device)) e

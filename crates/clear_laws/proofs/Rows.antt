@@ -1,5 +1,5 @@
--- A node leads where its instruction's row says, but where it splits at a jump table, whose instruction adds to r30. Where pairs are followed, the
--- row of what pushes leads nowhere else than the plain one.
+-- The successors of a node are those of its instruction's row, unless it splits at a jump table; then its instruction adds to r30. With
+-- pairs, the row of a push has only successors of the plain one.
 use Rattle.std.proofs.Common.{◌≡◌, refl, sym, ap, ◌∙◌, ℕ, Bool, true, false, if◌then◌else◌, nat_lt, List, [], Option, Some, None, ◌⊎◌, inl, inr, lt-ltb}
 use Rattle.avr_model.specs.declared.assumption.Entry.{Entry}
 use Rattle.avr_model.specs.declared.device.Device.{Device}
@@ -42,16 +42,16 @@ outer_faultless true b pc offset r h = absurd (cc)
 outer_faultless false true pc offset r h = absurd (cc)
 outer_faultless false false pc offset r h = (refl, h)
 
--- what a node has by a row that is its own
+-- the successors of a node by its row
 pub record HasRow (words : Program) (A : List Entry) (k : NodeKey) (s : AbsState) (r : Raw) : Type 0 where
   pub faultless : r.faults ≡ []
   pub moves : (raw words A k s).moves ≡ r.moves
 
--- its instruction's row, whether it follows pairs or not
+-- its instruction's row, with pairs or without
 abbrev pub IsRowBy : Program → List Entry → NodeKey → AbsState → Instr → Option PairFacts → Type 0
 IsRowBy words A k s instr facts = HasRow words A k s (row_by facts (device_of words) words A (is_scratch words k.pc) k s instr)
 
--- its instruction's plain row has no fault, and the node leads nowhere if that row doesn't
+-- its instruction's plain row has no fault, and without successors in that row the node has none
 pub record IsPlainRow (words : Program) (A : List Entry) (k : NodeKey) (s : AbsState) (instr : Instr) : Type 0 where
   pub faultless : (row_of (device_of words) words A (is_scratch words k.pc) k (before instr s) instr).faults ≡ []
   pub none : (row_of (device_of words) words A (is_scratch words k.pc) k (before instr s) instr).moves ≡ [] → (raw words A k s).moves ≡ []
@@ -72,7 +72,7 @@ adds_none (i.Call t) h = refl
 adds_none (i.Rcall t) h = refl
 adds_none _ h = absurd (cc)
 
--- its row is the plain one, of whose successors some may be left out
+-- its row is the plain one, some of whose successors may be left out
 record IsLikePlain (r plain : Raw) : Type 0 where
   faults : r.faults ≡ plain.faults
   none : plain.moves ≡ [] → r.moves ≡ []
@@ -103,7 +103,7 @@ module _ (words : Program) (A : List Entry) (k : NodeKey) (s : AbsState) where
   unfolding raw
   raw_is site e = ap (λ site. outside (splitting site (row_in device words A) k s)) e
 
-  -- a node without a fault isn't half written where an interrupt may come
+  -- a node without a fault has a whole stack pointer if an interrupt may be taken
   pub not_hung : (raw words A k s).faults ≡ [] → is_hung device A k k.sp ≡ false
   unfolding raw
   not_hung h = (outer_faultless (is_hung device A k k.sp) (nat_lt (size_of device) (offset_of k.sp)) k.pc (offset_of k.sp) _ h).0
@@ -129,7 +129,7 @@ module _ (words : Program) (A : List Entry) (k : NodeKey) (s : AbsState) where
         })
     by_site (Some jump) e = inr (ap (is_some_that adds_low) (sym is) ∙ splits_at words A k.pc k.pick jump e)
 
-    -- what doesn't add to r30 has its row
+    -- an instruction that does not add to r30 has its row
     pub row_by_unless_added : adds_low instr ≡ false → IsRowBy words A k s instr s.facts
     row_by_unless_added other = by (by_site (split_site words A k.pc k.pick) refl)
       where

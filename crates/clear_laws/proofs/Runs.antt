@@ -1,4 +1,4 @@
--- A run from reset that ends flagged ends at a word of a node that may be flagged.
+-- A run from reset that ends flagged ends at the word of a node that isn't clear.
 use Rattle.std.proofs.Common.{◌≡◌, refl, ap, ◌∙◌, ℕ, zero, suc, ◌+◌, ◌-◌, ◌&&◌, ◌⊎◌, ⊎_elim, inl, inr, Bool, true, false, List, [], ◌∷◌, replicate, nat_lt, slice_index_or, arith}
 use Rattle.avr_model.specs.Devices.{Program, size_of, device_of}
 use Rattle.avr_model.specs.declared.assumption.Entry.{Entry}
@@ -38,12 +38,12 @@ flag_same : (p q : Flag) → stop.Flag p ≡ stop.Flag q → p ≡ q
 flag_same p q e = cc
 
 module _ (words : Program) (A : List Entry) (f : RankedFamily) (sized : AreWords words) (sound : IsSoundFamily words A f) (flag : Flag) where
-  -- what a run owes from a state on
+  -- the goal of a run from a state on
   abbrev Told : List Choice → State → Type 0
   Told cs m = (g : Frame) (gs : List Frame) → Runs words A f m g gs → Holding words A f m.memory g gs → IsRun words A cs m → stop_of words A cs m ≡ stop.Flag flag
       → MayFlag words A f flag ⊎ EndsByTake words A f.nodes m cs
 
-  -- one choice more before a take
+  -- one more choice before a take
   later : (c : Choice) (cs : List Choice) (m n : State) → step words A m c ≡ Done n → EndsByTake words A f.nodes n cs → EndsByTake words A f.nodes m (c ∷ cs)
   later c cs m n is ends =
       record {
@@ -56,7 +56,7 @@ module _ (words : Program) (A : List Entry) (f : RankedFamily) (sized : AreWords
         taken = ends.taken;
       }
 
-  -- what is flagged at a node
+  -- a flag at a node
   at_node : (c : Choice) (cs : List Choice) (m : State) (g : Frame) (gs : List Frame) (runs : Runs words A f m g gs) (holds : Holding words A f m.memory g gs) → step words A m c ≡ Flagged flag
       → MayFlag words A f flag ⊎ EndsByTake words A f.nodes m (c ∷ cs)
   at_node c cs m g gs runs holds is =

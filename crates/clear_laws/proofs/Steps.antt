@@ -1,4 +1,4 @@
--- What a step that is done makes live: the bytes that a guarded push or an entry pushes, at the stack pointer and below.
+-- The bytes that a step makes live: those of a guarded push or an entry, at the stack pointer and below.
 use Rattle.std.proofs.Common.{◌≡◌, refl, sym, ap, ap₂, ◌∙◌, subst, ℕ, ◌+◌, ◌<◌, ◌≤◌, Bool, true, false, not, ◌&&◌, ◌||◌, List, [], ◌++◌, length, Option, Some, None, ◌⊎◌, inl, inr, ⊎_elim, arith}
 use Rattle.std.proofs.lemmas.Bool.{not-true}
 use Rattle.frame_laws.proofs.AllLaws.{if_done}
@@ -70,8 +70,8 @@ module _ (words : Program) (A : List Entry) (m n : State) where
 
 -- ---- what comes to be live
 
--- Whether this byte was pushed: at the stack pointer or below it, by a node with a whole one. An instruction is a guarded push of it, or
--- has no successor in its frame.
+-- This byte was pushed: at the stack pointer or below it, by a node with a whole one. The instruction is a guarded push of it, or has no
+-- successor in its frame.
 pub record Fresh (words : Program) (A : List Entry) (g : Frame) (n : State) (c : Choice) (a : ℕ) : Type 0 where
   pub offset : ℕ
   pub closed : g.node.key.sp ≡ Closed offset
@@ -95,7 +95,7 @@ above_by memory sp stores pushes a guarded false e h = live_above memory sp stor
 above_after : (m : State) (guarded : Bool) (e : Effect) → IsLiveAbove (after m guarded e)
 above_after m guarded e whole a h = above_by m.memory _ e.stores e.pushes a guarded _ whole h
 
--- a byte of the way back lies at the stack pointer or below
+-- a byte of the return address lies at the stack pointer or below
 way_low : (sp back base offset a : ℕ) → sp + offset ≡ base → a < 2304 → IsPushedAt (way_back sp back) a → a + offset ≤ base
 way_low sp back base offset a at inside (inl e) = omega arith
 way_low sp back base offset a at inside (inr (inl e)) = omega arith
@@ -136,7 +136,7 @@ module _ (words : Program) (A : List Entry) (f : RankedFamily) (sound : IsSoundF
     row : pushes w.instr ≡ true → IsPlainRow words A k g.node.state w.instr
     row = row_of_pushing words A k g.node.state w.instr here (sound.faultless g.node runs.present)
 
-    -- a guarded instruction's row is that of one that isn't scratch
+    -- the row of a guarded instruction is that of one that isn't scratch
     still : pushes w.instr ≡ true → not (is_scratch words m.pc) ≡ true → (row_of (device_of words) words A false k state w.instr).moves ≡ []
         → (raw_of words A g.node).moves ≡ []
     still plain guarded none =

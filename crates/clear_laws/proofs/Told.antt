@@ -1,4 +1,4 @@
--- A test tells the clear nodes.
+-- The test for clear nodes is right.
 use Rattle.std.proofs.Common.{◌≡◌, refl, sym, ap, ◌∙◌, subst, ℕ, zero, suc, ◌+◌, ◌<◌, ◌==◌, Bool, true, false, not, ◌&&◌, ◌||◌, nat_lt, nat_le, List, Option, Some, None, ⊎_elim, arith, eqb-true}
 use Rattle.std.proofs.lemmas.Bool.{cases_lt, and_from, or_cases, and_parts, or_right, not-true}
 use Rattle.basics.specs.Numbers.{less_from_test, equals_itself, at_most_from_test, test_from_less, test_from_at_most}
@@ -27,7 +27,7 @@ use Rattle.clear_laws.specs.StepLaws.{ClearNodesAreTold}
 all_three : (a b c : Bool) → a ≡ true → b ≡ true → c ≡ false → (a && b && not c) ≡ true
 all_three a b c h g k = grind arith
 
--- either of three
+-- one of the three
 first_of : (a b c : Bool) → a ≡ true → (a || b || c) ≡ true
 first_of a b c h = grind arith
 
@@ -78,7 +78,7 @@ one_span : (span : Span) → span.first ≡ span.last → span ≡ record { firs
 one_span span e = ap (λ (last : ℕ). to_span span.first last) (sym e)
 
 module _ (words : Program) (A : List Entry) (f : RankedFamily) (n : Node) (held : ℕ → Bool) where
-  -- what isn't told to be held isn't, and what is told is
+  -- the test has all slots that may hold a live byte
   abbrev Frees : Type 0
   Frees = (d : ℕ) → d < offset_of n.key.sp → held d ≡ false → MayHold words A f.nodes n.key d → ⊥
 

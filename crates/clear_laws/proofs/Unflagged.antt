@@ -1,4 +1,4 @@
--- No step of a machine whose node is clear is flagged; and what each step writes.
+-- No step at a clear node is flagged. What each step writes.
 use Rattle.std.proofs.Common.{◌≡◌, ◌≢◌, refl, sym, ap, ap₂, ◌∙◌, subst, ℕ, ◌+◌, ◌-◌, ◌%◌, ◌<◌, ◌≤◌, ◌==◌, Bool, true, false, not, ◌&&◌, ◌||◌, nat_le, nat_lt, ◌⊎◌, inl, inr, ⊎_elim, if◌then◌else◌, List, [], ◌∷◌, ◌++◌, Option, Some, None, arith}
 use Rattle.std.specs.List.{list_any}
 use Rattle.std.proofs.lemmas.Bool.Decides.{nat_tests}
@@ -65,7 +65,7 @@ not_flagged true pc None None (Some c) x flag ha hb hc = absurd (cc)
 
 -- ---- transfers
 
--- a number that bits, ranges and interval permit is one that a transfer counts
+-- a number that bits, ranges and interval permit is one that counts for a transfer
 counted : (facts : Option PairFacts) (s : AbsState) (r p : ℕ) → permits_number s r p ≡ true → permits_by facts s r p ≡ true
 counted None s r p h =
     let bytes = and_parts (may_be (value s r) (low p)) (may_be (value s (r + 1)) (high p)) (left_of_and _ _ h) in
@@ -92,7 +92,7 @@ protected_by true true protected a h = refl
 protected_by true false true a h = absurd (cc)
 protected_by true false false a h = refl
 
--- a write of a byte is flagged only at an address that is guarded against what the byte may be
+-- writing a byte is flagged only at an address that is guarded against its possible values
 guarded_write : (device : Device) (A : List Entry) (site : ℕ) (value : TriByte) (a byte : ℕ) → Has value byte → is_flagged_write device A site a byte ≡ true
     → is_guarded device A site value a ≡ true
 guarded_write device A site value a byte has = by (admits_enables A site)
@@ -111,12 +111,12 @@ module _ (words : Program) (A : List Entry) (instr : Instr) (pc : ℕ) where
       ap (λ ws. if is_pointer_store instr && not (is_fixed_site words A pc) then flagged_write (device_of words) A pc ws else None) none
       ∙ none_stored (device_of words) A pc (is_pointer_store instr && not (is_fixed_site words A pc))
 
-  -- what is no store through a pointer isn't flagged for that
+  -- an instruction that is no pointer store isn't flagged as one
   store_alone : (e : Effect) → is_pointer_store instr ≡ false → protected_write words A pc instr e ≡ None
   unfolding protected_write
   store_alone e plain = ap (λ b. if b && not (is_fixed_site words A pc) then flagged_write (device_of words) A pc e.stores else None) plain
 
-  -- a flagged write is one to an address that may be flagged
+  -- a flagged write goes to an address that may be flagged
   pub flagged_by_write : (s : AbsState) (a byte : ℕ) → Has (stored_bits s instr) byte
       → (is_pointer_store instr && not (is_fixed_site words A pc) && is_flagged_write (device_of words) A pc a byte) ≡ true → is_flagged_address words A pc s instr a ≡ true
   flagged_by_write s a byte has h =
@@ -135,7 +135,7 @@ module _ (words : Program) (A : List Entry) (instr : Instr) (pc : ℕ) where
 no_core : (a : ℕ) → 255 < a → is_core a ≡ false
 no_core a lt = grind (arith, nat_tests)
 
--- where no enable bit stands, none is barred
+-- an address without enable bits has no barred ones
 none_barred : (rs : List Vector) (a : ℕ) (p q : Vector → Bool) → list_any (λ (r : Vector). r.address == a) rs ≡ false
     → list_any (λ (r : Vector). (r.address == a) && p r && q r) rs ≡ false
 none_barred [] a p q none = refl
@@ -221,7 +221,7 @@ module _ (words : Program) (A : List Entry) (f : RankedFamily) (sound : IsSoundF
   top_small : top ≤ 2303
   top_small = omega (arith, devices_are_alike.most_bytes (device_of words))
 
-  -- the bytes at a whole stack pointer and below it aren't live
+  -- bytes at a whole stack pointer and below it aren't live
   sp_dead : IsSpWhole k.sp → is_live m.memory m.sp ≡ false
   sp_dead form = never (is_live m.memory m.sp) (λ live. omega (arith, holds.above m.sp live, sp_at form.0 form.1, ap offset_of form.1))
 
@@ -231,13 +231,13 @@ module _ (words : Program) (A : List Entry) (f : RankedFamily) (sound : IsSoundF
       (λ live.
       omega (arith, holds.above (minus16 m.sp 1) live, sp_at form.0 form.1, ap offset_of form.1, above_if_live m.memory.live (minus16 m.sp 1) live, inside (minus16 m.sp 1) live, low_base, top_small))
 
-  -- the word at which a vector is entered
+  -- the word of a vector
   vector_is : (v : ℕ) → is_enabled m.enables v ≡ true → wrapped m.device (vector_word m.device v) ≡ vector_word (device_of words) v
   vector_is v enabled =
       devices_are_alike.same m.device (vector_word m.device v) (vector_inside m.device v (vector_small m.enables v enabled))
       ∙ ap (λ device. vector_word device v) runs.device
 
-  -- above the first addresses of data space nothing is protected
+  -- nothing is protected above the first addresses of data space
   high_free : (instr : Instr) (a : ℕ) → 255 < a → is_flagged_address words A k.pc g.node.state instr a ≡ false
   high_free instr a lt = and_false (is_pointer_store instr) (not (is_fixed_site words A k.pc)) _ (unguarded (device_of words) A k.pc (stored_bits g.node.state instr) a lt)
 
@@ -301,12 +301,12 @@ module _ (words : Program) (A : List Entry) (f : RankedFamily) (sound : IsSoundF
     abbrev effect : Effect
     effect = effect_of words m instr b1 b2
 
-    -- it writes no live byte, and no protected one
+    -- the effect writes no live byte and no protected one
     pub record IsSafe : Type 0 where
       pub live : live_write m.memory (effect.stores ++ effect.pushes) ≡ None
       pub protected : protected_write words A m.pc instr effect ≡ None
 
-    -- it stores one byte, where its aim says and its pointer permits
+    -- it stores one byte, within its aim and at a permitted address
     pub record IsStore : Type 0 where
       pub address : ℕ
       pub byte : ℕ
@@ -389,7 +389,7 @@ module _ (words : Program) (A : List Entry) (f : RankedFamily) (sound : IsSoundF
         (pair_permitted m g.origin k g.node.state (bare_frame m g.origin k g.node.state runs.running) 30 (omega arith, refl))))
 
   module _ (clear : IsClear words A f g.node) (flag : Flag) where
-    -- what goes to no indirect word isn't unlisted
+    -- without an indirect transfer nothing is unlisted
     no_transfer : (b1 b2 : ℕ) (instr : Instr) → instruction_at words m.pc ≡ Some instr → unlisted_transfer A m.pc instr (effect_of words m instr b1 b2) ≡ None
     unfolding unlisted_transfer
     no_transfer b1 b2 i.Ijmp is = z_listed b1 b2 i.Ijmp is clear refl
@@ -432,7 +432,7 @@ module _ (words : Program) (A : List Entry) (f : RankedFamily) (sound : IsSoundF
     pub enabled : is_enabled k.masks vector ≡ true
     pub never : is_never A (vector_word (device_of words) vector) ≡ true
 
-  -- a take is flagged only where it is such a one
+  -- a take is flagged only if the vector's word has such a line
   pub taken_here : (v : ℕ) (clears : Bool) (flag : Flag) (t b : Bool) → may_take m v clears ≡ t → is_never A (vector_word (device_of words) v) ≡ b
       → (if t then take A m (entering m v clears) else Illegal) ≡ Flagged flag → IsTaken (Take v clears)
   taken_here v clears flag false b legal line e = absurd (cc)

@@ -1,5 +1,5 @@
-//! Where a step of a firmware may be flagged, and why none is where no node of a sound family may: definitions, the types that they speak
-//! of, and laws. Source: own.
+//! The words at which a step of a firmware may be flagged, and why a run is never flagged if each node of a sound family is clear:
+//! definitions, their types, and laws. Source: own.
 #![tactic(auto)]
 
 pub mod laws;

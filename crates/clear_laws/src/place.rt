@@ -1,16 +1,16 @@
-//! What may happen at a word at which a step may be flagged.
+//! A word at which a step may be flagged, with its causes.
 
 use avr_model::listed::Listed;
 
-/// A word address at which a step may be flagged, and what may happen there.
+/// A word address at which a step may be flagged, with the causes.
 #[derive(Drop)]
 pub struct FlaggedPlace {
     /// The word address.
     pub word: u16,
-    /// The protected data addresses that a store may write there and that no line lists, ascending.
+    /// The protected data addresses that a store may write there, not listed by any line; ascending.
     pub protected: Listed<u16>,
-    /// Whether a store may write a byte that was pushed.
+    /// Whether a store may write a pushed byte.
     pub live: bool,
-    /// Whether an indirect transfer may go to a word that its `jump` line doesn't list.
+    /// Whether an indirect transfer may go to a word that its `jump` line does not list.
     pub transfer: bool,
 }

@@ -1,4 +1,4 @@
-//! Slots of a frame that may hold a live byte: where they begin, and what is asked of them.
+//! Slots of a frame that may hold a live byte: their origin, and the conditions of nodes on them.
 
 /// A node that has a slot from the start.
 #[derive(Clone, Copy)]
@@ -9,13 +9,13 @@ pub struct SlotSeed {
     pub slot: u16,
 }
 
-/// What has to hold of a node's slots for it to be clear.
+/// A node's condition on its slots: the node is clear exactly if it is met.
 #[derive(Clone, Copy)]
 pub enum Asks {
-    /// Nothing.
+    /// Always met.
     Nothing,
-    /// This slot, which is below the offset, may hold no live byte.
+    /// This slot, which is below the offset, may not hold a live byte.
     Free(u16),
-    /// It isn't clear, whatever holds of them.
+    /// Never met.
     Never,
 }

@@ -1,4 +1,4 @@
-//! Where a store's byte goes.
+//! The address of a store.
 
 /// Addresses from the first to the last.
 #[derive(Clone, Copy)]
@@ -9,22 +9,22 @@ pub struct Span {
     pub last: u16,
 }
 
-/// The addresses to which a store's byte may go.
+/// The possible addresses of a store.
 #[derive(Clone, Copy)]
 pub enum Reach {
-    /// None: the pointer's bits and ranges permit no byte.
+    /// None: the pointer's bits and ranges permit no number.
     Nothing,
-    /// These, of which none leaves 0 to 0xFFFF.
+    /// These, all within 0 to 0xFFFF.
     Within(Span),
-    /// Some that may leave 0 to 0xFFFF.
+    /// Some may be outside 0 to 0xFFFF.
     Beyond,
 }
 
-/// Where the byte of `st`, `std` or `sts` goes.
+/// The aim of `st`, `std` or `sts`.
 #[derive(Clone, Copy)]
 pub struct Aim {
-    /// Its addresses.
+    /// Its possible addresses.
     pub reach: Reach,
-    /// The slot of the running frame that it is, where it is known.
+    /// Its slot of the running frame, if it is known.
     pub slot: Option<u16>,
 }

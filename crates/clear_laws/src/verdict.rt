@@ -3,8 +3,8 @@
 /// Whether each node of a certificate is clear.
 #[derive(Clone, Copy)]
 pub enum ClearVerdict {
-    /// Each is: no step can be flagged.
+    /// All are: no step can be flagged.
     Clear,
-    /// This node, the least such, counted from 0, isn't; and the word address where it is.
+    /// This node, the first that isn't, counted from 0; and its word address.
     Unclear(u32, u16),
 }

@@ -1,2 +1,2 @@
--- What crates above may use.
+-- The lemmas that crates above cite.
 pub use Rattle.command_files.proofs.Gathering.{whole_reply}

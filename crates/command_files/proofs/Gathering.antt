@@ -1,4 +1,4 @@
--- The files of a command, read in their order.
+-- The files of a command, read in order.
 use Rattle.std.proofs.Common.{◌≡◌, ℕ, true, List, Option, Some, None, refl, sym, ap, ◌∙◌, subst}
 use Rattle.sb_base.specs.Outside.{Held, Blamed, Rose, IsBlamed}
 use Rattle.commands.specs.Commands.{Command, Role, Firmware, Second, Assumptions, name_of}
@@ -25,13 +25,13 @@ agrees_under holds cap o n s e h = subst (λ x. AgreesUnder holds cap x s) (sym 
 
 -- ---- one file
 
--- a file that a command may have was read as these bytes
+-- an optional file was read as these bytes
 pub record IsReadAs (holds : List ℕ → Held) (cap : ℕ) (o : Option (List ℕ)) (bytes : List ℕ) : Type 0 where
   pub agrees : AgreesUnder holds cap o (seen_under o bytes)
   pub goes : GoWith o bytes
   pub was : WasRead holds cap o
 
--- files that were read tell the same as before
+-- files that were read still report the same
 read_bytes : (holds there : List ℕ → Held) (cap before after : ℕ) (o : Option (List ℕ)) (bytes : List ℕ) → ((n : List ℕ) → there n ≡ holds n) → AreFetched there cap before after o bytes
     → IsReadAs holds cap o bytes × (after ≡ before)
 read_bytes holds there cap before after None bytes same h = (record { agrees = tt; goes = h.0; was = tt }, h.1)
@@ -63,7 +63,7 @@ long_bytes o n next e = subst (λ x. WithBytes x Long next 5 (too_long n)) (sym 
 long_optional : (o : Option (List ℕ)) (n : List ℕ) (next : Option (List ℕ) → Reply) → o ≡ Some n → WithOptional o Long next 5 (too_long n)
 long_optional o n next e = subst (λ x. WithOptional x Long next 5 (too_long n)) (sym e) (refl, refl)
 
--- what follows the firmware, and what follows the second file
+-- the reply after the firmware, and after the second file
 abbrev AfterFirmware : Command → Seen → Seen → List ℕ → Reply
 AfterFirmware c second list fw = WithBytes (name_of c Second) second (λ s. WithOptional (name_of c Assumptions) list (λ l. WorkReply c fw s l))
 

@@ -1,4 +1,4 @@
-//! The files of a command, read in their order.
+//! The files of a command, read in order. Tests: `tests/end_to_end`.
 #![tactic(auto)]
 
 mod reading;

@@ -1,4 +1,4 @@
-//! The files of a command, read in their order.
+//! The files of a command, read in order.
 
 ghost use Rattle.std.specs.Prelude.{◌≡◌, ℕ, List, MatchResult};
 ghost use Rattle.commands.specs.Views.{text_of, command_seen};
@@ -24,18 +24,18 @@ const DEVICES_CAP: usize = 1_048_576;
 // The most bytes of an assumption file: 1 MiB.
 const ASSUMPTION_CAP: usize = 1_048_576;
 
-/// Why the files of a command weren't all read.
+/// Why not all files of a command were read.
 #[derive(Clone, Copy)]
 pub enum Unread<'a> {
     /// The file of this name is longer than its cap.
     Long(&'a str),
-    /// The file of this name can't be read.
+    /// The file of this name could not be read.
     Failed(&'a str),
-    /// Want of memory.
+    /// Out of memory.
     Memory,
 }
 
-/// What a command's files hold. Where it has no firmware or no second file, there are no bytes.
+/// The contents of a command's files. Without a firmware or a second file, its bytes are empty.
 #[derive(Drop)]
 pub struct Contents {
     pub firmware: Vec<u8>,
@@ -60,7 +60,7 @@ fn fetch<'a, F: Files>(
     }
 }
 
-// The bytes of a file that a command may have, and none where it has no such file.
+// The bytes of an optional file; none if the command has no such file.
 fn fetch_bytes<'a, F: Files>(
     alloc: Global,
     files: &mut F,
@@ -76,7 +76,7 @@ fn fetch_bytes<'a, F: Files>(
     }
 }
 
-// The same where no file isn't the same as an empty one.
+// The bytes of an optional file; no file differs from an empty one.
 fn fetch_optional<'a, F: Files>(
     alloc: Global,
     files: &mut F,
@@ -110,7 +110,7 @@ fn second_cap(command: &Command<'_>) -> usize
     }
 }
 
-/// Reads the files of a command in their order, up to the first that is too long or can't be read.
+/// Reads the files of a command in order, up to the first that is too long or cannot be read.
 pub fn gather<'a, F: Files>(
     alloc: Global,
     files: &mut F,

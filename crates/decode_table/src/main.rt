@@ -1,12 +1,12 @@
-//! Prints a digest of the lengths and texts of each 256 first words, so that the gate compares all of them with those of
-//! another disassembler: `tests/disassembly/README.md` says how the expected digests are made.
+//! Prints a digest of the lengths and texts of each 256 first words. The gate compares them with those of another disassembler;
+//! `tests/disassembly/README.md` says how the expected digests are made.
 #![tactic(auto)]
 
 use avr_decode::{decode, length, text};
 use std::alloc::{AllocError, Global};
 use std::io;
 
-// The word behind each first word.
+// The word after each first word.
 const SECOND: u16 = 0x9ABC;
 
 // FNV-1a of 32 bits: the digest of no bytes, and the factor.
@@ -14,7 +14,7 @@ const EMPTY: u32 = 0x811C_9DC5;
 
 const FACTOR: u32 = 0x0100_0193;
 
-// The digest with these bytes behind those before.
+// The digest with these bytes appended.
 fn digest(before: u32, bytes: &[u8]) -> u32 {
     let mut value = before;
     for byte in bytes {
@@ -23,8 +23,8 @@ fn digest(before: u32, bytes: &[u8]) -> u32 {
     value
 }
 
-// The digest with the line of a first word behind it, which stands at twice its number: how many words it takes, and its text, or
-// `undefined` where no row of the table matches.
+// The digest with the line of a first word appended, which is at twice its number: its length in words and its text, or `undefined` if no
+// row of the table matches.
 fn with_line(alloc: Global, before: u32, word: u16) -> Result<u32, AllocError> {
     let size: &[u8] = if length(word) == 2 { b"2 " } else { b"1 " };
     let sized = digest(before, size);

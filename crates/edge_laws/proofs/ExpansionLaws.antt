@@ -1,4 +1,4 @@
--- The laws, each under the name of the public function that carries it. Crates above cite them from here.
+-- The laws, each under the name of its public function. Crates above cite them from here.
 pub use Rattle.edge_laws.proofs.One.{expansions_are_one, expansions_are_nodes, successors_are_one, same_seed}
 pub use Rattle.edge_laws.proofs.Steps.{filled_or_missing, one_more, missing, whole}
 pub use Rattle.edge_laws.proofs.Follow.{expansions_follow}

@@ -1,4 +1,4 @@
--- A node that comes from another has an expansion exactly where that one has and leads to it.
+-- A node from an earlier one has an expansion exactly if that one has, with a successor of its key.
 use Rattle.std.proofs.Common.{◌≡◌, sym, ap, ◌∙◌, subst, ℕ, List, Some}
 use Rattle.std.specs.List.{slice_get}
 use Rattle.avr_model.specs.declared.assumption.Entry.{Entry}

@@ -1,4 +1,4 @@
--- A node has one expansion, and it is a node that the analysis works with.
+-- A node has one expansion, which is a node of the analysis.
 use Rattle.std.proofs.Common.{◌≡◌, sym, ap, ◌∙◌, subst, ℕ, ◌≤◌, Bool, List, [], ◌∷◌, length, Option, Some, None, Ok, arith}
 use Rattle.std.specs.List.{slice_get}
 use Rattle.std.proofs.lemmas.Option.{same_Some}
@@ -17,7 +17,7 @@ use Rattle.edge_laws.specs.Expansions.{ExpansionsAreOne, ExpansionsAreNodes, Suc
 use Rattle.edge_laws.proofs.Lists.{as_list}
 use Rattle.edge_laws.proofs.Successors.{only_first, successor_node}
 
--- two seeds of one number are one
+-- two seeds of one number are equal
 pub same_seed : (o : Option (NodeKey × NodeForm)) (k j : NodeKey) (f g : NodeForm) → o ≡ Some (k, f) → o ≡ Some (j, g) → (k ≡ j) × (f ≡ g)
 same_seed o k j f g a b =
     let p : (k, f) ≡ (j, g) = same_Some (k, f) (j, g) (sym a ∙ b) in

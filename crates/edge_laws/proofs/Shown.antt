@@ -1,4 +1,4 @@
--- A filled list ascends as the given nodes do.
+-- A filled list ascends as its seeds do.
 use Rattle.std.proofs.Common.{refl, sym, subst, ℕ, List, length}
 use Rattle.std.specs.List.Sorted.{IsStrictlySortedBy}
 use Rattle.std.proofs.lemmas.Option.{slice_get_read}

@@ -1,4 +1,4 @@
--- Edges between nodes that the analysis works with lead to such nodes.
+-- Edges between nodes of the analysis lead to such nodes.
 use Rattle.std.proofs.Common.{◌≡◌, ◌≢◌, refl, sym, ◌∙◌, ap, ap₂, subst, ℕ, ◌^◌, ◌<◌, ◌≤◌, ◌&&◌, Bool, true, false, List, Option, Some, Contains, arith}
 use Rattle.std.proofs.lemmas.Bool.Decides.{nat_tests}
 use Rattle.avr_model.proofs.AllLaws.{devices_are_alike}

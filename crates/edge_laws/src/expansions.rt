@@ -1,10 +1,10 @@
-//! Laws of expansions, each as the contract of a function that does nothing.
+//! Laws of expansions, each as the contract of a function with an empty body.
 
 ghost use Rattle.edge_laws.specs.Expansions.{ExpansionsAreOne, ExpansionsAreNodes, ExpansionsFollow, FilledListsAreShown, FilledOrMissing, SuccessorsAreOne};
 
-/// A node has at most one expansion, and those of nodes that the analysis works with are such nodes. A node with a state has that one; one
-/// that comes from an earlier node has one exactly where that one has and leads to it, and at most one successor of that one has its key.
-/// Where the keys of the given nodes ascend, the list filled with expansions ascends too and can be seen by numbers.
+/// A node has at most one expansion, which is a node of the analysis if the seeds are. A node with a state has that one. A node from an
+/// earlier one has an expansion exactly if that one has, with a successor of its key, and there is at most one such. If the keys of the
+/// seeds ascend, so does the filled list.
 pub fn expansions_are_one()
     ensures one { ExpansionsAreOne }
     ensures nodes { ExpansionsAreNodes }

@@ -1,5 +1,5 @@
-//! Prints what three ELF files of a real toolchain hold: a digest of the words of flash, the end of static data, and the names.
-//! So the gate compares them with what that toolchain says: `tests/elf/README.md` tells how the expected text is made.
+//! Prints the contents of three ELF files of a real toolchain: a digest of the words of flash, the end of static data, and the names. The
+//! gate compares them with those of the toolchain; `tests/elf/README.md` says how the expected text is made.
 #![tactic(auto)]
 
 use elf_load::{Loaded, is_elf, load};
@@ -23,7 +23,7 @@ fn digest_of(flash: &Flash) -> u32 {
     value
 }
 
-// Prints a line for each word that has a name.
+// Prints a line for each named word.
 fn show_names(rt: &HostRuntime, loaded: &Loaded) -> io::Result<()> {
     for word in 0..0x4000u16 {
         if let Some(name) = loaded.names.at(word) {
@@ -35,7 +35,7 @@ fn show_names(rt: &HostRuntime, loaded: &Loaded) -> io::Result<()> {
     Ok(())
 }
 
-// Prints what a file holds.
+// Prints the contents of a file.
 fn show(rt: &HostRuntime, name: &str) -> io::Result<()> {
     let bytes = fs::read(rt, name)?;
     if !is_elf(&bytes) {

@@ -1,4 +1,4 @@
--- The worked families: what each node leads to.
+-- The worked families: the successors of each node.
 use Rattle.std.proofs.Common.{◌≡◌, refl, sym, ap, ◌∙◌, subst, ℕ, ◌<◌, ◌≤◌, false, true, [], ◌∷◌, length, Some, ⊎_elim, Contains, arith, get_or-set_other, get_or-set_same}
 use Rattle.std.proofs.lemmas.Bool.{cases_eq}
 use Rattle.std.proofs.lemmas.List.{get_or-replicate, length-replicate}
@@ -101,7 +101,7 @@ module _ (n : ℕ) where
       subst (IsByteWithin v) (sym (get_or-replicate 32 r unknown unknown lt))
       record { tag = tt; bits = below; low = omega (arith, wide.low, fits.low); high = omega (arith, wide.high, fits.high) }
 
-  -- nothing says less, where there are so many slots
+  -- the state is above all with this many slots
   above : (s : AbsState) → ((r : ℕ) → r < 32 → ByteFits (value_at s.registers r)) → length s.slots ≡ n → IsStateWithin s (with_bytes n)
   above s fits same =
       record {
@@ -147,7 +147,7 @@ four P a b c d =
     each_of P (at_depth 0 0) (at_depth 1 2 ∷ at_depth 2 2 ∷ at_depth 4 2 ∷ []) a
     (each_of P (at_depth 1 2) (at_depth 2 2 ∷ at_depth 4 2 ∷ []) b (each_of P (at_depth 2 2) (at_depth 4 2 ∷ []) c (each_of P (at_depth 4 2) [] d (λ x h. absurd (none_in x h)))))
 
--- a node with one successor has one edge, and enters nothing
+-- a node with one successor has one edge, and enters no instance
 module _ (n : Node) (i_off : n.key.i ≡ false) (to : Node) (leads : raw_of over_room [] n ≡ one to.key to.state) where
   no_entry : (way : EdgeKind) (inst : InstKey) (back : ℕ) → Enters over_room [] n way inst back → ⊥
   no_entry _ _ _ (by_call offset s faultless form member) = none_in s (subst (λ (r : Raw). Contains r.calls s) leads member)

@@ -1,4 +1,4 @@
--- Lists of nodes that are given by their states or by earlier ones, as they grow.
+-- Growing lists of nodes that are given by states or by earlier nodes.
 use Rattle.std.proofs.Common.{◌≡◌, refl, sym, ap, subst, ℕ, suc, ◌^◌, ◌<◌, ◌≤◌, ⊎_elim, [], ◌∷◌, ◌++◌, false, List, length, map, Some, None, slice_get, length-append, arith}
 use Rattle.std.specs.List.{AllByRecursion}
 use Rattle.std.specs.List.Sorted.{IsStrictlySortedBy}

@@ -1,4 +1,4 @@
--- The certificates of the tests keep what the type keeps.
+-- The certificates of the tests meet the definition of one.
 use Rattle.std.proofs.Common.{◌≡◌, refl, sym, subst, ℕ, ◌<◌, ◌≤◌, Bool, true, false, List, [], ◌∷◌, None, arith, rules}
 use Rattle.std.specs.List.Sorted.{IsStrictlySortedBy}
 use Rattle.basics.specs.Items.{first_in, further_in}

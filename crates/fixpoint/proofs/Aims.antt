@@ -1,4 +1,4 @@
--- The targets of a round's looks are a round of the family.
+-- The targets of a round's visits are a round of the family.
 use Rattle.std.proofs.Common.{◌≡◌, refl, sym, ap, ◌∙◌, subst, ℕ, ◌⊎◌, inl, inr, ⊎_elim, List, [], ◌++◌, map, Option, Some, None, Contains}
 use Rattle.std.proofs.lemmas.List.Elements.{Contains-append_left, Contains-append_right, Contains-append_cases}
 use Rattle.std.specs.FinMap.{get}
@@ -44,7 +44,7 @@ use Rattle.fixpoint.proofs.Looked.{seen_node, look_clean, look_same, look_exit, 
 module _ (words : Program) (A : List Entry) where
   -- ---- edges
 
-  -- an edge of the family leads there
+  -- the target of an edge of the family
   pub record IsAim (f : Family) (to : Node) : Type 0 where
     pub from : Node
     pub has : FamilyHas f from
@@ -68,7 +68,7 @@ module _ (words : Program) (A : List Entry) where
         at = refl;
       }
 
-  -- where an edge of the family leads: the node's own successor, or back by another
+  -- the target of an edge of the family: the node's own successor, or a return by another
   pub record IsBack (f : Family) (n to : Node) : Type 0 where
     pub by : Node
     pub has : FamilyHas f by
@@ -187,7 +187,7 @@ module _ (words : Program) (A : List Entry) where
         let w : Way = record { kind = way; inst = inst; back = back } in
         in_firsts (entry_node s w) (in_map (entry_node s) x.ways.items w ((look_way words A f x is w).1 e))
 
-    -- the look's node is entered again from one that leaves
+    -- a node that leaves returns to the visited node
     pub entered_met : (m to : Node) → FamilyHas f m → ComesBack words A n m to → Contains (targets_of f notes x) to
     entered_met m _ there (comes_back way inst back e state en same c exit r) =
         let w : Way = record { kind = way; inst = inst; back = back } in
@@ -199,7 +199,7 @@ module _ (words : Program) (A : List Entry) where
         in_seconds to (gathered_in (backs_in f notes.leavers x.key s) x.ways.items w to ((look_way words A f x is w).1 en)
         (gathered_in (back_at f x.key s w) (crossings_at notes.leavers inst) p to crossing found))
 
-    -- the look's node leaves
+    -- the visited node leaves
     pub left_met : (c to : Node) → FamilyHas f c → ComesBack words A c n to → Contains (targets_of f notes x) to
     left_met c _ there (comes_back way inst back e state en same d exit r) =
         let w : Way = record { kind = way; inst = inst; back = back } in

@@ -1,4 +1,4 @@
--- What the end of the rounds says of certificates.
+-- The end of the rounds and certificates.
 use Rattle.std.proofs.Common.{◌≡◌, ◌≢◌, refl, sym, ℕ, ◌≤◌, List, Option, None}
 use Rattle.avr_model.specs.declared.assumption.Entry.{Entry}
 use Rattle.avr_model.specs.Devices.{Program}
@@ -24,7 +24,7 @@ module _ (words : Program) (A : List Entry) where
   never_shown : (steps : Option ℕ) (r : Refusal) → IsRefusal words A steps r → (other : Claim) → IsShown words A other → ⊥
   never_shown steps r why other shown = rounds_are_least.never words A why.number other r shown why.refused
 
-  -- a refusal without a budget leaves no certificate
+  -- a refusal without a budget excludes every certificate
   pub none_shown : (steps : Option ℕ) (r : Refusal) → IsWhyNot words A steps r → steps ≡ None → r ≢ refusal.Memory → (other : Claim) → IsShown words A other → ⊥
   none_shown steps (refusal.Spent n) why none real other shown = absurd (let never = sym none in let e = why.0 in cc)
   none_shown steps refusal.Memory why none real other shown = absurd (real refl)

@@ -1,4 +1,4 @@
--- Of the nodes of a round, what does not land in the family already is a round.
+-- The nodes of a round that do not yet land in the family are a round.
 use Rattle.std.proofs.Common.{ℕ, Bool, ◌⊎◌, inl, inr, ⊎_elim, List}
 use Rattle.avr_model.specs.declared.assumption.Entry.{Entry}
 use Rattle.avr_model.specs.Assumptions.{has_pairs}

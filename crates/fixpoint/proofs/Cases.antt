@@ -1,4 +1,4 @@
--- Where the targets of a look come from.
+-- The origin of a visit's targets.
 use Rattle.std.proofs.Common.{◌≡◌, refl, sym, ap, ◌∙◌, subst, ℕ, ⊎_elim, List, ◌++◌, map, Option, Some, None, Contains}
 use Rattle.std.proofs.lemmas.List.Elements.{Contains-append_cases}
 use Rattle.std.specs.FinMap.{get}
@@ -83,7 +83,7 @@ module _ (words : Program) (A : List Entry) (f : Family) (notes : Notes) (x : Lo
     here_is : targets_of f notes x ≡ firsts ++ (seconds ++ (thirds ++ x.part.same))
     here_is = ap (targets_with f notes x) is.has
 
-    -- each target is the node's own, comes back to it, or goes on to one that enters what it leaves
+    -- each target is the node's own, a return to it, or a return to a node that enters what it leaves
     pub look_cases : (to : Node) → Contains (targets_of f notes x) to → P to
     look_cases to i =
         ⊎_elim (by_entry to)

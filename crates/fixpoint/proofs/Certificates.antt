@@ -1,4 +1,4 @@
--- The certificate of what was worked out.
+-- The certificate of the computed parts.
 use Rattle.std.proofs.Common.{◌≡◌, refl, sym, ap, ◌∙◌, subst, ℕ, ◌≤◌, List, length, get_or, Some, slice_get, slice_index, arith}
 use Rattle.std.proofs.lemmas.Option.{slice_get_read}
 use Rattle.basics.specs.Lists.{get_inside, one_at}

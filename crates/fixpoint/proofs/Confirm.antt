@@ -1,4 +1,4 @@
--- A family of which each node was looked at by itself: no test holds of it, and it is closed.
+-- A family each node of which was visited by itself: no test holds on it, and it is closed.
 use Rattle.std.proofs.Common.{◌≡◌, sym, ◌∙◌, subst, ℕ, ⊎_elim, List, [], ◌∷◌, ◌++◌, None, Contains}
 use Rattle.std.proofs.lemmas.List.Elements.{Contains-push_cases}
 use Rattle.basics.specs.Items.{none_in, first_in}
@@ -40,7 +40,7 @@ none_once notes none = subst (λ (n : Notes). AreOnce n.nesting.insts) (sym none
 module _ (words : Program) (A : List Entry) (f : Family) where
   -- ---- notes
 
-  -- where no fault was found, a node of these keys has a look
+  -- if no fault was found, a node of these keys was visited
   look_there : (keys : List NodeKey) (seen : Seen) → AreSeen words A f keys seen → seen.worst ≡ None → (n : Node) → FamilyHas f n → Contains keys n.key
       → HasLook seen.looks.items n.key
   look_there keys seen are none n has i = ⊎_elim (λ h. h) (λ h. absurd (let never = sym none ∙ h.found in cc)) (are.each n.key n.state i has)

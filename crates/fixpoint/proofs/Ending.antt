@@ -1,4 +1,4 @@
--- How the rounds begin, go on and end.
+-- The beginning, the steps and the end of the rounds.
 use Rattle.std.proofs.Common.{◌≡◌, ◌≢◌, refl, sym, ap, ◌∙◌, subst, ℕ, suc, ◌+◌, ◌-◌, ◌<◌, ◌≤◌, Bool, true, false, ◌==◌, List, [], ◌∷◌, ◌++◌, length, map, Option, Some, None, add-one, arith}
 use Rattle.std.specs.FinMap.{get, insert, empty, entries, get-empty, len-entries, len-empty}
 use Rattle.basics.specs.Numbers.{zero_from_test}

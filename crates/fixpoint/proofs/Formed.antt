@@ -1,4 +1,4 @@
--- The forms of the nodes of a family, by how edges lead to them.
+-- The forms of the nodes of a family, by the edges that lead to them.
 use Rattle.std.proofs.Common.{◌≡◌, refl, sym, ap, ap₂, ◌∙◌, subst, ℕ, zero, suc, ◌+◌, Bool, true, false, cond, nat_lt, List, [], ◌∷◌, ◌++◌, length, Some, slice_get, length-append, Result, IfOk, Vec, Global, arith}
 use Rattle.std.proofs.lemmas.Bool.Decides.{nat_tests}
 use Rattle.std.proofs.lemmas.Option.{none-some, same_Some, slice_get_within}
@@ -24,7 +24,7 @@ module _ (words : Program) (A : List Entry) (nodes : List Node) (k : NodeKey) wh
   abbrev Last : Lead → Type 0
   Last lead = IsLead words A nodes (length nodes) k lead
 
-  -- the origin of the only edge is one that was looked at
+  -- the origin of the only edge was visited
   origin : (m : ℕ) (o : IsOnlyFrom words A nodes k m) → LeadsTo words A nodes (length nodes) k m o.edge
   origin m o = record { node = o.node; below = slice_get_within nodes m o.node o.at; at = o.at; is = o.is; leads = o.leads }
 
@@ -91,7 +91,7 @@ forms_are words A nodes leads are = record {
 
 -- ---- on the way there
 
--- one more
+-- one more node
 pub forms_more : (at : ℕ) (leads : List Lead) (done : List Node) (n : Node)
     → forms_from at leads (done ++ n ∷ []) ≡ forms_from at leads done ++ (n.key, form_by (at + length done) (lead_at leads (at + length done)) n.state) ∷ []
 forms_more at leads [] n = let here : at ≡ at + 0 = omega arith in λ j. (n.key, form_by (here j) (lead_at leads (here j)) n.state) ∷ []

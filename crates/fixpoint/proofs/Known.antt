@@ -1,4 +1,4 @@
--- After a round's notes all nodes are known, and the nesting is the family's.
+-- After a round the notes have all nodes, and the nesting is the family's.
 use Rattle.std.proofs.Common.{◌≡◌, refl, sym, ◌∙◌, subst, ℕ, inl, inr, ⊎_elim, List, None, Contains}
 use Rattle.avr_model.specs.declared.assumption.Entry.{Entry}
 use Rattle.avr_model.specs.Devices.{Program}

@@ -1,4 +1,4 @@
--- How edges lead to nodes, landing by landing and node by node.
+-- The edges that lead to nodes, landing by landing and node by node.
 use Rattle.std.proofs.Common.{◌≡◌, ◌≢◌, refl, sym, ap, ◌∙◌, subst, ℕ, ◌+◌, ◌<◌, ◌==◌, ◌⊎◌, inl, inr, Bool, true, false, cond, List, [], ◌∷◌, length, Some, Contains, slice_get, fold, take, drop, ◌++◌, arith}
 use Rattle.std.proofs.lemmas.Bool.{cases_lt}
 use Rattle.std.proofs.lemmas.Grind.{common_steps}
@@ -200,14 +200,14 @@ module _ (words : Program) (A : List Entry) (nodes : List Node) (shown : AreShow
   )
   without none More h = h
 
-  -- one that isn't local does
+  -- an edge that isn't local does
   spoiled : (x : EdgeKind) → x ≢ Local → Contains (kinds_at p landings) x → After More
   spoiled x ne i m o =
       let h = edge_of x i in
       let same = (o.only n h.edge (contained_at nodes at n is_at) h.is h.to).1 in
       ne (sym h.kind ∙ ap (λ (e : Edge). e.kind) same ∙ o.moves)
 
-  -- local ones do
+  -- local edges do
   with_local : (x : EdgeKind) (xs : List EdgeKind) → kinds_at p landings ≡ x ∷ xs → AllLocal (x ∷ xs) → (lead : Lead) → Before lead → After (run at lead (x ∷ xs))
   with_local x xs are all Nothing h =
       let f = edge_of x (subst (λ (l : List EdgeKind). Contains l x) (sym are) (first_in x xs)) in

@@ -1,4 +1,4 @@
--- What was found at the nodes of a round's list tells the faults of the whole family.
+-- The results of a round's visits determine the faults of the whole family.
 use Rattle.std.proofs.Common.{◌≡◌, sym, ap, ◌∙◌, subst, ℕ, ⊎_elim, List, [], Some, None, Err, Contains}
 use Rattle.std.specs.Prelude.{◌↔◌}
 use Rattle.std.specs.FinMap.{get}
@@ -23,7 +23,7 @@ use Rattle.round_steps.specs.Looks.{IsLook, HasLook, AreSeen}
 use Rattle.fixpoint.specs.Progress.{Turn}
 
 module _ (words : Program) (A : List Entry) where
-  -- a look and its node
+  -- a visit and its node
   module _ (f : Family) (x : Look) (is : IsLook words A f x) where
     abbrev pub seen_node : Node
     seen_node = record { key = x.key; state = is.state }
@@ -42,13 +42,13 @@ module _ (words : Program) (A : List Entry) where
         let law = local_parts_are_edges.ways words A seen_node x.part w is.leads in
         (λ i. law.0 (subst (λ (l : List Way). Contains l w) is.entered i), λ e. subst (λ (l : List Way). Contains l w) (sym is.entered) (law.1 e))
 
-    -- a node of the look's key is the look's
+    -- a node of the visit's key is the visited one
     pub look_node : (n : Node) → FamilyHas f n → x.key ≡ n.key → seen_node ≡ n
     look_node n has at =
         let state : is.state ≡ n.state = same_Some is.state n.state (sym is.has ∙ ap (get f) at ∙ has) in
         λ i. record { key = at i; state = state i }
 
-  -- a node of the list was looked at, or has a fault
+  -- a node of the list was visited, or has a fault
   module _ (f : Family) (work : List NodeKey) (notes : Notes) (seen : Seen) (turn : Turn words A f work notes) (are : AreSeen words A f work seen) where
     look_at_clean : (n : Node) → FamilyHas f n → HasLook seen.looks.items n.key → IsFaultless words A n
     look_at_clean n has h =
@@ -78,6 +78,6 @@ module _ (words : Program) (A : List Entry) where
             err_is : (a c : NodeFault) (n : Node) → local words A n.key n.state ≡ Err a → local words A n.key n.state ≡ Err c → a ≡ c
             err_is a c n d e = let both = sym d ∙ e in cc
 
-    -- a node of the list has a look, where no fault was found
+    -- if no fault was found, a node of the list was visited
     pub looked : seen.worst ≡ None → (n : Node) → FamilyHas f n → Contains work n.key → HasLook seen.looks.items n.key
     looked none n has i = ⊎_elim (λ h. h) (λ h. absurd (let never = sym none ∙ h.found in cc)) (are.each n.key n.state i has)

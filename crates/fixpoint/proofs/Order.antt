@@ -1,4 +1,4 @@
--- Nodes are looked at in whatever order: the family stays one that is made of the first by where its edges lead.
+-- Nodes are visited in any order: the family remains built from the first one by targets of its edges.
 use Rattle.std.proofs.Common.{◌≡◌, refl, sym, ap, ap₂, ◌∙◌, subst, ℕ, ◌^◌, ◌+◌, ◌-◌, ◌*◌, ◌<◌, ◌≤◌, ⊎_elim, Bool, true, false, ◌&&◌, ◌==◌, List, [], ◌∷◌, length, Option, Some, None, Contains, arith}
 use Rattle.std.specs.FinMap.{get, empty}
 use Rattle.std.proofs.lemmas.Option.{same_Some}
@@ -51,7 +51,7 @@ use Rattle.fixpoint.proofs.Cases.{look_cases}
 use Rattle.round_laws.proofs.CloseLaws.{closed_families_end_rounds}
 use Rattle.round_solutions.proofs.CloseLaws.{closed_families_are_solved}
 
--- where the test says so, there is none
+-- by the test there is none
 pub none_left : (l : List Node) (b : Bool) (n : ℕ) → b ≡ (n == 0) → n ≡ length l → b ≡ true → l ≡ []
 none_left [] b n is all e = refl
 none_left (x ∷ xs) b n is all e = absurd (let z = zero_from_test b n is e in omega (arith, z, all))
@@ -68,7 +68,7 @@ both_same : (b : Bool) → (b && b) ≡ b
 both_same true = refl
 both_same false = refl
 
--- to a node from one at its base, by an exit that keeps the enable bits
+-- the target of a return from a node at its base, by an exit that keeps the enable bits
 returned_node : {followed : Bool} (way : EdgeKind) (k l : NodeKey) (s t after : AbsState) (back : ℕ) (x : Exit) → IsNodeIn followed k s → back < WORDS → IsNodeIn followed l t → l.sp ≡ Closed 0 → x.masks ≡ l.masks
     → returned s t ≡ Some after → IsNodeIn followed (returned_key way k back x) after
 returned_node {followed} way k l s t after back x node word other sp masks is =
@@ -170,7 +170,7 @@ module _ (words : Program) (A : List Entry) where
               returned_node p.kind p.node x.key t is.state after p.back e (formed (record { key = p.node; state = t }) at)
               (back_small h.node p.kind x.key.inst p.back h.was h.enters) (formed n is.has) left.0 left.1 r)
 
-      -- where the family has no fault, an edge of it leads to each
+      -- if the family has no fault, an edge of it leads to each
       module _ (clean : HasNoFault words A f) where
         aims : (to : Node) → Contains ns to → IsAim words A f to
         aims = each_gathered (targets_of f notes) (IsAim words A f) xs (λ x to i j. of_look x (looks x i) to j)
@@ -230,7 +230,7 @@ module _ (words : Program) (A : List Entry) where
       subst (IsUnderWay words A f count) (sym none)
       (subst (λ (x : Family). IsUnderWay words A x count blank) (sym is) (begins count (counted ∙ ap cells is)))
 
-  -- whether instances nest may be asked on the way
+  -- the nesting may be checked on the way
   pub way_asked : (f : Family) (count : ℕ) (notes : Notes) (nesting : Noted) → IsUnderWay words A f count notes → AreOnce nesting.insts
       → IsUnderWay words A f count (record { callers = notes.callers; leavers = notes.leavers; nesting = nesting })
   way_asked f count notes nesting way once = record {
@@ -246,7 +246,7 @@ module _ (words : Program) (A : List Entry) where
       let l = made.above n (get_same empty (entry_key root_inst) (root_of A)) in
       (with_state n l.at, l.is, refl)
 
-  -- a look takes one that waits, and each that comes has raised the weight
+  -- a visit removes an item of the worklist, and each item that is added raised the weight
   pub falls_again : (f g : Family) (c h less now : ℕ) → AreFormed (has_pairs A) g → FitsLimits g → weight f + c ≤ weight g → less + 1 ≤ h → now ≡ less + c
       → 2 * (9416690630657 - weight g) + now < 2 * (9416690630657 - weight f) + h
   falls_again f g c h less now formed fits more one is =

@@ -1,4 +1,4 @@
--- Where the node of a key is.
+-- The number of a key's node.
 use Rattle.std.proofs.Common.{◌≡◌, ◌≢◌, refl, sym, ap, ◌∙◌, subst, ℕ, ◌<◌, ◌==◌, inl, inr, Bool, true, false, cond, List, length, get_or, Option, Some, None, Contains, slice_get, slice_set, arith}
 use Rattle.std.proofs.lemmas.Bool.{cases_order}
 use Rattle.std.proofs.lemmas.Bool.Decides.{nat_tests}
@@ -40,7 +40,7 @@ module _ (at : ℕ) (leads : List Lead) (l : Landing) where
   pub noted_long : length (noted at leads l) ≡ length leads
   noted_long = length-set leads l.at (led (lead_at leads l.at) at l.kind)
 
-  -- there, and at no other place
+  -- at this number, and at no other
   pub noted_there : (p : ℕ) → p < length leads → lead_at (noted at leads l) p ≡ cond (l.at == p) (led (lead_at leads p) at l.kind) (lead_at leads p)
   noted_there p lt = by (l.at == p) refl
     where
@@ -53,7 +53,7 @@ module _ (at : ℕ) (leads : List Lead) (l : Landing) where
           let other : p ≢ l.at = λ same. grind (arith, nat_tests) in
           get_or-set_other leads l.at p (led (lead_at leads l.at) at l.kind) Nothing other
 
--- where a landing that is read by its number leads
+-- the target of a landing that is read by number
 pub landing_within : (landings : List Landing) (n m : ℕ) → ((l : Landing) → Contains landings l → l.at < n) → m ≡ n → (i : ℕ) → i < length landings → (d : Landing)
     → (get_or landings i d).at < m
 landing_within landings n m within same i lt d =

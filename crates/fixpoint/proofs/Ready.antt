@@ -1,4 +1,4 @@
--- What the tests of a round tell of the family.
+-- The tests of a round and the family.
 use Rattle.std.proofs.Common.{◌≡◌, ◌≢◌, refl, sym, subst, ℕ, ◌≤◌, List, Some, None, Result, Ok, Err, IfOk, IfErr, OnOk, Contains, length, arith}
 use Rattle.std.specs.Result.{IsErrAnd, result_and}
 use Rattle.avr_model.specs.declared.assumption.Entry.{Entry}
@@ -31,12 +31,12 @@ use Rattle.fixpoint.proofs.Known.{nesting_is}
 use Rattle.fixpoint.proofs.Aims.{round_is}
 use Rattle.fixpoint.proofs.Beyond.{round_beyond}
 
--- an error that is handed on
+-- an error that is passed on
 pub handed_on : {X E : Type 0} (r : Result X E) (x : E) (P : E → Type 0) → IsErrAnd r (λ e. e ≡ x) → P x → IfErr r P
 handed_on (Ok y) x P h p = tt
 handed_on (Err e) x P h p = subst P (sym h) p
 
--- what was made, handed on with what was told of it
+-- a result that is passed on with its property
 pub made_if : {A X E : Type 0} (told : Result A E) (x : X) (r : Result X E) (P : X → Type 0) → r ≡ result_and told (Ok x) → OnOk told (P x) → IfOk r P
 made_if (Ok a) x r P is h = subst (λ s. IfOk s P) (sym is) h
 made_if (Err e) x r P is h = subst (λ s. IfOk s P) (sym is) tt
@@ -53,7 +53,7 @@ module _ (words : Program) (A : List Entry) where
       → AreSeen words A f work seen → seen.worst ≡ Some b → r ≡ fault_refusal b → AreRoundsStopped words A f r
   has_fault f work notes seen b r fits turn are worst is = record { test = faulty b; holds = (fits, least_fault words A f work notes seen turn are b worst); is = is }
 
-  -- all looks are at offsets that nodes have
+  -- all visits are at offsets that nodes have
   pub looks_fit : (f : Family) (work : List NodeKey) (seen : Seen) → AreFormed (has_pairs A) f → AreSeen words A f work seen → (x : Look) → Contains seen.looks.items x
       → offset_of x.key.sp ≤ 2048
   looks_fit f work seen formed are x i =
@@ -105,7 +105,7 @@ module _ (words : Program) (A : List Entry) where
       let notes : Notes = record { callers = mid.callers; leavers = mid.leavers; nesting = nesting } in
       (round_is words A f formed work old notes seen turn are none (alike_known f mid fits known nesting alike)).formed
 
-  -- the nodes that come next
+  -- the next nodes
   pub is_ready : (f : Family) (work : List NodeKey) (old mid : Notes) (nesting : Noted) (seen : Seen) (nodes : List Node) → AreFormed (has_pairs A) f → FamilyHasInst f root_inst → FitsLimits f
       → Turn words A f work old → AreSeen words A f work seen → seen.worst ≡ None → AreKnown words A f mid → TellsAll (size_of (device_of words)) mid.nesting verdicts.Nests
       → AreAlike mid.nesting nesting → AreOnce nesting.insts

@@ -1,4 +1,4 @@
-//! Whether the rounds end at a family that was found in another order. Nodes are looked at one by one, so that little is held at a time.
+//! Checks whether the rounds end at a family that was found in another order. Nodes are visited one by one, to hold little memory.
 
 ghost use Rattle.std.specs.Prelude.{◌≡◌, ◌∷◌, [], Contains, None, Some, OnOk, IfOk};
 ghost use Rattle.std.specs.FinMap.{get};
@@ -22,7 +22,7 @@ use round_steps::{Notes, Seen, look_all};
 use round_table::Table;
 use std::alloc::AllocError;
 
-// What is found at one node.
+// The result of a visit of one node.
 fn look_at(task: &Task<'_>, table: &Table, key: &NodeKey) -> Result<Seen, AllocError>
     requires { AreFormed (has_pairs task.now.assumptions.now) table.now }
     ensures { IfOk result (λ seen. AreSeen task.now.flash.now task.now.assumptions.now table.now (key.now ∷ []) seen) }
@@ -31,7 +31,7 @@ fn look_at(task: &Task<'_>, table: &Table, key: &NodeKey) -> Result<Seen, AllocE
     look_all(task, table, &one)
 }
 
-// Notes what is found at these nodes.
+// Notes the results of visits of these nodes.
 fn note_each(
     task: &Task<'_>,
     table: &Table,
@@ -52,7 +52,7 @@ fn note_each(
     Ok(())
 }
 
-// The edges of these nodes lead to nodes that are there.
+// Checks that the edges of these nodes land.
 fn check_all_edges(
     task: &Task<'_>,
     table: &Table,
@@ -75,7 +75,7 @@ fn check_all_edges(
     Ok(())
 }
 
-/// The family, all nodes of which have these keys, is closed and no test holds of it, on notes that are empty.
+/// Checks that the family, whose nodes have these keys, is closed and that no test holds on it. The notes must be empty.
 pub fn confirm(
     task: &Task<'_>,
     table: &Table,

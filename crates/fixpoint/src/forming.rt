@@ -1,4 +1,4 @@
-//! Which states are written and which are left out.
+//! The nodes that are written with states, and those without.
 
 ghost use Rattle.std.specs.Prelude.{◌≡◌, ◌≤◌, ◌<◌, length, IfOk};
 ghost use Rattle.call_graph.specs.Landings.{AreLandings};
@@ -13,7 +13,7 @@ use local_rules::Node;
 use mask_states::NodeKey;
 use std::alloc::{AllocError, Global};
 
-// The form of the node of this number, where edges lead to the nodes so.
+// The form of the node of this number, by the edges that lead to nodes.
 fn form(alloc: Global, leads: &[Lead], at: usize, state: AbsState) -> Result<NodeForm, AllocError>
     requires { at < length leads.now }
     ensures { IfOk result (λ form. form ≡ form_by at (lead_at leads.now at) state) }
@@ -26,7 +26,7 @@ fn form(alloc: Global, leads: &[Lead], at: usize, state: AbsState) -> Result<Nod
     Ok(NodeForm::State(HeldState::new(alloc, state)?))
 }
 
-// The nodes with their forms, where edges lead to them so.
+// The nodes with their forms, by the edges that lead to them.
 fn formed(
     alloc: Global,
     nodes: Vec<Node>,
@@ -44,8 +44,8 @@ fn formed(
     Ok(forms)
 }
 
-/// The nodes of a family, at most 65,536, with their forms: the number of an earlier node where the one edge that leads to the node is
-/// local and comes from there, and else the state. No local part is worked out for that.
+/// The nodes of a family, at most 65,536, with their forms: the number of an earlier node if the only edge to the node is local and comes
+/// from there, else the state. No local part is computed.
 pub fn forms(task: &Task<'_>, family: Worked) -> Result<Vec<(NodeKey, NodeForm)>, AllocError>
     requires few { length family.nodes ≤ 65536 }
     requires landings { AreLandings task.now.flash.now task.now.assumptions.now family.nodes family.landings }

@@ -1,4 +1,4 @@
-//! How edges lead to nodes.
+//! The edges that lead to each node.
 
 ghost use Rattle.std.specs.Prelude.{◌≡◌, ◌<◌, ◌≤◌, fold, length, IfOk, Contains};
 ghost use Rattle.call_graph.specs.declared.landing.Landing as landing_type;
@@ -9,18 +9,18 @@ use call_graph::{Landing, Task, Worked};
 use mask_states::EdgeKind;
 use std::alloc::AllocError;
 
-// How edges lead to a node.
+// The edges that lead to a node.
 #[derive(Clone, Copy)]
 pub(crate) enum Lead {
-    // None does.
+    // None.
     Nothing,
-    // One does, which is local: from the node of this number.
+    // Only a local one, from the node of this number.
     Only(u32),
-    // More than one does, or one that isn't local.
+    // Several, or one that isn't local.
     More,
 }
 
-// How edges lead to a node, with one more: from the node of this number. The same one may come again.
+// One more edge, from the node of this number. The same one may come again.
 fn led(lead: Lead, at: u32, kind: EdgeKind) -> Lead
     ensures { result ≡ led lead at kind }
 {
@@ -34,7 +34,7 @@ fn led(lead: Lead, at: u32, kind: EdgeKind) -> Lead
     }
 }
 
-// Notes where the edges from the node of this number land.
+// Adds the landings of the node of this number.
 fn note_all(at: u32, landings: &[Landing], leads: &mut [Lead])
     requires { (l : landing_type.Landing) → Contains landings.now l → l.at < length leads.old }
     ensures { leads.new ≡ fold (noted at) leads.old landings.now }
@@ -45,7 +45,7 @@ fn note_all(at: u32, landings: &[Landing], leads: &mut [Lead])
     }
 }
 
-// How edges lead to each node of a family, by where its edges land.
+// The edges that lead to each node of a family, by its landings.
 pub(crate) fn leads(task: &Task<'_>, family: &Worked) -> Result<Vec<Lead>, AllocError>
     requires few { length family.now.nodes ≤ 65536 }
     requires landings { AreLandings task.now.flash.now task.now.assumptions.now family.now.nodes family.now.landings }

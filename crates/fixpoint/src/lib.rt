@@ -1,5 +1,5 @@
-//! The least certificate of a firmware under assumptions, or why there is none: the family at which the rounds end, with least ranks and
-//! needs, and with the states that one edge alone gives left out. Source: own.
+//! The analyser: the least certificate of a firmware under assumptions, or the reason for having none. It computes the family at which
+//! the rounds end, with least ranks and needs, and leaves out states that one edge alone determines. Source: own. Tests: `family_tables`.
 #![tactic(auto)]
 
 mod confirming;

@@ -1,4 +1,4 @@
-//! The least family, by looking at one node at a time, in whatever order.
+//! Worklist iteration to the least family, one node at a time. Any order is sound: the result is checked afterwards.
 
 ghost use Rattle.std.specs.Prelude.{◌+◌, ◌≡◌, ◌<◌, ◌≤◌, length, None, IfOk, IfErr, OnOk, OnSome, true};
 ghost use Rattle.std.specs.FinMap.{empty};
@@ -28,12 +28,12 @@ use std::alloc::AllocError;
 use std::cmp::Reverse;
 use std::collections::BinaryHeap;
 
-/// Nodes may be looked at in whatever order.
+/// Nodes may be visited in any order.
 pub fn orders_end()
     ensures { OrdersEnd }
 {}
 
-// Looks at one node, notes what is found there, and joins into the family where it leads. Gives the keys of what changed.
+// Visits one node, notes the result, and joins the targets of its edges into the family. Returns the keys of nodes that changed.
 fn look_on(
     task: &Task<'_>,
     table: &mut Table,
@@ -56,10 +56,10 @@ fn look_on(
     Ok(changed)
 }
 
-// A node that waits: its offset in the frame, its word, and its key. The greatest is the one of the least offset and word.
+// An item of the worklist: a node's offset in the frame, its word, and its key. The least offset and word is the greatest item.
 type Due = (Reverse<u16>, Reverse<u16>, NodeKey);
 
-// These wait too.
+// Adds the keys to the worklist.
 fn await_all(waiting: &mut BinaryHeap<Due>, keys: Vec<NodeKey>) -> Result<(), AllocError>
     ensures { OnOk result (heap_len waiting.new ≡ heap_len waiting.old + length keys.items) }
 {
@@ -69,7 +69,7 @@ fn await_all(waiting: &mut BinaryHeap<Due>, keys: Vec<NodeKey>) -> Result<(), Al
     Ok(())
 }
 
-// Whether the first that waits has this key.
+// Whether the first item of the worklist has this key.
 fn is_first(waiting: &BinaryHeap<Due>, key: &NodeKey) -> bool
     ensures { result ≡ true → 0 < heap_len waiting.now }
 {
@@ -79,7 +79,7 @@ fn is_first(waiting: &BinaryHeap<Due>, key: &NodeKey) -> bool
     }
 }
 
-// The first that waits, which then waits no more, however often it was due.
+// Pops the first key and its duplicates.
 fn take_first(waiting: &mut BinaryHeap<Due>) -> Option<NodeKey>
     ensures { OnSome result (heap_len waiting.new + 1 ≤ heap_len waiting.old) }
 {
@@ -92,7 +92,7 @@ fn take_first(waiting: &mut BinaryHeap<Due>) -> Option<NodeKey>
     Some(key)
 }
 
-// Whether instances nest so far, each time that 64 nodes have come. A no says nothing of the family.
+// Checks the nesting each time 64 more nodes have come. A failure says nothing of the family.
 fn ask_nesting(
     flash: &Flash,
     nesting: &mut Nesting,
@@ -112,8 +112,8 @@ fn ask_nesting(
     check_nesting(flash, nesting)
 }
 
-// Looks at nodes, the least offset and word first, until none waits. How instances nest is asked on the way, since the rounds are stopped
-// soon where they don't.
+// Visits nodes, the least offset and word first, until the worklist is empty. The nesting is checked on the way, since a cycle ends the
+// rounds early.
 fn walk(
     task: &Task<'_>,
     table: &mut Table,
@@ -139,7 +139,8 @@ fn walk(
     }
 }
 
-// Whether the rounds end at the family, with notes of its own. `drop` lets go of these: a call is one step of the proof, whatever they own.
+// Checks with new notes whether the rounds end at the family. `drop` releases the notes: a call is one step of the proof, whatever they
+// own.
 fn is_end(task: &Task<'_>, table: &Table, counted: u64) -> Result<(), Refusal>
     requires made { IsMade task.now.flash.now task.now.assumptions.now table.now }
     requires count { counted ≡ cells table.now }
@@ -153,7 +154,7 @@ fn is_end(task: &Task<'_>, table: &Table, counted: u64) -> Result<(), Refusal>
     told
 }
 
-// The walk from no nodes, none of which waits, with notes of its own: the number of the family's cells.
+// Worklist iteration from an empty family and with new notes. Returns the number of the family's cells.
 fn walked(task: &Task<'_>, table: &mut Table) -> Result<u64, Refusal>
     requires { table.old ≡ empty }
     ensures made { OnOk result (IsMade task.now.flash.now task.now.assumptions.now table.new) }
@@ -171,7 +172,7 @@ fn walked(task: &Task<'_>, table: &mut Table) -> Result<u64, Refusal>
     }
 }
 
-// The walk from an empty family to one at which the rounds end.
+// Worklist iteration from an empty family to one at which the rounds end.
 fn walk_to_end(task: &Task<'_>, table: &mut Table) -> Result<(), Refusal>
     requires { table.old ≡ empty }
     ensures { OnOk result (AreRoundsFound task.now.flash.now task.now.assumptions.now None table.new) }
@@ -189,8 +190,8 @@ pub fn ordered_family(task: &Task<'_>) -> Result<Table, Refusal>
     walk_to_end(task, &mut table).and(Ok(table))
 }
 
-/// The family at which the rounds end, or why they end at none within the budget. With a budget the rounds alone tell this. Without one they
-/// begin in a hurry; where they are left, the other order is tried, and where that gives nothing, they go to their end.
+/// The family at which the rounds end, or the reason why they end at none within the budget. With a budget only rounds run. Without one
+/// they begin in a hurry; if they are abandoned, the worklist is tried, and if that fails, the rounds run to their end.
 pub fn found_family(task: &Task<'_>, steps: Option<u64>) -> Result<Table, Refusal>
     ensures found { IfOk result (λ f. AreRoundsFound task.now.flash.now task.now.assumptions.now steps f) }
     ensures why_not { IfErr result (λ r. IsWhyNot task.now.flash.now task.now.assumptions.now steps r) }

@@ -1,4 +1,4 @@
-//! The rounds, from the root's node after reset to their end.
+//! The rounds, from the root's node after reset to the fixpoint or a refusal.
 
 ghost use Rattle.std.specs.Prelude.{ℕ, ◌+◌, ◌≡◌, ◌≢◌, Some, IfOk, IfErr, OnOk};
 ghost use Rattle.std.specs.FinMap.{empty};
@@ -23,7 +23,7 @@ use round_steps::{Notes, join_all, look_all};
 use round_table::Table;
 use std::alloc::AllocError;
 
-// The tests of a round, in their order, and the nodes to be joined into the family where none holds.
+// The tests of a round in order, and if none holds, the nodes to join into the family.
 fn next_nodes(
     task: &Task<'_>,
     table: &Table,
@@ -74,7 +74,7 @@ pub(crate) fn start(
     Ok(work)
 }
 
-// One step of the budget.
+// Spends one step of the budget.
 fn spend(steps: Option<u64>, left: Option<u64>) -> Result<Option<u64>, Refusal>
     ensures ok { IfOk result (λ l. (n : ℕ) → IsBudgetLeft steps left n → IsBudgetLeft steps l (n + 1)) }
     ensures err { IfErr result (λ e. (n : ℕ) → IsBudgetLeft steps left n → IsSpent steps n e) }
@@ -86,14 +86,14 @@ fn spend(steps: Option<u64>, left: Option<u64>) -> Result<Option<u64>, Refusal>
     }
 }
 
-// Whether the rounds are to be left, in a hurry: many of so many looks were at nodes that had been looked at before.
+// Whether rounds in a hurry are abandoned: many of this many visits were repeated ones.
 fn is_late(hurry: bool, looks: usize, table: &Table) -> bool {
     hurry && looks.saturating_sub(256) > table.len()
 }
 
-// The rounds, on a table and notes that are empty: the family at which they end, or why they end at none within the budget. In a hurry they
-// are left as for want of memory once they look at nodes again and again. Their caller owns both, so that each early end here lets go of the
-// work at most.
+// The rounds, from an empty table and empty notes: the family at which they end, or the reason why they end at none within the budget. In
+// a hurry they are abandoned, as if memory ran out, once they visit nodes again and again. The caller owns both, so each early exit here
+// drops only the list of nodes.
 fn go_on(
     task: &Task<'_>,
     steps: Option<u64>,
@@ -125,8 +125,8 @@ fn go_on(
     }
 }
 
-/// The family at which the rounds end, or why they end at none within the budget. In a hurry the rounds are left, as for want of memory, once
-/// they look at nodes again and again.
+/// The family at which the rounds end, or the reason why they end at none within the budget. In a hurry they are abandoned, as if memory
+/// ran out, once they visit nodes again and again.
 pub fn least_family(task: &Task<'_>, steps: Option<u64>, hurry: bool) -> Result<Table, Refusal>
     ensures found { IfOk result (λ f. AreRoundsFound task.now.flash.now task.now.assumptions.now steps f) }
     ensures why_not { IfErr result (λ r. IsWhyNot task.now.flash.now task.now.assumptions.now steps r) }

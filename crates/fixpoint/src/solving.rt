@@ -1,4 +1,4 @@
-//! The certificate of the family at which the rounds end.
+//! The least certificate.
 
 ghost use Rattle.std.specs.Prelude.{◌≡◌, ◌≢◌, ◌≤◌, IfOk, IfErr, None};
 ghost use Rattle.certificate.specs.Claims.{Claim};
@@ -15,9 +15,9 @@ use round_rules::Refusal;
 use std::alloc::Global;
 use vector_table::Assumptions;
 
-/// The certificate of the least family, with least ranks and needs and the root's need as bound, without a schedule: it is valid, and no
-/// valid one for this firmware and these assumptions has a smaller bound. Otherwise the one refusal of the rounds, that they end at
-/// none of the families 0 to `steps`, or want of memory. Without `steps`, a refusal for another cause than memory says that no
+/// The certificate of the least family, with least ranks and needs and the root's need as bound, without a schedule. It is valid, and no
+/// valid one for this firmware and these assumptions has a smaller bound. Fails with the refusal of the rounds, with `Spent` if they end
+/// at none of the families 0 to `steps`, or if memory runs out. Without `steps`, a refusal other than running out of memory says that no
 /// certificate is valid.
 pub fn solve(
     alloc: Global,
@@ -38,7 +38,7 @@ pub fn solve(
     };
     let table = found_family(&task, steps)?;
     let certificate = certificate_of(&task, table)?;
-    // a look at its nodes tells the proof what every certificate keeps
+    // reading the nodes gives the proof the definition of a certificate
     let _nodes = certificate.nodes();
     Ok(certificate)
 }

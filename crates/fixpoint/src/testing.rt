@@ -24,12 +24,12 @@ use round_steps::{Notes, Seen};
 use round_table::Table;
 use std::alloc::Global;
 
-// How many nodes and how many cells a certificate may have.
+// The most nodes and the most cells of a certificate.
 const MOST_NODES: usize = 65_536;
 
 const MOST_CELLS: u64 = 8_388_608;
 
-/// The nodes, then the cells, are within the limits.
+/// Checks that the nodes, and then the cells, are within the limits.
 pub fn check_size(table: &Table, counted: u64) -> Result<(), Refusal>
     requires { counted ≡ cells table.now }
     ensures fits { OnOk result (FitsLimits table.now) }
@@ -58,7 +58,7 @@ fn refusal_of(fault: NodeFault) -> Refusal
     }
 }
 
-/// Notes what was found at nodes, unless one of them has a fault.
+/// Notes the results of visits, unless a node has a fault.
 pub fn note_seen(alloc: Global, notes: &mut Notes, seen: &Seen) -> Result<(), Refusal>
     requires small { (x : look_type.Look) → Contains seen.now.looks.items x → offset_of x.key.sp ≤ SIZE }
     requires once { AreOnce notes.old.nesting.insts }
@@ -74,7 +74,7 @@ pub fn note_seen(alloc: Global, notes: &mut Notes, seen: &Seen) -> Result<(), Re
     Ok(())
 }
 
-/// No instance reaches itself, and the root needs no more bytes than the device's SRAM has.
+/// Checks that no instance is on a cycle, and that the root's need is at most the size of the device's SRAM.
 pub fn check_nesting(flash: &Flash, nesting: &mut Nesting) -> Result<(), Refusal>
     requires { length nesting.old.insts ≤ most_nodes }
     ensures nests { OnOk result (TellsAll (size_of (device_of flash.now)) nesting.old Nests) }

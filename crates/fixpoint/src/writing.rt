@@ -17,7 +17,7 @@ use round_table::Table;
 use std::alloc::{AllocError, Global};
 use vector_table::Assumptions;
 
-// The instances of a graph with their ranks and needs.
+// The instances of a graph with ranks and needs.
 fn instances(alloc: Global, graph: &Graph, composed: &Composed) -> Result<Vec<Inst>, AllocError>
     requires ranks { length composed.now.ranks ≡ length graph.now.instances }
     requires needs { length composed.now.needs ≡ length graph.now.instances }
@@ -53,13 +53,13 @@ fn heading(task: &Task<'_>, family: &Worked) -> Result<(Assumptions, Vec<Inst>),
     Ok((listed, insts))
 }
 
-// The certificate of the family at which the rounds end, without a schedule. Each local part is worked out twice.
+// The certificate of the family at which the rounds end, without a schedule. Each local part is computed twice.
 pub(crate) fn certificate_of(task: &Task<'_>, table: Table) -> Result<Certificate, AllocError>
     requires solved { (n : ℕ) × IsSolved task.now.flash.now task.now.assumptions.now n table }
     ensures { IfOk result (λ c. IsSolution task.now.flash.now task.now.assumptions.now table c) }
 {
     solved_families_are_shown();
-    // These are entries that a list of assumptions may have.
+    // These entries are those of a valid list of assumptions.
     let _entries = task.assumptions.entries();
     let family = Worked::of(task, Filled::new(table.into_sorted(task.alloc)?))?;
     match heading(task, &family) {

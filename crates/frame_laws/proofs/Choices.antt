@@ -43,7 +43,7 @@ not_hung : (b : Bool) (pc : ℕ) (r : Raw) → (untracked_if b pc r).faults ≡ 
 not_hung true pc r h = absurd (cc)
 not_hung false pc r h = refl
 
--- a node with no fault isn't hung
+-- a node without a fault isn't hung
 faultless_not_hung : (words : Program) (A : List Entry) (k : NodeKey) (s : AbsState) → (raw words A k s).faults ≡ [] → is_hung (device_of words) A k k.sp ≡ false
 unfolding raw
 faultless_not_hung words A k s h = not_hung (is_hung (device_of words) A k k.sp) k.pc _ h
@@ -54,7 +54,7 @@ all_four a b c d h = (grind arith, grind arith, grind arith, grind arith)
 pub vector_small : (enables v : ℕ) → is_enabled enables v ≡ true → v ≤ 26
 vector_small enables v h = grind (arith, nat_tests)
 
--- where an interrupt may come at a node with no fault, its stack pointer is whole
+-- if an interrupt may be taken at a node without a fault, its stack pointer is whole
 closed_where_taken : (device : Device) (A : List Entry) (k : NodeKey) (v : ℕ) (form : SpForm) → k.sp ≡ form → k.i ≡ true → k.delay ≡ false → is_enabled k.masks v ≡ true
     → is_never A (vector_word device v) ≡ false → is_hung device A k form ≡ false → (offset : ℕ) × (k.sp ≡ Closed offset)
 closed_where_taken device A k v (Closed offset) is i delay enabled allowed hung = (offset, is)
@@ -68,7 +68,7 @@ not_never A word h = by_test (is_never A word) refl h
     by_test false is h = refl
     by_test true is h = absurd (cc)
 
--- a vector's word is one of the device's
+-- a vector's word is in the device's flash
 pub vector_inside : (device : Device) (v : ℕ) → v ≤ 26 → vector_word device v < words_of device
 vector_inside M48 v le = omega arith
 vector_inside M88 v le = omega arith
@@ -79,7 +79,7 @@ vector_inside M328 v le = omega arith
 flag_cleared : (sreg : ℕ) → flag (sreg % 128) 7 ≡ false
 flag_cleared sreg = grind (arith, nat_tests)
 
--- what is owed of an answer, where the state is a machine's
+-- the goal of an answer, if the state is a machine's
 fine_if : (words : Program) (A : List Entry) (f : RankedFamily) (c : Choice) (g : Frame) (gs : List Frame) (a : Answer) → ((n : State) → a ≡ Done n → IsMachine n)
     → IsFineFor (Follow words A f c g gs) a → IsFine words A f c g gs a
 fine_if words A f c g gs Illegal machine h = tt
@@ -94,7 +94,7 @@ module _ (cover : LocalPartsCover) (machines : MachinesStay) (live : LiveBytesSt
     faultless = sound.faultless g.node runs.present
 
     module _ (b1 b2 : ℕ) where
-      -- a called word is one of the device's
+      -- a called word is in the device's flash
       calls_inside : (site : CallSite) → Contains (raw_of words A g.node).calls site → wrapped m.device site.entry ≡ site.entry
       calls_inside site member =
           devices_are_alike.same m.device site.entry
@@ -137,7 +137,7 @@ module _ (cover : LocalPartsCover) (machines : MachinesStay) (live : LiveBytesSt
         devices_are_alike.same m.device (vector_word m.device v) (vector_inside m.device v (vector_small m.enables v enabled))
         ∙ ap (λ device. vector_word device v) runs.device
 
-    -- the entry of an interrupt that may come
+    -- the entry of an interrupt that may be taken
     entered_by : (v : ℕ) (clears : Bool) → (offset : ℕ) × (g.node.key.sp ≡ Closed offset) → g.node.key.i ≡ true → g.node.key.delay ≡ false → is_enabled g.node.key.masks v ≡ true
         → is_never A (vector_word (device_of words) v) ≡ false → (not clears || (v == WATCHDOG)) ≡ true → is_enabled m.enables v ≡ true
         → StepGoesOn (Follow words A f (Take v clears) g gs) m true (entering m v clears)

@@ -1,4 +1,4 @@
--- The frames that were left: what is kept of the memory keeps them, and what the needs say of their bases.
+-- Suspended frames: memory that keeps them, and the needs above their bases.
 use Rattle.std.proofs.Common.{◌≡◌, ◌≢◌, ℕ, ◌+◌, ◌≤◌, List, [], ◌∷◌, ap, ◌∙◌, arith}
 use Rattle.avr_model.specs.Devices.{Program, ramend, device_of}
 use Rattle.avr_model.specs.declared.assumption.Entry.{Entry}
@@ -26,7 +26,7 @@ module _ (words : Program) (A : List Entry) (f : RankedFamily) where
   root_base memory (g ∷ gs) inst o l e = absurd (not_root l.0.enters e)
 
   module _ (sound : IsSoundFamily words A f) where
-    -- what the frames above a base take, and what its instance needs, is within the bound
+    -- the frames above a base, and the need of its instance, are within the bound
     pub within : (memory : Memory) (gs : List Frame) (inst : InstKey) (o : Origin) → AreLeft words A f memory gs inst o → ramend (device_of words) + f.need_of inst ≤ o.base + f.bound
     within memory [] inst o l = omega (arith, ap f.need_of l.0, l.1, sound.bounded)
     within memory (g ∷ gs) inst o l =
@@ -60,7 +60,7 @@ module _ (words : Program) (A : List Entry) (f : RankedFamily) where
             high_live = kept.live (o.base + 1) (omega arith) l.high_live;
           }
 
-      -- frames that lie above the floor are kept
+      -- frames above the floor are kept
       pub left_kept : (gs : List Frame) (inst : InstKey) (o : Origin) → floor ≤ o.base → AreLeft words A f old gs inst o → AreLeft words A f new gs inst o
       left_kept [] inst o le l = l
       left_kept (g ∷ gs) inst o le l = (is_left_kept g inst o le l.0, left_kept gs g.node.key.inst g.origin (omega (arith, l.0.place)) l.1)

@@ -1,4 +1,4 @@
--- The family of the worked firmware is sound: the definitions are met where there is a call.
+-- The family of the worked firmware is sound: the definitions are satisfiable with a call.
 use Rattle.std.proofs.Common.{◌≡◌, ℕ, zero, suc, ◌+◌, ◌<◌, ◌≤◌, ◌⊎◌, inl, inr, ⊎_elim, false, List, [], ◌∷◌, Option, Some, None, slice_index_or, refl, sym, ap, ◌∙◌, subst, arith, Contains}
 use Rattle.std.proofs.lemmas.List.{get_or-replicate}
 use Rattle.basics.specs.Items.{none_in, only_one_in}
@@ -61,7 +61,7 @@ unknown_above s formed r lt =
     subst (IsByteWithin v) (sym (get_or-replicate 32 r unknown unknown lt))
     record { tag = tt; bits = below; low = omega (arith, wide.low, fits.low); high = omega (arith, wide.high, fits.high) }
 
--- nothing says less, where there is no slot
+-- the top element is above all states without slots
 top_above : (s : AbsState) → IsFormed s 0 → IsStateWithin s top
 top_above s formed = record {
   registers = unknown_above s formed;
@@ -79,7 +79,7 @@ three_at x y z n (suc zero) lt e = inr (inl (sym e))
 three_at x y z n (suc (suc zero)) lt e = inr (inr (sym e))
 three_at x y z n (suc (suc (suc k))) lt e = absurd (omega arith)
 
--- what holds of each of the three
+-- a property of each of the three nodes
 each : (P : Node → Type 0) → P at_call → P at_loop → P at_return → (n : Node) → Contains family.nodes n → P n
 each P a b c n h =
     ⊎_elim (λ e. subst P (sym e) a) (λ r. ⊎_elim (λ e. subst P (sym e) b) (λ e. subst P (sym e) c) r) (three_at at_call at_loop at_return n h.0 h.1 h.2)
@@ -111,7 +111,7 @@ no_pick kind.Call = refl
 no_pick (kind.Interrupt v clears) = refl
 no_pick kind.Return = refl
 
--- the return leads behind the call
+-- the return goes to the word after the call
 return_covered : (way : EdgeKind) (inst : InstKey) (back : ℕ) → inst ≡ callee → back ≡ 1 → (leaver : Node) → Contains family.nodes leaver → leaver.key.inst ≡ inst → (x : Exit) (s : AbsState)
     → (raw_of sample [] leaver).exit ≡ Some x → returned top leaver.state ≡ Some s → IsCovered family.nodes (record { key = returned_key way at_call.key back x; state = s })
 return_covered way inst back inst_is back_is =
@@ -162,7 +162,7 @@ no_pairs : has_pairs [] ≡ false
 unfolding has_pairs
 no_pairs = refl
 
--- the worked firmware is one of the greatest device
+-- the worked firmware has the greatest device
 sample_small : 2 ≤ size_of (device_of sample)
 unfolding device_of
 sample_small = omega arith

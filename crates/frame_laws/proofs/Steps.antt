@@ -42,7 +42,7 @@ use Rattle.frame_laws.proofs.Left.{not_root, root_base, within, base_inside, lef
 use Rattle.frame_laws.proofs.Way.{WayBack, two_inside, way_pushed, way_read}
 use Rattle.frame_laws.proofs.Answers.{StepGoesOn}
 
--- an entry: the way back is pushed, and registers stay
+-- an entry: the return address is pushed, and registers stay
 abbrev pub entry_effect : State → ℕ → ℕ → ℕ → ℕ → Effect
 entry_effect m target sreg enables back =
     record (going_to m target) { sreg = sreg; sp = minus16 m.sp 2; is_open = false; enables = enables; pushes = way_back m.sp back }
@@ -53,7 +53,7 @@ floor_fits base false sp (Closed offset) h = omega (arith, h.1)
 floor_fits base true sp (Open offset high) h = omega arith
 floor_fits base false sp (Open offset high) h = absurd (let e = h.0 in cc)
 
--- what is known of pairs holds where less is said
+-- facts on pairs hold in greater states
 pub facts_less : (s t : AbsState) (m : State) → IsStateWithin s t → HoldsAt s.facts m.registers m.sreg → HoldsAt t.facts m.registers m.sreg
 facts_less s t m le h = known_is_ordered.less s.facts t.facts m.registers (flag m.sreg 0) (flag m.sreg 1) (flag m.sreg 4) le.facts h
 
@@ -61,14 +61,14 @@ facts_less s t m le h = known_is_ordered.less s.facts t.facts m.registers (flag 
 abbrev pub Follow : Program → List Entry → RankedFamily → Choice → Frame → List Frame → State → Type 0
 Follow words A f c g gs n = IsMachine n → HasNext words A f c g gs n
 
--- the word that an entry pushes is one of the device's
+-- the word that an entry pushes is in the device's flash
 back_inside : {words : Program} {A : List Entry} {n : Node} {way : EdgeKind} {inst : InstKey} {back : ℕ} → Enters words A n way inst back → back < words_of (device_of words)
 back_inside {words = words} {A = A} {n = n} (by_call offset site faultless form member) = ((local_parts_fit.fit words A n.key n.state).calls site member).1
 back_inside {words = words} {A = A} {n = n} (by_interrupt offset v clears faultless form i delay enabled allowed clearable) = (local_parts_fit.inside words A n.key n.state faultless).0
 
 module _ (live : LiveBytesStay) (words : Program) (A : List Entry) (f : RankedFamily) (sound : IsSoundFamily words A f) where
   module _ (m : State) (g : Frame) (gs : List Frame) (runs : Runs words A f m g gs) where
-    -- what holds of the device of the words holds of the machine's
+    -- a property of the words' device holds of the machine's
     on_machine : (P : Device → Type 0) → P (device_of words) → P m.device
     on_machine P h = subst P (sym runs.device) h
 
@@ -84,7 +84,7 @@ module _ (live : LiveBytesStay) (words : Program) (A : List Entry) (f : RankedFa
     few : size_of m.device ≤ 2048
     few = devices_are_alike.most_bytes m.device
 
-    -- what a step keeps that writes no live byte
+    -- a step that writes no live byte keeps this
     kept_by : (guarded : Bool) (e : Effect) → live_write m.memory (e.stores ++ e.pushes) ≡ None → Keeps m.memory (after m guarded e).memory (floor_of (after m guarded e).is_open (after m guarded e).sp)
     kept_by guarded e miss = live.kept m guarded e runs.running.machine miss
 
@@ -102,7 +102,7 @@ module _ (live : LiveBytesStay) (words : Program) (A : List Entry) (f : RankedFa
     base_at base (Closed offset) room = omega (arith, room.0, room.1)
     base_at base (Open offset high) room = tt
 
-    -- a successor's slots lie in SRAM or above it: a closed one has room, and an open one has the offset from before
+    -- a successor's slots lie in SRAM or above it: a closed one has room, and an open one keeps the offset
     place_at : (to : Node) → Contains f.nodes to → to.key.inst ≡ g.node.key.inst → (form : SpForm) → to.key.sp ≡ form
         → ((offset : ℕ) (high : High) → form ≡ Open offset high → offset ≡ offset_of g.node.key.sp) → has_masks A ≡ true → offset_of form + BELOW ≤ g.origin.base
     place_at to present inst (Closed offset) is stays may = omega (arith, in_bound, small, sound.offsets to offset present is, ap f.need_of inst)
@@ -157,7 +157,7 @@ module _ (live : LiveBytesStay) (words : Program) (A : List Entry) (f : RankedFa
     closed_sp : (offset : ℕ) → g.node.key.sp ≡ Closed offset → m.sp + offset ≡ g.origin.base
     closed_sp offset form = (subst (SpIs g.origin.base m.is_open m.sp) form runs.running.place.sp).1
 
-    -- how the entered frame begins
+    -- the origin of the entered frame
     abbrev entry_origin : Origin
     entry_origin = record { registers = m.registers; sreg = m.sreg; base = minus16 m.sp 2 }
 
@@ -256,7 +256,7 @@ module _ (live : LiveBytesStay) (words : Program) (A : List Entry) (f : RankedFa
       still_closed : returned_state.is_open ≡ false
       still_closed = ap₂ open_after is.closed is.stores
 
-      -- the slots of the frame that goes on lie in SRAM or above it
+      -- the slots of the frame that continues lie in SRAM or above it
       caller_room : (h : Frame) (hs : List Frame) → AreLeft words A f m.memory hs h.node.key.inst h.origin → Contains f.nodes h.node → (offset : ℕ) → h.node.key.sp ≡ Closed offset
           → offset_of h.node.key.sp + BELOW ≤ h.origin.base
       caller_room h hs left present offset closed =

@@ -1,2 +1,2 @@
--- Crates above cite this crate's proofs from here.
+-- The lemmas that crates above cite.
 pub use Rattle.guided_trials.proofs.Completed.{claim_with, sound_with, attained_where}

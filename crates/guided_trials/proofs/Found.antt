@@ -1,4 +1,4 @@
--- What a trial finds, and the first of them.
+-- The result of a trial, and the first success.
 use Rattle.std.proofs.Common.{arith, refl, sym, ap, subst, ◌∙◌, ◌≡◌, ◌≤◌, ◌<◌, ◌+◌, ◌⊎◌, ℕ, List, length, Option, Some, IsOkAnd, inl, inr}
 use Rattle.basics.specs.Numbers.{most_from_start}
 use Rattle.avr_model.specs.declared.choice.Choice.{Choice}
@@ -55,7 +55,7 @@ module _ (words : Program) (A : List Entry) (g : Guide) (t : ℕ) where
         (λ (x : Option ℕ). IsOkAnd (report_unless x (record { steps = steps_of words A cs m; depth = depth_of words A cs m; stop = stop_of words A cs m })) (λ r. (r.stop ≡ stop.End) × (r.depth ≡ bound)))
         (sym (run_legal words A cs m run)) (end, deep)
 
-    -- where the bound is one of all runs, its depth is the bound
+    -- if the bound bounds all runs, its depth is the bound
     exactly : (cs : List Choice) → IsReset (device_of words) reset → IsRun words A cs reset → g.bound ≤ depth_of words A cs reset → Bounded words A g.bound → depth_of words A cs reset ≡ g.bound
     exactly cs at run deep all = omega (arith, deep, all.depth reset cs at run)
 
@@ -70,7 +70,7 @@ module _ (words : Program) (A : List Entry) (g : Guide) (t : ℕ) where
       → depth ≡ depth_of words A (trial_of words A g t) reset
   depth_is steps cs depth most is deep = deep ∙ ap (λ (xs : List Choice). depth_of words A xs reset) (is ∙ whole steps most)
 
-  -- what was seen of the trial holds of its choices
+  -- the depth found is that of the trial's choices
   pub deep : (steps : ℕ) (cs : List Choice) (depth : ℕ) → cs ≡ trial_by steps words A g t → depth ≡ depth_of words A (trial_by steps words A g t) reset
       → g.bound ≤ depth → g.bound ≤ depth_of words A cs reset
   deep steps cs depth is seen high = omega (arith, seen, high, ap (λ (xs : List Choice). depth_of words A xs reset) is)

@@ -1,4 +1,4 @@
--- What leads the trials.
+-- The guide of trials.
 use Rattle.std.proofs.Common.{arith, zero, suc, ◌≡◌, ◌≤◌, ◌<◌, ◌⊎◌, inl, inr, ⊎_elim, refl, sym, ap, subst, ◌∙◌, ℕ, ◌+◌, ◌/◌, ◌%◌, ◌==◌, ◌&&◌, ◌||◌, not, mod-lt, Bool, true, false, if◌then◌else◌, List, [], ◌∷◌, ◌++◌, append-nil, length, Contains, Option, Some, None, slice_get}
 use Rattle.std.specs.List.{AllByRecursion, find, filter}
 use Rattle.std.specs.List.Sorted.{IsStrictlySortedBy}
@@ -198,7 +198,7 @@ module _ {X : Type 0} (q : X → Bool) where
   got_every (x ∷ xs) (suc n) h = got_every xs n h.1
 
 module _ (words : Program) (A : List Entry) where
-  -- no line forbids the vector
+  -- no line bars the vector
   abbrev may_come : Candidate → Bool
   may_come k = not (is_never A (vector_word (device_of words) k.vector))
 

@@ -1,4 +1,4 @@
--- The paces of trials: a byte is held for a power of two.
+-- The paces of trials are powers of two.
 use Rattle.std.proofs.Common.{zero, suc, ◌≡◌, ap, ℕ, ◌-◌, ◌%◌, ◌==◌, [], ◌∷◌, slice_index_or, bit_and}
 use Rattle.std.proofs.lemmas.Nat.{and_mask}
 use Rattle.guided_trials.specs.Choosing.{hold}

@@ -1,4 +1,4 @@
--- What is chosen by a menu is what is picked by its state.
+-- The choice by a menu is that by the state.
 use Rattle.std.proofs.Common.{zero, suc, ◌≡◌, refl, ap, ◌∙◌, ℕ, ◌%◌, ◌/◌, ◌==◌, ◌&&◌, ◌||◌, not, Bool, true, false, if◌then◌else◌, IsTrue, List, [], ◌∷◌, length, Option, Some, None, slice_get}
 use Rattle.std.specs.List.{find, filter}
 use Rattle.avr_model.specs.declared.choice.Choice.TheVariants.{Go}

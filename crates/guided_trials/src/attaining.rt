@@ -31,7 +31,7 @@ fn is_of(instance: &Inst, vector: u8) -> bool
     }
 }
 
-// The greatest need of the entries of a vector, 0 without one.
+// The greatest need of the entries of a vector, 0 if there is none.
 fn need_of(instances: &[Inst], vector: u8) -> u32
     ensures { result ≡ guides.need_of instances.now vector }
 {
@@ -75,7 +75,7 @@ fn add_takes(
     Ok(())
 }
 
-// What leads the trials of a certificate.
+// The guide of a certificate's trials.
 fn guide_of(
     alloc: Global,
     flash: &Flash,
@@ -102,7 +102,7 @@ fn guide_of(
     })
 }
 
-// The schedule of the first of so many guided trials whose depth is the certificate's bound or more. None exactly where no trial's
+// The schedule of the first of this many guided trials whose depth is at least the certificate's bound. None exactly if no trial's depth
 // is.
 fn found(
     alloc: Global,
@@ -118,9 +118,9 @@ fn found(
     first_trial(alloc, flash, assumptions, &guide, trials)
 }
 
-/// The certificate with a schedule whose run is as deep as its bound, where it has none and one of so many guided trials shows one: that
-/// of the first such trial. All else stays as it is. Where the bound is one of all runs and the certificate is valid, so is what is
-/// answered: the replay of its schedule ends without a stop, and its depth is the bound. Source: own.
+/// The certificate with a schedule whose run is as deep as its bound, if it has none and one of this many guided trials finds one: that
+/// of the first such trial. All else stays. If the bound bounds all runs and the certificate is valid, so is the result: the replay of
+/// its schedule ends without a stop, at the depth of the bound. Source: own.
 pub fn attain(
     alloc: Global,
     flash: &Flash,

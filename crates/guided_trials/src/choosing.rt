@@ -1,4 +1,4 @@
-//! What a trial chooses at a moment.
+//! The choice of a trial at each step.
 
 ghost use Rattle.std.specs.Prelude.{◌≡◌, ◌+◌, ◌-◌, ◌%◌, ◌/◌, ◌==◌, ◌&&◌, length, slice_get};
 ghost use Rattle.std.specs.List.{filter, find};
@@ -11,7 +11,7 @@ use avr_decode::Instr;
 use avr_machine::{Choice, Menu};
 use flash_image::Flash;
 
-// One less than what trial `t` holds its byte for, which is a power of two.
+// The mask by which trial `t` changes its byte: a power of two less one.
 fn held_bits(t: u32) -> u16
     ensures { result ≡ choosing.hold t - 1 }
 {
@@ -23,14 +23,14 @@ fn held_bits(t: u32) -> u16
     }
 }
 
-// Whether the number is one at which trial `t` changes its byte.
+// Whether trial `t` may change its byte at this number.
 fn is_change(t: u32, number: u64) -> bool
     ensures { result ≡ (numbers.low number % choosing.hold t == 0) }
 {
     low(number) & held_bits(t) == 0
 }
 
-// Whether the number is one at which trial `t` takes an interrupt by chance.
+// Whether trial `t` takes an interrupt by chance at this number.
 fn is_chance(t: u32, number: u64) -> bool
     ensures { result ≡ (numbers.high number / 4 % choosing.rate t == 0) }
 {
@@ -78,21 +78,21 @@ pub fn after(flash: &Flash, guide: &Guide, t: u32, moment: TrialMoment, pc: u16)
     TrialMoment { number, byte }
 }
 
-// By how much the stack pointer has fallen below its place at reset.
+// How far the stack pointer has fallen below its place at reset.
 fn fallen(flash: &Flash, sp: u16) -> u16
     ensures { result ≡ choosing.fallen flash.now sp }
 {
     flash.device().ramend().wrapping_sub(sp)
 }
 
-// Whether the interrupt stands in the menu.
+// Whether the interrupt is in the menu.
 fn stands(menu: &Menu, candidate: &Candidate) -> bool
     ensures { result ≡ choosing.stands menu.now candidate.now }
 {
     menu.has(Choice::Take(candidate.vector, candidate.clears))
 }
 
-// Whether the stack is as deep as the bound with what the interrupt needs.
+// Whether the stack with the interrupt's need reaches the bound.
 fn is_wanted(guide: &Guide, depth: u16, candidate: &Candidate) -> bool
     ensures { result ≡ choosing.is_wanted guide.now depth candidate.now }
 {
@@ -101,7 +101,7 @@ fn is_wanted(guide: &Guide, depth: u16, candidate: &Candidate) -> bool
     u64::from(guide.bound) <= back + u64::from(need)
 }
 
-// The first interrupt that stands in the menu and is wanted.
+// The first interrupt in the menu that is wanted.
 fn wanted(guide: &Guide, menu: &Menu, depth: u16) -> Option<Candidate>
     ensures { result ≡ find (λ k. choosing.stands menu.now k && choosing.is_wanted guide.now depth k) guide.now.takes }
 {
@@ -116,7 +116,7 @@ fn wanted(guide: &Guide, menu: &Menu, depth: u16) -> Option<Candidate>
     None
 }
 
-// How many interrupts stand in the menu.
+// The number of interrupts in the menu.
 fn count(guide: &Guide, menu: &Menu) -> usize
     ensures { result ≡ length (filter (choosing.stands menu.now) guide.now.takes) }
 {
@@ -129,7 +129,7 @@ fn count(guide: &Guide, menu: &Menu) -> usize
     count
 }
 
-// The interrupt of this number among those that stand in the menu.
+// The interrupt of this number among those in the menu.
 fn standing(guide: &Guide, menu: &Menu, number: usize) -> Option<Candidate>
     ensures { result ≡ slice_get (filter (choosing.stands menu.now) guide.now.takes) number }
 {
@@ -145,7 +145,7 @@ fn standing(guide: &Guide, menu: &Menu, number: usize) -> Option<Candidate>
     None
 }
 
-// The interrupt that is taken by chance.
+// The interrupt taken by chance.
 fn by_chance(guide: &Guide, menu: &Menu, t: u32, number: u64) -> Option<Candidate>
     ensures { result ≡ choosing.by_chance t number (filter (choosing.stands menu.now) guide.now.takes) }
 {
@@ -159,7 +159,7 @@ fn by_chance(guide: &Guide, menu: &Menu, t: u32, number: u64) -> Option<Candidat
     standing(guide, menu, usize::from(middle(number)) % count)
 }
 
-// The interrupt that is taken.
+// The interrupt to take.
 #[inline(always)]
 fn taken(flash: &Flash, guide: &Guide, t: u32, number: u64, menu: &Menu) -> Option<Candidate>
     ensures { result ≡ choosing.taken t number (filter (choosing.stands menu.now) guide.now.takes) (find (λ k. choosing.stands menu.now k && choosing.is_wanted guide.now (choosing.fallen flash.now menu.now.sp) k) guide.now.takes) }
@@ -176,7 +176,7 @@ fn taken(flash: &Flash, guide: &Guide, t: u32, number: u64, menu: &Menu) -> Opti
     by_chance(guide, menu, t, number)
 }
 
-/// The choice from a menu; `now` is the moment that follows.
+/// The choice from a menu; `now` is the next moment.
 #[inline(always)]
 pub fn chosen(flash: &Flash, guide: &Guide, t: u32, now: TrialMoment, menu: &Menu) -> Choice
     ensures { result ≡ choosing.choice_by flash.now guide.now t now.number now.byte menu.now.sp (choosing.stands menu.now) }

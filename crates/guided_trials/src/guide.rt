@@ -1,4 +1,4 @@
-//! What leads a trial.
+//! The guide of a trial.
 
 ghost use Rattle.std.specs.Prelude.{◌≡◌, ◌≤◌, ◌+◌, nat_le, length};
 ghost use Rattle.guided_trials.specs.Choosing.{member};
@@ -7,7 +7,7 @@ ghost use Rattle.guided_trials.specs.Needs.{greatest};
 use avr_model::listed::Listed;
 use std::marker::Model;
 
-/// Bytes of which there always are some, ascending. Seen as their list.
+/// A nonempty ascending list of bytes. Seen as their list.
 #[derive(Drop)]
 pub struct ToldBytes {
     list: Listed<u8>,
@@ -24,7 +24,7 @@ impl Model for ToldBytes {
 }
 
 impl ToldBytes {
-    /// These bytes, of which there are some.
+    /// These bytes; the list must not be empty.
     pub fn new(list: Listed<u8>) -> ToldBytes
         requires { 1 ≤ length list }
         ensures { result ≡ list }
@@ -32,7 +32,7 @@ impl ToldBytes {
         ToldBytes { list }
     }
 
-    /// The byte of this number, which counts modulo how many there are.
+    /// The byte of this number, modulo their count.
     pub fn member(&self, number: u32) -> u8
         ensures { result ≡ member self.now number }
     {
@@ -46,9 +46,9 @@ impl ToldBytes {
 pub struct Candidate {
     /// The vector, 2 to 26.
     pub vector: u8,
-    /// Whether the vector's own enable bit is cleared then.
+    /// Whether the vector's own enable bit is cleared.
     pub clears: bool,
-    /// How many bytes it needs below its way back with all that it enters, by the certificate.
+    /// The bytes that it and all that it enters need below its return address, by the certificate.
     pub need: u32,
 }
 
@@ -56,7 +56,7 @@ pub struct Candidate {
 #[derive(Drop)]
 pub struct Candidates {
     list: Listed<Candidate>,
-    // The greatest need of them all.
+    // The greatest need of all.
     most: u32,
 }
 
@@ -72,7 +72,7 @@ impl Model for Candidates {
     ghost invariant = { λ c. c.most ≡ greatest c.list };
 }
 
-// The greatest need of the interrupts, 0 without one.
+// The greatest need of the interrupts, 0 if there is none.
 fn greatest_need(takes: &[Candidate]) -> u32
     ensures { result ≡ greatest takes.now }
 {
@@ -92,14 +92,14 @@ impl Candidates {
         Candidates { list, most }
     }
 
-    /// The interrupts in their order.
+    /// The interrupts in order.
     pub fn as_slice(&self) -> &[Candidate]
         ensures { result.now ≡ self.now }
     {
         self.list.as_slice()
     }
 
-    /// Whether a stack of this depth is as deep as the bound with the way back and the greatest of their needs.
+    /// Whether a stack of this depth, with a return address and the greatest need, reaches the bound.
     pub fn reach(&self, bound: u16, depth: u16) -> bool
         ensures { result ≡ nat_le bound (depth + 2 + greatest self.now) }
     {
@@ -109,10 +109,10 @@ impl Candidates {
     }
 }
 
-/// What leads all trials of a certificate.
+/// The guide of all trials of a certificate.
 #[derive(Drop)]
 pub struct Guide {
-    /// The bytes that the firmware tells apart, ascending.
+    /// The bytes that the firmware distinguishes, ascending.
     pub bytes: ToldBytes,
     /// The interrupts, by vector.
     pub takes: Candidates,
@@ -120,7 +120,7 @@ pub struct Guide {
     pub bound: u16,
 }
 
-/// Where a trial stands: its last number, and the byte that is its input.
+/// The state of a trial: its last number, and its input byte.
 #[derive(Clone, Copy)]
 pub struct TrialMoment {
     /// The number.

@@ -1,5 +1,5 @@
-//! Guided trials: runs from reset whose choices are led by what the firmware tells apart, by a certificate's needs and by a
-//! sequence of numbers, and the first of them that reaches the certificate's bound. Source: own.
+//! Guided trials: runs from reset whose choices follow the bytes that the firmware distinguishes, a certificate's needs and a sequence of
+//! numbers; and the first trial that reaches the certificate's bound. Source: own. Tests: `tests/end_to_end`, the rows of `attain`.
 #![tactic(auto)]
 
 mod attaining;

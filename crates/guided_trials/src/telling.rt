@@ -1,4 +1,4 @@
-//! The bytes that a firmware's tests tell apart.
+//! The input bytes that a firmware's tests distinguish.
 
 ghost use Rattle.std.specs.Prelude.{◌≡◌, ◌<◌, ◌==◌, ◌||◌, ◌++◌, ◌∷◌, [], ℕ, false, if◌then◌else◌, slice_index_or, IfOk, OnOk};
 ghost use Rattle.avr_model.specs.Assumptions.{lists};
@@ -33,7 +33,7 @@ fn mark_fills(told: &mut [bool; 256])
     mark(told, 0xFE);
 }
 
-// Marks a byte with bit `index` alone, and one with all but it.
+// Marks a byte with bit `index` set, and one with all others set.
 fn mark_bit(told: &mut [bool; 256], index: u16)
     requires { index < 8 }
     ensures { (b : ℕ) → b < 256 → slice_index_or told.new b false ≡ (slice_index_or told.old b false || lists (spec.of_bit index) b) }
@@ -43,7 +43,7 @@ fn mark_bit(told: &mut [bool; 256], index: u16)
     mark(told, 255 - byte);
 }
 
-// Marks what an instruction tells apart.
+// Marks the bytes that an instruction distinguishes.
 fn mark_told(told: &mut [bool; 256], instr: &Instr)
     ensures { (b : ℕ) → b < 256 → slice_index_or told.new b false ≡ (slice_index_or told.old b false || lists (spec.told instr.now) b) }
 {
@@ -59,7 +59,7 @@ fn mark_told(told: &mut [bool; 256], instr: &Instr)
     }
 }
 
-// Marks what the word at an address tells apart, where it is an instruction.
+// Marks the bytes that the word at an address distinguishes, if it is an instruction.
 fn mark_at(told: &mut [bool; 256], words: &[u16], at: usize)
     requires flash { IsFlash words.now }
     requires inside { at < words_of (device_of words.now) }
@@ -70,7 +70,7 @@ fn mark_at(told: &mut [bool; 256], words: &[u16], at: usize)
     }
 }
 
-// Marks what the words of flash tell apart.
+// Marks the bytes that the words of flash distinguish.
 fn mark_words(told: &mut [bool; 256], words: &[u16])
     requires { IsFlash words.now }
     ensures { (b : ℕ) → b < 256 → slice_index_or told.new b false ≡ (slice_index_or told.old b false || spec.is_told words.now (words_of (device_of words.now)) b) }
@@ -90,7 +90,7 @@ fn keep(bytes: &mut Vec<u8>, told: &[bool; 256], byte: u8) -> Result<(), AllocEr
     Ok(())
 }
 
-// The bytes that are marked, ascending.
+// The marked bytes, ascending.
 fn marked(alloc: Global, told: &[bool; 256]) -> Result<Vec<u8>, AllocError>
     ensures { IfOk result (λ bytes. bytes.items ≡ spec.passing 256 (λ b. slice_index_or told.now b false)) }
 {
@@ -101,7 +101,7 @@ fn marked(alloc: Global, told: &[bool; 256]) -> Result<Vec<u8>, AllocError>
     Ok(bytes)
 }
 
-/// The bytes that the trials give to inputs: eight of them always, and those that the words of flash tell apart; ascending.
+/// The input bytes of trials, ascending: eight that are always tried, and those that the words of flash distinguish.
 pub fn telling(alloc: Global, flash: &Flash) -> Result<ToldBytes, AllocError>
     ensures { IfOk result (λ bytes. bytes ≡ spec.telling flash.now) }
 {

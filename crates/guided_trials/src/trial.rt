@@ -21,15 +21,15 @@ use trial_runs::most_choices;
 use vector_table::Assumptions;
 use witness_replay::Schedule;
 
-// The byte that fills the memory at reset in trial `t`, and is its first input.
+// The byte that fills memory at reset in trial `t`, and is its first input.
 fn fill_of(guide: &Guide, t: u32) -> u8
     ensures { result ≡ fill_of guide.now t }
 {
     guide.bytes.member(t)
 }
 
-// How deep trial `t` comes until the depth is the bound or more, or a stop, or so many choices. It stands apart so that its loop is
-// optimised alone, and keeps no choices, since most trials fail.
+// The depth of trial `t` when it is at least the bound, or at a stop, or after this many choices. This function is separate so that its
+// loop is optimised alone and stores no choices: most trials fail.
 #[inline(never)]
 fn depth_of_trial(
     flash: &Flash,
@@ -60,7 +60,7 @@ fn depth_of_trial(
     machine.depth()
 }
 
-// The same trial with its choices, of which it makes as many as a trial may.
+// Trial `t` with its choices.
 fn attempt(
     alloc: Global,
     flash: &Flash,
@@ -93,7 +93,7 @@ fn attempt(
     driver.drive(alloc, &mut machine, flash, assumptions, guide.bound, steps)
 }
 
-// The schedule of trial `t`. None exactly where its depth is less than the bound.
+// The schedule of trial `t`. None exactly if its depth is below the bound.
 fn try_number(
     alloc: Global,
     flash: &Flash,
@@ -116,8 +116,8 @@ fn try_number(
     Ok(Some(schedule))
 }
 
-/// The schedule of the first of so many trials whose depth is the bound or more. None exactly where no trial's is. Where the
-/// bound is one of all runs, the replay of the schedule ends without a stop, and its depth is the bound.
+/// The schedule of the first of this many trials whose depth is at least the bound. None exactly if no trial's depth is. If the bound
+/// bounds all runs, the replay of the schedule ends without a stop, at the depth of the bound.
 pub fn first_trial(
     alloc: Global,
     flash: &Flash,

@@ -1,5 +1,4 @@
--- The laws, each under the name of the public function that carries it. Crates above cite them from here; those of texts rest
--- on what the readers of all texts share.
+-- The laws, each under the name of its public function. Crates above cite them from here. Laws of texts rest on those of `line_reading`.
 use Rattle.line_reading.specs.Words.{WordLaws}
 use Rattle.bit_domain.proofs.AllLaws.{numbers_are_permitted, bytes_are_sets}
 use Rattle.indirect_targets.specs.Exact.{ReadingIsExact, EntryWords}

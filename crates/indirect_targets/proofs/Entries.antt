@@ -1,4 +1,4 @@
--- Entries and their words: what is written is read, and what is read was written.
+-- Reading and spelling of entries are inverse.
 use Rattle.std.proofs.Common.{◌≡◌, ◌<◌, ◌^◌, ℕ, List, [], ◌∷◌, Bool, true, false, refl, ap, sym, ◌∙◌, arith, Option, Some, None, cond, inl, inr, codes, option_map, ltb-true, eqb, ◌&&◌, ◌||◌}
 use Rattle.std.specs.List.{AllByRecursion, list_all, list_any}
 use Rattle.std.proofs.lemmas.Bool.{and_parts, cases_Bool}
@@ -41,7 +41,7 @@ protected_small a h = elim (cases_Bool (has_enables a)) [
 word_small : (a : ℕ) → is_word a ≡ true → a < 16 ^ 4
 word_small a h = let small = ltb-true a 16384 h in omega (arith, small)
 
--- numbers that four digits hold
+-- numbers of at most four digits
 abbrev AreShort : List ℕ → Type 0
 AreShort ns = AllByRecursion (λ n. n < 16 ^ 4) ns
 
@@ -122,14 +122,14 @@ alone_takes k ws site e =
 kind_is : (w : List ℕ) (ws vs : List (List ℕ)) (kind : List ℕ) → bytes_eq w kind ≡ true → ws ≡ vs → w ∷ ws ≡ kind ∷ vs
 kind_is w ws vs kind e f = rw ((bytes_eq-Decides w kind).0 e, f) refl
 
--- the words of an entry of this kind, which names a site alone
+-- the words of an entry of a kind with a site and nothing else
 kind_takes : WordLaws → (kind : List ℕ) (make : ℕ → Entry) → ((site : ℕ) → entry_words (make site) ≡ kind ∷ number_words (site ∷ [])) → (w : List ℕ) (ws : List (List ℕ)) (e : Entry)
     → bytes_eq w kind ≡ true → option_map make (alone_in ws) ≡ Some e → w ∷ ws ≡ entry_words e
 kind_takes k kind make words w ws e is read =
     let s = map_some (alone_in ws) make e read in
     kind_is w ws (number_words (s.0 ∷ [])) kind is (alone_takes k ws s.0 s.1) ∙ sym (words s.0) ∙ ap entry_words s.2
 
--- the words of an entry that is a word alone
+-- the words of an entry that is one word
 bare_takes : (kind : List ℕ) (entry : Entry) → entry_words entry ≡ kind ∷ [] → (w : List ℕ) (ws : List (List ℕ)) (e : Entry)
     → bytes_eq w kind ≡ true → bare_in entry ws ≡ Some e → w ∷ ws ≡ entry_words e
 bare_takes kind entry words w ws e is read = elim (chosen (is_over ws) _ _ (Some e) read) [

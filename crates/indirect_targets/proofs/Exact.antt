@@ -1,4 +1,4 @@
--- Assumption lists: what is read is due, and what is due is read.
+-- Assumption lists: the result of reading is due, and the due answer is the result of reading.
 use Rattle.std.proofs.Common.{◌≡◌, ◌≢◌, ◌+◌, ◌<◌, ◌≤◌, ℕ, List, [], ◌∷◌, ◌++◌, Bool, true, false, length, length-append, append_assoc, append-nil, refl, ap, sym, ◌∙◌, subst, arith, Option, Some, None, Result, Ok, Err, cond, ◌⊎◌, inl, inr, ltb, ltb-true, ltb-false}
 use Rattle.std.proofs.lemmas.Bool.{cases_Bool}
 use Rattle.std.proofs.lemmas.Bool.Decides.{nat_tests}
@@ -33,7 +33,7 @@ words_again k (Free site) h = k.words_stand _ _ (entry_is_words k (Free site) h)
 words_again k (Never site) h = k.words_stand _ _ (entry_is_words k (Never site) h)
 words_again k (Frame site) h = k.words_stand _ _ (entry_is_words k (Frame site) h)
 
--- the line of an entry is read as it
+-- reading the line of an entry gives the entry
 line_taken : WordLaws → (e : Entry) → is_entry e ≡ true → entry_by (whole (entry_words e)) ≡ Some e
 line_taken k e h = ap entry_in (words_again k e h) ∙ (entry_laws k).read e h
 
@@ -69,7 +69,7 @@ next_without_room : (count : ℕ) (l : TextLine) → count ≡ most_entries → 
 unfolding next_by
 next_without_room count l h = let full : ltb count most_entries ≡ false = grind (arith, nat_tests) in rw full refl
 
--- it is found just where there is room and the line is that of an entry
+-- an entry is found exactly if there is room and the line is that of the entry
 next_some : (count : ℕ) (l : TextLine) (e : Entry) → next_by count l ≡ Some e → (count < most_entries) × (entry_by l ≡ Some e)
 unfolding next_by
 next_some count l e is = elim (chosen (ltb count most_entries) _ _ (Some e) is) [
@@ -112,7 +112,7 @@ rest_lines k here l ls e lines is =
     let t = line_takes k l e is in
     sym (same_head_and_tail l (whole (entry_words e)) ls (lines_of (joined ls)) (sym lines ∙ ap lines_of (begins k here l ls e lines is) ∙ first_line k e (joined ls) t.1)).1
 
--- reading on through these lines gives what is due
+-- reading these lines gives the due answer
 abbrev ReadsFrom : List TextLine → Type 0
 ReadsFrom ls = (es : List Entry) (here : List ℕ) → lines_of here ≡ ls → AreEntries es → IsListDue (text_of es ++ here) (entries_from es ls)
 
@@ -166,7 +166,7 @@ one_read k es e rest f =
     (ap (λ (o : Option Entry). then_at (placed es o) (λ more. entries_from more (lines_of rest))) next
     ∙ ap (λ (b : Bool). then_at (cond b (Ok (es ++ e ∷ [])) (Err (Order (length es + 1)))) (λ more. entries_from more (lines_of rest))) f.above)
 
--- entries that stand in a text are read
+-- entries whose lines are in a text are read
 all_read : WordLaws → (more done : List Entry) (here : List ℕ) → AreEntries (done ++ more) → entries_from done (lines_of (text_of more ++ here)) ≡ entries_from (done ++ more) (lines_of here)
 all_read k [] done here fits = ap (λ (es : List Entry). entries_from es (lines_of here)) (sym (append-nil done))
 all_read k (e ∷ more) done here fits =
@@ -217,7 +217,7 @@ full_or_none : (before : List Entry) (here : List ℕ) → (length before ≡ mo
 full_or_none before here (inl full) e more rest fits = λ same. let room = (follows before e more fits).room in omega arith
 full_or_none before here (inr none) e more rest fits = none e rest (follows before e more fits).formed
 
--- a text begins with the line of one entry at most
+-- a text begins with the line of at most one entry
 one_entry : WordLaws → (a b : Entry) (xs ys : List ℕ) → is_entry a ≡ true → is_entry b ≡ true → line_of a ++ xs ≡ line_of b ++ ys → a ≡ b
 one_entry k a b xs ys fa fb e =
     let lines = same_head_and_tail (whole (entry_words a)) (whole (entry_words b)) (lines_of xs) (lines_of ys) (sym (first_line k a xs fa) ∙ ap lines_of e ∙ first_line k b ys fb) in

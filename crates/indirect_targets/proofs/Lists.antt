@@ -1,4 +1,4 @@
--- Lists of entries that one more entry stands behind, and lines of a text.
+-- Lists with one more entry, and lines of a text.
 use Rattle.std.proofs.Common.{◌≡◌, ◌<◌, List, [], ◌∷◌, ◌++◌, true, length, length-append, refl, ap, sym, ◌∙◌, arith}
 use Rattle.std.proofs.lemmas.Bool.{and_parts}
 use Rattle.std.proofs.lemmas.List.{get_or_at}
@@ -16,7 +16,7 @@ ordered_to (last ∷ []) e more h = (and_parts (is_before last e) (are_in_order 
 ordered_to (x ∷ next ∷ rest) e more h =
     ordered_to (next ∷ rest) e more (and_parts (is_before x next) (are_in_order (next ∷ rest ++ e ∷ more)) h).1
 
--- what a longer list says of the entry behind a first part
+-- a longer list has the entry after a first part
 pub record FollowsPart (es : List Entry) (e : Entry) : Type 0 where
   pub room : length es < most_entries
   pub formed : is_entry e ≡ true

@@ -1,4 +1,4 @@
--- The words to which an indirect transfer may lead.
+-- The possible targets of an indirect transfer.
 use Rattle.std.proofs.Common.{◌≡◌, ◌∙◌, sym, ap, subst, refl, ℕ, zero, suc, ◌+◌, ◌-◌, ◌*◌, ◌/◌, ◌%◌, ◌^◌, ◌<◌, ◌≤◌, arith, inl, inr, true, false, cond, ltb, List, [], ◌∷◌, map, length, length-append, get_or, add-one, Result, Ok, Err}
 use Rattle.std.specs.Int.{bit_at}
 use Rattle.std.specs.List.{All, Contains}
@@ -39,7 +39,7 @@ high_bits n i =
     let back : (8 + i) - 8 ≡ i = omega arith in
     ap (λ (m : ℕ). bit_at m (8 + i)) parts ∙ bit_at_cat_high (n / 256) 8 (n % 256) (8 + i) (omega arith) (omega arith) ∙ ap (bit_at (n / 256)) back
 
--- the bits below 14 of a number are those of its remainder
+-- the low 14 bits of a number are those of its remainder
 word_bits : (n i : ℕ) → i < 14 → bit_at n i ≡ bit_at (n % 16384) i
 word_bits n i lt =
     let parts : n ≡ n / 16384 * 2 ^ 14 + n % 16384 = omega arith in
@@ -152,11 +152,11 @@ grows f n (suc m) h = elim (cases_eq n (suc m)) [
   | inr other ↦ omega (arith, grows f n m (omega arith), longer (f m) (2 ^ m) (numbers_of f m))
 ]
 
--- too many by then are too many in the end
+-- too many words of fewer bits are too many of all
 pub stays_many : (f : ℕ → Tri) (i width : ℕ) (ns : List ℕ) → i < width → ns ≡ numbers_of f (i + 1) → most_targets < length ns → most_targets < length (numbers_of f width)
 stays_many f i width ns lt e many = let more = grows f (i + 1) width (omega arith) in omega (arith, ap length e)
 
--- few of all 14 bits are few of so many
+-- few words of all 14 bits are few of fewer bits
 pub stays_few : (f : ℕ → Tri) (width : ℕ) → width ≤ 14 → length (numbers_of f 14) ≤ most_targets → length (numbers_of f width) ≤ most_targets
 stays_few f width le few = omega (arith, grows f width 14 le)
 

@@ -1,4 +1,4 @@
--- Lists of numbers: that they ascend, and how they are read.
+-- Lists of numbers: their order, and reading them.
 use Rattle.std.proofs.Common.{◌≡◌, ℕ, zero, suc, ◌<◌, arith, Bool, true, false, List, [], ◌∷◌, ◌++◌, length, get_or, add-one, refl, ap, sym, subst, ◌∙◌, append_assoc, Option, Some, None, Ok, Err, option_map}
 use Rattle.std.specs.List.{IsAllAdjacentAnswer}
 use Rattle.std.specs.Prelude.{nat_lt}
@@ -22,7 +22,7 @@ one_not_below (x ∷ []) k d lt e = absurd (omega arith)
 one_not_below (x ∷ y ∷ ys) zero d lt e = rw e refl
 one_not_below (x ∷ y ∷ ys) (suc k) d lt e = and_right (nat_lt x y) (ascends (y ∷ ys)) (one_not_below (y ∷ ys) k d (omega arith) e)
 
--- what the test of all neighbours answers
+-- the answer of the test of all neighbours
 pub ascends_answer : (xs : List ℕ) (r : Bool) → IsAllAdjacentAnswer (λ x y b. b ≡ nat_lt x y) xs r → r ≡ ascends xs
 ascends_answer xs true h =
     sym (each_below xs (λ k d lt. subst (λ (n : ℕ). nat_lt (get_or xs k d) (get_or xs n d) ≡ true) (add-one k) (sym (h k d (omega arith)))))
@@ -32,7 +32,7 @@ ascends_answer xs false h =
 
 -- ---- reading
 
--- numbers that were read before
+-- numbers read before these
 abbrev pub with_front : List ℕ → Option (List ℕ) → Option (List ℕ)
 with_front front due = option_map (λ ns. front ++ ns) due
 
@@ -40,7 +40,7 @@ front_next : (front : List ℕ) (n : ℕ) (d : Option (List ℕ)) → with_front
 front_next front n None = refl
 front_next front n (Some ns) = ap Some (sym (append_assoc front (n ∷ []) ns))
 
--- one number more
+-- one more number
 pub numbers_more : (front : List ℕ) (w : List ℕ) (ws rest : List (List ℕ)) (n : ℕ) (all : Option (List ℕ)) → ws ≡ w ∷ rest → Ok n ≡ hex_answer w 4
     → with_front front (numbers_in ws) ≡ all → with_front (front ++ n ∷ []) (numbers_in rest) ≡ all
 numbers_more front w ws rest n all e read is =

@@ -1,4 +1,4 @@
--- What is written, word by word and line by line.
+-- The output, word by word and line by line.
 use Rattle.std.proofs.Common.{ℕ, ◌+◌, ◌<◌, ◌≡◌, List, [], ◌∷◌, ◌++◌, length, take, drop, get_or, Bool, false, Result, Ok, Err, refl, inl, inr, ap, sym, ◌∙◌, subst, append_assoc, append-nil}
 use Rattle.std.proofs.lemmas.List.{take-append-drop, map-append, take_more}
 use Rattle.std.proofs.lemmas.Grind.{flat_map-append}
@@ -14,13 +14,13 @@ pub words_append : (w : Written) (xs ys : List (List ℕ)) → with_words w (xs 
 words_append w [] ys = refl
 words_append w (x ∷ xs) ys = words_append (with_word w x) xs ys
 
--- some first words were written
+-- a prefix of the words was written
 wrote_front : (w u : Written) (xs ys : List (List ℕ)) → u ≡ with_words w xs → WroteWords w (xs ++ ys) u
 wrote_front w u [] [] e = e
 wrote_front w u [] (y ∷ ys) e = inl e
 wrote_front w u (x ∷ xs) ys e = inr (wrote_front (with_word w x) u xs ys e)
 
--- all of them were written, and no end of the line
+-- all words were written, and no end of the line
 pub all_words : (w v u : Written) (ws : List (List ℕ)) → v ≡ with_words w ws → u ≡ v → WroteWords w ws u
 all_words w v u ws e h = let P : List (List ℕ) → Type 0 = λ xs. WroteWords w xs u in subst P (append-nil ws) (wrote_front w u ws [] (h ∙ e))
 

@@ -1,18 +1,18 @@
-//! Why a text is no assumption list.
+//! Faults of the text of an assumption list.
 
 use std::alloc::AllocError;
 use thiserror::Error;
 
-/// Why a text is no assumption list, or isn't read. Lines count from 1.
+/// Why a text is not read as an assumption list. Lines count from 1.
 #[derive(Clone, Copy, Debug, PartialEq, Eq, Drop, Error)]
 pub enum AssumeText {
-    /// The lines before this one are those of a list, and this one isn't of its form, or is line 4,097.
+    /// The lines before this one are those of a list. This one is malformed, or is line 4,097.
     #[error("assumptions malformed line {0}")]
     Malformed(u32),
-    /// The lines before this one are those of a list, and this one is of its form but not above the last.
+    /// The lines before this one are those of a list. This one has the right form but is not above the last.
     #[error("assumptions order line {0}")]
     Order(u32),
-    /// Want of memory.
+    /// Out of memory.
     #[error("out of memory")]
     Memory,
 }

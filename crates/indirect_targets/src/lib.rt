@@ -1,4 +1,4 @@
-//! The texts of assumption lists, and the words to which an indirect transfer may lead.
+//! The texts of assumption lists, and the possible targets of indirect transfers. Tests: `text_tables`.
 #![tactic(auto)]
 
 pub mod fault;

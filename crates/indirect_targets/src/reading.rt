@@ -31,7 +31,7 @@ const MOST_ENTRIES: usize = 4_096;
 // The most items of an entry.
 const MOST_ITEMS: usize = 64;
 
-// The numbers of all words that are left, in four digits each. None where a word is no such number.
+// The numbers of all remaining words, each of four digits. None if a word is no such number.
 #[tactic(auto, using(crate::proofs::Numbers::numbers_more, crate::proofs::Numbers::no_number, crate::proofs::Numbers::numbers_end))]
 fn numbers_of(alloc: Global, words: &mut Words<'_>) -> Result<Option<Vec<u16>>, AllocError>
     ensures { IfOk result (λ o. option_map (λ v. v.items) o ≡ numbers_in words.old) }
@@ -46,7 +46,7 @@ fn numbers_of(alloc: Global, words: &mut Words<'_>) -> Result<Option<Vec<u16>>, 
     Ok(Some(numbers))
 }
 
-// The words behind `jump`, or behind `store`.
+// The words after `jump`, or after `store`.
 fn listed_of(alloc: Global, words: &mut Words<'_>, jump: bool) -> Result<Option<Entry>, AllocError>
     ensures { IfOk result (λ o. o ≡ option_map (λ l. if jump then entry.Jump l.0 l.1 else entry.Store l.0 l.1) (listed_in words.old)) }
 {
@@ -60,14 +60,14 @@ fn listed_of(alloc: Global, words: &mut Words<'_>, jump: bool) -> Result<Option<
     }
 }
 
-// This entry, where no word is behind its kind.
+// The entry, if no word follows its kind.
 fn bare_of(entry: Entry, words: &mut Words<'_>) -> Option<Entry>
     ensures { result ≡ bare_in entry words.old }
 {
     if is_over(words) { Some(entry) } else { None }
 }
 
-// The entry of a kind that names a site alone.
+// The entry of a kind with a site and nothing else.
 #[tactic(auto, unfolding(crate::specs::Reading::alone_by))]
 fn alone_by(kind: &[u8], words: &mut Words<'_>) -> Option<Entry>
     ensures { result ≡ alone_by kind.now words.old }
@@ -89,7 +89,7 @@ fn alone_by(kind: &[u8], words: &mut Words<'_>) -> Option<Entry>
     }
 }
 
-// The entry of a line's text, whatever its numbers are.
+// The entry of a line's text, whatever its numbers.
 #[tactic(auto, unfolding(crate::specs::Reading::numbered_in))]
 fn numbered_of(alloc: Global, text: &[u8]) -> Result<Option<Entry>, AllocError>
     ensures { IfOk result (λ o. o ≡ numbered_in (words_of text.now)) }
@@ -147,7 +147,7 @@ fn are_all_protected(items: &[u16]) -> bool
     true
 }
 
-// Whether an assumption list can hold the entry.
+// Whether an assumption list may have the entry.
 fn is_entry(entry: &Entry) -> bool
     ensures { result ≡ entries.is_entry entry.now }
 {
@@ -167,7 +167,7 @@ fn is_entry(entry: &Entry) -> bool
     }
 }
 
-/// The entry whose line, without the line feed, this text is. None exactly where it is that of none.
+/// The entry whose line, without the line feed, is this text. None exactly if no entry has this line.
 #[tactic(auto, unfolding(crate::specs::Reading::entry_in))]
 pub fn entry_of(alloc: Global, text: &[u8]) -> Result<Option<Entry>, AllocError>
     ensures exact { IfOk result (λ o. o ≡ entry_in (words_of text.now)) }
@@ -183,7 +183,7 @@ pub fn entry_of(alloc: Global, text: &[u8]) -> Result<Option<Entry>, AllocError>
     }
 }
 
-// Reads the line behind those of this list.
+// Reads the line after those of this list.
 #[tactic(auto, unfolding(crate::specs::Reading::with_line, crate::specs::Reading::next_by))]
 fn read_line(
     alloc: Global,
@@ -220,12 +220,12 @@ fn read_lines(alloc: Global, text: &[u8]) -> Result<Assumptions, AssumeText>
     Ok(list)
 }
 
-/// Reads the assumption list whose text this is.
+/// Reads an assumption list. The inverse of `write`.
 ///
 /// The text has a line for each entry: `pairs`, `masks`, `jump SITE WORD ...`, `store SITE ADDRESS ...`, `prove SITE`, `free SITE`,
-/// `never SITE` or `frame SITE`, with word addresses and protected addresses in four upper-case hexadecimal digits, single
-/// spaces, and a line feed behind each line. Where it is the text of no list, the first line at which none can go on is told: `Malformed` where that line
-/// isn't of its form or is line 4,097, else `Order`. Source: own.
+/// `never SITE` or `frame SITE`, with word addresses and protected addresses in four upper-case hexadecimal digits, single spaces, and a
+/// line feed after each line. A text of no list is refused at the first line with which no list continues: as `Malformed` if that line
+/// has the wrong form or is line 4,097, else as `Order`. Source: own.
 pub fn read(alloc: Global, text: &[u8]) -> Result<Assumptions, AssumeText>
     ensures exact { Answers (λ a. a) fault.Memory result (entries_in text.now) }
     ensures told { IsListDueUnlessMemory text.now result }

@@ -1,4 +1,4 @@
-//! Lists of at most 64 words, which take no memory.
+//! Lists of at most 64 words, which take no heap memory.
 
 ghost use Rattle.std.specs.Prelude.{◌≡◌, ◌≤◌, ◌<◌, ◌+◌, ◌^◌, ◌++◌, ℕ, [], ◌∷◌, map, length};
 ghost use Rattle.std.specs.List.{All};
@@ -17,7 +17,7 @@ const MOST_TARGETS: usize = 64;
 #[error("more than 64 targets")]
 pub struct TooMany;
 
-/// The words to which an indirect transfer may lead: at most 64, ascending. Seen as the list of them.
+/// The possible targets of an indirect transfer: at most 64 words, ascending. Seen as the list of them.
 #[derive(Drop)]
 pub struct Targets {
     words: [u16; 64],
@@ -61,7 +61,7 @@ impl Targets {
         self.count += 1;
     }
 
-    // Each raised by a weight.
+    // The words, each raised by a weight.
     fn raised(&self, weight: u16) -> Targets
         requires { All (λ n. weight + n < 2 ^ 16) self.now }
         ensures { result ≡ map (λ n. weight + n) self.now }
@@ -77,7 +77,7 @@ impl Targets {
         raised
     }
 
-    // Each once more after them, raised by a weight.
+    // Appends each word again, raised by a weight.
     fn double(&mut self, weight: u16)
         requires room { length self.old ≤ 32 }
         requires fits { All (λ n. weight + n < 2 ^ 16) self.old }
@@ -90,7 +90,7 @@ impl Targets {
         }
     }
 
-    // These words without a further bit of this weight, with it, or both.
+    // These words with a top bit of this weight: clear, set, or both. Fails if there are more than 64.
     pub(crate) fn with_bit(mut self, bit: Tri, weight: u16) -> Result<Targets, TooMany>
         requires { All (λ n. weight + n < 2 ^ 16) self }
         ensures { KeepsTargets result (with_top bit weight self) }

@@ -1,4 +1,4 @@
-//! The words to which an indirect transfer may lead.
+//! The possible targets of an indirect transfer.
 
 ghost use Rattle.std.specs.Prelude.{◌≡◌, ◌≤◌, ◌<◌, ◌↔◌, length, IfOk, IsOk, IsErr};
 ghost use Rattle.bit_domain.specs.Numbers as numbers;
@@ -17,7 +17,7 @@ fn pointer_bit(lo: &TriByte, hi: &TriByte, i: u8) -> Tri
     if i < 8 { lo.bit(i) } else { hi.bit(i - 8) }
 }
 
-// The words of so many bits, or that they are too many.
+// The words of this many bits. Fails if there are too many.
 fn words_of(lo: &TriByte, hi: &TriByte, width: u8) -> Result<Targets, TooMany>
     requires { width ≤ 14 }
     ensures { KeepsTargets result (numbers_of (numbers.pointer_bit lo.now hi.now) width) }
@@ -30,8 +30,8 @@ fn words_of(lo: &TriByte, hi: &TriByte, width: u8) -> Result<Targets, TooMany>
     Ok(words)
 }
 
-/// The words to which an indirect transfer may lead by a pointer with these bytes: those of all members, modulo the 16,384
-/// words of flash. `TooMany` exactly where there are more than 64.
+/// The possible targets of an indirect transfer by a pointer with these bytes: those of all members, modulo the 16,384 words of flash.
+/// Fails with `TooMany` exactly if there are more than 64.
 pub fn targets(lo: &TriByte, hi: &TriByte) -> Result<Targets, TooMany>
     ensures words { IfOk result (λ t. t ≡ targets_of lo.now hi.now) }
     ensures few { IsOk result ↔ (length (targets_of lo.now hi.now) ≤ most_targets) }
@@ -40,8 +40,7 @@ pub fn targets(lo: &TriByte, hi: &TriByte) -> Result<Targets, TooMany>
     words_of(lo, hi, 14)
 }
 
-/// The same of which only so many low bits count: the words that some of these is, modulo 2 to the power of `width`.
-/// `TooMany` exactly where there are more than 64 of all 14 bits.
+/// The possible targets modulo 2 to the power of `width`. Fails with `TooMany` exactly if there are more than 64 with all 14 bits.
 pub fn targets_on(lo: &TriByte, hi: &TriByte, width: u8) -> Result<Targets, TooMany>
     requires { width ≤ 14 }
     ensures words { IfOk result (λ t. t ≡ numbers_of (numbers.pointer_bit lo.now hi.now) width) }

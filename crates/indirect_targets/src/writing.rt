@@ -54,8 +54,7 @@ fn write_entry(out: &mut LineWriter, entry: &Entry) -> Result<(), AllocError>
     }
 }
 
-/// Writes the lines of the list behind what was written, where no line is begun. After want of memory the writer holds a
-/// first part of them.
+/// Appends the lines of the list, at the beginning of a line. If memory runs out, a prefix of them was written.
 pub fn write(list: &Assumptions, out: &mut LineWriter) -> Result<(), AllocError>
     requires { out.old.begun ≡ false }
     ensures written { OnOk result (out.new ≡ with_text out.old (text_of list.now)) }

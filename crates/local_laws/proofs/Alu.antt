@@ -122,7 +122,7 @@ module _ {may : Bool} (m : State) (o : Origin) (k : NodeKey) (s : AbsState) (at 
   flag_bits = at.stands.flags.bits
 
   module _ (guarded : Bool) (b1 b2 : ℕ) where
-    -- one register and the flags are set; C says nothing of a register
+    -- sets one register and the flags; the carry tag names no register
     answers : (d result flags : ℕ) (answer : TriByte × TriByte) (t : Tag) (c : CarryTag) → Covers answer result flags → result < 256 → flag flags 7 ≡ flag m.sreg 7
         → TagHolds o t result → CarryHolds o c (flag flags 0) → NamesNone c
         → FollowsWhere may m o s.facts k guarded b1 b2 (setting m (set d result) flags) (node_setting m.device k s (node_set s d (with_bits t answer.0)) (with_carry answer.1 c))
@@ -131,7 +131,7 @@ module _ {may : Bool} (m : State) (o : Origin) (k : NodeKey) (s : AbsState) (at 
         (set_one m o k s at d (with_bits t answer.0) result (bits_make_values.stands o t answer.0 result small tagged covers.0)) (record { entry = tt; bits = covers.1; carry = borrow })
         (less_of_none _ c (flag flags 0) none)
 
-    -- the same where the carry is kept
+    -- sets one register and the flags, and keeps the carry
     kept : (d result flags : ℕ) (v : AbsByte) (b : TriByte) → ByteStands o v result → Has b flags → flag flags 7 ≡ flag m.sreg 7 → flag flags 0 ≡ flag m.sreg 0
         → Spares s.flags.carry d → FollowsWhere may m o s.facts k guarded b1 b2 (setting m (set d result) flags) (node_setting m.device k s (node_set s d v) (but_carry s b))
     kept d result flags v b h has i c spare =
@@ -145,7 +145,7 @@ module _ {may : Bool} (m : State) (o : Origin) (k : NodeKey) (s : AbsState) (at 
     keeps d result flags answer covers small i c spare =
         kept d result flags (untagged answer.0) answer.1 (bits_make_values.stands o tag.None answer.0 result small tt covers.0) covers.1 i c spare
 
-    -- flags are kept
+    -- sets one register and keeps the flags
     pub moves : (d x : ℕ) (v : AbsByte) → ByteStands o v x → Spares s.flags.carry d
         → FollowsWhere may m o s.facts k guarded b1 b2 (setting m (set d x) m.sreg) (node_setting m.device k s (node_set s d v) s.flags)
     moves d x v h spare =
@@ -171,7 +171,7 @@ module _ {may : Bool} (m : State) (o : Origin) (k : NodeKey) (s : AbsState) (at 
     difference_covers x y a b c t keep_zero small_x small_y has_x has_y may =
         all_sums_cover.differences a b s.flags.bits t keep_zero x y m.sreg c small_x small_y has_x has_y flag_bits may
 
-    -- C says something of a register, or nothing
+    -- the carry tag names a register, or is none
     pub compare_covered : (x y : ℕ) (a b : TriByte) (c : Bool) (t : Tri) (keep_zero : Bool) (w : CarryTag) → x < 256 → y < 256 → Has a x → Has b y → Permits t (from_bool c)
         → CarryIsUntagged w → LessHolds m.registers w (nat_lt x (y + from_bool c))
         → FollowsWhere may m o s.facts k guarded b1 b2 (compare_effect m x y c keep_zero) (going_with m.device k s (compare_after s a b t keep_zero w))
@@ -227,7 +227,7 @@ module _ {may : Bool} (m : State) (o : Origin) (k : NodeKey) (s : AbsState) (at 
     sbc_covered d y b number small has is =
         difference_covered d (register m d) y (bits s d) b (carry m) (carry_bit s) true _ carry_tag.None (register_byte d) small (register_bits d) has carry_may (high_holds d y number small is) tt tt
 
-    -- a register less a register, which may be the same one
+    -- subtracts a register, possibly from itself
     pub sub_by : (d r : ℕ) (same : Bool) → (d == r) ≡ same
         → FollowsWhere may m o s.facts k guarded b1 b2 (difference_effect m d (register m d) (register m r) false false)
         (going_with m.device k s (sub_after s d (if same then byte_known 0 else bits s d) (if same then byte_known 0 else bits s r) (byte_constant (bits s r))))
@@ -367,7 +367,7 @@ module _ {may : Bool} (m : State) (o : Origin) (k : NodeKey) (s : AbsState) (at 
         (subst (Has (bits s d)) (sym (low_pair (register m d) (register m (d + 1)) (register_byte d))) (register_bits d))
         (subst (Has (bits s (d + 1))) (sym (high_pair (register m d) (register m (d + 1)) (register_byte d))) (register_bits (d + 1))) flag_bits
 
-    -- a pair that a small number is added to or taken from
+    -- adds a small number to a pair, or subtracts it
     pub moved_stands : (d : ℕ) (up : Bool) (n : ℕ) → n < 256 → RegistersStand o (pair_moved s d up n) (with_registers m.registers (set_pair d (wide_of up (pair m d) n)))
     moved_stands d up n small =
         let covers = wide_covers d up n small in

@@ -1,4 +1,4 @@
--- Nodes but for what they say of pairs: what the rows of the table ask for, and keep. A row ends some intervals before it writes.
+-- Nodes without their facts on pairs, as rows need and keep them. A row ends some intervals before it writes.
 use Rattle.std.proofs.Common.{◌≡◌, ◌+◌, ◌^◌, ◌<◌, ◌≤◌, Bool, true}
 use Rattle.avr_model.specs.Devices.{ramend}
 use Rattle.avr_model.specs.Image.{WORDS}
@@ -65,7 +65,7 @@ bare_frame m o k s h =
       room = h.room;
     }
 
--- with what it says of pairs it is a node
+-- with valid facts on pairs it is a node
 pub node_of : {followed : Bool} (k : NodeKey) (s : AbsState) → IsBare k s → is_followed s.facts ≡ followed → IsInHulls s → IsNodeIn followed k s
 node_of k s h mode hulls =
     record {

@@ -1,4 +1,4 @@
--- The rows that read or write data space or flash cover each step of the machine.
+-- Rows that read or write data space or flash cover each step of the machine.
 use Rattle.std.proofs.Common.{◌≡◌, refl, sym, ◌∙◌, subst, ℕ, ◌<◌, Bool, true, false, not, nat_lt, if◌then◌else◌, List, [], ◌∷◌, ◌++◌, length, Option, Some, None, slice_set, arith, length-set, ◌*◌}
 use Rattle.std.specs.Int.{from_bool}
 use Rattle.avr_model.specs.Devices.{Program, words_of, device_of, wrapped}
@@ -126,7 +126,7 @@ off_by : (b : Bool) → not b ≡ true → b ≡ false
 off_by true h = absurd (cc)
 off_by false h = refl
 
--- what isn't flagged of the stores that go through a pointer
+-- a store through a pointer that isn't flagged
 std_unflagged : (words : Program) (A : List Entry) (pc : ℕ) (b : Base) (q r : ℕ) (e : Effect) → protected_write words A pc (i.Std b q r) e ≡ None
     → (if not (is_fixed_site words A pc) then flagged_write (device_of words) A pc e.stores else None) ≡ None
 unfolding protected_write
@@ -145,7 +145,7 @@ module _ (words : Program) (A : List Entry) (m : State) (o : Origin) (k : NodeKe
       → FollowsWhere (has_masks A) m o s.facts k (not scratch) b1 b2 (setting m writes m.sreg) (node_setting m.device k s registers s.flags)
   setting_covered writes registers stand less = sets m o k s at (not scratch) b1 b2 writes m.sreg registers s.flags refl stand at.stands.flags less
 
-  -- a register is set after others
+  -- sets a register after others
   after_set : (writes : List Write) (registers : List AbsByte) (d x : ℕ) (v : AbsByte) → length registers ≡ 32 → RegistersStand o registers (with_registers m.registers writes)
       → ByteStands o v x → RegistersStand o (slice_set registers d v) (with_registers m.registers (writes ++ set d x))
   after_set writes registers d x v count stand h =
@@ -192,7 +192,7 @@ module _ (words : Program) (A : List Entry) (m : State) (o : Origin) (k : NodeKe
 
   -- ---- writes
 
-  -- where a store goes on
+  -- the word after a store
   abbrev on_next : ℕ
   on_next = wrapped m.device (further m 1)
 
@@ -212,7 +212,7 @@ module _ (words : Program) (A : List Entry) (m : State) (o : Origin) (k : NodeKe
         → FollowsWhere (has_masks A) m o s.facts k (not scratch) b1 b2 (stored m pc [] is_out a (register m r)) (written_at m.device k.pc (at_word k (node_further m.device k n)) s is_out a (value s r))
     register_covered pc n pc_is is_out a r clean = known_covered pc n pc_is is_out a (register m r) (value s r) (register_byte m o k s at r) (register_stands m o k s at r) clean
 
-    -- at the address of enable bits: the key's set makes a byte, of which the same bit is written
+    -- the set of enable bits in the key makes a byte, in which the same bit is written
     held_covered : (a b : ℕ) (on : Bool) → has_enables a ≡ true
         → FollowsWhere (has_masks A) m o s.facts k (not scratch) b1 b2 (stored m on_next [] false a (with_bit (read m a 0) b on)) (bit_row m.device k s a b on)
     held_covered a b on held =
@@ -252,7 +252,7 @@ module _ (words : Program) (A : List Entry) (m : State) (o : Origin) (k : NodeKe
         (pointer_written m o k s at (not scratch) on_next (node_further m.device k 1) (goes_further m o k s at (not scratch) b1 b2 1) [] s.registers at.stands.registers at.stands.less s.facts at.node.formed.facts (register m t) (register_byte m o k s at t)
         (value s t) (register_stands m o k s at t) at.node.formed.count_registers at.machine.count_registers members words A refl told s r up (number_permitted m o k s at r up is) unflagged clean)
 
-    -- the pointer has moved, and what was known of pairs before is this; `was` is the state before anything of that ended
+    -- the pointer has moved; `was` is the state before the instruction, with all facts on pairs
     pub st_covered : m.device ≡ device_of words → (p : Pointer) (t : ℕ) (was : AbsState) (registers : List AbsByte) (told : Option PairFacts) → SparesAll s.flags.carry (moved_pair p) → length registers ≡ 32 → KnownFits told
         → permits_number was (pointer_register p) (minus16 (plus16 (pair m (pointer_register p)) (step_before p)) (step_before p)) ≡ true
         → RegistersStand o registers (with_registers m.registers (moved p (pair m (pointer_register p))))
@@ -283,7 +283,7 @@ module _ (words : Program) (A : List Entry) (m : State) (o : Origin) (k : NodeKe
   bit_may : b1 < 256 → (a b : ℕ) → Permits (tri_at (read_at m.device (has_masks A) k s a).bits b) (from_bool (flag (read m a b1) b))
   bit_may small a b = permits_flag (read_at m.device (has_masks A) k s a).bits (read m a b1) b (read_stands m o k s at a b1 small).bits
 
-  -- where the bit of an address reads 0
+  -- the bit of an address reads 0
   turns_zero : (a b pc pc' : ℕ) → wrapped m.device pc ≡ pc' → flag (read m a b1) b ≡ false
       → ArrivesWhere (has_masks A) m o s.facts (not scratch) (going_to m pc) (record { key = off_table (reading_zero (has_masks A) k a b) pc'; state = s })
   turns_zero a b pc pc' here off =

@@ -162,7 +162,7 @@ module _ {may : Bool} (m : State) (o : Origin) (k : NodeKey) (s : AbsState) (at 
     unary_line_covered true op d spare = framed_unary_covered op d spare
     unary_line_covered false op d spare = unary_covered op d spare
 
-    -- what two registers lead to that are followed, or aren't
+    -- the row of two registers, with pairs or without
     abbrev row_by : Program → Bool → BinaryOp → ℕ → ℕ → Raw
     row_by words framed op d r = going_by m.device k s (if framed then framed_binary s op d r else binary_after s op d r) (node_skipping m.device words k k s (byte_equal (bits s d) (bits s r)))
 
@@ -194,13 +194,13 @@ module _ (A : List Entry) (m : State) (o : Origin) (k : NodeKey) (s : AbsState) 
   bit_may : (r b : ℕ) → Permits (tri_at (bits s r) b) (from_bool (flag (register m r) b))
   bit_may r b = permits_flag (bits s r) (register m r) b (register_bits m o k s at r)
 
-  -- what a row owes
+  -- the goal of a row
   abbrev pub RowIsCovered : Instr → Type 0
   RowIsCovered instr =
       (row_of m.device words A scratch k s instr).faults ≡ [] → IsUnflagged words A m instr (effect_of words m instr b1 b2)
       → FollowsWhere (has_masks A) m o s.facts k (not scratch) b1 b2 (effect_of words m instr b1 b2) (row_of m.device words A scratch k s instr)
 
-  -- Each row is covered, where those that name an address are.
+  -- Each row is covered, if those that name an address are.
   pub row_covered : b1 < 256 → (instr : Instr) → SparesAll s.flags.carry (written instr) → IsInstrSized instr → (scratch ≡ true → MakesRoom instr) → (NamesAddress instr → RowIsCovered instr) → RowIsCovered instr
   row_covered small i.Nop spares sized rooms addressed none unflagged = going_covered m o k s at (not scratch) b1 b2 _ (further m.device k 1) (goes_further m o k s at (not scratch) b1 b2 1)
   row_covered small (i.Movw d r) spares sized rooms addressed none unflagged = movw_covered m o k s at (not scratch) b1 b2 (2 * d) (2 * r) spares

@@ -35,7 +35,7 @@ use Rattle.local_laws.proofs.Picks.{splits_at, at_quiet, in_picks, picked_at, al
 
 module _ (words : Program) (A : List Entry) (m : State) (o : Origin) (k : NodeKey) (s : AbsState) (at : InBareFrame (has_masks A) m o k s) (b1 b2 : ℕ) (small : b1 < 256)
     (other : b2 < 256) (are : AreWords words) (told : m.device ≡ device_of words) where
-  -- where the stack pointer isn't half written while an interrupt may come, and the frame isn't deeper than SRAM, the row decides
+  -- if no interrupt may come with a half-written stack pointer, and the frame fits SRAM, the row decides
   not_hung : (hung : Bool) (instr : Option Instr) (r : Raw) → CoversStep words A m o k b1 b2 instr r → CoversStep words A m o k b1 b2 instr (untracked_if hung k.pc r)
   not_hung true None r h = λ clean. absurd (let e = clean in cc)
   not_hung true (Some instr) r h = λ clean. absurd (let e = clean in cc)
@@ -67,7 +67,7 @@ module _ (words : Program) (A : List Entry) (m : State) (o : Origin) (k : NodeKe
       by None is = plain_covered instr e
       by (Some f) is = paired_covered words A m o k s at b1 b2 small other are told f is instr e (plain_covered instr e)
 
-  -- the machine's word is one of its device's flash
+  -- the machine's word is in its device's flash
   is_fetched : instruction_at words m.pc ≡ fetched m.device words m.pc
   is_fetched = sym (ap (λ (b : Bool). if b then instruction_at words m.pc else None) (lt-ltb m.pc (words_of m.device) at.machine.pc_small))
 
@@ -75,7 +75,7 @@ module _ (words : Program) (A : List Entry) (m : State) (o : Origin) (k : NodeKe
   abbrev Covering : Raw → Type 0
   Covering r = CoversStep words A m o k b1 b2 (instruction_at words m.pc) r
 
-  -- what the row says of the node, where the machine's word and device are those of the node
+  -- the node's row, for the machine's word and device
   row_in_covered : Covering (row_in (device_of words) words A k s)
   row_in_covered =
       let here = subst (λ x. Covering (row_at m.device words A (is_scratch words m.pc) k s x)) is_fetched (at_instruction (instruction_at words m.pc) refl) in
@@ -91,11 +91,11 @@ module _ (words : Program) (A : List Entry) (m : State) (o : Origin) (k : NodeKe
   unresolved jump None = λ clean. absurd (let e = clean in cc)
   unresolved jump (Some instr) = λ clean. absurd (let e = clean in cc)
 
-  -- what the node leads to with one byte picked
+  -- the row with one byte picked
   abbrev row_picked : ℕ → Raw
   row_picked x = picked_row (row_in (device_of words) words A) (picking k x) (pick_cut x s)
 
-  -- a node that splits is covered by what it leads to with the byte that r30 has
+  -- a node that splits is covered by the row with r30's byte picked
   splitting_covered : (site : Option ℕ) → split_site words A k.pc k.pick ≡ site → Covers (splitting site (row_in (device_of words) words A) k s)
   splitting_covered None e = row_in_covered words A m o k s at b1 b2 small other are told
   splitting_covered (Some jump) e = by (nat_le (length (picks s)) 64)

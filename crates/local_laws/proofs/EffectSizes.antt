@@ -1,4 +1,4 @@
--- The numbers of every row's effect fit: bytes are bytes, and words are words.
+-- The effect of every row is in range: bytes are bytes, and words are words.
 use Rattle.std.proofs.Common.{ℕ, ◌+◌, ◌-◌, ◌*◌, ◌/◌, ◌%◌, ◌<◌, ◌==◌, Bool, true, false, not, nat_lt, nat_le, if◌then◌else◌, List, [], ◌++◌, slice_index, arith}
 use Rattle.abs_alu.proofs.AllLaws.{logic_small, result_small, top_small}
 use Rattle.avr_model.proofs.AllLaws.{devices_are_alike}
@@ -161,7 +161,7 @@ module _ (m : State) (h : IsMachine m) where
   branches false k = goes _
 
   module _ (words : Program) (are : AreWords words) (b1 b2 : ℕ) (small1 : b1 < 256) (small2 : b2 < 256) where
-    -- every row's effect fits
+    -- the effect of every row is in range
     pub row_fits : (instr : Instr) → IsInstrSized instr → IsEffect m.device (effect_of words m instr b1 b2)
     row_fits i.Nop sized = goes _
     row_fits (i.Movw d r) sized = sets _ _ (pair_writes (2 * d) (pair m (2 * r)) (omega (arith, byte (2 * r), byte (2 * r + 1)))) h.sreg_byte

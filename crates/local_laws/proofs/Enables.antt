@@ -1,4 +1,4 @@
--- Enable bits, where keys say what is enabled, and where they say what may be.
+-- Enable bits by keys that have what is enabled, and by keys that have what may be.
 use Rattle.std.proofs.Common.{◌≡◌, refl, sym, ◌∙◌, ap, subst, ℕ, zero, suc, ◌+◌, ◌-◌, ◌<◌, ◌≤◌, Bool, true, false, ◌&&◌, ◌||◌, nat_lt, nat_le, if◌then◌else◌, ◌==◌, List, [], ◌∷◌, Option, Some, None, arith, eqb-true, find, ltb-true, subst₂}
 use Rattle.std.proofs.lemmas.Bool.{and_parts}
 use Rattle.std.proofs.lemmas.Bool.Decides.{nat_tests}
@@ -33,7 +33,7 @@ use Rattle.local_laws.proofs.Machine.{io_value}
 pub same_enables : (may : Bool) (new old masks : ℕ) → new ≡ old → EnablesAre may old masks → EnablesAre may new masks
 same_enables may new old masks e h = subst (λ x. EnablesAre may x masks) (sym e) h
 
--- what is enabled is what the key says, or among it
+-- equal enable bits are among each other
 pub same_among : (may : Bool) (enables masks : ℕ) → enables ≡ masks → EnablesAre may enables masks
 same_among false enables masks e = e
 same_among true enables masks e = λ k lt. omega (arith, ap (λ x. bit_at x k) e)
@@ -42,7 +42,7 @@ pub enabled_too : (may : Bool) (enables masks v : ℕ) → EnablesAre may enable
 enabled_too false enables masks v h on = ap (λ x. is_enabled x v) (sym h) ∙ on
 enabled_too true enables masks v h on = enables_stay_among.enabled enables masks v h on
 
--- an interrupt is taken from both
+-- an interrupt is taken with both enable bits
 pub taken_both : (may : Bool) (enables masks : ℕ) (clears : Bool) → EnablesAre may enables masks → EnablesAre may (enables_taken enables clears) (enables_taken masks clears)
 taken_both false enables masks clears h = ap (λ x. enables_taken x clears) h
 taken_both true enables masks clears h = enables_stay_among.taken enables masks clears h
@@ -69,7 +69,7 @@ abbrev row_bits : List Vector → Bool
 row_bits [] = true
 row_bits (r ∷ rs) = nat_lt r.bit 8 && row_bits rs
 
--- a row that is found has its address, and a bit of a byte
+-- a row in the table has its address, and a bit of a byte
 found_row : (rs : List Vector) (a b v : ℕ) → row_bits rs ≡ true → option_map (λ r. r.number) (find (λ r. (r.address == a) && (r.bit == b)) rs) ≡ Some v
     → (list_any (λ r. r.address == a) rs ≡ true) × (b < 8)
 found_row [] a b v small e = absurd (cc)
@@ -85,12 +85,12 @@ found_row (r ∷ rs) a b v small e =
     here true false is_a is_b lt e rest = (refl, (rest e).1)
     here false q is_a is_b lt e rest = rest e
 
--- an enable bit stands at an address that has some, and is one of eight
+-- an enable bit is at an address that has some, and is one of eight
 pub held_at : (a b v : ℕ) → enable_of a b ≡ Some v → (has_enables a ≡ true) × (b < 8)
 unfolding enable_of has_enables
 held_at a b v e = found_row vectors a b v refl e
 
--- no register has one, and no byte of the stack pointer, nor the status register, nor SRAM
+-- the address is no register, not the stack pointer, not the status register, and not in SRAM
 abbrev pub IsIo : ℕ → Type 0
 IsIo a = (nat_lt a 0x20 ≡ false) × (((a == SPL) ≡ false) × (((a == SPH) ≡ false) × (((a == SREG) ≡ false) × (nat_le a BELOW ≡ true))))
 
@@ -102,7 +102,7 @@ pub none_above : (a : ℕ) → BELOW < a → has_enables a ≡ false
 unfolding has_enables
 none_above a lt = grind (arith, nat_tests)
 
--- none of the four, and then the rest
+-- the fifth case, if the first four tests fail
 pub fifth : {A : Type 0} (p q r s : Bool) (x1 x2 x3 x4 x5 : A) → p ≡ false → q ≡ false → r ≡ false → s ≡ false
     → (if p then x1 else (if q then x2 else (if r then x3 else (if s then x4 else x5)))) ≡ x5
 fifth false false false false x1 x2 x3 x4 x5 a b c d = refl
@@ -115,17 +115,17 @@ first_by : {A : Type 0} (b : Bool) (x y : A) → b ≡ true → (if b then x els
 first_by true x y e = refl
 first_by false x y e = absurd (cc)
 
--- what is read there is the byte of I/O
+-- a read of such an address gives the byte of I/O
 pub io_read : (m : State) (a input : ℕ) → IsIo a → read m a input ≡ io_byte m.enables a input
 unfolding read
 io_read m a input h = fifth (nat_lt a 0x20) (a == SPL) (a == SPH) (a == SREG) _ _ _ _ _ h.0 h.1.0 h.1.1.0 h.1.1.1.0 ∙ first_by (nat_le a BELOW) _ _ h.1.1.1.1
 
--- and what is known of it are the key's bits
+-- its value is the key's bits
 pub io_known : (device : Device) (may : Bool) (k : NodeKey) (s : AbsState) (a : ℕ) → IsIo a → read_at device may k s a ≡ untagged (io_bits may k.masks a)
 unfolding read_at
 io_known device may k s a h = fifth (nat_lt a 0x20) (a == SPL) (a == SPH) (a == SREG) _ _ _ _ _ h.0 h.1.0 h.1.1.0 h.1.1.1.0 ∙ first_by (nat_le a BELOW) _ _ h.1.1.1.1
 
--- a byte that is written there goes to enable bits
+-- a write of such an address goes to the enable bits
 pub io_written : (device : Device) (pc : ℕ) (k : NodeKey) (s : AbsState) (is_out : Bool) (a : ℕ) (v : AbsByte) → IsIo a → written_at device pc k s is_out a v ≡ masks_written k s a v
 unfolding written_at
 io_written device pc k s is_out a v h = fifth (nat_lt a 0x20) (a == SPL) (a == SPH) (a == SREG) _ _ _ _ _ h.0 h.1.0 h.1.1.0 h.1.1.1.0
@@ -139,14 +139,14 @@ held_bit enables a b v input lt e =
 no_one : (bit : ℕ) → bit < 2 → (bit == 1) ≡ false → bit ≡ 0
 no_one bit small e = grind (arith, nat_tests)
 
--- an enable bit that reads 0 is 0
+-- an enable bit that reads 0 is clear
 zero_held : (m : State) (a b v input : ℕ) → enable_of a b ≡ Some v → flag (read m a input) b ≡ false → bit_at m.enables (v - 2) ≡ 0
 zero_held m a b v input e off =
     let here = held_at a b v e in
     no_one (bit_at m.enables (v - 2)) (bit_at-lt m.enables (v - 2))
     (ap (λ x. x == 1) (sym (ap (λ x. bit_at x b) (io_read m a input (held_in_io a here.0)) ∙ held_bit m.enables a b v input here.1 e)) ∙ off)
 
--- the key may then leave it out
+-- so the key may drop it
 pub zero_read : (may : Bool) (m : State) (masks a b input : ℕ) → EnablesAre may m.enables masks → flag (read m a input) b ≡ false
     → EnablesAre may m.enables (without may (enable_of a b) masks)
 zero_read false m masks a b input h off = h
@@ -163,7 +163,7 @@ unfolding io_byte
 io_bit_at enables a b input lt =
     numbers_are_their_bits.bits 8 (λ j. io_bit (enable_of a j) enables (bit_at input j)) (λ j h. io_value (enable_of a j) enables (bit_at input j) (bit_at-lt input j)) b lt
 
--- the bits of the two bytes, before the one is written
+-- the bits of both bytes before the write
 io_among : (enables masks a b input : ℕ) → AreAmong enables masks → b < 8 → bit_at (io_byte enables a input) b ≤ bit_at (io_byte masks a input) b
 io_among enables masks a b input h lt = by (enable_of a b) refl
   where
@@ -185,7 +185,7 @@ with_among x y b on j lt le = subst₂ (λ (p q : ℕ). p ≤ q) (sym (with_bit_
     by true = omega arith
     by false = le
 
--- the bit of a vector is one of a byte
+-- the vector's bit is one of eight
 abbrev RowFits : Option Vector → Type 0
 RowFits None = ⊤
 RowFits (Some r) = r.bit < 8
@@ -210,7 +210,7 @@ row_among (Some r) a x y old new h fits le = by (r.address == a)
     by true = h r.bit fits
     by false = le
 
--- one bit of a byte of the machine is written, and the same of that which the key's set makes
+-- writes one bit to a byte of the machine, and to the byte of the key's set
 pub bit_both : (may : Bool) (enables masks a b : ℕ) (on : Bool) → EnablesAre may enables masks
     → EnablesAre may (written_enables enables a (with_bit (io_byte enables a 0) b on)) (written_enables masks a (with_bit (io_byte masks a 0) b on))
 bit_both false enables masks a b on h = ap (λ x. written_enables x a (with_bit (io_byte x a 0) b on)) h

@@ -1,4 +1,4 @@
--- What is left of what was known of pairs before an instruction holds once its registers and flags are set.
+-- Facts on pairs that survive an instruction hold after its registers and flags are set.
 use Rattle.std.proofs.Common.{◌≡◌, ◌≢◌, refl, sym, ◌∙◌, ⊎_elim, ℕ, ◌<◌, ◌==◌, Bool, true, false, not, List, [], ◌∷◌, Contains, arith, eq-eqb}
 use Rattle.std.proofs.lemmas.Bool.{or_parts}
 use Rattle.std.proofs.lemmas.Bool.Decides.{nat_tests}

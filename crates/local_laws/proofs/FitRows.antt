@@ -1,4 +1,4 @@
--- The table of instructions, row by row: calls lead to words, and returns are at the frame's base.
+-- The instruction table, row by row: calls go to words of flash, and returns are at the frame's base.
 use Rattle.std.proofs.Common.{◌≡◌, refl, sym, subst, ℕ, zero, suc, ◌<◌, ◌==◌, Bool, true, false, List, [], ◌∷◌, map, filter, length, Option, Some, None, if◌then◌else◌, nat_le, Contains, arith, nat_lt, ◌^◌, ◌≤◌, ltb-true, ◌+◌}
 use Rattle.std.proofs.lemmas.Bool.Decides.{nat_tests}
 use Rattle.std.proofs.lemmas.Map.Views.{Contains-from_any}
@@ -52,7 +52,7 @@ use Rattle.local_laws.proofs.Quiet.{IsFit, none_ascend, quiet_fits, if_quiet, br
 
 -- ---- the targets of indirect calls are words
 
--- a number with the bits of a word address is one of the device's
+-- a number with as many bits as a word address is a word of the device
 width_words : (device : Device) (z : ℕ) → z < 2 ^ width device → z < words_of device
 width_words M48 z lt = omega (arith, lt)
 width_words M88 z lt = omega (arith, lt)
@@ -75,7 +75,7 @@ targets_small device (Some listed) lo hi targets small e z h =
 further_small : (device : Device) (k : NodeKey) (n : ℕ) → further device k n < words_of device
 further_small device k n = devices_are_alike.inside device (k.pc + n)
 
--- words of flash, which ascend with an assumption list that may be one
+-- words of flash, ascending for a valid assumption list
 record AreTargetWords (device : Device) (A : List Entry) (targets : List ℕ) : Type 0 where
   small : (z : ℕ) → Contains targets z → z < words_of device
   ascending : AreEntries A → Ascends targets
@@ -195,7 +195,7 @@ module _ (device : Device) (words : Program) (A : List Entry) (k : NodeKey) (s :
 
 -- ---- where pairs are followed
 
--- other moves change nothing of calls and returns
+-- replacing the moves keeps calls and returns
 refining_fits : (device : Device) (words : Program) (A : List Entry) (k : NodeKey) (s : AbsState) (instr : Instr) (r : Raw) → IsFit device A k r → IsFit device A k (refining words instr s r)
 refining_fits device words A k s instr r h = record { words = record { calls = h.words.calls; exit = h.words.exit }; ascending = h.ascending }
 
@@ -244,7 +244,7 @@ module _ (words : Program) (A : List Entry) (k : NodeKey) (s : AbsState) where
       untracked_fits A k (is_hung (device_of words) A k k.sp) k.pc _
       (too_deep_fits A k (nat_lt (size_of (device_of words)) (offset_of k.sp)) k.pc (offset_of k.sp) _ (split_fits (split_site words A k.pc k.pick)))
 
-  -- where there is no fault
+  -- there is no fault
   not_untracked : (b : Bool) (pc : ℕ) (r : Raw) → (untracked_if b pc r).faults ≡ [] → r.faults ≡ []
   not_untracked true pc r e = absurd (cc)
   not_untracked false pc r e = e
@@ -257,7 +257,7 @@ module _ (words : Program) (A : List Entry) (k : NodeKey) (s : AbsState) where
   is_inside device scratch true e = refl
   is_inside device scratch false e = absurd (cc)
 
-  -- a node lies in flash where its instruction has no fault, and where it splits
+  -- a node lies in flash if its instruction has no fault, and if it splits
   is_within : (jump : Option ℕ) → split_site words A k.pc k.pick ≡ jump → (splitting jump (row_in (device_of words) words A) k s).faults ≡ [] → nat_lt k.pc (words_of (device_of words)) ≡ true
   is_within None site e = is_inside (device_of words) (is_scratch words k.pc) (nat_lt k.pc (words_of (device_of words))) e
   is_within (Some jump) site e = (splits_at words A k.pc k.pick jump site).0

@@ -30,7 +30,7 @@ tri_may true = refl
 tri_may false = refl
 
 module _ {may : Bool} (m : State) (o : Origin) (k : NodeKey) (s : AbsState) (at : InBareFrame may m o k s) where
-  -- I is in the key alone
+  -- only the key has I
   pub flags_but_i : (sreg : ℕ) → sreg % 128 ≡ m.sreg % 128 → flag sreg 0 ≡ flag m.sreg 0 → FlagsStand o s.flags sreg
   flags_but_i sreg same carry =
       record {

@@ -125,7 +125,7 @@ module _ {may : Bool} (m : State) (o : Origin) (k : NodeKey) (s : AbsState) (at 
 
   -- ---- branches on C
 
-  -- the state where C has its value
+  -- the state if C has its value
   cut_by : (c : CarryTag) → s.flags.carry ≡ c → CarryNamesRegister c → LessHolds m.registers c (flag m.sreg 0) → (on : Bool) → flag m.sreg 0 ≡ on
       → (values : List AbsByte) × ((where_carry c s on ≡ Some (record s { registers = values })) × RegistersStand o values m.registers)
   cut_by carry_tag.None is lt h on e = (s.registers, (refl, at.stands.registers))
@@ -222,7 +222,7 @@ module _ {may : Bool} (m : State) (o : Origin) (k : NodeKey) (s : AbsState) (at 
       (goes _ _ (devices_are_alike.twice m.device (m.pc + (1 + length_of (word_at words (m.pc + 1)))) ∙ ap (λ pc. wrapped m.device (pc + (1 + length_of (word_at words (pc + 1))))) at.place.pc))
       (goes' _ _ (goes_further 1)) can)
     where
-      -- the test stands inside the sum
+      -- the test is inside the sum
       by_test : (b : Bool)
           → FollowsWhere may m o s.facts k guarded b1 b2 (going_to m (if b then further m (1 + length_of (word_at words (m.pc + 1))) else further m 1))
           (node_branch_by t j l s (node_further m.device k (1 + length_of (word_at words (k.pc + 1)))) (node_further m.device k 1))
@@ -237,7 +237,7 @@ module _ {may : Bool} (m : State) (o : Origin) (k : NodeKey) (s : AbsState) (at 
 
   -- ---- indirect transfers
 
-  -- where the machine goes
+  -- the target
   abbrev target : ℕ
   target = wrapped m.device (pair m 30 % WORDS)
 
@@ -265,13 +265,13 @@ module _ {may : Bool} (m : State) (o : Origin) (k : NodeKey) (s : AbsState) (at 
 
   -- ---- calls
 
-  -- a call can't be followed while the stack pointer is half written
+  -- a call with a half-written stack pointer is a fault
   unless_open : (form : SpForm) (pc : ℕ) (r : Raw) (e : Effect) → (untracked_if (is_half_written form) pc r).faults ≡ []
       → ((offset : ℕ) → form ≡ Closed offset → r.faults ≡ [] → FollowsWhere may m o s.facts k guarded b1 b2 e r) → FollowsWhere may m o s.facts k guarded b1 b2 e (untracked_if (is_half_written form) pc r)
   unless_open (Closed offset) pc r e none h = h offset refl none
   unless_open (Open offset high) pc r e none h = absurd (cc)
 
-  -- a call whose entry is a word of the device already
+  -- a call whose entry is a word of the device
   abbrev call_to : ℕ → ℕ → Effect
   call_to pc back = record (calling m 0 back) { pc = pc }
 

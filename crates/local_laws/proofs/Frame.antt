@@ -1,4 +1,4 @@
--- What the rows share: successors that keep the stack pointer, registers that are read and set, and flags that are kept.
+-- Common parts of rows: successors that keep the stack pointer, register reads and writes, and flags that stay.
 use Rattle.std.proofs.Common.{◌≡◌, refl, sym, ◌∙◌, ap, ap₂, subst, subst₂, ℕ, ◌+◌, ◌-◌, ◌<◌, ⊎_elim, Bool, true, false, List, [], ◌∷◌, length, slice_index, slice_set, arith, Contains, length-set, Option}
 use Rattle.std.proofs.lemmas.Grind.{elements}
 use Rattle.std.proofs.lemmas.Bool.{cases_lt, cases_eq}
@@ -95,7 +95,7 @@ module _ {may : Bool} (m : State) (o : Origin) (k : NodeKey) (s : AbsState) (at 
       set_stands o (slice_set s.registers d v) (slice_set m.registers d x) e w y
       (length-set s.registers d v ∙ at.node.formed.count_registers) (length-set m.registers d x ∙ at.machine.count_registers) g (set_one d v x h)
 
-  -- the frame's slots stand while live bytes above the stack pointer are kept
+  -- the frame's slots hold while live bytes above the stack pointer are kept
   pub slots_kept : (new : Memory) → Keeps m.memory new (floor_of m.is_open m.sp) → SlotsStand o new s.slots
   slots_kept new keeps d lt =
       slot_kept o m.memory new (floor_of m.is_open m.sp) (o.base - d) (slot_at s.slots d) keeps
@@ -104,7 +104,7 @@ module _ {may : Bool} (m : State) (o : Origin) (k : NodeKey) (s : AbsState) (at 
   pub next_is : wrapped m.device (further m 1) ≡ node_further m.device k 1
   next_is = devices_are_alike.twice m.device (m.pc + 1) ∙ ap (λ pc. wrapped m.device (pc + 1)) at.place.pc
 
-  -- A successor at the same stack pointer, with the same slots, where nothing is pushed.
+  -- A successor with the same stack pointer and slots, of an effect that pushes nothing.
   pub frame_kept : (told : Option PairFacts) (guarded : Bool) (e : Effect) (to : Node) → e.pushes ≡ [] → to.key.sp ≡ k.sp → to.state.slots ≡ s.slots
       → sp_after e.sp e.stores ≡ m.sp → open_after e.is_open e.stores ≡ m.is_open
       → e.pc ≡ to.key.pc → EnablesAre may (enables_after e.enables e.stores) to.key.masks → flag (sreg_after e.sreg e.stores) 7 ≡ to.key.i → e.delay ≡ to.key.delay
@@ -149,7 +149,7 @@ module _ {may : Bool} (m : State) (o : Origin) (k : NodeKey) (s : AbsState) (at 
       → FollowsWhere may m o s.facts k guarded b1 b2 e (moves_to (to ∷ []))
   only guarded b1 b2 e to inst at_node = record { leads = λ held. stays to (first_in to []) inst (at_node.lands held) }
 
-  -- a row that sets registers and flags and goes on
+  -- a row that sets registers and flags and continues
   pub sets : (guarded : Bool) (b1 b2 : ℕ) (writes : List Write) (sreg : ℕ) (registers : List AbsByte) (flags : AbsFlags) → flag sreg 7 ≡ flag m.sreg 7
       → RegistersStand o registers (with_registers m.registers writes) → FlagsStand o flags sreg
       → LessHolds (with_registers m.registers writes) flags.carry (flag sreg 0)
@@ -163,18 +163,18 @@ module _ {may : Bool} (m : State) (o : Origin) (k : NodeKey) (s : AbsState) (at 
   goes_to guarded pc pc' is =
       same_frame guarded (going_to m pc) (record { key = at_word k pc'; state = s }) refl refl refl refl refl is at.place.enables at.place.i refl at.stands.registers at.stands.flags at.stands.less (λ held. held)
 
-  -- the same off a jump table, where the key may say otherwise what is enabled
+  -- the same, ending the pick of a jump table, with other enable bits in the key
   pub turns_with : (guarded : Bool) (masks : ℕ) → EnablesAre may m.enables masks → (pc pc' : ℕ) → wrapped m.device pc ≡ pc'
       → ArrivesWhere may m o s.facts guarded (going_to m pc) (record { key = off_table (record k { masks = masks }) pc'; state = s })
   turns_with guarded masks enables pc pc' is =
       same_frame guarded (going_to m pc) (record { key = off_table (record k { masks = masks }) pc'; state = s }) refl refl refl refl refl is enables at.place.i refl at.stands.registers
       at.stands.flags at.stands.less (λ held. held)
 
-  -- the same where it says the same of that
+  -- the same, with the same enable bits in the key
   pub turns_to : (guarded : Bool) (pc pc' : ℕ) → wrapped m.device pc ≡ pc' → ArrivesWhere may m o s.facts guarded (going_to m pc) (record { key = off_table k pc'; state = s })
   turns_to guarded pc pc' is = turns_with guarded k.masks at.place.enables pc pc' is
 
-  -- the same where some registers' ranges are cut
+  -- a row that goes to a word and cuts the ranges of some registers
   pub goes_cut : (guarded : Bool) (pc pc' : ℕ) (values : List AbsByte) → wrapped m.device pc ≡ pc' → RegistersStand o values m.registers
       → ArrivesWhere may m o s.facts guarded (going_to m pc) (record { key = off_table k pc'; state = record s { registers = values } })
   goes_cut guarded pc pc' values is stand =

@@ -1,4 +1,4 @@
--- What is computed at a site with a `frame` line is true of the machine.
+-- The results at a site with a `frame` line cover the machine's.
 use Rattle.std.proofs.Common.{◌≡◌, refl, sym, subst, ℕ, ◌%◌, ◌<◌, nat_le, nat_lt, Bool, true, false, if◌then◌else◌, Option, Some, None, arith}
 use Rattle.avr_model.specs.Sums.{sum_of, difference_of}
 use Rattle.avr_model.specs.Bitwise.{step_of}
@@ -21,7 +21,7 @@ use Rattle.local_laws.proofs.Frame.{register_stands}
 use Rattle.local_laws.proofs.Alu.{register_byte, register_bits, carry_may, no_carry, borrow_holds, sum_tagged_covered, difference_covered, step_tagged_covered}
 use Rattle.local_laws.proofs.Less.{Spares, borrow_names_none, sum_names_none}
 
--- a sum is the same in either order
+-- addition commutes
 turned : (x y : ℕ) (c : Bool) → sum_of y x c ≡ sum_of x y c
 turned x y c = omega arith
 

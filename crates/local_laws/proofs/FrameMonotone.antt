@@ -1,4 +1,4 @@
--- What is computed at a site with a `frame` line: a greater state gives more.
+-- The results at a site with a `frame` line are monotone.
 use Rattle.std.proofs.Common.{◌≡◌, ℕ, ◌<◌, Bool, true, false, Option, Some}
 use Rattle.local_rules.specs.Cover.{IsKey}
 use Rattle.abs_alu.proofs.AllLaws.{same_within}

@@ -1,4 +1,4 @@
--- Tags at a site with a `frame` line: they are of a node that the analysis works with, and a greater state says less.
+-- Tags at a site with a `frame` line are those of a node of the analysis, and monotone.
 use Rattle.std.proofs.Common.{◌≡◌, refl, sym, subst, ℕ, ◌+◌, ◌-◌, ◌*◌, ◌%◌, ◌<◌, ◌==◌, Bool, true, false, Option, Some, None, arith}
 use Rattle.sp_domain.specs.declared.tags.Tag.{Tag}
 use Rattle.sp_domain.specs.declared.tags.Tag.TheVariants as tag

@@ -1,4 +1,4 @@
--- Where a vector may come, an open stack pointer is hung.
+-- An open stack pointer is a fault if an interrupt may be taken.
 use Rattle.std.proofs.Common.{◌≡◌, ℕ, ◌<◌, Bool, true, false, not, ◌&&◌, List, arith}
 use Rattle.std.proofs.lemmas.Bool.Decides.{nat_tests}
 use Rattle.basics.specs.Booleans.{and_not}

@@ -1,4 +1,4 @@
--- Successors follow pairs where the node does, and their intervals lie in the hulls of their registers.
+-- Successors follow pairs if the node does, and their intervals lie in the hulls of their registers.
 use Rattle.std.proofs.Common.{◌≡◌, ◌≢◌, refl, sym, subst, subst₂, ap, ap₂, ◌∙◌, ℕ, ◌+◌, ◌*◌, ◌/◌, ◌<◌, ◌==◌, Bool, true, false, List, [], ◌∷◌, ◌++◌, length, map, filter, Option, Some, None, if◌then◌else◌, slice_set, Contains, ◌⊎◌, inl, inr, ⊎_elim, arith, nat_lt, nat_le, ltb-true}
 use Rattle.std.specs.Prelude.{◌||◌}
 use Rattle.std.proofs.lemmas.Bool.{cases_eq, ne_eqb}
@@ -41,12 +41,12 @@ use Rattle.local_rules.specs.Writes.{opening, closing, sreg_written, written_at,
 use Rattle.local_laws.proofs.Members.{each_of, each_in_map}
 use Rattle.local_laws.proofs.MonotoneValues.{set_other}
 
--- it follows pairs or doesn't, and its intervals lie in their hulls
+-- it follows pairs as `followed` says, and its intervals lie in their hulls
 pub record IsModeKept (followed : Bool) (t : AbsState) : Type 0 where
   pub mode : is_followed t.facts ≡ followed
   pub hulls : IsInHulls t
 
--- without facts there is nothing to say
+-- without facts nothing is claimed
 pub none_kept : (t : AbsState) → t.facts ≡ None → IsModeKept false t
 none_kept t e = record { mode = ap is_followed e; hulls = subst (AreInHulls t.registers) (sym e) tt }
 

@@ -1,4 +1,4 @@
--- All that a node leads to follows pairs where the node does, and its intervals lie in the hulls of their registers.
+-- All successors of a node follow pairs if the node does, and their intervals lie in the hulls of their registers.
 use Rattle.std.proofs.Common.{◌≡◌, refl, sym, subst, ap, ◌∙◌, ℕ, ◌+◌, ◌<◌, ◌==◌, Bool, true, false, List, [], ◌∷◌, length, map, Option, Some, None, if◌then◌else◌, Contains, ⊎_elim, nat_lt, nat_le, ltb-true, eqb-true}
 use Rattle.std.proofs.lemmas.List.Elements.{Contains-append_cases}
 use Rattle.basics.specs.Items.{none_in, further_in, first_in}
@@ -78,7 +78,7 @@ module _ (device : Device) (words : Program) (A : List Entry) (scratch : Bool) (
   refined_none : (instr : Instr) → IsRefinedInstr instr → AllKept false (plain instr)
   refined_none instr is to j = none_kept to.state ((row_leaves device words A scratch k (before instr s) instr is to j).facts ∙ none_before instr)
 
-  -- `cpse` computes nothing, with a line or without
+  -- `cpse` computes no result, with or without a line
   cpse_kept : (framed : Bool) (d r : ℕ) → AllKept false (going_by device k (before (i.Binary binary.Cpse d r) s)
       (if framed then framed_binary (before (i.Binary binary.Cpse d r) s) binary.Cpse d r else binary_after (before (i.Binary binary.Cpse d r) s) binary.Cpse d r)
       (skipping device words k k (before (i.Binary binary.Cpse d r) s) (byte_equal (value_at s.registers d).bits (value_at s.registers r).bits)))
@@ -133,7 +133,7 @@ module _ (device : Device) (words : Program) (A : List Entry) (scratch : Bool) (
   count : (instr : Instr) → HasSixteen (before instr s).facts
   count instr = known_is_ordered.count (before instr s).facts (writes_end_facts.fits (is_one_of (written instr)) (sets_flags instr) (sets_carry instr) s.facts h.formed.facts)
 
-  -- a refined state says no less than the plain one, which follows pairs
+  -- a refined state follows pairs, as the plain one does
   refined_kept : (instr : Instr) (n : ℕ) (t u : AbsState) → HasRegisters instr → IsFormed t n → IsPlain words instr s t
       → ((r : ℕ) → r < 32 → is_one_of (written instr) r ≡ false → set_of (value_at t.registers r) ≡ set_of (value_at s.registers r))
       → refined (marks words) words instr s t ≡ Some u → IsModeKept true u

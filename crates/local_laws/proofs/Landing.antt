@@ -1,4 +1,4 @@
--- What a step leads to, where what was known of pairs holds once the instruction has set its registers and flags.
+-- The successors of a step, if the facts on pairs hold after the instruction has set its registers and flags.
 use Rattle.std.proofs.Common.{ℕ, Bool, Option}
 use Rattle.avr_model.specs.declared.effect.Effect.{Effect}
 use Rattle.avr_model.specs.State.{State}
@@ -11,7 +11,7 @@ use Rattle.local_rules.specs.declared.local.Node.{Node}
 use Rattle.local_rules.specs.Raw.{Raw}
 use Rattle.local_rules.specs.Cover as cover
 
--- what is known of pairs holds before a byte is stored
+-- the facts on pairs hold before a byte is stored
 abbrev pub HeldAt : State → Option PairFacts → Effect → Type 0
 HeldAt m x e = HoldsAt x (with_registers m.registers e.registers) e.sreg
 

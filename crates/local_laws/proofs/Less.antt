@@ -1,4 +1,4 @@
--- What C says of a register: it still holds where other registers are written, and it cuts the register's range at a branch.
+-- The carry tag of a register: it survives writes of other registers, and cuts the register's range at a branch.
 use Rattle.std.proofs.Common.{◌≡◌, ◌≢◌, refl, sym, ◌∙◌, ap, subst, ℕ, ◌+◌, ◌-◌, ◌<◌, ◌≤◌, ◌==◌, nat_lt, nat_le, min, max, Bool, true, false, if◌then◌else◌, List, [], ◌∷◌, Option, Some, None, slice_index, slice_set, arith, eq-eqb}
 use Rattle.std.specs.Prelude.{⊤}
 use Rattle.std.specs.Int.{from_bool}
@@ -36,7 +36,7 @@ use Rattle.local_laws.proofs.Bare.{InBareFrame}
 
 -- ---- registers that it doesn't speak of
 
--- the carry tag doesn't speak of register d
+-- the carry tag does not name register d
 abbrev pub Spares : CarryTag → ℕ → Type 0
 Spares carry.None d = ⊤
 Spares (carry.Borrow j l) d = ⊤
@@ -72,7 +72,7 @@ less_moved registers c b pointer.MinusX w spares h = less_two registers c b 26 2
 
 -- ---- what is forgotten
 
--- what holds of the tag and of none holds of what is left of it
+-- a property of the tag and of none holds of the remaining tag
 pub forgotten_is : (C : CarryTag → Type 0) (written : List ℕ) (c : CarryTag) → C c → C carry.None → C (forgotten written c)
 forgotten_is C written carry.None h none = none
 forgotten_is C written (carry.Borrow j l) h none = h
@@ -101,7 +101,7 @@ not_among r n (d ∷ ds) e =
     let parts = or_parts (d == r) (list_any (λ x. x == r) ds) e in
     ((λ same. let hit : (d == r) ≡ true = eq-eqb d r (sym same) in absurd (let no = sym hit ∙ parts.0 in cc)), not_among r n ds parts.1)
 
--- it speaks of none of the registers that are written
+-- the remaining tag names no written register
 pub forgotten_spares : (written : List ℕ) (c : CarryTag) → SparesAll (forgotten written c) written
 forgotten_spares written carry.None = none_spares written
 forgotten_spares written (carry.Borrow j l) = borrow_spares j l written
@@ -135,7 +135,7 @@ forgetting_less written flags carry s fits =
       facts = writes_end_facts.less (is_one_of written) flags carry s.facts fits;
     }
 
--- the machine is there too
+-- the machine is at the node with the remaining tag
 pub forgetting_at : {may : Bool} (m : State) (o : Origin) (k : NodeKey) (s : AbsState) (written : List ℕ) (flags carry : Bool) → InBareFrame may m o k s → InBareFrame may m o k (forgetting written flags carry s)
 forgetting_at m o k s written flags carry at =
     record {
@@ -241,7 +241,7 @@ alone_less registers (carry.Borrow j l) b h = tt
 alone_less registers (carry.Sum j l) b h = tt
 alone_less registers (carry.Less r n) b h = h
 
--- what holds of `Less` alone and of none holds of what is kept
+-- a property of `Less` and of none holds of the kept tag
 pub kept_is : (C : CarryTag → Type 0) (f g : Option ℕ) (c : CarryTag) → C (less_alone c) → C carry.None → C (less_kept f g c)
 kept_is C None g c h none = none
 kept_is C (Some x) None c h none = none
@@ -271,7 +271,7 @@ kept_holds registers x y (Some u) (Some v) c b is is' h = by (u == v) refl
 
 -- ---- ranges that are cut
 
--- what is left of a value that stands where C tells on which side of n it is
+-- a value cut by C holds, if C says on which side of n the byte is
 pub part_stands : (o : Origin) (v : AbsByte) (x n : ℕ) (c : Bool) → ByteStands o v x → c ≡ nat_lt x n → (w : AbsByte) × ((part_of c v n ≡ Some w) × ByteStands o w x)
 part_stands o v x n true h e =
     let below : x < n = grind (arith, nat_tests) in

@@ -1,4 +1,4 @@
--- Every step leaves a state of the machine: as many registers and bytes, and each a byte.
+-- Every step leaves a state of the machine: equally many registers and bytes, all in range.
 use Rattle.std.proofs.Common.{◌≡◌, ◌∙◌, ℕ, ◌+◌, ◌-◌, ◌*◌, ◌^◌, ◌<◌, ◌==◌, Bool, true, false, nat_lt, nat_le, if◌then◌else◌, List, [], ◌∷◌, length, Option, Some, None, slice_set, arith, length-set}
 use Rattle.std.specs.Int.{bit_at}
 use Rattle.std.specs.List.{All}
@@ -15,7 +15,7 @@ use Rattle.local_rules.specs.Machine.{IsMachine}
 use Rattle.local_laws.proofs.Bytes.{byte_in_list}
 use Rattle.local_laws.proofs.Memory.{AreByteWrites, memory_stays}
 
--- the numbers of an effect fit
+-- the numbers of an effect are in range
 pub record IsEffect (device : Device) (e : Effect) : Type 0 where
   pub pc : e.pc < words_of device
   pub registers : AreByteWrites e.registers

@@ -1,4 +1,4 @@
--- Instructions that work on registers and flags alone: a greater state gives more.
+-- Instructions that work on registers and flags alone are monotone.
 use Rattle.std.proofs.Common.{◌≡◌, ◌≢◌, refl, sym, ap, ◌∙◌, subst, subst₂, ℕ, ◌+◌, ◌*◌, ◌%◌, ◌<◌, ◌==◌, Bool, true, false, not, List, Option, Some, None, if◌then◌else◌, slice_set, cond, eqb, arith}
 use Rattle.std.proofs.lemmas.Bool.Decides.{nat_tests}
 use Rattle.local_rules.specs.Cover.{IsKey}
@@ -84,7 +84,7 @@ borrow_names (tag.SpHi k) (Some l) = tt
 
 -- ---- what a comparison says
 
--- a carry tag of a register of the 32, and nothing else
+-- the carry tag of one of the 32 registers
 pub record IsOfRegister (c : CarryTag) : Type 0 where
   pub bytes : HasByteNumbers c
   pub names : CarryNamesRegister c

@@ -1,4 +1,4 @@
--- The numbers in decoded instructions: targets of jumps and calls are words, immediate numbers are bytes, and operands are registers.
+-- Numbers in decoded instructions: targets of jumps and calls are words, immediate numbers are bytes, and operands are registers.
 use Rattle.std.proofs.Common.{◌≡◌, refl, subst, ℕ, ◌+◌, ◌*◌, ◌%◌, ◌^◌, ◌<◌, ◌==◌, Bool, true, false, List, [], ◌∷◌, Some, length, if◌then◌else◌, arith, None, nat_lt}
 use Rattle.std.specs.Prelude.{⊤}
 use Rattle.std.specs.Int.{bit_at}
@@ -25,7 +25,7 @@ InstrFits instr = ⊤
 
 -- ---- what is in the places of a letter
 
--- what the number is below: twice as much for each place
+-- the limit of the number: twice as much for each place
 abbrev pub bound_of : ℕ → ℕ → List ℕ → ℕ
 bound_of c below [] = below
 bound_of c below (x ∷ p) = bound_of c (if x == c then below * 2 else below) p
@@ -40,7 +40,7 @@ letter_below c (x ∷ p) w sofar below lt =
     letter_below c p w (if x == c then sofar * 2 + bit_at w (length p) else sofar) (if x == c then below * 2 else below)
     (place_below (x == c) sofar (bit_at w (length p)) below (bit_at-lt w (length p)) lt)
 
--- a number in eight places
+-- a number of eight places
 eight : (p : List ℕ) (w : ℕ) → bound_of 75 1 p ≡ 256 → letter 75 0 p w < 256
 eight p w e = subst (λ (n : ℕ). letter 75 0 p w < n) e (letter_below 75 p w 0 1 (omega arith))
 

@@ -1,4 +1,4 @@
--- Jumps, branches, skips, calls, returns, and bytes that are pushed and popped: a greater state leads to more.
+-- Jumps, branches, skips, calls, returns, pushes and pops are monotone.
 use Rattle.std.proofs.Common.{◌≡◌, refl, sym, ap, ◌∙◌, subst, subst₂, ℕ, zero, suc, ◌+◌, ◌-◌, ◌<◌, ◌≤◌, ◌==◌, nat_lt, nat_le, min, max, ⊎_elim, Bool, true, false, List, [], ◌∷◌, ◌++◌, map, filter, take, Option, Some, None, length, if◌then◌else◌, slice_set, Contains, arith, append_assoc, length-append, length-take, leb-true, ◌^◌}
 use Rattle.std.proofs.Math.Nat.{pow-le-pow_right}
 use Rattle.std.proofs.lemmas.Bool.{cases_lt, cases_eq}
@@ -86,7 +86,7 @@ module _ (f g : ℕ → Tri) (n : ℕ) (le : (i : ℕ) → i < n → IsTriWithin
       subst₂ (λ (a b : ℕ). a ≤ b) (sym (numbers_are_permitted.count f n)) (sym (numbers_are_permitted.count g n))
       (pow-le-pow_right {n = 2} (omega arith) (count_more f g n le))
 
--- where the second has targets, the first has, and all of them are the second's, and words
+-- if the second has targets, so has the first; all of them are the second's, and words
 abbrev AreTargetsLess : Option (List ℕ) → Option (List ℕ) → Type 0
 AreTargetsLess x y =
     (ys : List ℕ) → y ≡ Some ys
@@ -122,7 +122,7 @@ module _ (xs ys : List ℕ) (more : (z : ℕ) → Contains xs z → Contains ys 
         ),
       )
 
--- a word address of the device is one in a text
+-- a word address of the device is one of the greatest flash
 pub width_small : (device : Device) (z : ℕ) → z < 2 ^ width device → z < WORDS
 width_small M48 z lt = omega (arith, lt)
 width_small M88 z lt = omega (arith, lt)
@@ -200,12 +200,12 @@ room_less kind offset xs ys le =
 
 -- ---- branches on C
 
--- what a test chose
+-- the value that a test chose
 if_some : (b : Bool) (v x : AbsByte) → (if b then Some v else None) ≡ Some x → (b ≡ true) × (v ≡ x)
 if_some true v x e = (refl, cc)
 if_some false v x e = absurd (cc)
 
--- one that goes to a word, below the first or the second of two
+-- the successor at a word is below the first or the second of two
 first_less : (inst : InstKey) (o : Option AbsState) (k : NodeKey) (pc : ℕ) (q r : Raw) → LeadsLess inst (going_where k o pc) q → LeadsLess inst (going_where k o pc) (all_of (q ∷ r ∷ []))
 first_less inst None k pc q r h = above_first inst [] q (r ∷ []) h
 first_less inst (Some s) k pc q r h = above_first inst _ q (r ∷ []) h
@@ -231,7 +231,7 @@ branch_nodes Zero k l s taken other = refl
 branch_nodes One k l s taken other = refl
 branch_nodes Any k l s taken other = refl
 
--- a vector that isn't enabled leaves enable bits
+-- removing a vector leaves 25 enable bits
 without_small : (may : Bool) (v : Option ℕ) (masks : ℕ) → masks < 2 ^ 25 → without may v masks < 2 ^ 25
 without_small false v masks lt = lt
 without_small true None masks lt = lt
@@ -240,7 +240,7 @@ without_small true (Some v) masks lt = enables_are_vectors.turned masks v false
 off_place : (inst : InstKey) (offset : ℕ) (k : NodeKey) (pc : ℕ) → IsKeyPlace inst offset k → pc < WORDS → IsKeyPlace inst offset (off_table k pc)
 off_place inst offset k pc at lt = record { key = off_table_key k pc at.key lt; same = at.same; at = at.at }
 
--- calls lead to the same whatever the state
+-- calls have the same targets in all states
 sites_less : (inst : InstKey) (k : NodeKey) (back : ℕ) (xs ys : List ℕ) → ((z : ℕ) → Contains xs z → Contains ys z) → LeadsLess inst (calling k back xs) (calling k back ys)
 sites_less inst k back xs ys more =
     untracked_less inst (is_half_written k.sp) k.pc (enters (map (λ t. site t back) xs)) (enters (map (λ t. site t back) ys))
@@ -271,7 +271,7 @@ module _ (device : Device) (k : NodeKey) (at : IsKey k) (s t : AbsState) (le : I
   pub here : IsPlace k
   here = record { key = at; same = refl; at = refl }
 
-  -- the key where a bit reads 0
+  -- the key after a bit reads 0
   pub zero_place : (may : Bool) (a b : ℕ) → IsPlace (reading_zero may k a b)
   zero_place may a b =
       record {
@@ -293,7 +293,7 @@ module _ (device : Device) (k : NodeKey) (at : IsKey k) (s t : AbsState) (le : I
 
   -- ---- branches on C
 
-  -- what is cut of the lesser lies below what is cut of the greater, which is there
+  -- if the lesser value's cut exists, so does the greater one's, and it is above
   part_less : (c : Bool) (v w : AbsByte) (n : ℕ) → IsLess kind v w → IsReadLess kind (part_of c v n) (part_of c w n)
   part_less true v w n h x e =
       let was = if_some (nat_lt v.low n) _ x e in
@@ -322,7 +322,7 @@ module _ (device : Device) (k : NodeKey) (at : IsKey k) (s t : AbsState) (le : I
         ),
       )
 
-  -- and below the greater
+  -- a cut value is below the greater one
   part_under : (c : Bool) (v w : AbsByte) (n : ℕ) (x : AbsByte) → IsLess kind v w → part_of c v n ≡ Some x → IsLess kind x w
   part_under true v w n x h e =
       let was = if_some (nat_lt v.low n) _ x e in
@@ -348,7 +348,7 @@ module _ (device : Device) (k : NodeKey) (at : IsKey k) (s t : AbsState) (le : I
   set_itself (x ∷ xs) zero lt = refl
   set_itself (x ∷ xs) (suc r) lt = ap (λ (ys : List AbsByte). x ∷ ys) (set_itself xs r (omega arith))
 
-  -- the greater state isn't cut where its carry tag says nothing of a register
+  -- the greater state isn't cut if its carry tag names no register
   uncut : (c : CarryTag) → CarryNamesRegister c → (on : Bool) (pc : ℕ) → pc < WORDS → LeadsLess k.inst (going_where k (where_carry c s on) pc) (turning_to k t pc)
   uncut carry.None names on pc lt = turning_less device k at s t le pc lt
   uncut (carry.Borrow j l) names on pc lt = turning_less device k at s t le pc lt
@@ -365,7 +365,7 @@ module _ (device : Device) (k : NodeKey) (at : IsKey k) (s t : AbsState) (le : I
           (subst (IsStateLess kind (offset_of k.sp) (record s { registers = set s r x })) back
           (cut_state r x (value t r) (part_under on (value s r) (value t r) n x (reg device k at s t le r) e))) pc lt
 
-  -- both are cut alike
+  -- both states are cut alike
   both_cut : (r n : ℕ) (on : Bool) (pc : ℕ) → pc < WORDS
       → LeadsLess k.inst (going_where k (where_carry (carry.Less r n) s on) pc) (going_where k (where_carry (carry.Less r n) t on) pc)
   both_cut r n on pc lt = by (part_of on (value s r) n) (part_of on (value t r) n) (part_less on (value s r) (value t r) n (reg device k at s t le r))
@@ -453,7 +453,7 @@ module _ (device : Device) (k : NodeKey) (at : IsKey k) (s t : AbsState) (le : I
   slots_at : (offset : ℕ) → k.sp ≡ Closed offset → AreSlotsLess kind offset s.slots t.slots
   slots_at offset e = subst (λ (n : ℕ). AreSlotsLess kind n s.slots t.slots) (ap offset_of e) le.slots
 
-  -- what has room on the device has room at all
+  -- a size that fits the device fits the greatest one
   room_small : {n : ℕ} → nat_le n (size_of device) ≡ true → n ≤ SIZE
   room_small {n = n} e = omega (arith, leb-true n (size_of device) e, devices_are_alike.most_bytes device)
 

@@ -1,4 +1,4 @@
--- The bytes that a value permits, and the numbers that a pair does: a greater state permits more.
+-- The bytes that a value permits, and the numbers that a pair does, are monotone.
 use Rattle.std.proofs.Common.{◌≡◌, refl, ℕ, ◌+◌, ◌/◌, ◌<◌, nat_le, Bool, true, false, ◌&&◌, Option, Some, None, arith}
 use Rattle.std.specs.Int.{bit_at}
 use Rattle.std.proofs.lemmas.Bool.Decides.{nat_tests}
@@ -43,7 +43,7 @@ interval_more None (Some g) r p there le e = absurd le
 interval_more (Some f) (Some g) r p there le e =
     between_more (interval_at f.intervals (r / 2)) (interval_at g.intervals (r / 2)) p (le.intervals (r / 2) (omega (arith, there))) e
 
--- what the lesser state says of two registers and of their pair is more
+-- the lesser state's registers and pair are within those of the greater
 pub record IsPairWithin (s t : AbsState) (r : ℕ) : Type 0 where
   pub there : r < 32
   pub low : IsByteWithin (value s r) (value t r)

@@ -1,4 +1,4 @@
--- A lesser and a greater node: what the lesser leads to is a node, and below what the greater leads to.
+-- A lesser and a greater node: each successor of the lesser is a node, and below one of the greater.
 use Rattle.std.proofs.Common.{◌≡◌, refl, sym, subst, ℕ, ◌<◌, ⊎_elim, Bool, true, false, cond, List, [], ◌∷◌, ◌++◌, map, filter, None, if◌then◌else◌, Contains, arith, ◌+◌}
 use Rattle.std.proofs.lemmas.List.Elements.{Contains-append_left, Contains-append_right, Contains-append_cases}
 use Rattle.basics.specs.Items.{none_in, first_in, further_in}
@@ -29,7 +29,7 @@ use Rattle.local_laws.proofs.MonotoneValues.{AreFlagsLess, AreRegistersLess, IsS
 
 -- ---- definitions
 
--- the node is one that the analysis works with, in this instance, and one of these is above it
+-- the node is one of the analysis, in this instance, and below one of these
 pub record IsMetAbove (inst : InstKey) (nodes : List Node) (to : Node) : Type 0 where
   pub same : to.key.inst ≡ inst
   pub node : IsBare to.key to.state
@@ -41,7 +41,7 @@ pub record LeadsUpTo (inst : InstKey) (a b : Raw) : Type 0 where
   pub calls : (site : CallSite) → Contains a.calls site → Contains b.calls site
   pub exit : a.exit ≡ b.exit
 
--- where the greater has no fault, the lesser has none, and leads to no more
+-- if the greater has no fault, the lesser has none and no more successors
 abbrev pub LeadsLess : InstKey → Raw → Raw → Type 0
 LeadsLess inst a b = b.faults ≡ [] → LeadsUpTo inst a b
 
@@ -97,7 +97,7 @@ several_less {A = A} inst offset f s t xs ys more places le e =
       exit = refl;
     }
 
--- one node of its own instance
+-- one node of the same instance
 pub one_less : (k : NodeKey) (s t : AbsState) → IsKey k → IsStateLess k.inst.kind (offset_of k.sp) s t → LeadsLess k.inst (one k s) (one k t)
 one_less k s t at le =
     several_less k.inst (offset_of k.sp) (λ (x : NodeKey). x) s t (k ∷ []) (k ∷ []) (λ x i. i)
@@ -125,7 +125,7 @@ choose_each P Zero x y p q = each_of P x [] p (λ z i. absurd (none_in z i))
 choose_each P One x y p q = each_of P y [] q (λ z i. absurd (none_in z i))
 choose_each P Any x y p q = each_of P x (y ∷ []) p (each_of P y [] q (λ z i. absurd (none_in z i)))
 
--- nowhere is below all that goes on alone
+-- no successor is below any that only continues
 pub nowhere_less : (inst : InstKey) (nodes : List Node) → LeadsLess inst nowhere (moves_to nodes)
 nowhere_less inst nodes e = record { faultless = refl; moves = λ to i. absurd (none_in to i); calls = λ site i. i; exit = refl }
 
@@ -193,7 +193,7 @@ both_less inst p q ps qs first rest e =
       exit = refl;
     }
 
--- one more of the greater
+-- the greater has one more successor
 pub more_less : (inst : InstKey) (q : Raw) (ps qs : List Raw) → LeadsLess inst (all_of ps) (all_of qs) → LeadsLess inst (all_of ps) (all_of (q ∷ qs))
 more_less inst q ps qs rest e =
     let none = both_empty q.faults (all_of qs).faults e in
@@ -205,7 +205,7 @@ more_less inst q ps qs rest e =
       exit = no_exit ps;
     }
 
--- those of the members that pass a test, where the greater's test passes more
+-- the items that pass a test, if the greater's test is weaker
 pub filtered_less : {A : Type 0} (inst : InstKey) (f g : A → Raw) (p q : A → Bool) (xs : List A)
     → ((x : A) → Contains xs x → LeadsLess inst (f x) (g x)) → ((x : A) → Contains xs x → p x ≡ true → q x ≡ true)
     → LeadsLess inst (all_of (map f (filter p xs))) (all_of (map g (filter q xs)))
@@ -229,7 +229,7 @@ further_small device k n = devices_are_alike.most device (k.pc + n)
 pub word_key : (k : NodeKey) (pc : ℕ) → IsKey k → pc < WORDS → IsKey (at_word k pc)
 word_key k pc at lt = record { word = lt; small = at.small; masks = at.masks; fits = at.fits; pick = at.pick }
 
--- off a jump table
+-- at another word, without a pick
 pub off_table_key : (k : NodeKey) (pc : ℕ) → IsKey k → pc < WORDS → IsKey (off_table k pc)
 off_table_key k pc at lt = record { word = lt; small = at.small; masks = at.masks; fits = at.fits; pick = tt }
 

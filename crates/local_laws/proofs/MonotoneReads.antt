@@ -1,4 +1,4 @@
--- What is known of a byte that is read: a greater state tells less.
+-- The value of a byte that is read is monotone.
 use Rattle.std.proofs.Common.{◌≡◌, refl, sym, ap, ◌∙◌, subst, subst₂, ℕ, ◌+◌, ◌-◌, ◌==◌, nat_lt, nat_le, Bool, true, false, List, [], Option, Some, None, length, if◌then◌else◌, slice_set, arith, ◌*◌}
 use Rattle.std.specs.Int.{from_bool}
 use Rattle.local_rules.specs.Cover.{IsKey}
@@ -92,7 +92,7 @@ pair_tells f (Some x) f' None h k n e = cc
 pair_tells f (Some x) f' (Some y) h k n e =
     subst₂ (λ (a b : Option ℕ). word_of a b ≡ Some n) (sym (h x refl)) (sym (k y refl)) e
 
--- where there is a first value, there is a second, and it says no more
+-- if the first value exists, so does the second, and it is above
 abbrev pub IsReadLess : Kind → Option AbsByte → Option AbsByte → Type 0
 IsReadLess kind x y = (v : AbsByte) → x ≡ Some v → (w : AbsByte) × ((y ≡ Some w) × IsLess kind v w)
 
@@ -107,14 +107,14 @@ if_under : (kind : Kind) (b : Bool) (x x' y : Option AbsByte) → IsReadLess kin
 if_under kind true x x' y h k = h
 if_under kind false x x' y h k = k
 
--- the bits and the range of a value are those of another, or less
+-- the bits and the range of the first value are within those of the second
 sets_within : (kind : Kind) (v w : AbsByte) → IsLess kind v w → IsSetWithin (set_of v) (set_of w)
 sets_within kind v w h = record { bits = h.within.bits; low = h.within.low; high = h.within.high }
 
 sets_through : (s t u : ByteSet) → IsSetWithin s t → IsSetWithin t u → IsSetWithin s u
 sets_through s t u a b = record { bits = λ x small has. b.bits x small (a.bits x small has); low = omega (arith, a.low, b.low); high = omega (arith, a.high, b.high) }
 
--- what is read of a slot and by the number says no more than a value above it, whichever of the two this is
+-- the meet of a slot and of the value by the number is below a value above either
 meet_under : (kind : Kind) (u v w : AbsByte) → IsTagOf kind v.tag → IsTagWithin v.tag w.tag
     → ((m : ByteSet) → set_meet (set_of u) (set_of v) ≡ Some m → IsSetWithin m (set_of w)) → IsReadLess kind (with_tag v.tag (set_meet (set_of u) (set_of v))) (Some w)
 meet_under kind u v w good tags under x e =
@@ -248,7 +248,7 @@ module _ (device : Device) (may : Bool) (k : NodeKey) (at : IsKey k) (s t : AbsS
       by true = refl
       by false = refl
 
-  -- the lesser reads a slot, and the greater by the number alone
+  -- the lesser reads a slot, and the greater reads by the number alone
   slot_under : (f g : Option ℕ) (v : AbsByte) → IsSameWhere f g → IsTagOf k.inst.kind v.tag → ByteFits v → IsReadLess k.inst.kind (read_both device may k s f v) (Some (read_constant device may k t g))
   slot_under None None v h good fit = read_some k.inst.kind v unknown (below_unknown k.inst.kind v good fit)
   slot_under (Some a) None v h good fit = meet_under k.inst.kind (read_number device may k s a) v unknown good tt (under_any (read_number device may k s a) v)

@@ -1,4 +1,4 @@
--- The table of instructions, row by row: a greater state leads to more.
+-- The instruction table, row by row, is monotone.
 use Rattle.std.proofs.Common.{ℕ, ◌+◌, ◌*◌, ◌<◌, ◌==◌, Bool, true, false, List, [], ◌∷◌, if◌then◌else◌, arith}
 use Rattle.local_rules.specs.Cover.{IsKey}
 use Rattle.avr_model.proofs.AllLaws.{devices_are_alike}
@@ -101,7 +101,7 @@ module _ (device : Device) (words : Program) (A : List Entry) (k : NodeKey) (at 
   binary_less binary.Mov d r low = setting_register device k at s t le d (value s r) (value t r) (reg device k at s t le r)
   binary_less binary.Mul d r low = product_less device k at s t le product.Mul d r
 
-  -- what two registers lead to that are followed, or aren't
+  -- the row of two registers, with pairs or without
   abbrev row_by : Bool → AbsState → BinaryOp → ℕ → ℕ → Raw
   row_by framed u op d r = going_by device k u (if framed then framed_binary u op d r else binary_after u op d r) (skipping device words k k u (byte_equal (bits u d) (bits u r)))
 
@@ -145,7 +145,7 @@ module _ (device : Device) (words : Program) (A : List Entry) (k : NodeKey) (at 
   port_bit : (a b : ℕ) → IsTriWithin (tri_at (read_at device may k s a).bits b) (tri_at (read_at device may k t a).bits b)
   port_bit a b = any_bit_within (read_at device may k s a).bits (read_at device may k t a).bits b (read_less device may k at s t le a).within.bits
 
-  -- what is said of a pointer
+  -- the registers and the pair of a pointer
   pub pair_less_at : (r : ℕ) → r < 32 → IsPairWithin s t r
   pair_less_at r there = record { there = there; low = (reg device k at s t le r).within; high = (reg device k at s t le (r + 1)).within; facts = le.facts.within }
 

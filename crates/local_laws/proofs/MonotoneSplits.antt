@@ -1,4 +1,4 @@
--- A node, whether it follows pairs or not, and whether it splits or not: a greater state leads to more.
+-- A node, with pairs or without, and split or not, is monotone.
 use Rattle.std.proofs.Common.{◌≡◌, refl, sym, subst, ap, ◌∙◌, ℕ, ◌<◌, ◌≤◌, Bool, true, false, List, length, map, Option, Some, None, if◌then◌else◌, Contains, arith, nat_lt, nat_le}
 use Rattle.std.proofs.lemmas.Bool.Decides.{nat_tests}
 use Rattle.basics.specs.Booleans.{all_three}
@@ -43,7 +43,7 @@ use Rattle.local_laws.proofs.PairedMonotone.{paired_less}
 use Rattle.local_laws.proofs.Picks.{below_small, picked_less, splits_at, at_quiet}
 use Rattle.local_laws.proofs.Quiet.{Quiet}
 
--- an instruction of flash has its registers
+-- an instruction of flash names registers
 pub fetched_has : (device : Device) (words : Program) (pc : ℕ) (instr : Instr) → fetched device words pc ≡ Some instr → HasRegisters instr
 fetched_has device words pc instr e = by (nat_lt pc (words_of device)) e
   where
@@ -80,7 +80,7 @@ module _ {followed : Bool} (words : Program) (A : List Entry) (k : NodeKey) (s t
 
 -- ---- a byte that is picked
 
--- where pairs aren't followed nothing else is cut
+-- without pairs nothing else is cut
 pick_plain : (byte : ℕ) (s : AbsState) → s.facts ≡ None → pick_cut byte s ≡ Some (with_index byte s)
 pick_plain byte s e = ap (λ (x : Option PairFacts). cut_known pairs.cut_pair (with_index byte s) 15 x) e
 
@@ -110,14 +110,14 @@ module _ {followed : Bool} (k : NodeKey) (byte : ℕ) (small : byte < 256) (s : 
       (picked_mode u e s.facts refl ∙ a.mode) (picks_are_cut.hulls byte s u (offset_of k.sp) a.formed a.hulls e)
 
 module _ {followed : Bool} (words : Program) (A : List Entry) (k : NodeKey) (s t : AbsState) (a : IsNodeIn followed k s) (b : IsNodeIn followed k t) (within : IsStateWithin s t) where
-  -- what the node leads to with one byte picked
+  -- the row with one byte picked
   abbrev row_picked : AbsState → ℕ → Raw
   row_picked state byte = picked_row (row_in (device_of words) words A) (picking k byte) (pick_cut byte state)
 
   bytes_within : IsStateLess k.inst.kind (offset_of k.sp) s t
   bytes_within = node_less k s t (bare k s a) (bare k t b) within
 
-  -- the byte may be r30's in the greater state too
+  -- a possible byte of r30 is possible in the greater state too
   may_more : (byte : ℕ) → Contains (below 256) byte → may_be (value s 30) byte ≡ true → may_be (value t 30) byte ≡ true
   may_more byte i may =
       let v : AbsByte = value s 30 in
@@ -149,7 +149,7 @@ module _ {followed : Bool} (words : Program) (A : List Entry) (k : NodeKey) (s t
     picked_row_less : (byte : ℕ) → Contains (below 256) byte → LeadsLess k.inst (row_picked s byte) (row_picked t byte)
     picked_row_less byte i = picked_by byte (below_small 256 byte i) (pick_cut byte s) refl
 
-  -- where the greater splits so does the lesser, in no more
+  -- if the greater splits, so does the lesser, and in no more parts
   splitting_less : (jump : Option ℕ) → split_site words A k.pc k.pick ≡ jump
       → LeadsLess k.inst (splitting jump (row_in (device_of words) words A) k s) (splitting jump (row_in (device_of words) words A) k t)
   splitting_less None site = row_in_less words A k s t a b within

@@ -1,4 +1,4 @@
--- What is known in a lesser state and in a greater one, both of nodes that the analysis works with.
+-- Values of a lesser and of a greater state, both of nodes of the analysis.
 use Rattle.std.proofs.Common.{◌≡◌, ◌≢◌, refl, sym, ap, ◌∙◌, subst, subst₂, ℕ, ◌^◌, ◌<◌, ◌≤◌, ◌==◌, ⊎_elim, Bool, true, false, List, Option, Some, None, length, slice_set, if◌then◌else◌, arith, length-set}
 use Rattle.std.specs.Prelude.{⊤}
 use Rattle.std.specs.Int.{bit_at}
@@ -45,13 +45,13 @@ use Rattle.local_laws.proofs.Less.{forgotten_is, forgotten_more}
 
 -- ---- definitions
 
--- the tag names a register, its number fits, and in the root there is none
+-- the tag names a register, its number is in range, and in the root there is none
 pub record IsTagOf (kind : Kind) (t : Tag) : Type 0 where
   pub names : NamesRegister t
   pub fits : TagFits t
   pub none : kind ≡ Root → t ≡ tag.None
 
--- the second value says no more than the first
+-- the second value is above the first
 pub record IsLess (kind : Kind) (v w : AbsByte) : Type 0 where
   pub within : IsByteWithin v w
   pub good : IsTagOf kind v.tag
@@ -83,7 +83,7 @@ pub record AreSlotsLess (kind : Kind) (offset : ℕ) (xs ys : List (Slot AbsByte
   pub others : length ys ≡ offset
   pub each : (d : ℕ) → IsSlotLess kind (slot_at xs d) (slot_at ys d)
 
--- what is known of pairs is less, and fits
+-- the facts on pairs of the first are within those of the second, and fit
 pub record AreFactsLess (x y : Option PairFacts) : Type 0 where
   pub within : IsKnownWithin x y
   pub fits : KnownFits x
@@ -95,18 +95,18 @@ pub record IsStateLess (kind : Kind) (offset : ℕ) (s t : AbsState) : Type 0 wh
   pub slots : AreSlotsLess kind offset s.slots t.slots
   pub facts : AreFactsLess s.facts t.facts
 
--- where the second is there, the first is the same
+-- if the second is given, the first is equal to it
 abbrev pub IsSameWhere : {A : Type 0} → Option A → Option A → Type 0
 IsSameWhere f g = (x : _) → g ≡ Some x → f ≡ Some x
 
--- a function of what is there tells as much
+-- a function of an optional value preserves this order
 pub tells_by : {A B : Type 0} (f : Option A → Option B) → f None ≡ None → (x y : Option A) → IsSameWhere x y → IsSameWhere (f x) (f y)
 tells_by f none x None h b e = cc
 tells_by f none x (Some a) h b e = ap f (h a refl) ∙ e
 
 -- ---- tags
 
--- and so does one of tags
+-- so does a function of tags
 pub tag_tells : {B : Type 0} (f : Tag → Option B) → f tag.None ≡ None → (t u : Tag) → IsTagWithin t u → IsSameWhere (f t) (f u)
 tag_tells f none t tag.None le b e = cc
 tag_tells f none t (tag.Entry r) le b e = ap f le ∙ e
@@ -129,7 +129,7 @@ below_any b = λ x small has. bytes_are_sets.built (λ _. Any) x (λ i lt. tt)
 pub bit_within : (b c : TriByte) (i : ℕ) → i < 8 → IsWithin b c → IsTriWithin (tri_at b i) (tri_at c i)
 bit_within b c i lt le = (bytes_are_sets.within b c).0 le i lt
 
--- there is no bit from 8 on
+-- bits from 8 on are unknown
 bit_past : (b : TriByte) (i : ℕ) → 8 ≤ i → tri_at b i ≡ Any
 bit_past b i over =
     let small : b.known < 2 ^ 8 = omega (arith, b.small) in
@@ -138,7 +138,7 @@ bit_past b i over =
 pub any_bit_within : (b c : TriByte) (i : ℕ) → IsWithin b c → IsTriWithin (tri_at b i) (tri_at c i)
 any_bit_within b c i le = ⊎_elim (λ lt. bit_within b c i lt le) (λ over. subst (IsTriWithin (tri_at b i)) (sym (bit_past c i over)) (λ n p. tt)) (cases_lt i 8)
 
--- a byte that is known is the one that the lesser stands for too
+-- a byte that is known is also the lesser's only member
 known_is : (b c : TriByte) (n : ℕ) → n < 256 → c ≡ byte_known n → IsWithin b c → b ≡ byte_known n
 known_is b c n small e le =
     let one = bytes_are_sets.member b in

@@ -1,4 +1,4 @@
--- What a byte that is written changes: a greater state leads to more.
+-- The effect of a written byte is monotone.
 use Rattle.std.proofs.Common.{◌≡◌, refl, sym, ap, subst, subst₂, ℕ, ◌+◌, ◌<◌, ◌≤◌, ◌==◌, nat_lt, nat_le, ⊎_elim, Bool, true, false, not, List, map, filter, Option, Some, None, if◌then◌else◌, arith, [], ◌∷◌}
 use Rattle.std.proofs.lemmas.Bool.{cases_lt}
 use Rattle.std.proofs.lemmas.Bool.Decides.{nat_tests}
@@ -168,7 +168,7 @@ sreg_less k at s t le is_out x y within =
     (several_less k.inst (offset_of k.sp) (with_i k is_out) s t (choose x false true) (choose y false true) (λ b. choose_more x y false true b within)
     (λ b i. i_place k is_out b at) le)
 
--- of a pair that is written the interval is the hull of its bytes in both
+-- the interval of a written pair becomes the hull of its bytes in both states
 hulled_both : (kind : Kind) (offset a : ℕ) (s t : AbsState) → IsStateLess kind offset s t → IsStateLess kind offset (hulled a s) (hulled a t)
 hulled_both kind offset a s t h = record {
   registers = h.registers;
@@ -225,7 +225,7 @@ reaches_more s t r up a lo hi =
     and_more (has (bits s r) (low (minus16 a up))) (has (bits s (r + 1)) (high (minus16 a up))) (has (bits t r) (low (minus16 a up))) (has (bits t (r + 1)) (high (minus16 a up)))
     (has_more (bits s r) (bits t r) (low (minus16 a up)) lo) (has_more (bits s (r + 1)) (bits t (r + 1)) (high (minus16 a up)) hi)
 
--- a pointer that isn't known to be a slot in the lesser state isn't in the greater
+-- a pointer that isn't known to be an own slot in the lesser state isn't in the greater
 own_more : (f g : Option ℕ) (n : ℕ) → IsSameWhere f g → not (is_own_slot f n) ≡ true → not (is_own_slot g n) ≡ true
 own_more f None n same e = refl
 own_more f (Some d) n same e = subst (λ (x : Option ℕ). not (is_own_slot x n) ≡ true) (same d refl) e
@@ -260,7 +260,7 @@ module _ (device : Device) (k : NodeKey) (at : IsKey k) (s t : AbsState) (le : I
         at = refl;
       }
 
-  -- one more of the greater, or of both
+  -- the greater has one more successor, or both have
   waking_less : (A : List Entry) (b c : Bool) (p q : Raw) → (b ≡ true → c ≡ true) → LeadsLess k.inst p q → LeadsLess k.inst (waking b device A k s p) (waking c device A k t q)
   waking_less A true false p q more rest e = let no : false ≡ true = more refl in absurd (cc)
   waking_less A false false p q more rest e = rest e

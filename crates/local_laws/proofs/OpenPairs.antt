@@ -1,4 +1,4 @@
--- A stack pointer that is half written behind an instruction has the offset that it had before it: a write of SPH opens it where it is.
+-- If the stack pointer is half written after an instruction, its offset is that before it: a write of SPH opens the pair in place.
 use Rattle.std.proofs.Common.{◌≡◌, refl, subst, ℕ, zero, suc, ◌+◌, ◌==◌, nat_lt, nat_le, ⊎_elim, Bool, true, false, List, [], ◌∷◌, length, map, filter, Option, Some, None, if◌then◌else◌, Contains}
 use Rattle.std.specs.Prelude.{⊤}
 use Rattle.std.proofs.lemmas.List.Elements.{Contains-append_cases}
@@ -50,7 +50,7 @@ use Rattle.local_rules.specs.Local.{loading, pointer_moved, row_of, plain_row, r
 use Rattle.local_laws.specs.Laws.{OpenPairsStay}
 use Rattle.local_laws.proofs.Members.{each_of, each_in_map}
 
--- where it is half written, it has this offset
+-- if it is half written, it has this offset
 abbrev StaysAt : ℕ → SpForm → Type 0
 StaysAt n (Closed offset) = ⊤
 StaysAt n (Open offset high) = offset ≡ n
@@ -63,7 +63,7 @@ module _ (n : ℕ) where
   abbrev IsStaying : Node → Type 0
   IsStaying to = StaysAt n to.key.sp
 
-  -- of all that is led to
+  -- for all successors
   abbrev AllStay : Raw → Type 0
   AllStay r = (to : Node) → Contains r.moves to → IsStaying to
 

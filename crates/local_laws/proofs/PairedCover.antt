@@ -1,4 +1,4 @@
--- Where pairs are followed each row covers the machine's step too.
+-- With pairs each row covers the machine's step too.
 use Rattle.std.proofs.Common.{◌≡◌, refl, sym, subst, subst₂, ap, ℕ, Bool, true, false, List, [], ◌∷◌, Option, Some, if◌then◌else◌, Contains, ⊎_elim}
 use Rattle.std.proofs.lemmas.List.Elements.{Contains-append_left, Contains-append_right}
 use Rattle.basics.specs.Items.{none_in, first_in, first_or_further}
@@ -189,7 +189,7 @@ left_frame m o k s t at left stands =
     }
 
 module _ {may : Bool} (m : State) (o : Origin) (k : NodeKey) (s : AbsState) (at : InBareFrame may m o k s) (guarded : Bool) (b1 b2 : ℕ) where
-  -- a test has two ways on, each with what it leaves of the state
+  -- a test has two outcomes, each with its cut state
   pub two_ways : (test : Bool) (hit miss : Option AbsState) (taken taken' other other' : ℕ) → wrapped m.device taken ≡ taken' → wrapped m.device other ≡ other'
       → (t : AbsState) → (if test then hit else miss) ≡ Some t → IsLeftOf s t (offset_of k.sp) → StandsFor o t m
       → Follows may m o k guarded b1 b2 (going_to m (if test then taken else other)) (all_of (going_where k miss other' ∷ going_where k hit taken' ∷ []))

@@ -1,4 +1,4 @@
--- Where pairs are followed in both, a greater state leads to more.
+-- Rows are monotone if both states follow pairs.
 use Rattle.std.proofs.Common.{◌≡◌, refl, sym, subst, subst₂, ℕ, ◌+◌, ◌<◌, Bool, true, false, List, [], ◌∷◌, Option, Some, None, if◌then◌else◌, Contains, ⊎_elim, nat_lt, ltb-true}
 use Rattle.std.proofs.lemmas.List.Elements.{Contains-append_cases}
 use Rattle.basics.specs.Items.{none_in, first_in, further_in}
@@ -55,7 +55,7 @@ use Rattle.local_laws.proofs.Quiet.{Quiet, pointer_quiet}
 
 -- ---- refined nodes
 
--- what a refined node comes of
+-- the plain node of a refined one
 pub record IsOf (words : Program) (instr : Instr) (s : AbsState) (nodes : List Node) (x : Node) : Type 0 where
   pub to : Node
   pub member : Contains nodes to
@@ -95,7 +95,7 @@ refined_bare words instr n s k t u has formed h e =
 
 -- ---- where something may be left
 
--- of more there is more left
+-- the refined lesser state is below the refined greater one, if anything is left
 abbrev pub IsLeftLess : NodeKey → Option AbsState → Option AbsState → Type 0
 IsLeftLess k x y = (u : AbsState) → x ≡ Some u → IsBare k u × ((v : AbsState) × ((y ≡ Some v) × IsStateWithin u v))
 
@@ -163,7 +163,7 @@ module _ (device : Device) (words : Program) (A : List Entry) (k : NodeKey) (s t
   same_less : IsStateLess k.inst.kind (offset_of k.sp) t t
   same_less = node_less k t t high high (states_are_ordered.same t)
 
-  -- what the greater leads to are nodes too
+  -- the successors of the greater are nodes too
   plain_nodes : (scratch : Bool) (instr : Instr) → InstrFits instr → Less (plain_row device words A scratch k t instr) (plain_row device words A scratch k t instr)
   plain_nodes scratch instr fits =
       row_less device words A k at (before instr t) (before instr t) (forgetting_both k.inst.kind (offset_of k.sp) (written instr) (sets_flags instr) (sets_carry instr) t t same_less) scratch instr fits

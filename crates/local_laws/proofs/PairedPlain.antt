@@ -1,5 +1,5 @@
--- What the plain rows leave is what the laws of refined states ask for: its facts are those that aren't ended, and its values are above
--- those that are told.
+-- The states after plain rows meet the premises of the laws of refined states: their facts are those that aren't ended, and their values
+-- are above the refined ones.
 use Rattle.std.proofs.Common.{◌≡◌, refl, sym, subst, ap, ◌∙◌, ℕ, ◌<◌, Bool, true, false, not, List, [], length, Option, Some, None, if◌then◌else◌, slice_set, length-set, eq-eqb, Contains, arith}
 use Rattle.basics.specs.Items.{none_in}
 use Rattle.avr_model.specs.declared.device.Device.{Device}

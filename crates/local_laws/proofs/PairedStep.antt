@@ -1,4 +1,4 @@
--- Where pairs are followed the row of each instruction covers the machine's step.
+-- With pairs the row of each instruction covers the machine's step.
 use Rattle.std.proofs.Common.{◌≡◌, refl, sym, subst, ap, ap₂, ◌∙◌, ℕ, ◌+◌, ◌<◌, ◌==◌, Bool, true, false, not, List, [], ◌∷◌, ◌++◌, Option, Some, None, if◌then◌else◌, nat_lt, ltb-true}
 use Rattle.std.specs.Prelude.{⊤}
 use Rattle.avr_model.specs.Assumptions.{has_masks}
@@ -100,7 +100,7 @@ module _ (words : Program) (s : AbsState) (f : PairFacts) where
   pub stored_same : (instr : Instr) → IsStored instr → s.facts ≡ Some f → (r : Raw) → refining words instr s r ≡ r
   stored_same instr is e r = ap (λ (nodes : List Node). record r { moves = nodes }) (nodes_same instr is e r.moves)
 
--- a pointer moves as it does in the state in which nothing is ended
+-- ending facts does not change how a pointer moves
 pub same_moved : (p : Pointer) (instr : Instr) (s : AbsState) → pointer_moved p (before instr s) ≡ pointer_moved p s
 same_moved pointer.ZPlus instr s = refl
 same_moved pointer.MinusZ instr s = refl

@@ -1,4 +1,4 @@
--- What stands permits the number that a pair of registers holds.
+-- A state that holds permits the number in a register pair.
 use Rattle.std.proofs.Common.{◌≡◌, refl, sym, ◌∙◌, ap, subst, ℕ, ◌+◌, ◌*◌, ◌/◌, ◌<◌, Bool, true, nat_le, List, slice_index, Option, Some, None, arith}
 use Rattle.std.proofs.lemmas.Bool.{and_from}
 use Rattle.std.proofs.lemmas.Bool.Decides.{nat_tests}
@@ -34,7 +34,7 @@ may_stand o v x stands =
     let high : nat_le x v.high ≡ true = grind (arith, nat_tests, stands.high) in
     all_three _ _ _ ((tests_tell_members.bytes v.bits x).1 stands.bits) low high
 
--- what a byte may be its bits permit
+-- the bits permit each possible byte
 pub has_where_may : (v : AbsByte) (x : ℕ) → may_be v x ≡ true → has v.bits x ≡ true
 has_where_may v x h = left_of_and _ _ (left_of_and _ _ h)
 
@@ -65,7 +65,7 @@ pointer_pair pointer.MinusX = (omega arith, refl)
 back_to : (w up : ℕ) → w < 65536 → w ≡ minus16 (plus16 w up) up
 back_to w up lt = omega arith
 
--- what is known of pairs holds of their numbers
+-- the facts on pairs hold of their numbers
 in_interval : (facts : Option PairFacts) (registers : List ℕ) (sreg r : ℕ) → IsPairAt r → HoldsAt facts registers sreg
     → is_in_interval facts r (slice_index registers r + 256 * slice_index registers (r + 1)) ≡ true
 in_interval None registers sreg r is holds = refl
@@ -87,6 +87,6 @@ module _ {may : Bool} (m : State) (o : Origin) (k : NodeKey) (s : AbsState) (at 
   pub pair_permitted : (r : ℕ) → IsPairAt r → permits_number s r (pair m r) ≡ true
   pair_permitted r is = and_from _ _ (bytes_permitted r) (in_interval s.facts m.registers m.sreg r is at.facts)
 
-  -- taken back from the address
+  -- the number, computed back from the address
   pub number_permitted : (r up : ℕ) → IsPairAt r → permits_number s r (minus16 (plus16 (pair m r) up) up) ≡ true
   number_permitted r up is = ap (permits_number s r) (sym (back_to (pair m r) up (pair_small m o k s at r))) ∙ pair_permitted r is

@@ -1,5 +1,5 @@
--- Where a node splits: its instruction neither calls nor returns, the byte that r30 has is among the picks, and what the node leads to with
--- that byte picked covers the step.
+-- A node that splits: its instruction neither calls nor returns, r30's byte is among the picks, and the row with that byte picked covers
+-- the step.
 use Rattle.std.proofs.Common.{◌≡◌, refl, sym, subst, ℕ, zero, suc, ◌+◌, ◌<◌, ⊎_elim, Bool, true, false, ◌&&◌, nat_lt, nat_le, if◌then◌else◌, not, List, [], ◌∷◌, map, Option, Some, None, Contains, arith}
 use Rattle.std.proofs.lemmas.Bool.{cases_lt}
 use Rattle.std.proofs.lemmas.Bool.Decides.{nat_tests}
@@ -57,7 +57,7 @@ site_adds words a jump e = by (is_some_that adds_low (instruction_at words a)) (
     by true high e = refl
     by false high e = absurd (cc)
 
--- it lies in flash, and its instruction adds to r30
+-- the node lies in flash, and its instruction adds to r30
 pub splits_at : (words : Program) (A : List Entry) (pc : ℕ) (pick : Option ℕ) (jump : ℕ) → split_site words A pc pick ≡ Some jump
     → (nat_lt pc (words_of (device_of words)) ≡ true) × (is_some_that adds_low (fetched (device_of words) words pc) ≡ true)
 splits_at words A pc (Some byte) jump e = absurd (cc)
@@ -119,12 +119,12 @@ module _ (device : Device) (words : Program) (A : List Entry) (scratch : Bool) (
   adds_quiet s i.Break e = absurd (cc)
   adds_quiet s i.Wdr e = absurd (cc)
 
-  -- so where pairs are followed
+  -- this holds with pairs
   adds_paired : (s : AbsState) (x : Instr) → adds_low x ≡ true → Quiet (paired_row device words A scratch k s x)
   adds_paired s (i.Immediate op d n) e = (refl, refl)
   adds_paired s x e = absurd (cc)
 
-  -- what adds to r30 neither calls nor returns
+  -- an instruction that adds to r30 neither calls nor returns
   pub at_quiet : (s : AbsState) (x : Option Instr) → is_some_that adds_low x ≡ true → Quiet (row_at device words A scratch k s x)
   at_quiet s None e = absurd (cc)
   at_quiet s (Some x) e = by s.facts
@@ -168,7 +168,7 @@ picked_less kind offset byte s t le =
 -- ---- the machine is at one of them
 
 module _ {may : Bool} (m : State) (o : Origin) (k : NodeKey) (s : AbsState) (at : InBareFrame may m o k s) where
-  -- the byte that r30 has
+  -- r30's byte
   abbrev pub byte : ℕ
   byte = register m 30
 
@@ -222,13 +222,13 @@ module _ {may : Bool} (m : State) (o : Origin) (k : NodeKey) (guarded : Bool) (e
       (λ rest. by_rest m o None k guarded e (f y) (map f ys) (reached_in f ys x rest reached))
       (first_or_further y x ys h)
 
-  -- where nothing is called or left, what follows is reached
+  -- without call or return the successors are reached
   reached_by : (byte b1 b2 : ℕ) (r : Raw) → Quiet r → Follows may m o (picking k byte) guarded b1 b2 e r → ReachesNode may m o None k guarded e r
   reached_by byte b1 b2 r quiet (stays to present inst lands) = record { to = to; present = present; inst = inst; at_node = record { lands = λ held. lands } }
   reached_by byte b1 b2 r quiet (calls offset site present closed is made) = absurd (none_in site (subst (λ xs. Contains xs site) quiet.0 present))
   reached_by byte b1 b2 r quiet (leaves x is kind closed return) = absurd (let e = sym quiet.1 in let no = is in cc)
 
--- what one that is picked covers, all cover
+-- what one part covers, all parts cover
 pub all_covered : (words : Program) (A : List Entry) (m : State) (o : Origin) (k : NodeKey) (b1 b2 : ℕ) (f : ℕ → Raw) (xs : List ℕ) (x : ℕ) → Contains xs x → Quiet (f x)
     → (instr : Option Instr) → CoversStep words A m o (picking k x) b1 b2 instr (f x) → CoversStep words A m o k b1 b2 instr (all_of (map f xs))
 all_covered words A m o k b1 b2 f xs x h quiet None covered = λ clean. covered (faultless_in f xs x h clean)

@@ -1,4 +1,4 @@
--- What the plain rows leave where they store nothing and cut nothing: of what is known of pairs all, and each register that isn't written.
+-- Plain rows without stores and cuts keep all facts on pairs that aren't ended, and each register that isn't written.
 use Rattle.std.proofs.Common.{◌≡◌, ◌≢◌, refl, sym, ◌∙◌, ℕ, suc, zero, ◌+◌, ◌*◌, ◌==◌, Bool, true, false, List, [], ◌∷◌, Option, Some, None, if◌then◌else◌, slice_set, nat_le, eq-eqb, Contains}
 use Rattle.std.specs.Prelude.{⊤}
 use Rattle.std.proofs.lemmas.Bool.{or_parts}
@@ -49,7 +49,7 @@ use Rattle.local_laws.proofs.MonotoneValues.{set_other}
 
 -- ---- registers
 
--- those that aren't among these are as they were
+-- registers outside this list stay
 abbrev pub KeepOthers : List ℕ → List AbsByte → List AbsByte → Type 0
 KeepOthers written old new = (r : ℕ) → is_one_of written r ≡ false → value_at new r ≡ value_at old r
 
@@ -67,7 +67,7 @@ two_set vs d e v w r h =
     let parts = or_parts (d == r) (is_one_of (e ∷ []) r) h in
     one_set (slice_set vs d v) e w r parts.1 ∙ set_other vs d r v (apart d r parts.0)
 
--- one more
+-- one more register
 more_set : (rs : List ℕ) (vs ws : List AbsByte) (d : ℕ) (v : AbsByte) → KeepOthers rs vs ws → KeepOthers (d ∷ rs) vs (slice_set ws d v)
 more_set rs vs ws d v h r e =
     let parts = or_parts (d == r) (is_one_of rs r) e in
@@ -89,7 +89,7 @@ pub record AreOthersKept (written : List ℕ) (s t : AbsState) : Type 0 where
   pub others : KeepOthers written s.registers t.registers
 
 module _ (rs : List ℕ) (s : AbsState) where
-  -- what is computed, where something is
+  -- the computed result, if there is one
   abbrev pub ComputedKeeps : Option Computed → Type 0
   ComputedKeeps None = ⊤
   ComputedKeeps (Some c) = KeepOthers rs s.registers c.registers

@@ -1,4 +1,4 @@
--- Pointers: what is read through them, and what they are after they move.
+-- Pointers: reads through them, and their values after they move.
 use Rattle.std.proofs.Common.{◌≡◌, refl, sym, ◌∙◌, ap, subst, ℕ, ◌+◌, ◌-◌, ◌*◌, ◌<◌, Bool, true, false, if◌then◌else◌, nat_lt, nat_le, length, Option, Some, None, arith}
 use Rattle.avr_model.specs.declared.instruction.Pointer.{Pointer}
 use Rattle.avr_model.specs.declared.instruction.Pointer.TheVariants as pointer
@@ -35,7 +35,7 @@ use Rattle.local_laws.proofs.Frame.{register_stands, set_two}
 use Rattle.local_laws.proofs.Memory.{inside_if_live}
 use Rattle.local_laws.proofs.ReadValues.{untagged_stands, range_stands, read_small, inside_numbers, live_read, slot_at_stands, read_stands}
 
--- the value stands for the byte; there is one
+-- the value exists and holds of the byte
 abbrev pub IsRead : Origin → Option AbsByte → ℕ → Type 0
 IsRead o None x = ⊥
 IsRead o (Some v) x = ByteStands o v x
@@ -90,14 +90,14 @@ module _ {may : Bool} (m : State) (o : Origin) (k : NodeKey) (s : AbsState) (at 
         high = subst (TagHolds o (value s (r + 1)).tag) (high_is r) (register_stands m o k s at (r + 1)).tag;
       }
 
-  -- the pair's number, where all its bits are known
+  -- the pair's number, if all its bits are known
   pub pair_constant_is : (r c : ℕ) → pair_constant s r ≡ Some c → pair m r ≡ c
   pair_constant_is r c e =
       word_is (byte_constant (bits s r)) (byte_constant (bits s (r + 1))) (register m r) (register m (r + 1)) c
       (λ b is. constant_is (bits s r) (register m r) b is (register_byte m o k s at r) (register_stands m o k s at r).bits)
       (λ b is. constant_is (bits s (r + 1)) (register m (r + 1)) b is (register_byte m o k s at (r + 1)) (register_stands m o k s at (r + 1)).bits) e
 
-  -- the address, where it is a number, and where it is base - d
+  -- the address, as a number and as base - d
   pub number_is : (r up a : ℕ) → (pointed s r up).constant ≡ Some a → plus16 (pair m r) up ≡ a
   number_is r up a e = raised_is (pair_constant s r) (pair m r) up a (pair_constant_is r) e
 
@@ -152,7 +152,7 @@ module _ {may : Bool} (m : State) (o : Origin) (k : NodeKey) (s : AbsState) (at 
         one_of (nat_lt d (length s.slots)) (read_both m.device may k s c (value_of (slot_at s.slots d))) (Some (read_constant m.device may k s c))
         (both_stand c (value_of (slot_at s.slots d)) is (slot_read_stands d (here d refl))) (constant_stands c is)
 
-  -- what a read through a pointer gives stands for what is read there
+  -- the value of a read through a pointer holds of the byte there
   pub pointed_stands : (r up input : ℕ) → input < 256 → IsRead o (read_pointed m.device may k s (pointed s r up)) (read m (plus16 (pair m r) up) input)
   pointed_stands r up input small =
       frame_stands (plus16 (pair m r) up) input small (pointed s r up).constant (pointed s r up).frame (number_is r up) (frame_is r up)
@@ -181,7 +181,7 @@ module _ {may : Bool} (m : State) (o : Origin) (k : NodeKey) (s : AbsState) (at 
   down_stands r =
       subst (λ w. RegistersStand o (pair_moved s r false 1) (with_registers m.registers (set_pair r w))) (wide_down (pair m r)) (moved_by r false (down_one (pair m r)))
 
-  -- the registers with the pointer as it is after the instruction
+  -- the registers with the pointer as after the instruction
   pub pointer_stands : (p : Pointer) → RegistersStand o (pointer_moved p s) (with_registers m.registers (moved p (pair m (pointer_register p))))
   pointer_stands pointer.ZPlus = up_stands 30
   pointer_stands pointer.MinusZ = down_stands 30

@@ -1,4 +1,4 @@
--- A byte that is stored through a pointer: what the rows say covers what the machine does.
+-- A byte stored through a pointer: the rows cover the machine's step.
 use Rattle.std.proofs.Common.{◌≡◌, refl, sym, ◌∙◌, ap, subst, ℕ, ◌+◌, ◌<◌, ◌≤◌, ltb-true, Bool, true, false, not, ◌&&◌, ◌||◌, nat_lt, nat_le, if◌then◌else◌, ◌==◌, List, [], ◌∷◌, length, map, Option, Some, None, arith, eqb-true}
 use Rattle.std.proofs.lemmas.Bool.{or_parts, and_from, and_parts}
 use Rattle.std.proofs.lemmas.Bool.Decides.{nat_tests}
@@ -80,7 +80,7 @@ is_listed true true is none = refl
 is_listed true false is none = absurd (cc)
 is_listed false listed is none = absurd (cc)
 
--- the site is admitted by the line
+-- the line `masks` admits the site
 admitting : (A : List Entry) (site : ℕ) → admits_enables A site ≡ true → has_masks A ≡ true
 unfolding admits_enables
 admitting A site h = (and_parts (has_masks A) (is_unlisted_site (store_line A site)) h).0
@@ -124,7 +124,7 @@ module _ {may : Bool} (m : State) (o : Origin) (known : Option PairFacts) (k : N
       absurd (cc)
   by_item f p a x kept listed false false unmet other found can h rest clean = rest found clean
 
-  -- a listed address that can be met
+  -- a listed address that is possible
   by_listed : (f : ℕ → Raw) (p : ℕ → Bool) (a : ℕ) (xs : List ℕ) → lists xs a ≡ true → p a ≡ true → ((f a).faults ≡ [] → ReachesNode may m o known k guarded e (f a))
       → (all_of (map f (filter p xs))).faults ≡ [] → ReachesNode may m o known k guarded e (all_of (map f (filter p xs)))
   by_listed f p a [] listed can h clean = absurd (cc)
@@ -153,7 +153,7 @@ module _ {may : Bool} (m : State) (o : Origin) (k : NodeKey) (s : AbsState) (at 
   fixed_written a None is clean = absurd (cc)
   fixed_written a (Some x) is clean = subst (λ b. ReachesNode may m o told k guarded (effect b) (fixed_write m.device (Some x) k.pc key state v)) (sym (is x refl)) (known_written x clean)
 
-  -- at an address that none of these rows is about
+  -- an address outside these ranges
   elsewhere_written : (a masks : ℕ) → is_core a ≡ false → EnablesAre may (written_enables m.enables a byte) masks
       → ArrivesWhere may m o told guarded (effect a) (record { key = record key { masks = masks }; state = state })
   elsewhere_written a masks free enables =
@@ -186,14 +186,14 @@ module _ {may : Bool} (m : State) (o : Origin) (k : NodeKey) (s : AbsState) (at 
         let both = and_parts (may_be (value was r) (low (minus16 a up))) (may_be (value was (r + 1)) (high (minus16 a up))) bytes in
         and_from _ _ (has_where_may (value was r) (low (minus16 a up)) both.0) (has_where_may (value was (r + 1)) (high (minus16 a up)) both.1)
 
-    -- the successors at the listed addresses that can be met
+    -- the successors of the possible listed addresses
     abbrev listed_ones : List Raw
     listed_ones = map (λ b. written_at m.device k.pc key state false b v) (filter (λ b. reaches was r up b) (store_line A k.pc))
 
     abbrev listed : Raw
     listed = listed_writes m.device k.pc key state (filter (λ b. reaches was r up b) (store_line A k.pc)) v
 
-    -- the successor in which vectors may be woken
+    -- the successor in which vectors may be enabled
     abbrev woken : Node
     woken = record { key = record key { masks = widened m.device A k.masks }; state = state }
 
@@ -274,7 +274,7 @@ module _ {may : Bool} (m : State) (o : Origin) (k : NodeKey) (s : AbsState) (at 
     unfixed_by false is unflagged clean =
         still waken (listed_by (is_protected a) refl (second_flag (admits_enables A k.pc) _ _ unflagged is) (listed_clean waken clean))
 
-    -- a byte that is stored through a pointer, where the store isn't flagged
+    -- a byte stored through a pointer, if the store isn't flagged
     pub pointer_written : (is_fixed_site words A k.pc ≡ false → flagged_write (device_of words) A k.pc (set a byte) ≡ None)
         → (pointer_write m.device words A was r up (pointed s r up) k.pc key state v).faults ≡ []
         → Reaches (pointer_write m.device words A was r up (pointed s r up) k.pc key state v)

@@ -30,7 +30,7 @@ use Rattle.local_laws.specs.Laws.{LeadsToWords, AscendByEntry}
 abbrev pub Quiet : Raw → Type 0
 Quiet r = (r.calls ≡ []) × (r.exit ≡ None)
 
--- what the law says of one node
+-- the law for one node
 pub record IsFit (device : Device) (A : List Entry) (k : NodeKey) (r : Raw) : Type 0 where
   pub words : LeadsToWords device k r
   pub ascending : AreEntries A → AscendByEntry r.calls

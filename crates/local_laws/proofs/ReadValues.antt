@@ -1,4 +1,4 @@
--- What is known of a byte that is read stands for the byte that the machine reads.
+-- The value of a read byte holds of the byte that the machine reads.
 use Rattle.std.proofs.Common.{◌≡◌, refl, sym, ◌∙◌, ap, subst, ℕ, ◌+◌, ◌-◌, ◌%◌, ◌<◌, ◌≤◌, ⊎_elim, Bool, true, false, if◌then◌else◌, ◌==◌, nat_le, length, Option, Some, None, arith, leb-true}
 use Rattle.std.proofs.lemmas.Bool.{cases_lt}
 use Rattle.std.proofs.lemmas.Bool.Decides.{nat_tests}
@@ -104,14 +104,14 @@ flag_permits sreg n on e =
 
 -- ---- I/O
 
--- what is told of each enable bit of an address permits what it is
+-- the value of each enable bit of an address permits the bit
 abbrev pub IoReads : Bool → ℕ → ℕ → ℕ → Type 0
 IoReads may enables masks a = (b v : ℕ) → enable_of a b ≡ Some v → Permits (enable_read may (bit_at masks (v - 2))) (bit_at enables (v - 2))
 
 pub io_reads : (may : Bool) (enables masks a : ℕ) → EnablesAre may enables masks → IoReads may enables masks a
 io_reads may enables masks a h = λ b v e. bit_permits may enables masks (v - 2) (omega (arith, enables_are_vectors.vector a b v e)) h
 
--- where there are none nothing is told
+-- at other addresses nothing is claimed
 pub no_reads : (may : Bool) (enables masks a : ℕ) → has_enables a ≡ false → IoReads may enables masks a
 no_reads may enables masks a none = λ b v e. absurd (let no = sym (held_at a b v e).0 ∙ none in cc)
 
@@ -133,7 +133,7 @@ io_has may enables masks a input h =
 pub inside_numbers : (device : Device) (a : ℕ) → is_sram device a ≡ true → (BELOW < a) × (a ≤ ramend device)
 inside_numbers device a h = (grind (arith, nat_tests), grind (arith, nat_tests))
 
--- what a test chooses on both sides
+-- a test that chooses on both sides
 by_test : (o : Origin) (b : Bool) (v w : AbsByte) (x y : ℕ) → ByteStands o v x → ByteStands o w y → ByteStands o (if b then v else w) (if b then x else y)
 by_test o true v w x y h g = h
 by_test o false v w x y h g = g
@@ -186,7 +186,7 @@ module _ {may : Bool} (m : State) (o : Origin) (k : NodeKey) (s : AbsState) (at 
   slot_stands a x Free small is h = any_stands o x small
   slot_stands a x (Guarded v) small is h = subst (ByteStands o v) (sym (is h.0)) h.1
 
-  -- the slot at base - d, where there is one
+  -- the slot at base - d, if there is one
   pub slot_at_stands : (d x : ℕ) → x < 256 → (is_live m.memory (o.base - d) ≡ true → x ≡ sram_at m (o.base - d)) → ByteStands o (value_of (slot_at s.slots d)) x
   slot_at_stands d x small is =
       ⊎_elim
@@ -214,7 +214,7 @@ module _ {may : Bool} (m : State) (o : Origin) (k : NodeKey) (s : AbsState) (at 
   kind_slot Call a input lt root = any_stands o (if is_sram m.device a then sram_at m a else input) (slot_small a input lt)
   kind_slot (Vector v) a input lt root = any_stands o (if is_sram m.device a then sram_at m a else input) (slot_small a input lt)
 
-  -- what a read of a known address gives, where what it tells of enable bits permits them
+  -- the value of a known address, if its enable bits are permitted
   pub read_stands_by : (told : Bool) (a input : ℕ) → input < 256 → IoReads told m.enables k.masks a → ByteStands o (read_at m.device told k s a) (read m a input)
   unfolding read read_at
   read_stands_by told a input lt h =
@@ -224,6 +224,6 @@ module _ {may : Bool} (m : State) (o : Origin) (k : NodeKey) (s : AbsState) (at 
       (by_test o (a == SREG) _ _ _ _ sreg_stands
       (by_test o (nat_le a BELOW) _ _ _ _ (io_stands told a input h) (kind_slot k.inst.kind a input lt at.root)))))
 
-  -- what a read of a known address gives
+  -- the value of a known address
   pub read_stands : (a input : ℕ) → input < 256 → ByteStands o (read_at m.device may k s a) (read m a input)
   read_stands a input lt = read_stands_by may a input lt (io_reads may m.enables k.masks a at.place.enables)

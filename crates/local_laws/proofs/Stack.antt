@@ -1,4 +1,4 @@
--- Bytes that are pushed and popped, and calls of a compiler's small frame.
+-- Pushed and popped bytes, and calls of a compiler's small frame.
 use Rattle.std.proofs.Common.{◌≡◌, refl, sym, ap, ◌∙◌, subst, ℕ, zero, suc, ◌+◌, ◌-◌, ◌<◌, ◌≤◌, ◌==◌, ◌&&◌, Bool, true, false, not, nat_lt, nat_le, if◌then◌else◌, [], ◌∷◌, ◌++◌, take, length, arith, length-take, ap₂}
 use Rattle.std.proofs.lemmas.Bool.Decides.{nat_tests}
 use Rattle.std.proofs.lemmas.List.{append_assoc}
@@ -65,7 +65,7 @@ live_read : (m : State) (a input : ℕ) → length m.memory.live ≡ size_of m.d
 unfolding read
 live_read m a input count live = in_sram m.device a _ _ _ _ _ (sram_at m a) input (inside_if_live m.device m.memory.live a count live)
 
--- what is known of a slot's byte
+-- the value of a slot holds of its byte
 slot_read : (m : State) (o : Origin) (a input : ℕ) (slot : Slot AbsByte) → length m.memory.live ≡ size_of m.device → read m a input < 256 → SlotStands o m.memory a slot
     → ByteStands o (value_of slot) (read m a input)
 slot_read m o a input Free count small h = any_stands o (read m a input) small
@@ -78,7 +78,7 @@ module _ {may : Bool} (m : State) (o : Origin) (k : NodeKey) (s : AbsState) (at 
   count : (offset : ℕ) → k.sp ≡ Closed offset → length s.slots ≡ offset
   count offset form = at.node.formed.count_slots ∙ ap offset_of form
 
-  -- the slots of the frame while what is live from its last one on is kept
+  -- the slots of the frame while live bytes from its last one on are kept
   kept_below : (offset floor : ℕ) (new : Memory) → k.sp ≡ Closed offset → floor + offset ≤ o.base → Keeps m.memory new floor → SlotsStand o new s.slots
   kept_below offset floor new form le keeps = slots_follow.kept o m.memory new floor s.slots keeps (omega (arith, count offset form)) at.stands.slots
 

@@ -1,4 +1,4 @@
--- The local part in the words of a step.
+-- The local part in terms of a step.
 use Rattle.std.proofs.Common.{◌≡◌, ◌≢◌, refl, sym, ap₂, subst, ℕ, ◌<◌, ◌||◌, Bool, true, false, not, if◌then◌else◌, List, [], ◌∷◌, ◌++◌, Option, Some, None, Ok, Contains}
 use Rattle.local_laws.proofs.Stays.{done_is}
 use Rattle.avr_model.specs.Assumptions.{has_masks}
@@ -29,7 +29,7 @@ use Rattle.local_laws.proofs.Memory.{live_bytes_stay}
 
 -- ---- a local part that is there
 
--- what a raw part without faults settles to
+-- the joined part of a raw part without faults
 abbrev pub joined : Raw → Local
 joined r = record { same = joined_onto [] r.moves; calls = r.calls; exit = r.exit }
 
@@ -43,7 +43,7 @@ local_is words A k s l e = settled_is (raw words A k s) (raw words A k s).faults
 
 -- ---- a step that is done
 
--- no flag stands, and the state is the one after the effect
+-- there is no flag, and the state is the one after the effect
 flags_none : (pc : ℕ) (live protected listed : Option ℕ) (m n : State) → flagged_or (flag_by pc live protected listed) m ≡ Done n
     → (live ≡ None) × ((protected ≡ None) × ((listed ≡ None) × (m ≡ n)))
 flags_none pc (Some a) protected listed m n e = absurd (cc)
@@ -51,7 +51,7 @@ flags_none pc None (Some a) listed m n e = absurd (cc)
 flags_none pc None None (Some t) m n e = absurd (cc)
 flags_none pc None None None m n e = (refl, (refl, (refl, done_is m n e)))
 
--- it isn't an overflow
+-- the step does not overflow
 passes : (test : Bool) (a : Answer) (pc : ℕ) (n : State) → (if test then a else Overflow pc) ≡ Done n → (test ≡ true) × (a ≡ Done n)
 passes true a pc n e = (refl, e)
 passes false a pc n e = absurd (cc)
@@ -79,7 +79,7 @@ module _ {followed : Bool} (words : Program) (A : List Entry) (m : State) (o : O
     are_nodes : AreNodesIn followed (raw words A k s).moves
     are_nodes to member = (nodes.nodes words A k s to at.node none member).1
 
-    -- a raw successor lies below a joined one, which the machine is at too
+    -- a raw successor is below a joined one, and the machine is there too
     lands_joined : (guarded : Bool) (e : Effect) (to : Node) → Contains (raw words A k s).moves to → to.key.inst ≡ k.inst → ArrivesAt (has_masks A) m o guarded e to
         → live_write m.memory (e.stores ++ e.pushes) ≡ None → all_inside m.device e.pushes ≡ true → IsStep (has_masks A) m o k b1 b2 (joined (raw words A k s)) (after m guarded e)
     lands_joined guarded e to member inst lands unhit inside =

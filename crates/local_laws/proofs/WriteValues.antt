@@ -1,4 +1,4 @@
--- A byte that is written to a known address: what the rows say covers what the machine does.
+-- A byte written to a known address: the rows cover the machine's step.
 use Rattle.std.proofs.Common.{◌≡◌, refl, sym, ◌∙◌, ap, ap₂, subst, ℕ, ◌+◌, ◌-◌, ◌*◌, ◌^◌, ◌<◌, ◌≤◌, Bool, true, false, not, ◌&&◌, nat_lt, nat_le, if◌then◌else◌, ◌==◌, List, [], ◌∷◌, length, Option, Some, None, slice_set, slice_index, arith, Contains, eqb-true, eq-eqb, ltb-true, ne_eqb, find, ◌≢◌, subst₂}
 use Rattle.std.proofs.lemmas.Bool.{or_parts}
 use Rattle.std.proofs.lemmas.Grind.{elements}
@@ -82,7 +82,7 @@ pub record ReachesNode (may : Bool) (m : State) (o : Origin) (x : Option PairFac
 
 -- ---- enable bits
 
--- a number of n bits is that of its bits
+-- a number of n bits is determined by its bits
 by_bits : (n x : ℕ) (f : ℕ → ℕ) → x < 2 ^ n → ((j : ℕ) → j < n → bit_at x j ≡ f j) → number_of n f ≡ x
 by_bits n x f h same =
     let bits : AreBits n f = λ j lt. subst (λ (b : ℕ). b < 2) (same j lt) (bit_at-lt x j) in
@@ -187,7 +187,7 @@ module _ {may : Bool} (m : State) (o : Origin) (k : NodeKey) (s : AbsState) (at 
   chosen e true r q h g clean = h refl clean
   chosen e false r q h g clean = g refl clean
 
-  -- no byte of the stack pointer and not the status register
+  -- an address outside the stack pointer and the status register
   pub elsewhere : (a byte masks : ℕ) (values : List AbsByte) (c : CarryTag) (x : Option PairFacts) → IsCarryWithin s.flags.carry c → (a == SPL) ≡ false → (a == SPH) ≡ false → (a == SREG) ≡ false
       → EnablesAre may (written_enables m.enables a byte) masks
       → RegistersStand o values (registers_after (with_registers m.registers writes) (set a byte))
@@ -206,7 +206,7 @@ module _ {may : Bool} (m : State) (o : Origin) (k : NodeKey) (s : AbsState) (at 
       values_stand (subst (FlagsStand o (record s.flags { carry = c })) (sym sreg) flags)
       (subst (λ (x : ℕ). LessHolds (registers_after (with_registers m.registers writes) (set a byte)) c (flag x 0)) (sym sreg) still) known
 
-  -- no register either
+  -- an address outside the registers as well
   pub changes_none : (a byte : ℕ) → nat_lt a 0x20 ≡ false → RegistersStand o registers (registers_after (with_registers m.registers writes) (set a byte))
   changes_none a byte beyond = subst (RegistersStand o registers) (sym (not_chosen (nat_lt a 0x20) (slice_set (with_registers m.registers writes) a byte) (with_registers m.registers writes) beyond)) stand
 
@@ -221,7 +221,7 @@ module _ {may : Bool} (m : State) (o : Origin) (k : NodeKey) (s : AbsState) (at 
       subst₂ (HoldsAt told) (sym (not_chosen (nat_lt a 0x20) (slice_set (with_registers m.registers writes) a byte) (with_registers m.registers writes) beyond))
       (sym (not_chosen (a == SREG) byte m.sreg not_sreg)) held
 
-  -- one of the splits, where the enable bits are as it says
+  -- one of the splits, for these enable bits
   split_lands : (a byte left : ℕ) (v : AbsByte) → nat_lt a 0x20 ≡ false → (a == SPL) ≡ false → (a == SPH) ≡ false → (a == SREG) ≡ false
       → Contains (splits k.masks a v.bits) left → EnablesAre may (written_enables m.enables a byte) left
       → ReachesNode may m o told k guarded (stored m pc writes is_out a byte) (masks_written key state a v)
@@ -234,7 +234,7 @@ module _ {may : Bool} (m : State) (o : Origin) (k : NodeKey) (s : AbsState) (at 
             (changes_none a byte beyond) (less_still a byte beyond) (facts_still a byte beyond not_sreg);
       }
 
-  -- a byte at the address of enable bits, of which a split is told
+  -- a byte at an address of enable bits, with one of its splits
   pub split_written : (a byte left : ℕ) (v : AbsByte) → IsIo a → Contains (splits k.masks a v.bits) left → EnablesAre may (written_enables m.enables a byte) left
       → ReachesNode may m o told k guarded (stored m pc writes is_out a byte) (written_at m.device k.pc key state is_out a v)
   split_written a byte left v io present enables =
@@ -391,7 +391,7 @@ module _ {may : Bool} (m : State) (o : Origin) (k : NodeKey) (s : AbsState) (at 
         → ReachesNode may m o told k guarded (stored m pc writes is_out a byte) r
     at_address a b r e h = subst (λ x. ReachesNode may m o told k guarded (stored m pc writes is_out x byte) r) (sym (eqb-true a b e)) h
 
-    -- a byte that is written to a known address
+    -- a byte written to a known address
     pub written : AreSplitsWritten → (a : ℕ) → (written_at m.device k.pc key state is_out a v).faults ≡ []
         → ReachesNode may m o told k guarded (stored m pc writes is_out a byte) (written_at m.device k.pc key state is_out a v)
     unfolding written_at

@@ -1,4 +1,4 @@
--- Vectors that may come, one after the other.
+-- Vectors that may come, one by one.
 use Rattle.std.proofs.Common.{◌≡◌, sym, ℕ, ◌<◌, ◌≤◌, Bool, true, false, not, ◌&&◌, ◌⊎◌, ⊎_elim, List, arith}
 use Rattle.std.proofs.lemmas.Bool.Decides.{nat_tests}
 use Rattle.avr_model.proofs.AllLaws.{none_below, some_below}

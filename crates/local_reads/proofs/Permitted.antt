@@ -21,7 +21,7 @@ use Rattle.bit_domain.specs.Numbers.{pointer_bit, IsPermitted}
 use Rattle.local_rules.specs.Flow.{words_on}
 use Rattle.bit_domain.proofs.AllLaws.{bytes_are_their_bits, tests_tell_members, numbers_are_permitted, bit_at-byte}
 
--- tests that are met by the same facts are the same
+-- tests that imply each other are equal
 same_test : (a b : Bool) → (a ≡ true → b ≡ true) → (b ≡ true → a ≡ true) → a ≡ b
 same_test true b to from = sym (to refl)
 same_test false true to from = from refl
@@ -29,7 +29,7 @@ same_test false false to from = refl
 
 -- ---- bytes
 
--- a byte's members are those that the test tells
+-- a byte's members are those that the test accepts
 pub has_is : (t : TriByte) (x : ℕ) (result : Bool) → (IsTrue result → Has t x) → (Has t x → IsTrue result) → result ≡ has t x
 has_is t x result to from =
     same_test result (has t x) (λ e. (tests_tell_members.bytes t x).1 (to e)) (λ e. from ((tests_tell_members.bytes t x).0 e))
@@ -57,7 +57,7 @@ high_bit x i =
 
 -- ---- words of so many bits
 
--- this is the high byte with all bits open that a word address hasn't
+-- the high byte with all bits beyond a word address unknown
 abbrev pub IsHighOpen : TriByte → ℕ → TriByte → Type 0
 IsHighOpen hi width high = (i : ℕ) → i < 8 → tri_at high i ≡ (if nat_lt (i + 8) width then tri_at hi i else Any)
 
@@ -71,7 +71,7 @@ open_above hi high width i is lt above =
     let test : nat_lt (i + 8) width ≡ false = grind (arith, nat_tests) in
     is i lt ∙ ap (λ (b : Bool). if b then tri_at hi i else Any) test
 
--- as long as the bits from `from` on are as they were
+-- the bits from `from` on are unchanged so far
 abbrev pub IsOpenTo : TriByte → ℕ → ℕ → TriByte → Type 0
 IsOpenTo hi width from high = (i : ℕ) → i < 8 → tri_at high i ≡ (if nat_lt (i + 8) width || nat_le from i then tri_at hi i else Any)
 
@@ -106,7 +106,7 @@ low_of_permitted lo hi width x least h i lt =
     (subst (λ (t : Tri). Permits t (bit_at x i)) (sym here) (h.bits i (omega (arith, lt, least))))
 
 module _ (lo hi high : TriByte) (width : ℕ) (least : 8 ≤ width) (most : width ≤ 16) (is : IsHighOpen hi width high) where
-  -- a word of so many bits is permitted where its bytes are
+  -- a word of this many bits is permitted if its bytes are
   permitted : (x : ℕ) → x < 2 ^ width → Has lo (x % 256) → Has high (x / 256) → IsPermitted (pointer_bit lo hi) width x
   permitted x small low top = record {
     small = small;

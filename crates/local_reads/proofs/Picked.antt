@@ -1,4 +1,4 @@
--- Which of the numbers below another pass a test.
+-- The numbers below another that pass a test.
 use Rattle.std.proofs.Common.{◌≡◌, refl, ap, ◌∙◌, ℕ, ◌+◌, List, [], ◌∷◌, ◌++◌, Bool, true, false, cond, filter, suc, arith}
 use Rattle.std.proofs.lemmas.List.{append-nil}
 use Rattle.local_rules.specs.Local.{below}

@@ -1,4 +1,4 @@
--- Vectors that a store through a pointer may enable, one after the other.
+-- Vectors that a store through a pointer may enable, one by one.
 use Rattle.std.proofs.Common.{◌≡◌, ℕ, ◌-◌, ◌+◌, ◌<◌, ◌≤◌, ◌&&◌, not, arith, Bool, List}
 use Rattle.avr_model.specs.declared.device.Device.{Device}
 use Rattle.avr_model.specs.declared.assumption.Entry.{Entry}

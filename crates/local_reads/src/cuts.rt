@@ -1,4 +1,4 @@
-//! What a branch on C leaves of the registers: the range of the one that C speaks of is cut.
+//! The registers after a branch on C: the range of the register in the carry tag is cut.
 
 ghost use Rattle.std.specs.Prelude.{◌≡◌};
 ghost use Rattle.local_rules.specs.Flow.{part_of};
@@ -7,7 +7,7 @@ ghost use Rattle.local_reads.specs.Cuts.{register_cut, registers_where};
 use abs_state::{AbsByte, AbsState};
 use sp_domain::CarryTag;
 
-// What is left of a value that is below a number where `below`, else of one that isn't.
+// The value cut to bytes below a number if `below`, else to bytes from it on. None if nothing is left.
 fn part_of(below: bool, value: AbsByte, number: u8) -> Option<AbsByte>
     ensures { result ≡ part_of below value number }
 {
@@ -29,7 +29,7 @@ fn part_of(below: bool, value: AbsByte, number: u8) -> Option<AbsByte>
     None
 }
 
-// The registers with one cut; there is no register from 32 on.
+// The registers with one cut; an `r` from 32 on cuts none.
 fn cut(registers: &[AbsByte; 32], r: usize, below: bool, number: u8) -> Option<[AbsByte; 32]>
     ensures { result ≡ register_cut registers.now r below number }
 {
@@ -46,7 +46,7 @@ fn cut(registers: &[AbsByte; 32], r: usize, below: bool, number: u8) -> Option<[
     Some(after)
 }
 
-/// The registers where C has this value; none where it can't have it.
+/// The registers if C has this value; none if that is impossible.
 pub fn registers_where(state: &AbsState, carry: bool) -> Option<[AbsByte; 32]>
     ensures { result ≡ registers_where state.now.flags.carry state.now.registers carry }
 {

@@ -1,4 +1,4 @@
-//! Words that jumps, branches and skips go to, and the conditions that decide.
+//! Targets of jumps, branches and skips, and their conditions.
 
 ghost use Rattle.std.specs.Prelude.{◌≡◌, ◌<◌, ◌+◌, ℕ, nat_lt, if◌then◌else◌};
 ghost use Rattle.avr_model.specs.Assumptions.{lists};
@@ -24,7 +24,7 @@ use vector_table::enable_of;
 // The data address of I/O address 0.
 const IO_START: u16 = 0x20;
 
-/// The word so many words further, modulo the number of words.
+/// The word this many words further on, modulo the number of words.
 #[tactic(auto, using(avr_model::proofs::AllLaws::devices_are_alike))]
 pub fn further(device: Device, key: &NodeKey, words: u16) -> u16
     ensures { result ≡ raw.further device key.now words }
@@ -39,7 +39,7 @@ pub fn port(address: Six) -> u16
     address.get() + IO_START
 }
 
-/// A bit of an I/O address, which `sbic` and `sbis` test. The key says what is enabled, or what may be (`may`).
+/// A bit of an I/O address, which `sbic` and `sbis` test. `may` says whether the key has what may be enabled.
 pub fn port_bit(
     device: Device,
     may: bool,
@@ -55,7 +55,7 @@ pub fn port_bit(
         .bit(bit.get() as u8)
 }
 
-/// The key where this bit of an I/O address reads 0: without the vector that it enables, where the key says what may be enabled (`may`).
+/// The key after this bit of an I/O address reads 0. If `may`, the key has what may be enabled, and the bit's vector is removed.
 pub fn reading_zero(may: bool, key: &NodeKey, address: LowPort, bit: Bit) -> NodeKey
     ensures { result ≡ reading_zero may key.now (effects.port address) bit }
 {
@@ -73,7 +73,7 @@ pub fn register_bit(state: &AbsState, r: Register, bit: Bit) -> Tri
     bits(state, r).bit(bit.get() as u8)
 }
 
-// The high byte with all bits open that a word address hasn't.
+// The high byte with all bits beyond a word address unknown.
 fn high_byte(device: Device, hi: TriByte) -> TriByte
     ensures { (i : ℕ) → i < 8 → tri_at result i ≡ (if nat_lt (i + 8) (width device) then tri_at hi i else Any) }
 {
@@ -84,7 +84,7 @@ fn high_byte(device: Device, hi: TriByte) -> TriByte
     byte
 }
 
-/// Whether an indirect transfer may lead to this word.
+/// Whether an indirect transfer may go to this word.
 pub fn is_target(device: Device, state: &AbsState, word: u16) -> bool
     ensures { result ≡ lists (words_on device (registers.bits state.now 30) (registers.bits state.now 31)) word }
 {

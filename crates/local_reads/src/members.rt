@@ -1,4 +1,4 @@
-//! The bytes that a value permits, and the numbers that a pair of registers does.
+//! The bytes that a value permits, and the numbers that a register pair does.
 
 ghost use Rattle.std.specs.Prelude.{◌≡◌};
 ghost use Rattle.local_rules.specs.Permitted as permitted;
@@ -9,7 +9,7 @@ use avr_model::instruction::LowRegister;
 use local_rows::registers::pair;
 use pair_told::told::interval_of;
 
-/// Whether the value may be this byte: its bits permit it, and it lies in the range.
+/// Whether the byte is possible: the bits permit it, and it lies in the range.
 pub fn may_be(value: AbsByte, byte: u8) -> bool
     ensures { result ≡ permitted.may_be value byte }
 {
@@ -24,7 +24,7 @@ pub fn permits_bytes(state: &AbsState, r: LowRegister, number: u16) -> bool
     may_be(low, (number % 256) as u8) && may_be(high, (number / 256) as u8)
 }
 
-/// Whether registers `r` and `r + 1` may hold this number, by bits and ranges, and where pairs are followed also by their interval.
+/// Whether registers `r` and `r + 1` may hold this number, by bits and ranges, and if pairs are followed also by their interval.
 pub fn permits_number(state: &AbsState, r: LowRegister, number: u16) -> bool
     ensures { result ≡ permitted.permits_number state.now r number }
 {

@@ -11,7 +11,7 @@ use local_rows::registers::value;
 use local_rules::local::NodeFault;
 use std::alloc::Global;
 
-/// The bytes that r30 may hold, ascending.
+/// The possible bytes of r30, ascending. Fails if memory runs out.
 pub fn picks(alloc: Global, state: &AbsState) -> Result<Vec<u8>, NodeFault>
     ensures ok { IfOk result (λ v. v.items ≡ picks state.now) }
     ensures err { IfErr result (λ e. e ≡ Memory) }

@@ -18,7 +18,7 @@ use local_rules::Pointed;
 use mask_states::NodeKey;
 use sp_domain::{Tag, frame};
 
-/// What is added to a pointer for the address, modulo 65,536: `-P` takes one off.
+/// The change of a pointer before the access, modulo 65,536: `-P` subtracts one.
 pub fn step_before(pointer: Pointer) -> u16
     ensures { result ≡ rows.step_before pointer }
 {
@@ -28,7 +28,7 @@ pub fn step_before(pointer: Pointer) -> u16
     }
 }
 
-/// The number that registers `r` and `r + 1` hold, where all their bits are known.
+/// The number in registers `r` and `r + 1`, if all their bits are known.
 pub fn pair_constant(state: &AbsState, r: LowRegister) -> Option<u16>
     ensures { result ≡ reads.pair_constant state.now r }
 {
@@ -39,7 +39,7 @@ pub fn pair_constant(state: &AbsState, r: LowRegister) -> Option<u16>
     }
 }
 
-/// The address that registers `r` and `r + 1` plus a number give, modulo 65,536.
+/// The address by registers `r` and `r + 1` plus a number, modulo 65,536.
 pub fn point(state: &AbsState, r: LowRegister, up: u16) -> Pointed
     ensures { result ≡ reads.pointed state.now r up }
 {
@@ -55,7 +55,7 @@ pub fn point(state: &AbsState, r: LowRegister, up: u16) -> Pointed
     Pointed { constant, frame }
 }
 
-// What is read at a number: of a register or I/O the bits alone, and of a slot its range too, without a tag.
+// The value at a known address, without a tag: the bits of a register or of I/O, and bits and range of a slot.
 fn read_number(device: Device, may: bool, key: &NodeKey, state: &AbsState, address: u16) -> AbsByte
     ensures { result ≡ read_number device may key.now state.now address }
 {
@@ -70,8 +70,8 @@ fn read_number(device: Device, may: bool, key: &NodeKey, state: &AbsState, addre
     }
 }
 
-/// What a read through a pointer gives: None where it can't be. A slot that isn't there is read by the number alone. The key says what is
-/// enabled, or what may be (`may`).
+/// The value of a read through a pointer. None if it is impossible. A missing slot is read by the number alone. `may` says whether the
+/// key has what may be enabled.
 pub fn read_pointed(
     device: Device,
     may: bool,
@@ -115,14 +115,14 @@ pub fn flash_value(flash: &Flash, z: Option<u16>) -> AbsByte
     }
 }
 
-/// Whether the bits are those of some value that this byte is.
+/// Whether the byte is a member of these bits.
 pub fn has(bits: TriByte, byte: u8) -> bool
     ensures { result ≡ bytes.has bits byte }
 {
     bits.has(byte)
 }
 
-/// Whether some value of registers `r` and `r + 1` that their bits permit, plus a number, is the address.
+/// Whether registers `r` and `r + 1` plus a number may be the address, by their bits.
 pub fn reaches(state: &AbsState, r: LowRegister, up: u16, address: u16) -> bool
     ensures { result ≡ writes.reaches state.now r up address }
 {

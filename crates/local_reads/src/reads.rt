@@ -1,4 +1,4 @@
-//! What is known of a byte that is read from data space at a known address.
+//! The value of a byte read from data space at a known address.
 
 ghost use Rattle.std.specs.Prelude.{◌≡◌};
 ghost use Rattle.std.specs.Int.{from_bool};
@@ -18,7 +18,7 @@ use mask_states::{Kind, NodeKey};
 use sp_domain::Slot;
 use vector_table::{Masks, enable_of};
 
-// An enable bit is the key's. Where the key says what may be enabled (`may`), it is 0 or unknown.
+// An enable bit by the key. If `may`, the key has what may be enabled, and the bit is 0 or unknown.
 fn enable_read(may: bool, on: bool) -> Tri
     ensures { result ≡ enable_read may (from_bool on) }
 {
@@ -28,7 +28,7 @@ fn enable_read(may: bool, on: bool) -> Tri
     if on { Tri::Any } else { Tri::Zero }
 }
 
-// One bit of an I/O address: an enable bit comes from the key, and no other one is known.
+// One bit of an I/O address: an enable bit comes from the key, other bits are unknown.
 fn io_tri(may: bool, masks: Masks, address: u16, bit: u8) -> Tri
     ensures { result ≡ io_tri may (enable_of address bit) masks }
 {
@@ -49,7 +49,7 @@ pub(crate) fn io_bits(may: bool, masks: Masks, address: u16) -> TriByte
     bits
 }
 
-/// What is known of the byte in slot `d`: nothing where there is no such slot.
+/// The value of slot `d`; unknown if there is no such slot.
 pub fn slot_value(state: &AbsState, d: u16) -> AbsByte
     ensures { result ≡ value_of (slot_at state.now.slots d) }
 {
@@ -60,7 +60,7 @@ pub fn slot_value(state: &AbsState, d: u16) -> AbsByte
     }
 }
 
-// The byte above I/O: a slot of the root's frame, whose base is known; elsewhere nothing is known.
+// The value of a byte above I/O: a slot of the root's frame, whose base is known; unknown in other frames.
 fn slot_read(device: Device, kind: Kind, state: &AbsState, address: u16) -> AbsByte
     ensures { result ≡ slot_read device kind state.now address }
 {
@@ -71,7 +71,7 @@ fn slot_read(device: Device, kind: Kind, state: &AbsState, address: u16) -> AbsB
     }
 }
 
-/// What a read of a data address gives, at a node whose key says what is enabled, or what may be (`may`).
+/// The value of a data address. `may` says whether the key has what may be enabled.
 #[tactic(auto, unfolding(local_rules::specs::Reads::read_at))]
 pub fn read_at(device: Device, may: bool, key: &NodeKey, state: &AbsState, address: u16) -> AbsByte
     ensures { result ≡ read_at device may key.now state.now address }

@@ -19,13 +19,13 @@ use vector_table::{Assumptions, is_barred, row};
 pub struct PointerByte<'a> {
     /// The device.
     pub device: Device,
-    /// What is assumed of the firmware.
+    /// The assumptions.
     pub assumptions: &'a Assumptions,
-    /// What is known before the store.
+    /// The state before the store.
     pub state: &'a AbsState,
     /// The first register of the pointer.
     pub r: LowRegister,
-    /// What is added to the pointer for the address, modulo 65,536.
+    /// The displacement, added modulo 65,536.
     pub up: u16,
     /// The bits of the byte.
     pub bits: TriByte,

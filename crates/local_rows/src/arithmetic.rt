@@ -1,5 +1,5 @@
-//! Arithmetic and logic: sums, differences, products and operations on the bits of two bytes. Where a result has a tag, a rule
-//! here says so; all others have none. Source: own; bits and flags are those of `abs_alu`.
+//! Arithmetic and logic: sums, differences, products and bit operations on two bytes. A result has a tag only if a rule here says so.
+//! Source: own; bits and flags are those of `abs_alu`.
 
 ghost use Rattle.std.specs.Prelude.{◌≡◌, slice_set};
 ghost use Rattle.sp_domain.specs.declared.tags.CarryTag.TheVariants.{None};
@@ -15,17 +15,17 @@ use bit_domain::{Tri, TriByte};
 use local_rules::Computed;
 use sp_domain::{CarryTag, Tag, move_pair, sub_high, sub_low};
 
-// No tag of a result, and none of the carry.
+// No tags of result and carry.
 pub(crate) const UNTAGGED: (Tag, CarryTag) = (Tag::None, CarryTag::None);
 
-/// What is known of the carry flag.
+/// The carry flag.
 pub fn carry_bit(state: &AbsState) -> Tri
     ensures { result ≡ carry_bit state.now }
 {
     state.flags.bits.bit(CARRY)
 }
 
-// Register `d` plus a byte and a carry, with the tag of the result and that of the carry.
+// Register `d` plus a byte and a carry, with the tags of result and carry.
 pub(crate) fn sum_tagged(
     state: &AbsState,
     d: Register,
@@ -43,22 +43,22 @@ pub(crate) fn sum_tagged(
     }
 }
 
-// What a difference takes over from that of the byte below.
+// The inputs of a difference from that of the byte below.
 #[derive(Clone, Copy)]
 pub(crate) struct BorrowIn {
     // The borrow.
     pub bit: Tri,
-    // Whether Z is set only where it was.
+    // Whether Z keeps its value for a result of 0.
     pub keep_zero: bool,
 }
 
-// Without one, the borrow is 0, and Z doesn't depend on what it was.
+// No borrow from below: it is 0, and Z depends on the result alone.
 pub(crate) const NO_BORROW: BorrowIn = BorrowIn {
     bit: Tri::Zero,
     keep_zero: false,
 };
 
-// A comparison: a difference that sets the flags alone, with what C says afterwards.
+// A comparison: a difference that sets only the flags and the carry tag.
 pub(crate) fn compare(
     state: &AbsState,
     operands: (TriByte, TriByte),
@@ -75,7 +75,7 @@ pub(crate) fn compare(
     }
 }
 
-// What C says after register `d` was compared with a number: whether it is below.
+// The carry tag after register `d` was compared with a number: the register is below it.
 pub(crate) fn less_than(d: Register, number: Option<u8>) -> CarryTag
     ensures { result ≡ less_than d number }
 {
@@ -85,7 +85,7 @@ pub(crate) fn less_than(d: Register, number: Option<u8>) -> CarryTag
     }
 }
 
-// What C says of a register is kept where two equal numbers and the borrow are compared.
+// The carry tag of a register is kept if two equal numbers are compared with a borrow.
 pub(crate) fn less_kept(a: Option<u8>, b: Option<u8>, carry: CarryTag) -> CarryTag
     ensures { result ≡ less_kept a b carry }
 {
@@ -95,7 +95,7 @@ pub(crate) fn less_kept(a: Option<u8>, b: Option<u8>, carry: CarryTag) -> CarryT
     }
 }
 
-// A difference that goes to register `d`, with the tag of the result and that of the borrow.
+// A difference that goes to register `d`, with the tags of result and borrow.
 pub(crate) fn difference(
     state: &AbsState,
     d: Register,
@@ -114,7 +114,7 @@ pub(crate) fn difference(
     }
 }
 
-// The tags of a low byte less a number, where it is known, and of the borrow.
+// The tags of a low byte less a number, if it is known, and of the borrow.
 pub(crate) fn low_tags(tag: Tag, number: Option<u8>) -> (Tag, CarryTag)
     ensures tag { result.0 ≡ low_tag tag number }
     ensures borrow { result.1 ≡ borrow_tag tag number }
@@ -125,7 +125,7 @@ pub(crate) fn low_tags(tag: Tag, number: Option<u8>) -> (Tag, CarryTag)
     }
 }
 
-// Register `d`, of which `a` is known, less a byte, which may be a known number.
+// Register `d`, with bits `a`, less a byte, which may be a known number.
 pub(crate) fn sub(
     state: &AbsState,
     d: Register,
@@ -155,14 +155,14 @@ pub(crate) fn sbc(state: &AbsState, d: Register, b: TriByte, number: Option<u8>)
     difference(state, d, (value.bits, b), borrow, (tag, CarryTag::None))
 }
 
-// A register's bits where another one is subtracted from it, or is its exclusive or: 0 where both are the same register.
+// The bits of a register in a difference or exclusive or with another: 0 if both are the same register.
 pub(crate) fn or_nothing(d: Register, r: Register, bits: TriByte) -> TriByte
     ensures { result ≡ or_nothing d r bits }
 {
     if d == r { TriByte::of(0) } else { bits }
 }
 
-// AND, OR or EOR of two bytes, which goes to register `d`; of a register with itself, which changes no bit, the value stays.
+// AND, OR or EOR of two bytes, which goes to register `d`. AND and OR of a register with itself keep the value.
 pub(crate) fn logic(
     state: &AbsState,
     op: Logic,
@@ -185,7 +185,7 @@ pub(crate) fn logic(
     }
 }
 
-// Register `d` plus 1 where `up`, else less 1, with the tag of the result.
+// Register `d` plus 1 if `up`, else less 1, with the tag of the result.
 pub(crate) fn step_tagged(state: &AbsState, up: bool, d: Register, tag: Tag) -> Computed
     ensures { result ≡ step_tagged state.now up d tag }
 {
@@ -196,7 +196,7 @@ pub(crate) fn step_tagged(state: &AbsState, up: bool, d: Register, tag: Tag) -> 
     }
 }
 
-// Register `d` gets a byte without a tag, and C of these flags says nothing.
+// Register `d` gets a byte without a tag, and the carry tag ends.
 pub(crate) fn byte_set(state: &AbsState, d: Register, after: (TriByte, TriByte)) -> Computed
     ensures { result ≡ both_set (slice_set state.now.registers d (untagged after.0)) (with_carry after.1 None) }
 {
@@ -219,7 +219,7 @@ pub(crate) fn product(state: &AbsState, op: Mul, d: Register, r: Register) -> Co
     }
 }
 
-// `adiw` of registers `d` and `d + 1` where `up`, else `sbiw`.
+// `adiw` of registers `d` and `d + 1` if `up`, else `sbiw`.
 pub(crate) fn wide(state: &AbsState, up: bool, d: LowRegister, number: u8) -> Computed
     ensures { result ≡ wide_after state.now up d number }
 {

@@ -1,5 +1,5 @@
-//! What an instruction computes at a site with a `frame` line: as without it, with tags that follow a compiler's moves of the frame
-//! pointer byte by byte. Source: own.
+//! Results of instructions at a site with a `frame` line: as without it, with tags that follow a compiler's moves of the frame pointer
+//! byte by byte. Source: own.
 
 ghost use Rattle.std.specs.Prelude.{◌≡◌};
 ghost use Rattle.local_rules.specs.FrameLines.{is_frame_pointer, tag_followed, number_added, framed_add, framed_adc, framed_sub, framed_step};
@@ -14,14 +14,14 @@ use bit_domain::{Tri, TriByte};
 use local_rules::Computed;
 use sp_domain::{CarryTag, Tag, add_byte, add_high, move_high, sub_byte};
 
-// Whether the register is one of the frame pointer, by the convention of compilers.
+// Whether the register belongs to the frame pointer, by the convention of compilers.
 fn is_frame_pointer(r: Register) -> bool
     ensures { result ≡ is_frame_pointer r }
 {
     r.get() == 28 || r.get() == 29
 }
 
-// The tag of the register that is followed, and the number of the other, where it is known.
+// The tag of the followed register, and the number of the other, if it is known.
 fn followed(state: &AbsState, d: Register, r: Register) -> (Tag, Option<u8>)
     ensures tag { result.0 ≡ tag_followed state.now d r }
     ensures number { result.1 ≡ number_added state.now d r }
@@ -72,7 +72,7 @@ pub(crate) fn framed_sub(state: &AbsState, d: Register, b: TriByte, number: Opti
     difference(state, d, (value.bits, b), NO_BORROW, (tag, borrow))
 }
 
-// Register `d` plus 1 where `up`, else less 1.
+// Register `d` plus 1 if `up`, else less 1.
 pub(crate) fn framed_step(state: &AbsState, up: bool, d: Register) -> Computed
     ensures { result ≡ framed_step state.now up d }
 {

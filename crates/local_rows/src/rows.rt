@@ -1,4 +1,4 @@
-//! The rows that set registers and flags alone.
+//! Rows that only set registers and flags.
 
 ghost use Rattle.std.specs.Prelude.{◌≡◌, ℕ, List, Bool};
 ghost use Rattle.avr_model.specs.declared.device.Device.{Device};
@@ -26,7 +26,7 @@ use bit_domain::{Tri, TriByte};
 use local_rules::Computed;
 use sp_domain::Tag;
 
-// What is done to a register and a byte, where `line` says whether the site has a `frame` line.
+// The result of an instruction of a register and a byte; `line` says whether the site has a `frame` line.
 fn immediate(state: &AbsState, line: bool, op: ImmediateOp, d: Register, number: u8) -> Computed
     ensures { result ≡ immediate_at line state.now op d number }
 {
@@ -43,7 +43,7 @@ fn immediate(state: &AbsState, line: bool, op: ImmediateOp, d: Register, number:
     }
 }
 
-// What is done to one register, where `line` says whether the site has a `frame` line.
+// The result of an instruction of one register; `line` says whether the site has a `frame` line.
 fn unary(state: &AbsState, line: bool, op: UnaryOp, d: Register) -> Computed
     ensures { result ≡ unary_at line state.now op d }
 {
@@ -62,13 +62,13 @@ fn unary(state: &AbsState, line: bool, op: UnaryOp, d: Register) -> Computed
     }
 }
 
-// What is done to two registers: None of `cpse`, which skips.
+// The result of an instruction of two registers. None for `cpse`, which skips.
 fn binary(state: &AbsState, op: BinaryOp, d: Register, r: Register) -> Option<Computed>
     ensures { result ≡ binary_after state.now op d r }
 {
     let (a, b) = (bits(state, d), bits(state, r));
     let carry = carry_bit(state);
-    // A register less itself, or its exclusive or with itself, is 0, whatever it holds.
+    // A register less itself, or exclusive or with itself, is 0, whatever it holds.
     let (from, other) = (or_nothing(d, r, a), or_nothing(d, r, b));
     match op {
         BinaryOp::Cpc => {
@@ -96,7 +96,7 @@ fn binary(state: &AbsState, op: BinaryOp, d: Register, r: Register) -> Option<Co
     }
 }
 
-/// What is done to two registers, where `line` says whether the site has a `frame` line: None of `cpse`, which skips.
+/// The result of an instruction of two registers; `line` says whether the site has a `frame` line. None for `cpse`, which skips.
 pub fn binary_at(
     state: &AbsState,
     line: bool,
@@ -120,8 +120,8 @@ pub fn binary_at(
     }
 }
 
-/// What an instruction computes that sets registers and flags alone, where `line` says whether the site has a `frame` line: None of
-/// every other one, and of loads.
+/// The result of an instruction that only sets registers and flags; `line` says whether the site has a `frame` line. None for other
+/// instructions, and for loads.
 pub fn computed_by(state: &AbsState, line: bool, instr: &Instr) -> Option<Computed>
     ensures value { result ≡ sections.computed_by line state.now instr.now }
     ensures row { (device : Device) (words : List ℕ) (A : List Entry) (scratch : Bool) (k : NodeKey) → line ≡ is_frame A k.pc → row_of device words A scratch k state.now instr.now ≡ going_by device k state.now result (other_row device words A scratch k state.now instr.now) }

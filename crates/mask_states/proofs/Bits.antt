@@ -1,4 +1,4 @@
--- Numbers with one bit more.
+-- Numbers with one more bit.
 use Rattle.std.proofs.Common.{◌≡◌, ◌∙◌, sym, ap, inl, inr, ℕ, suc, ◌+◌, ◌-◌, ◌*◌, ◌^◌, ◌%◌, ◌/◌, ◌<◌, ◌≤◌, arith, true, cond, eqb, eq-eqb, ne_eqb, bit_or}
 use Rattle.std.specs.Int.{bit_at}
 use Rattle.std.proofs.lemmas.Bool.{cases_eq}
@@ -8,7 +8,7 @@ use Rattle.std.proofs.Math.Numerals.{one-add}
 use Rattle.avr_model.specs.Vectors.{with_enable}
 use Rattle.vector_table.proofs.AllLaws.{numbers_are_their_bits}
 
--- a bit that isn't there is added by turning it on
+-- setting a bit that is clear adds its weight
 pub enabled_is_sum : (x k : ℕ) → x < 2 ^ 25 → k < 25 → bit_at x k ≡ 0 → with_enable x (k + 2) true ≡ 2 ^ k + x
 enabled_is_sum x k small lt none =
     let sum : bit_or x (2 ^ k) ≡ 2 ^ k + x = or_disjoint x (2 ^ k) (and_pow x k ∙ ap (λ (b : ℕ). b * 2 ^ k) none ∙ omega arith) ∙ omega arith in

@@ -1,4 +1,4 @@
--- The order of keys, as the code computes it: field by field.
+-- The order of keys as the code computes it, field by field.
 use Rattle.std.proofs.Common.{◌≡◌, ◌∙◌, sym, ap, refl, ℕ, Bool, true, false, List, [], ◌∷◌, ◌++◌, length, length-append, arith, Less, Equal, Greater}
 use Rattle.std.specs.Int.{from_bool}
 use Rattle.std.specs.Prelude.{Option, Some, None}
@@ -29,7 +29,7 @@ then_equal Less = refl
 then_equal Equal = refl
 then_equal Greater = refl
 
--- lists of one length decide before what follows them
+-- lists of one length are compared before what follows them
 pub cmp_append : (xs ys us vs : List ℕ) → length xs ≡ length ys
     → numbers_cmp (xs ++ us) (ys ++ vs) ≡ ordering_then (numbers_cmp xs ys) (numbers_cmp us vs)
 cmp_append [] [] us vs e = refl
@@ -107,7 +107,7 @@ inst_chained a b k e m i ek ee em ei =
 abbrev pub rest : NodeKey → List ℕ
 rest a = a.pc ∷ a.masks ∷ from_bool a.i ∷ from_bool a.delay ∷ (form_numbers a.sp ++ pick_numbers a.pick)
 
--- a node goes by its instance first
+-- nodes are compared by instance first
 pub node_by_inst : (a b : NodeKey) → node_cmp a b ≡ ordering_then (inst_cmp a.inst b.inst) (numbers_cmp (rest a) (rest b))
 unfolding inst_cmp node_cmp node_numbers
 node_by_inst a b = cmp_append (inst_numbers a.inst) (inst_numbers b.inst) (rest a) (rest b) (inst_length a.inst ∙ sym (inst_length b.inst))

@@ -1,4 +1,4 @@
--- At most four enable bits stand at one address.
+-- At most four enable bits are at one address.
 use Rattle.std.proofs.Common.{◌≡◌, ap, refl, inl, inr, ◌⊎◌, ℕ, zero, suc, ◌+◌, ◌^◌, ◌≤◌, arith, Bool, true, false, cond, eqb, List, [], ◌∷◌, map, length, reverse, Option, Some, None, nat_le, ne_eqb}
 use Rattle.std.specs.Int.{from_bool, bit_at}
 use Rattle.std.specs.List.{list_all}
@@ -14,7 +14,7 @@ use Rattle.bit_domain.specs.Numbers.{one_if_any, count_unknown}
 use Rattle.bit_domain.proofs.AllLaws.{numbers_are_permitted}
 use Rattle.mask_states.specs.Splits.{enable_in, enable_tri, splits}
 
--- how many of the vectors 2 to n + 1 have their enable bit at an address
+-- the number of vectors from 2 to n + 1 whose enable bit is at an address
 abbrev one_at : Option Vector → ℕ → ℕ
 one_at None address = 0
 one_at (Some r) address = from_bool (eqb r.address address)

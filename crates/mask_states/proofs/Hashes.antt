@@ -1,4 +1,4 @@
--- Equal keys are fed to a hasher alike.
+-- Equal keys feed a hasher alike.
 use Rattle.std.proofs.Common.{◌≡◌, ap}
 use Rattle.std.specs.Prelude.{IsTrue}
 use Rattle.mask_states.specs.declared.keys.InstKey.{InstKey}

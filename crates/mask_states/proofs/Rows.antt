@@ -34,7 +34,7 @@ found_test q (x ∷ rs) r e = elim (cases_Bool (q x)) [
 abbrev pub at_place : ℕ → ℕ → Vector → Bool
 at_place address bit r = (eqb r.address address) && (eqb r.bit bit)
 
--- the row at the place where a vector's enable bit stands is the vector's
+-- the row at the place of a vector's enable bit is that vector's
 abbrev numbered : Option Vector → ℕ → Bool
 numbered None number = false
 numbered (Some r) number = eqb r.number number

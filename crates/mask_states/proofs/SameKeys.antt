@@ -1,4 +1,4 @@
--- Keys with the same numbers are the same.
+-- Keys with equal numbers are equal.
 use Rattle.std.proofs.Common.{◌≡◌, ◌∙◌, sym, ap, refl, ℕ, Bool, true, false, List, [], ◌∷◌, ◌++◌, arith, IsTrue, Less, Equal, Greater}
 use Rattle.std.specs.Prelude.{◌↔◌, ◌⊎◌, Option, Some, None}
 use Rattle.std.specs.Int.{from_bool}

@@ -1,4 +1,4 @@
--- What is enabled stays among what may be.
+-- What is enabled stays among what may be enabled.
 use Rattle.std.proofs.Common.{◌≡◌, ◌∙◌, sym, ap, subst, inl, inr, ℕ, ◌+◌, ◌-◌, ◌<◌, ◌≤◌, ◌==◌, arith, Bool, true, false, cond, eqb, eq-eqb, ne_eqb, eqb-true, nat_le, not, ◌&&◌, ◌||◌, nat_lt, List, [], ◌∷◌, Option, Some, None, refl, find}
 use Rattle.std.specs.Int.{bit_at, from_bool}
 use Rattle.std.specs.List.{list_all, list_any}
@@ -91,7 +91,7 @@ wider device A masks k lt =
 
 -- ---- a byte through a pointer
 
--- no vector of the table passes a test that none passes
+-- no vector of the table passes a stronger test
 none_found : (p q : Vector → Bool) (rs : List Vector) (r : Vector) → list_any p rs ≡ false → find q rs ≡ Some r → p r ≡ false
 none_found p q [] r none e = absurd (cc)
 none_found p q (x ∷ rs) r none e =
@@ -159,7 +159,7 @@ zero_if_other device A reaches value address byte v r none reached has is here f
     three_fail (reaches r.address) (may_enable value r) (not (is_barred device A r.number)) test (ap reaches (eqb-true r.address address here) ∙ reached)
     (ap not (ap (is_barred device A) good.1 ∙ free)) (may_be_set value byte r has good.0.bit one))
 
--- an enable bit after the write, by what it is where the byte is written to it
+-- an enable bit after the write, by its value if the byte is written to it
 write_below : (o : Option Vector) (address byte old most : ℕ) → old ≤ most
     → ((r : Vector) → o ≡ Some r → eqb r.address address ≡ true → bit_at byte r.bit ≤ most) → written_enable o address byte old ≤ most
 write_below None address byte old most le here = le

@@ -1,4 +1,4 @@
--- The splits vector by vector, from what is left where each unknown bit is 0.
+-- The splits vector by vector, starting with all unknown bits 0.
 use Rattle.std.proofs.Common.{◌≡◌, ◌∙◌, sym, ap, refl, inl, inr, ℕ, suc, ◌+◌, ◌-◌, ◌*◌, ◌/◌, ◌^◌, ◌%◌, ◌<◌, ◌≤◌, arith, Bool, true, false, cond, eqb, eqb-true, ◌&&◌, List, [], ◌∷◌, ◌++◌, map, length, Option, Some, None}
 use Rattle.std.specs.Int.{bit_at}
 use Rattle.std.specs.List.{AllByRecursion, Contains}
@@ -166,7 +166,7 @@ step_unknown m address value k lt h =
     left_unknown (written_enables m address value.value) (enable_tri m address value) k (enables_are_vectors.written m address value.value) lt both.0
     (enables_are_vectors.bit_written m address value.value k lt ∙ both.1)
 
--- there is room for as many again
+-- there is room for twice as many
 pub step_room : (m address : ℕ) (value : TriByte) (k : ℕ) → k < 25 → is_unknown (row_of (k + 2)) address value ≡ true
     → length (left (written_enables m address value.value) (enable_tri m address value) k) ≤ 8
 unfolding enable_tri count_unknown

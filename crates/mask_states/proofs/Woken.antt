@@ -1,4 +1,4 @@
--- Enable bits that a byte through an unknown pointer may turn on: one vector after another.
+-- Enable bits that a byte through an unknown pointer may set, vector by vector.
 use Rattle.std.proofs.Common.{◌≡◌, ◌∙◌, sym, ap, inl, inr, ℕ, ◌+◌, ◌-◌, ◌^◌, ◌<◌, ◌≤◌, ◌==◌, arith, Bool, true, false, cond, eqb, ltb, eq-eqb, ne_eqb, eqb-true, nat_le, ◌&&◌, List, refl}
 use Rattle.std.specs.Int.{bit_at, from_bool}
 use Rattle.std.proofs.lemmas.Bool.{cases_Bool, and_from, cases_eq, cases_order, cond_below, cond_above}

@@ -1,4 +1,4 @@
--- The splits are what the members of the byte leave.
+-- The splits are what writing the members of the byte leaves.
 use Rattle.std.proofs.Common.{◌≡◌, ◌∙◌, sym, ap, subst, refl, inl, inr, ℕ, zero, suc, ◌+◌, ◌-◌, ◌^◌, ◌<◌, arith, Bool, false, cond, eqb, Option, Some, None, find, eqb-true, eq-eqb}
 use Rattle.std.specs.Prelude.{Contains}
 use Rattle.std.specs.Int.{bit_at}

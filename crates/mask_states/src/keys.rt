@@ -11,15 +11,15 @@ use vector_table::Masks;
 /// How an instance is entered.
 #[derive(Clone, Copy, PartialEq, Eq, PartialOrd, Ord)]
 pub enum Kind {
-    /// It begins at reset.
+    /// At reset.
     Root,
     /// By a call.
     Call,
-    /// By an interrupt of this vector, 2 to 26.
+    /// By the interrupt of this vector, 2 to 26.
     Vector(u8),
 }
 
-/// An instance: the root, one call or one interrupt entry, with what the machine's state is there. Ordered by its fields.
+/// An instance: the root, one call or one interrupt entry, with the machine's enable bits and I there. Ordered by its fields.
 #[derive(Clone, Copy)]
 pub struct InstKey {
     /// How it is entered.
@@ -32,7 +32,7 @@ pub struct InstKey {
     pub i: bool,
 }
 
-/// The high byte of a stack pointer of which only the high byte is written.
+/// The high byte of a stack pointer, after only the high byte was written.
 #[derive(Clone, Copy, PartialEq, Eq, PartialOrd, Ord)]
 pub enum High {
     /// This byte.
@@ -41,17 +41,16 @@ pub enum High {
     Tag(u16),
 }
 
-/// Where the stack pointer is, by its offset: how many bytes it is below the base, which is the stack pointer after the frame's
-/// entry.
+/// The stack pointer by its offset: the number of bytes below the base, which is the stack pointer after the frame's entry.
 #[derive(Clone, Copy, PartialEq, Eq, PartialOrd, Ord)]
 pub enum SpForm {
-    /// It is whole, at this offset.
+    /// Whole, at this offset.
     Closed(u16),
-    /// Its low byte is that of this offset, and its high byte is written anew.
+    /// Its low byte is that of this offset, and its high byte was written.
     Open(u16, High),
 }
 
-/// A node: an instance and where the machine is in it. Ordered by its fields.
+/// A node: an instance and a place in it. Ordered by its fields.
 #[derive(Clone, Copy)]
 pub struct NodeKey {
     /// The instance.
@@ -64,21 +63,21 @@ pub struct NodeKey {
     pub i: bool,
     /// One more instruction executes before any interrupt.
     pub delay: bool,
-    /// Where the stack pointer is.
+    /// The stack pointer.
     pub sp: SpForm,
-    /// The byte that picked an entry of a jump table, while the code goes to that entry. It says nothing of the machine: it
-    /// keeps the ways to the entries of one table apart.
+    /// The byte that picked an entry of a jump table, until the code reaches that entry. It claims nothing of the machine: it keeps the
+    /// paths to the entries of one table apart.
     pub pick: Option<u8>,
 }
 
-/// How an edge leads from a node to another.
+/// The kind of an edge.
 #[derive(Clone, Copy, PartialEq, Eq, PartialOrd, Ord)]
 pub enum EdgeKind {
     /// By an instruction, in the same instance.
     Local,
     /// Into the instance of a call.
     Call,
-    /// Into that of an interrupt of this vector, 2 to 26, and whether its own enable bit is cleared then.
+    /// Into the instance of an interrupt of this vector, 2 to 26, and whether its own enable bit is cleared.
     Interrupt(u8, bool),
     /// Out of an instance.
     Return,
@@ -103,7 +102,7 @@ impl InstKey {
 impl SpForm {
     ghost use Rattle.mask_states.specs.Keys.{offset_of};
 
-    /// How many bytes the stack pointer is below the base; of an open form, those of the low byte.
+    /// The number of bytes between the base and the stack pointer; for an open form, by the low byte.
     pub fn offset(&self) -> u16
         ensures { result ≡ offset_of self.now }
     {
@@ -117,7 +116,7 @@ impl SpForm {
 impl NodeKey {
     ghost use Rattle.mask_states.specs.Keys.{offset_of, entry_key};
 
-    /// The node at which an instance begins.
+    /// The first node of an instance.
     pub fn entry(inst: &InstKey) -> NodeKey
         ensures { result ≡ entry_key inst.now }
     {
@@ -149,7 +148,7 @@ impl Ord for InstKey {
 
     ghost matches_eq = { inst_equal };
 
-    /// The first field that differs decides, in the order in which they are declared.
+    /// The first difference decides, in the order of declaration.
     fn cmp(&self, other: &InstKey) -> Ordering {
         let found = self.kind.cmp(&other.kind);
         let found = Ordering::or_cmp(found, &self.entry, &other.entry);
@@ -173,7 +172,7 @@ impl PartialEq for InstKey {
 
     ghost laws = { inst_equivalence.0 };
 
-    /// Whether all fields are the same.
+    /// Whether all fields are equal.
     fn eq(&self, other: &InstKey) -> bool
         ensures test { result ≡ same_inst self.now other.now }
         ensures same { IsTrue result ↔ (self.now ≡ other.now) }
@@ -195,7 +194,7 @@ impl Ord for NodeKey {
 
     ghost matches_eq = { node_equal };
 
-    /// The first field that differs decides, in the order in which they are declared.
+    /// The first difference decides, in the order of declaration.
     fn cmp(&self, other: &NodeKey) -> Ordering {
         let found = self.inst.cmp(&other.inst);
         let found = Ordering::or_cmp(found, &self.pc, &other.pc);
@@ -222,7 +221,7 @@ impl PartialEq for NodeKey {
 
     ghost laws = { node_equivalence.0 };
 
-    /// Whether all fields are the same.
+    /// Whether all fields are equal.
     fn eq(&self, other: &NodeKey) -> bool
         ensures test { result ≡ same_node self.now other.now }
         ensures same { IsTrue result ↔ (self.now ≡ other.now) }

@@ -1,4 +1,4 @@
-//! Keys of instances and nodes, and the enable bits that a write may leave.
+//! Keys of instances and nodes, and the enable bits that a write may leave. Tests: `value_tables`.
 #![tactic(auto)]
 
 pub mod keys;

@@ -45,7 +45,7 @@ impl Splits {
         self.count += 1;
     }
 
-    // Each once more after them, with vector `v` enabled.
+    // Appends each again with vector `v` enabled.
     fn double(&mut self, v: u8)
         requires low { 2 ≤ v }
         requires high { v ≤ 26 }
@@ -60,7 +60,7 @@ impl Splits {
     }
 }
 
-// Whether the enable bit of vector `v` stands at this address and is unknown in the byte.
+// Whether the enable bit of vector `v` is at this address and unknown in the byte.
 fn is_unknown(address: u16, value: &TriByte, v: u8) -> bool
     ensures { result ≡ is_unknown (row_of v) address value.now }
 {
@@ -70,12 +70,12 @@ fn is_unknown(address: u16, value: &TriByte, v: u8) -> bool
     }
 }
 
-/// All enable bits that a write of a member of `value` to data address `address` may leave of `m`. They are one where no
-/// enable bit at the address is unknown in the byte, and each that is doubles their number.
+/// All enable bits that writing a member of `value` to data address `address` may leave of `m`. Each unknown enable bit at the address
+/// doubles their number.
 pub fn split(m: Masks, address: u16, value: &TriByte) -> Splits
     ensures { result ≡ splits m address value.now }
 {
-    // An unknown bit is 0 in the byte's value, and is turned on from the least vector up, so the list ascends.
+    // An unknown bit is 0 in the byte's value, and is set from the least vector up, so the list ascends.
     let mut splits = Splits {
         masks: [write(m, address, value.value); 16],
         count: 1,

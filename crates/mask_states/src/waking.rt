@@ -1,4 +1,4 @@
-//! What a byte that is stored through an unknown pointer may do to enable bits.
+//! The enable bits that a byte may set if it is stored through an unknown pointer.
 
 ghost use Rattle.std.specs.Prelude.{◌≡◌, ◌≤◌, IfSome};
 ghost use Rattle.avr_model.specs.Vectors.{row_of};
@@ -8,7 +8,7 @@ use avr_model::device::Device;
 use bit_domain::{Tri, TriByte};
 use vector_table::{Assumptions, Masks, is_barred, row};
 
-/// The enable bits with those of all vectors that aren't barred: whose word has no `never` entry.
+/// The enable bits with those of all vectors that aren't barred. A vector is barred if its word has a `never` entry.
 pub fn widened(device: Device, assumptions: &Assumptions, masks: Masks) -> Masks
     ensures { result ≡ widened device assumptions.now masks }
 {
@@ -21,8 +21,8 @@ pub fn widened(device: Device, assumptions: &Assumptions, masks: Masks) -> Masks
     wide
 }
 
-/// The enable bits after a test read 0 at the enable bit of `vector`, 2 to 26, or at another bit. Where they say just what is
-/// enabled (`may` is false) the vector isn't among them.
+/// The enable bits after a bit reads 0: the enable bit of `vector`, 2 to 26, or another bit. Without `may` they are exactly what is
+/// enabled, and the vector isn't among them.
 pub fn without(may: bool, vector: Option<u8>, masks: Masks) -> Masks
     requires least { IfSome vector (λ v. 2 ≤ v) }
     requires most { IfSome vector (λ v. v ≤ 26) }
@@ -34,7 +34,7 @@ pub fn without(may: bool, vector: Option<u8>, masks: Masks) -> Masks
     }
 }
 
-// Whether the byte, written to this address, may turn on the enable bit of vector `v`.
+// Whether writing the byte to this address may set the enable bit of vector `v`.
 fn may_enable(address: u16, value: &TriByte, v: u8) -> bool
     ensures { result ≡ may_enable_there (row_of v) address value.now }
 {

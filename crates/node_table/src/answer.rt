@@ -1,4 +1,4 @@
-//! Answers of the table: the successors of a node, of whose states only what the node changes is printed, its calls and its return.
+//! Answers of the table: the successors of a node, its calls and its return. Of states only what the node changes is printed.
 
 use abs_state::{AbsByte, AbsState};
 use local_rules::local::{Local, Node};
@@ -67,7 +67,7 @@ fn show_flags(rt: &HostRuntime, state: &AbsState, before: &AbsState) -> io::Resu
     }
 }
 
-// A slot that is new is shown where it isn't free.
+// A new slot is shown unless it is free.
 fn show_slots(rt: &HostRuntime, state: &AbsState, before: &AbsState) -> io::Result<()> {
     for (d, slot) in state.slots.as_slice().iter().enumerate() {
         let was = before.slots.as_slice().get(d).copied();
@@ -90,7 +90,7 @@ fn show_node(rt: &HostRuntime, node: &Node, before: &AbsState) -> io::Result<()>
     println!(rt; "")
 }
 
-/// Prints what a node leads to, from this state.
+/// Prints the successors of a node, from this state.
 pub fn show(rt: &HostRuntime, found: &Local, before: &AbsState) -> io::Result<()> {
     let (same, calls) = (found.same.as_slice(), found.calls.as_slice());
     if same.is_empty() && calls.is_empty() && found.exit.is_none() {

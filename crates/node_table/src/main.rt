@@ -1,5 +1,5 @@
-//! Prints where the nodes of `nodes.txt` lead, each below its row, so that the gate compares all of them with answers that were
-//! worked by hand: `tests/nodes/README.md` says how a row is written. A row without a comment of its own goes with the one above.
+//! Prints the successors of the nodes of `nodes.txt`, each below its row. The gate compares them with answers worked by hand;
+//! `tests/nodes/README.md` has the form of a row. A row without a comment belongs to the one above.
 #![tactic(auto)]
 
 mod answer;
@@ -15,7 +15,7 @@ use vector_table::Assumptions;
 // The most entries of an assumption list.
 const MOST_ENTRIES: usize = 4_096;
 
-// Where the node of a row leads.
+// Prints the successors of a row's node.
 fn show(rt: &HostRuntime, row: &Row, lines: &Assumptions) -> io::Result<()> {
     let (key, state) = (&row.key, &row.state);
     if key.pc >= WORDS || state.slots.len() != key.offset() {
@@ -31,7 +31,7 @@ fn show(rt: &HostRuntime, row: &Row, lines: &Assumptions) -> io::Result<()> {
     }
 }
 
-// Prints a line: an assumption is kept for the row behind it, and a row gets its answer.
+// Prints a line: an assumption is kept for the next row, and a row gets its answer.
 fn show_line(rt: &HostRuntime, line: &str, lines: &mut Assumptions) -> io::Result<()> {
     println!(rt; "{line}")?;
     if line.is_empty() || line.starts_with('#') {

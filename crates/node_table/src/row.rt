@@ -1,4 +1,4 @@
-//! Rows of the table: a node with the words of firmware that stand there, and what is known of the machine.
+//! Rows of the table: a node with the words of firmware there, and its state.
 
 ghost use Rattle.std.specs.Prelude.{◌<◌};
 
@@ -15,12 +15,12 @@ use vector_table::Masks;
 /// A node of the table.
 #[derive(Drop)]
 pub struct Row {
-    // The word at the node and the three behind it.
+    // The word at the node and the three after it.
     words: [u16; 4],
     device: Device,
     /// Its key.
     pub key: NodeKey,
-    /// What is known there.
+    /// Its state.
     pub state: AbsState,
 }
 
@@ -100,8 +100,8 @@ fn value(text: &str) -> Option<AbsByte> {
     })
 }
 
-// `b` or `s`, and two digits each for the low byte of the base less which the number is, and what is subtracted or added; or `c`, and two
-// digits each for a register and the number that it is compared with.
+// `b` or `s`, and two digits each for the low byte of the number below the base, and for the byte that is subtracted or added; or `c`,
+// and two digits each for a register and the number that it is compared with.
 fn carry(text: &str) -> Option<CarryTag> {
     let (kind, digits) = text.split_at_checked(1)?;
     let [first, second] = number(digits)?.to_be_bytes();
@@ -117,7 +117,7 @@ fn carry(text: &str) -> Option<CarryTag> {
 }
 
 impl Row {
-    // A node at word 0 of the ATmega328P of which nothing else is known, with so many free slots.
+    // A node at word 0 of the ATmega328P with this many free slots and nothing else known.
     fn new(alloc: Global, words: [u16; 4], kind: Kind, sp: SpForm) -> Result<Row, AllocError> {
         let mut slots = Slots::new(alloc);
         slots.resize(sp.offset())?;
@@ -147,7 +147,7 @@ impl Row {
         })
     }
 
-    // The value of a register, or a slot, of which `.` says that anything may be written there.
+    // Sets the value of a register, or a slot; `.` stands for a free slot.
     fn set_byte(&mut self, name: &str, text: &str) -> Option<()> {
         if let Some(r) = name.strip_prefix('r') {
             let value = value(text)?;
@@ -167,7 +167,7 @@ impl Row {
         Some(())
     }
 
-    // What a word says of the node. One that is a name alone has no text, and says that a flag is on.
+    // Sets what a word says of the node. A word that is a name alone has no text, and sets a flag.
     fn set(&mut self, name: &str, text: &str) -> Option<()> {
         if name == "i" {
             self.key.i = true;
@@ -198,7 +198,7 @@ impl Row {
         Some(())
     }
 
-    // What the words behind the heading say of it.
+    // Sets what the words after the heading say.
     fn set_all(&mut self, text: &str) -> Option<()> {
         for word in text.split(' ').skip(4) {
             let (name, text) = word.split_once('=').unwrap_or((word, ""));
@@ -207,7 +207,7 @@ impl Row {
         Some(())
     }
 
-    // The byte address of a word so many words from the node, modulo the number of words.
+    // The byte address of a word this many words from the node, modulo the number of words.
     fn address(&self, words: u16) -> u16
         ensures { result < 32767 }
     {
@@ -226,19 +226,19 @@ impl Row {
     }
 }
 
-// The first word and that behind it, then kind and stack pointer.
+// The first and the second word, then kind and stack pointer.
 fn heading(text: &str) -> Option<(u16, u16, Kind, SpForm)> {
     let mut words = text.split(' ');
     let (first, second) = (number(words.next()?)?, number(words.next()?)?);
     Some((first, second, kind(words.next()?)?, form(words.next()?)?))
 }
 
-/// The row of a line: None where it isn't one.
+/// The row of a line. None if it isn't one.
 pub fn read(alloc: Global, text: &str) -> Result<Option<Row>, AllocError> {
     let Some((first, second, kind, sp)) = heading(text) else {
         return Ok(None);
     };
-    // The words behind these are erased, but for those that are told.
+    // Further words are erased, unless they are given.
     let words = [first, second, 0xFFFF, 0xFFFF];
     let mut row = Row::new(alloc, words, kind, sp)?;
     match row.set_all(text) {

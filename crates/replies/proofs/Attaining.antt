@@ -1,4 +1,4 @@
--- What `attain` writes.
+-- The output of `attain`.
 use Rattle.std.proofs.Common.{◌≡◌, ◌≤◌, refl, sym, ap, ◌∙◌, subst, arith, ℕ, List, length, Option, Some, None, IfSome}
 use Rattle.basics.specs.Numbers.{same_if_neither}
 use Rattle.avr_model.specs.declared.assumption.Entry.{Entry}

@@ -1,4 +1,4 @@
--- What an analysis says that writes a certificate, and how its status says where the rounds end.
+-- The statement of an analysis that writes a certificate, and how its status says where the rounds end.
 use Rattle.std.proofs.Common.{◌≡◌, ◌≢◌, ◌≤◌, inl, inr, ◌⊎◌, ℕ, true, List, length, Option, Some, None, Result, Ok, Err, IfSome, IsOkAnd, refl, sym, ap, ◌∙◌, subst, arith}
 use Rattle.std.specs.Option.{is_some}
 use Rattle.avr_model.specs.declared.assumption.Entry.{Entry}

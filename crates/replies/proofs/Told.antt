@@ -1,4 +1,4 @@
--- A line that is told.
+-- A printed line.
 use Rattle.std.proofs.Common.{◌≡◌, ℕ, List, [], Option, Some, None, false, sym, ap, ◌∙◌}
 use Rattle.std.specs.Option.{option_map}
 use Rattle.sb_base.specs.Writing.{Written, with_words, with_end}

@@ -16,13 +16,14 @@ use round_solutions::laws::answers_are_one;
 use witness_replay::laws::replays_are_runs;
 use witness_search::laws::trials_are_due;
 
-/// What was read of a command's files has one answer.
+/// The answer to the contents of a command's files is unique.
 /// - If a certificate is accepted, the bound holds for what was read.
 /// - If one is written, it is the least one, or the accepted one with a schedule that reaches its bound, short enough to be read again.
-/// - An explanation says where the bytes of the bound go.
+/// - An explanation accounts for the bytes of the bound.
 /// - If all nodes are clear, no run is flagged; otherwise runs are flagged only at the printed words, for the printed causes.
 /// - A simulated run keeps each accepted bound.
-/// - If the files parse, a certificate is accepted exactly when it is valid, and the status of an analysis says how the rounds end.
+/// - If the files are well-formed, a certificate is accepted exactly if it is valid, and the status of an analysis says how the rounds
+/// end.
 pub fn replies_are_claims()
     ensures one { RepliesAreOne }
     ensures holds { AcceptingRepliesHold }

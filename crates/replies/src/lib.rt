@@ -1,4 +1,4 @@
-//! What the program answers: the printed lines, and the one answer to a command in terms of what was read of its files. Tests:
+//! The answers of the program: the printed lines, and the one answer to a command by the contents of its files. Tests:
 //! `tests/end_to_end`.
 #![tactic(auto)]
 

@@ -1,4 +1,4 @@
-//! Tables of reports. What the whole program answers stands in tests/end_to_end.
+//! Tables of reports. Answers of the whole program are in tests/end_to_end.
 #![tactic(auto)]
 
 #[cfg(test)]

@@ -1,3 +1,3 @@
-//! The tables, by what they are about.
+//! The tables by subject.
 
 mod needs;

@@ -1,4 +1,4 @@
--- The laws, each under the name of the public function that carries it, and what else crates above cite. They cite it from here.
+-- The laws, each under the name of its public function, and lemmas that crates above cite.
 pub use Rattle.round_laws.proofs.Nodes.{families_are_their_nodes, has_member, member_has}
 pub use Rattle.round_laws.proofs.Ends.{rounds_are_least, rounds_end_once, solutions_are_valid}
 pub use Rattle.round_laws.proofs.Joins.{rounds_are_joins, insert_again, found_here, found_later}

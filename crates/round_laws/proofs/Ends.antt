@@ -1,4 +1,4 @@
--- The rounds end once, and with no refusal where there is a valid certificate.
+-- The rounds end once, and without a refusal if a valid certificate exists.
 use Rattle.std.proofs.Common.{◌≡◌, refl, sym, ap, ap₂, ◌∙◌, subst, ℕ, zero, suc, ◌<◌, ◌≤◌, inl, inr, ⊎_elim, List, Option, arith}
 use Rattle.std.proofs.lemmas.Bool.{cases_lt, cases_order}
 use Rattle.avr_model.specs.declared.assumption.Entry.{Entry}

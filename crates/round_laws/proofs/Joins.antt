@@ -1,4 +1,4 @@
--- Nodes that are joined into a family one after the other make the next one.
+-- Joining nodes into a family one after the other gives the next one.
 use Rattle.std.proofs.Common.{◌≡◌, Bool, refl, sym, ap, ◌∙◌, subst, ℕ, ◌*◌, ◌<◌, ◌≤◌, cond, ◌⊎◌, inl, inr, ⊎_elim, List, [], ◌∷◌, map, Option, Some, None, Contains, arith}
 use Rattle.std.specs.declared.cmp.Ordering.TheVariants.{Less, Equal, Greater}
 use Rattle.std.specs.Ordering.{is_eq}
@@ -50,9 +50,9 @@ join_node {followed = followed} k s t a b =
 join_least : {followed : Bool} (k : NodeKey) (s t : AbsState) → IsNodeIn followed k s → IsNodeIn followed k t → IsLeastAbove s t (state_join s t)
 join_least k s t a b = states_are_ordered.join s t (joins_are_formed.whole s (offset_of k.sp) a.formed) (joins_are_formed.whole t (offset_of k.sp) b.formed) (a.formed.count_slots ∙ sym b.formed.count_slots)
 
--- g is f with the node's state v at its key
+-- g is f with the state v at the node's key
 module _ {followed : Bool} (f : Family) (n : Node) (formed : AreFormed followed f) (node : IsNodeIn followed n.key n.state) where
-  -- what is put at the key
+  -- the state at the key
   record IsPut (v : AbsState) : Type 0 where
     good : IsNodeIn followed n.key v
     old : (t : AbsState) → get f n.key ≡ Some t → IsStateWithin t v

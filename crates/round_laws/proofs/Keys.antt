@@ -1,4 +1,4 @@
--- Families by what they have at each key.
+-- Families by their states at each key.
 use Rattle.std.proofs.Common.{◌≡◌, ◌≢◌, refl, sym, ap, ◌∙◌, subst, Bool, true, false, cond, Some}
 use Rattle.std.specs.FinMap.{IsAntisymmetric, get, insert, get-insert}
 use Rattle.abs_state.specs.declared.state.AbsState.{AbsState}
@@ -11,7 +11,7 @@ use Rattle.round_rules.specs.Families.{Family}
 pub node_exact : IsAntisymmetric node_cmp
 node_exact x y e = (keys_are_ordered.equal_nodes x y).0 e
 
--- what holds at this key, and at each other, holds at each
+-- what holds at this key and at each other holds at each
 pub at_keys : (P : NodeKey → Type 0) (k q : NodeKey) → P k → ((q ≢ k) → P q) → P q
 at_keys P k q here other = by (same_node q k) refl
   where

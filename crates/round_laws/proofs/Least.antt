@@ -1,4 +1,4 @@
--- The rounds come to one family at each number, and it lies below each valid one.
+-- The family of each round is unique, and below each valid one.
 use Rattle.std.proofs.Common.{◌≡◌, Bool, sym, ap, ◌∙◌, subst, ℕ, zero, suc, ◌+◌, ◌<◌, ◌≤◌, List, Some, Contains, arith}
 use Rattle.std.specs.FinMap.{get, empty, get-empty}
 use Rattle.std.proofs.lemmas.Option.{same_Some}
@@ -44,7 +44,7 @@ covered_lands g n c = record { at = c.state; is = has_member g (with_state n c.s
 pub formed_nodes : {followed : Bool} (f : Family) → AreFormed followed f → AreNodesIn followed (nodes_of f)
 formed_nodes f formed n i = formed n (has_member f n i)
 
--- what holds of the first family's one node holds of all its nodes
+-- a property of the first family's one node holds of all its nodes
 pub first_has : (A : List Entry) (P : NodeKey → AbsState → Type 0) → P (entry_key root_inst) (root_of A) → (n : Node) → FamilyHas (first A) n → P n.key n.state
 first_has A P h n =
     at_keys (λ q. (s : AbsState) → get (first A) q ≡ Some s → P q s) (entry_key root_inst) n.key

@@ -1,4 +1,4 @@
--- The nodes of a family are what it has at their keys.
+-- A family is determined by its nodes.
 use Rattle.std.proofs.Common.{◌≡◌, refl, sym, ap, ◌∙◌, subst, Bool, true, false, cond, ⊎_elim, List, [], ◌∷◌, map, Option, Some, None, Contains}
 use Rattle.std.specs.List.{AllByRecursion}
 use Rattle.std.specs.Prelude.{T}
@@ -62,7 +62,7 @@ never_less x q e less =
     let never : is_eq Less ≡ true = ap is_eq (sym self) ∙ tied x in
     absurd (cc)
 
--- a key that is above all others is none of them
+-- a key above all others is none of them
 pub apart : (x : NodeKey) (es : List (NodeKey × AbsState)) (q : NodeKey) (s : AbsState) → T (below_all node_cmp x es) → find node_cmp q es ≡ Some s
     → eq_by_cmp node_cmp q x ≡ false
 apart x es q s h e = by (eq_by_cmp node_cmp q x) refl

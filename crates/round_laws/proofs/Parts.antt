@@ -13,7 +13,7 @@ pub ok_of : (words : Program) (A : List Entry) (k : NodeKey) (s : AbsState) → 
 unfolding local
 ok_of words A k s e = ap (settled (raw words A k s)) e
 
--- where there is a part, there is no fault, and it is this one
+-- if the local part exists, there is no fault, and the part is this one
 pub part_is : (words : Program) (A : List Entry) (k : NodeKey) (s : AbsState) (l : Local) → local words A k s ≡ Ok l → ((raw words A k s).faults ≡ []) × (part_of (raw words A k s) ≡ l)
 unfolding local
 part_is words A k s l e = by (raw words A k s).faults refl e

@@ -1,4 +1,4 @@
--- What holds of the node at reset and is kept along edges holds of each node to which the rounds come.
+-- What the node at reset has and edges preserve holds of all nodes of the rounds.
 use Rattle.std.proofs.Common.{◌≡◌, refl, sym, ap, ◌∙◌, subst, ℕ, zero, suc, Bool, true, false, cond, List, Some, None}
 use Rattle.std.specs.declared.cmp.Ordering.TheVariants.{Equal}
 use Rattle.std.specs.FinMap.{get, retain_keys, get-retain_keys}
@@ -34,7 +34,7 @@ module _ (words : Program) (A : List Entry) (holds : NodeKey → Bool) where
   lands_kept : (g : Family) (n : Node) → holds n.key ≡ true → Lands g n → Lands (retain_keys g holds) n
   lands_kept g n h l = record { at = l.at; is = kept_by g n.key h ∙ l.is; above = l.above }
 
-  -- what is kept along the edges of a family without faults is kept along those of one below it
+  -- what the edges of a family without faults preserve, those of one below it preserve
   kept_down : {followed : Bool} (f g : Family) → AreFormed followed f → AreFormed followed g → Below f g → HasNoFault words A g → IsKept words A g holds → IsKept words A f holds
   kept_down f g low high below clean kept n e has h edge =
       let o = edges_grow.edges words A (nodes_of f) (nodes_of g) n e (formed_nodes f low) (formed_nodes g high) (λ m c. lands_covered g m (below m (has_member f m c)))

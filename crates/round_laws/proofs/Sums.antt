@@ -1,4 +1,4 @@
--- A sum over the keys of a family: a family below another has no larger one.
+-- Sums over the keys of a family are monotone.
 use Rattle.std.proofs.Common.{◌≡◌, refl, sym, ap, ◌∙◌, ℕ, ◌+◌, ◌≤◌, Bool, true, false, cond, List, [], ◌∷◌, length, map, Some, arith}
 use Rattle.std.specs.Prelude.{T}
 use Rattle.std.specs.Ordering.{eq_by_cmp}
@@ -94,7 +94,7 @@ below_few f g below = omega (arith, below_le (λ k. 1) f g below, count_is (entr
 pub below_cells : (f g : Family) → Below f g → cells f ≤ cells g
 below_cells f g below = omega (arith, below_le (λ k. 1 + offset_of k.sp) f g below, cells_are (entries f), cells_are (entries g))
 
--- a family of whose nodes another has the keys has no more cells
+-- a family whose keys another has has at most as many cells
 pub same_cells : (f g : Family) → ((q : NodeKey) (s : AbsState) → get f q ≡ Some s → (t : AbsState) × (get g q ≡ Some t)) → cells f ≤ cells g
 same_cells f g has =
     let le = keys_le (λ k. 1 + offset_of k.sp) (entries f) (entries g) (entries_sorted f)

@@ -1,4 +1,4 @@
--- The graph of a family tells of its cycles, ranks and needs.
+-- The graph of a family gives its cycles, ranks and needs.
 use Rattle.std.proofs.Common.{◌≡◌, refl, sym, ap, ◌∙◌, subst, ℕ, zero, suc, ◌+◌, ◌<◌, ◌≤◌, ◌⊎◌, inl, inr, ⊎_elim, Bool, true, false, if◌then◌else◌, List, [], ◌∷◌, map, length, Option, Some, None, slice_get, slice_index, arith}
 use Rattle.std.proofs.lemmas.Option.{none-some, same_Some, slice_get_within}
 use Rattle.basics.specs.Lists.{get_inside}
@@ -92,11 +92,11 @@ by_entry Call entry never = (refl, refl)
 by_entry (Vector v) entry never = absurd (never v refl)
 
 module _ (words : Program) (A : List Entry) (f : Family) (keys : List InstKey) (gs : List GraphInst) (is : IsGraphOver words A f keys gs) where
-  -- an instance that enters another has a node, and so a number
+  -- an entering instance has a node, and so a number
   from_number : (i j : InstKey) (offset : ℕ) → Entering words A f i j offset → (n : ℕ) × IsNumber keys n i
   from_number i j offset e = is.numbered i (e.node, e.has, e.same)
 
-  -- a number that stands for an instance with a number is that one
+  -- an instance with a number has no other
   own_number : (i n : ℕ) (inst : InstKey) → IsNumberFor keys i inst → IsNumber keys n inst → i ≡ n
   own_number i n inst (inl e) d = is.once i n inst e d
   own_number i n inst (inr h) d = absurd (h.1 n d)
@@ -205,7 +205,7 @@ module _ (words : Program) (A : List Entry) (f : Family) (keys : List InstKey) (
     rank_is : (i : ℕ) (inst : InstKey) → IsNumber keys i inst → valued keys ranks inst ≡ slice_index ranks i
     rank_is i inst e = valued_at keys ranks i inst is.once (in_ranks i inst e) e
 
-    -- what stands for an instance has no lower rank
+    -- the number of an instance has no lower rank
     rank_le : (i : ℕ) (inst : InstKey) → IsNumberFor keys i inst → valued keys ranks inst ≤ slice_index ranks i
     rank_le i inst (inl e) = omega (arith, rank_is i inst e)
     rank_le i inst (inr h) = omega (arith, valued_none keys ranks inst h.1)

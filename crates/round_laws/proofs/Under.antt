@@ -1,4 +1,4 @@
--- Each instance with a node is entered, over others, from the root: its need is no greater than the root's.
+-- Each instance with a node is entered, possibly over others, from the root: its need is at most the root's.
 use Rattle.std.proofs.Common.{◌≡◌, refl, sym, ap, ◌∙◌, subst, ℕ, zero, suc, ◌≤◌, Bool, true, false, cond, nat_le, List, Some, None, arith}
 use Rattle.std.proofs.lemmas.Bool.Decides.{nat_tests}
 use Rattle.std.specs.declared.cmp.Ordering.TheVariants.{Equal}

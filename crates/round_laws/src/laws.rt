@@ -1,18 +1,17 @@
-//! Laws of the rounds, each as the contract of a function that does nothing.
+//! Laws of the rounds, each as the contract of a function with an empty body.
 
 ghost use Rattle.round_laws.specs.Closed.{ClosedFamiliesEndRounds};
 ghost use Rattle.round_laws.specs.Graphs.{GraphsTell};
 ghost use Rattle.round_laws.specs.Laws.{FamiliesAreTheirNodes, RoundsAreJoins, RoundsAreLeast, RoundsEndOnce, SolutionsAreValid};
 ghost use Rattle.round_laws.specs.Reached.{RoundsAreReached};
 
-/// The rounds come to one family at each number. It lies below that of each valid certificate, and no test holds of it where there is
-/// one.
+/// The family of each round is unique. It is below that of each valid certificate, and if one exists no test holds on it.
 pub fn rounds_are_least()
     ensures { RoundsAreLeast }
 {}
 
-/// The rounds end once: with one family, or with one refusal. A family that is made of the first one by targets of its own edges in
-/// whatever order, is closed, and of which no test holds, is where they end.
+/// The rounds end once: with one family, or with one refusal. If a family is built from the first one by targets of its own edges, in any
+/// order, is closed, and no test holds on it, the rounds end there.
 pub fn rounds_end_once()
     ensures once { RoundsEndOnce }
     ensures closed { ClosedFamiliesEndRounds }
@@ -23,18 +22,18 @@ pub fn solutions_are_valid()
     ensures { SolutionsAreValid }
 {}
 
-/// The nodes of a family are what it has at their keys, and nodes that are joined into it one after the other make the next one.
+/// A family is determined by its nodes, and joining nodes one after the other gives the next family.
 pub fn rounds_are_joins()
     ensures nodes { FamiliesAreTheirNodes }
     ensures joins { RoundsAreJoins }
 {}
 
-/// A cycle of the graph is one of the family, and least ranks and needs of the graph are those of the family.
+/// The graph has the cycles of the family, and its least ranks and needs are the family's.
 pub fn graphs_tell()
     ensures { GraphsTell }
 {}
 
-/// What holds of the node at reset, and is kept along each edge of a family to which the rounds come, holds of each of its nodes.
+/// A property of keys that the node at reset has, and that the edges of all families of the rounds preserve, holds of all their nodes.
 pub fn rounds_are_reached()
     ensures { RoundsAreReached }
 {}

@@ -1,4 +1,4 @@
-//! The laws of the rounds that come to the least family, of what they reach, and of the graph of a family's instances.
+//! Laws of the rounds that compute the least family, of the nodes that they reach, and of the graph of a family's instances.
 #![tactic(auto)]
 
 pub mod laws;

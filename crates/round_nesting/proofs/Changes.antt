@@ -1,4 +1,4 @@
--- What a place or an edge more of one instance changes in a graph.
+-- One more place or edge of an instance in a graph.
 use Rattle.std.proofs.Common.{◌≡◌, ◌↔◌, refl, sym, ap, ◌∙◌, subst, ◌⊎◌, inl, inr, ⊎_elim, List, [], ◌∷◌, ◌++◌, Some, slice_get, set, ℕ, zero, suc, ◌<◌, length, arith}
 use Rattle.std.specs.List.{Contains}
 use Rattle.std.proofs.lemmas.Bool.{cases_eq}
@@ -41,7 +41,7 @@ module _ (gs : List GraphInst) (at : ℕ) (g h : GraphInst) (is : slice_get gs a
           (g, subst (λ j. slice_get gs j ≡ Some g) (sym eq) is, ap (λ (z : GraphInst). z.key) (sym (at_here x (subst (λ j. slice_get new j ≡ Some x) eq e))) ∙ key)
       by i x e (inr ne) = (x, sym (set_there gs at i h ne) ∙ e, refl)
 
-  -- what is in the new list of instance i, where some members of the instance's list are kept
+  -- the new list of instance i, in which some items of the old one are kept
   module _ {X : Type 0} (list : GraphInst → List X) where
     abbrev In : List GraphInst → ℕ → X → Type 0
     In fs i x = (inst : GraphInst) × (slice_get fs i ≡ Some inst) × Contains (list inst) x

@@ -1,4 +1,4 @@
--- What is allowed covers what is noted.
+-- Allowances cover the notes.
 use Rattle.std.proofs.Common.{◌≡◌, refl, sym, ap, ◌∙◌, subst, ⊎_elim, Bool, true, false, cond, Option, Some, None, List, ℕ, ◌+◌, ◌<◌, ◌≤◌, arith}
 use Rattle.round_laws.proofs.AllLaws.{reached_lower}
 use Rattle.mask_states.specs.declared.keys.InstKey.{InstKey}
@@ -13,7 +13,7 @@ use Rattle.round_nesting.specs.Covers.{Granted, allowed, AllowsRoot, AllowsSpot,
 
 -- ---- one allowance more
 
--- an instance that had none gets one
+-- an instance without an allowance gets one
 pub one_kept : (gs new : Granted) (k : InstKey) (most : Allowance) → None ≡ allowed gs k → ((q : InstKey) → allowed new q ≡ cond (same_inst k q) (Some most) (allowed gs q))
     → AreAllowancesKept gs new
 one_kept gs new k most none up inst there is = by (same_inst k inst) refl

@@ -1,4 +1,4 @@
--- What it does to a nesting to keep one note more.
+-- One more note of a nesting.
 use Rattle.std.proofs.Common.{◌≡◌, refl, sym, ap, ◌∙◌, subst, inl, inr, ⊎_elim, Bool, true, false, if◌then◌else◌, List, [], ◌∷◌, ◌++◌, Some, slice_get, ℕ, zero, suc, Contains}
 use Rattle.std.specs.List.{IsDistinct, AllByRecursion, list_any}
 use Rattle.std.proofs.lemmas.List.Elements.{Contains-push_cases, Contains-push, Contains-append_left}
@@ -81,7 +81,7 @@ insts_once true others apart = by
     by (suc i) zero inst e f = absurd (apart.rootless (subst (Contains others) (sym (same_Some root_inst inst f)) (at_member others i inst e)))
     by (suc i) (suc j) inst e f = ap suc (apart.once i j inst e f)
 
--- the root is noted where it is kept
+-- the root's note is kept apart
 pub root_kept : (has_root : Bool) (others : List InstKey) → AreOthersApart others → Contains (insts_of has_root others) root_inst → has_root ≡ true
 root_kept true others apart h = refl
 root_kept false others apart h = absurd (apart.rootless h)

@@ -58,7 +58,7 @@ there [] i lt = absurd (omega arith)
 there (k ∷ ks) zero lt = (k, refl)
 there (k ∷ ks) (suc i) lt = there ks i (omega (arith, lt))
 
--- an instance that is noted has its number
+-- a noted instance has its number
 pub numbered : (keys : List InstKey) (inst : InstKey) → Contains keys inst → IsNumber keys (number_of keys inst) inst
 numbered keys inst h = by (stands keys inst)
   where

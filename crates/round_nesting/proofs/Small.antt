@@ -1,4 +1,4 @@
--- No more instances are noted than the family has nodes.
+-- At most as many instances are noted as the family has nodes.
 use Rattle.std.proofs.Common.{◌≡◌, refl, ap, subst, ℕ, zero, suc, ◌≤◌, Bool, true, false, List, [], ◌∷◌, map, length, Some, Contains, arith}
 use Rattle.std.specs.List.{IsDistinct, AllByRecursion}
 use Rattle.std.specs.Bool.{Decides}

@@ -13,7 +13,7 @@ use Rattle.round_nesting.specs.Nestings.{Spot, Entrance}
 use Rattle.round_nesting.specs.Drawn.{number_of, HasPlaced, IsEntranceDrawn, IsSpotPlace, IsEdgeOf, HasSpot, HasEntranceEdge, IsDrawn}
 use Rattle.round_nesting.proofs.Numbers.{number_within}
 
--- what follows from a success
+-- a consequence of success
 pub on_ok : {V E : Type 0} (P Q : Type 0) (r : Result V E) → OnOk r P → (P → Q) → OnOk r Q
 on_ok P Q (Ok v) h f = f h
 on_ok P Q (Err e) h f = h
@@ -156,7 +156,7 @@ pub entrances_all : (keys : List InstKey) (spots : List Spot) (es : List Entranc
     → IsDrawn keys spots (take i es) gs → IsDrawn keys spots es gs
 entrances_all keys spots es i gs le drawn = subst (λ l. IsDrawn keys spots l gs) (take_all i es le) drawn
 
--- a slice of a whole vector is written back whole
+-- writing back a slice of a whole vector gives the vector
 pub written_back : {X : Type 0} (xs ys : List X) (n : ℕ) → length xs ≡ n → take n (xs ++ drop (length xs) ys) ≡ xs
 written_back xs ys n e =
     let le : n ≤ length xs = omega (arith, e) in

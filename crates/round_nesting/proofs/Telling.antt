@@ -1,4 +1,4 @@
--- What the graph tells of each family of which the notes are the nesting.
+-- The graph justifies the verdict for each family with these notes.
 use Rattle.std.proofs.Common.{◌≡◌, refl, sym, ap, ◌∙◌, subst, List, ◌∷◌, Some, slice_get, slice_index, slice_index_or, ℕ, ◌<◌, ◌≤◌, length, Contains, arith}
 use Rattle.std.proofs.lemmas.Option.{slice_get_within, slice_get-get_or}
 use Rattle.avr_model.specs.declared.assumption.Entry.{Entry}

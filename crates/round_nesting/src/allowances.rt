@@ -1,4 +1,4 @@
-//! What each instance is allowed, so that most of what is noted needs no new graph.
+//! Allowances of instances: ranks and needs with slack, so most new notes need no new graph.
 
 ghost use Rattle.std.specs.Prelude.{◌≡◌, ◌+◌, ◌*◌, ◌^◌, ◌<◌};
 
@@ -9,14 +9,14 @@ use mask_states::InstKey;
 use nesting_bound::Composed;
 use std::alloc::{AllocError, Global};
 
-// What an instance is allowed: a rank above those of all that it enters, and a need that covers its offsets and what it enters.
+// An instance's allowance: a rank above those of all that it enters, and a need that covers its offsets and entries.
 #[derive(Clone, Copy)]
 pub(crate) struct Allowance {
     pub rank: u64,
     pub need: u64,
 }
 
-// What instances are allowed, each for itself.
+// Allowances by instance.
 #[derive(Drop)]
 pub(crate) struct Allowances {
     pub map: IndexMap<NotedInst, Allowance>,
@@ -29,14 +29,14 @@ fn number_at(numbers: &[u32], i: usize) -> u64
     u64::from(numbers.get(i).copied().unwrap_or(0))
 }
 
-// How far below the allowance of an instance that of another is which it enters, besides the offset, in bytes: two for the return
-// address, and six so that it may enter it again at a greater offset.
+// How much smaller the allowance of an entered instance is, besides the offset, in bytes: two for the return address, and six so that it
+// may be entered again at a greater offset.
 const STEP: u64 = 8;
 
-// The ranks of instances that had nodes when ranks were worked out last are this far apart.
+// The distance between the ranks of instances that had nodes when ranks were last computed.
 const APART: u64 = 65_536;
 
-// What there is to give beyond the least ranks and needs: as much for all alike, and as much for each step of ranks.
+// The slack beyond the least ranks and needs: some for all instances alike, and some for each step of ranks.
 #[derive(Clone, Copy)]
 struct Room {
     base: u64,
@@ -45,7 +45,7 @@ struct Room {
 }
 
 impl Room {
-    // What the instance of this number is allowed.
+    // The allowance of the instance of this number.
     fn grant(self, composed: &Composed, i: usize) -> Allowance {
         let steps = number_at(composed.ranks.as_slice(), i) + 1;
         let need = number_at(composed.needs.as_slice(), i) + self.base + self.share * steps;
@@ -57,7 +57,7 @@ impl Room {
 }
 
 impl Allowance {
-    // What it leaves to an instance that is entered at this offset.
+    // The allowance that remains for an instance that is entered at this offset.
     fn left(self, offset: u16) -> Allowance {
         Allowance {
             rank: self.rank.saturating_sub(1),
@@ -71,15 +71,15 @@ impl Allowances {
     ghost use Rattle.round_nesting.specs.Nestings as nestings;
     ghost use Rattle.round_nesting.specs.Covers.{allowed, AreAllowancesKept, AllowsRoot, AllowsSpot, AllowsEntrance, CoversNoted};
 
-    /// None.
+    /// No allowances.
     pub fn none(alloc: Global) -> Allowances {
         Allowances {
             map: IndexMap::new(alloc),
         }
     }
 
-    /// What the root and these others are granted over their ranks and needs, on a device whose SRAM has so many bytes, and what these
-    /// entrances leave to instances without a node.
+    /// The allowances of the root and these others above their ranks and needs, on a device with this many bytes of SRAM, and those that
+    /// these entrances leave to instances without nodes.
     pub fn over(
         alloc: Global,
         composed: &Composed,
@@ -93,7 +93,7 @@ impl Allowances {
             .and(Ok(granted))
     }
 
-    // Grants it to the root and these others, and leaves to instances without a node what these entrances leave.
+    // Sets the allowances of the root and these others, and those that these entrances leave to instances without nodes.
     fn grant_all(
         &mut self,
         composed: &Composed,
@@ -101,7 +101,7 @@ impl Allowances {
         entrances: &IndexSet<NotedEntrance>,
         size: u16,
     ) -> Result<(), AllocError> {
-        // of the bytes that the root has left, half is for all alike, and half is shared out among the steps of ranks
+        // half of the root's remaining bytes is slack for all alike, half is divided among the steps of ranks
         let left = u64::from(size).saturating_sub(number_at(composed.needs.as_slice(), 0));
         let base = left / 2;
         let share = base / (number_at(composed.ranks.as_slice(), 0) + 1);
@@ -116,7 +116,7 @@ impl Allowances {
         self.leave_all(others, entrances.as_slice())
     }
 
-    // Leaves to each instance that these enter, and that has no node, as much as the least of those that enter it leaves.
+    // Sets the allowance of each entered instance without nodes to the least that its entrances leave.
     fn leave_all(
         &mut self,
         others: &IndexSet<NotedInst>,
@@ -130,7 +130,7 @@ impl Allowances {
         Ok(())
     }
 
-    // The entered instance is allowed no more than what is left to it.
+    // Lowers the entered instance's allowance to what the entrance leaves.
     fn lower(&mut self, entrance: &NotedEntrance) -> Result<(), AllocError> {
         let Some(from) = self.of(entrance.from()) else {
             return Ok(());
@@ -148,7 +148,7 @@ impl Allowances {
         Ok(())
     }
 
-    /// Where an instance is entered that has no allowance, it gets what is left to it.
+    /// Sets the allowance of an entered instance that has none.
     pub fn leave(&mut self, entrance: &NotedEntrance) -> Result<(), AllocError>
         ensures { OnOk result (AreAllowancesKept self.old.map.entries self.new.map.entries) }
     {
@@ -163,14 +163,14 @@ impl Allowances {
         }
     }
 
-    // What the instance is allowed.
+    // The instance's allowance, if it has one.
     fn of(&self, inst: &InstKey) -> Option<Allowance>
         ensures { result ≡ allowed self.now.map.entries inst.now }
     {
         self.map.get(&NotedInst { key: *inst }).copied()
     }
 
-    /// Whether the root is allowed no more than so many bytes.
+    /// Whether the root's need is at most this many bytes.
     pub fn allow_root(&self, size: u16) -> bool
         ensures { IsTrue result → AllowsRoot self.now.map.entries size }
     {
@@ -180,7 +180,7 @@ impl Allowances {
         }
     }
 
-    /// Whether the spot is covered.
+    /// Whether the allowances cover the spot.
     pub fn allow_spot(&self, spot: &NotedSpot) -> bool
         ensures { IsTrue result → AllowsSpot self.now.map.entries spot.now }
     {
@@ -190,7 +190,7 @@ impl Allowances {
         }
     }
 
-    /// Whether the entrance is covered.
+    /// Whether the allowances cover the entrance.
     pub fn allow_entrance(&self, entrance: &NotedEntrance) -> bool
         ensures { IsTrue result → AllowsEntrance self.now.map.entries entrance.now }
     {
@@ -204,7 +204,7 @@ impl Allowances {
         }
     }
 
-    // Whether all spots are covered.
+    // Whether the allowances cover all spots.
     fn allow_spots(&self, spots: &[NotedSpot]) -> bool
         ensures { IsTrue result → (s : nestings.Spot) → Contains spots.now s → AllowsSpot self.now.map.entries s }
     {
@@ -216,7 +216,7 @@ impl Allowances {
         true
     }
 
-    // Whether all entrances are covered.
+    // Whether the allowances cover all entrances.
     fn allow_entrances(&self, entrances: &[NotedEntrance]) -> bool
         ensures { IsTrue result → (x : nestings.Entrance) → Contains entrances.now x → AllowsEntrance self.now.map.entries x }
     {
@@ -228,7 +228,7 @@ impl Allowances {
         true
     }
 
-    /// Whether all spots and entrances are covered.
+    /// Whether the allowances cover all spots and entrances.
     pub fn cover(&self, spots: &IndexSet<NotedSpot>, entrances: &IndexSet<NotedEntrance>) -> bool
         ensures { IsTrue result → CoversNoted self.now.map.entries spots.now.keys entrances.now.keys }
     {

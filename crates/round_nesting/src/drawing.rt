@@ -1,4 +1,4 @@
-//! The graph of what is noted.
+//! The graph of a nesting.
 
 ghost use Rattle.std.specs.Prelude.{◌≡◌, ◌+◌, ◌≤◌, ◌∷◌, [], List, length, IfOk, OnOk};
 ghost use Rattle.indexmap.specs.IndexSet.{index_set_len};
@@ -13,7 +13,7 @@ use mask_states::{EdgeKind, InstKey};
 use nesting_bound::{Entered, Graph, GraphInst, Place};
 use std::alloc::{AllocError, Global};
 
-// The number of an instance: the root's is 0, the others' are by their order, and one that is not noted goes by the number behind all.
+// The number of an instance: 0 for the root, by order for the others, and the number behind all for one without a note.
 pub(crate) fn number(others: &IndexSet<NotedInst>, inst: &InstKey) -> usize
     ensures is { result ≡ number_of (root_inst ∷ others.now.keys) inst.now }
     ensures within { result ≤ index_set_len others.now + 1 }
@@ -28,7 +28,7 @@ pub(crate) fn number(others: &IndexSet<NotedInst>, inst: &InstKey) -> usize
     }
 }
 
-// An instance with no places and edges yet.
+// An instance without places and edges.
 fn bare(alloc: Global, key: InstKey) -> GraphInst
     ensures { result ≡ record { key = key; offsets = []; entered = [] } }
 {
@@ -39,7 +39,7 @@ fn bare(alloc: Global, key: InstKey) -> GraphInst
     }
 }
 
-// The instances of the graph, and one more for all that have no number.
+// The instances of the graph, and one more for all without a number.
 fn instances(alloc: Global, others: &IndexSet<NotedInst>) -> Result<Vec<GraphInst>, AllocError>
     requires { index_set_len others.now ≤ 65535 }
     ensures { IfOk result (λ gs. IsDrawn (root_inst ∷ others.now.keys) [] [] gs.items) }
@@ -53,7 +53,7 @@ fn instances(alloc: Global, others: &IndexSet<NotedInst>) -> Result<Vec<GraphIns
     Ok(instances)
 }
 
-// The places of spots. What tells the nodes of an instance apart is not noted.
+// The places of spots. Nodes of an instance are not distinguished.
 fn draw_spots(
     others: &IndexSet<NotedInst>,
     spots: &[NotedSpot],
@@ -74,7 +74,7 @@ fn draw_spots(
     Ok(())
 }
 
-// The edges of entrances. The kind of an edge does not count.
+// The edges of entrances. The kind of an edge does not matter.
 fn draw_entrances(
     others: &IndexSet<NotedInst>,
     entrances: &[NotedEntrance],

@@ -1,4 +1,4 @@
-//! What the graph of what is noted tells.
+//! The verdict on a nesting by its graph.
 
 ghost use Rattle.std.specs.Prelude.{◌≤◌, ℕ, IfOk, true};
 ghost use Rattle.indexmap.specs.IndexSet.{index_set_len};
@@ -17,7 +17,7 @@ use nesting_bound::{ComposeFault, Graph, GraphInst, compose};
 use round_laws::laws::graphs_tell;
 use std::alloc::{AllocError, Global};
 
-// How an instance that reaches itself is named.
+// The verdict that names an instance on a cycle.
 fn named(graph: &[GraphInst], at: u32) -> NestingVerdict
     requires { IsNamed graph.now at }
     ensures { (size : ℕ) → GraphTells size graph.now result }
@@ -30,14 +30,14 @@ fn named(graph: &[GraphInst], at: u32) -> NestingVerdict
     }
 }
 
-// What a nesting tells of the family, and where instances nest, what each is allowed.
+// A verdict, and if instances nest, their allowances.
 #[derive(Drop)]
 pub(crate) struct JudgedNesting {
     pub verdict: NestingVerdict,
     pub allowances: Allowances,
 }
 
-// What the graph of a family tells on a device whose SRAM has so many bytes.
+// The verdict on a family's graph, on a device with this many bytes of SRAM.
 fn judge_graph(
     alloc: Global,
     graph: &Graph,
@@ -73,7 +73,7 @@ fn judge_graph(
     })
 }
 
-// What is noted of a family whose root has a node tells on a device whose SRAM has so many bytes.
+// The verdict on a family's notes, in which the root has a node, on a device with this many bytes of SRAM.
 pub(crate) fn judge_noted(
     alloc: Global,
     others: &IndexSet<NotedInst>,

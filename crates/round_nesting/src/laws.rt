@@ -1,8 +1,8 @@
-//! How nestings and families go together, as the contract of a function that does nothing.
+//! The law of nestings, as the contract of a function with an empty body.
 
 ghost use Rattle.round_nesting.specs.Nestings.{NestingsAreSmall};
 
-/// No more instances are noted than the family has nodes.
+/// At most as many instances are noted as the family has nodes.
 pub fn nestings_are_small()
     ensures { NestingsAreSmall }
 {}

@@ -1,4 +1,5 @@
-//! Which instance of a growing family enters which, and whether some enter themselves or need too much. Source: own.
+//! The nesting of a growing family's instances: which enters which, and whether some are on a cycle or need too much. Source: own. Tests:
+//! `family_tables`.
 #![tactic(auto)]
 
 mod allowances;

@@ -15,7 +15,7 @@ use mask_states::{InstKey, NodeKey, SpForm};
 use std::alloc::{AllocError, Global};
 use std::marker::Model;
 
-/// Which instances of a family have nodes, at which offsets these stand, and which instance enters which. Seen as what was noted.
+/// Notes of a family: the instances with nodes, the offsets of these nodes, and the entrances. Seen as the notes.
 #[derive(Drop)]
 pub struct Nesting {
     alloc: Global,
@@ -39,7 +39,7 @@ impl Model for Nesting {
     ghost invariant = { λ n. IsCoverKept n.covered n.allowances.map.entries n.others.keys n.spots.keys n.entrances.keys };
 }
 
-// Keeps an instance, if it is new.
+// Notes an instance, if it is new.
 fn keep_inst(
     has_root: &mut bool,
     others: &mut IndexSet<NotedInst>,
@@ -58,7 +58,7 @@ fn keep_inst(
 }
 
 impl Nesting {
-    /// Nothing noted.
+    /// No notes.
     pub fn new(alloc: Global) -> Nesting
         ensures { result ≡ nothing }
     {
@@ -73,7 +73,7 @@ impl Nesting {
         }
     }
 
-    /// How many instances are noted.
+    /// The number of noted instances.
     pub fn count(&self) -> usize
         ensures { result ≡ length self.now.insts }
     {
@@ -81,7 +81,7 @@ impl Nesting {
         if self.has_root { others + 1 } else { others }
     }
 
-    /// Notes a node: its instance, and its offset where its stack pointer is whole. It may be noted before.
+    /// Notes a node: its instance, and its offset if its stack pointer is whole. It may have a note already.
     pub fn note_node(&mut self, key: &NodeKey) -> Result<(), AllocError>
         requires { offset_of key.now.sp ≤ SIZE }
         ensures node { OnOk result (IsNodeNoted self.old key.now self.new) }
@@ -105,7 +105,7 @@ impl Nesting {
         }
     }
 
-    /// Notes that a node of this key, whose stack pointer is whole, enters an instance. It may be noted before.
+    /// Notes that a node of this key, whose stack pointer is whole, enters an instance. It may have a note already.
     pub fn note_entrance(&mut self, key: &NodeKey, into: &InstKey) -> Result<(), AllocError>
         requires { offset_of key.now.sp ≤ SIZE }
         ensures entrance { OnOk result (HasEntrance self.old key.now into.now self.new) }
@@ -121,8 +121,8 @@ impl Nesting {
         Ok(())
     }
 
-    /// What the nesting tells of the family on a device whose SRAM has so many bytes. What was noted stays. Where the root has no node,
-    /// nothing is told.
+    /// The verdict on the nesting for a device with this many bytes of SRAM. The notes stay. If the root has no node, the verdict claims
+    /// nothing.
     pub fn judge(&mut self, size: u16) -> Result<NestingVerdict, AllocError>
         requires { length self.old.insts ≤ 65536 }
         ensures tells { IfOk result (λ w. TellsAll size self.old w) }

@@ -1,4 +1,4 @@
-//! What is noted of a family, to be hashed.
+//! Notes of a family, as keys of a hash table.
 
 ghost use Rattle.std.specs.Prelude.{◌≡◌, ◌≤◌};
 ghost use Rattle.avr_model.specs.State.{SIZE};
@@ -51,7 +51,7 @@ impl Hash for NotedInst {
     }
 }
 
-// An instance has a node with a whole stack pointer at this offset, at most 2,048.
+// An instance with a node at this offset, at most 2,048, whose stack pointer is whole.
 #[derive(Drop)]
 pub(crate) struct NotedSpot {
     inst: InstKey,
@@ -118,7 +118,7 @@ impl Hash for NotedSpot {
     }
 }
 
-// A node of one instance, at this offset, at most 2,048, enters another.
+// A node of one instance, at this offset of at most 2,048, enters another.
 #[derive(Drop)]
 pub(crate) struct NotedEntrance {
     from: InstKey,

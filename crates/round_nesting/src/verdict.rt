@@ -1,14 +1,14 @@
-//! What the nesting of instances tells.
+//! Verdicts on the nesting of instances.
 
-/// What the nesting of a family's instances tells of the family. Words are word addresses of flash. Source: own.
+/// The verdict on the nesting of a family's instances. Words are word addresses of flash. Source: own.
 #[derive(Clone, Copy, PartialEq, Eq, Drop)]
 pub enum NestingVerdict {
-    /// No instance reaches itself, and the root needs no more bytes than the device's SRAM has.
+    /// No instance is on a cycle, and the root's need is at most the size of the device's SRAM.
     Nests,
-    /// An instance of this vector, the least such, reaches itself; it begins at this word.
+    /// An instance of this vector, the least on a cycle, is entered again; it begins at this word.
     ReEntry(u8, u16),
-    /// No vector's instance reaches itself, but one that begins at this word, the least such, does.
+    /// No vector's instance is on a cycle, but one that begins at this word, the least such, is.
     Recursion(u16),
-    /// No instance reaches itself, and the root needs this many bytes: more than the device's SRAM has.
+    /// No instance is on a cycle, and the root's need, given here, exceeds the size of the device's SRAM.
     TooDeep(u32),
 }

@@ -1,4 +1,4 @@
-//! The rounds that come to the least family of a firmware, and how they end, as rules. Source: own.
+//! The rounds that compute the least family of a firmware, and how they end: definitions. Source: own.
 #![tactic(auto)]
 
 pub mod refusal;

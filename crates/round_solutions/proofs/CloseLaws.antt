@@ -1,2 +1,2 @@
--- The law, under the name of the public function that carries it. Crates above cite it from here.
+-- The law, under the name of its public function. Crates above cite it from here.
 pub use Rattle.round_solutions.proofs.Closed.{closed_families_are_solved}

@@ -1,4 +1,4 @@
--- Nodes with their forms stand for the family.
+-- Nodes with their forms determine the family.
 use Rattle.std.proofs.Common.{◌≡◌, ◌≢◌, refl, sym, ap, ◌∙◌, subst, ℕ, zero, suc, ◌<◌, ◌≤◌, ◌⊎◌, inl, inr, Bool, true, false, if◌then◌else◌, List, [], ◌∷◌, length, Some, Contains, slice_get, arith}
 use Rattle.std.proofs.lemmas.Option.{same_Some, slice_get_within}
 use Rattle.std.specs.declared.cmp.Ordering.TheVariants.{Less}
@@ -48,7 +48,7 @@ alone [] x few i = absurd (none_in x i)
 alone (y ∷ []) x few i = ap (λ z. z ∷ []) (sym (only y x i))
 alone (y ∷ z ∷ zs) x few i = absurd (omega (arith, few))
 
--- where a local edge leads
+-- the target of a local edge
 record Moves (words : Program) (A : List Entry) (n : Node) (e : Edge) : Type 0 where
   clean : IsFaultless words A n
   to : Node
@@ -62,7 +62,7 @@ moves words A nodes n _ (entering _ inst back (by_call offset site clean form me
 moves words A nodes n _ (entering _ inst back (by_interrupt offset v clears clean form i delay enabled allowed clearable)) is = absurd (cc)
 moves words A nodes n _ (returning way inst back leaver x state enters present same clean exit it) is = absurd (cc)
 
--- local edges of a node to one key are one
+-- local edges of a node to one key are equal
 same_edge : (words : Program) (A : List Entry) (nodes : List Node) (n : Node) (d e : Edge) → IsEdge words A nodes n d → IsEdge words A nodes n e
     → d.kind ≡ kind.Local → e.kind ≡ kind.Local → d.to ≡ e.to → d ≡ e
 same_edge words A nodes n d e is_d is_e local_d local_e to =
@@ -82,7 +82,7 @@ module _ (words : Program) (A : List Entry) (n : ℕ) (f : Family) (solved : IsS
   abbrev nodes : List Node
   nodes = nodes_of f
 
-  -- a node behind another isn't the root's after reset
+  -- a node after another isn't the root's after reset
   not_root : (m at : ℕ) (x : Node) → m < at → slice_get nodes at ≡ Some x → x.key ≢ entry_key root_inst
   not_root m at x lt e is =
       let y = get_inside nodes m (omega (arith, lt, slice_get_within nodes at x e)) in

@@ -1,4 +1,4 @@
--- The graph of a solved family, as its list of nodes gives it.
+-- The graph of a solved family, by its list of nodes.
 use Rattle.std.proofs.Common.{◌≡◌, refl, sym, ap, ◌∙◌, subst, ℕ, zero, suc, ◌<◌, ◌≤◌, inl, List, [], ◌∷◌, length, Some, Contains, slice_get, arith}
 use Rattle.std.proofs.lemmas.List.{length-map}
 use Rattle.std.proofs.lemmas.Option.{none-some, same_Some}
@@ -41,7 +41,7 @@ use Rattle.round_solutions.specs.Laws.{SolvedFamiliesAreShown, GraphsAreAcyclic}
 use Rattle.round_solutions.proofs.Order.{ascending, before, inst_once, root_inst_first}
 use Rattle.round_solutions.proofs.Lone.{formed}
 
--- the key of an instance is that of its number
+-- the key of an instance, by its number
 pub key_is : (gs : List GraphInst) (i : ℕ) (g : GraphInst) → slice_get gs i ≡ Some g → IsNumber (insts_of gs) i g.key
 key_is [] i g e = absurd (none-some g e)
 key_is (x ∷ xs) zero g e = ap Some (ap (λ (y : GraphInst). y.key) (same_Some x g e))

@@ -1,4 +1,4 @@
--- The instances of a solved family are ones that may stand in a certificate.
+-- The instances of a solved family are valid in a certificate.
 use Rattle.std.proofs.Common.{◌≡◌, refl, sym, ap, ◌∙◌, subst, ℕ, ◌^◌, ◌<◌, Bool, true, false, cond, ◌==◌, ◌&&◌, ◌-◌, ◌*◌, not, nat_lt, List, Some, None, arith}
 use Rattle.std.specs.Prelude.{nat_le}
 use Rattle.std.proofs.lemmas.Bool.Decides.{nat_tests}
@@ -34,14 +34,14 @@ use Rattle.round_rules.specs.Refusals.{IsSolved}
 use Rattle.round_laws.proofs.AllLaws.{node_exact, has_member, member_has, lands_covered, formed_nodes, comes_root}
 use Rattle.round_solutions.proofs.Lone.{formed, rounds_below}
 
--- its kind fits its other parts, and its enable bits are 25
+-- its kind permits its other parts, and it has 25 enable bits
 abbrev pub fits : InstKey → Bool
 fits k = fits_kind k.kind k.entry k.masks k.i && nat_lt k.masks (2 ^ 25)
 
 call_fits : (entry masks : ℕ) → entry < WORDS → masks < 2 ^ 25 → (nat_lt entry WORDS && nat_lt masks (2 ^ 25)) ≡ true
 call_fits entry masks a b = grind (arith, nat_tests)
 
--- a vector's word on each device is one that an entry may be
+-- a vector's word on each device is a valid entry
 vector_is : (device : Device) (v : ℕ) → is_vector_word v (vector_word device v) ≡ true
 vector_is M48 v = or_right (v - 1 == 2 * (v - 1)) (v - 1 == v - 1) (equals_itself (v - 1))
 vector_is M88 v = or_right (v - 1 == 2 * (v - 1)) (v - 1 == v - 1) (equals_itself (v - 1))
@@ -64,7 +64,7 @@ entered_fits words A n way inst back node enters = let to = edges_lead_to_nodes.
     by _ _ _ (by_call offset site clean form member) word masks = call_fits _ _ word masks
     by _ _ _ (by_interrupt offset v clears clean form i delay enabled allowed clearable) word masks = vector_fits (device_of words) n.key.masks v _ enabled masks
 
--- the instance of an edge's target fits where the node's own does
+-- the instance of an edge's target fits if the node's own does
 target_fits : {followed : Bool} (words : Program) (A : List Entry) (nodes : List Node) (n : Node) (e : Edge) → IsNodeIn followed n.key n.state → fits n.key.inst ≡ true → IsEdge words A nodes n e → fits e.to.inst ≡ true
 target_fits words A nodes n _ node own (moving to clean member) =
     let raw = joins_are_least.keys (raw_of words A n).moves to member in

@@ -1,4 +1,4 @@
--- The state of a node to which one edge alone leads.
+-- The state of a node with only one edge to it.
 use Rattle.std.proofs.Common.{Bool, ◌≡◌, ◌≢◌, refl, sym, ap, ◌∙◌, subst, ℕ, zero, suc, List, Some, Contains}
 use Rattle.std.specs.FinMap.{get, insert}
 use Rattle.basics.specs.Items.{contained_at}
@@ -25,7 +25,7 @@ use Rattle.round_rules.specs.Sparse.{IsOnlyFrom}
 use Rattle.round_laws.proofs.AllLaws.{at_keys, get_same, get_other, has_member, member_has, lands_covered, formed_nodes, first_has, comes_formed, comes_root}
 
 module _ (words : Program) (A : List Entry) where
-  -- where an edge of a greater family lands, that of the lesser does
+  -- if an edge of a greater family lands, so does that of the lesser
   over : {followed : Bool} (g h : Family) → AreFormed followed g → AreFormed followed h → Below g h → HasNoFault words A h → IsClosed words A h → LandIn words A g h
   over g h low high below clean closed m e has edge =
       let p = edges_grow.edges words A (nodes_of g) (nodes_of h) m e (formed_nodes g low) (formed_nodes h high) (λ x i. lands_covered h x (below x (has_member g x i)))

@@ -1,4 +1,4 @@
--- One answer.
+-- The answer is unique.
 use Rattle.std.proofs.Common.{arith, refl, sym, ap, subst, ◌∙◌, ◌≡◌, ◌≢◌, ℕ, ◌<◌, ◌≤◌, List, Option, Some, slice_get}
 use Rattle.std.proofs.lemmas.Option.{slice_get_within, same_Some}
 use Rattle.basics.specs.Lists.{get_inside}
@@ -89,7 +89,7 @@ answer words A steps c d p q h i =
     let same : (h.number ≡ i.number) × (h.family ≡ i.family) = rounds_end_once.solved words A h.number i.number h.family i.family h.solved i.solved in
     solution words A i.family c d p q (subst (λ (f : Family). IsSolution words A f c) same.1 h.solution) i.solution
 
--- a refusal that isn't that of a spent budget or want of memory
+-- a refusal other than a spent budget or running out of memory
 beyond : (words : Program) (A : List Entry) (n m : ℕ) (steps : Option ℕ) → steps ≡ Some n → IsWithinBudget steps m → n < m → ⊥
 beyond words A n m steps e within less = let le : m ≤ n = subst (λ (o : Option ℕ). IsWithinBudget o m) e within in omega (arith, le, less)
 
@@ -102,7 +102,7 @@ spent_answered words A steps n c spent h = beyond words A n h.number steps spent
 refused_answered : (words : Program) (A : List Entry) (steps : Option ℕ) (r : Refusal) (c : Claim) → IsRefusal words A steps r → IsAnswer words A steps c → ⊥
 refused_answered words A steps r c h i = rounds_end_once.either words A i.number h.number i.family r i.solved h.refused
 
--- what may be answered in place of a certificate
+-- the answer without a certificate
 data Why (words : Program) (A : List Entry) (steps : Option ℕ) (r : Refusal) : Type 0 where
   refused : IsRefusal words A steps r → Why words A steps r
   spent : (n : ℕ) → r ≡ refusal.Spent n → (steps ≡ Some n) × GoesBeyond words A n → Why words A steps r

@@ -1,4 +1,4 @@
--- Ascending lists, and the root before all.
+-- Ascending lists; the root comes first.
 use Rattle.std.proofs.Common.{◌≡◌, refl, sym, ap, ◌∙◌, subst, ℕ, zero, suc, ◌<◌, inl, inr, Bool, true, false, cond, ◌==◌, nat_lt, List, [], ◌∷◌, length, length-append, map, Option, Some, None, slice_get, ◌++◌, arith}
 use Rattle.std.proofs.lemmas.Bool.{cases_order}
 use Rattle.std.proofs.lemmas.Bool.Decides.{nat_tests}
@@ -95,7 +95,7 @@ abbrev zeros : ℕ → List ℕ
 zeros zero = []
 zeros (suc n) = 0 ∷ zeros n
 
--- what comes before zeros has fewer numbers
+-- a list of numbers before zeros is shorter
 least : (xs : List ℕ) (n : ℕ) → slice_cmp nat_cmp xs (zeros n) ≡ Less → length xs < n
 least [] zero e = cc
 least [] (suc n) e = omega arith

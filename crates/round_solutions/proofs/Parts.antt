@@ -1,4 +1,4 @@
--- Instances are their keys, ranks and needs, and nodes are their keys and forms.
+-- Instances are determined by keys, ranks and needs, and nodes by keys and forms.
 use Rattle.std.proofs.Common.{refl, sym, ap, subst, ◌∙◌, ◌≡◌, ℕ, suc, true, List, [], ◌∷◌, map, Some, slice_get, Contains, if◌then◌else◌}
 use Rattle.std.specs.List.Sorted.{IsStrictlySortedBy}
 use Rattle.std.specs.declared.cmp.Ordering.TheVariants.{Less}
@@ -55,7 +55,7 @@ same_insts (x ∷ xs) (y ∷ ys) keys sorted ranks needs =
 pair_is : (x y : NodeKey × NodeForm) → x.0 ≡ y.0 → x.1 ≡ y.1 → x ≡ y
 pair_is (a, b) (c, d) e f = cc
 
--- nodes of the same keys whose forms are the same at each number
+-- nodes with equal keys and equal forms at each number
 pub same_seeds : (xs ys : Seeds) → map (λ e. e.0) xs ≡ map (λ e. e.0) ys
     → ((at : ℕ) (k : NodeKey) (a b : NodeForm) → slice_get xs at ≡ Some (k, a) → slice_get ys at ≡ Some (k, b) → a ≡ b) → xs ≡ ys
 same_seeds [] [] keys forms = refl

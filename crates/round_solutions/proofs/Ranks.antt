@@ -1,4 +1,4 @@
--- Least ranks are below the number of instances, and there are no more instances than nodes.
+-- Least ranks are below the number of instances, which is at most that of nodes.
 use Rattle.std.proofs.Common.{◌≡◌, refl, sym, subst, ℕ, zero, suc, ◌+◌, ◌-◌, ◌<◌, ◌≤◌, List, [], ◌∷◌, length, Some, slice_get, slice_index, arith}
 use Rattle.std.proofs.lemmas.Option.{slice_get_within}
 use Rattle.std.specs.declared.cmp.Ordering.TheVariants.{Less}
@@ -18,7 +18,7 @@ use Rattle.round_solutions.proofs.Order.{NodesAscend, before, number_before}
 
 -- ---- ranks
 
--- how many are below this number
+-- how many items are below this number
 abbrev below : List ℕ → ℕ → ℕ
 below [] v = 0
 below (x ∷ xs) v = (1 - (1 - (v - x))) + below xs v
@@ -42,7 +42,7 @@ not_all (x ∷ xs) zero v lt le = let rest = bounded xs v in omega (arith, le, r
 not_all (x ∷ xs) (suc i) v lt le = let rest = not_all xs i v (omega (arith, lt)) le in omega (arith, rest)
 
 module _ (gs : List GraphInst) (is : IsGraph gs) (ranks needs : List ℕ) (least : IsLeast gs ranks needs) where
-  -- how many instances have lower ranks is a rank too
+  -- the number of instances with lower ranks is a rank too
   counted : AreGraphRanks gs (λ i. below ranks (slice_index ranks i))
   counted i e h =
       rises ranks e.into (slice_index ranks e.into) (slice_index ranks i) (omega (arith, is.within i e h, least.ranks_length)) (omega arith) (least.are_ranks i e h)
@@ -57,7 +57,7 @@ module _ (gs : List GraphInst) (is : IsGraph gs) (ranks needs : List ℕ) (least
 
 module _ (nodes : List Node) (ascend : NodesAscend nodes) (insts : List InstKey) (sorted : IsStrictlySortedBy inst_cmp insts)
     (used : (inst : InstKey) → Contains insts inst → HasInst nodes inst) where
-  -- a node of the instance of a number has no lesser number
+  -- a node of the instance has at least the instance's number
   no_lower : (i : ℕ) (inst : InstKey) → slice_get insts i ≡ Some inst → (p : ℕ) (n : Node) → slice_get nodes p ≡ Some n → n.key.inst ≡ inst → i ≤ p
   no_lower zero inst e p n is of = omega arith
   no_lower (suc i) inst e p n is of =

@@ -1,4 +1,4 @@
--- Ascending lists of instances with the same members are the same.
+-- Ascending lists of instances with the same members are equal.
 use Rattle.std.proofs.Common.{refl, sym, List, length, Contains}
 use Rattle.std.specs.List.{AllByRecursion}
 use Rattle.std.proofs.lemmas.Option.{slice_get_read}

@@ -1,4 +1,4 @@
-//! The laws of the certificates of solved families, and that the analysis has one answer.
+//! Laws of the certificates of solved families; the answer of the analysis is unique.
 #![tactic(auto)]
 
 pub mod laws;

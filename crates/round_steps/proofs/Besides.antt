@@ -1,4 +1,4 @@
--- Notes of one more.
+-- Notes with one more item.
 use Rattle.std.proofs.Common.{◌≡◌, sym, ap, ◌∙◌, subst, ℕ, ◌+◌, ◌<◌, inl, inr, ⊎_elim, get_or, take, length, List, [], ◌∷◌, ◌++◌, Some, None, Contains}
 use Rattle.std.specs.Prelude.{◌↔◌}
 use Rattle.std.proofs.lemmas.List.{take_more}

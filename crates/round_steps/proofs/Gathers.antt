@@ -1,4 +1,4 @@
--- Targets as they are gathered.
+-- Gathered targets.
 use Rattle.std.proofs.Common.{◌≡◌, refl, sym, ap, ◌∙◌, subst, inl, inr, ⊎_elim, List, [], ◌∷◌, ◌++◌, Bool, Some, Result, Ok, Err, IfOk, OnOk, append_assoc}
 use Rattle.std.proofs.lemmas.List.{append-nil}
 use Rattle.std.proofs.lemmas.List.Elements.{Contains-append_left, Contains-push, Contains-push_cases}
@@ -29,7 +29,7 @@ pub if_ok : {V E : Type 0} {P Q : V → Type 0} (r : Result V E) → IfOk r P �
 if_ok (Ok v) p f = f v p
 if_ok (Err e) p f = p
 
--- a node's own state says whether it follows pairs
+-- a node's state determines whether it follows pairs
 pub own_node : {followed : Bool} (k : NodeKey) (s : AbsState) → IsNodeIn followed k s → IsOwnNode k s
 own_node k s node = subst (λ (m : Bool). IsNodeIn m k s) (sym node.mode) node
 
@@ -50,7 +50,7 @@ none_gathered followed f = record {
   beyond = λ n has lands. nothing_there n has;
 }
 
--- what is at or below a node that lands does so too
+-- what is below a node that lands, lands
 lands_below : (f : Family) (n m : Node) → m.key ≡ n.key → IsStateWithin n.state m.state → Lands f m → Lands f n
 lands_below f n m same below l =
     record { at = l.at; is = subst (λ (k : NodeKey). get f k ≡ Some l.at) same l.is; above = states_are_ordered.through n.state m.state l.at below l.above }
@@ -97,7 +97,7 @@ pub gathered_push : {X Y : Type 0} (f : X → List Y) (xs : List X) (x : X) → 
 gathered_push f [] x = append-nil (f x)
 gathered_push f (y ∷ ys) x = ap (λ l. f y ++ l) (gathered_push f ys x) ∙ sym (append_assoc (f y) (gathered f ys) (f x))
 
--- the nodes of what is gathered
+-- the gathered nodes
 pub are_beyond : (followed : Bool) (f : Family) (all : List Node) (g : Family) → AreTargetsGathered followed f all g → AreBeyond followed f all (nodes_of g)
 are_beyond followed f all g a = record {
   nodes = λ n i. a.formed n ((families_are_their_nodes.members g n).0 i);

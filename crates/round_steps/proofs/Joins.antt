@@ -1,4 +1,4 @@
--- One node more is joined into a family.
+-- One more node is joined into a family.
 use Rattle.std.proofs.Common.{◌≡◌, ◌≢◌, refl, sym, ap, ◌∙◌, subst, ℕ, ◌+◌, ◌<◌, ◌≤◌, ⊎_elim, List, [], ◌∷◌, ◌++◌, map, cond, Option, Some, None, Contains, arith, length-append, append_assoc}
 use Rattle.std.specs.declared.cmp.Ordering.TheVariants.{Less, Equal, Greater}
 use Rattle.std.proofs.lemmas.List.Elements.{Contains-append_left, Contains-push}
@@ -51,7 +51,7 @@ cells_kept f k t v is =
     (λ s e. (t, is)) (λ ne s e. (s, sym (get_other f k v q ne) ∙ e)) s e) in
     omega (arith, up, down)
 
--- a node that makes the family longer is a new one, and each other has the cells of one that is there
+-- a node that makes the family longer is new, and any other keeps the cells of the present one
 pub cells_raised : (f : Family) (n : Node) → (len f < len (raised f n) → cells (raised f n) ≡ 1 + offset_of n.key.sp + cells f) × (len (raised f n) ≤ len f → cells (raised f n) ≡ cells f)
 cells_raised f n = by (get f n.key) refl
   where

@@ -1,4 +1,4 @@
--- One node more is looked at.
+-- One more node is visited.
 use Rattle.std.proofs.Common.{◌≡◌, ◌≢◌, sym, ap, ◌∙◌, subst, ℕ, ◌<◌, ◌≤◌, ◌⊎◌, inl, inr, ⊎_elim, List, [], ◌∷◌, ◌++◌, Option, Some, None, Result, Ok, Err, IfOk, IfErr, Contains, Bool, true, false, refl, arith}
 use Rattle.std.proofs.lemmas.List.Elements.{Contains-append_left, Contains-push, Contains-push_cases}
 use Rattle.std.proofs.lemmas.Bool.Decides.{nat_tests}
@@ -71,7 +71,7 @@ module _ (words : Program) (A : List Entry) (f : Family) where
     fault = λ x e. absurd (let never = sym worst ∙ e in cc);
   }
 
-  -- nothing is there
+  -- the family has no such node
   pub seen_nothing : (keys : List NodeKey) (k : NodeKey) (seen : Seen) → AreSeen words A f keys seen → get f k ≡ None → AreSeen words A f (keys ++ k ∷ []) seen
   seen_nothing keys k seen are none = record {
     looks = are.looks;

@@ -12,7 +12,7 @@ use mask_states::NodeKey;
 use round_table::Table;
 use std::alloc::{AllocError, Global};
 
-// Joins one node into the table, whose cells are counted, and notes its key.
+// Joins one node into the table, counts its cells, and notes its key.
 fn join_one(
     alloc: Global,
     table: &mut Table,
@@ -39,8 +39,8 @@ fn join_one(
     Ok(())
 }
 
-/// Joins nodes into a family whose cells are counted, of which none lands there and no two have the same key. Gives their keys: each of
-/// them changed, and stands once.
+/// Joins nodes into a family and counts its cells. None of the nodes lands in the family, and no two have the same key. Returns their
+/// keys; each of these nodes changed.
 pub fn join_all(
     alloc: Global,
     table: &mut Table,

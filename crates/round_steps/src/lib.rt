@@ -1,4 +1,5 @@
-//! What one round does: it looks at nodes, notes what it finds, and joins what their edges lead to into the family. Source: own.
+//! One round: it visits nodes, notes what it finds, and joins the targets of their edges into the family. Source: own. Tests:
+//! `family_tables`.
 #![tactic(auto)]
 
 pub mod joining;

@@ -1,4 +1,4 @@
-//! Looking at nodes.
+//! Visits of nodes.
 
 ghost use Rattle.std.specs.Prelude.{◌≡◌, ◌≢◌, ◌++◌, ◌∷◌, [], List, Ok, Err, IfOk, IfErr, OnOk};
 ghost use Rattle.mask_states.specs.declared.keys.NodeKey as key_type;
@@ -20,27 +20,27 @@ use mask_states::NodeKey;
 use round_table::Table;
 use std::alloc::AllocError;
 
-/// Where a node leads.
+/// The result of a visit.
 #[derive(Drop)]
 pub struct Look {
     /// The node.
     pub key: NodeKey,
-    /// What it leads to in its own frame.
+    /// Its local part.
     pub part: Local,
-    /// Its ways into other instances.
+    /// Its entries of other instances.
     pub ways: Vec<Way>,
 }
 
-/// What was found at some nodes: where those without a fault lead, and the least fault of the others.
+/// The results of visits: those of nodes without a fault, and the least fault of the others.
 #[derive(Drop)]
 pub struct Seen {
-    /// Where nodes lead.
+    /// The results for nodes without a fault.
     pub looks: Vec<Look>,
     /// The fault that counts, if a node has one.
     pub worst: Option<NodeFault>,
 }
 
-// Where a node leads, or its fault.
+// The result of a visit, or the node's fault.
 fn found_at(task: &Task<'_>, key: &NodeKey, state: &AbsState) -> Result<Look, NodeFault>
     requires { IsNodeIn (has_pairs task.now.assumptions.now) key.now state.now }
     ensures key { IfOk result (λ x. x.key ≡ key.now) }
@@ -62,7 +62,7 @@ fn found_at(task: &Task<'_>, key: &NodeKey, state: &AbsState) -> Result<Look, No
     }
 }
 
-// The word at which a fault is.
+// The word of a fault.
 fn word(fault: &NodeFault) -> u16
     ensures { result ≡ word_of fault.now }
 {
@@ -94,7 +94,7 @@ fn worse(worst: Option<NodeFault>, fault: NodeFault) -> NodeFault
     other.lesser(fault)
 }
 
-// One more was found.
+// Adds one more result.
 fn see(seen: &mut Seen, found: Result<Look, NodeFault>) -> Result<(), AllocError>
     ensures { OnOk result (IsSeenBesides found seen.old seen.new) }
 {
@@ -111,7 +111,7 @@ fn see(seen: &mut Seen, found: Result<Look, NodeFault>) -> Result<(), AllocError
     }
 }
 
-// One node more is looked at, if it is there.
+// Visits one more node, if the family has it.
 fn look_at(seen: &mut Seen, task: &Task<'_>, table: &Table, key: &NodeKey) -> Result<(), AllocError>
     requires { AreFormed (has_pairs task.now.assumptions.now) table.now }
     ensures { (keys : List key_type.NodeKey) → AreSeen task.now.flash.now task.now.assumptions.now table.now keys seen.old → OnOk result (AreSeen task.now.flash.now task.now.assumptions.now table.now (keys ++ key.now ∷ []) seen.new) }
@@ -123,7 +123,7 @@ fn look_at(seen: &mut Seen, task: &Task<'_>, table: &Table, key: &NodeKey) -> Re
     see(seen, found)
 }
 
-/// Where these nodes of a family lead, or the fault that counts of theirs.
+/// Visits these nodes of a family: their results, or the fault that counts.
 pub fn look_all(task: &Task<'_>, table: &Table, keys: &[NodeKey]) -> Result<Seen, AllocError>
     requires { AreFormed (has_pairs task.now.assumptions.now) table.now }
     ensures { IfOk result (λ seen. AreSeen task.now.flash.now task.now.assumptions.now table.now keys.now seen) }

@@ -1,4 +1,4 @@
-//! Notes of nodes: who enters an instance and who leaves it, and how instances nest.
+//! Notes of visits: the nodes that enter or leave an instance, and the nesting of instances.
 
 ghost use Rattle.std.specs.Prelude.{◌≡◌, ◌≤◌, OnOk, Contains};
 ghost use Rattle.avr_model.specs.State.{SIZE};
@@ -15,18 +15,18 @@ use round_nesting::Nesting;
 use round_table::{Crossing, Crossings};
 use std::alloc::{AllocError, Global};
 
-/// What is noted of nodes.
+/// The notes of visits.
 #[derive(Drop)]
 pub struct Notes {
-    /// By entered instance, the nodes that enter it, and the word at which each goes on afterwards.
+    /// For each entered instance, the nodes that enter it, with their return addresses.
     pub callers: Crossings,
-    /// By instance, the nodes from which it is left, and how.
+    /// For each instance, the nodes that leave it, with their exits.
     pub leavers: Crossings,
-    /// How instances nest.
+    /// The nesting of instances.
     pub nesting: Nesting,
 }
 
-// The ways of a node into instances: it enters each of them.
+// Notes each instance that a node enters.
 fn note_ways(
     callers: &mut Crossings,
     nesting: &mut Nesting,
@@ -58,7 +58,7 @@ fn note_ways(
     Ok(())
 }
 
-// How a node leaves its instance, if it does.
+// Notes the exit of a node, if it has one.
 fn note_leaver(
     leavers: &mut Crossings,
     alloc: Global,
@@ -81,7 +81,7 @@ fn note_leaver(
 }
 
 impl Notes {
-    /// Nothing is noted.
+    /// No notes.
     pub fn new(alloc: Global) -> Notes
         ensures { result ≡ blank }
     {
@@ -92,7 +92,7 @@ impl Notes {
         }
     }
 
-    // Notes where one node leads.
+    // Notes the result of one visit.
     fn note(&mut self, alloc: Global, x: &Look) -> Result<(), AllocError>
         requires { offset_of x.now.key.sp ≤ SIZE }
         ensures noted { OnOk result (IsNoted self.old x.now self.new) }
@@ -104,7 +104,7 @@ impl Notes {
         Ok(())
     }
 
-    /// Notes where these nodes lead.
+    /// Notes the results of these visits.
     pub fn note_all(&mut self, alloc: Global, looks: &[Look]) -> Result<(), AllocError>
         requires small { (x : look_type.Look) → Contains looks.now x → offset_of x.key.sp ≤ SIZE }
         requires once { AreOnce self.old.nesting.insts }

@@ -1,4 +1,4 @@
-//! What the edges of nodes lead to.
+//! The targets of edges.
 
 ghost use Rattle.std.specs.Prelude.{ℕ, Bool, ◌≡◌, ◌<◌, ◌++◌, List, map, OnOk, IfOk};
 ghost use Rattle.abs_state.specs.Values.{value_at};
@@ -19,7 +19,7 @@ use mask_states::{InstKey, NodeKey};
 use round_table::{Crossing, GatheredStates, Table};
 use std::alloc::{AllocError, Global};
 
-// A family of nodes, and what is noted of them.
+// A family of nodes, and its notes.
 #[derive(Clone, Copy)]
 struct Family<'a> {
     alloc: Global,
@@ -54,7 +54,7 @@ fn add_entries(
     Ok(())
 }
 
-// Back to a caller by an exit, if the states fit.
+// The return to a caller by an exit, if the states fit.
 fn add_return(
     targets: &mut Vec<Node>,
     alloc: Global,
@@ -172,7 +172,7 @@ fn add_onwards(
 
 // ---- of nodes
 
-// Into other instances, back from these, and on from its own.
+// Entries of other instances, returns from these, and returns from the node's own.
 fn add_crossings(
     targets: &mut Vec<Node>,
     family: &Family<'_>,
@@ -188,7 +188,7 @@ fn add_crossings(
     add_onwards(targets, family, &x.key.inst, state, x.part.exit)
 }
 
-// `drop` lets go of the look: a call is one step of the proof, whatever it owns.
+// `drop` releases the look: a call is one step of the proof, whatever it owns.
 fn add_targets(targets: &mut Vec<Node>, family: &Family<'_>, x: Look) -> Result<(), AllocError>
     requires { AreOwn family.now.table.now }
     ensures { OnOk result (targets.new.items ≡ targets.old.items ++ targets_of family.now.table.now family.now.notes.now x) }
@@ -206,7 +206,7 @@ fn add_targets(targets: &mut Vec<Node>, family: &Family<'_>, x: Look) -> Result<
     }
 }
 
-// Joins a node into those of its key that are gathered, unless it lands in the family.
+// Joins a node into the gathered one of its key, unless it lands in the family.
 fn gather_one(next: &mut GatheredStates, table: &Table, node: Node) -> Result<(), AllocError>
     requires { IsOwnNode node.key node.state }
     ensures { OnOk result (IsTargetGathered table.now next.old node next.new) }
@@ -228,7 +228,7 @@ fn gather(next: &mut GatheredStates, table: &Table, nodes: Vec<Node>) -> Result<
     Ok(())
 }
 
-// The same of where one node leads.
+// Gathers the targets of one node.
 fn gather_targets(next: &mut GatheredStates, family: &Family<'_>, x: Look) -> Result<(), AllocError>
     requires formed { AreOwn family.now.table.now }
     requires nodes { AreOwnNodes (targets_of family.now.table.now family.now.notes.now x) }
@@ -244,9 +244,8 @@ fn gather_targets(next: &mut GatheredStates, family: &Family<'_>, x: Look) -> Re
     }
 }
 
-/// What the edges lead to that these nodes have: their own, those back to them over nodes that are noted as leaving what they enter,
-/// and those over them to nodes that are noted as entering their instances. One state for each key, ascending by key, and none that
-/// lands in the family.
+/// The targets of these nodes' edges: their own, returns to them by nodes noted as leaving what they enter, and returns by them to nodes
+/// noted as entering their instances. One state for each key, ascending by key; none lands in the family.
 pub fn targets(
     alloc: Global,
     table: &Table,

@@ -56,7 +56,7 @@ table_put es es' f k v is up =
 
 -- ---- one node more
 
--- what is joined into a node that is there
+-- the state joined into a present node
 pub raised_there : (es es' : List (NodeKey × AbsState)) (f : Family) (n : Node) (s w : AbsState) → from_entries {R = node_cmp} es ≡ f → Some s ≡ lookup (same_node n.key) es
     → w ≡ state_join s n.state → ((q : NodeKey) → lookup (same_node q) es' ≡ cond (same_node n.key q) (Some w) (lookup (same_node q) es))
     → (get f n.key ≡ Some s) × ((from_entries {R = node_cmp} es' ≡ insert f n.key w) × (from_entries {R = node_cmp} es' ≡ raised f n))
@@ -73,7 +73,7 @@ raised_new es es' f n is found up =
     let put = table_put es es' f n.key n.state is up in
     (none, (put, put ∙ ap (insert f n.key) (ap (λ o. joined_with o n.state) (sym none))))
 
--- Each state is still sized, whether the node was inserted or there was no memory. The words of an `insert` say more than is asked.
+-- Each state is still sized, whether the node was inserted or memory ran out. The contract of `insert` says more than is needed.
 pub inserted_sized : {V E : Type 0} (N : Type 0) (r : Result V E) (es es' : List (NodeKey × AbsState)) (f : Family) (n : Node) → from_entries {R = node_cmp} es ≡ f → AreStatesSized f
     → length n.state.slots ≡ offset_of n.key.sp → None ≡ lookup (same_node n.key) es
     → OnOk r N → OnErr r (es' ≡ es) → (N → (q : NodeKey) → lookup (same_node q) es' ≡ cond (same_node n.key q) (Some n.state) (lookup (same_node q) es))
@@ -84,7 +84,7 @@ inserted_sized N (Err e) es es' f n is sized count found up same says = subst Ar
 
 -- ---- order
 
--- entries with the same look-ups are the same family
+-- entries with the same look-ups form the same family
 pub table_same : (es es' : List (NodeKey × AbsState)) → ((q : NodeKey) → lookup (same_node q) es' ≡ lookup (same_node q) es) → from_entries {R = node_cmp} es' ≡ from_entries es
 table_same es es' same = same_map node_total node_exact (from_entries es') (from_entries es) (λ q. table_get es' q ∙ same q ∙ sym (table_get es q))
 
@@ -103,7 +103,7 @@ below_through x y (e ∷ es) less h =
     (so_if_less (node_cmp x e.0) (node_total.trans x y e.0 less (less_if_so (node_cmp y e.0) (first (is_lt (node_cmp y e.0)) (below_all node_cmp y es) h))))
     (below_through x y es less (second (is_lt (node_cmp y e.0)) (below_all node_cmp y es) h))
 
--- neighbours that are not equal, of which the second is not less
+-- different neighbours, the second of which is not less
 neighbours : (x y : NodeKey) → is_lt (node_cmp y x) ≡ false → same_node x y ≡ false → node_cmp x y ≡ Less
 neighbours x y not_less other = by (node_cmp x y) refl
   where

@@ -1,4 +1,4 @@
--- Families by what they have at each key.
+-- Families by their states at each key.
 use Rattle.std.proofs.Common.{◌≡◌, ◌≢◌, ◌↔◌, sym, ap, ◌∙◌, subst, Bool, false, Some, None, length}
 use Rattle.std.specs.Prelude.{IsTrue}
 use Rattle.std.specs.FinMap.{get, insert}
@@ -31,7 +31,7 @@ insert_sized f k v sized count q s =
     (λ is. subst (λ (x : AbsState). length x.slots ≡ offset_of k.sp) (same_Some v s (sym (get_same f k v) ∙ is)) count)
     (λ ne is. sized q s (sym (get_other f k v q ne) ∙ is))
 
--- another state makes another family
+-- another state gives another family
 pub grew_if : (f : Family) (k : NodeKey) (s v : AbsState) → get f k ≡ Some s → (v ≢ s) ↔ (insert f k v ≢ f)
 grew_if f k s v is = (
   (λ ne e. ne (same_Some v s (sym (get_same f k v) ∙ ap (λ g. get g k) e ∙ is))),
@@ -41,7 +41,7 @@ grew_if f k s v is = (
 pub new_grew : (f : Family) (k : NodeKey) (v : AbsState) → get f k ≡ None → insert f k v ≢ f
 new_grew f k v none e = let never : Some v ≡ None = sym (get_same f k v) ∙ ap (λ g. get g k) e ∙ none in absurd (cc)
 
--- the same, of a family that is known to be this one
+-- for a family that is known to be this one
 pub grew_by : (f g : Family) (k : NodeKey) (s v : AbsState) (b : Bool) → get f k ≡ Some s → g ≡ insert f k v → (IsTrue b ↔ (v ≢ s)) → IsTrue b ↔ (g ≢ f)
 grew_by f g k s v b is new grew = (
   (λ t e. (grew_if f k s v is).0 (grew.0 t) (sym new ∙ e)),

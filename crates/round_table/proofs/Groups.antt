@@ -1,4 +1,4 @@
--- Crossings by their instances.
+-- Crossings by instance.
 use Rattle.std.proofs.Common.{◌≡◌, refl, sym, ap, ◌∙◌, subst, ◌⊎◌, inl, inr, ⊎_elim, rules, Bool, true, false, cond, if◌then◌else◌, List, [], ◌∷◌, ◌++◌, map, Option, Some, slice_get, ℕ, zero, suc, Contains}
 use Rattle.std.specs.Prelude.{◌==◌, ◌↔◌, unwrap_or}
 use Rattle.std.specs.Bool.{Decides}
@@ -80,7 +80,7 @@ module _ (gs new : Groups) (inst : InstKey) (c : Crossing) (is : (q : InstKey) �
                 (λ k. absurd (let t = (keys_are_ordered.same_insts inst i).1 (sym k.0) in cc)),
           )
 
--- what a set has, if there is one
+-- the items of a set, if there is one
 abbrev pub kept : {S : Type 0} → Option (IndexSet Crossing S) → List Crossing
 kept o = unwrap_or (option_map (λ s. s.keys) o) []
 

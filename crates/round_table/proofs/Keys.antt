@@ -1,4 +1,4 @@
--- A key of the family is one of the entries'.
+-- A key of the family is that of an entry.
 use Rattle.std.proofs.Common.{◌≡◌, refl, sym, ◌∙◌, subst, Bool, true, false, cond, List, [], ◌∷◌, Some, Contains, ℕ}
 use Rattle.std.specs.Map.{lookup, keys_of}
 use Rattle.std.specs.Option.{option_map}

@@ -1,4 +1,4 @@
--- A table whose nodes share states, with one node raised.
+-- A table with shared states, with one node raised.
 use Rattle.std.proofs.Common.{◌≡◌, ◌≢◌, ◌↔◌, refl, sym, ap, ◌∙◌, subst, ℕ, Bool, false, cond, Option, Some, None, List, length, Result, Ok, Err}
 use Rattle.std.specs.Prelude.{IsTrue, IsSome}
 use Rattle.std.specs.List.{IsDistinct}
@@ -24,7 +24,7 @@ use Rattle.round_table.proofs.Shared.{lookup_stated, up_stated, counts_there, co
 abbrev Numbered : Type 0
 Numbered = List (NodeKey × ℕ)
 
--- the table with this state at the node's key, where this was before
+-- the table with this state at the node's key, which had the other before
 pub record IsRaised (f : Family) (node : Node) (before : Option AbsState) (s : AbsState) (pool : Uses) (es : Numbered) : Type 0 where
   pub shared : IsShared pool es
   pub here : get f node.key ≡ before
@@ -95,7 +95,7 @@ not_grown pool n s t w other b held copied joined grew stays =
     not_moved pool n (state_join (state_at pool n) other)
     (sym (stays_or_not (state_join (state_at pool n) other) (state_at pool n) (λ ne. let t = so.1 ne in absurd (cc))))
 
--- the state that was joined, as the pool's
+-- the joined state, as the pool's
 pub joined_so : (a s t w other : AbsState) → a ≡ s → t ≡ s → w ≡ state_join t other → w ≡ state_join a other
 joined_so a s t w other held copied joined = joined ∙ ap (λ (x : AbsState). state_join x other) (copied ∙ sym held)
 

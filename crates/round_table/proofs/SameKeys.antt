@@ -1,4 +1,4 @@
--- Keys whose fields are the same are the same.
+-- Keys with equal fields are equal.
 use Rattle.std.proofs.Common.{◌≡◌}
 use Rattle.mask_states.specs.declared.keys.InstKey.{InstKey}
 use Rattle.mask_states.specs.declared.keys.NodeKey.{NodeKey}

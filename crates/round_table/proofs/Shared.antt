@@ -1,4 +1,4 @@
--- States that nodes share, and what becomes of them where one node gets another number.
+-- States shared by nodes, and the effect of giving one node another number.
 use Rattle.std.proofs.Common.{◌≡◌, ◌≢◌, refl, sym, ap, ◌∙◌, subst, ℕ, suc, ◌+◌, ◌<◌, ◌≤◌, Bool, true, false, cond, Option, Some, None, List, [], ◌∷◌, ◌++◌, map, length, append_assoc, arith}
 use Rattle.std.specs.Prelude.{◌==◌}
 use Rattle.std.specs.List.{IsDistinct, sum_by}
@@ -47,7 +47,7 @@ pub get_stated : (pool : Uses) (es : Numbered) (f : Family) (q : NodeKey) → fr
     → get f q ≡ option_map (state_at pool) (lookup (same_node q) es)
 get_stated pool es f q is = sym (ap (λ (g : Family). get g q) is) ∙ table_get (stated pool es) q ∙ lookup_stated pool es q
 
--- as long, by the states' list
+-- the list of states has the same length
 pub long_stated : (pool : Uses) (es : Numbered) → length (stated pool es) ≡ length es
 long_stated pool [] = refl
 long_stated pool (e ∷ es) = ap suc (long_stated pool es)
@@ -73,7 +73,7 @@ pub times_few : (n : ℕ) (es : Numbered) → times n es ≤ length es
 times_few n [] = omega arith
 times_few n (e ∷ es) = let one = at_most_one (n == e.1) in let rest = times_few n es in omega (arith, one, rest)
 
--- a number more in the place of that which the key had
+-- another number in the place of the key's old one
 pub times_there : (k : NodeKey) (n m x : ℕ) (es : Numbered) → lookup (same_node k) es ≡ Some n → times x (set_value (same_node k) es m) + share x n ≡ times x es + share x m
 times_there k n m x [] is = absurd (cc)
 times_there k n m x (e ∷ es) is = by (same_node k e.0) is (times_there k n m x es)
@@ -84,7 +84,7 @@ times_there k n m x (e ∷ es) is = by (same_node k e.0) is (times_there k n m x
     by true t rest = let same : share x e.1 ≡ share x n = ap (share x) (same_Some e.1 n t) in omega (arith, same)
     by false t rest = let more = rest t in omega (arith, more)
 
--- a number more behind the others
+-- one more number after the others
 pub times_new : (k : NodeKey) (m x : ℕ) (es : Numbered) → lookup (same_node k) es ≡ None → times x (insert_entry same_node es k m) ≡ times x es + share x m
 times_new k m x [] is = omega arith
 times_new k m x (e ∷ es) is = by (same_node k e.0) is (times_new k m x es)
@@ -98,12 +98,12 @@ times_sum : (x : ℕ) (es : Numbered) → times x es ≡ sum_by (λ (e : NodeKey
 times_sum x [] = refl
 times_sum x (e ∷ es) = ap (λ (n : ℕ). share x e.1 + n) (times_sum x es) ∙ sym (sum_by-cons (λ (e : NodeKey × ℕ). share x e.1) e es)
 
--- their order makes no difference
+-- their order does not matter
 pub times_reordered : (pool : Uses) (es new : Numbered) → IsPermutation es new → AreCounted pool es → AreCounted pool new
 times_reordered pool es new p counted x =
     counted x ∙ times_sum x es ∙ sym (sum_by-IsPermutation (λ (e : NodeKey × ℕ). share x e.1) es new p) ∙ sym (times_sum x new)
 
--- no count is above the number of nodes
+-- no count exceeds the number of nodes
 pub counts_below : (pool : Uses) (es : Numbered) (most : ℕ) → AreCounted pool es → length es < most → AreBelow most pool
 counts_below pool es most counted lt n s count held =
     let is : count_at pool n ≡ count = ap held_count held in
@@ -113,7 +113,7 @@ counts_below pool es most counted lt n s count held =
 
 -- ---- a node that gets another number
 
--- each number that is still used has its state
+-- each used number keeps its state
 abbrev pub AreStatesKept : Uses → Uses → Type 0
 AreStatesKept old new = (x : ℕ) → 0 < count_at old x → 0 < count_at new x → state_at new x ≡ state_at old x
 
@@ -135,7 +135,7 @@ up_stated old new es new_es k m s own kept before after up q =
     by true is = ap (option_map (state_at new)) is ∙ ap Some own
     by false is = ap (option_map (state_at new)) is ∙ same (lookup (same_node q) es) refl is
 
--- a use that goes over to another number
+-- a use that moves to another number
 pub counts_there : (old new : Uses) (es : Numbered) (k : NodeKey) (n m : ℕ) (s : AbsState) → IsMoved old n s m new → AreCounted old es → lookup (same_node k) es ≡ Some n
     → AreCounted new (set_value (same_node k) es m)
 counts_there old new es k n m s moved counted is x =
@@ -144,7 +144,7 @@ counts_there old new es k n m s moved counted is x =
     let c = times_there k n m x es is in
     omega (arith, a, b, c)
 
--- a use more
+-- one more use
 pub counts_new : (old new : Uses) (es : Numbered) (k : NodeKey) (m : ℕ) (s : AbsState) → IsUsedMore old s m new → AreCounted old es → lookup (same_node k) es ≡ None
     → AreCounted new (insert_entry same_node es k m)
 counts_new old new es k m s more counted is x =
@@ -195,7 +195,7 @@ stated_same old new (e ∷ es) kept =
     ap (λ (s : AbsState). (e.0, s) ∷ stated new es) here
     ∙ ap (λ (l : List (NodeKey × AbsState)). (e.0, state_at old e.1) ∷ l) (stated_same old new es (λ x lt. kept x (omega (arith, lt))))
 
--- what is left of the nodes and of the pool, when the first node is taken out
+-- the remaining nodes and the pool after the first node is taken out
 pub less_counted : (old new : Uses) (e : NodeKey × ℕ) (es : Numbered) → AreCounted old (e ∷ es) → IsUsedLess old e.1 new → AreCounted new es
 less_counted old new e es counted less x = let a = counted x in let b = less.counts x in omega (arith, a, b)
 
@@ -206,7 +206,7 @@ less_stated old new e es counted less =
 pub first_used : (pool : Uses) (e : NodeKey × ℕ) (es : Numbered) → AreCounted pool (e ∷ es) → 0 < count_at pool e.1
 first_used pool e es counted = let a = counted e.1 in let one = share_own e.1 in omega (arith, a, one)
 
--- the first of the nodes that are left goes to those that are done
+-- the first remaining node moves to those that are done
 pub one_taken : (pool new : Uses) (left rest : Numbered) (e : NodeKey × ℕ) (s : AbsState) (before after all : List Node) → left ≡ e ∷ rest → AreCounted pool left → IsUsedLess pool e.1 new
     → s ≡ state_at pool e.1 → before ++ map node_of (stated pool left) ≡ all → after ≡ before ++ node_of (e.0, s) ∷ []
     → AreCounted new rest × (after ++ map node_of (stated new rest) ≡ all)
@@ -221,7 +221,7 @@ one_taken pool new left rest e s before after all is counted less state sum more
           ∙ sum,
     )
 
--- sorted by their keys they are the family's nodes
+-- sorted by key they are the family's nodes
 pub sorted_stated : (pool : Uses) (es new : Numbered) (f : Family) → from_entries {R = node_cmp} (stated pool es) ≡ f → ((q : NodeKey) → lookup (same_node q) new ≡ lookup (same_node q) es)
     → IsSorted node_cmp (keys_of new) → IsDistinct same_node (keys_of new) → stated pool new ≡ entries f
 sorted_stated pool es new f is same sorted distinct =

@@ -1,4 +1,4 @@
-//! What is noted of instances.
+//! Crossings by instance: the nodes that enter or leave it.
 
 ghost use Rattle.std.specs.Prelude.{◌≡◌, ◌∷◌, [], IfSome, IfNone, IfOk, OnOk};
 ghost use Rattle.mask_states.specs.Order.{same_inst};
@@ -15,16 +15,16 @@ use std::alloc::{AllocError, Global};
 use std::hash::{Hash, Hasher};
 use std::marker::Model;
 
-/// A node that enters an instance or leaves its own, with what the list that it stands in needs of these.
+/// A node that enters an instance or leaves its own, with the data for returns.
 #[derive(Clone, Copy, PartialEq, Eq)]
 pub struct Crossing {
     /// The node.
     pub node: NodeKey,
-    /// How it enters the instance, or `Return` where it leaves its own.
+    /// How it enters the instance, or `Return` if it leaves its own.
     pub kind: EdgeKind,
-    /// The word at which it goes on after the return from there, or its own where it leaves its own.
+    /// Its return address, or its own word if it leaves its own instance.
     pub back: u16,
-    /// How it leaves its own.
+    /// Its exit, if it leaves its own instance.
     pub exit: Exit,
 }
 
@@ -90,7 +90,7 @@ fn one(alloc: Global, crossing: Crossing) -> Result<IndexSet<Crossing>, AllocErr
     Ok(first)
 }
 
-/// Crossings by their instances, each of them once. Seen as the list of instances with their crossings.
+/// Crossings by instance, each once. Seen as the list of instances with their crossings.
 #[derive(Drop)]
 pub struct Crossings {
     map: IndexMap<HashedInst, IndexSet<Crossing>>,
@@ -114,7 +114,7 @@ impl Crossings {
         }
     }
 
-    /// A crossing of an instance. It may be there before.
+    /// Adds a crossing of an instance, unless it is present.
     pub fn add(
         &mut self,
         alloc: Global,
@@ -137,7 +137,7 @@ impl Crossings {
         }
     }
 
-    /// The crossings of an instance, if it has any, each of them once.
+    /// The crossings of an instance, if it has any, each once.
     pub fn at(&self, inst: &InstKey) -> Option<&[Crossing]>
         ensures some { IfSome result (λ list. list.now ≡ crossings_at self.now inst.now) }
         ensures none { IfNone result (crossings_at self.now inst.now ≡ []) }

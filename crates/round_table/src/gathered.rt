@@ -13,8 +13,8 @@ use local_rules::Node;
 use std::alloc::{AllocError, Global};
 use std::marker::Model;
 
-/// A state of its own for each node, the join of all that came for its key: it is raised in place, which a shared one can't be. Seen as a
-/// map from their keys. Each state has as many slots as its key's offset says.
+/// A state for each node, the join of all that came for its key. States are not shared here, so each is raised in place. Seen as a map
+/// from keys. Each state has as many slots as the offset of its key.
 #[derive(Drop)]
 pub struct GatheredStates {
     map: IndexMap<HashedNode, AbsState>,
@@ -49,7 +49,7 @@ impl GatheredStates {
         }
     }
 
-    /// Joins a state into that of its node, or adds the node.
+    /// Joins a state into that of its node, or adds the node. Fails if memory runs out.
     pub fn raise(&mut self, node: Node) -> Result<(), AllocError>
         requires { length node.state.slots ≡ offset_of node.key.sp }
         ensures { OnOk result (self.new ≡ raised self.old node) }
@@ -78,7 +78,7 @@ impl GatheredStates {
     }
 }
 
-// The nodes by their numbers.
+// The nodes by number.
 fn nodes_in(map: IndexMap<HashedNode, AbsState>, alloc: Global) -> Result<Vec<Node>, AllocError>
     ensures { IfOk result (λ all. all.items ≡ list_map node_of map.entries) }
 {

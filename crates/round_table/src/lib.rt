@@ -1,4 +1,4 @@
-//! What the rounds keep: the state of each node by its key, and the nodes that enter and leave instances.
+//! The tables of the rounds: the state of each node by its key, and the nodes that enter and leave instances.
 #![tactic(auto)]
 
 pub mod crossings;

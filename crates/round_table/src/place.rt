@@ -1,4 +1,4 @@
-//! Keys of nodes as keys of a table.
+//! Keys of nodes as keys of a hash table.
 
 ghost use Rattle.std.specs.Prelude.{◌≡◌, ◌↔◌, IsTrue, refl};
 ghost use Rattle.std.specs.Ordering.{as_partial_cmp};
@@ -77,7 +77,7 @@ impl Hash for HashedNode {
     }
 }
 
-// Whether two keys are the same. Most that are compared here are, or have another word, which comes first; no field is put in order.
+// Whether two keys are equal. Most that are compared here are equal or differ in their word, which is compared first.
 #[tactic(auto, using(crate::proofs::SameKeys::key_is))]
 fn is_same(key: &NodeKey, other: &NodeKey) -> bool
     ensures { IsTrue result ↔ (key.now ≡ other.now) }

@@ -27,13 +27,13 @@ use std::marker::Model;
 // The most entries, and the most different states: as many as the pool counts.
 const MOST: usize = 4_294_967_294;
 
-/// The state of each node, with the nodes numbered as they came; equal states are kept once. Seen as a map from their keys. Each state
-/// has as many slots as its key's offset says.
+/// The state of each node. Nodes are numbered in order of insertion, and equal states are stored once. Seen as a map from keys. Each
+/// state has as many slots as the offset of its key.
 #[derive(Drop)]
 pub struct Table {
     // The number of each node's state.
     map: IndexMap<HashedNode, u32>,
-    // The states, each with as many uses as nodes have it.
+    // The states, each with as many uses as nodes.
     pool: Pool,
 }
 
@@ -66,7 +66,7 @@ impl Table {
         }
     }
 
-    /// How many nodes there are.
+    /// The number of nodes.
     pub fn len(&self) -> usize
         ensures { result ≡ len self.now }
     {
@@ -83,7 +83,7 @@ impl Table {
         }
     }
 
-    /// Whether the node lands here: its key has a state that is at least its own.
+    /// Whether the node lands here: its key has a state above its own.
     pub fn covers(&self, node: &Node) -> bool
         requires { length node.now.state.slots ≡ offset_of node.now.key.sp }
         ensures { IsTrue result ↔ Lands self.now node.now }
@@ -94,7 +94,7 @@ impl Table {
         }
     }
 
-    /// Joins a state into that of its node, or adds the node. Gives whether the table is another then.
+    /// Joins a state into that of its node, or adds the node. Returns whether the table changed. Fails if memory runs out.
     pub fn raise(&mut self, alloc: Global, node: Node) -> Result<bool, AllocError>
         requires { length node.state.slots ≡ offset_of node.key.sp }
         ensures ok { IfOk result (λ grew. self.new ≡ raised self.old node) }
@@ -127,7 +127,7 @@ impl Table {
         }
     }
 
-    /// The keys of all nodes, as they came.
+    /// The keys of all nodes, in order of insertion.
     pub fn keys(&self, alloc: Global) -> Result<Vec<NodeKey>, AllocError>
         ensures { IfOk result (λ all. (k : node_key.NodeKey) (s : abs_state.AbsState) → get self.now k ≡ Some s → Contains all.items k) }
     {
@@ -145,8 +145,8 @@ impl Table {
     }
 }
 
-// Joins a state into that of a number, of which one use goes over to the number that the join has. Gives this number, and whether the join
-// is another state.
+// Joins a state into that of a number. One use of the number moves to that of the join. Returns the new number, and whether the join
+// differs.
 fn joined(
     pool: &mut Pool,
     alloc: Global,
@@ -174,7 +174,7 @@ fn joined(
     Ok((next, true))
 }
 
-// The state of a number, of which one use goes: with the last use the pool's own, and else a copy.
+// The state of a number, which loses one use: the pool's own for the last use, else a copy.
 fn taken(pool: &mut Pool, alloc: Global, number: u32) -> Result<AbsState, AllocError>
     requires { 0 < count_at pool.old number }
     ensures state { IfOk result (λ state. state ≡ state_at pool.old number) }
@@ -187,7 +187,7 @@ fn taken(pool: &mut Pool, alloc: Global, number: u32) -> Result<AbsState, AllocE
     }
 }
 
-// The keys by their numbers.
+// The keys by number.
 fn keys_in(map: &IndexMap<HashedNode, u32>, alloc: Global) -> Result<Vec<NodeKey>, AllocError>
     ensures { IfOk result (λ all. all.items ≡ keys_of map.now.entries) }
 {
@@ -198,7 +198,7 @@ fn keys_in(map: &IndexMap<HashedNode, u32>, alloc: Global) -> Result<Vec<NodeKey
     Ok(all)
 }
 
-// Puts the nodes of the numbers behind others.
+// Appends the nodes of the numbers.
 fn add_nodes(
     all: &mut Vec<Node>,
     map: IndexMap<HashedNode, u32>,
@@ -217,7 +217,7 @@ fn add_nodes(
     Ok(())
 }
 
-// The nodes by their numbers.
+// The nodes by number.
 fn nodes_in(
     map: IndexMap<HashedNode, u32>,
     pool: Pool,

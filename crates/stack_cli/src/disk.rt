@@ -1,5 +1,5 @@
-//! Real files and the standard output, as the top call sees them: the trusted edge. They tell nothing of content. A call that
-//! a signal interrupts is made again, and counts as no fault.
+//! Real files and the standard output for the top call: the trusted edge. They report no contents. A call that a signal interrupts is
+//! repeated, and is no fault.
 
 ghost use Rattle.std.specs.Prelude.{None, IfOk, IfSome, length, ◌≡◌, ◌≤◌};
 ghost use Rattle.sb_base.specs.Outside.{Untold, Unsaid};
@@ -10,7 +10,7 @@ use std::fs::File;
 use std::io::{ErrorKind, Read, Write};
 use std::{fs, io};
 
-/// Files on the disk. It tells neither what they hold nor whose read failed.
+/// Files on disk. They report neither their contents nor whose read failed.
 #[derive(Drop)]
 pub struct DiskFiles<'a> {
     rt: &'a HostRuntime,
@@ -24,7 +24,7 @@ impl<'a> DiskFiles<'a> {
     }
 }
 
-// What an error of the system means to a reader.
+// The fault of an error of the system.
 fn fault_of(error: &io::Error) -> FileFault {
     if error.kind() == ErrorKind::OutOfMemory {
         FileFault::Memory
@@ -45,7 +45,7 @@ fn open(rt: &HostRuntime, name: &str) -> Result<File, FileFault> {
     Err(FileFault::Failed)
 }
 
-// Reads the file's next bytes into the piece, and says how many; 0 at the end.
+// Reads the file's next bytes into the piece. Returns how many; 0 at the end.
 fn read_piece(file: &mut File, piece: &mut [u8]) -> Result<usize, FileFault>
     ensures count { IfOk result (λ n. n ≤ length piece.old) }
     ensures room { length piece.new ≡ length piece.old }
@@ -102,7 +102,7 @@ impl<'a> Files for DiskFiles<'a> {
     }
 }
 
-/// The standard output. It tells nothing of what it took.
+/// The standard output. It does not report what it took.
 #[derive(Drop)]
 pub struct StdSink<'a> {
     rt: &'a HostRuntime,
@@ -116,7 +116,7 @@ impl<'a> StdSink<'a> {
     }
 }
 
-// Writes the first bytes of the piece, and says how many; none where the system refuses.
+// Writes the first bytes of the piece. Returns how many; none if the system refuses.
 fn write_piece(rt: &HostRuntime, piece: &[u8]) -> Option<usize>
     ensures { IfSome result (λ n. n ≤ length piece.now) }
 {

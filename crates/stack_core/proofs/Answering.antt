@@ -1,4 +1,4 @@
--- The answer, by how the reading of files went.
+-- The answer, by the outcome of reading the files.
 use Rattle.std.proofs.Common.{◌≡◌, ◌≢◌, inl, inr, ℕ, Bool, true, false, List, [], ◌∷◌, Option, Some, None, Result, Ok, Err, refl, sym, ap, ◌∙◌, subst}
 use Rattle.std.specs.Prelude.{IfOk, MatchResult}
 use Rattle.std.proofs.lemmas.List.{append-nil}
@@ -38,7 +38,7 @@ use Rattle.stack_core.specs.Answer.{IsAnswered, IsReplyWritten, IsReadFault, IsS
 
 -- ---- no reply has a status that isn't the reply's
 
--- not the statuses of usage, of a read fault, of a write fault and of want of memory
+-- not the statuses of usage, of a read fault, of a write fault and of running out of memory
 record IsReplyPlain (status : ℕ) : Type 0 where
   two : status ≢ 2
   three : status ≢ 3

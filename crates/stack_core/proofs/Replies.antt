@@ -1,4 +1,4 @@
--- Replies by what is known of their parts.
+-- Replies by their parts.
 use Rattle.std.proofs.Common.{◌≡◌, ◌≢◌, ℕ, Bool, true, false, List, [], take, Option, Some, None, Result, Ok, Err, refl, sym, ap, ◌∙◌, subst}
 use Rattle.std.specs.Option.{option_copied, option_map, is_some}
 use Rattle.std.specs.Prelude.{◌↔◌, IfOk, IsTrue}
@@ -57,7 +57,7 @@ missed_reply words A next bound None text a t = absurd (a tt)
 missed_reply words A next bound (Some plan) text a t =
     by_missing next (attains bound (replay_of words A plan)) text (false_from_ne_true (attains bound (replay_of words A plan)) (λ h. a (attained_by bound (replay_of words A plan) h))) t
 
--- one whose schedule misses its bound
+-- a certificate whose schedule misses its bound
 pub missed_judged : (words : Program) (A : List Entry) (next : Claim → Reply) (c : Claim) (family : Worked) (text : List ℕ) → IsFamilyOf words A c family
     → (b : Bool) → (IsTrue b ↔ IsAttained words A c.bound c.witness) → b ≡ false → text ≡ witness_rejected → JudgedReply words A next c 1 text
 missed_judged words A next c family text f b told missed t =
@@ -67,7 +67,7 @@ missed_judged words A next c family text f b told missed t =
       reply = missed_reply words A (next c) c.bound c.witness text (λ h. never_both b (told.1 h) missed) t;
     }
 
--- one of which a condition doesn't hold
+-- a certificate that fails a condition
 pub rejected_judged : (words : Program) (A : List Entry) (next : Claim → Reply) (c : Claim) (r : Reason) (text : List ℕ) → IsReason words A c r → text ≡ rejected r
     → JudgedReply words A next c 1 text
 rejected_judged words A next c r text h t = record { verdict = Rejected r; is = h; reply = (refl, t) }
@@ -84,11 +84,11 @@ refused_as : (words : Program) (A : List Entry) (next : Claim → Reply) (x : Re
     → CertificateReply words A next x 8 text
 refused_as words A next x f text e t = subst (λ y. CertificateReply words A next y 8 text) (sym e) (subst (λ o. Refuses 8 o 8 text) (sym t) (refl, refl))
 
--- one that is
+-- a certificate that is read
 pub read_claim : {E : Type 0} (words : Program) (A : List Entry) (x : Result Claim CertFault) (c : Claim) (j : Result Judged E) → x ≡ Ok c → IfOk j (IsJudgedAs words A (Ok c)) → IfOk j (IsJudgedAs words A x)
 read_claim words A x c j e h = subst (λ y. IfOk j (IsJudgedAs words A y)) (sym e) h
 
--- where an accepted certificate is answered alike, so is each text
+-- if an accepted certificate gets one of two replies alike, so does each text
 attained_alike : (next other : Reply) (attained : Bool) (status : ℕ) (text : List ℕ) → (next status text → other status text) → AttainedBy next attained status text → AttainedBy other attained status text
 attained_alike next other true status text f h = f h
 attained_alike next other false status text f h = h
@@ -108,14 +108,14 @@ told_alike : (words : Program) (A : List Entry) (next other : Claim → Reply) (
 told_alike words A next other (Err e) status text f h = h
 told_alike words A next other (Ok c) status text f h = record { verdict = h.verdict; is = h.is; reply = verdict_alike words A next other c h.verdict status text (f c) h.reply }
 
--- what follows an accepted certificate
+-- the reply to an accepted certificate
 pub accepted_reply : (words : Program) (A : List Entry) (next : Claim → Reply) (x : Result Claim CertFault) (c : Claim) (status : ℕ) (text : List ℕ) → (x ≡ Ok c) × IsValid words A c → next c status text
     → CertificateReply words A next x status text
 accepted_reply words A next x c status text h k =
     subst (λ y. CertificateReply words A next y status text) (sym h.0)
     (record { verdict = Accepted c.bound; is = (h.1.sound, refl); reply = witness_zero words A (next c) c.bound c.witness status text h.1.attained k })
 
--- the same of a result
+-- the reply to the result of judging
 pub accepted_result : {E : Type 0} (words : Program) (A : List Entry) (next : Claim → Reply) (x : Result Claim CertFault) (c : Claim) (r : Result Answered E) → (x ≡ Ok c) × IsValid words A c
     → IfOk r (λ a. next c a.status a.text.items) → IfOk r (λ a. CertificateReply words A next x a.status a.text.items)
 accepted_result words A next x c (Err e) h k = tt

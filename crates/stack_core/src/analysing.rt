@@ -1,4 +1,4 @@
-//! Certificates that are made, for `analyse` and for `demo`.
+//! Certificates that the program makes, for `analyse` and `demo`.
 
 ghost use Rattle.std.specs.Prelude.{◌≡◌, IfOk, None};
 ghost use Rattle.certificate.specs.Claims.{IsClaim};
@@ -31,7 +31,7 @@ fn why_not_status(refusal: &Refusal) -> u8
     }
 }
 
-// What is answered in place of a certificate.
+// The answer if there is no certificate.
 fn why_not(alloc: Global, flash: &Flash, refusal: &Refusal) -> Result<Reply, AllocError>
     ensures { IfOk result (λ r. Refuses (why_not_status refusal.now) (why_not_text flash.now refusal.now) r.status r.text.items) }
 {
@@ -41,14 +41,14 @@ fn why_not(alloc: Global, flash: &Flash, refusal: &Refusal) -> Result<Reply, All
     })
 }
 
-// What every certificate keeps.
+// A certificate meets the definition of one.
 fn claims(certificate: &Certificate)
     ensures { IsClaim certificate.now }
 {
     let _nodes = certificate.nodes();
 }
 
-// The text of the certificate with the schedule that the trials find, if they find one.
+// The text of the certificate with the schedule that trials find, if they find one.
 fn solved(task: &Task<'_>, certificate: Certificate) -> Result<Vec<u8>, AllocError>
     requires { IsSound task.now.flash.now task.now.assumptions.now certificate }
     ensures text { IfOk result (λ v. IsWitnessedText task.now.flash.now task.now.assumptions.now certificate v.items) }
@@ -59,7 +59,7 @@ fn solved(task: &Task<'_>, certificate: Certificate) -> Result<Vec<u8>, AllocErr
     write(task.alloc, &certificate.with_witness(found))
 }
 
-/// What is answered to an analysis.
+/// The answer to an analysis. `steps` limits the number of rounds.
 pub fn analyse(task: &Task<'_>, steps: Option<u64>) -> Result<Reply, AllocError>
     ensures { IfOk result (λ r. AnalyseReply task.now.flash.now task.now.assumptions.now steps r.status r.text.items) }
 {
@@ -72,7 +72,7 @@ pub fn analyse(task: &Task<'_>, steps: Option<u64>) -> Result<Reply, AllocError>
     }
 }
 
-// What is answered of an image whose certificate this is: it is judged, and accepted.
+// The answer for an image with this certificate, which is judged and accepted.
 fn measured(task: &Task<'_>, size: u32, certificate: &Certificate) -> Result<Reply, AllocError>
     requires { IsSound task.now.flash.now task.now.assumptions.now certificate.now }
     ensures reply { IfOk result (λ r. (r.status ≡ 0) × (r.text.items ≡ demo_text size certificate.now)) }
@@ -91,7 +91,7 @@ fn measured(task: &Task<'_>, size: u32, certificate: &Certificate) -> Result<Rep
     }
 }
 
-/// What is answered of the image of this size.
+/// The answer for the image of this size.
 pub fn demo(alloc: Global, size: &Size) -> Result<Reply, AllocError>
     ensures { IfOk result (λ r. DemoReply size.now r.status r.text.items) }
 {

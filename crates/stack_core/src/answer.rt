@@ -1,4 +1,4 @@
-//! What is answered to the words, before any of it is written.
+//! The answer to the words of the command line, before it is written.
 
 ghost use Rattle.std.specs.Prelude.{map, MatchResult, Some};
 ghost use Rattle.commands.specs.Commands.{command_of};
@@ -15,7 +15,7 @@ use replies::texts;
 use sb_base::Files;
 use std::alloc::{AllocError, Global};
 
-// What is answered to a command.
+// The answer to a command.
 fn answer_to<F: Files>(
     alloc: Global,
     command: &Command<'_>,
@@ -44,7 +44,7 @@ fn answer_to<F: Files>(
     }
 }
 
-/// What is answered to the words.
+/// The answer to the words of the command line.
 pub fn answer<F: Files>(alloc: Global, words: &[&str], files: &mut F) -> Result<Reply, AllocError>
     ensures { MatchResult result (λ r. IsOutcome (command_of (map (λ w. w.now) words.now)) (F.holds files.old) (F.faults files.old) (F.faults files.new) (F.blamed files.new) r.status r.text.items) (λ e. IsCutOff (command_of (map (λ w. w.now) words.now)) (F.holds files.old) (F.faults files.old) (F.faults files.new) (F.blamed files.new)) }
 {

@@ -14,7 +14,7 @@ use cert_writing::write;
 use local_rules::laws::words_have_16_bits;
 use std::alloc::AllocError;
 
-// The text of an accepted certificate, with the schedule that so many guided trials find where it has none.
+// The text of an accepted certificate, with the schedule that guided trials find if it has none.
 fn completed(task: &Task<'_>, certificate: Certificate, trials: u32) -> Result<Vec<u8>, AllocError>
     requires { IsValid task.now.flash.now task.now.assumptions.now certificate }
     ensures { IfOk result (λ v. AttainReply task.now.flash.now task.now.assumptions.now trials certificate 0 v.items) }
@@ -32,7 +32,7 @@ fn completed(task: &Task<'_>, certificate: Certificate, trials: u32) -> Result<V
     write(task.alloc, &whole)
 }
 
-/// What `attain` answers of the text of a certificate.
+/// The answer of `attain` on the text of a certificate.
 pub fn attain(task: &Task<'_>, text: &[u8], trials: u32) -> Result<Reply, AllocError>
     ensures { IfOk result (λ r. CertificateReply task.now.flash.now task.now.assumptions.now (AttainReply task.now.flash.now task.now.assumptions.now trials) (certificate_in text.now) r.status r.text.items) }
 {

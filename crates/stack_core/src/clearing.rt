@@ -1,4 +1,4 @@
-//! Where steps may be flagged, for `clear` and `premises`.
+//! The places at which steps may be flagged, for `clear` and `premises`.
 
 ghost use Rattle.std.specs.Prelude.{◌≡◌, [], IfOk};
 ghost use Rattle.cert_check.specs.Verdict.{IsFamilyOf};
@@ -17,7 +17,7 @@ use store_clear::{
 };
 use vector_table::Assumptions;
 
-// Whether all nodes of an accepted certificate with this family are clear.
+// The answer by whether all nodes of an accepted certificate with this family are clear.
 fn cleared(task: &Task<'_>, certificate: &Certificate, family: &Worked) -> Result<Reply, AllocError>
     requires none { task.now.assumptions.now ≡ [] }
     requires family { IsFamilyOf task.now.flash.now task.now.assumptions.now certificate.now family.now }
@@ -35,7 +35,7 @@ fn cleared(task: &Task<'_>, certificate: &Certificate, family: &Worked) -> Resul
     }
 }
 
-/// What `clear` answers of the text of a certificate. There are no assumptions.
+/// The answer of `clear` on the text of a certificate. There are no assumptions.
 pub fn clear(alloc: Global, flash: &Flash, text: &[u8]) -> Result<Reply, AllocError>
     ensures { IfOk result (λ r. CertificateReply flash.now [] (ClearReply flash.now) (certificate_in text.now) r.status r.text.items) }
 {
@@ -51,8 +51,7 @@ pub fn clear(alloc: Global, flash: &Flash, text: &[u8]) -> Result<Reply, AllocEr
     }
 }
 
-// The words at which a step may be flagged under an accepted certificate with this family, with these names, and what may happen there
-// where that is asked.
+// The words at which a step may be flagged under an accepted certificate with this family, with these names, and with causes if `why`.
 fn told(
     task: &Task<'_>,
     names: &Names,
@@ -92,7 +91,7 @@ fn told(
     }
 }
 
-/// What `premises` answers of the text of a certificate, for a firmware with these names, also with what may happen at each place.
+/// The answer of `premises` on the text of a certificate, for a firmware with these names; with the causes at each place if `why`.
 pub fn premises(task: &Task<'_>, text: &[u8], names: &Names, why: bool) -> Result<Reply, AllocError>
     ensures { IfOk result (λ r. CertificateReply task.now.flash.now task.now.assumptions.now (PlacesReply why names.now task.now.flash.now task.now.assumptions.now) (certificate_in text.now) r.status r.text.items) }
 {

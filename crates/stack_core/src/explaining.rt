@@ -1,4 +1,4 @@
-//! Where the bytes of a bound go, for `explain`.
+//! The origin of the bytes of a bound, for `explain`.
 
 ghost use Rattle.std.specs.Prelude.{IfOk};
 ghost use Rattle.cert_check.specs.Verdict.{IsFamilyOf};
@@ -32,7 +32,7 @@ fn explained(
     })
 }
 
-/// What `explain` answers of the text of a certificate, for a firmware with these names.
+/// The answer of `explain` on the text of a certificate, for a firmware with these names.
 pub fn explain(task: &Task<'_>, text: &[u8], names: &Names) -> Result<Reply, AllocError>
     ensures { IfOk result (λ r. CertificateReply task.now.flash.now task.now.assumptions.now (ExplainReply names.now task.now.flash.now task.now.assumptions.now) (certificate_in text.now) r.status r.text.items) }
 {

@@ -1,4 +1,4 @@
-//! Certificates that are judged, for all commands that do.
+//! Judging certificates, for all commands that do.
 
 ghost use Rattle.std.specs.Prelude.{IfOk, Ok};
 ghost use Rattle.std.specs.Option.{is_some};
@@ -17,14 +17,14 @@ use replies::texts;
 use reports::{report_json, report_text};
 use std::alloc::{AllocError, Global};
 
-/// A certificate that is accepted, with its family, or what is answered of one that isn't.
+/// An accepted certificate with its family, or the answer to one that isn't accepted.
 #[derive(Drop)]
 pub enum Judged {
     Accepted(Certificate, Worked),
     Refused(Reply),
 }
 
-// What is answered of an accepted certificate.
+// The answer to an accepted certificate.
 #[tactic(auto, using(crate::proofs::Replies::copied_is_some))]
 fn checked(alloc: Global, certificate: &Certificate) -> Result<Reply, AllocError>
     ensures { IfOk result (λ r. Says 0 (accepted certificate.now.bound (is_some certificate.now.witness)) r.status r.text.items) }
@@ -36,7 +36,7 @@ fn checked(alloc: Global, certificate: &Certificate) -> Result<Reply, AllocError
     })
 }
 
-// What is answered with a report, in lines or as JSON.
+// The answer with a report, in lines or as JSON.
 fn reported(
     alloc: Global,
     certificate: &Certificate,
@@ -54,7 +54,7 @@ fn reported(
     Ok(Reply { status: 0, text })
 }
 
-// The family of a certificate that is accepted, or the line of one that isn't.
+// The family of an accepted certificate, or the line of a rejected one.
 fn weighed(
     task: &Task<'_>,
     certificate: &Certificate,
@@ -73,7 +73,7 @@ fn weighed(
     }
 }
 
-// A certificate that was read, if it is accepted.
+// Judges a certificate that was read.
 fn judge_claim(task: &Task<'_>, certificate: Certificate) -> Result<Judged, AllocError>
     ensures { IfOk result (λ j. IsJudgedAs task.now.flash.now task.now.assumptions.now (Ok certificate) j) }
 {
@@ -84,7 +84,7 @@ fn judge_claim(task: &Task<'_>, certificate: Certificate) -> Result<Judged, Allo
     }
 }
 
-/// The certificate of a text, if it is one that is accepted.
+/// Reads and judges the certificate of a text.
 pub fn judge_text(task: &Task<'_>, text: &[u8]) -> Result<Judged, AllocError>
     ensures { IfOk result (λ j. IsJudgedAs task.now.flash.now task.now.assumptions.now (certificate_in text.now) j) }
 {
@@ -97,7 +97,7 @@ pub fn judge_text(task: &Task<'_>, text: &[u8]) -> Result<Judged, AllocError>
     }
 }
 
-/// What `check` answers of the text of a certificate.
+/// The answer of `check` on the text of a certificate.
 pub fn check(task: &Task<'_>, text: &[u8]) -> Result<Reply, AllocError>
     ensures { IfOk result (λ r. CertificateReply task.now.flash.now task.now.assumptions.now (λ c. Says 0 (accepted c.bound (is_some c.witness))) (certificate_in text.now) r.status r.text.items) }
 {
@@ -110,7 +110,7 @@ pub fn check(task: &Task<'_>, text: &[u8]) -> Result<Reply, AllocError>
     }
 }
 
-/// What `report` answers of the text of a certificate, for a firmware that was loaded for this device.
+/// The answer of `report` on the text of a certificate, for a firmware that was loaded for this device.
 pub fn report(
     task: &Task<'_>,
     text: &[u8],

@@ -1,4 +1,4 @@
-//! The top call: words, files and a sink in, a status out.
+//! The top call: it takes words, files and a sink, and returns the exit status. Tests: `tests/end_to_end`.
 #![tactic(auto)]
 
 pub mod analysing;

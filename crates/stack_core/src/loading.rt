@@ -1,4 +1,4 @@
-//! Firmware and assumptions of files that were read.
+//! Firmware and assumptions from files.
 
 ghost use Rattle.std.specs.Prelude.{◌≡◌, IfOk, false, length};
 ghost use Rattle.avr_model.specs.Image.{WORDS};
@@ -14,21 +14,21 @@ use replies::texts;
 use std::alloc::{AllocError, Global};
 use vector_table::Assumptions;
 
-/// What a firmware file is: flash with names and the end of static data, or a refusal.
+/// The result of loading a firmware file: flash with names and the end of static data, or a refusal.
 #[derive(Drop)]
 pub enum Image {
     Loaded(Loaded),
     Refused(Reply),
 }
 
-/// What an assumption file is: a list, or a refusal.
+/// The result of reading an assumption file: a list, or a refusal.
 #[derive(Drop)]
 pub enum Listing {
     Listed(Assumptions),
     Unlisted(Reply),
 }
 
-// The flash of a raw file, which gives no names and no static data.
+// The flash of a raw file, which has no names and no static data.
 fn raw_image(alloc: Global, bytes: &[u8]) -> Result<Image, AllocError>
     ensures { IfOk result (λ i. LoadsBy false bytes.now i) }
 {
@@ -102,7 +102,7 @@ pub fn loaded(alloc: Global, device: Device, bytes: &[u8]) -> Result<Image, Allo
     }
 }
 
-/// The assumptions of a file that there may be.
+/// The assumptions of an optional file.
 pub fn listed(alloc: Global, list: &Option<Vec<u8>>) -> Result<Listing, AllocError>
     ensures { IfOk result (λ l. ListsAs (bytes_of list.now) l) }
 {

@@ -1,6 +1,6 @@
-//! What is answered.
+//! Replies.
 
-/// A status, and the text that goes with it.
+/// A status with its text.
 #[derive(Drop)]
 pub struct Reply {
     pub status: u8,

@@ -1,4 +1,4 @@
-//! Schedules that are replayed, for `run`.
+//! Replays of schedules, for `run`.
 
 ghost use Rattle.std.specs.Prelude.{◌≡◌, IfOk};
 ghost use Rattle.sb_base.specs.Lines.{lines_of};
@@ -14,7 +14,7 @@ use sb_base::LineReader;
 use std::alloc::{AllocError, Global};
 use witness_replay::{IllegalChoice, Schedule, ScheduleFault, replay};
 
-// What is answered of a schedule that was read.
+// The answer to a schedule that was read.
 fn replayed(task: &Task<'_>, schedule: &Schedule) -> Result<Reply, AllocError>
     ensures { IfOk result (λ r. RunReply (replay_of task.now.flash.now task.now.assumptions.now schedule.now) r.status r.text.items) }
 {
@@ -39,7 +39,7 @@ fn schedule_malformed(alloc: Global, at: usize) -> Result<Reply, AllocError>
     })
 }
 
-/// What is answered of the text of a schedule.
+/// The answer to the text of a schedule.
 pub fn run(task: &Task<'_>, text: &[u8]) -> Result<Reply, AllocError>
     ensures { IfOk result (λ r. ScheduleReply task.now.flash.now task.now.assumptions.now (schedule_in (record { at = 0; rest = lines_of text.now })) r.status r.text.items) }
 {

@@ -13,7 +13,7 @@ use device_hooks::{Devices, simulation};
 use replies::texts;
 use std::alloc::AllocError;
 
-// What is told of the run that devices choose.
+// The report of the run that devices choose.
 fn simulated(task: &Task<'_>, steps: ChoiceCount, devices: &Devices) -> Result<Vec<u8>, AllocError>
     ensures { IfOk result (λ v. v.items ≡ run_text (simulation_of task.now.flash.now task.now.assumptions.now devices.now steps)) }
 {
@@ -27,7 +27,7 @@ fn simulated(task: &Task<'_>, steps: ChoiceCount, devices: &Devices) -> Result<V
     texts::run_text(task.alloc, &report)
 }
 
-/// What is answered of the text of devices.
+/// The answer to the text of devices.
 pub fn simulate(task: &Task<'_>, steps: ChoiceCount, text: &[u8]) -> Result<Reply, AllocError>
     ensures { IfOk result (λ r. SimulateReply task.now.flash.now task.now.assumptions.now steps (setup_in text.now) r.status r.text.items) }
 {

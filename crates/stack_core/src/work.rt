@@ -1,4 +1,4 @@
-//! The work on files that were read: what is answered of them.
+//! The answer by the contents of a command's files.
 
 ghost use Rattle.std.specs.Prelude.{◌≡◌, IfOk};
 ghost use Rattle.local_rules.specs.Machine.{AreWords};
@@ -28,7 +28,7 @@ use reports::laws::same_names_give_same_reports;
 use std::alloc::{AllocError, Global};
 use vector_table::Assumptions;
 
-// What is answered for a firmware that was loaded and a list that was read.
+// The answer for a loaded firmware and a list.
 fn on_flash(
     alloc: Global,
     command: &Command<'_>,
@@ -58,7 +58,7 @@ fn on_flash(
     }
 }
 
-// The same, with the marks of the program kept where the list has the line `pairs`, whose rules look for them again and again.
+// The same, with the program's marks kept if the list has the line `pairs`, whose rules use them often.
 fn with_marks(
     alloc: Global,
     command: &Command<'_>,
@@ -74,7 +74,7 @@ fn with_marks(
     on_flash(alloc, command, loaded, assumptions, second)
 }
 
-// What is answered for a firmware that was loaded.
+// The answer for a loaded firmware.
 fn under_list(
     alloc: Global,
     command: &Command<'_>,
@@ -90,7 +90,7 @@ fn under_list(
     }
 }
 
-// What is answered of a firmware's file and of the other files that were read.
+// The answer for the bytes of a firmware's file and of the other files.
 fn on_image(
     alloc: Global,
     command: &Command<'_>,
@@ -113,7 +113,7 @@ fn on_image(
     }
 }
 
-/// What is answered of files that were read.
+/// The answer by the contents of a command's files.
 pub fn work(
     alloc: Global,
     command: &Command<'_>,

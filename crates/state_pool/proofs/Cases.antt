@@ -1,4 +1,4 @@
--- By cases on numbers and options.
+-- Case distinctions on numbers and options.
 use Rattle.std.proofs.Common.{◌≡◌, ◌≢◌, refl, sym, ℕ, Bool, true, false, Option, Some, None}
 use Rattle.std.specs.Prelude.{◌==◌}
 use Rattle.std.proofs.lemmas.Bool.Decides.{Decides-eqb}
@@ -10,7 +10,7 @@ cases_eq x y P same other = by (x == y) refl
     by true e = same ((Decides-eqb x y).0 e)
     by false e = other (λ s. let t = (Decides-eqb x y).1 s in absurd (cc))
 
--- options that are some of the same things are the same
+-- two options with the same items are equal
 pub same_option : {A : Type 0} (o p : Option A) → ((x : A) → o ≡ Some x → p ≡ Some x) → ((x : A) → p ≡ Some x → o ≡ Some x) → o ≡ p
 same_option None None f g = refl
 same_option None (Some x) f g = g x refl

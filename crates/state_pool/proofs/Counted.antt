@@ -1,4 +1,4 @@
--- Counts and states after an interning and after a release.
+-- Counts and states after interning and releasing.
 use Rattle.std.proofs.Common.{◌≡◌, ◌≢◌, refl, sym, ap, ◌∙◌, subst, ⊎_elim, ℕ, ◌+◌, ◌-◌, ◌<◌, nat_lt, Bool, true, false, cond, Option, Some, None, arith}
 use Rattle.std.specs.Prelude.{◌==◌, IsSome}
 use Rattle.std.specs.FinMap.{get, insert, remove, get-remove}
@@ -27,7 +27,7 @@ there (Some e) lt = refl
 
 -- ---- one use more
 
--- an entry with the state and one use more
+-- an entry with the state and one more use
 more : (old new : Uses) (s : AbsState) (n c : ℕ) → count_at old n ≡ c → (0 < count_at old n → state_at old n ≡ s) → new ≡ insert old n (s, c + 1) → IsUsedMore old s n new
 more old new s n c count known is =
     let here : get new n ≡ Some (s, c + 1) = ap (λ (m : Uses). get m n) is ∙ get_here old n (s, c + 1) in
@@ -76,7 +76,7 @@ less old new s n c held lt is =
           (λ ne. ap held_state (others m ne));
     }
 
--- no entry in the place of one that was used once
+-- no entry in the place of one that had its last use
 gone : (old new : Uses) (s : AbsState) (n c : ℕ) → get old n ≡ Some (s, c) → c ≡ 1 → new ≡ remove old n → IsUsedLess old n new
 gone old new s n c held once is =
     let removed : (m : ℕ) → get new m ≡ cond (eq_by_cmp nat_cmp m n) None (get old m) = λ m. ap (λ (p : Uses). get p m) is ∙ get-remove nat_cmp_total old n m in

@@ -1,4 +1,4 @@
--- States by their places, read as a map from their numbers.
+-- States by place, read as a map from their numbers.
 use Rattle.std.proofs.Common.{◌≡◌, ◌≢◌, refl, sym, ap, ◌∙◌, subst, ℕ, zero, suc, ◌+◌, ◌<◌, ◌≤◌, true, false, cond, Some, None, List, [], ◌∷◌, length, slice_get, arith}
 use Rattle.std.specs.declared.cmp.Ordering.{Ordering}
 use Rattle.std.specs.declared.cmp.Ordering.TheVariants.{Less, Equal, Greater}
@@ -49,7 +49,7 @@ removed m new k at others =
 
 -- ---- places
 
--- the first places have numbers of their own
+-- the first places have different numbers
 abbrev pub HaveOwnNumbers : List ℕ → ℕ → Type 0
 HaveOwnNumbers ns count = (i j : ℕ) → i < count → j < count → number_at ns i ≡ number_at ns j → i ≡ j
 

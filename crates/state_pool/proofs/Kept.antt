@@ -1,4 +1,4 @@
--- What a pool keeps by places, and what becomes of it.
+-- The lists of a pool, and how calls change them.
 use Rattle.std.proofs.Common.{◌≡◌, ◌≢◌, refl, sym, ap, ◌∙◌, subst, ℕ, zero, suc, ◌+◌, ◌-◌, ◌<◌, ◌≤◌, nat_lt, Bool, true, false, not, cond, Option, Some, None, List, [], ◌∷◌, ◌++◌, length, slice_get, take, slice_set, slice_index_or, length-append, arith}
 use Rattle.std.specs.List.{swap, swap_remove, IsDistinct, AllByRecursion, position_or_len}
 use Rattle.std.specs.Prelude.{IsSome}
@@ -32,7 +32,7 @@ kept_many ns es m k is = ap len (sym is) ∙ many ns es k.within (apart ns es k)
 
 -- ---- the place of a number that is there
 
--- what stands at the number's place
+-- the entry at the number's place
 pub record IsEntryPlace (es : Entries) (m : Uses) (n p : ℕ) : Type 0 where
   pub low : p < length es
   pub held : AbsState × ℕ
@@ -91,7 +91,7 @@ used_uses ns es m k is n s c e = let at = at_get ns es n (s, c) (ap (λ g. get g
 
 -- ---- a state that is put in
 
--- one that is there keeps its place, where the count that comes last stands
+-- a present entry keeps its place, with the new count
 put_there : (x : AbsState) (es : Entries) (c d n : ℕ) → lookup (same_state x) es ≡ Some c
     → (slice_get es (position_or_len (same_state x) (keys_of es)) ≡ Some (x, c))
     × (set_value_at (insert_entry same_state es x d) (position_or_len (same_state x) (keys_of es)) n ≡ set_value_at es (position_or_len (same_state x) (keys_of es)) n)
@@ -124,7 +124,7 @@ set_there es mid new x p c d n place known put set =
     set ∙ ap (λ (l : Entries). set_value_at l p n) put ∙ ap (λ (i : ℕ). set_value_at (insert_entry same_state es x d) i n) place ∙ (put_there x es c d n (sym known)).1
     ∙ ap (λ (i : ℕ). set_value_at es i n) (sym place)
 
--- one that isn't there comes last
+-- a new entry comes last
 record ComesLast (es : Entries) (x : AbsState) (d : ℕ) : Type 0 where
   away : (j c : ℕ) → slice_get es j ≢ Some (x, c)
   put : insert_entry same_state es x d ≡ es ++ (x, d) ∷ []
@@ -285,7 +285,7 @@ kept_push ns ms es new e k lt r numbers is distinct =
       used = λ j x g. push_counts es e j x k.used lt (sym (ap (λ (l : Entries). slice_get l j) is) ∙ g);
     }
 
--- the new state's number, which none had
+-- the new state has an unused number
 pub record IsNumberPushed (m new : Uses) (n : ℕ) (e : AbsState × ℕ) : Type 0 where
   pub fresh : get m n ≡ None
   pub more : new ≡ insert m n e
@@ -347,7 +347,7 @@ put_other (f ∷ es) zero (suc j) e ne = refl
 put_other (f ∷ es) (suc i) zero e ne = refl
 put_other (f ∷ es) (suc i) (suc j) e ne = put_other es i j e (λ s. ne (ap suc s))
 
--- the last entry comes to the place, and the others stay
+-- the last entry moves to the place, and the others stay
 record IsLastMoved (es new : Entries) (p : ℕ) : Type 0 where
   here : p < length new → slice_get new p ≡ slice_get es (length new)
   others : (j : ℕ) → j < length new → j ≢ p → slice_get new j ≡ slice_get es j
@@ -459,7 +459,7 @@ interned_new ns ms es new m n s k is r numbers entries distinct number away =
       pushed.more ∙ ap (λ (f : Uses). insert f (number_at ms (length es)) (s, 1)) is ∙ ap (λ q. insert m q (s, 1)) (sym number),
     )
 
--- want of memory changes nothing
+-- if memory runs out nothing changes
 pub kept_uses : (ns ms : List ℕ) (es new : Entries) (m : Uses) → ArePlacesKept ns es → uses_of ns es ≡ m → IsPlaceReached ns (length es) ms → new ≡ es → uses_of ms new ≡ m
 kept_uses ns ms es new m k is r same = ap (uses_of ms) same ∙ reached_uses ns ms es r k.within ∙ is
 
@@ -497,7 +497,7 @@ given_none m n s c there lt = ap last_state there ∙ test c (nat_lt 1 c) refl (
 given_last : (m : Uses) (n : ℕ) (s : AbsState) (c : ℕ) → get m n ≡ Some (s, c) → c ≤ 1 → last_state (get m n) ≡ Some s
 given_last m n s c there le = ap last_state there ∙ test c (nat_lt 1 c) refl (Option AbsState) None (Some s) (Some s) (λ t. absurd (grind (arith, nat_tests, t, le))) (λ t. refl)
 
--- what a release gives, by the entry at the number's place
+-- the result of a release, by the entry at the number's place
 pub not_given : (ns : List ℕ) (es : Entries) (m : Uses) (n p : ℕ) (x : AbsState) (c : ℕ) → ArePlacesKept ns es → uses_of ns es ≡ m → number_at ns p ≡ n → slice_get es p ≡ Some (x, c) → 1 < c
     → None ≡ last_state (get m n)
 not_given ns es m n p x c k is number entry lt = sym (given_none m n x c (sym (ap (get m) number) ∙ held_at ns es m p (x, c) k is entry) lt)
@@ -508,7 +508,7 @@ given_there ns es m n p x s c d k is number entry le taken =
     ap Some (ap (λ (e : AbsState × ℕ). e.0) (same_Some (s, d) (x, c) (taken ∙ entry)))
     ∙ sym (given_last m n x c (sym (ap (get m) number) ∙ held_at ns es m p (x, c) k is entry) le)
 
--- a call that gave no error kept what it promises
+-- a call without an error kept its promise
 on_ok : {V E : Type 0} (r : Result V E) (P : Type 0) → OnOk r P → is_err r ≡ false → P
 on_ok (Ok v) P h e = h
 on_ok (Err x) P h e = absurd (cc)

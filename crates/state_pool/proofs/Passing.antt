@@ -6,7 +6,7 @@ use Rattle.sp_domain.specs.declared.slots.Slot.TheVariants.{Free}
 use Rattle.abs_state.specs.declared.values.AbsByte.{AbsByte}
 use Rattle.state_pool.specs.Digest.{mix_slot, mix_slots, AreFree}
 
--- the digest with the slots that are left from a place on
+-- the digest after the slots from a place on
 abbrev rest : ℕ → List (Slot AbsByte) → ℕ → ℕ
 rest digest slots at = mix_slots digest at (drop at slots)
 

@@ -53,7 +53,7 @@ same_flags f g =
     (Decides-and (beq f.entry g.entry) _ (same_bool f.entry g.entry)
     (Decides-and (bits.ghosts.eq f.bits g.bits) _ (same_bits f.bits g.bits) (same_carry f.carry g.carry)))
 
--- facts that say no less than each other are the same
+-- facts that are within each other are equal
 pub same_facts : (x y : Option PairFacts) → AreFactsKept x → AreFactsKept y → (IsKnownWithin x y × IsKnownWithin y x → x ≡ y) × (x ≡ y → IsKnownWithin x y × IsKnownWithin y x)
 same_facts x y a b = (
   (λ le. known_is_ordered.both x y a.sixteen b.sixteen a.near b.near le.0 le.1),

@@ -1,4 +1,4 @@
--- Two lists of numbers that are inverse, with two places swapped.
+-- Two inverse lists of numbers, with two places swapped.
 use Rattle.std.proofs.Common.{◌≡◌, ◌≢◌, refl, sym, ap, ◌∙◌, subst, ℕ, ◌<◌, ◌≤◌, List, length}
 use Rattle.std.specs.List.{swap}
 use Rattle.std.proofs.lemmas.List.Edits.{swapped_from_swap, length-swap}
@@ -15,7 +15,7 @@ swapped_back f g f' g' i j x fi fj fx gi gj gy bi bj bx =
     (λ nj. ap g' (fx ni nj)
     ∙ gy (f x) (λ e. ni (sym bx ∙ ap g e ∙ bi)) (λ e. nj (sym bx ∙ ap g e ∙ bj)) ∙ bx))
 
--- what holds of each value of f holds of each of f'
+-- a property of each value of f holds of each of f'
 swapped_low : (f f' : ℕ → ℕ) (i j x n : ℕ) → f' i ≡ f j → f' j ≡ f i → (x ≢ i → x ≢ j → f' x ≡ f x) → f i < n → f j < n → f x < n → f' x < n
 swapped_low f f' i j x n fi fj fx li lj lx =
     cases_eq x i (f' x < n) (λ e. subst (λ y. y < n) (sym (ap f' e ∙ fi)) lj)
@@ -53,7 +53,7 @@ inverse_swapped ns ps i j a li lj =
           (a.forth a' (a.low i li)) (a.forth b' (a.low j lj)) (a.forth y (subst (λ m. y < m) long l));
     }
 
--- each number then stands at one place
+-- each number is then at one place
 pub numbers_of : (ns ps : List ℕ) → AreInverse ns ps → AreNumbers ns
 numbers_of ns ps a = record {
   low = a.low;

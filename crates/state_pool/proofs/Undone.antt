@@ -1,4 +1,4 @@
--- A release undoes an interning.
+-- Releasing undoes interning.
 use Rattle.std.proofs.Common.{◌≡◌, sym, ap, ◌∙◌, subst, ⊎_elim, ℕ, ◌+◌, ◌-◌, ◌<◌, ◌≤◌, Bool, true, false, cond, Some, arith}
 use Rattle.std.specs.FinMap.{get, insert, len, len-insert}
 use Rattle.std.specs.Cmp.{nat_cmp_total}

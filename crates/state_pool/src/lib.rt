@@ -1,4 +1,5 @@
-//! States that are kept once: equal states have one number, which stays while others come and go, and each is kept as often as it is used.
+//! States stored once: equal states share a number, which stays while other states come and go, and each state has a count of uses.
+//! Tests: `value_tables`.
 #![tactic(auto)]
 
 pub mod laws;

@@ -1,4 +1,4 @@
-//! Numbers by their places, and places by their numbers.
+//! A permutation: numbers by place, and places by number.
 
 ghost use Rattle.std.specs.Prelude.{ℕ, ◌≡◌, ◌<◌, ◌≤◌, [], length, OnOk, OnErr};
 ghost use Rattle.std.specs.List.{swap};
@@ -7,7 +7,7 @@ ghost use Rattle.state_pool.specs.Numbers.{number_at, AreNumbers, IsPlaceReached
 use std::alloc::{AllocError, Global};
 use std::marker::Model;
 
-/// The numbers from 0 on, each at one place. Seen as the list of the numbers by their places.
+/// The numbers from 0 on, each at one place. Seen as the list of numbers by place.
 #[derive(Drop)]
 pub struct Numbers {
     numbers: Vec<u32>,
@@ -36,7 +36,7 @@ impl Numbers {
         }
     }
 
-    /// How many there are. Each has one place.
+    /// The count of numbers; each has one place.
     pub fn len(&self) -> usize
         ensures count { result ≡ length self.now }
         ensures once { AreNumbers self.now }
@@ -61,7 +61,7 @@ impl Numbers {
         self.places[number as usize] as usize
     }
 
-    /// A number for a place: the one that it has, or another where the places end before it.
+    /// Ensures that this place has a number, which is a new one if the place is the first free one. Fails if memory runs out.
     pub fn reach(&mut self, place: usize) -> Result<(), AllocError>
         requires { (place ≤ length self.old) × (place < 4294967295) }
         ensures ok { OnOk result (IsPlaceReached self.old place self.new) }
@@ -80,7 +80,7 @@ impl Numbers {
         Ok(())
     }
 
-    /// Each of two numbers at the other's place.
+    /// Swaps the numbers at two places.
     pub fn swap(&mut self, place: usize, other: usize)
         requires { (place < length self.old) × (other < length self.old) }
         ensures swapped { self.new ≡ swap self.old place other }

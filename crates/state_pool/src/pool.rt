@@ -13,12 +13,12 @@ use indexmap::IndexMap;
 use std::alloc::Global;
 use std::marker::Model;
 
-/// States by their numbers, each with a count of its uses. Seen as a map from the numbers to both. Equal states have one number.
+/// States by number, each with a count of uses. Seen as a map from numbers to both. Equal states have one number.
 #[derive(Drop)]
 pub struct Pool {
     // Each state and its count.
     uses: IndexMap<Shared, u32>,
-    // The number of each place among these; behind them those that no state has.
+    // The number of each place among these; numbers at further places are unused.
     numbers: Numbers,
 }
 
@@ -38,7 +38,7 @@ impl Model for Pool {
     ghost invariant = { λ p. ArePlacesKept p.numbers p.uses.entries };
 }
 
-// Another count at a place.
+// Sets the count at a place.
 fn set_count(uses: &mut IndexMap<Shared, u32>, place: usize, count: u32)
     requires { place < index_map_len uses.old }
     ensures { uses.new.entries ≡ set_value_at uses.old.entries place count }
@@ -60,7 +60,7 @@ impl Pool {
         }
     }
 
-    /// How many states there are. Each has one number, and is used.
+    /// The number of states. Each has one number, and is used.
     pub fn len(&self) -> usize
         ensures count { result ≡ len self.now }
         ensures distinct { AreDistinct self.now }
@@ -69,7 +69,7 @@ impl Pool {
         self.uses.len()
     }
 
-    /// The state of a number that is there.
+    /// The state of a used number.
     pub fn get(&self, number: u32) -> &AbsState
         requires { IsSome (get self.now number) }
         ensures { (count : ℕ) × IsStateHeld self.now number result.now count }
@@ -81,7 +81,7 @@ impl Pool {
         }
     }
 
-    /// Uses a state once more, and gives its number: that of an equal state, or a new one. Gives the state back for want of memory.
+    /// Adds one use of a state and returns its number: that of an equal state, or a new one. Returns the state if memory runs out.
     pub fn intern(&mut self, state: AbsState) -> Result<u32, AbsState>
         requires few { len self.old < 4294967295 }
         requires counts { AreBelow 4294967295 self.old }
@@ -102,7 +102,7 @@ impl Pool {
         }
     }
 
-    /// Uses the state of a number that is there once less. It goes where it was used once, and is given then.
+    /// Removes one use of a used number. The last use removes the state and returns it.
     pub fn release(&mut self, number: u32) -> Option<AbsState>
         requires { IsSome (get self.old number) }
         ensures pool { self.new ≡ released self.old number }

@@ -1,4 +1,4 @@
-//! States as keys of a table.
+//! States as keys of a hash table.
 
 ghost use Rattle.std.specs.Prelude.{◌≡◌, ◌↔◌, ◌<◌, ◌≤◌, ◌+◌, ◌*◌, IsTrue, length, fold};
 ghost use Rattle.state_pool.specs.SameState.{same_state};
@@ -51,7 +51,7 @@ impl Hash for Shared {
     }
 }
 
-// Whether both are the same.
+// Whether both are equal.
 #[tactic(auto, using(crate::proofs::SameStates::state_is, crate::proofs::SameStates::same_flags))]
 fn is_same(state: &AbsState, other: &AbsState) -> bool
     ensures { IsTrue result ↔ (state.now ≡ other.now) }
@@ -62,7 +62,7 @@ fn is_same(state: &AbsState, other: &AbsState) -> bool
         && are_same_slots(state.slots.as_slice(), other.slots.as_slice())
 }
 
-// What is known of pairs is the same where neither says less.
+// Facts on pairs are equal if each is within the other.
 fn are_same_facts(facts: &Facts, other: &Facts) -> bool
     ensures { IsTrue result ↔ (facts.now ≡ other.now) }
 {
@@ -102,8 +102,8 @@ fn is_same_slot(slot: &Slot<AbsByte>, other: &Slot<AbsByte>) -> bool
     }
 }
 
-// A number that tells most states apart. Every field has a case: each struct is taken apart without `..`, here and in the functions below, so
-// a field that is added to a state has to be mixed in before this compiles.
+// A digest of a state. Every field has a case: each struct is destructured without `..`, here and in the functions below, so a new field
+// must be added before this compiles.
 fn digest(state: &AbsState) -> u64
     ensures { result ≡ digest_of state.now }
 {
@@ -119,7 +119,7 @@ fn digest(state: &AbsState) -> u64
     digest_slots(mixed(values, slots.len() as u64), slots)
 }
 
-// The intervals and the tags of pairs, where these are followed.
+// The intervals and tags of pairs, if pairs are followed.
 fn digest_facts(start: u64, facts: &Facts) -> u64
     ensures { result ≡ mix_facts start facts.now }
 {
@@ -219,7 +219,7 @@ fn digest_values(start: u64, values: &[AbsByte]) -> u64
     digest
 }
 
-// So many free slots are passed at once: most slots of a deep frame are free.
+// This many free slots are skipped at once: most slots of a deep frame are free.
 const PASSED: usize = 8;
 
 #[tactic(auto, using(crate::proofs::Passing::step_on, crate::proofs::Passing::pass_on, crate::proofs::Passing::all_done))]

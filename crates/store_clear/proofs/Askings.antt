@@ -1,4 +1,4 @@
--- What nodes ask, one after the other.
+-- Conditions of nodes, one after the other.
 use Rattle.std.proofs.Common.{◌≡◌, refl, sym, ap, ◌∙◌, subst, ℕ, ◌+◌, ◌<◌, ⊎_elim, Bool, List, [], ◌∷◌, ◌++◌, get_or, Some, slice_get, arith}
 use Rattle.std.specs.Option.{option_map}
 use Rattle.std.proofs.lemmas.Option.{same_Some}
@@ -19,7 +19,7 @@ use Rattle.clear_laws.specs.Needs.{meets}
 use Rattle.store_clear.specs.Settling.{ask_at, AreAskedTo}
 
 module _ (nodes : List Node) (at : ℕ) (n : Node) (is : slice_get nodes at ≡ Some n) where
-  -- what is read by the number of a node
+  -- an item read by the number of a node
   pub key_is : (k : NodeKey) → option_map key_of (slice_get nodes at) ≡ Some k → n.key ≡ k
   key_is k e = same_Some n.key k (sym (ap (option_map key_of) is) ∙ e)
 

@@ -1,4 +1,4 @@
--- What may happen at a word, node by node.
+-- Causes at a word, node by node.
 use Rattle.std.proofs.Common.{◌≡◌, refl, sym, ap, ◌∙◌, subst, ℕ, ◌+◌, ◌<◌, ◌⊎◌, inl, inr, ⊎_elim, ◌==◌, ◌&&◌, ◌||◌, Bool, true, false, not, List, [], ◌∷◌, ◌++◌, length, take, get_or, set, replicate, Some, None, slice_get, Contains, eqb-true, arith}
 use Rattle.std.specs.Prelude.{◌↔◌}
 use Rattle.std.specs.List.Sorted.{IsStrictlySortedBy}
@@ -70,7 +70,7 @@ module _ (words : Program) (A : List Entry) (nodes : List Node) (asks : List Ask
   abbrev At : ℕ → ℕ → Type 0
   At count a = IsProtectedAt words A nodes asks pc instr count a
 
-  -- a node with this key still asks this and lies at the word, and a store there may write this address
+  -- a node with this key has a condition left and is at the word, and a store there may write this address
   abbrev From : NodeKey → AbsState → Asks → ℕ → Type 0
   From k s ask a = (is_unclear_at pc k ask ≡ true) × IsProtectedBelow words A pc s instr 256 a
 
@@ -117,7 +117,7 @@ module _ (words : Program) (A : List Entry) (nodes : List Node) (asks : List Ask
 
 -- ---- the list
 
--- what is marked where nothing was
+-- the marks, if there were none before
 module _ (P : ℕ → Type 0) (old new : List Bool) (many : ℕ) (none : old ≡ replicate many false) (marked : AreMarkedBeside P old new) where
   pub marked_are : (a : ℕ) → Contains (places_of new) a ↔ P a
   marked_are a = (down, up)
@@ -181,7 +181,7 @@ module _ (words : Program) (A : List Entry) (c : Claim) (nodes : List Node) (ask
   abbrev f : RankedFamily
   f = family_of c nodes
 
-  -- a node that isn't clear still asks something
+  -- a node that isn't clear has a condition left
   asks_there : (n : Node) (at : ℕ) → slice_get nodes at ≡ Some n → n.key.pc ≡ pc → (IsClear words A f n → ⊥) → is_unclear_at pc n.key (ask_at asks at) ≡ true
   asks_there n at is word unclear =
       and_from (not (passes (ask_at asks at))) (n.key.pc == pc) (not_from_never (passes (ask_at asks at)) (λ h. unclear ((told.told.each at n is).0 h)))

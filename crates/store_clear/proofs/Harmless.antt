@@ -36,7 +36,7 @@ both_fail : (a b : Bool) → (not a || b) ≡ false → (a ≡ true) × (b ≡ f
 both_fail true b h = (refl, h)
 both_fail false b h = absurd (cc)
 
--- numbers from a low to a high one give addresses from that of the low to that of the high, where these don't go round the end
+-- numbers between two give addresses between theirs, unless these wrap around the end
 over : (low high p up : ℕ) → low ≤ p → p ≤ high → high < 65536 → up < 65536 → plus16 low up ≤ plus16 high up → plus16 low up ≤ plus16 p up
 over low high p up h g small less le = omega arith
 
@@ -64,7 +64,7 @@ module _ (words : Program) (A : List Entry) (bound pc : ℕ) (instr : Instr) (s 
       (or_cases (nat_lt BELOW first && nat_le (last + bound) top) (nat_lt top first) parts.1)
 
   module _ (least most r up : ℕ) (follows : (p : ℕ) → is_in_interval s.facts r p ≡ is_between least most p) where
-    -- the numbers of the interval up to this one lead to harmless addresses, where the bytes permit them
+    -- the numbers of the interval up to this one give harmless addresses, if the bytes permit them
     abbrev pub Scanned : ℕ → Type 0
     Scanned n = (p : ℕ) → least ≤ p → p < n → is_number_harmless words A bound pc s instr r up p ≡ true
 
@@ -107,7 +107,7 @@ module _ (words : Program) (A : List Entry) (bound pc : ℕ) (instr : Instr) (s 
     pub all_scanned : (n : ℕ) → most < n → Scanned n → are_numbers_harmless words A bound pc s instr r up ≡ true
     all_scanned n lt scanned = all_by (λ p permitted. let at = inside p permitted in passes (permits_bytes s r p) (is_harmless (plus16 p up)) at.0 (scanned p at.1 (omega (arith, lt, at.2))))
 
-    -- a permitted number of the interval that leads to another address
+    -- a permitted number of the interval whose address isn't harmless
     pub one_fails : (p : ℕ) → least ≤ p → p ≤ most → p < 65536 → is_number_harmless words A bound pc s instr r up p ≡ false
         → are_numbers_harmless words A bound pc s instr r up ≡ false
     one_fails p low high small fails =
@@ -138,7 +138,7 @@ all_past p x far =
 pub all_of_none : (p : ℕ → Bool) → all_below 65536 (λ a. not false || p a) ≡ true
 all_of_none p = each_below (λ a. not false || p a) 65536 (λ a lt. refl)
 
--- what isn't a store goes nowhere
+-- an instruction that is no store has no address
 pub others : (words : Program) (A : List Entry) (bound pc : ℕ) (s : AbsState) (f : PairFacts) → s.facts ≡ Some f → (instr : Instr)
     → ((b : Base) (q : Operand 0 63) (r : Operand 0 31) → instr ≡ i.Std b q r → ⊥) → ((a : ℕ) (r : Operand 0 31) → instr ≡ i.Sts a r → ⊥)
     → ((p : Pointer) (r : Operand 0 31) → instr ≡ i.St p r → ⊥) → are_addresses_harmless words A bound pc s instr ≡ true

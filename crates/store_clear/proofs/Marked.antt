@@ -1,4 +1,4 @@
--- Words that are marked, and the numbers of what is marked.
+-- Marked words, and the places of marks.
 use Rattle.std.proofs.Common.{◌≡◌, refl, sym, ap, ◌∙◌, subst, ℕ, zero, suc, ◌+◌, ◌<◌, ◌⊎◌, inl, inr, ⊎_elim, Bool, true, false, List, [], ◌∷◌, length, set, get_or-set_other, get_or-set_same, Option, Some, None, slice_get, Contains, arith}
 use Rattle.std.specs.Option.{option_map}
 use Rattle.std.specs.List.{AllByRecursion}

@@ -1,4 +1,4 @@
--- Marking what is reached.
+-- Marking of reached nodes.
 use Rattle.std.proofs.Common.{◌≡◌, ℕ, zero, suc, ◌+◌, ◌<◌, Bool, true, false, List, [], ◌∷◌, ◌++◌, length, get_or, set, take, replicate, refl, sym, ap, ◌∙◌, subst, arith, inl, inr, ⊎_elim, get_or-set_other, get_or-set_same, length-append, ◌⊎◌}
 use Rattle.std.specs.List.{Contains}
 use Rattle.std.proofs.lemmas.Bool.{cases_eq}
@@ -42,7 +42,7 @@ spread_new node seen stack lt is =
     here : is_on (set seen node true) node ≡ true
     here = get_or-set_same seen node true false lt
 
--- none, where no node has it
+-- no mark, if no node has the property
 pub spread_none : (P : ℕ → Type 0) (seen : List Bool) (stack : List ℕ) → ((j : ℕ) → P j → ⊥) → IsReachSpread P seen stack seen stack
 spread_none P seen stack none =
     record {
@@ -55,7 +55,7 @@ spread_none P seen stack none =
       less = omega arith;
     }
 
--- what holds of the same nodes
+-- equivalent properties
 pub spread_as : (P Q : ℕ → Type 0) (a b : List Bool) (sa sb : List ℕ) → ((j : ℕ) → P j → Q j) → ((j : ℕ) → Q j → P j) → IsReachSpread P a sa b sb → IsReachSpread Q a sa b sb
 spread_as P Q a b sa sb to from s =
     record {
@@ -68,7 +68,7 @@ spread_as P Q a b sa sb to from s =
       less = s.less;
     }
 
--- one after the other
+-- two markings in sequence
 pub spread_both : (P Q R : ℕ → Type 0) (a b c : List Bool) (sa sb sc : List ℕ) → ((j : ℕ) → P j → R j) → ((j : ℕ) → Q j → R j) → ((j : ℕ) → R j → P j ⊎ Q j)
     → IsReachSpread P a sa b sb → IsReachSpread Q b sb c sc → IsReachSpread R a sa c sc
 spread_both P Q R a b c sa sb sc left right split so one =
@@ -98,7 +98,7 @@ module _ {X : Type 0} (xs : List X) (i : ℕ) (d : X) (lt : i < length xs) where
 abbrev pub no_seed : SlotSeed
 no_seed = record { node = 0; slot = 0 }
 
--- a seed more, and a link more
+-- one more seed, and one more link
 pub seeds_more : (seeds : List SlotSeed) (slot i : ℕ) (s d : SlotSeed) (a b c : List Bool) (sa sb sc : List ℕ) → i < length seeds → s ≡ get_or seeds i d
     → IsReachSpread (λ j. Contains (take i seeds) (record { node = j; slot = slot })) a sa b sb → IsReachSpread (IsSeed s slot) b sb c sc
     → IsReachSpread (λ j. Contains (take (i + 1) seeds) (record { node = j; slot = slot })) a sa c sc
@@ -117,7 +117,7 @@ links_more links offsets slot i t d a b c sa sb sc lt is so one =
     (λ j h. (subst (Contains (take (i + 1) links)) (sym (h.0 ∙ is)) (last_in_more links i d lt), h.1))
     (λ j h. ⊎_elim (λ p. inl (p, h.1)) (λ e. inr (sym e ∙ sym is, h.1)) (more_cases links i d lt j h.0)) so one
 
--- what is read of a node that is there is its links
+-- the links of an existing node, as read
 pub read_is : (links : List (List ℕ)) (k : ℕ) (r : List ℕ) → k < length links → r ≡ get_or links k r → r ≡ links_of links k
 read_is [] k r lt e = absurd (omega (arith, lt))
 read_is (x ∷ links) zero r lt e = e

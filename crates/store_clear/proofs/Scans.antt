@@ -1,4 +1,4 @@
--- The least and the greatest number that passes a test, and all below one, found one after the other.
+-- Search for the least and the greatest number that passes a test, and for all below a limit.
 use Rattle.std.proofs.Common.{◌≡◌, refl, sym, ap, ap₂, ◌∙◌, subst, ℕ, zero, suc, ◌+◌, ◌<◌, ◌&&◌, ◌||◌, ⊎_elim, Bool, true, false, if◌then◌else◌, Some, None, arith}
 use Rattle.std.proofs.lemmas.Bool.{cases_lt, and_right}
 use Rattle.avr_model.specs.Bits.{any_below, all_below}
@@ -13,12 +13,12 @@ pub least_none : (p : ℕ → Bool) → least_below p 0 ≡ None
 unfolding least_below
 least_none p = refl
 
--- with one number more
+-- with one more number
 one_more : (p : ℕ → Bool) (n : ℕ) → least_below p n ≡ None → least_below p (suc n) ≡ (if p n then Some n else None)
 unfolding least_below
 one_more p n none = ap (λ o. or_number o (p n) n) none
 
--- none so far, and not this one
+-- none so far, and this one fails
 pub least_more : (p : ℕ → Bool) (n : ℕ) → least_below p n ≡ None → p n ≡ false → least_below p (n + 1) ≡ None
 least_more p n none fails = ap (least_below p) (sym (next_is n)) ∙ one_more p n none ∙ ap (λ (b : Bool). if b then Some n else None) fails
 
@@ -34,7 +34,7 @@ least_found p n (suc m) lt none passes =
 
 -- ---- the greatest
 
--- what is found from a number on down is found from one more that fails
+-- if a number fails, the search continues from the one below
 pub greatest_more : (p : ℕ → Bool) (n : ℕ) → p n ≡ false → greatest_below p (suc n) ≡ greatest_below p n
 unfolding greatest_below
 greatest_more p n fails = ap (λ (b : Bool). if b then Some n else greatest_below p n) fails

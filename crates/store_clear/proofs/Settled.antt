@@ -1,4 +1,4 @@
--- What is left of what nodes ask.
+-- The conditions that remain.
 use Rattle.std.proofs.Common.{◌≡◌, ◌≢◌, refl, sym, ap, ◌∙◌, subst, ℕ, ◌+◌, ◌<◌, ◌≤◌, ⊎_elim, ◌==◌, Bool, true, false, List, length, set, get_or-set_other, get_or-set_same, eqb-true, arith}
 use Rattle.std.specs.Prelude.{◌↔◌, if◌then◌else◌}
 use Rattle.std.proofs.lemmas.Bool.{cases_lt}
@@ -42,7 +42,7 @@ module _ (links : List (List ℕ)) (offsets : List ℕ) (seeds : List SlotSeed) 
   Asked : ℕ → Asks → Type 0
   Asked i a = IsMet links offsets seeds i a
 
-  -- a slot that is this one, whose mark is b
+  -- the condition names this slot, whose mark is b
   met_here : (i d : ℕ) (b : Bool) → d ≡ slot → is_on marks i ≡ b
       → IsMet links offsets seeds i (if b then Never else Nothing) ↔ IsMet links offsets seeds i (Free d)
   met_here i d true same on = (λ h. absurd h, λ free. free (subst (λ x. SlotReaches links offsets seeds x i) (sym same) ((reached.exact i).0 on)))
@@ -105,7 +105,7 @@ module _ (links : List (List ℕ)) (offsets : List ℕ) (seeds : List SlotSeed) 
         done = λ i lt. ⊎_elim (λ l. one.kept i (so.done i l)) (λ e. subst (λ k. IsDone (ask_at new k)) (sym e) (one.done at is)) (before_or_last i at lt);
       }
 
-  -- the node asks for no slot
+  -- the node's condition names no slot
   pub settled_same : (at : ℕ) (old mid : List Asks) → AreSettled links offsets seeds at old mid → ((d : ℕ) → ask_at mid at ≢ Free d) → AreSettled links offsets seeds (at + 1) old mid
   settled_same at old mid so none =
       record {

@@ -1,4 +1,4 @@
--- What is answered of nodes that may flag a step.
+-- The answers on nodes that may flag a step.
 use Rattle.std.proofs.Common.{◌≡◌, refl, sym, ap, ◌∙◌, subst, ℕ, ◌+◌, ◌<◌, ◌≤◌, inr, ⊎_elim, Bool, true, false, List, [], length, replicate, Some, slice_get, Contains, arith}
 use Rattle.std.specs.Prelude.{◌↔◌}
 use Rattle.std.specs.Option.{option_map}
@@ -138,7 +138,7 @@ module _ (words : Program) (c : Claim) (verdict : ClearVerdict) (is : IsClearVer
   pub unclear_both : (j pc : ℕ) → (verdict ≡ Unclear j pc) ↔ IsFirstUnclear words [] c j pc
   unclear_both j pc = (λ e. subst (IsClearVerdict words c) e is, λ first. clear_verdicts_are_one words c verdict (Unclear j pc) is first)
 
--- where all are read behind references
+-- if all are read behind references
 pub sites_told : (nodes : List Node) (asks : List Asks) (old first new last : List Bool) (many : ℕ) (sites : List ℕ) → old ≡ replicate many false → first ≡ old
     → AreWordsMarked nodes asks (length asks) first new → last ≡ new → sites ≡ places_of last → AreSitesTold nodes asks sites
 sites_told nodes asks old first new last many sites none begins marked ends are words A c told = (

@@ -1,4 +1,4 @@
--- What is gathered of landings is where slots spread.
+-- The links and seeds gathered from landings.
 use Rattle.std.proofs.Common.{◌≡◌, refl, sym, ap, ◌∙◌, subst, ℕ, zero, suc, ◌+◌, ◌<◌, ◌≤◌, ⊎_elim, true, false, not, List, [], ◌∷◌, ◌++◌, length, map, get_or, take, Some, slice_get, Contains, arith}
 use Rattle.std.specs.Prelude.{◌↔◌}
 use Rattle.std.proofs.lemmas.List.{length-map, get_or-map, get_or_default, take_all}
@@ -106,7 +106,7 @@ module _ (words : Program) (A : List Entry) (nodes : List Node) where
     here : (c : Node) (i : ℕ) → i ≡ at → slice_get nodes i ≡ Some c → c ≡ n
     here c i e read = one_at nodes at c n (subst (λ k. slice_get nodes k ≡ Some c) e read) is
 
-    -- nothing is pushed there
+    -- no guarded push there
     pub seeds_same : is_guarded_push words n.key.pc ≡ false → AreSeedsTo words A nodes (at + 1) seeds
     seeds_same not_pushed s = (λ h. weaker s ((so s).0 h), up)
       where
@@ -143,7 +143,7 @@ module _ (words : Program) (A : List Entry) (nodes : List Node) where
 
   -- ---- all nodes
 
-  -- the landings of a node that is there, as they are read
+  -- the landings of an existing node, as read
   pub landings_at : (all : List (List Landing)) → AreLandings words A nodes all → (at : ℕ) (n : Node) → slice_get nodes at ≡ Some n → (d ls : List Landing) → ls ≡ get_or all at d
       → AreLandingsOf words A nodes n ls
   landings_at all are at n is d ls read =

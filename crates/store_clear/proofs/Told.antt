@@ -1,4 +1,4 @@
--- Which nodes are clear, by what is left of what they ask.
+-- Which nodes are clear, by the conditions that remain.
 use Rattle.std.proofs.Common.{◌≡◌, refl, ◌∙◌, subst, ℕ, ◌<◌, true, List, length, Some, slice_get, arith}
 use Rattle.std.specs.Prelude.{◌↔◌}
 use Rattle.std.proofs.lemmas.Option.{slice_get_within}
@@ -18,7 +18,7 @@ use Rattle.clear_laws.specs.Meets.{Meets}
 use Rattle.clear_laws.proofs.AllLaws.{slots_spread_along_links, askings_tell_clear_nodes}
 use Rattle.store_clear.specs.Settling.{SpreadsAlong, ask_at, AreAsked, IsDone, AreSettled, passes, AreTold}
 
--- what tells the same slots meets the same
+-- equivalent tests of slots meet the same conditions
 meets_as : (P Q : ℕ → Type 0) → ((d : ℕ) → P d → Q d) → ((d : ℕ) → Q d → P d) → (a : Asks) → Meets a P → Meets a Q
 meets_as P Q to from Nothing h = tt
 meets_as P Q to from (Free d) h = λ q. h (from d q)
@@ -67,7 +67,7 @@ module _ (words : Program) (A : List Entry) (c : Claim) (nodes : List Node) (sho
   pub are_told : AreTold words A c nodes new
   are_told = record { count = left.same ∙ asked.count_is; each = each }
 
--- the same of what is asked behind a reference
+-- conditions behind a reference
 pub told_as : (words : Program) (A : List Entry) (c : Claim) (nodes : List Node) → AreShown nodes → (links : List (List ℕ)) (offsets : List ℕ) (seeds : List SlotSeed)
     → SpreadsAlong words A nodes links offsets seeds → (old old' new : List Asks) → old' ≡ old → AreAsked words A c.bound nodes old → AreSettled links offsets seeds (length old') old' new
     → AreTold words A c nodes new

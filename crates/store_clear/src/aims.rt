@@ -1,4 +1,4 @@
-//! Where a store's byte goes.
+//! The address of a store.
 
 ghost use Rattle.std.specs.Prelude.{◌≡◌};
 ghost use Rattle.clear_laws.specs.Aims.{first_byte, last_byte, pair_span, raised, lowered, pointer_reach, slot_aimed, aim_of};
@@ -14,7 +14,7 @@ use local_rows::transfer::{base_register, pointer_register};
 use local_rules::Pointed;
 use mask_states::{Kind, NodeKey};
 
-// The least byte that the value may be.
+// The least possible byte of the value.
 fn first_byte(value: AbsByte) -> Option<u8>
     ensures { result ≡ first_byte value }
 {
@@ -26,7 +26,7 @@ fn first_byte(value: AbsByte) -> Option<u8>
     None
 }
 
-// The greatest byte that the value may be.
+// The greatest possible byte of the value.
 fn last_byte(value: AbsByte) -> Option<u8>
     ensures { result ≡ last_byte value }
 {
@@ -55,7 +55,7 @@ fn pair_span(state: &AbsState, r: LowRegister) -> Option<Span>
     }
 }
 
-// With a number added to both ends.
+// The span with a number added to both ends.
 fn raised(span: Option<Span>, up: u16) -> Reach
     ensures { result ≡ raised span up }
 {
@@ -69,7 +69,7 @@ fn raised(span: Option<Span>, up: u16) -> Reach
     }
 }
 
-// With 1 taken off both ends.
+// The span with 1 subtracted from both ends.
 fn lowered(span: Option<Span>) -> Reach
     ensures { result ≡ lowered span }
 {
@@ -94,7 +94,7 @@ fn pointer_reach(pointer: Pointer, state: &AbsState) -> Reach
     }
 }
 
-// The slot of the running frame that the address is, where it is known: in the root, whose base is the last of SRAM, by a number.
+// The slot of the running frame at the address, if it is known; in the root, whose base is the end of SRAM, by a number.
 fn slot_aimed(device: Device, kind: Kind, pointed: Pointed) -> Option<u16>
     ensures { result ≡ slot_aimed device kind pointed }
 {
@@ -107,7 +107,7 @@ fn slot_aimed(device: Device, kind: Kind, pointed: Pointed) -> Option<u16>
     }
 }
 
-// Where the byte of `st`, `std` or `sts` goes on this device; None of any other instruction.
+// The aim of `st`, `std` or `sts` on this device; None for other instructions.
 pub(crate) fn aim(device: Device, key: &NodeKey, state: &AbsState, instr: &Instr) -> Option<Aim>
     ensures { result ≡ aim_of device key.now state.now instr.now }
 {

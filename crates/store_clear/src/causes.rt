@@ -1,4 +1,4 @@
-//! What may happen at each word at which a step may be flagged.
+//! The causes at each word at which a step may be flagged.
 
 ghost use Rattle.std.specs.Prelude.{ℕ, ◌≡◌, ◌≤◌, ◌↔◌, true, length, Contains, IfOk};
 ghost use Rattle.std.specs.List.Sorted.{IsStrictlySortedBy};
@@ -44,14 +44,14 @@ fn mark_addresses(store: &Store<'_>, marks: &mut [bool])
     }
 }
 
-// Whether a node that still asks this isn't clear, and lies at this word.
+// Whether a node with this condition left isn't clear, and is at this word.
 fn is_unclear_at(pc: u16, key: &NodeKey, asks: Asks) -> bool
     ensures { result ≡ is_unclear_at pc key.now asks }
 {
     !passes(asks) && key.pc == pc
 }
 
-// Marks such addresses of all nodes there that aren't clear.
+// Marks the addresses of all nodes there that aren't clear.
 fn mark_nodes(task: &Task<'_>, told: &ToldNodes<'_>, site: &WordSite<'_>, marks: &mut [bool])
     requires same { length told.now.asks.now ≡ length told.now.nodes.now }
     requires all { length marks.old ≡ 256 }
@@ -72,7 +72,7 @@ fn mark_nodes(task: &Task<'_>, told: &ToldNodes<'_>, site: &WordSite<'_>, marks:
     }
 }
 
-// The protected addresses that a store there may write at some node that isn't clear, ascending.
+// The protected addresses that stores at some node there, which isn't clear, may write; ascending.
 fn protected_of(
     task: &Task<'_>,
     told: &ToldNodes<'_>,
@@ -87,7 +87,7 @@ fn protected_of(
     places(task.alloc, &marks)
 }
 
-// Whether a store there may write a byte that was pushed at some node that isn't clear.
+// Whether a store at some node there, which isn't clear, may write a pushed byte.
 fn is_live_at(task: &Task<'_>, bound: u16, told: &ToldNodes<'_>, site: &WordSite<'_>) -> bool
     requires same { length told.now.asks.now ≡ length told.now.nodes.now }
     requires small { bound ≤ size_of (device_of task.now.flash.now) }
@@ -110,7 +110,7 @@ fn is_live_at(task: &Task<'_>, bound: u16, told: &ToldNodes<'_>, site: &WordSite
     false
 }
 
-// What may happen at a word at which some node isn't clear.
+// The causes at a word at which some node isn't clear.
 fn place_at(
     task: &Task<'_>,
     certificate: &Certificate,
@@ -143,7 +143,7 @@ fn place_at(
     }
 }
 
-// What may happen at each of these words, at each of which some node isn't clear.
+// The causes at each of these words; each has a node that isn't clear.
 pub(crate) fn places_at(
     task: &Task<'_>,
     certificate: &Certificate,

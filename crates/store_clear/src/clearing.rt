@@ -1,4 +1,4 @@
-//! What is said of a certificate's nodes that may flag a step.
+//! Answers on the nodes of a certificate that may flag a step.
 
 ghost use Rattle.std.specs.Prelude.{ℕ, ◌≡◌, ◌↔◌, List, [], IfOk};
 ghost use Rattle.edge_rules.specs.Expansion.{IsFilled};
@@ -26,10 +26,10 @@ use local_rules::laws::words_have_16_bits;
 use std::alloc::{AllocError, Global};
 use vector_table::Assumptions;
 
-/// Whether each node of a certificate's family is clear, where there are no assumptions and all conditions hold but that on the schedule; if
-/// one isn't, the least such node, counted from 0, and its word address. Where each is clear, every run from reset keeps the bound, and no
-/// step of one is flagged: there is no premise on flags. The error is want of memory. No edge is worked out: each landing is looked at once,
-/// and once more for each slot on which a node rests. Source: own.
+/// Whether each node of a certificate's family is clear, if there are no assumptions and all conditions hold but that on the schedule. If
+/// one isn't, gives the first such node, counted from 0, and its word address. If each is clear, every run from reset stays within the
+/// bound, and no step of it is flagged: there is no premise on flags. Fails if memory runs out. No edge is computed: each landing is
+/// visited once, and once more for each slot that a condition names. Source: own.
 pub fn clear_family(
     task: &Task<'_>,
     certificate: &Certificate,
@@ -53,10 +53,10 @@ pub fn clear_family(
     }
 }
 
-/// The word addresses at which a step may be flagged, ascending, each once: those of the nodes of a certificate's family that aren't clear,
-/// where all conditions hold but that on the schedule. Every run from reset that ends flagged ends at one of them, or by taking a vector
-/// that is assumed never to be taken; so where there is neither no run is flagged. The error is want of memory. No edge is worked out: each
-/// landing is looked at once, and once more for each slot on which a node rests. Source: own.
+/// The word addresses at which a step may be flagged, ascending and without repeats: those of nodes of a certificate's family that aren't
+/// clear, if all conditions hold but that on the schedule. Every run from reset that ends flagged ends at one of them, or by taking a
+/// vector that is assumed never to be taken; without either, no run is flagged. Fails if memory runs out. No edge is computed: each
+/// landing is visited once, and once more for each slot that a condition names. Source: own.
 pub fn flagged_sites_in(
     task: &Task<'_>,
     certificate: &Certificate,
@@ -80,10 +80,10 @@ pub fn flagged_sites_in(
     sites_of(task.alloc, &told)
 }
 
-/// The same word addresses, each with what may happen there by some node that isn't clear: which protected addresses a store may write that
-/// are flagged, whether one may write a byte that was pushed, whether a transfer may go to an unlisted word; and something may happen at
-/// each. What a run from reset is flagged for is told of the word at which it ends, unless it takes a vector that is assumed never to be
-/// taken. The error is want of memory. Beside what the words cost, each of them costs a look at each node. Source: own.
+/// The word addresses of `flagged_sites_in`, each with its causes: the protected addresses that a store may write and that are flagged,
+/// whether a store may write a pushed byte, and whether a transfer may go to an unlisted word. Each has a cause. A run from reset that
+/// ends flagged ends at one of them with the cause of its flag, or takes a vector that is assumed never to be taken. Fails if memory runs
+/// out. Each word costs a pass over all nodes. Source: own.
 pub fn flagged_places_in(
     task: &Task<'_>,
     certificate: &Certificate,
@@ -107,8 +107,8 @@ pub fn flagged_places_in(
     places_at(task, certificate, &told, sites.as_slice())
 }
 
-/// The word addresses of vectors that are assumed never to be taken and that some of these nodes may take, ascending, each once, whichever
-/// certificate they are the nodes of. Taking such a vector is flagged. The error is want of memory. Source: own.
+/// The word addresses of vectors that are assumed never to be taken and that some of these nodes may take, ascending and without repeats,
+/// for whichever certificate has these nodes. Taking such a vector is flagged. Fails if memory runs out. Source: own.
 pub fn never_takes_in(task: &Task<'_>, nodes: &Filled) -> Result<Listed<u16>, AllocError>
     ensures exact { IfOk result (λ nevers. (c : Claim) → IsFilled task.now.flash.now task.now.assumptions.now c.nodes nodes.now → AreNevers task.now.flash.now task.now.assumptions.now c nevers) }
 {
@@ -117,10 +117,10 @@ pub fn never_takes_in(task: &Task<'_>, nodes: &Filled) -> Result<Listed<u16>, Al
     places(task.alloc, &marks)
 }
 
-/// Whether each node of a certificate without assumptions is clear, where all conditions hold but that on its schedule; if one isn't,
-/// the least such node, counted from 0, and its word address. Where each is clear, every run from reset keeps the bound, and no step
-/// of one is flagged: there is no premise on flags. The error is want of memory. Each edge is looked at once, and once more for
-/// each slot on which a node rests. Source: own.
+/// Whether each node of a certificate without assumptions is clear, if all conditions hold but that on its schedule. If one isn't, gives
+/// the first such node, counted from 0, and its word address. If each is clear, every run from reset stays within the bound, and no step
+/// of it is flagged: there is no premise on flags. Fails if memory runs out. Each edge is visited once, and once more for each slot that
+/// a condition names. Source: own.
 pub fn clear_sites(
     alloc: Global,
     flash: &Flash,
@@ -143,10 +143,10 @@ pub fn clear_sites(
     verdict
 }
 
-/// The word addresses at which a step may be flagged, ascending, each once: those of the nodes of a certificate that aren't clear under
-/// these assumptions, where all conditions hold but that on its schedule. Every run from reset that ends flagged ends at one of them, or
-/// by taking a vector that is assumed never to be taken; so where there is neither no run is flagged. The error is want of memory. Each
-/// edge is looked at once, and once more for each slot on which a node rests. Source: own.
+/// The word addresses at which a step may be flagged, ascending and without repeats: those of nodes of a certificate that aren't clear
+/// under these assumptions, if all conditions hold but that on its schedule. Every run from reset that ends flagged ends at one of them,
+/// or by taking a vector that is assumed never to be taken; without either, no run is flagged. Fails if memory runs out. Each edge is
+/// visited once, and once more for each slot that a condition names. Source: own.
 pub fn flagged_sites(
     alloc: Global,
     flash: &Flash,
@@ -170,10 +170,10 @@ pub fn flagged_sites(
     sites
 }
 
-/// The same word addresses, each with what may happen there by some node that isn't clear: which protected addresses a store may write that
-/// are flagged, whether one may write a byte that was pushed, whether a transfer may go to an unlisted word; and something may happen at
-/// each. What a run from reset is flagged for is told of the word at which it ends, unless it takes a vector that is assumed never to be
-/// taken. The error is want of memory. Beside what the words cost, each of them costs a look at each node. Source: own.
+/// The word addresses of `flagged_sites`, each with its causes: the protected addresses that a store may write and that are flagged,
+/// whether a store may write a pushed byte, and whether a transfer may go to an unlisted word. Each has a cause. A run from reset that
+/// ends flagged ends at one of them with the cause of its flag, or takes a vector that is assumed never to be taken. Fails if memory runs
+/// out. Each word costs a pass over all nodes. Source: own.
 pub fn flagged_places(
     alloc: Global,
     flash: &Flash,
@@ -196,8 +196,8 @@ pub fn flagged_places(
     list
 }
 
-/// The word addresses of vectors that are assumed never to be taken and that some node of a certificate may take, ascending, each once,
-/// where all conditions hold but that on its schedule. Taking such a vector is flagged. The error is want of memory. Source: own.
+/// The word addresses of vectors that are assumed never to be taken and that some node of a certificate may take, ascending and without
+/// repeats, if all conditions hold but that on its schedule. Taking such a vector is flagged. Fails if memory runs out. Source: own.
 pub fn never_takes(
     alloc: Global,
     flash: &Flash,

@@ -1,4 +1,4 @@
-//! What has to hold of a node's slots, so that none of its steps can be flagged.
+//! A node's condition on its slots for being clear.
 
 ghost use Rattle.std.specs.Prelude.{◌≡◌, ◌≤◌, ℕ, Bool, Some};
 ghost use Rattle.avr_model.specs.Assumptions as assumed;
@@ -43,7 +43,7 @@ fn lists(items: &[u16], item: u16) -> bool
     items.iter().any(|other| *other == item)
 }
 
-// What is known of the byte that a pointer store stores.
+// The bits of the byte that a pointer store stores.
 fn stored_bits(state: &AbsState, instr: &Instr) -> TriByte
     ensures { result ≡ stored_bits state.now instr.now }
 {
@@ -54,7 +54,7 @@ fn stored_bits(state: &AbsState, instr: &Instr) -> TriByte
     }
 }
 
-// Whether a write of the store's byte to this address is flagged for a protected one, at a site that isn't fixed.
+// Whether writing the store's byte to this protected address is flagged, at a site that isn't fixed.
 fn is_guarded(store: &Store<'_>, address: u16) -> bool
     ensures { result ≡ is_guarded (device_of store.now.flash.now) store.now.assumptions.now store.now.pc (stored_bits store.now.state.now store.now.instr.now) address }
 {
@@ -68,7 +68,7 @@ fn is_guarded(store: &Store<'_>, address: u16) -> bool
     }
 }
 
-// Whether a write of this address at this word may be flagged for a protected one.
+// Whether writing this address at this word may be flagged as protected.
 pub(crate) fn is_flagged_address(store: &Store<'_>, address: u16) -> bool
     ensures { result ≡ is_flagged_address store.now.flash.now store.now.assumptions.now store.now.pc store.now.state.now store.now.instr.now address }
 {
@@ -78,7 +78,7 @@ pub(crate) fn is_flagged_address(store: &Store<'_>, address: u16) -> bool
     is_store && !fixed && guarded
 }
 
-// Whether a byte at this address isn't one that was pushed, and a write of it isn't flagged, where the stack takes at most this many bytes.
+// Whether the address is no pushed byte's and a write of it isn't flagged, if the stack takes at most this many bytes.
 pub(crate) fn is_address_harmless(store: &Store<'_>, bound: u16, address: u16) -> bool
     requires { bound ≤ size_of (device_of store.now.flash.now) }
     ensures { result ≡ is_address_harmless store.now.flash.now store.now.assumptions.now bound store.now.pc store.now.state.now store.now.instr.now address }
@@ -107,7 +107,7 @@ fn is_reach_harmless(store: &Store<'_>, bound: u16, reach: Reach) -> bool
     }
 }
 
-// What a store asks.
+// The condition of a store.
 fn asks_of_aim(store: &Store<'_>, bound: u16, key: &NodeKey, aim: Option<Aim>) -> Asks
     requires at { store.now.pc ≡ key.now.pc }
     requires small { bound ≤ size_of (device_of store.now.flash.now) }
@@ -125,7 +125,7 @@ fn asks_of_aim(store: &Store<'_>, bound: u16, key: &NodeKey, aim: Option<Aim>) -
     }
 }
 
-// Whether the registers may hold this number: by their bits alone, and where pairs are followed also by their ranges and their interval.
+// Whether the registers may hold this number: by their bits alone, and if pairs are followed also by their ranges and interval.
 fn permits_pair(state: &AbsState, r: LowRegister, number: u16) -> bool
     ensures { result ≡ permits_pair state.now r number }
 {
@@ -138,7 +138,7 @@ fn permits_pair(state: &AbsState, r: LowRegister, number: u16) -> bool
     }
 }
 
-// Whether a word is listed to which Z may lead with this number, if that is permitted.
+// Whether the target of Z with this number is listed, if the number is permitted.
 fn is_target_listed(flash: &Flash, state: &AbsState, listed: &[u16], z: u16) -> bool
     ensures { result ≡ is_target_listed (device_of flash.now) state.now listed.now z }
 {
@@ -146,7 +146,7 @@ fn is_target_listed(flash: &Flash, state: &AbsState, listed: &[u16], z: u16) -> 
     !permitted || lists(listed, flash.device().wrap(z))
 }
 
-// Whether all words are listed to which Z may lead.
+// Whether all possible targets of Z are listed.
 fn are_targets_listed(flash: &Flash, state: &AbsState, listed: &[u16]) -> bool
     ensures { result ≡ are_targets_listed (device_of flash.now) state.now (Some listed.now) }
 {
@@ -158,7 +158,7 @@ fn are_targets_listed(flash: &Flash, state: &AbsState, listed: &[u16]) -> bool
     true
 }
 
-// Whether an indirect transfer goes to listed words alone.
+// Whether an indirect transfer goes to listed words only.
 fn is_transfer_listed(
     flash: &Flash,
     assumptions: &Assumptions,
@@ -177,7 +177,7 @@ fn is_transfer_listed(
     }
 }
 
-// What a node asks of its slots to be clear, where the stack takes at most this many bytes.
+// A node's condition for being clear, if the stack takes at most this many bytes.
 pub(crate) fn asked_by(
     flash: &Flash,
     assumptions: &Assumptions,

@@ -1,4 +1,4 @@
-//! Whether each address to which a store's byte may go is harmless, where pairs are followed.
+//! Whether each possible address of a store is harmless, if pairs are followed.
 
 ghost use Rattle.std.specs.Prelude.{ℕ, ◌≡◌, ◌≤◌, Some};
 ghost use Rattle.avr_model.specs.Devices.{device_of, size_of};
@@ -17,8 +17,8 @@ use local_rows::transfer::{base_register, pointer_register};
 use pair_domain::{Interval, PairFacts};
 use pair_told::told::interval_of;
 
-// Whether the addresses from the first to the last lie in SRAM below what the stack can reach, or above SRAM. Where the last is less than the
-// first they go round the end of data space.
+// Whether the addresses from the first to the last are in SRAM below the stack's reach, or above SRAM. If the last is less than the
+// first, they wrap around the end of data space.
 fn is_range_harmless(flash: &Flash, bound: u16, first: u16, last: u16) -> bool
     requires { bound ≤ size_of (device_of flash.now) }
     ensures { result ≡ is_range_harmless (device_of flash.now) bound first last }
@@ -27,7 +27,7 @@ fn is_range_harmless(flash: &Flash, bound: u16, first: u16, last: u16) -> bool
     first <= last && ((BELOW < first && last <= ramend - bound) || ramend < first)
 }
 
-// Whether the bytes of registers `r` and `r + 1` don't permit a number, or it leads to a harmless address, with `up` added.
+// Whether the bytes of registers `r` and `r + 1` exclude the number, or the address `up` further is harmless.
 fn is_number_harmless(store: &Store<'_>, bound: u16, r: LowRegister, up: u16, number: u16) -> bool
     requires { bound ≤ size_of (device_of store.now.flash.now) }
     ensures { result ≡ is_number_harmless store.now.flash.now store.now.assumptions.now bound store.now.pc store.now.state.now store.now.instr.now r up number }
@@ -36,8 +36,8 @@ fn is_number_harmless(store: &Store<'_>, bound: u16, r: LowRegister, up: u16, nu
     !permits_bytes(store.state, r, number) || is_address_harmless(store, bound, address)
 }
 
-// Whether each number of an interval that registers `r` and `r + 1` may hold leads to a harmless address, with `up` added. They may hold no
-// others.
+// Whether, for each possible number of registers `r` and `r + 1` in an interval, the address `up` further is harmless. Other numbers are
+// impossible.
 fn is_interval_harmless(
     store: &Store<'_>,
     bound: u16,
@@ -63,7 +63,7 @@ fn is_interval_harmless(
     true
 }
 
-// Whether each number that registers `r` and `r + 1` may hold leads to a harmless address, with `up` added.
+// Whether, for each possible number of registers `r` and `r + 1`, the address `up` further is harmless.
 fn are_numbers_harmless(
     store: &Store<'_>,
     bound: u16,
@@ -79,8 +79,7 @@ fn are_numbers_harmless(
     is_interval_harmless(store, bound, r, up, interval)
 }
 
-// Whether pairs are followed, and each address to which the byte of an instruction may go is harmless, where the stack takes at most this
-// many bytes.
+// Whether pairs are followed, and each possible address of a store is harmless, if the stack takes at most this many bytes.
 pub(crate) fn are_addresses_harmless(store: &Store<'_>, bound: u16) -> bool
     requires { bound ≤ size_of (device_of store.now.flash.now) }
     ensures { result ≡ are_addresses_harmless store.now.flash.now store.now.assumptions.now bound store.now.pc store.now.state.now store.now.instr.now }

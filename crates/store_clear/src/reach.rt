@@ -36,7 +36,7 @@ fn mark_seed(
     Ok(())
 }
 
-// Marks all nodes that have the slot from the start.
+// Marks all nodes whose seed is this slot.
 fn mark_seeds(
     seeds: &[SlotSeed],
     slot: u16,
@@ -52,7 +52,7 @@ fn mark_seeds(
     Ok(())
 }
 
-// Marks a node to which a link leads, if it has the slot.
+// Marks the target of a link, if it has the slot.
 #[tactic(auto, using(crate::proofs::Marks::next_marked, crate::proofs::Marks::next_passed))]
 fn mark_next(
     node: u32,
@@ -71,7 +71,7 @@ fn mark_next(
     Ok(())
 }
 
-// Marks the nodes to which these links lead and which have the slot.
+// Marks the targets of these links that have the slot.
 fn mark_all(
     links: &[u32],
     offsets: &[u16],
@@ -89,7 +89,7 @@ fn mark_all(
     Ok(())
 }
 
-// The links and offsets of all nodes, and the nodes that have slots from the start.
+// The links, offsets and seeds of all nodes.
 #[derive(Clone, Copy)]
 struct LinkedNodes<'a> {
     links: &'a [Listed<u32>],
@@ -97,7 +97,7 @@ struct LinkedNodes<'a> {
     seeds: &'a [SlotSeed],
 }
 
-// Marks all that is reached.
+// Marks all reached nodes.
 fn spread(
     alloc: Global,
     nodes: &LinkedNodes<'_>,
@@ -125,9 +125,8 @@ fn spread(
     }
 }
 
-// Which nodes a slot reaches, by their numbers: those of its seeds, and with each those to which its links lead and whose offset
-// is above the slot. Nodes are as many as links and offsets, and links and seeds lead to nodes. The error is want of memory. Each
-// link is looked at once.
+// The nodes that a slot reaches, by number: those of its seeds, and targets of links from reached nodes whose offset is above the slot.
+// Links and offsets are given for each node, and links and seeds lead to nodes. Fails if memory runs out. Each link is visited once.
 pub(crate) fn reached(
     alloc: Global,
     links: &[Listed<u32>],

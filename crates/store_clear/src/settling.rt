@@ -1,4 +1,4 @@
-//! Whether nodes get what they ask of their slots.
+//! Whether the conditions of nodes on their slots are met.
 
 ghost use Rattle.std.specs.Prelude.{◌≡◌, length, OnOk};
 ghost use Rattle.clear_laws.specs.Reach.{AreInside};
@@ -9,7 +9,7 @@ use crate::spreading::Frames;
 use clear_laws::slots::Asks;
 use std::alloc::{AllocError, Global};
 
-// What is left of what a node asks, where this tells whether the slot may hold a live byte there.
+// The condition that remains; `held` says whether the slot may hold a live byte there.
 fn settled(asks: Asks, slot: u16, held: bool) -> Asks
     ensures { result ≡ settled asks slot held }
 {
@@ -19,7 +19,7 @@ fn settled(asks: Asks, slot: u16, held: bool) -> Asks
     }
 }
 
-// What is left of what all nodes ask, where these marks tell where the slot may hold a live byte.
+// The conditions that remain, by marks of the nodes at which the slot may hold a live byte.
 fn mark_off(asks: &mut [Asks], slot: u16, marks: &[bool])
     requires { length marks.now ≡ length asks.old }
     ensures { AreMarkedOff slot marks.now (length asks.old) asks.old asks.new }
@@ -29,7 +29,7 @@ fn mark_off(asks: &mut [Asks], slot: u16, marks: &[bool])
     }
 }
 
-// The same for one slot along these edges.
+// Settles one slot along these edges.
 fn settle_slot(
     alloc: Global,
     frames: &Frames,
@@ -47,7 +47,7 @@ fn settle_slot(
     Ok(())
 }
 
-// Settles what all nodes ask: none asks for a slot any more. The marks of a slot are worked out once for all nodes that ask for it.
+// Settles the conditions of all nodes: none names a slot any more. The marks of a slot are computed once for all nodes that name it.
 pub(crate) fn settle(alloc: Global, frames: &Frames, asks: &mut [Asks]) -> Result<(), AllocError>
     requires inside { AreInside frames.now.links frames.now.offsets frames.now.seeds }
     requires same { length asks.old ≡ length frames.now.offsets }

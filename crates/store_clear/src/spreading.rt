@@ -1,4 +1,4 @@
-//! Along which edges slots spread, by the numbers of nodes.
+//! The edges along which slots spread, by the numbers of nodes.
 
 ghost use Rattle.std.specs.Prelude.{◌≡◌, ◌++◌, map, IfOk, OnOk};
 ghost use Rattle.call_graph.specs.Landings.{AreLandings};
@@ -15,18 +15,18 @@ use flash_image::Flash;
 use mask_states::EdgeKind;
 use std::alloc::{AllocError, Global};
 
-// Along which edges slots spread, by the numbers of nodes.
+// The edges along which slots spread, by the numbers of nodes.
 #[derive(Drop)]
 pub(crate) struct Frames {
-    // By node, to which nodes its edges lead that stay in its frame.
+    // For each node, the targets of its edges within frames.
     pub links: Listed<Listed<u32>>,
-    // By node, how many slots it has.
+    // For each node, its number of slots.
     pub offsets: Listed<u16>,
     // The slots that guarded pushes add.
     pub seeds: Listed<SlotSeed>,
 }
 
-// Where edges land that stay in their frame, of those that land so.
+// The targets within frames of these landings.
 fn links_of(alloc: Global, landings: &[Landing]) -> Result<Listed<u32>, AllocError>
     ensures { IfOk result (λ to. to ≡ links_by landings.now) }
 {
@@ -39,7 +39,7 @@ fn links_of(alloc: Global, landings: &[Landing]) -> Result<Listed<u32>, AllocErr
     Ok(to)
 }
 
-// The same of each node.
+// The targets within frames, for each node.
 fn all_links(alloc: Global, landings: &[Listed<Landing>]) -> Result<Listed<Listed<u32>>, AllocError>
     ensures { IfOk result (λ links. links ≡ map links_by landings.now) }
 {
@@ -50,7 +50,7 @@ fn all_links(alloc: Global, landings: &[Listed<Landing>]) -> Result<Listed<Liste
     Ok(links)
 }
 
-// How many slots each node has.
+// The number of slots of each node.
 fn offsets_of(alloc: Global, nodes: &Filled) -> Result<Listed<u16>, AllocError>
     ensures { IfOk result (λ offsets. offsets ≡ offsets_of nodes.now) }
 {
@@ -61,7 +61,7 @@ fn offsets_of(alloc: Global, nodes: &Filled) -> Result<Listed<u16>, AllocError>
     Ok(offsets)
 }
 
-// Whether a guarded byte is pushed at this word.
+// Whether this word pushes a guarded byte.
 fn is_guarded_push(flash: &Flash, pc: u16) -> bool
     ensures { result ≡ held.is_guarded_push flash.now pc }
 {
@@ -71,7 +71,7 @@ fn is_guarded_push(flash: &Flash, pc: u16) -> bool
     }
 }
 
-// Where local edges land, of those that land so, with the slot that is pushed there.
+// The targets of local edges with these landings, with the pushed slot.
 fn add_seeds(
     landings: &[Landing],
     slot: u16,
@@ -106,7 +106,7 @@ fn all_seeds(task: &Task<'_>, family: &Worked) -> Result<Listed<SlotSeed>, Alloc
     Ok(seeds)
 }
 
-// Along which edges slots spread. No local part is worked out for it.
+// The edges along which slots spread. No local part is computed.
 pub(crate) fn frames_of(task: &Task<'_>, family: &Worked) -> Result<Frames, AllocError>
     requires { AreLandings task.now.flash.now task.now.assumptions.now family.now.nodes family.now.landings }
     ensures { IfOk result (λ f. SpreadsAlong task.now.flash.now task.now.assumptions.now family.now.nodes f.links f.offsets f.seeds) }

@@ -5,16 +5,16 @@ use avr_model::instruction::Instr;
 use flash_image::Flash;
 use vector_table::Assumptions;
 
-// An instruction at a word, with the firmware, what is assumed of it, and what is known there.
+// An instruction at a word, with the firmware, the assumptions, and the state there.
 #[derive(Clone, Copy)]
 pub(crate) struct Store<'a> {
     // The words of flash.
     pub flash: &'a Flash,
-    // What is assumed.
+    // The assumptions.
     pub assumptions: &'a Assumptions,
     // The word.
     pub pc: u16,
-    // What is known of a node there.
+    // The state of a node there.
     pub state: &'a AbsState,
     // The instruction.
     pub instr: &'a Instr,

@@ -7,7 +7,7 @@ ghost use Rattle.store_clear.specs.Takes.{AreMarkedBeside, is_take, IsTakenBelow
 use call_graph::{Filled, Task};
 use mask_states::NodeKey;
 
-// Whether a vector is enabled, and its word has a `never` line.
+// Whether the vector is enabled, and its word has a `never` line.
 fn is_take(task: &Task<'_>, key: &NodeKey, v: u8) -> bool
     requires low { 2 ≤ v }
     requires high { v ≤ 26 }
@@ -28,14 +28,14 @@ fn mark_vectors(task: &Task<'_>, key: &NodeKey, marks: &mut [bool])
     }
 }
 
-// Whether an interrupt may come.
+// Whether an interrupt may be taken.
 fn may_take(key: &NodeKey) -> bool
     ensures { result ≡ may_take key.now }
 {
     key.i && !key.delay
 }
 
-// Marks the words of the vectors that a node may take and that have a `never` line.
+// Marks the words with a `never` line of the vectors that a node may take.
 pub(crate) fn mark_takes(task: &Task<'_>, nodes: &Filled, marks: &mut [bool])
     requires { length marks.old ≡ WORDS }
     ensures { AreMarkedBeside (IsTakenAt task.now.flash.now task.now.assumptions.now nodes.now (length nodes.now)) marks.old marks.new }

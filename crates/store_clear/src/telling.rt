@@ -1,4 +1,4 @@
-//! Which nodes of a certificate are clear.
+//! The clear nodes of a certificate.
 
 ghost use Rattle.std.specs.Prelude.{◌≡◌, ◌≤◌, IfOk};
 ghost use Rattle.avr_model.specs.Devices.{device_of, size_of};
@@ -13,16 +13,16 @@ use certificate::Certificate;
 use clear_laws::slots::Asks;
 use std::alloc::AllocError;
 
-// Nodes, and what each still asks: nothing where it is clear.
+// Nodes with the conditions that remain; a node without one is clear.
 #[derive(Clone, Copy)]
 pub(crate) struct ToldNodes<'a> {
-    // The nodes with their states.
+    // The expanded nodes.
     pub nodes: &'a Filled,
-    // What each asks, by its number.
+    // The condition of each node, by number.
     pub asks: &'a [Asks],
 }
 
-// Whether a node that still asks this is clear.
+// Whether a node with this condition left is clear.
 pub(crate) fn passes(asks: Asks) -> bool
     ensures { result ≡ passes asks }
 {
@@ -32,7 +32,7 @@ pub(crate) fn passes(asks: Asks) -> bool
     }
 }
 
-// What each node asks to be clear, by its number, where the stack takes at most this many bytes.
+// The condition of each node for being clear, by number, if the stack takes at most this many bytes.
 fn asked(task: &Task<'_>, bound: u16, nodes: &Filled) -> Result<Vec<Asks>, AllocError>
     requires { bound ≤ size_of (device_of task.now.flash.now) }
     ensures { IfOk result (λ asks. AreAsked task.now.flash.now task.now.assumptions.now bound nodes.now asks.items) }
@@ -45,7 +45,7 @@ fn asked(task: &Task<'_>, bound: u16, nodes: &Filled) -> Result<Vec<Asks>, Alloc
     Ok(asks)
 }
 
-// What each node of a certificate's family still asks.
+// The conditions of a certificate's nodes that remain.
 pub(crate) fn tell(
     task: &Task<'_>,
     certificate: &Certificate,

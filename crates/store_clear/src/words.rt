@@ -11,7 +11,7 @@ use avr_model::listed::Listed;
 use clear_laws::slots::Asks;
 use std::alloc::{AllocError, Global};
 
-// The number of the first that still asks something.
+// The number of the first node with a condition left.
 pub(crate) fn first_unclear(asks: &[Asks]) -> Option<usize>
     ensures { IsFirstAsking asks.now result }
 {
@@ -23,7 +23,7 @@ pub(crate) fn first_unclear(asks: &[Asks]) -> Option<usize>
     None
 }
 
-// Marks the words of the nodes that still ask something.
+// Marks the words of nodes with a condition left.
 fn mark_words(told: &ToldNodes<'_>, marks: &mut [bool])
     requires same { length told.now.asks.now ≡ length told.now.nodes.now }
     requires all { length marks.old ≡ WORDS }
@@ -37,7 +37,7 @@ fn mark_words(told: &ToldNodes<'_>, marks: &mut [bool])
     }
 }
 
-// The numbers of those that are marked, ascending.
+// The places of the marks, ascending.
 pub(crate) fn places(alloc: Global, marks: &[bool]) -> Result<Listed<u16>, AllocError>
     requires { length marks.now ≤ 65536 }
     ensures { IfOk result (λ places. places ≡ places_of marks.now) }
@@ -51,7 +51,7 @@ pub(crate) fn places(alloc: Global, marks: &[bool]) -> Result<Listed<u16>, Alloc
     Ok(places)
 }
 
-// The words at which some node isn't clear, ascending, each once.
+// The words at which some node isn't clear, ascending and without repeats.
 pub(crate) fn sites_of(alloc: Global, told: &ToldNodes<'_>) -> Result<Listed<u16>, AllocError>
     requires { length told.now.asks.now ≡ length told.now.nodes.now }
     ensures { IfOk result (λ sites. AreSitesTold told.now.nodes.now told.now.asks.now sites) }

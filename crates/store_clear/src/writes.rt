@@ -1,4 +1,4 @@
-//! What may happen where a node's step may be flagged.
+//! The possible causes of a flagged step.
 
 ghost use Rattle.std.specs.Prelude.{◌≡◌, ◌≤◌};
 ghost use Rattle.avr_model.specs.Devices.{device_of, size_of};
@@ -32,14 +32,14 @@ fn may_write(state: &AbsState, instr: &Instr, address: u16) -> bool
     }
 }
 
-// Whether the byte of a store at this word may go to this data address, and a write of it is flagged as that of a protected one.
+// Whether the byte of a store at this word may go to this data address, and the write is flagged as one of a protected address.
 pub(crate) fn may_write_protected(store: &Store<'_>, address: u16) -> bool
     ensures { result ≡ may_write_protected store.now.flash.now store.now.assumptions.now store.now.pc store.now.state.now store.now.instr.now address }
 {
     is_flagged_address(store, address) && may_write(store.state, store.instr, address)
 }
 
-// The same of some address.
+// Whether some data address is so.
 fn may_write_some_protected(store: &Store<'_>) -> bool
     ensures { result ≡ may_write_some_protected store.now.flash.now store.now.assumptions.now store.now.pc store.now.state.now store.now.instr.now }
 {
@@ -51,7 +51,7 @@ fn may_write_some_protected(store: &Store<'_>) -> bool
     false
 }
 
-// Whether the byte of a store may go where the stack can reach by the bound.
+// Whether a store may reach the stack, by the bound.
 fn may_write_stack(flash: &Flash, bound: u16, state: &AbsState, instr: &Instr) -> bool
     requires { bound ≤ size_of (device_of flash.now) }
     ensures { result ≡ may_write_stack (device_of flash.now) bound state.now instr.now }
@@ -65,8 +65,8 @@ fn may_write_stack(flash: &Flash, bound: u16, state: &AbsState, instr: &Instr) -
     false
 }
 
-// Whether a store at this word that isn't harmless may write a byte that was pushed, where the stack takes at most this many bytes: it may
-// go where the stack can reach, or pairs aren't followed and nothing else is told of it.
+// Whether a store at this word that isn't harmless may write a pushed byte, if the stack takes at most this many bytes: it may reach the
+// stack, or pairs aren't followed and it has no other cause.
 pub(crate) fn may_write_live(store: &Store<'_>, bound: u16) -> bool
     requires { bound ≤ size_of (device_of store.now.flash.now) }
     ensures { result ≡ may_write_live store.now.flash.now store.now.assumptions.now bound store.now.pc store.now.state.now store.now.instr.now }

@@ -1,4 +1,4 @@
-//! The tables, by what they are about: the first table and row that is wrong is told.
+//! The tables by subject. A test reports the first table and row that is wrong.
 
 mod assumption_texts;
 mod certificates;
@@ -9,20 +9,20 @@ mod words;
 
 use std::alloc::Global;
 
-// The first table and row that is wrong, once there is one.
+// The first wrong table and row, if there is one.
 struct Told {
     table: &'static str,
     row: usize,
     wrong: bool,
 }
 
-// A row that was worked out apart from what it is about.
+// A row whose answer was worked out independently.
 trait Worked {
-    // Whether what it is about is so. Want of memory is wrong too.
+    // Whether the row holds. Running out of memory is wrong too.
     fn holds(&self, alloc: Global) -> bool;
 }
 
-// The first row that doesn't hold.
+// The first row that does not hold.
 fn wrong_row<R: Worked>(alloc: Global, rows: &[R]) -> Option<usize> {
     for at in 0..rows.len() {
         if !rows[at].holds(alloc) {
@@ -32,7 +32,7 @@ fn wrong_row<R: Worked>(alloc: Global, rows: &[R]) -> Option<usize> {
     None
 }
 
-// Tells the row of a table that is wrong, if one is.
+// Reports the wrong row of a table, if there is one.
 fn tell_row(told: &mut Told, table: &'static str, wrong: Option<usize>) {
     if let Some(at) = wrong
         && !told.wrong
@@ -43,14 +43,14 @@ fn tell_row(told: &mut Told, table: &'static str, wrong: Option<usize>) {
     }
 }
 
-// Tells the first row that doesn't hold of tables with their names.
+// Reports the first wrong row of named tables.
 fn tell<R: Worked>(told: &mut Told, alloc: Global, tables: &[(&'static str, &[R])]) {
     for (name, rows) in tables {
         tell_row(told, *name, wrong_row(alloc, rows));
     }
 }
 
-// Tells whether a fact that stands in no table is wrong, by its number.
+// Reports a fact outside the tables that is wrong, by number.
 fn tell_fact(told: &mut Told, number: usize, holds: bool) {
     if !told.wrong && !holds {
         told.table = "fact";
@@ -76,7 +76,7 @@ fn tell_texts(told: &mut Told, alloc: Global) {
     tell(told, alloc, &certificates::CELLS);
 }
 
-// What stands in no table.
+// Facts outside the tables.
 fn tell_facts(told: &mut Told, alloc: Global) {
     tell_fact(told, 0, words::are_words());
     tell_fact(told, 1, assumption_texts::are_sixty_four());

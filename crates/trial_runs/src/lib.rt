@@ -1,10 +1,10 @@
-//! What trials share that ask a closure for choices: how many choices one has at most, and laws of the runs that they make.
+//! Common parts of trials that ask a closure for choices: the most choices of a trial, and laws of their runs.
 #![tactic(auto)]
 
 ghost use Rattle.std.specs.Prelude.{◌≡◌};
 ghost use Rattle.trial_runs.specs.Length.{most_choices};
 
-/// How many choices a trial has at most.
+/// The most choices of a trial.
 pub fn most_choices() -> u32
     ensures { result ≡ most_choices }
 {

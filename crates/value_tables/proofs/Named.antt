@@ -1,4 +1,4 @@
--- Registers of which each names a register of the frame's entry, where one is changed.
+-- Registers whose tags name registers of the frame's entry, with one changed.
 use Rattle.std.proofs.Common.{◌≡◌, sym, subst, ℕ, ◌<◌, ◌≢◌, List, length, slice_set, inl, inr, arith}
 use Rattle.std.proofs.lemmas.Bool.{cases_eq}
 use Rattle.std.proofs.lemmas.Grind.{elements}

@@ -1,4 +1,4 @@
--- How often the numbers of a pool are used, as states are interned and released.
+-- Uses of a pool's numbers while states are interned and released.
 use Rattle.std.proofs.Common.{◌≡◌, refl, sym, ap, subst, ℕ, ◌+◌, ◌<◌, List, [], ◌∷◌, ◌++◌, arith}
 use Rattle.std.specs.FinMap.{empty, get-empty, len, len-empty}
 use Rattle.std.specs.Ordering.{nat_cmp}
@@ -10,7 +10,7 @@ use Rattle.state_pool.specs.Counts.{held_count, count_at, share, one_if, IsUsedM
 abbrev nothing : Uses
 nothing = empty
 
--- no count is there
+-- there is no count
 pub starts_below : (pool : Uses) (most : ℕ) → pool ≡ empty → AreBelow most pool
 starts_below pool most is = subst (λ (p : Uses). AreBelow most p) (sym is) below
   where
@@ -20,12 +20,12 @@ starts_below pool most is = subst (λ (p : Uses). AreBelow most p) (sym is) belo
 pub starts_empty : (pool : Uses) → pool ≡ empty → len pool ≡ 0
 starts_empty pool is = subst (λ (p : Uses). len p ≡ 0) (sym is) (len-empty nat_cmp (AbsState × ℕ))
 
--- how often a number is in a list
+-- the number of occurrences in a list
 abbrev pub times : ℕ → List ℕ → ℕ
 times m [] = 0
 times m (n ∷ ns) = share m n + times m ns
 
--- each number is used as often as it is in the list
+-- each number has as many uses as the list has of it
 abbrev pub HasUses : Uses → List ℕ → Type 0
 HasUses pool ns = (m : ℕ) → count_at pool m ≡ times m ns
 
@@ -39,7 +39,7 @@ times_last m n (k ∷ ns) = let rest = times_last m n ns in omega (arith, rest)
 no_uses : (pool : Uses) → pool ≡ empty → HasUses pool []
 no_uses pool is = subst (λ (p : Uses). HasUses p []) (sym is) (λ m. ap held_count (get-empty {X = AbsState × ℕ} nat_cmp m))
 
--- a number that is interned comes first
+-- an interned number comes first
 one_more : (old new : Uses) (s : AbsState) (n : ℕ) (ns : List ℕ) → HasUses old ns → IsUsedMore old s n new → HasUses new (n ∷ ns)
 one_more old new s n ns has more m = let a = has m in let b = more.counts m in omega (arith, a, b)
 
@@ -61,7 +61,7 @@ last_used pool n ns has =
     let c = times_last n n ns in
     omega (arith, a, one, c)
 
--- two equal states and another, in a pool that was empty
+-- two equal states and another, in an empty pool
 pub three_interned : (law : CountsFollow) (start first second third : Uses) (s t : AbsState) (n m k : ℕ) → start ≡ empty → IsInterned start s n first → IsInterned first s m second
     → IsInterned second t k third → HasUses third (k ∷ m ∷ n ∷ [])
 three_interned law start first second third s t n m k is one same next =

@@ -1,4 +1,4 @@
--- A vector that has an enable bit has a number from 2 to 26.
+-- A vector with an enable bit has a number from 2 to 26.
 use Rattle.std.proofs.Common.{◌≡◌, ◌∙◌, refl, sym, ap, ℕ, ◌==◌, ◌&&◌, nat_le, Bool, true, false, if◌then◌else◌, List, [], ◌∷◌, Option, Some}
 use Rattle.std.specs.List.{find}
 use Rattle.std.specs.Option.{option_map}

@@ -1,4 +1,4 @@
-//! Vectors that a user's list says are never taken.
+//! Barred vectors: those with a `never` entry.
 
 ghost use Rattle.std.specs.Prelude.{◌≡◌, ◌≤◌};
 ghost use Rattle.avr_model.specs.Masks.{is_barred, enables_barred};

@@ -1,4 +1,4 @@
--- What a search answers.
+-- The answer of a search.
 use Rattle.std.proofs.Common.{refl, sym, ap, subst, ◌∙◌, ◌≡◌, ◌++◌, ℕ, List, [], Option, Some, None, IfSome, slice_get, Bor}
 use Rattle.std.specs.Slice.{IsItemAt}
 use Rattle.std.proofs.lemmas.List.{append-nil}
@@ -24,7 +24,7 @@ pub attained_as : (words : Program) (A : List Entry) (bound : ℕ) (found : Opti
 attained_as words A bound None h = tt
 attained_as words A bound (Some plan) h = h
 
--- where there is no node there is no interrupt
+-- without a node there is no interrupt
 none_there : (words : Program) (o : Option Node) (depth : ℕ) (kind : Option EdgeKind) → o ≡ None → interrupt_at words o depth kind ≡ []
 none_there words None depth kind e = refl
 none_there words (Some n) depth kind e = absurd cc
@@ -35,7 +35,7 @@ none_added words nodes xs link points r item none same =
     let away : slice_get nodes link.node ≡ None = subst (λ (ns : List Node). slice_get ns link.node ≡ None) same (slice_get_past xs link.node past.3) in
     sym (ap (λ (ws : List Waypoint). points ++ ws) (none_there words (slice_get nodes link.node) link.depth link.kind away) ∙ append-nil points)
 
--- where the conditions hold, each instance that is entered has its first node
+-- if the conditions hold, each entered instance has its first node
 pub peopled : (words : Program) (A : List Entry) (c : Claim) (nodes : List Node) → MeetsConditions words A c nodes → IsPeopled words A nodes
 peopled words A c nodes meets n way into back has enters =
     let l = meets.edges n _ has (entering way into back enters) in
@@ -52,12 +52,12 @@ interrupts_as words A nodes need links given points deepest same are =
       are = are ∙ ap (interrupts_of words nodes) same;
     }
 
--- those of a certificate's family are the certificate's
+-- the waypoints of a certificate's family are the certificate's
 pub waypoints_as : (words : Program) (A : List Entry) (c : Claim) (nodes : List Node) (points : List Waypoint) → IsFilled words A c.nodes nodes → AreInterrupts words A nodes points
     → AreWaypoints words A c points
 waypoints_as words A c nodes points filled interrupts = record { nodes = nodes; filled = filled; interrupts = interrupts }
 
--- what the trials find along these waypoints
+-- the result of the trials along these waypoints
 pub found_as : (words : Program) (A : List Entry) (c : Claim) (points given : List Waypoint) (bound : ℕ) (found : Option Plan) → AreWaypoints words A c points → given ≡ points → bound ≡ c.bound
     → IsFound words A given bound found → (ps : List Waypoint) × AreWaypoints words A c ps × IsFound words A ps c.bound found
 found_as words A c points given bound found are same is h =

@@ -1,4 +1,4 @@
--- Trials by their places: how one ends, and one that comes to a state again.
+-- Trials by places: their end, and trials that repeat a state.
 use Rattle.std.proofs.Common.{arith, ◌≡◌, ◌≢◌, refl, sym, ap, subst, ◌∙◌, ℕ, ◌<◌, ◌≤◌, ◌+◌, ◌-◌, max, ◌⊎◌, inl, inr, ◌==◌, Bool, true, false, if◌then◌else◌, List, [], ◌∷◌, ◌++◌, length, Option, Some, None, IfSome, IfNone}
 use Rattle.std.proofs.lemmas.List.{append-nil, length-append}
 use Rattle.basics.specs.Booleans.{last_of_four}
@@ -114,7 +114,7 @@ module _ (words : Program) (A : List Entry) (points : List Waypoint) (bound fill
   same_left : (ws : List Waypoint) (m : Machine) (cs : List Choice) (left : List Waypoint) (end : Machine) → Goes ws m cs left end → length left ≡ length ws → left ≡ ws
   same_left ws m cs left end h many = elim (fewer_left ws m cs left end h) [ inl same ↦ same | inr less ↦ absurd (omega (arith, less, many)) ]
 
-  -- one choice more
+  -- one more choice
   pub goes_on : (ws : List Waypoint) (m : Machine) (cs : List Choice) (left : List Waypoint) (end next : Machine) (c : Choice) (after : List Waypoint) (now : List Choice) → Goes ws m cs left end → end.depth < bound
       → c ≡ Picks left end.state → after ≡ Leaves left end.state → result_of (step words A end.state c) ≡ answer.Done → next ≡ moved_on end (step words A end.state c) → now ≡ cs ++ c ∷ []
       → Goes ws m now after next
@@ -126,7 +126,7 @@ module _ (words : Program) (A : List Entry) (points : List Waypoint) (bound fill
       (subst (λ (x : Machine). Goes ws m (cs ++ Picks left end.state ∷ []) after x) (sym there)
       (subst (λ (xs : List Waypoint). Goes ws m (cs ++ Picks left end.state ∷ []) xs (moved_on end (Done d.0))) (sym leaves) one))
 
-  -- the trial came to a machine with so many waypoints left, and goes on from there
+  -- the trial reached this machine with this many waypoints left, and continues from there
   pub record IsMarked (mid : Machine) (count : ℕ) (left : List Waypoint) (end : Machine) : Type 0 where
     pub before : List Choice
     pub between : List Choice
@@ -164,7 +164,7 @@ module _ (words : Program) (A : List Entry) (points : List Waypoint) (bound fill
     depth_is : (machine_after words A Trial Start).depth ≡ depth_of words A Trial (filled (device_of words) fill)
     depth_is = depth_from_reset law words A fill Start Trial (machine_after words A Trial Start) (machine_after words A Trial Start).depth refl trial_runs refl refl
 
-    -- by the choices, and the machine that they leave
+    -- the result by the choices and the machine after them
     told : (cs : List Choice) (end : Machine) (told : Option (List Choice)) → cs ≡ Trial → end ≡ machine_after words A cs Start
         → IfSome told (λ found. (found ≡ cs) × (end.depth ≡ bound)) → IfNone told (end.depth ≢ bound) → IsAttempted steps words A points bound fill told
     told cs end None are after some none =

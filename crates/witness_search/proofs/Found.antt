@@ -1,4 +1,4 @@
--- What a trial finds, and the first of them.
+-- The result of a trial, and the first success.
 use Rattle.std.proofs.lemmas.List.Elements.{Contains-append_cases}
 use Rattle.std.proofs.lemmas.List.{take_more}
 use Rattle.std.proofs.Common.{arith, add-one, suc, zero, refl, sym, ap, subst, ◌∙◌, ◌≡◌, ◌≤◌, ◌<◌, ◌+◌, ℕ, slice_index_or, List, [], ◌∷◌, ◌++◌, length, Option, Some, None, IsOkAnd, inl, inr, take, drop}

@@ -1,4 +1,4 @@
--- Runs from one place to another, and runs that come to the same place again. A place is a machine with what is left to a chooser.
+-- Runs from one place to another, and runs that repeat a place. A place is a machine with the chooser's state.
 use Rattle.std.proofs.Common.{arith, suc, zero, ◌≡◌, ◌≢◌, refl, sym, ap, subst, ◌∙◌, ℕ, ◌<◌, ◌≤◌, ◌-◌, max, ◌⊎◌, inl, inr, nat_le, Bool, true, false, if◌then◌else◌, List, [], ◌∷◌, ◌++◌, length}
 use Rattle.std.proofs.lemmas.Bool.Decides.{nat_tests}
 use Rattle.std.proofs.lemmas.List.{append-nil}
@@ -44,7 +44,7 @@ module _ {L : Type 0} (pick : L → State → Choice) (left : L → State → L)
   Leads l m (c ∷ cs) k end =
       (m.depth < target) × (c ≡ pick l m.state) × (s : State) × (step words A m.state c ≡ Done s) × Leads (left l m.state) (moved_on m (Done s)) cs k end
 
-  -- one choice more
+  -- one more choice
   pub leads_on : (l : L) (m : Machine) (cs : List Choice) (k : L) (end : Machine) (s : State) → Leads l m cs k end → end.depth < target → step words A end.state (pick k end.state) ≡ Done s
       → Leads l m (cs ++ pick k end.state ∷ []) (left k end.state) (moved_on end (Done s))
   leads_on l m [] k end s h low is =
@@ -105,7 +105,7 @@ module _ {L : Type 0} (pick : L → State → Choice) (left : L → State → L)
   stops_there n l m cs k end h room low ne =
       sym (by_leads n l m cs k end h (omega (arith, room)) ∙ ap (λ (xs : List Choice). cs ++ xs) (one_past (n - length cs) k end (omega (arith, room)) low ne))
 
-  -- the choices are a run where none that is picked is illegal
+  -- the choices are a run if none that is picked is illegal
   run_answer : (n : ℕ) (l : L) (m : Machine) (a : Answer) → result_of a ≢ answer.Illegal → ((s : State) → IsRun words A (By n l (moved_on m (Done s))) s)
       → RunsOn a (choices_on a (λ s. By n l (moved_on m (Done s)))) (IsRun words A (choices_on a (λ s. By n l (moved_on m (Done s)))))
   run_answer n l m Illegal legal on = absurd (legal refl)
@@ -134,12 +134,12 @@ module _ {L : Type 0} (pick : L → State → Choice) (left : L → State → L)
       let first = deeper_than m.depth (depth_of_state h.2) in
       omega (arith, more, first)
 
-  -- a machine is at least as deep as its state
+  -- a machine's depth is at least that of its state
   pub holds_depth : (l : L) (m : Machine) (cs : List Choice) (k : L) (end : Machine) → Leads l m cs k end → depth_of_state m.state ≤ m.depth → depth_of_state end.state ≤ end.depth
   holds_depth l m [] k end h held = subst (λ (x : Machine). depth_of_state x.state ≤ x.depth) (sym h.1) held
   holds_depth l m (c ∷ cs) k end h held = holds_depth (left l m.state) (moved_on m (Done h.2)) cs k end h.4 (state_counts m.depth (depth_of_state h.2))
 
-  -- from a machine in the state of the first that has been as deep as the last, the choices lead to the last as well
+  -- from a machine in the first state that has been as deep as the last, the choices lead to the last as well
   again : (l : L) (m : Machine) (cs : List Choice) (k : L) (end other : Machine) → Leads l m cs k end → end.depth < target → other.state ≡ m.state → other.depth ≡ end.depth
       → Leads l other cs k end
   again l m [] k end other h low same deep = (h.0, machine_is end other (ap (λ (x : Machine). x.state) h.1 ∙ sym same) (sym deep))
@@ -158,7 +158,7 @@ module _ {L : Type 0} (pick : L → State → Choice) (left : L → State → L)
         subst (λ (x : State). Leads (left l x) (moved_on other (Done h.2)) cs k end) (sym same) rest,
       )
 
-  -- where choices lead from a place back to it, a run that comes to it never reaches the target
+  -- if choices lead from a place back to it, a run that reaches it never reaches the target
   module _ (k : L) (end : Machine) (c : Choice) (cycle : List Choice) (back : Leads k end (c ∷ cycle) k end) where
     below_next : (n : ℕ) (l : L) (m : Machine) (c : Choice) (cs : List Choice) → Leads l m (c ∷ cs) k end
         → ((x : L) (y : Machine) → Leads x y cs k end → (machine_after words A (By n x y) y).depth < target) → (machine_after words A (By (suc n) l m) m).depth < target
@@ -179,7 +179,7 @@ module _ {L : Type 0} (pick : L → State → Choice) (left : L → State → L)
         (subst (λ (x : Machine). (machine_after words A (By (suc n) k x) x).depth < target) h.1 (below_next n k end c cycle back (λ x y g. below n x y cycle g)))
     below (suc n) l m (d ∷ cs) h = below_next n l m d cs h (λ x y g. below n x y cs g)
 
-  -- a run that comes to a state again, with as much left to the chooser and below the target, never reaches the target
+  -- a run that repeats a state, with the same state of the chooser and below the target, never reaches the target
   pub never_reached : (n : ℕ) (l : L) (m : Machine) (cs : List Choice) (k : L) (mid : Machine) (c : Choice) (cycle : List Choice) (end : Machine)
       → Leads l m cs k mid → Leads k mid (c ∷ cycle) k end → end.depth < target → end.state ≡ mid.state → (machine_after words A (By n l m) m).depth < target
   never_reached n l m cs k mid c cycle end h back low same =

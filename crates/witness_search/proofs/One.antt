@@ -1,4 +1,4 @@
--- A certificate has one list of waypoints.
+-- The list of a certificate's waypoints is unique.
 use Rattle.std.proofs.Common.{sym, ap, subst, ◌∙◌, ◌≡◌, ℕ, List}
 use Rattle.avr_model.specs.declared.assumption.Entry.{Entry}
 use Rattle.avr_model.specs.Devices.{Program}

@@ -1,4 +1,4 @@
--- What is taken of waypoints by a menu is what is picked by its state.
+-- The choice of waypoints by a menu is that by the state.
 use Rattle.std.proofs.Common.{◌≡◌, refl, ap, ◌∙◌, ℕ, ◌+◌, ◌==◌, ◌&&◌, ◌||◌, not, Bool, true, false, if◌then◌else◌, IsTrue, List, [], ◌∷◌}
 use Rattle.basics.specs.Booleans.{last_of_four}
 use Rattle.avr_model.specs.declared.choice.Choice.TheVariants.{Go}

@@ -15,7 +15,7 @@ use mask_states::EdgeKind;
 use nesting_bound::Link;
 use std::alloc::{AllocError, Global};
 
-// The interrupt by which the chain goes on from a place, if it goes on by one.
+// The interrupt by which the chain continues from a place, if it is one.
 fn add_interrupt(
     flash: &Flash,
     nodes: &Filled,

@@ -1,11 +1,11 @@
-//! Laws of the search, as the contract of a function that does nothing but call others.
+//! Laws of the search, as the contract of a function that only calls others.
 
 ghost use Rattle.witness_search.specs.Laws.{WaypointsAreOne, TrialsAreShort};
 
 use edge_laws::expansions::filled_or_missing;
 use family_graph::laws::deepest_chains_are_one;
 
-/// A certificate has one list of waypoints, so that one schedule is due. A trial is short, so that a certificate with its schedule is.
+/// The list of a certificate's waypoints is unique, so one schedule is due. A trial is short, so a certificate with its schedule is.
 pub fn trials_are_due()
     ensures one { WaypointsAreOne }
     ensures short { TrialsAreShort }

@@ -1,5 +1,5 @@
-//! The search for a schedule whose run is as deep as a certificate's bound: trials along the deepest chain of entries.
-//! Source: own.
+//! The search for a schedule whose run is as deep as a certificate's bound: trials along the deepest chain of entries. Source: own.
+//! Tests: `family_tables`.
 #![tactic(auto)]
 
 pub mod chain;

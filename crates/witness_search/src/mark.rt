@@ -1,11 +1,11 @@
-//! Places of a trial to which it may come again.
+//! Marked places of a trial, to detect that it repeats itself.
 
 ghost use Rattle.std.specs.Prelude.{◌≡◌, IsTrue, length};
 
 use crate::waypoint::Waypoint;
 use avr_machine::Machine;
 
-// A place of a trial: the machine, how many waypoints were left, and until which step it is kept.
+// A place of a trial: the machine, the number of waypoints left, and the step until which the mark is kept.
 #[derive(Drop)]
 pub(crate) struct Mark {
     machine: Machine,
@@ -14,8 +14,8 @@ pub(crate) struct Mark {
 }
 
 impl Mark {
-    // The place after so many steps, which is kept for as many more: so a trial that repeats itself is ended after some three times the
-    // steps that it takes to the first state in which it was before.
+    // The place after this many steps, kept for as many more. A trial that repeats itself is then ended after at most about three times
+    // the steps to the first repeated state.
     pub(crate) fn new(at: u32, machine: &Machine, rest: &[Waypoint]) -> Mark
         ensures machine { result.machine ≡ machine.now }
         ensures left { result.left ≡ length rest.now }
@@ -27,7 +27,7 @@ impl Mark {
         }
     }
 
-    // Whether another place is to be marked after so many steps.
+    // Whether a new place must be marked after this many steps.
     pub(crate) fn is_old(&self, at: u32) -> bool {
         self.until <= at
     }

@@ -17,7 +17,7 @@ use std::alloc::{AllocError, Global};
 use vector_table::Assumptions;
 use witness_replay::Schedule;
 
-// The waypoints of a certificate, whose conditions hold.
+// The waypoints of a certificate whose conditions hold.
 fn waypoints_of(task: &Task<'_>, certificate: &Certificate) -> Result<Vec<Waypoint>, AllocError>
     requires { IsSound task.now.flash.now task.now.assumptions.now certificate.now }
     ensures { IfOk result (λ points. AreWaypoints task.now.flash.now task.now.assumptions.now certificate.now points.items) }
@@ -27,9 +27,9 @@ fn waypoints_of(task: &Task<'_>, certificate: &Certificate) -> Result<Vec<Waypoi
     waypoints(task, certificate, &family)
 }
 
-/// A schedule whose run is as deep as the certificate's bound, of the conditions on which all but that on its schedule hold. It is that
-/// of the first of eight trials whose depth is the bound, each of which takes the interrupts of the deepest chain where they are due.
-/// None exactly where no trial's depth is the bound. Source: own.
+/// A schedule whose run is as deep as the certificate's bound; all conditions but that on the schedule hold. It is that of the first of
+/// eight trials with this depth; each takes the interrupts of the deepest chain when they are due. None exactly if no trial's depth is
+/// the bound. Source: own.
 pub fn search(
     alloc: Global,
     flash: &Flash,

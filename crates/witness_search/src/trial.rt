@@ -1,4 +1,4 @@
-//! Trials: runs from reset that take the interrupts of a chain of entries where they are due.
+//! Trials: runs from reset that take the interrupts of a chain of entries when they are due.
 
 ghost use Rattle.std.specs.Prelude.{◌≡◌, ◌≢◌, IfOk, IfSome, IfNone};
 ghost use Rattle.witness_search.specs.Waypoints.{taken, left_after};
@@ -18,8 +18,8 @@ use trial_runs::most_choices;
 use vector_table::Assumptions;
 use witness_replay::Schedule;
 
-// The next choice of a trial, and the waypoints that are left then: the next waypoint's interrupt where it is due, and else an
-// instruction with the fill byte as its input.
+// The next choice of a trial, and the waypoints left after it: the next waypoint's interrupt if it is due, else an instruction with the
+// fill byte as input.
 fn next<'a>(may: bool, rest: &'a [Waypoint], menu: &Menu, fill: u8) -> (Choice, &'a [Waypoint])
     ensures choice { result.0 ≡ taken may fill rest.now menu.now }
     ensures left { result.1.now ≡ left_after may rest.now menu.now }
@@ -32,7 +32,7 @@ fn next<'a>(may: bool, rest: &'a [Waypoint], menu: &Menu, fill: u8) -> (Choice, 
     (Choice::Go(fill, fill), rest)
 }
 
-// The choices of a trial that ended at this depth, where it is the bound.
+// The choices of a trial that ended at this depth, if it is the bound.
 fn found(choices: Vec<Choice>, machine: &Machine, bound: u16) -> Option<Listed<Choice>>
     ensures some { IfSome result (λ found. (found ≡ choices.items) × (machine.now.depth ≡ bound)) }
     ensures none { IfNone result (machine.now.depth ≢ bound) }
@@ -44,9 +44,9 @@ fn found(choices: Vec<Choice>, machine: &Machine, bound: u16) -> Option<Listed<C
     }
 }
 
-// The choices of the trial with this fill byte where its depth is the bound: the next waypoint's interrupt is taken where it is due,
-// and every other choice is `Go(fill, fill)`, until the depth is the bound or more, or a stop, or so many steps. A trial that comes to
-// a state again, with as many waypoints left, is at its end, since it repeats itself.
+// The choices of the trial with this fill byte, if its depth is the bound. It takes the next waypoint's interrupt when it is due, and
+// else chooses `Go(fill, fill)`, until the depth is at least the bound, or a stop, or this many steps. A trial that repeats a state with
+// as many waypoints left is ended.
 fn attempt(
     task: &Task<'_>,
     points: &[Waypoint],
@@ -83,7 +83,7 @@ fn attempt(
     Ok(found(choices, &machine, bound))
 }
 
-// The schedule of the trial with this fill byte. None exactly where its depth isn't the bound.
+// The schedule of the trial with this fill byte. None exactly if its depth is not the bound.
 fn try_fill(
     task: &Task<'_>,
     points: &[Waypoint],
@@ -101,11 +101,11 @@ fn try_fill(
     Ok(Some(schedule))
 }
 
-// The bytes that fill the memory at reset and are all input of a trial, in the order of the trials.
+// The fill bytes of the trials in order: the initial memory and all input of a trial.
 const FILLS: [u8; 8] = [0x00, 0xFF, 0x55, 0xAA, 0x01, 0x80, 0x7F, 0xFE];
 
-/// The schedule of the first trial whose depth is the bound. None exactly where no trial's is. The replay of the schedule ends
-/// without a stop, and its depth is the bound.
+/// The schedule of the first trial whose depth is the bound. None exactly if no trial's depth is. The replay of the schedule ends without
+/// a stop, at the depth of the bound.
 pub fn first_trial(
     alloc: Global,
     flash: &Flash,

@@ -1,4 +1,4 @@
-//! Interrupts of a chain of entries, and where they are due.
+//! Interrupts of a chain of entries, and when they are due.
 
 ghost use Rattle.std.specs.Prelude.{◌≡◌};
 ghost use Rattle.witness_search.specs.Waypoints.{fits_way, is_due};
@@ -6,16 +6,16 @@ ghost use Rattle.witness_search.specs.Waypoints.{fits_way, is_due};
 use avr_machine::{Choice, Menu};
 use vector_table::Masks;
 
-/// An interrupt, and where it is to be taken.
+/// An interrupt, and the place at which to take it.
 #[derive(Clone, Copy)]
 pub struct Waypoint {
     /// The program counter.
     pub pc: u16,
-    /// The enable bits, or where keys say what may be enabled, those among which they are.
+    /// The enable bits, or if keys have what may be enabled, the set that includes them.
     pub masks: Masks,
-    /// How many bytes the stack pointer is below its place at reset.
+    /// The number of bytes between the stack pointer and its place at reset.
     pub depth: u16,
-    /// This place: the last address of the device's SRAM.
+    /// The stack pointer's place at reset: the last address of the device's SRAM.
     pub end: u16,
     /// The vector, 2 to 26.
     pub vector: u8,
@@ -23,7 +23,7 @@ pub struct Waypoint {
     pub clears: bool,
 }
 
-// Whether the enable bits are those of the way, or where keys say what may be enabled (`may`), are among them.
+// Whether the enable bits equal the waypoint's, or if `may`, are among them.
 fn fits_way(may: bool, enables: Masks, masks: Masks) -> bool
     ensures { result ≡ fits_way may enables masks }
 {
@@ -34,7 +34,7 @@ fn fits_way(may: bool, enables: Masks, masks: Masks) -> bool
     }
 }
 
-/// Whether the menu is that of the waypoint, and has its interrupt. `may` is whether keys say what may be enabled.
+/// Whether the menu is at the waypoint and has its interrupt. `may` says whether keys have what may be enabled.
 pub fn is_due(may: bool, point: &Waypoint, menu: &Menu) -> bool
     ensures { result ≡ is_due may point.now menu.now }
 {

@@ -1,4 +1,4 @@
-//! Families of small firmwares, worked by hand: where their nodes lead, or why they don't.
+//! Families of small firmwares, worked by hand: the successors of nodes, or their faults.
 
 ghost use Rattle.std.specs.Prelude.{◌<◌, false, length};
 ghost use Rattle.edge_rules.specs.Expansion.{AreSeeds};
@@ -15,14 +15,14 @@ use mask_states::Kind;
 use std::alloc::Global;
 use vector_table::Assumptions;
 
-// What is due: edges, by their kinds and the words where they land; the node's fault; or the least node without an expansion.
+// The expected result: edges, by kind and target word; the node's fault; or the first node without an expansion.
 enum Due {
     Edges(&'static [(EdgeKind, u16)]),
     Fault(NodeFault),
     Missing(u32),
 }
 
-/// A device, a firmware's bytes, nodes, the number of one of them, and what is due.
+/// A device, a firmware's bytes, nodes, the number of one of them, and the expected result.
 pub struct Row(Device, &'static [u8], &'static [Plan], usize, Due);
 
 fn are_edges(edges: &Listed<Edge>, due: &[(EdgeKind, u16)]) -> bool {
@@ -52,7 +52,7 @@ fn has_fault(due: &Due, fault: NodeFault) -> bool {
     }
 }
 
-// Whether the node leads where it is due.
+// Whether the node has the expected successors.
 fn leads(task: &Task<'_>, filled: &Filled, at: usize, due: &Due) -> bool
     requires { at < length filled.now }
 {
@@ -62,7 +62,7 @@ fn leads(task: &Task<'_>, filled: &Filled, at: usize, due: &Due) -> bool
     }
 }
 
-// The same with exits worked out once.
+// The same with exits computed once.
 fn leads_by_exits(task: &Task<'_>, filled: &Filled, at: usize, due: &Due) -> bool
     requires { at < length filled.now }
 {
@@ -90,7 +90,7 @@ fn is_missing(due: &Due, missing: u32) -> bool {
     }
 }
 
-// Whether the family of these nodes is so.
+// Whether the family of these nodes is as expected.
 fn is_family(alloc: Global, flash: &Flash, nodes: &SeedList, at: usize, due: &Due) -> bool
     requires seeds { AreSeeds false nodes.now.items.items }
     requires ascending { AreSeedsAscending nodes.now.items.items }

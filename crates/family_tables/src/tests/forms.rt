@@ -1,4 +1,4 @@
-//! Families of small firmwares, worked by hand: which states are left out.
+//! Families of small firmwares, worked by hand: states that are left out.
 
 ghost use Rattle.std.specs.Prelude.{◌≤◌, false, length};
 ghost use Rattle.edge_rules.specs.Expansion.{AreSeeds};
@@ -59,7 +59,7 @@ fn is_formed(task: &Task<'_>, nodes: Filled, due: &[Option<u32>]) -> bool
     }
 }
 
-// Whether the family of these nodes is written so.
+// Whether the family of these nodes is written as expected.
 fn is_family(alloc: Global, flash: &Flash, nodes: &SeedList, due: &[Option<u32>]) -> bool
     requires seeds { AreSeeds false nodes.now.items.items }
     requires ascending { AreSeedsAscending nodes.now.items.items }

@@ -1,4 +1,4 @@
-//! Worked graphs: ranks, needs, chains and named instances as one finds them by hand.
+//! Worked graphs: ranks, needs, chains and named instances, found by hand.
 
 ghost use Rattle.nesting_bound.specs.Chain.{HavePlaces};
 ghost use Rattle.nesting_bound.specs.Graph.{IsGraph};
@@ -13,7 +13,7 @@ use nesting_bound::{
 use std::alloc::{AllocError, Global};
 use vector_table::Masks;
 
-// What enters or is entered: nothing or the root, a call, or the interrupt of a vector from 2 on.
+// The kind of an entry: none or the root, a call, or the interrupt of a vector from 2 on.
 const NONE: u8 = 0;
 
 const CALL: u8 = 1;
@@ -21,26 +21,26 @@ const CALL: u8 = 1;
 // A node and an offset.
 type At = (u32, u16);
 
-// A node, an offset, how it enters, and the instance that is entered.
+// A node, an offset, the kind of the entry, and the entered instance.
 type Edge = (u32, u16, u8, u32);
 
-// How it was entered, its entry, its places and its edges.
+// The kind of its entry, its entry, its places and its edges.
 type Inst = (u8, u16, &'static [At], &'static [Edge]);
 
-// An instance, a node, the depth there, and how the next one is entered.
+// An instance, a node, the depth there, and the kind of the next entry.
 type Step = (u32, u32, u16, u8);
 
 // Ranks, needs and a chain.
 struct Least(&'static [u32], &'static [u32], &'static [Step]);
 
-// What `compose` and `chain` make of a graph.
+// The expected result of `compose` and `chain`.
 enum Wanted {
     Least(Least),
-    // The instance that is named.
+    // The named instance.
     Cycle(u32),
     // It is not composable.
     Shapeless,
-    // It is, but an instance that is entered or the root has no place.
+    // It is composable, but an entered instance or the root has no place.
     Placeless,
 }
 
@@ -52,7 +52,7 @@ fn kind(number: u8) -> EdgeKind {
     }
 }
 
-// The instance of this entry that is entered so.
+// The instance with this entry and kind.
 pub(crate) fn key(number: u8, entry: u16) -> InstKey {
     let kind = match number {
         NONE => Kind::Root,
@@ -165,7 +165,7 @@ fn has(alloc: Global, graph: &Graph, wanted: &Least) -> bool {
     }
 }
 
-// Whether the graph is refused for a cycle that is named by this instance.
+// Whether the graph is refused for a cycle that names this instance.
 fn is_cyclic(alloc: Global, graph: &Graph, at: u32) -> bool {
     if !graph.is_composable() {
         return false;
@@ -194,7 +194,7 @@ impl Worked for Row {
     }
 }
 
-/// Instances, and what is made of their graph.
+/// Instances, and the expected result for their graph.
 pub struct Row(&'static [Inst], Wanted);
 
 pub static ROWS: [(&str, &[Row]); 1] = [(
@@ -213,7 +213,7 @@ pub static ROWS: [(&str, &[Row]); 1] = [(
             ],
             Wanted::Least(Least(&[1, 0], &[3, 0], &[(0, 0, 1, CALL), (1, 1, 3, NONE)])),
         ),
-        // vectors 2 and 3 at one place, each of whose handlers lets the other in: four bytes, and not two
+        // vectors 2 and 3 at one place, each of whose handlers permits the other: four bytes, and not two
         Row(
             &[
                 (NONE, 0, &[(0, 0)], &[(0, 0, 2, 1), (0, 0, 3, 2)]),
@@ -228,7 +228,7 @@ pub static ROWS: [(&str, &[Row]); 1] = [(
                 &[(0, 0, 0, 2), (1, 1, 2, 3), (4, 4, 4, NONE)],
             )),
         ),
-        // of two functions that call themselves, that of the lesser entry is named
+        // of two recursive functions, the one with the lesser entry is named
         Row(
             &[
                 (NONE, 0, &[(0, 0)], &[(0, 0, CALL, 1), (0, 0, CALL, 2)]),
@@ -237,8 +237,8 @@ pub static ROWS: [(&str, &[Row]); 1] = [(
             ],
             Wanted::Cycle(2),
         ),
-        // A handler that lets itself in is named, although a function of a lesser entry calls itself; and the least number of
-        // two that are of one vector. The root, which reaches both and no one reaches, is not named.
+        // A handler that interrupts itself is named, although a function of a lesser entry is recursive; of two such handlers of one
+        // vector, the one with the lesser number. The root reaches both, is not on a cycle, and is not named.
         Row(
             &[
                 (NONE, 0, &[(0, 0)], &[(0, 0, CALL, 1), (0, 0, 3, 2)]),
@@ -248,7 +248,7 @@ pub static ROWS: [(&str, &[Row]); 1] = [(
             ],
             Wanted::Cycle(2),
         ),
-        // a handler and a function between two cycles reach themselves by neither
+        // a handler and a function between two cycles are on neither
         Row(
             &[
                 (NONE, 0, &[(0, 0)], &[(0, 0, CALL, 1)]),
@@ -260,7 +260,7 @@ pub static ROWS: [(&str, &[Row]); 1] = [(
             ],
             Wanted::Cycle(5),
         ),
-        // two cycles with an instance in common, of which the later part was come to first
+        // two cycles with a common instance, of which the later part was reached first
         Row(
             &[
                 (NONE, 0, &[(0, 0)], &[(0, 0, CALL, 3)]),
@@ -271,7 +271,7 @@ pub static ROWS: [(&str, &[Row]); 1] = [(
             ],
             Wanted::Cycle(1),
         ),
-        // a chain whose numbers ascend, and one that an interrupt enters in its midst
+        // a chain with ascending numbers, and one that an interrupt enters in the middle
         Row(
             &[
                 (NONE, 0, &[(0, 0)], &[(0, 0, CALL, 1)]),
@@ -292,7 +292,7 @@ pub static ROWS: [(&str, &[Row]); 1] = [(
                 ],
             )),
         ),
-        // two calls of one function: the deeper place counts, and the chain goes by it
+        // two calls of one function: the deeper place counts, and the chain follows it
         Row(
             &[
                 (
@@ -305,7 +305,7 @@ pub static ROWS: [(&str, &[Row]); 1] = [(
             ],
             Wanted::Least(Least(&[1, 0], &[8, 4], &[(0, 5, 2, CALL), (1, 6, 8, NONE)])),
         ),
-        // at one node, and as deep: a call before an interrupt, and of two calls that of the lesser target
+        // at one node and equally deep: a call before an interrupt, and of two calls the one with the lesser target
         Row(
             &[
                 (
@@ -324,7 +324,7 @@ pub static ROWS: [(&str, &[Row]); 1] = [(
                 &[(0, 0, 0, CALL), (3, 3, 2, NONE)],
             )),
         ),
-        // no instance; one that isn't there is entered; an offset too great, at a place and at an edge; no place
+        // no instance; an entered instance that is missing; an offset too great, at a place and at an edge; no place
         Row(&[], Wanted::Shapeless),
         Row(
             &[(NONE, 0, &[(0, 0)], &[(0, 0, CALL, 1)])],

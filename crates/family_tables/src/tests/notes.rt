@@ -1,4 +1,4 @@
-//! Worked nestings: what each tells as one finds it by hand, whether it is judged once at the end or after each note.
+//! Worked nestings: the verdict found by hand, if it is judged once at the end or after each note.
 
 ghost use Rattle.std.specs.Prelude.{◌≤◌};
 ghost use Rattle.avr_model.specs.State.{SIZE};
@@ -11,7 +11,7 @@ use mask_states::{NodeKey, SpForm};
 use round_nesting::{Nesting, NestingVerdict};
 use std::alloc::{AllocError, Global};
 
-// How an instance is entered, and its entry: 0 is the root, 1 a call, and any other number a vector.
+// The kind of an instance's entry, and the entry: 0 is the root, 1 a call, and any other number a vector.
 type Inst = (u8, u16);
 
 const ROOT: Inst = (0, 0);
@@ -51,7 +51,7 @@ fn take(nesting: &mut Nesting, note: Note) -> Result<(), AllocError> {
     }
 }
 
-// Takes the notes, and judges the nesting after each of them if `often`.
+// Adds the notes, and judges the nesting after each of them if `often`.
 fn take_all(
     nesting: &mut Nesting,
     size: u16,
@@ -67,7 +67,7 @@ fn take_all(
     Ok(())
 }
 
-// Whether the notes tell this where SRAM has so many bytes, where the nesting is judged besides after each note if `often`.
+// Whether the notes give this verdict for this many bytes of SRAM; if `often`, the nesting is also judged after each note.
 fn tells(
     nesting: &mut Nesting,
     size: u16,
@@ -94,7 +94,7 @@ fn is_row(alloc: Global, size: u16, notes: &[Note], due: &NestingVerdict) -> boo
     is_told(alloc, size, notes, false, due) && is_told(alloc, size, notes, true, due)
 }
 
-// Functions one below the other, each of them new when it is entered.
+// Functions one below the other, each new when it is entered.
 fn chain() -> [Note; 81] {
     let mut notes = [Note::Node(ROOT, 0); 81];
     let mut from = ROOT;
@@ -107,14 +107,14 @@ fn chain() -> [Note; 81] {
     notes
 }
 
-/// How many bytes SRAM has, the notes, and what they tell.
+/// The number of bytes of SRAM, the notes, and the verdict.
 pub struct Row(u16, &'static [Note], NestingVerdict);
 
 pub static ROWS: [(&str, &[Row]); 1] = [(
     "nesting",
     &[
         Row(SIZE, &[Note::Node(ROOT, 0)], NestingVerdict::Nests),
-        // a need of exactly what the least SRAM has, and one more; then of the greatest
+        // a need of exactly the least SRAM, and one more; then of the greatest
         Row(512, &[Note::Node(ROOT, 512)], NestingVerdict::Nests),
         Row(512, &[Note::Node(ROOT, 513)], NestingVerdict::TooDeep(513)),
         Row(SIZE, &[Note::Node(ROOT, 2_048)], NestingVerdict::Nests),
@@ -136,7 +136,7 @@ pub static ROWS: [(&str, &[Row]); 1] = [(
             ],
             NestingVerdict::TooDeep(2_049),
         ),
-        // an instance that is entered and has no node needs nothing
+        // an entered instance without nodes needs nothing
         Row(
             SIZE,
             &[Note::Node(ROOT, 0), Note::Entrance(ROOT, 2_046, FUNCTION)],
@@ -151,7 +151,7 @@ pub static ROWS: [(&str, &[Row]); 1] = [(
             ],
             NestingVerdict::TooDeep(2_049),
         ),
-        // a handler below a function below the root, with the way back to each
+        // a handler below a function below the root, with a return address for each
         Row(
             SIZE,
             &[
@@ -163,7 +163,7 @@ pub static ROWS: [(&str, &[Row]); 1] = [(
             ],
             NestingVerdict::TooDeep(2_049),
         ),
-        // two instances enter a third, each of them at its own depth
+        // two instances enter a third, each at its own depth
         Row(
             SIZE,
             &[
@@ -176,7 +176,7 @@ pub static ROWS: [(&str, &[Row]); 1] = [(
             ],
             NestingVerdict::Nests,
         ),
-        // a function that enters itself, and one that does by another
+        // a recursive function, and one that is recursive through another
         Row(
             SIZE,
             &[
@@ -199,7 +199,7 @@ pub static ROWS: [(&str, &[Row]); 1] = [(
             ],
             NestingVerdict::Recursion(30),
         ),
-        // two handlers that enter each other: the lesser vector
+        // two handlers that enter each other: the lesser vector is named
         Row(
             SIZE,
             &[
@@ -226,7 +226,7 @@ pub static ROWS: [(&str, &[Row]); 1] = [(
             ],
             NestingVerdict::ReEntry(9, 18),
         ),
-        // a cycle is told before the depth, also where the root is noted last
+        // a cycle comes before the depth, also if the root is noted last
         Row(
             SIZE,
             &[

@@ -42,12 +42,12 @@ impl Seeded for SeedList {
     }
 }
 
-// A node: how and where its instance is entered, whether vectors 2 and 7 are enabled, its word, and the number of the node that it
-// comes from with the bytes on the stack; with none there are none, and its state is that at reset.
+// A node: the kind and entry of its instance, whether vectors 2 and 7 are enabled, its word, and the number of the node that it comes
+// from with the bytes on the stack. Without a number the stack is empty, and its state is that at reset.
 #[derive(Clone, Copy)]
 pub(crate) struct Plan(pub Kind, pub u16, pub bool, pub u16, pub Option<(u32, u16)>);
 
-// The node's key; I is on in the root where vectors are enabled.
+// The node's key; in the root I is set if vectors are enabled.
 fn key_of(plan: &Plan, offset: u16) -> NodeKey
     ensures closed { result.sp ≡ Closed offset }
     ensures unpicked { result.pick ≡ None }
@@ -134,7 +134,7 @@ fn add_from(
     Ok(true)
 }
 
-// One node more, if it may follow.
+// One more node, if it may follow.
 fn add(alloc: Global, items: &mut Vec<(NodeKey, NodeForm)>, plan: &Plan) -> Result<bool, AllocError>
     requires seeds { AreSeeds false items.old.items }
     requires ascending { AreSeedsAscending items.old.items }
@@ -147,7 +147,7 @@ fn add(alloc: Global, items: &mut Vec<(NodeKey, NodeForm)>, plan: &Plan) -> Resu
     }
 }
 
-// The nodes, if they may stand in this order.
+// The nodes, if they are in a valid order.
 pub(crate) fn seeds_of(alloc: Global, plans: &[Plan]) -> Result<Option<SeedList>, AllocError>
     ensures { IfOk result (λ found. IfSome found (λ s. AreSeeds false s.items.items × AreSeedsAscending s.items.items)) }
 {

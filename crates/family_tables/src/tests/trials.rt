@@ -18,7 +18,7 @@ const E: u16 = 0xFFFF;
 // `rjmp` to word 4, where the enable bit of vector 2 and I are set, and `nop`; then an erased word. Vector 2 returns at once.
 const TAKING: [u16; 7] = [0xC003, 0x0000, 0x9518, 0x0000, 0x9AE8, 0x9478, 0x0000];
 
-// `in r24, 0x09` and `sbrc r24, 0`, which skips `push r0` where the input's bit 0 is clear; then an erased word.
+// `in r24, 0x09` and `sbrc r24, 0`, which skips `push r0` if the input's bit 0 is clear; then an erased word.
 const ASKING: [u16; 7] = [0xB189, 0xFD80, 0x920F, E, E, E, E];
 
 pub static ROWS: [(&str, &[Row]); 1] = [(
@@ -26,11 +26,11 @@ pub static ROWS: [(&str, &[Row]); 1] = [(
     &[
         // the interrupt is taken at its waypoint
         Row(TAKING, 0, 2, Some((0x00, 5))),
-        // nowhere is the stack as deep as this waypoint
+        // the stack is never as deep as this waypoint
         Row(TAKING, 1, 2, None),
         // the second trial's input is the first with bit 0 set
         Row(ASKING, 0, 1, Some((0xFF, 3))),
-        // no step is made where the bound is reached at reset
+        // no step is made if the bound is reached at reset
         Row(ASKING, 0, 0, Some((0x00, 0))),
         // each trial stops at once
         Row([E, E, E, E, E, E, E], 0, 1, None),
@@ -44,7 +44,7 @@ fn add_words(bytes: &mut Vec<u8>, words: &[u16]) -> Result<(), AllocError> {
     Ok(())
 }
 
-// Whether the schedule begins so and takes so many steps.
+// Whether the schedule begins so and has this many steps.
 fn is_due(flash: &Flash, assumptions: &Assumptions, schedule: &Schedule, row: &Row) -> bool {
     let Some((fill, steps)) = row.3 else {
         return false;

@@ -1,4 +1,4 @@
-//! Verdicts on a small firmware, worked by hand: a call, a jump to itself behind it, and the callee's return.
+//! Verdicts on a small firmware, worked by hand: a call, a jump to itself after it, and the callee's return.
 
 ghost use Rattle.std.specs.Prelude.{◌≡◌, IfOk};
 ghost use Rattle.edge_rules.specs.Examples.{callee};
@@ -18,7 +18,7 @@ use vector_table::{Assumptions, Entry, Masks};
 // `rcall .+2`, `rjmp .-2`, `ret`.
 const CALL: [u8; 6] = [0x01, 0xD0, 0xFF, 0xCF, 0x08, 0x95];
 
-// The same with a `nop` behind the call.
+// The same with a `nop` after the call.
 const RUN_ON: [u8; 6] = [0x01, 0xD0, 0x00, 0x00, 0x08, 0x95];
 
 // The same with an undefined word as the callee.
@@ -31,16 +31,16 @@ const NO_CALL: [u8; 6] = [0x00, 0x00, 0xFF, 0xCF, 0x08, 0x95];
 pub struct Row {
     device: Device,
     image: [u8; 6],
-    // Whether an assumption is handed in, which the certificate lacks.
+    // Whether the call has an assumption that the certificate lacks.
     assumed: bool,
-    // Whether the node behind the call comes from that before it.
+    // Whether the node after the call comes from the one before it.
     from: bool,
     // The bound, at most 2,048.
     bound: u16,
     // The root's rank and need, at most 2,048.
     rank: u16,
     need: u16,
-    // The number of the reason, or 0; then the numbers that it tells, or the bound.
+    // The number of the reason, or 0; then its numbers, or the bound.
     verdict: (u8, u32, u32),
 }
 
@@ -76,7 +76,7 @@ fn callee() -> InstKey
     }
 }
 
-// How the state behind the call is given.
+// How the state after the call is given.
 fn form(alloc: Global, from: bool) -> Result<NodeForm, AllocError>
     ensures { IfOk result (λ form. form ≡ form_by from) }
 {
@@ -87,7 +87,7 @@ fn form(alloc: Global, from: bool) -> Result<NodeForm, AllocError>
     Ok(NodeForm::State(root))
 }
 
-// The nodes: the call, the word behind it, and the callee.
+// The nodes: the call, the word after the call, and the callee.
 fn nodes(alloc: Global, from: bool) -> Result<Vec<(NodeKey, NodeForm)>, AllocError>
     ensures { IfOk result (λ nodes. nodes.items ≡ nodes_by from) }
 {
@@ -134,7 +134,7 @@ fn certificate(alloc: Global, row: &Row) -> Result<Certificate, AllocError> {
     Ok(Certificate::build(bound, Assumptions::empty(alloc), instances, nodes))
 }
 
-// The verdict on a certificate in numbers. One without a schedule says nothing of its being attained.
+// The verdict on a certificate in numbers, whether or not a schedule attains its bound.
 fn verdict_in_numbers(
     alloc: Global,
     flash: &Flash,
@@ -148,7 +148,7 @@ fn verdict_in_numbers(
     }
 }
 
-// What is handed in: an assumption, or none.
+// The assumptions of the call: one, or none.
 fn assumptions(alloc: Global, assumed: bool) -> Assumptions {
     let mut list = Assumptions::empty(alloc);
     if assumed {
@@ -256,7 +256,7 @@ pub static ROWS: [(&str, &[Row]); 1] = [(
             verdict: (0, 0, 0),
             ..PLAIN
         },
-        // a bound of as many bytes as the least SRAM has, and of one more
+        // a bound of exactly the least SRAM, and of one more
         Row {
             device: Device::M48,
             bound: 512,

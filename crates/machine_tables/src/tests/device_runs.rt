@@ -1,4 +1,4 @@
-//! Texts of devices. Those that are refused, and the runs that devices choose, stand in tests/end_to_end.
+//! Texts of devices. Refused texts, and runs that devices choose, are in tests/end_to_end.
 
 use super::Worked;
 use device_hooks::Devices;

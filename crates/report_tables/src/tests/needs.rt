@@ -6,7 +6,7 @@ use reports::{report_json, report_text};
 use std::alloc::{AllocError, Global};
 use std::test::Fail;
 
-// What is reported, on which device: the bound, whether the certificate has a schedule, the name of word 0040, and the end of static data.
+// The device, the bound, whether the certificate has a schedule, the name of word 0040, and the end of static data.
 #[derive(Clone, Copy)]
 struct Row {
     device: Device,
@@ -104,7 +104,7 @@ fn are_reports(
     Ok(text.as_slice() == row.text.as_bytes() && json.as_slice() == row.json.as_bytes())
 }
 
-// The same of the row's own certificate.
+// Whether both reports of the row's own certificate are the row's.
 fn is_row(alloc: Global, row: &Row) -> Result<bool, Fail> {
     let text = certificate_text(alloc, row)?;
     let certificate = read(alloc, text.as_bytes()).map_err(|_| "no certificate")?;

@@ -1,4 +1,4 @@
-//! Texts with the answers that the rules give, worked out by hand, written lists, and targets.
+//! Texts with answers that were worked out by hand, written lists, and targets.
 
 use super::Worked;
 use bit_domain::TriByte;
@@ -7,16 +7,16 @@ use sb_base::LineWriter;
 use std::alloc::{AllocError, Global};
 use vector_table::Assumptions;
 
-// What a text begins with.
+// The beginning of a text.
 enum Start {
     Nothing,
     // A line with 63 items, which has at most 64.
     Items,
-    // 4,096 lines, behind which a line is malformed whatever it is.
+    // 4,096 lines, after which every line is malformed.
     Lines,
 }
 
-/// What a text begins with, and what stands behind that; its number of entries, or the line at which it is refused and why.
+/// The beginning of a text, and the rest; its number of entries, or the refusal with its line.
 pub struct Text(Start, &'static [u8], Result<usize, AssumeText>);
 
 pub static TEXTS: [(&str, &[Text]); 3] = [
@@ -338,7 +338,7 @@ fn is_answer(alloc: Global, text: &[u8], due: &Result<usize, AssumeText>) -> boo
     }
 }
 
-// The same of a text with more behind it.
+// Whether a text with more after it is answered as expected.
 fn is_answer_behind(alloc: Global, text: &mut Vec<u8>, row: &Text) -> bool {
     let added = text.extend_from_slice(row.1).is_ok();
     added && is_answer(alloc, text.as_slice(), &row.2)
@@ -353,7 +353,7 @@ impl Worked for Text {
     }
 }
 
-/// A line alone, and whether it is one, which is so without its line feed.
+/// A line alone, without its line feed, and whether it is valid.
 pub struct Alone(&'static [u8], bool);
 
 pub static ALONE: [(&str, &[Alone]); 1] = [(
@@ -373,7 +373,7 @@ impl Worked for Alone {
     }
 }
 
-/// Known bits and values of the low and the high byte, and the words; none where they are too many.
+/// Known bits and values of the low and the high byte, and the words; none if there are too many.
 pub struct Targets([u8; 4], Option<&'static [u16]>);
 
 pub static TARGETS: [(&str, &[Targets]); 1] = [(
@@ -400,7 +400,7 @@ pub static TARGETS: [(&str, &[Targets]); 1] = [(
 )];
 
 impl Worked for Targets {
-    // The words are those due, or too many where none are.
+    // The words are the expected ones, or there are too many if none are given.
     fn holds(&self, _alloc: Global) -> bool {
         let low = TriByte::new(self.0[0], self.0[1]);
         let high = TriByte::new(self.0[2], self.0[3]);

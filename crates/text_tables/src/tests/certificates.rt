@@ -1,5 +1,5 @@
-//! A certificate of the first version with each kind of line, which is written as it was read. Small damages to it stand in
-//! tests/end_to_end, with the places at which they are refused.
+//! A certificate of the first version with each kind of line, which is written as it was read. Small damages to it are in
+//! tests/end_to_end, with the places of the refusals.
 
 use super::Worked;
 use super::second_version::{LATER, PAIRS, has_its_facts, has_later_values};
@@ -10,7 +10,7 @@ use sb_base::LineWriter;
 use sp_domain::{CarryTag, Slot, Tag};
 use std::alloc::{AllocError, Global};
 
-// A piece of a text: what stands before, between and behind so many equal words.
+// A piece of a text: the bytes before, between and after this many equal words.
 pub(crate) type Piece = (&'static [u8], &'static [u8], usize, &'static [u8]);
 
 // A certificate with each kind of line.
@@ -63,7 +63,7 @@ fn append_all(text: &mut Vec<u8>, pieces: &[Piece]) -> Result<(), AllocError> {
     Ok(())
 }
 
-// Whether some of its values are those that the words of the certificate with each kind of line stand for.
+// Whether some of its values are those of the words in the certificate with each kind of line.
 fn has_its_values(certificate: &Certificate) -> Option<bool> {
     let vector = certificate.instances().get(2)?;
     let second = certificate.nodes().get(1)?;
@@ -94,7 +94,7 @@ fn append_node(out: &mut LineWriter, word: u16, sp: &[u8]) -> Result<(), AllocEr
     out.end_line()
 }
 
-// Writes a certificate whose nodes have 8,388,607 cells and those of the nodes of one cell each.
+// Writes a certificate whose nodes have 8,388,607 cells, and more nodes with one cell each.
 fn write_cells(out: &mut LineWriter, more: u16) -> Result<(), AllocError> {
     out.word(
         b"stackcert 1\nbound 0\nassume 0\ninstances 1\ninst root 0000 0000000 0 rank 0 need 0\nnodes",
@@ -169,7 +169,7 @@ impl Worked for Sample {
     }
 }
 
-/// How many nodes of one cell each stand behind those that have 8,388,607 cells, and why the certificate is refused, if it is.
+/// The number of nodes with one cell after those with 8,388,607 cells, and the refusal, if there is one.
 pub struct Cells(u16, Option<CertFault>);
 
 pub static CELLS: [(&str, &[Cells]); 1] = [(

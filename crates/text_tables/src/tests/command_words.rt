@@ -1,12 +1,12 @@
-//! Words, and the commands that they are.
+//! Words, and their commands.
 
 use super::Worked;
 use avr_model::device::Device;
 use commands::{Command, command_of};
 use std::alloc::Global;
 
-// What is compared of a command: its name, the device, the second file, the assumption file, its number, and whether it
-// answers as JSON.
+// The compared parts of a command: its name, the device, the second file, the assumption file, its number, and whether it answers as
+// JSON.
 type Told = (
     &'static str,
     Device,
@@ -16,7 +16,7 @@ type Told = (
     bool,
 );
 
-/// Words, and the command that they are.
+/// Words, and their command.
 pub struct Row(&'static [&'static str], Told);
 
 pub static ROWS: [(&str, &[Row]); 1] = [(
@@ -118,7 +118,7 @@ pub static REFUSED: [(&str, &[Refused]); 1] = [(
     ],
 )];
 
-// A command's name and its number; those that no row is have none.
+// A command's name and its number; commands without a row have none.
 fn named<'a>(command: &Command<'a>) -> (&'static str, Option<u64>) {
     match command {
         Command::Check { .. } => ("check", None),

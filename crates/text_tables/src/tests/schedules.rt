@@ -1,4 +1,4 @@
-//! Texts and the places at which they are refused. Offsets are counted by hand. Replays stand in tests/end_to_end.
+//! Texts and the places of refusals. Offsets are counted by hand. Replays are in tests/end_to_end.
 
 use super::Worked;
 use avr_model::choice::Choice;
@@ -6,7 +6,7 @@ use sb_base::{LineReader, LineWriter};
 use std::alloc::Global;
 use witness_replay::{Schedule, ScheduleFault};
 
-/// Each text with the place behind its schedule, or the offset of the refused line.
+/// A text with the place after its schedule, or the offset of the refused line.
 pub struct Text(&'static [u8], Result<usize, usize>);
 
 pub static TEXTS: [(&str, &[Text]); 1] = [(
@@ -60,7 +60,7 @@ pub static TEXTS: [(&str, &[Text]); 1] = [(
     ],
 )];
 
-// Whether the schedule is written as so many bytes of the text.
+// Whether the schedule is written as this many bytes of the text.
 fn is_written(alloc: Global, schedule: &Schedule, text: &[u8], end: usize) -> bool {
     let mut out = LineWriter::new(alloc);
     let is_written = schedule.write(&mut out).is_ok();
@@ -68,7 +68,7 @@ fn is_written(alloc: Global, schedule: &Schedule, text: &[u8], end: usize) -> bo
     is_written && written.len() == end && text.starts_with(&written)
 }
 
-// Whether the reader stands behind the schedule, or at the refused line.
+// Whether the reader is after the schedule, or at the refused line.
 fn is_read(alloc: Global, reader: &mut LineReader<'_>, row: &Text) -> bool {
     match (Schedule::read(alloc, reader), row.1) {
         (Ok(schedule), Ok(end)) => {
@@ -86,7 +86,7 @@ impl Worked for Text {
     }
 }
 
-/// Whether a schedule within a text is told by offsets of the whole.
+/// Whether a schedule within a text is refused by offsets of the whole.
 pub fn is_within(alloc: Global) -> bool {
     let mut reader = LineReader::new(b"first\nschedule 1\nfill 7F\ngo 0 00 00\nend\n");
     reader.next();

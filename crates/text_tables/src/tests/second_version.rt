@@ -1,5 +1,5 @@
-//! A certificate of the second version with each kind of word that the first hasn't, and one of the third with each kind that the second
-//! hasn't. Small damages to them stand in tests/end_to_end.
+//! A certificate of the second version with each kind of word that the first lacks, and one of the third with each kind that the second
+//! lacks. Small damages to them are in tests/end_to_end.
 
 use super::certificates::Piece;
 use cert_format::Certificate;
@@ -53,7 +53,7 @@ pub const LATER: &[Piece] = &[
     (b"end\n", b"", 0, b""),
 ];
 
-/// A certificate with the lines `pairs` and `masks`, and what can be known of pairs in each kind.
+/// A certificate with the lines `pairs` and `masks`, and each kind of fact on pairs.
 pub const PAIRS: &[Piece] = &[
     (b"stackcert 3\n", b"", 0, b""),
     (b"bound 4\n", b"", 0, b""),
@@ -87,7 +87,7 @@ pub const PAIRS: &[Piece] = &[
     (b"end\n", b"", 0, b""),
 ];
 
-/// Whether some of its values are those that the words stand for which the first version hasn't.
+/// Whether some of its values are those of the words that the first version lacks.
 pub fn has_later_values(certificate: &Certificate) -> Option<bool> {
     let vector = certificate.instances().get(2)?;
     let second = certificate.nodes().get(1)?;
@@ -102,7 +102,7 @@ pub fn has_later_values(certificate: &Certificate) -> Option<bool> {
     Some(vector.key.entry == 1 && picks && range && state.flags.carry == CarryTag::Less(31, 0x80))
 }
 
-/// Whether some of what is known of pairs is what the words stand for.
+/// Whether some facts on pairs are those of the words.
 pub fn has_its_facts(certificate: &Certificate) -> Option<bool> {
     let third = certificate.nodes().get(2)?;
     let NodeForm::State(held) = &third.1 else {

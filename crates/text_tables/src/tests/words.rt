@@ -1,4 +1,4 @@
-//! Each call with ample memory, and faults that are chosen by call.
+//! Each call with ample memory, and faults at chosen calls.
 
 use super::Worked;
 use sb_base::{
@@ -7,7 +7,7 @@ use sb_base::{
 };
 use std::alloc::{AllocError, Global};
 
-// The reads of one object in their order: the name, the most bytes that are wanted, and the answer.
+// The reads of one object in order: the name, the most bytes that are read, and the answer.
 static READS: [(&str, usize, Result<&[u8], FileFault>); 5] = [
     ("a", 3, Ok(b"new")),
     ("a", 3, Err(FileFault::Failed)),
@@ -37,7 +37,7 @@ fn misread(files: &mut MemFiles, alloc: Global) -> Option<usize> {
     None
 }
 
-/// The same of an older and a new object of one name, of which the second read fails.
+/// The first wrong read of an older and a newer object with one name, of which the second read fails.
 pub fn misread_of_two(alloc: Global) -> Option<usize> {
     let mut files = MemFiles::new(alloc);
     if files.add("a", b"older").is_ok() && files.add("a", b"new").is_ok() && files.fail(1).is_ok() {
@@ -47,8 +47,8 @@ pub fn misread_of_two(alloc: Global) -> Option<usize> {
     }
 }
 
-// The texts that one sink is given in their order, the answers, and what is written then. The sink takes 1 byte, 2 and
-// the rest of the first text, 2 bytes and then a fault of the second, and none of the last.
+// The texts that one sink is given in order, the answers, and the bytes written afterwards. The sink takes 1 byte, 2 and the rest of the
+// first text, 2 bytes and then a fault for the second, and none of the last.
 static PUTS: [(&[u8], Result<(), SinkFault>, &[u8]); 4] = [
     (b"abcdef", Ok(()), b"abcdef"),
     (b"ghijkl", Err(SinkFault::Failed), b"abcdefgh"),
@@ -60,7 +60,7 @@ fn is_put(sink: &mut MemSink, row: &(&[u8], Result<(), SinkFault>, &[u8])) -> bo
     put_all(sink, row.0) == row.1 && sink.written() == row.2
 }
 
-// The first text that this sink answers otherwise; behind all, it takes no byte of none.
+// The first text that this sink answers otherwise; after all of them it takes no byte.
 fn misput(sink: &mut MemSink) -> Option<usize> {
     for (at, row) in PUTS.iter().enumerate() {
         if !is_put(sink, row) {
@@ -91,7 +91,7 @@ pub fn misput_in_pieces(alloc: Global) -> Option<usize> {
     }
 }
 
-/// Digits, how many are wanted, and the answer.
+/// Digits, how many are read, and the answer.
 pub struct Hexadecimal(&'static [u8], usize, Result<u32, DigitFault>);
 
 pub static HEXADECIMAL: [(&str, &[Hexadecimal]); 1] = [(
@@ -131,7 +131,7 @@ impl Worked for Decimal {
     }
 }
 
-// Each line: its text, where it begins, whether a line feed ends it, and the offset behind it.
+// Each line: its text, its offset, whether a line feed ends it, and the offset after it.
 static LINES: [(&[u8], usize, bool, usize); 3] = [
     (b"node 001F 18446744073709551615", 0, true, 31),
     (b"00", 31, true, 34),
@@ -165,7 +165,7 @@ fn is_line(reader: &mut LineReader<'_>, row: &(&[u8], usize, bool, usize)) -> bo
     }
 }
 
-/// Whether the words of the first line are those and no more.
+/// Whether the words of the first line are exactly those.
 pub fn are_words() -> bool {
     let mut words = Words::new(LINES[0].0);
     for word in WORDS {
@@ -176,7 +176,7 @@ pub fn are_words() -> bool {
     words.next().is_none()
 }
 
-// The first line of a text that is another; there is none behind them.
+// The first line of a text that differs; there is none after them.
 fn misread_line(text: &[u8]) -> Option<usize> {
     let mut reader = LineReader::new(text);
     for (at, row) in LINES.iter().enumerate() {

@@ -1,10 +1,9 @@
-//! Operations on bytes of three-valued bits, against all bytes and registers that they stand for.
+//! Operations on bytes of three-valued bits, against all their members.
 //!
-//! The rows were made by a script of their own (Python, with no part of this crate). It lists all bytes that the operands
-//! stand for, and takes a bit, a carry or a borrow of the answer as known where all choices give the same. From these the
-//! flags follow by their rules: Z from the bits of the result alone, V from the two top carries, S from N and V. The script
-//! also worked the machine's flags at some choices, and saw that the answer permits them. Bytes and registers are pairs of
-//! known bits and value; a carry is 0, 1, or 2 for either.
+//! A separate script made the rows (Python, without any part of this crate). It lists all members of the operands, and a bit, carry or
+//! borrow of the answer is known if all choices give the same. The flags follow from these by their rules: Z from the bits of the result
+//! alone, V from the two top carries, S from N and V. The script also computed the machine's flags at some choices, and checked that the
+//! answer permits them. Bytes and registers are pairs of known bits and value; a carry is 0, 1, or 2 for either.
 
 ghost use Rattle.std.specs.Prelude.{◌<◌, ◌+◌, length};
 
@@ -46,7 +45,7 @@ fn found(operation: &Operation, a: TriByte, b: TriByte, number: u8, s: TriByte) 
     }
 }
 
-// Bits of a row that begin there, and their values.
+// The bits of a row from this place on, and their values.
 fn bits(row: &[u8], at: usize) -> TriByte
     requires { at + 1 < length row.now }
 {
@@ -174,7 +173,7 @@ pub static SUMS: [(&str, &[SumRow]); 1] = [(
     ],
 )];
 
-// Z as the result has it, and kept where that is 0.
+// Z by the result, and Z kept for a result of 0.
 static DIFFERENCES: [Operation; 2] = [SUB, SBC];
 
 impl Worked for SumRow {

@@ -1,4 +1,4 @@
-//! The rows of `sums` and `bits`, each against its call, from a register with no flag set and from one with all set.
+//! The rows of `sums` and `bits`, each against its call, from a register with all flags clear and from one with all set.
 
 mod bits;
 mod sums;
@@ -9,7 +9,7 @@ pub use bits::TABLES as BITS;
 use std::alloc::Global;
 pub use sums::TABLES as SUMS;
 
-/// A call of the arithmetic: a difference that keeps Z, a step up, and a word that is raised, where true.
+/// A call of the arithmetic. The flag, if true, means a difference that keeps Z, an increment, or a word that is raised.
 pub enum Operation {
     Sum,
     Difference(bool),
@@ -61,7 +61,7 @@ pub const FMULS: Operation = Operation::Product(Mul::Fmuls);
 
 pub const FMULSU: Operation = Operation::Product(Mul::Fmulsu);
 
-/// The operation and its operands; the result with SREG after it, from no flag and from all.
+/// The operation and its operands; the result with SREG after it, from all flags clear and from all set.
 pub struct Row(Operation, u16, u8, bool, [u16; 2], [u16; 2]);
 
 fn of_byte((byte, s): (u8, Sreg)) -> [u16; 2] {

@@ -1,4 +1,4 @@
-//! Splits against all bytes that are written, and the order on a table of keys.
+//! Splits against all written bytes, and the order on a table of keys.
 
 use super::Worked;
 use super::three_valued::{Bits, byte};
@@ -8,7 +8,7 @@ use std::alloc::Global;
 use std::cmp::Ordering;
 use vector_table::{Masks, write};
 
-/// A data address of enable bits, and how many splits the bits there have; one address has none. Source: the data sheet's registers EIMSK,
+/// A data address of enable bits, and the number of splits of its bits; one address has none. Source: the data sheet's registers EIMSK,
 /// EECR, SPCR, ACSR, SPMCSR, WDTCSR, PCICR, TIMSK0, TIMSK1, TIMSK2, ADCSRA, TWCR and UCSR0B.
 pub struct Address(u16, usize);
 
@@ -52,7 +52,7 @@ fn masks(bits: u32) -> Masks {
     }
 }
 
-// Whether some byte that the value stands for is written to these.
+// Whether writing some member of the value gives these.
 fn is_written(masks: Masks, m: Masks, address: u16, value: TriByte) -> bool {
     for byte in 0..=255 {
         if value.has(byte) && write(m, address, byte) == masks {
@@ -62,7 +62,7 @@ fn is_written(masks: Masks, m: Masks, address: u16, value: TriByte) -> bool {
     false
 }
 
-// Whether each byte that the value stands for is written to one of these.
+// Whether writing each member of the value gives one of these.
 fn have_writes(all: &[Masks], m: Masks, address: u16, value: TriByte) -> bool {
     for byte in 0..=255 {
         if value.has(byte) && !all.contains(&write(m, address, byte)) {
@@ -72,7 +72,7 @@ fn have_writes(all: &[Masks], m: Masks, address: u16, value: TriByte) -> bool {
     true
 }
 
-// Whether these ascend, each of them is written by some byte that the value stands for, and each such byte to one of them.
+// Whether these ascend, are what writing members of the value gives, and include each such result.
 fn are_writes(all: &[Masks], m: Masks, address: u16, value: TriByte) -> bool {
     for at in 0..all.len() {
         if at > 0 && all[at - 1].bits() >= all[at].bits() {
@@ -85,7 +85,7 @@ fn are_writes(all: &[Masks], m: Masks, address: u16, value: TriByte) -> bool {
     have_writes(all, m, address, value)
 }
 
-// Whether the splits of a value are the writes of all bytes, and so many if a number is due.
+// Whether the splits of a value are the results of writing its members, and this many if a number is given.
 fn are_split(address: u16, m: Masks, value: TriByte, due: Option<usize>) -> bool {
     let splits = split(m, address, &value);
     let all = splits.as_slice();
@@ -93,7 +93,7 @@ fn are_split(address: u16, m: Masks, value: TriByte, due: Option<usize>) -> bool
 }
 
 impl Worked for Address {
-    // Each value is split so, and that which stands for all bytes into so many.
+    // Each value is split so, and the unknown byte into this many.
     fn holds(&self, _alloc: Global) -> bool {
         for at in 0..21 {
             if !are_split(self.0, masks(MASKS[at / 7]), byte(VALUES[at % 7]), None) {
@@ -110,18 +110,18 @@ pub struct Split(u32, u16, Bits, [u32; 4]);
 pub static SPLITS: [(&str, &[Split]); 1] = [(
     "split",
     &[
-        // INT0 and INT1 in EIMSK, of which PCINT0's stays
+        // INT0 and INT1 in EIMSK; PCINT0's bit stays
         Split(0x4, 0x3D, (0x00, 0x00), [0x4, 0x5, 0x6, 0x7]),
-        // RXCIE0 is turned on, UDRIE0 and TXCIE0 may be
+        // RXCIE0 is set, UDRIE0 and TXCIE0 may be
         Split(
             0x0,
             0xC1,
             (0x80, 0x80),
             [0x20000, 0x60000, 0xA0000, 0xE0000],
         ),
-        // TOIE2 and OCIE2A are bits 0 and 1 of TIMSK2, but vectors 10 and 8; OCIE2B is turned off
+        // TOIE2 and OCIE2A are bits 0 and 1 of TIMSK2, but vectors 10 and 8; OCIE2B is cleared
         Split(0x1C0, 0x70, (0x04, 0x00), [0x000, 0x040, 0x100, 0x140]),
-        // PCIE1 is turned on, the others may be
+        // PCIE1 is set, the others may be
         Split(0x0, 0x68, (0x02, 0x02), [0x8, 0xC, 0x18, 0x1C]),
     ],
 )];
@@ -168,7 +168,7 @@ const ALL_INSTANCES: &[InstPlace] = &[
 /// Instances, which ascend by kind, entry, masks and flag.
 pub static INSTANCES: [(&str, &[InstPlace]); 1] = [("instance", ALL_INSTANCES)];
 
-// Whether two keys go in this order, by both orders, and are equal by `==` where it is that of equal ones.
+// Whether two keys have this order, by both orders, and are equal by `==` exactly if the order says so.
 fn is_order<K: Ord>(a: &K, b: &K, order: Ordering) -> bool {
     a.cmp(b) == order && a.partial_cmp(b) == Some(order) && (a == b) == order.is_eq()
 }
@@ -296,7 +296,7 @@ impl Worked for EdgePlace {
     }
 }
 
-// An instance's beginning, and a node in its midst.
+// The first node of an instance, and a later one.
 static PLACES: [NodePlace; 2] = [
     NodePlace(
         0,
@@ -320,14 +320,14 @@ static PLACES: [NodePlace; 2] = [
     ),
 ];
 
-// Whether an instance begins at this node.
+// Whether this is the first node of its instance.
 fn begins(place: &NodePlace) -> bool {
     let key = inst_of(&place.1);
     let begin = NodeKey::entry(&key);
     begin == node_of(place) && begin.inst == key && begin.offset() == 0
 }
 
-/// Whether an instance begins at its entry, and each form tells its place.
+/// Whether an instance begins at its entry, and each form gives its offset.
 pub fn is_begin() -> bool {
     let offsets = [
         SpForm::Closed(7).offset(),

@@ -1,4 +1,4 @@
-//! A compiler's frame set-up in tags and on bytes, all pairs of a few tags, and lists of slots.
+//! A compiler's frame set-up in tags and on bytes, all pairs of some tags, and lists of slots.
 
 use super::Worked;
 use sp_domain::{
@@ -23,13 +23,13 @@ const ALL_TAGS: &[TagRow] = &[
     TagRow(7, Tag::SpHi(258)),
 ];
 
-// Whether two tags, which are the same or not, are ordered and joined as is due.
+// Whether two tags, equal or not, are ordered and joined as expected.
 fn is_pair(t: Tag, u: Tag, same: bool) -> bool {
     let both = if same { t } else { Tag::None };
     t.le(u) == (same || u == Tag::None) && t.join(u) == both
 }
 
-// Whether a tag's pair with itself and with none is at no place.
+// Whether a tag's pairs with itself and with none are no pair of a frame.
 fn is_nowhere(t: Tag) -> bool {
     frame(t, t).is_none() && frame(Tag::None, t).is_none() && frame(t, Tag::None).is_none()
 }
@@ -109,21 +109,21 @@ impl Worked for FrameRow {
     }
 }
 
-// What is made of the tag of a byte or of a pair.
+// A call on the tag of a byte or of a pair.
 enum Call {
-    // A pair moves down by so much: the tags then.
+    // A pair moves down by this much: the tags afterwards.
     Move(u16),
-    // So much is subtracted from a low byte: the tags of the difference and of the borrow.
+    // This much is subtracted from a low byte: the tags of the difference and of the borrow.
     Low(u8),
-    // So much is subtracted from a high byte, with the tag of the borrow: the tag of the difference.
+    // This much is subtracted from a high byte, with the tag of the borrow: the tag of the difference.
     High(u8, CarryTag),
-    // So much is added to a byte: the tags of the sum and of the carry.
+    // This much is added to a byte: the tags of the sum and of the carry.
     Add(u8),
-    // So much is subtracted from a byte: the tag of the difference.
+    // This much is subtracted from a byte: the tag of the difference.
     Less(u8),
-    // So much is added to a high byte, with the tag of the carry: the tag of the sum.
+    // This much is added to a high byte, with the tag of the carry: the tag of the sum.
     Raise(u8, CarryTag),
-    // A high byte moves up or down by so much: the tag then.
+    // A high byte moves up or down by this much: the tag afterwards.
     Page(bool, u8),
 }
 
@@ -313,7 +313,7 @@ pub static CALLS: [(&str, &[Row]); 1] = [(
             Tag::None,
             (Tag::None, Tag::None, CarryTag::None),
         ),
-        // a high byte alone moves whole pages, and a low one leaves no carry behind
+        // a high byte alone moves by whole pages, and a low one leaves no carry
         Row(
             Call::Add(1),
             Tag::SpHi(258),
@@ -411,10 +411,10 @@ pub static BASES: [(&str, &[BaseRow]); 1] = [(
     ],
 )];
 
-// Places and amounts whose differences with a base borrow, carry and wrap.
+// Places and amounts whose differences from a base borrow, carry and wrap.
 static WORDS: [u16; 7] = [0, 1, 0x00FF, 0x0100, 0x08FF, 0x7F80, 0xFFFF];
 
-// Whether the base less k, less a number and with it, byte by byte, is where the tags say.
+// Whether the base less k, less a number and plus it, byte by byte, is where the tags say.
 fn is_moved(base: u16, k: u16, amount: u16) -> bool {
     let before = base.wrapping_sub(k);
     let less = base.wrapping_sub(before.wrapping_sub(amount));
@@ -438,20 +438,20 @@ impl Worked for BaseRow {
     }
 }
 
-// What is done to slots.
+// An action on slots.
 enum Action {
     Nothing,
     Push(u16),
-    // The slot that is popped, if any.
+    // Pops this slot, or none.
     Pop(Option<Slot<u16>>),
     Set(u16, u16),
     Resize(u16),
 }
 
-// What is done, how many slots there are then, and the first and the last of them.
+// An action, the number of slots afterwards, and the first and the last of them.
 struct Step(Action, u16, Option<Slot<u16>>, Option<Slot<u16>>);
 
-// What is pushed is there and can be popped, and there is nothing to pop at first.
+// A pushed slot is present and can be popped; at first there is nothing to pop.
 static PUSHES: [Step; 5] = [
     Step(Action::Nothing, 0, None, None),
     Step(Action::Pop(None), 0, None, None),
@@ -505,7 +505,7 @@ fn is_set(slots: &mut Slots<u16>, at: u16, value: u16) -> bool {
     there
 }
 
-// Whether it could be done, and a slot that is popped is that one.
+// Whether the action succeeded, with this popped slot.
 fn is_done(slots: &mut Slots<u16>, action: &Action) -> bool {
     match action {
         Action::Nothing => true,
@@ -522,7 +522,7 @@ fn has(slots: &Slots<u16>, step: &Step) -> bool {
         && slots.at(step.1.wrapping_sub(1)) == step.3
 }
 
-// Whether each step has slots as is due.
+// Whether the slots are as expected after each step.
 fn go_so(slots: &mut Slots<u16>, steps: &[Step]) -> bool {
     for step in steps {
         if !is_done(slots, &step.0) || !has(slots, step) {
@@ -536,7 +536,7 @@ fn is_kept(slots: &mut Slots<u16>, copy: &Slots<u16>) -> bool {
     go_so(slots, &SIZES) && copy.as_slice() == [Slot::Guarded(7)].as_slice()
 }
 
-/// Whether slots are pushed, popped, cut and grown, and a copy keeps what it was made of. Want of memory is wrong too.
+/// Whether slots are pushed, popped, cut and grown, and a copy keeps its contents. Running out of memory is wrong too.
 pub fn are_slots(alloc: Global) -> bool {
     let mut slots: Slots<u16> = Slots::new(alloc);
     let pushed = go_so(&mut slots, &PUSHES);

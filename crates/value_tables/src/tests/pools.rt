@@ -1,4 +1,4 @@
-//! States that a pool keeps once.
+//! States that a pool stores once.
 
 ghost use Rattle.std.specs.Prelude.{◌≡◌, ◌<◌, IfOk};
 ghost use Rattle.std.specs.FinMap.{empty, len};
@@ -22,7 +22,7 @@ fn interned(pool: &mut Pool, alloc: Global, state: &AbsState) -> Result<u32, All
     }
 }
 
-// Whether in a pool without a state two equal states have one number until both are released, beside another state, which has another number.
+// Whether in an empty pool two equal states share a number until both are released, beside another state with another number.
 fn is_kept_once(
     pool: &mut Pool,
     alloc: Global,
@@ -52,7 +52,7 @@ fn is_kept_once(
     )
 }
 
-/// Whether two equal states are kept once beside another.
+/// Whether two equal states are stored once beside another.
 pub fn is_kept(alloc: Global, state: &AbsState, other: &AbsState) -> bool {
     let mut pool = Pool::new(alloc);
     matches!(is_kept_once(&mut pool, alloc, state, other), Ok(true))

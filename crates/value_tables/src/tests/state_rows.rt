@@ -1,4 +1,4 @@
-//! Rows of two states, and what is made of them.
+//! Rows of two states and an operation on them.
 
 ghost use Rattle.std.specs.Prelude.{ℕ, ◌<◌};
 ghost use Rattle.abs_state.specs.Values.{value_at};
@@ -11,19 +11,19 @@ use abs_state::AbsState;
 use sp_domain::{CarryTag, Slot, Tag};
 use std::alloc::Global;
 
-// What is made of two states.
+// The operation on two states.
 enum What {
-    // A caller and an exit: what is known after the return, and none where no machine returns so.
+    // A caller and an exit: the state after the return, or none if no machine returns so.
     Return(Option<Known>),
     // The first state's join with the second.
     Join(Known),
-    // The first state alone is entered.
+    // The entry from the first state; the second is not used.
     Entry,
-    // The first state is kept in a pool twice, and the second beside it.
+    // The first state is interned twice, and the second once.
     Pool,
 }
 
-/// Two states, and what is made of them.
+/// Two states, and the operation on them.
 pub struct StateRow(Known, Known, What);
 
 const ENTERED: Byte = Byte(Tag::Entry(0), 0, 0, 0, 0xff);
@@ -57,7 +57,7 @@ pub static TABLES: [(&str, &[StateRow]); 4] = [
     (
         "return",
         &[
-            // what the exit still has of the entry is the caller's, with the bits of both
+            // what the exit still has of the entry is the caller's, with the meet of the bits
             StateRow(
                 Known(
                     Byte(Tag::SpLo(3), 0xf0, 0x40, 0x40, 0x4f),
@@ -94,13 +94,13 @@ pub static TABLES: [(&str, &[StateRow]); 4] = [
                 ),
                 What::Return(Some(Known(ANY, ANY, Flags(false, 0x01, 0x00, CarryTag::None), SLOT))),
             ),
-            // what a sum left in C is kept as what a difference left
+            // the carry tag of a sum is kept like that of a difference
             StateRow(
                 Known(ANY, ANY, SUMMED, SLOT),
                 Known(ANY, ANY, TIED, SLOT),
                 What::Return(Some(Known(ANY, ANY, SUMMED, SLOT))),
             ),
-            // bits that differ, of a byte and of the flags, and flags that may
+            // bits that differ, of a byte and of the flags, and flags that may be equal
             StateRow(
                 Known(Byte(Tag::None, 0xff, 0x41, 0x41, 0x41), ANY, CLEAR, SLOT),
                 Known(
@@ -121,7 +121,7 @@ pub static TABLES: [(&str, &[StateRow]); 4] = [
                 Known(ANY, ANY, SET, SLOT),
                 What::Return(Some(Known(ANY, ANY, SET, SLOT))),
             ),
-            // what both ranges hold, if anything
+            // the meet of both ranges, if there is one
             StateRow(
                 Known(Byte(Tag::None, 0, 0, 3, 0x10), ANY, BORROWED, SLOT),
                 Known(ANY, KEPT_RANGE, SET, SLOT),
@@ -132,7 +132,7 @@ pub static TABLES: [(&str, &[StateRow]); 4] = [
                 Known(ANY, KEPT_RANGE, SET, SLOT),
                 What::Return(None),
             ),
-            // what C says of a register is kept where the register and the flags are
+            // the carry tag of a register is kept if the register and the flags are
             StateRow(
                 Known(ANY, ANY, LESSENED, SLOT),
                 Known(ENTERED, ANY, TIED, SLOT),
@@ -178,7 +178,7 @@ pub static TABLES: [(&str, &[StateRow]); 4] = [
         )],
     ),
     ("entry", &[StateRow(CALLER, CALLER, What::Entry)]),
-    // states that differ in a tag, in a range, in what the carry says and in a flag
+    // states that differ in a tag, in a range, in the carry tag and in a flag
     (
         "pool",
         &[
@@ -211,7 +211,7 @@ pub static TABLES: [(&str, &[StateRow]); 4] = [
     ),
 ];
 
-// Whether that is made of the two states.
+// Whether the operation on the two states gives this.
 fn is_made(alloc: Global, first: &AbsState, second: &AbsState, what: &What) -> bool
     requires { (r : ℕ) → r < 32 → NamesRegister (value_at second.now.registers r).tag }
 {

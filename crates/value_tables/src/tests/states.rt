@@ -10,7 +10,7 @@ use bit_domain::TriByte;
 use sp_domain::{CarryTag, Slot, Slots, Tag};
 use std::alloc::{AllocError, Global};
 
-/// A byte: its tag, its known bits and their values, and the least and the greatest that it may be.
+/// A byte: its tag, its known bits and their values, and its least and greatest byte.
 pub struct Byte(pub Tag, pub u8, pub u8, pub u8, pub u8);
 
 pub fn byte_of(byte: &Byte) -> AbsByte {
@@ -22,7 +22,7 @@ pub fn byte_of(byte: &Byte) -> AbsByte {
     }
 }
 
-/// Flags: whether they are those at the entry, known bits and their values, and where the carry comes from.
+/// Flags: whether they are those of the entry, known bits and their values, and the carry tag.
 pub struct Flags(pub bool, pub u8, pub u8, pub CarryTag);
 
 fn flags_of(flags: &Flags) -> AbsFlags {
@@ -33,7 +33,7 @@ fn flags_of(flags: &Flags) -> AbsFlags {
     }
 }
 
-/// What is known of registers 0 and 31, of the flags, and of the slots.
+/// The values of registers 0 and 31, the flags, and the slots.
 pub struct Known(pub Byte, pub Byte, pub Flags, pub &'static [Slot<Byte>]);
 
 pub const ANY: Byte = Byte(Tag::None, 0, 0, 0, 0xff);
@@ -49,7 +49,7 @@ pub struct ValueJoin(Byte, Byte, Byte);
 pub static VALUE_JOINS: [(&str, &[ValueJoin]); 1] = [(
     "join of values",
     &[
-        // the least range that holds both, which the bits alone don't give
+        // the least range with both, which the bits alone do not give
         ValueJoin(
             Byte(Tag::SpLo(3), 0xff, 0x45, 0x45, 0x45),
             Byte(Tag::SpLo(3), 0xff, 0x43, 0x43, 0x43),
@@ -74,7 +74,7 @@ pub static VALUE_JOINS: [(&str, &[ValueJoin]); 1] = [(
 )];
 
 impl Worked for ValueJoin {
-    // The join is as wanted, says no more than either, and the first, which isn't the join, says more.
+    // The join is as expected and above both, and the first, which isn't the join, is not above it.
     fn holds(&self, _alloc: Global) -> bool {
         let (v, w, both) = (byte_of(&self.0), byte_of(&self.1), byte_of(&self.2));
         v.join(w) == both && v.le(both) && w.le(both) && !both.le(v)
@@ -126,7 +126,7 @@ impl Worked for FlagJoin {
     }
 }
 
-// Any byte, a byte that is known, one of which some bits are, and the known one as a place.
+// An unknown byte, a known byte, one with some bits known, and the known one as a place.
 static BYTES: [Byte; 4] = [
     ANY,
     X45,
@@ -134,7 +134,7 @@ static BYTES: [Byte; 4] = [
     Byte(Tag::SpLo(3), 0xff, 0x45, 0x45, 0x45),
 ];
 
-/// Whether what is made of a byte or of bits alone has no tag, and says no less than what has one.
+/// Whether values of a byte or of bits alone have no tag, and are above those with a tag.
 pub fn are_untagged() -> bool {
     let known = AbsByte::known(0x45);
     let made = [
@@ -186,7 +186,7 @@ fn push_all(slots: &mut Slots<AbsByte>, known: &[Slot<Byte>]) -> Result<(), Allo
     Ok(())
 }
 
-/// The state in which so much is known. None for want of memory too.
+/// The state with these values. None also if memory runs out.
 pub fn state_of(alloc: Global, known: &Known) -> Option<AbsState>
     ensures { IfSome result (λ s. (r : ℕ) → r < 32 → NamesRegister (value_at s.registers r).tag) }
 {
@@ -208,7 +208,7 @@ pub fn is_same(state: &AbsState, wanted: &AbsState) -> bool {
         && state.slots.as_slice() == wanted.slots.as_slice()
 }
 
-// Flags of the root, and of what is entered from a caller with its C set.
+// Flags of the root, and those entered from a caller with C set.
 static FLAGS: [Flags; 2] = [
     Flags(false, 0x7f, 0x00, CarryTag::None),
     Flags(true, 0x01, 0x01, CarryTag::None),
@@ -220,12 +220,12 @@ fn knows_flags_alone(root: &AbsState) -> bool {
         && root.slots.len() == 0
 }
 
-/// Whether the root knows the flags alone.
+/// Whether only the flags are known in the root.
 pub fn is_root(alloc: Global) -> bool {
     knows_flags_alone(&AbsState::root(alloc))
 }
 
-// Whether a register is tagged as what the caller's held, with its bits and its range.
+// Whether a register is tagged with its entry value, and has the caller's bits and range.
 fn is_entry(entered: AbsByte, r: u8, was: AbsByte) -> bool {
     let tag = Tag::Entry(r);
     entered == AbsByte { tag, ..was }
@@ -247,7 +247,7 @@ fn is_entered(entered: &AbsState, caller: &AbsState) -> bool {
         && entered.slots.len() == 0
 }
 
-/// Whether an entry tags each register, and keeps neither the slots nor what the carry says.
+/// Whether an entry tags each register, and keeps neither the slots nor the carry tag.
 pub fn enters(alloc: Global, caller: &AbsState) -> bool {
     match caller.entered(alloc) {
         Ok(entered) => is_entered(&entered, caller),
@@ -255,7 +255,7 @@ pub fn enters(alloc: Global, caller: &AbsState) -> bool {
     }
 }
 
-// Whether so much is known in the state, and no more.
+// Whether the state has exactly these values.
 fn is_known(alloc: Global, state: &AbsState, known: &Known) -> bool {
     match state_of(alloc, known) {
         Some(wanted) => is_same(state, &wanted),
@@ -270,7 +270,7 @@ fn is_due(alloc: Global, state: &AbsState, due: &Option<Known>) -> bool {
     }
 }
 
-/// Whether so much is known after a return: nothing where no machine returns so.
+/// Whether the state after a return has these values; none if no machine returns so.
 pub fn returns_so(alloc: Global, caller: &AbsState, exit: &AbsState, due: &Option<Known>) -> bool
     requires { (r : ℕ) → r < 32 → NamesRegister (value_at exit.now.registers r).tag }
 {
@@ -281,7 +281,7 @@ pub fn returns_so(alloc: Global, caller: &AbsState, exit: &AbsState, due: &Optio
     }
 }
 
-// Whether a copy of the first becomes the join with the second, which grew, and doesn't grow again.
+// Whether a copy of the first grows to the join with the second, and does not grow again.
 fn grows(joined: &mut AbsState, low: &AbsState, other: &AbsState, wanted: &AbsState) -> bool
     requires copy { joined.old ≡ low.now }
     requires slots { length low.now.slots ≡ length other.now.slots }
@@ -307,7 +307,7 @@ fn is_grown(alloc: Global, low: &AbsState, other: &AbsState, wanted: &AbsState) 
     }
 }
 
-/// Whether so much is known in the join of two states.
+/// Whether the join of two states has these values.
 pub fn is_join(alloc: Global, low: &AbsState, other: &AbsState, known: &Known) -> bool {
     if low.slots.len() != other.slots.len() {
         return false;

@@ -1,8 +1,8 @@
-//! Operations on bytes of three-valued bits, against all bytes that they stand for.
+//! Operations on bytes of three-valued bits, against all their members.
 //!
-//! The rows were made by a script of their own (Python, with no part of this crate): it lists all bytes that each operand
-//! stands for, applies the operation to each choice of them as a whole number, and takes a bit or a carry of the answer as
-//! known where all answers have the same. Operands are pairs of known bits and value, bits are 0, 1, or 2 for either.
+//! A separate script made the rows (Python, without any part of this crate). It lists all members of each operand, applies the operation
+//! to each choice as a whole number, and takes a bit or carry of the answer as known if all answers agree. Operands are pairs of known
+//! bits and value; bits are 0, 1, or 2 for either.
 
 use super::Worked;
 use bit_domain::{Sum, Tri, TriByte, add, and, eor, equal, not, or, sub};
@@ -165,7 +165,7 @@ impl Worked for SumRow {
     }
 }
 
-/// Operands; conjunction, disjunction, exclusive or; the first turned; whether the two are equal.
+/// Operands; conjunction, disjunction, exclusive or; the complement of the first; whether the two are equal.
 pub struct LogicRow([u8; 13]);
 
 pub static LOGIC: [(&str, &[LogicRow]); 1] = [(
@@ -306,7 +306,7 @@ impl Worked for LogicRow {
     }
 }
 
-/// Operands; join; whether there is a meet, and the meet; whether the second stands for all that the first does.
+/// Operands; join; whether there is a meet, and the meet; whether the second is above the first.
 pub struct LatticeRow([u8; 10]);
 
 pub static LATTICE: [(&str, &[LatticeRow]); 1] = [(

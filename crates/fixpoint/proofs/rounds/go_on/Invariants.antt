@@ -6,6 +6,6 @@ use Rattle.fixpoint.proofs.rounds.go_on.Given as goal
 abbrev pub invariant-rounds : goal.invariant-rounds
 invariant-rounds l = RoundsProgress l.task.flash.now l.task.assumptions.now l.steps l.left l.table l.counted l.work.items l.notes
 
--- 1,122,557 for each of the most cells that a family has that goes on, and one
+-- 1,122,557 for each of the most cells that a family within the limits has, and one
 abbrev pub decreases-rounds : goal.decreases-rounds
 decreases-rounds l = 9416690630657 - weight l.table

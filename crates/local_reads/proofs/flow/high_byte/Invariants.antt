@@ -3,7 +3,7 @@ use Rattle.avr_model.specs.Devices.{width}
 use Rattle.local_reads.proofs.Permitted.{IsOpenTo}
 use Rattle.local_reads.proofs.flow.high_byte.Given as goal
 
--- the bits below the next one that no word address has are open
+-- bits below the next one that are beyond a word address are unknown
 abbrev pub invariant-loop-bit : goal.invariant-loop-bit
 invariant-loop-bit l = record {
   least : width l.fn.device ≤ l.bit + 8;

@@ -6,7 +6,7 @@ use Rattle.local_rules.specs.Permitted.{permits_number}
 use Rattle.local_reads.proofs.Waking.{may_wake_other}
 use Rattle.local_reads.proofs.wakes.may_enable_other.Given as goal
 
--- none of the vectors before v may be enabled that isn't barred
+-- the byte enables no vector before v that isn't barred
 abbrev pub invariant-loop-v : goal.invariant-loop-v
 invariant-loop-v l =
     record {

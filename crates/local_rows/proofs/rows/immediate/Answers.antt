@@ -7,7 +7,7 @@ use Rattle.local_rules.specs.Registers.{compare_after, sub_after, sbc_after, imm
 use Rattle.local_rules.specs.FrameLines.{framed_sub, immediate_at}
 use Rattle.local_rows.proofs.rows.immediate.Goals as goal
 
--- a row that a `frame` line doesn't change
+-- a row that a `frame` line does not change
 alike : (line : Bool) (x : Computed) → x ≡ (if line then x else x)
 alike true x = refl
 alike false x = refl

@@ -5,7 +5,7 @@ use Rattle.avr_model.specs.Vectors.{vectors}
 use Rattle.mask_states.specs.Wakes.{may_enable}
 use Rattle.mask_states.proofs.waking.may_enable_barred.Given as goal
 
--- the byte may enable none of the vectors before v that is barred
+-- the byte enables no barred vector before v
 abbrev pub invariant-loop-v : goal.invariant-loop-v
 invariant-loop-v l =
     record {

@@ -3,7 +3,7 @@ use Rattle.std.specs.Int.{bit_at}
 use Rattle.avr_model.specs.Masks.{is_barred}
 use Rattle.mask_states.proofs.waking.widened.Given as goal
 
--- the vectors below v are told, and no other is enabled
+-- the vectors below v that aren't barred are enabled, and no others were added
 abbrev pub invariant-loop-v : goal.invariant-loop-v
 invariant-loop-v l =
     record {
