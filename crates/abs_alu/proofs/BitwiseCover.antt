@@ -1,4 +1,4 @@
--- Bit operations, steps and shifts with their flags stand for the machine's.
+-- Bit operations, steps and shifts with their flags cover the machine's.
 use Rattle.std.proofs.Common.{◌≡◌, ◌∙◌, subst, refl, ℕ, ◌+◌, ◌-◌, ◌*◌, ◌/◌, ◌%◌, ◌<◌, arith, Bool, true, false, eqb, leb, cond}
 use Rattle.std.proofs.lemmas.Nat.{and_le_l, or_lt, xor_lt}
 use Rattle.std.specs.Int.{bit_at, from_bool}

@@ -1,4 +1,4 @@
--- The flags of a result stand for the machine's.
+-- The flags of a result cover the machine's.
 use Rattle.std.proofs.Common.{◌≡◌, refl, subst, ℕ, zero, suc, ◌+◌, ◌%◌, ◌<◌, arith, min, Bool, true, false, eqb, leb, ◌&&◌}
 use Rattle.std.proofs.lemmas.Nat.Bits.{bit_at-lt}
 use Rattle.std.specs.Int.{bit_at, from_bool}
@@ -38,7 +38,7 @@ bit_is (suc (suc n)) h = absurd (omega arith)
 pub flag_is : (w i : ℕ) → bit_at w i ≡ from_bool (flag w i)
 flag_is w i = bit_is (bit_at w i) (bit_at-lt w i)
 
--- what holds of each of the numbers below 8 holds below 8
+-- what holds of each number below 8
 pub below_eight : (P : ℕ → Type 0) → P 0 → P 1 → P 2 → P 3 → P 4 → P 5 → P 6 → P 7 → (i : ℕ) → i < 8 → P i
 below_eight P a b c d e f g h zero lt = a
 below_eight P a b c d e f g h (suc zero) lt = b

@@ -1,4 +1,4 @@
--- Operands that stand for more have answers that stand for more.
+-- The operations are monotone.
 use Rattle.std.proofs.Common.{ℕ, ◌+◌, arith, Bool, true, false, eqb, cond}
 use Rattle.bit_domain.proofs.Members.{bits_within}
 use Rattle.avr_model.specs.declared.operation.Logic.{Logic}

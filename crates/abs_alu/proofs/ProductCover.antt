@@ -1,4 +1,4 @@
--- Products with their flags stand for the machine's.
+-- Products with their flags cover the machine's.
 use Rattle.std.proofs.Common.{◌≡◌, ◌∙◌, subst, sym, ap, refl, ℕ, zero, suc, ◌+◌, ◌*◌, ◌/◌, ◌%◌, ◌<◌, ◌≢◌, arith, Bool, true, false, eqb, leb, cond, Option, Some, None, inl, inr}
 use Rattle.std.proofs.lemmas.Bool.{cases_eq, eq-eqb, ne_eqb, cond-true, cond-false}
 use Rattle.std.proofs.lemmas.Nat.Bits.{bit_at-suc, bit_at_lowest}
@@ -33,7 +33,7 @@ bit_permits : (b : Bool) → Permits (tri_bit (from_bool b)) (from_bool b)
 bit_permits true = refl
 bit_permits false = refl
 
--- numbers that agree but for bit 0, or but for bit 1
+-- numbers that agree except in bit 0, or except in bit 1
 but_lowest : (n m : ℕ) → n / 2 ≡ m / 2 → (j : ℕ) → j ≢ 0 → bit_at n j ≡ bit_at m j
 but_lowest n m e zero other = absurd (other refl)
 but_lowest n m e (suc j) other = bit_at-suc n j ∙ ap (λ (k : ℕ). bit_at k j) e ∙ sym (bit_at-suc m j)
@@ -69,7 +69,7 @@ carry_and_zero_within c z c' z' s s' wc wz ws =
 pub any_has : (x : ℕ) → Has byte_any x
 any_has x = bytes_are_sets.built (λ _. Any) x (λ i h. tt)
 
--- where a byte is constant, its one member is the constant
+-- if a byte is constant, its only member is the constant
 abbrev inner : Option ℕ → ℕ
 inner (Some x) = x
 inner None = 0
@@ -91,7 +91,7 @@ constant_member t n x small h has =
     let k = known_constant t n h in
     (bytes_are_sets.known t.value x (bytes_are_sets.member t).0 small).0 (subst (λ (u : TriByte). Has u x) (bytes_are_sets.constant t k.0) has) ∙ k.1
 
--- what lies within a constant is it
+-- a byte within a constant is the constant
 pub constant_within : (t u : TriByte) (n : ℕ) → IsWithin t u → byte_constant u ≡ Some n → byte_constant t ≡ Some n
 constant_within t u n w h =
     let m = bytes_are_sets.member t in
@@ -158,7 +158,7 @@ all_products_cover = record {
       operands_cover op (byte_constant a) (byte_constant b) s x y w hx hy (λ n h. constant_member a n x hx h ha) (λ n h. constant_member b n y hy h hb) hs;
 }
 
--- where the wider operands are constant, the others are the same; else all is unknown
+-- if the greater operands are constant, the others are equal; else all is unknown
 unknown_within : (op : Mul) (a b : Option ℕ) (s s' : TriByte) → IsWithin s s'
     → IsAnswerWithin (product_of_constants op a b s) ((byte_any, byte_any), carry_and_zero Any Any s')
 unknown_within op (Some x) (Some y) s s' ws = (

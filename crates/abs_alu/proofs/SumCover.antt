@@ -1,4 +1,4 @@
--- Sums and differences with their flags stand for the machine's.
+-- Sums and differences with their flags cover the machine's.
 use Rattle.std.proofs.Common.{◌≡◌, subst, sym, ℕ, ◌+◌, ◌/◌, ◌%◌, ◌<◌, arith, Bool, true, false, eqb, leb, ltb, ◌&&◌, ◌||◌, not}
 use Rattle.std.proofs.Math.Bool.{and-true}
 use Rattle.std.proofs.lemmas.Int.{ints}

@@ -1,4 +1,4 @@
--- Sums and differences of a word with their flags stand for the machine's.
+-- Sums and differences of a word with their flags cover the machine's.
 use Rattle.std.proofs.Common.{◌≡◌, subst, refl, ℕ, ◌+◌, ◌-◌, ◌*◌, ◌/◌, ◌%◌, ◌<◌, min, arith, Bool, true, false, eqb, leb, ltb}
 use Rattle.std.proofs.lemmas.Int.{ints}
 use Rattle.std.specs.Prelude.{pos, ◌+ℤ◌, ◌-ℤ◌}
@@ -17,7 +17,7 @@ use Rattle.abs_alu.specs.Words.{word_answer, word_sum, word_difference, abs_wide
 use Rattle.abs_alu.specs.Laws.{CoversWord, WordsCover}
 use Rattle.abs_alu.proofs.FlagCover.{flags_cover, below_two, has_known, zero_covers, kept_covers}
 
--- a word of two bytes, with what the machine's flags are of its halves
+-- a word of two bytes, with the machine's flags by its halves
 word_covers : (low high : Sum) (s : TriByte) (r w h o : ℕ) (out over : Bool) → r < 65536 → h < 2 → o < 2
     → Has low.bits (r % 256) → Has high.bits (r / 256) → Permits high.into_top h → Permits high.out o → Has s w
     → o ≡ from_bool out → (h + o) % 2 ≡ from_bool over
@@ -41,7 +41,7 @@ word_covers low high s r w h o out over small hh ho pl ph pt po hs is_out is_ove
           hs,
     )
 
--- V of a word is that of its high byte, which the low byte gives a carry or borrow c
+-- V of a word is that of its high byte, with the carry or borrow c of the low byte
 sum_overflow_is : (u v k c : ℕ) → u < 256 → v < 256 → k < 256 → c ≡ (u + k + 0) / 256
     → ((v % 128 + 0 % 128 + c) / 128 + (v + 0 + c) / 256) % 2 ≡ from_bool (overflows_word (cast_signed w16 (u + 256 * v) +ℤ pos k))
 sum_overflow_is u v k c hu hv hk e = grind (arith, ints)

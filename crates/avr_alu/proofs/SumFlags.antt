@@ -87,6 +87,6 @@ difference_flags a b r borrow keep_zero z s ha hb e ez =
     ∙ ap (λ (x : ℕ). with_flags (ltb a (b + from_bool borrow)) (eqb x 0 && (not keep_zero || flag s 1)) (leb 128 x)
     (overflows (signed_difference_of a b borrow)) (ltb (a % 16) (b % 16 + from_bool borrow)) s) e
 
--- what is told of Z by what is told of the flag
+-- Z by the flag before
 pub kept_zero : (zero keep was is : Bool) → was ≡ is → (zero && (not keep || was)) ≡ (zero && (not keep || is))
 kept_zero zero keep was is e = ap (λ (t : Bool). zero && (not keep || t)) e

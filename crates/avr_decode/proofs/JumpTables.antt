@@ -1,4 +1,4 @@
--- Ways to the `ijmp` of a table site, one instruction at a time.
+-- Paths to the `ijmp` of a table site, one instruction at a time.
 use Rattle.std.proofs.Common.{◌≡◌, ◌∙◌, refl, sym, ap, ℕ, zero, suc, ◌+◌, ◌-◌, ◌%◌, ◌<◌, Bool, true, false, List, Option, Some, None, if◌then◌else◌, arith}
 use Rattle.avr_model.proofs.AllLaws.{devices_are_alike}
 use Rattle.avr_model.specs.declared.instruction.Instr.{Instr}
@@ -47,7 +47,7 @@ pub went_on : (words : Program) (n a : ℕ) (x : Instr) (to : ℕ) → 0 < n →
     → onward a (length_of (word_at words a)) x ≡ Some to → ijmp_from words n a ≡ ijmp_from words (n - 1) (wrapped (device_of words) to)
 went_on words n a x to lt e isnt on = behind words n a x (Some to) lt e isnt on
 
--- the word two behind, of a word address of any number of bits
+-- the word two further on, for a word address of any number of bits
 pub two_behind : (words : Program) (a : ℕ) → wrapped (device_of words) (a % 16384 + 2) ≡ wrapped (device_of words) (a + 2)
 two_behind words a =
     let d = device_of words in

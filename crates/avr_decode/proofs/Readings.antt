@@ -1,4 +1,4 @@
--- Readings of words, one after the other.
+-- Decoded forms of words, one after the other.
 use Rattle.std.proofs.Common.{◌≡◌, ◌⊎◌, inl, inr, ⊎_elim, ℕ, suc, zero, Bool, Option, List, [], ◌∷◌, ◌++◌, length, Some, refl, sym, ap, subst, ◌∙◌}
 use Rattle.std.specs.Prelude.{slice_get}
 use Rattle.avr_model.specs.declared.instruction.Instr.{Instr}

@@ -1,25 +1,25 @@
--- What the ways to a store tell of its pointer's registers.
+-- The paths to a store, and its pointer's registers.
 use Rattle.std.specs.Prelude.{ℕ, ◌+◌, ◌&&◌, Bool, true, false, List, [], ◌∷◌, Option, Some, None, if◌then◌else◌}
 use Rattle.avr_model.specs.declared.instruction.Instr.{Instr}
 use Rattle.avr_model.specs.Sites.{leaves, is_ldi, sets}
 use Rattle.avr_decode.specs.declared.fixed.PointerTold.{PointerTold}
 
--- whether the last instruction that sets the register is `ldi`, where `behind` says it of those behind this one
+-- whether the last instruction that sets the register is `ldi`; `behind` is the answer for those after this one
 abbrev pub set_before : ℕ → Instr → Option Bool → Option Bool
 set_before r x (Some loaded) = Some loaded
 set_before r x None = if sets r x then Some (is_ldi x) else None
 
--- whether the last of these instructions that sets the register is `ldi`; none where none sets it
+-- whether the last of these instructions that sets the register is `ldi`; none if no instruction sets it
 unfoldable pub last_set : ℕ → List Instr → Option Bool
 last_set r [] = None
 last_set r (x ∷ xs) = set_before r x (last_set r xs)
 
--- what a way tells of the pair of registers from r up
+-- the answer of a path for the register pair from r up
 abbrev pub told : ℕ → Option (List Instr) → Option PointerTold
 told r None = None
 told r (Some xs) = Some (record { low = last_set r xs; high = last_set (r + 1) xs })
 
--- what a way tells that begins with this instruction and goes on with one that tells this
+-- the answer of a path that begins with this instruction and continues with one of this answer
 abbrev pub told_before : ℕ → Option Instr → Option PointerTold → Option PointerTold
 told_before r None rest = None
 told_before r (Some x) None = None
@@ -33,12 +33,12 @@ abbrev pub may_be_load : Option Bool → Bool
 may_be_load None = true
 may_be_load (Some loaded) = loaded
 
--- the way loads both registers
+-- the path loads both registers
 abbrev pub loads_both : Option PointerTold → Bool
 loads_both None = false
 loads_both (Some t) = is_load t.low && is_load t.high
 
--- some way that goes on with this one may load both
+-- some path that continues with this one may load both
 abbrev pub may_load : Option PointerTold → Bool
 may_load None = false
 may_load (Some t) = may_be_load t.low && may_be_load t.high

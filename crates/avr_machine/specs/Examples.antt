@@ -1,5 +1,5 @@
--- Worked rows of the stores that the line `masks` admits, on the ATmega328P: at address 0x3D are the enable bits of INT0 and INT1, and INT0
--- is entered at word 2.
+-- Worked rows of stores under the line `masks`, on the ATmega328P: the enable bits of INT0 and INT1 are at address 0x3D, and INT0 is
+-- entered at word 2.
 use Rattle.std.specs.Prelude.{◌≡◌, refl, true, false, List, [], ◌∷◌}
 use Rattle.avr_model.specs.declared.device.Device.TheVariants.{M328}
 use Rattle.avr_model.specs.declared.assumption.Entry.{Entry}
@@ -20,7 +20,7 @@ to_the_status_register : is_flagged_write M328 lines 1 0x5F 0 ≡ true
 unfolding admits_enables has_masks store_line
 to_the_status_register = refl
 
--- 2 enables INT1, and 3 INT0 too, which is never taken
+-- 2 enables INT1, and 3 also INT0, which is never taken
 enables_another : is_flagged_write M328 lines 1 0x3D 2 ≡ false
 unfolding admits_enables has_masks store_line enables_barred is_never
 enables_another = refl

@@ -11,7 +11,7 @@ use Rattle.avr_model.specs.Devices.{Program, device_of}
 use Rattle.avr_model.specs.Step.{Answer, Overflow, after, all_inside, is_unlisted, flagged_or, flag_by, live_write, flagged_write}
 use Rattle.avr_model.specs.Effects.{going_to}
 
--- of those that jump, call, return, branch and skip
+-- jumps, calls, returns, branches and skips
 abbrev pub is_quiet_flow : Instr → Bool
 is_quiet_flow i.Ijmp = false
 is_quiet_flow i.Icall = false
@@ -29,7 +29,7 @@ is_quiet (i.Cbi a b) = false
 is_quiet (i.Sbi a b) = false
 is_quiet instr = is_quiet_flow instr
 
--- the protected address that a pointer store writes, where its site isn't fixed and the write is flagged there
+-- the protected address that a pointer store writes, if its site isn't fixed and the write is flagged
 abbrev pub protected_at : Program → List Entry → ℕ → Write → Option ℕ
 protected_at words A pc w = if not (is_fixed_site words A pc) then flagged_write (device_of words) A pc (w ∷ []) else None
 
@@ -37,7 +37,7 @@ protected_at words A pc w = if not (is_fixed_site words A pc) then flagged_write
 abbrev pub store_answer : State → Option ℕ → Effect → Answer
 store_answer m protected e = flagged_or (flag_by m.pc (live_write m.memory (e.stores ++ [])) protected None) (after m false e)
 
--- the answer to a push after which the machine goes on at a word
+-- the answer to a push after which the machine continues at a word
 abbrev pub push_effect_to : State → List Write → ℕ → ℕ → Effect
 push_effect_to m pushes sp target = record (going_to m target) { sp = sp; is_open = false; pushes = pushes }
 

@@ -78,7 +78,7 @@ impl Processor {
         }
     }
 
-    /// `out`. If it sets I, one more instruction executes before any interrupt (own for `out`).
+    /// `out`: one more instruction executes before any interrupt where it turns I on (own for `out`).
     pub fn output(&mut self, address: u16, r: u16) -> StepResult
         requires address { address < 64 }
         requires r { r < 32 }

@@ -13,7 +13,7 @@ use Rattle.avr_model.specs.Sites.{is_scratch, is_fixed, path_behind, is_loaded_b
 use Rattle.avr_model.specs.Bits.{any_below, all_below, number_of}
 use Rattle.avr_model.specs.Vectors.{row_of, enable_of, held_bits, written_enables}
 
--- the numbers of the device are those that code reads
+-- the device's numbers are those of the code
 pub code_has_words : WORDS ≡ device.WORDS
 code_has_words = refl
 
@@ -86,7 +86,7 @@ pub ways_follow_jumps : table_site (firmware (0x5FE9 ∷ 0x4FFF ∷ 0xC001 ∷ 0
 unfolding device_of table_site ijmp_from decoded length_of
 ways_follow_jumps = refl
 
--- a branch, and an undefined word, end the way
+-- a branch, and an undefined word, end the path
 pub branches_end_ways : table_site (firmware (0x5FE9 ∷ 0x4FFF ∷ 0xF400 ∷ 0x9409 ∷ [])) 0 ≡ None
 unfolding device_of table_site ijmp_from decoded length_of
 branches_end_ways = refl

@@ -1,6 +1,6 @@
--- Marks: the numbers to which a computed interval of a pair of registers is widened. They are a function of a program's words alone. Each word is
--- read as an instruction, also where it is the second word of one. A pair is an even register and the next one, and its number is that of the
--- first and 256 times that of the other. Source: own.
+-- Marks are widening thresholds: the numbers to which a computed interval of a register pair is widened. They depend on a program's words
+-- alone. Each word is read as an instruction, also if it is the second word of one. A pair is an even register and the next one; its
+-- number is that of the first plus 256 times that of the second. Source: own.
 use Rattle.std.specs.Prelude.{ℕ, zero, suc, ◌+◌, ◌*◌, ◌%◌, ◌==◌, ◌&&◌, Bool, true, false, List, [], ◌∷◌, ◌++◌, length, map, Option, Some, None, if◌then◌else◌}
 use Rattle.avr_model.specs.declared.instruction.Instr.{Instr}
 use Rattle.avr_model.specs.declared.instruction.Instr.TheVariants as i
@@ -13,7 +13,7 @@ use Rattle.avr_model.specs.Sites.{instruction_at, loads, subtracts, borrows}
 use Rattle.avr_model.specs.Wide.{word_difference_of}
 use Rattle.avr_model.specs.Devices.{Program}
 
--- what f gives for each number below n, one behind the other
+-- the lists f 0 to f (n - 1), joined
 unfoldable pub joined_below : ℕ → (ℕ → List ℕ) → List ℕ
 joined_below zero f = []
 joined_below (suc n) f = joined_below n f ++ f n
@@ -38,14 +38,14 @@ abbrev pub immediate_in : Option Instr → Option ImmediateInstr
 immediate_in None = None
 immediate_in (Some x) = immediate_of x
 
--- the instruction at a word address, where it is one of a register and a byte
+-- the instruction at a word address, if it has a register and a byte
 abbrev pub immediate_at : Program → ℕ → Option ImmediateInstr
 immediate_at words a = immediate_in (instruction_at words a)
 
 abbrev pub is_pair : ℕ → ℕ → Bool
 is_pair low high = (low % 2 == 0) && (high == low + 1)
 
--- the number of both bytes, where the registers are a pair
+-- the number of both bytes, if the registers are a pair
 abbrev pub pair_number : ImmediateInstr → ImmediateInstr → List ℕ
 pair_number low high = if is_pair low.register high.register then (256 * high.byte + low.byte) ∷ [] else []
 
@@ -57,7 +57,7 @@ loaded_number x y = if loads x.op && loads y.op then pair_number x y ++ pair_num
 abbrev pub added_number : ImmediateInstr → ImmediateInstr → List ℕ
 added_number x y = if subtracts x.op && borrows y.op then map (word_difference_of 0) (pair_number x y) else []
 
--- an instruction and one that stands one to three words behind it
+-- an instruction and one that is one to three words after it
 abbrev pub near_marks : ImmediateInstr → Option ImmediateInstr → List ℕ
 near_marks x None = []
 near_marks x (Some y) = loaded_number x y ++ added_number x y
@@ -69,7 +69,7 @@ abbrev pub loaded_byte : ℕ → Option ImmediateInstr → List ℕ
 loaded_byte p None = []
 loaded_byte p (Some x) = if loads x.op && (x.register == p) then x.byte ∷ [] else []
 
--- what the text loads into register p: 0, and the byte of each `ldi`
+-- the bytes that the text loads into register p: 0, and that of each `ldi`
 abbrev pub loaded_bytes : Program → ℕ → List ℕ
 loaded_bytes words p = 0 ∷ joined_below (length words) (λ a. loaded_byte p (immediate_at words a))
 
@@ -81,7 +81,7 @@ abbrev pub compares_further : BinaryOp → Bool
 compares_further binary.Cpc = true
 compares_further _ = false
 
--- the register p of `cpc r', p` behind `cpi r, L`, where r and r' are a pair
+-- the register p of `cpc r', p` after `cpi r, L`, if r and r' are a pair
 abbrev pub other_side : ImmediateInstr → Instr → Option ℕ
 other_side x (i.Binary op d p) = if compares x.op && (compares_further op && is_pair x.register d) then Some p else None
 other_side x _ = None
@@ -104,10 +104,10 @@ marks_from words a (Some x) =
     near_marks x (immediate_at words (a + 1)) ++ (near_marks x (immediate_at words (a + 2)) ++ (near_marks x (immediate_at words (a + 3))
     ++ compared_marks words x (instruction_at words (a + 1))))
 
--- those of the instruction at a word address with the ones behind it
+-- the marks of the instruction at a word address with the ones after it
 abbrev pub marks_at : Program → ℕ → List ℕ
 marks_at words a = marks_from words a (immediate_at words a)
 
--- The marks of a program, by the words of a device's flash, modulo whose number word addresses count.
+-- The marks of a program, by the words of a device's flash; word addresses count modulo their number.
 unfoldable pub marks : Program → List ℕ
 marks words = usual_marks ++ joined_below (length words) (marks_at words)

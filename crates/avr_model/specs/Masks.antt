@@ -1,4 +1,4 @@
--- What the line `masks` admits: stores through pointers that write enable bits. Source: own.
+-- The line `masks`: stores through pointers that may write enable bits. Source: own.
 use Rattle.std.specs.Prelude.{ℕ, ◌==◌, ◌&&◌, ◌||◌, not, Bool, true, false, List, [], ◌∷◌, if◌then◌else◌}
 use Rattle.std.specs.List.{list_any}
 use Rattle.std.specs.Int.{bit_at}
@@ -15,17 +15,17 @@ is_barred device A v = is_never A (vector_word device v)
 unfoldable pub enables_barred : Device → List Entry → ℕ → ℕ → Bool
 enables_barred device A a byte = list_any (λ r. (r.address == a) && (bit_at byte r.bit == 1) && is_barred device A r.number) vectors
 
--- no address is listed: so it is where the site has no `store` line, since one lists an address at least
+-- no address is listed: the site has no `store` line, since one lists at least one address
 abbrev pub is_unlisted_site : List ℕ → Bool
 is_unlisted_site [] = true
 is_unlisted_site (a ∷ addresses) = false
 
--- The line `masks` admits that a store at this unfixed site writes enable bits: the site has no `store` line.
+-- The line `masks` permits that a store at this unfixed site writes enable bits: the site has no `store` line.
 unfoldable pub admits_enables : List Entry → ℕ → Bool
 admits_enables A site = has_masks A && is_unlisted_site (store_line A site)
 
--- A store at this unfixed site is flagged where it writes this byte to this address: a protected one that no `store` line of the site
--- lists. Where the line `masks` admits the site: one of a register, of the stack pointer or of the status register, or an enable bit by which
+-- Writing this byte to this address at this unfixed site is flagged: the address is protected, and no `store` line of the site lists it.
+-- If the line `masks` admits the site, only registers, the stack pointer and the status register are protected, and enable bits by which
 -- a barred vector is enabled.
 abbrev pub is_flagged_write : Device → List Entry → ℕ → ℕ → ℕ → Bool
 is_flagged_write device A site a byte =

@@ -1,4 +1,4 @@
--- What the words around an address tell of it: three rules that recognise what compilers write. Source: own.
+-- Three rules that recognise code of compilers by the words around an address. Source: own.
 use Rattle.std.specs.Prelude.{ℕ, zero, suc, ◌+◌, ◌-◌, ◌==◌, ◌&&◌, ◌||◌, not, Bool, true, false, List, [], ◌∷◌, Option, Some, None, if◌then◌else◌}
 use Rattle.std.specs.List.{list_any}
 use Rattle.avr_model.specs.declared.device.Device.{Device}
@@ -25,7 +25,7 @@ is_long_transfer (i.Jmp k) = true
 is_long_transfer (i.Call k) = true
 is_long_transfer _ = false
 
--- `jmp` and `call` are no instructions where the device has none
+-- `jmp` and `call` are no instructions on a device without them
 abbrev pub on_device : Device → Option Instr → Option Instr
 on_device device None = None
 on_device device (Some x) = if is_long_transfer x && not (has_jmp device) then None else Some x
@@ -40,7 +40,7 @@ instruction_at words a = on_device (device_of words) (decoded (word_at words a) 
 abbrev pub makes_room : ℕ → Bool
 makes_room w = (w == 0x920F) || (w == 0x921F) || (w == 0xD000)
 
--- From the word on there are 1 to 64 words that make room, and then `in r28, 0x3d`, which reads the stack pointer.
+-- 1 to 64 words from this one on make room, followed by `in r28, 0x3d`, which reads the stack pointer.
 unfoldable pub is_scratch : Program → ℕ → Bool
 is_scratch words a =
     any_below 64 (λ n. all_below (n + 1) (λ k. makes_room (word_at words (a + k))) && (word_at words (a + n + 1) == 0xB7CD))
@@ -82,7 +82,7 @@ is_ldi _ = false
 abbrev pub sets : ℕ → Instr → Bool
 sets r x = list_any (λ n. n == r) (written x)
 
--- the low register of the pair that a pointer is
+-- the low register of a base
 abbrev pub base_register : Base → ℕ
 base_register base.Y = 28
 base_register base.Z = 30
@@ -111,8 +111,8 @@ onto_path (Some x) (Some xs) = if leaves x then None else Some (x ∷ xs)
 abbrev pub before : ℕ → ℕ → ℕ
 before a d = a + WORDS - d
 
--- The instructions from d words before a up to a, where decoding forward arrives exactly at a, every word is defined and no
--- instruction leaves the way. `inside` is how many of the next words belong to an instruction that began before them.
+-- The instructions from d words before a up to a, if decoding forward arrives exactly at a, every word is defined and no instruction
+-- leaves the path. `inside` is the number of next words that belong to an instruction that began earlier.
 unfoldable pub path_behind : Program → ℕ → ℕ → ℕ → Option (List Instr)
 path_behind words a zero zero = Some []
 path_behind words a (suc inside) zero = None
@@ -123,7 +123,7 @@ path_behind words a zero (suc d) =
 abbrev pub path : Program → ℕ → ℕ → Option (List Instr)
 path words a d = path_behind words a 0 d
 
--- whether the last of these instructions that sets the register is `ldi`; `sofar` says it of those before
+-- whether the last of these instructions that sets the register is `ldi`; `sofar` is the answer for those before
 unfoldable pub is_loaded_behind : ℕ → Bool → List Instr → Bool
 is_loaded_behind r sofar [] = sofar
 is_loaded_behind r sofar (x ∷ xs) = is_loaded_behind r (if sets r x then is_ldi x else sofar) xs
@@ -176,7 +176,7 @@ abbrev pub is_ijmp : Instr → Bool
 is_ijmp i.Ijmp = true
 is_ijmp _ = false
 
--- the word at which a way goes on: along a jump, or behind an instruction of this size; none behind a branch, a skip, a call and a return
+-- the next word of a path: the target of a jump, or the word after an instruction of this size; none after a branch, skip, call or return
 abbrev pub onward : ℕ → ℕ → Instr → Option ℕ
 onward a size (i.Jmp t) = Some t
 onward a size (i.Rjmp k) = Some (far a k)
@@ -186,17 +186,17 @@ abbrev pub from_word : Device → (ℕ → Option ℕ) → Option ℕ → Option
 from_word device on None = None
 from_word device on (Some a) = on (wrapped device a)
 
--- A way ends at an `ijmp`, whose word it gives, and without one at an undefined word. `on` is the way from another word.
+-- A path ends at an `ijmp`, whose word it gives, or without one at an undefined word. `on` is the path from another word.
 abbrev pub way_on : Device → (ℕ → Option ℕ) → ℕ → ℕ → Option Instr → Option ℕ
 way_on device on a size None = None
 way_on device on a size (Some x) = if is_ijmp x then Some a else from_word device on (onward a size x)
 
--- the word of the `ijmp` to which at most so many instructions lead from the word a, itself counted
+-- the word of the `ijmp` that at most this many instructions from the word a reach, itself counted
 unfoldable pub ijmp_from : Program → ℕ → ℕ → Option ℕ
 ijmp_from words zero a = None
 ijmp_from words (suc n) a = way_on (device_of words) (ijmp_from words n) a (length_of (word_at words a)) (instruction_at words a)
 
--- The word of the `ijmp` of a table site: `subi` of r30 stands at a and `sbci` of r31 behind it, and from there at most 16 instructions lead to
+-- The word of the `ijmp` of a table site: `subi` of r30 is at a and `sbci` of r31 follows, and from there at most 16 instructions lead to
 -- the `ijmp`.
 unfoldable pub table_site : Program → ℕ → Option ℕ
 table_site words a =

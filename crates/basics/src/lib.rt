@@ -1,2 +1,2 @@
-//! Facts on tests, numbers and lists that many proofs cite, beside those of std. No code.
+//! Facts on tests, numbers and lists that proofs cite, beside those of std. No code.
 #![tactic(auto)]

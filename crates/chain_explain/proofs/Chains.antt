@@ -1,4 +1,4 @@
--- What the parts of a chain tell.
+-- The parts of a chain.
 use Rattle.std.proofs.Common.{◌≡◌, refl, sym, ap, ◌∙◌, subst, ℕ, ◌+◌, List, [], ◌∷◌, Some, slice_get, slice_index, arith}
 use Rattle.std.proofs.lemmas.List.Sums.{sum_by-cons}
 use Rattle.std.proofs.lemmas.Option.{slice_get_within}
@@ -25,7 +25,7 @@ use Rattle.chain_explain.specs.Told.{sum_of, IsPlace, GoOn, Nest}
 use Rattle.chain_explain.specs.Moves.{AreThere}
 
 module _ (words : Program) (A : List Entry) (nodes reached : List Node) (gs : List GraphInst) (needs : List ℕ) (family : IsGraphOf words A reached gs) where
-  -- each link's node is one of them
+  -- the family has each link's node
   there_from : (i above : ℕ) (links : List Link) → IsChainFrom gs needs i above links → AreThere reached links
   there_from i above links (ends _ _ p first) =
       let h = (family.places i p).0 first.is.0 in

@@ -50,7 +50,7 @@ module _ (words : Program) (A : List Entry) (nodes reached : List Node) (are : A
         assumptions = meets.assumptions;
       }
 
--- where edges land, each instance that is entered has its first node
+-- if edges land, each entered instance has its first node
 pub peopled : (words : Program) (A : List Entry) (nodes : List Node) → AllLand words A nodes → IsPeopled words A nodes
 peopled words A nodes lands n way into back has enters =
     let l = lands n (record { kind = way; to = entry_key into; state = entered n.state }) has (entering way into back enters) in

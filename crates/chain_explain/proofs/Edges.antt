@@ -1,4 +1,4 @@
--- What the landings of a family say of its edges.
+-- The edges of a family by its landings.
 use Rattle.std.proofs.Common.{◌≡◌, refl, sym, ap, ◌∙◌, subst, ℕ, zero, suc, ◌<◌, ◌≤◌, Bool, true, false, List, [], ◌∷◌, length, map, get_or, Some, slice_get, Contains, arith}
 use Rattle.std.specs.Prelude.{if◌then◌else◌}
 use Rattle.std.proofs.lemmas.List.{length-map}
@@ -31,7 +31,7 @@ use Rattle.chain_explain.proofs.Numbers.{same_number, is_found}
 
 -- ---- landings
 
--- what is read of each list of a list of lists
+-- items read from a list of lists
 pub read_each : {X : Type 0} (f : List X → List ℕ) (xss : List (List X)) (i : ℕ) → f [] ≡ [] → get_or (map f xss) i [] ≡ f (get_or xss i [])
 read_each f [] i none = sym none
 read_each f (xs ∷ xss) zero none = refl
@@ -56,7 +56,7 @@ chosen false i j h = (refl, only_one_in i j h)
 chosen_in : (b : Bool) (i : ℕ) → b ≡ false → Contains (if b then [] else i ∷ []) i
 chosen_in b i e = subst (λ (c : Bool). Contains (if c then [] else i ∷ []) i) (sym e) (first_in i [])
 
--- the number of a landing that stays in its instance is a move
+-- the number of a landing in the same instance is a move
 pub move_in : (landings : List Landing) (l : Landing) → Contains landings l → is_entry l.kind ≡ false → Contains (moves_of landings) l.at
 move_in landings l has e = contained_in_join move_of landings l l.at has (chosen_in (is_entry l.kind) l.at e)
 
@@ -99,7 +99,7 @@ module _ (words : Program) (A : List Entry) (nodes : List Node) (shown : AreShow
         record { from = n.0; at = n.1; edge = x.edge; is_edge = x.is; to = found.node; lands = found.is; key = found.same })
         j (subst (λ (xs : List ℕ). Contains xs j) (read_each (map at_of) all i refl) h)
 
-    -- the landing of an edge that leads on
+    -- the landing of such an edge
     landing_in : (i j : ℕ) (l : LeadsByNumber words A nodes i j) → Contains (get_or all i []) (record { kind = l.edge.kind; at = j })
     landing_in i j l =
         (are.are.each i l.from (slice_get_within nodes i l.from l.at) l.at (record { kind = l.edge.kind; at = j })).1

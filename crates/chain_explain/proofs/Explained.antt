@@ -1,4 +1,4 @@
--- What is put together is the explanation.
+-- The computed parts are the explanation.
 use Rattle.std.proofs.Common.{◌≡◌, subst, ℕ, ◌≤◌, List}
 use Rattle.avr_model.specs.declared.assumption.Entry.{Entry}
 use Rattle.avr_model.specs.Devices.{Program}

@@ -1,4 +1,4 @@
--- The marked nodes are those that are reached.
+-- The marked nodes are the reached ones.
 use Rattle.std.proofs.Common.{◌≡◌, refl, sym, ap, ◌∙◌, subst, ℕ, zero, suc, ◌+◌, ◌≤◌, ⊎_elim, Bool, true, false, List, [], ◌∷◌, ◌++◌, length, map, get_or, drop, Some, slice_get, Contains, append-nil, arith}
 use Rattle.std.specs.Prelude.{if◌then◌else◌}
 use Rattle.std.specs.List.{AllByRecursion}
@@ -24,7 +24,7 @@ use Rattle.chain_explain.specs.Reached.{IsReached, AreReached}
 use Rattle.chain_explain.specs.Moves.{kept_by, leads_by}
 use Rattle.chain_explain.proofs.Edges.{reached_down, reached_up}
 
--- the node has a number that is marked
+-- the node has a marked number
 pub record IsNumberMarked (marks : List Bool) (nodes : List Node) (n : Node) : Type 0 where
   pub number : ℕ
   pub at : slice_get nodes number ≡ Some n
@@ -86,7 +86,7 @@ drop_at (y ∷ ys) (suc i) x e = drop_at ys i x e
 next_drop : {X : Type 0} (xs : List X) (i : ℕ) (x : X) → slice_get xs i ≡ Some x → drop i xs ≡ x ∷ drop (i + 1) xs
 next_drop xs i x e = let next : suc i ≡ i + 1 = omega arith in drop_at xs i x e ∙ ap (λ k. x ∷ drop k xs) next
 
--- the kept ones so far, with those of the rest
+-- the nodes kept so far, with those of the rest
 pub kept_next : {X : Type 0} (marks : List Bool) (nodes kept more : List X) (i : ℕ) (mark : Bool) (n : X) → slice_get marks i ≡ Some mark → slice_get nodes i ≡ Some n
     → kept_by marks nodes ≡ kept ++ kept_by (drop i marks) (drop i nodes) → more ≡ kept ++ (if mark then n ∷ [] else [])
     → kept_by marks nodes ≡ more ++ kept_by (drop (i + 1) marks) (drop (i + 1) nodes)
@@ -102,7 +102,7 @@ kept_next {X = X} marks nodes kept more i mark n e f so_far added =
     one true rest h = ap (λ xs. n ∷ xs) h
     one false rest h = h
 
--- at the end none is left
+-- at the end no node is left
 kept_nil : {X : Type 0} (marks : List Bool) → kept_by {X = X} marks [] ≡ []
 kept_nil [] = refl
 kept_nil (mark ∷ marks) = refl
@@ -140,7 +140,7 @@ module _ (words : Program) (A : List Entry) (nodes : List Node) (shown : AreShow
         exact = λ n. (kept_reached n, reached_kept n);
       }
 
--- the same, by marks and nodes that are given
+-- for given marks and nodes
 pub reached_given : (words : Program) (A : List Entry) (nodes : List Node) (marks given : List Bool) (kept : List Node) → AreReached words A nodes (kept_by marks nodes) → given ≡ marks
     → kept ≡ kept_by given nodes → AreReached words A nodes kept
 reached_given words A nodes marks given kept are same e = subst (AreReached words A nodes) (sym (e ∙ ap (λ (ms : List Bool). kept_by ms nodes) same)) are
@@ -155,7 +155,7 @@ same_count (mark ∷ marks) (x ∷ xs) [] e = absurd (omega (arith, e))
 same_count (true ∷ marks) (x ∷ xs) (y ∷ ys) e = let rest = same_count marks xs ys (omega (arith, e)) in omega (arith, rest)
 same_count (false ∷ marks) (x ∷ xs) (y ∷ ys) e = same_count marks xs ys (omega (arith, e))
 
--- what holds of each node and its list holds of each one that is kept
+-- a property of each node and its list holds of each kept one
 kept_each : {Y : Type 0} (P : Node → List Y → Type 0) (marks : List Bool) (nodes : List Node) (yss : List (List Y)) → length yss ≡ length nodes
     → ((at : ℕ) (n : Node) → slice_get nodes at ≡ Some n → P n (get_or yss at []))
     → (at : ℕ) (n : Node) → slice_get (kept_by marks nodes) at ≡ Some n → P n (get_or (kept_by marks yss) at [])

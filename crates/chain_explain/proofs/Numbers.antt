@@ -1,4 +1,4 @@
--- Nodes by their keys and numbers.
+-- Nodes by key and by number.
 use Rattle.std.proofs.Common.{◌≡◌, refl, sym, ap, ◌∙◌, ℕ, ◌<◌, ⊎_elim, List, map, length, Option, Some, None, slice_get}
 use Rattle.std.specs.List.Sorted.{IsStrictlySortedBy}
 use Rattle.std.proofs.lemmas.Option.{slice_get_within}
@@ -14,7 +14,7 @@ use Rattle.edge_rules.specs.Views.{key_of, place_of}
 pub none_has : (k : NodeKey) (nodes : List Node) → place_of k nodes ≡ None → HasKey nodes k → ⊥
 none_has k nodes e h = none_from k nodes 0 e h.0 h.1.0 h.1.1
 
--- one number has a key
+-- a key has one number
 pub same_number : (xs : List Node) → IsStrictlySortedBy node_cmp (map key_of xs) → (i j : ℕ) (a b : Node) → slice_get xs i ≡ Some a → slice_get xs j ≡ Some b → a.key ≡ b.key → i ≡ j
 same_number xs s i j a b ea eb e =
     ⊎_elim (λ h. h)

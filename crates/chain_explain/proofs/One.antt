@@ -65,7 +65,7 @@ not_both a b ab ba =
     let same = (keys_are_ordered.equal_nodes a a).1 refl in
     cc
 
--- lists that ascend and have the same nodes are the same
+-- ascending lists with the same nodes are equal
 same_nodes : (xs ys : List Node) → IsStrictlySortedBy node_cmp (map key_of xs) → IsStrictlySortedBy node_cmp (map key_of ys) → ((n : Node) → Contains xs n → Contains ys n)
     → ((n : Node) → Contains ys n → Contains xs n) → xs ≡ ys
 unfolding IsStrictlySortedBy

@@ -1,4 +1,4 @@
--- Where the rounds end with a certificate, the least need of the root over the reached nodes is its bound.
+-- If the rounds end with a certificate, the root's least need over the reached nodes is its bound.
 use Rattle.std.proofs.Common.{◌≡◌, refl, sym, ap, ◌∙◌, subst, ℕ, zero, suc, ◌≤◌, ⊎_elim, Bool, true, false, cond, List, [], ◌∷◌, length, Some, slice_get, slice_index, Contains, arith}
 use Rattle.std.specs.List.{AllByRecursion}
 use Rattle.std.specs.List.Sorted.{IsStrictlySortedBy}
@@ -97,7 +97,7 @@ valued_at (k ∷ ks) (x ∷ xs) (suc i) inst s same e = by (valued_at ks xs i in
 
 module _ (words : Program) (A : List Entry) (f : Family) (n : ℕ) (solved : IsSolved words A n f) (law : RoundsAreReached) (reached : List Node)
     (are : AreReached words A (nodes_of f) reached) (reset : HasKey (nodes_of f) (entry_key root_inst)) where
-  -- where an edge from a node of the family leads there is one
+  -- the target of an edge of the family is in it
   lands_at : (m : Node) (e : Edge) → FamilyHas f m → IsEdge words A (nodes_of f) m e → HasKey (nodes_of f) e.to
   lands_at m e has is =
       let l = solved.closed m e has is in
@@ -168,7 +168,7 @@ module _ (words : Program) (A : List Entry) (f : Family) (n : ℕ) (solved : IsS
               omega (arith, enough, o, from, into);
         }
 
--- the explanation's number is the bound of a certificate with which the rounds end
+-- the explanation's number is the bound if the rounds end with the certificate
 pub least_is_bound : FilledOrMissing → RoundsAreReached → (words : Program) (A : List Entry) (c : Claim) (nodes : List Node) (x : Explanation) → IsFilled words A c.nodes nodes
     → HasKey nodes (entry_key root_inst) → (e : Explains words A nodes x) → BeginsAtRoot words A e.reached → x.least ≤ c.bound → IsOfRounds words A c → x.least ≡ c.bound
 least_is_bound filled law words A c nodes x is reset e root under of =

@@ -1,4 +1,4 @@
--- Walks of a portion of a graph are walks of the graph.
+-- Walks of a part of a graph are walks of the graph.
 use Rattle.std.proofs.Common.{◌≡◌, refl, sym, ap, ◌∙◌, subst, ℕ, ◌+◌, ◌-◌, ◌<◌, ◌≤◌, ⊎_elim, List, [], ◌∷◌, length, map, get_or, Contains, nat_cmp, arith}
 use Rattle.std.specs.Cmp.Lexicographic.{slice_cmp}
 use Rattle.std.specs.Ordering.{ordering_then}
@@ -29,7 +29,7 @@ slices_lifted low (x ∷ xs) (y ∷ ys) =
     ap (λ (o : Ordering). ordering_then o (slice_cmp nat_cmp (map (lifted low) xs) (map (lifted low) ys))) (cmp_lifted low x y)
     ∙ ap (ordering_then (nat_cmp x y)) (slices_lifted low xs ys)
 
--- the nodes from `low` to below `high` of a graph lead to one another alone, and the portion is their graph
+-- the nodes from `low` to below `high` only lead to one another, and the part is their graph
 pub record IsApart (graph : List (List ℕ)) (low high : ℕ) : Type 0 where
   pub order : low ≤ high
   pub inside : high ≤ length graph
@@ -67,7 +67,7 @@ module _ (graph portion : List (List ℕ)) (low high : ℕ) (apart : IsApart gra
   goes_up target i [] e = ap (lifted low) e
   goes_up target i (j ∷ rest) h = (leads_up i j h.0, goes_up target j rest h.1)
 
-  -- a way of the graph, from a node of the portion on, as one of the portion
+  -- a path of the graph from a node of the part, as one of the part
   pub record Lowered (target i : ℕ) (rest : List ℕ) : Type 0 where
     pub own : List ℕ
     pub are : rest ≡ map (lifted low) own
@@ -97,7 +97,7 @@ module _ (graph portion : List (List ℕ)) (low high : ℕ) (apart : IsApart gra
           goes = goes_up target w.first w.rest w.goes;
         }
 
-    -- a walk of the graph as one of the portion
+    -- a walk of the graph as one of the part
     pub record LoweredWalk (nodes : List ℕ) : Type 0 where
       pub own : List ℕ
       pub are : nodes ≡ map (lifted low) own
@@ -143,7 +143,7 @@ module _ (graph portion : List (List ℕ)) (low high : ℕ) (apart : IsApart gra
               (f.first l.own (shortest_down other l s));
         }
 
-    -- what the whole graph reaches from the start, the portion reaches
+    -- what the whole graph reaches from the start, the part reaches
     pub record ReachedBelow (i : ℕ) : Type 0 where
       pub own : ℕ
       pub is_own : i ≡ low + own

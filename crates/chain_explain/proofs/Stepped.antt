@@ -29,7 +29,7 @@ key_there nodes at k e = by (slice_get nodes at) refl e
 pub node_at : (nodes : List Node) (at : ℕ) (n : Node) (k : NodeKey) → slice_get nodes at ≡ Some n → option_map key_of (slice_get nodes at) ≡ Some k → n.key ≡ k
 node_at nodes at n k is e = same_Some n.key k (sym (ap (option_map key_of) is) ∙ e)
 
--- a node that is put together from its key and its state
+-- a node from its key and its state
 pub node_is : (nodes : List Node) (at : ℕ) (n : Node) → slice_get nodes at ≡ Some n → (k : NodeKey) (s t : AbsState) → option_map key_of (slice_get nodes at) ≡ Some k
     → option_map state_of (slice_get nodes at) ≡ Some s → t ≡ s → record { key = k; state = t } ≡ n
 node_is nodes at n is k s t key state same =
@@ -37,7 +37,7 @@ node_is nodes at n is k s t key state same =
     let b : t ≡ n.state = same ∙ sym (same_Some n.state s (sym (ap (option_map state_of) is) ∙ state)) in
     λ i. record { key = a i; state = b i }
 
--- an item that is read by its number
+-- an item read by number
 pub read_at : {X : Type 0} (xs : List X) (i : ℕ) (x d : X) → i < length xs → get_or xs i d ≡ x → slice_get xs i ≡ Some x
 read_at xs i x d lt e = slice_get-get_or xs i d lt ∙ ap (λ y. Some y) e
 

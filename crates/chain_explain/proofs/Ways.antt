@@ -1,4 +1,4 @@
--- The way to a reached node within its instance.
+-- The path to a reached node within its instance.
 use Rattle.std.proofs.Common.{◌≡◌, refl, sym, ap, ◌∙◌, subst, ℕ, ◌+◌, ◌-◌, ◌<◌, ◌≤◌, true, List, [], ◌∷◌, map, Some, slice_get, Contains, arith}
 use Rattle.basics.specs.Items.{place_of_contained, only_one_in, first_in}
 use Rattle.edge_rules.specs.Places.{FoundAt, found_at}
@@ -94,7 +94,7 @@ module _ (words : Program) (A : List Entry) (nodes : List Node) (shown : AreShow
     -- ---- the instance of the key
 
     module _ (k : NodeKey) (reached : IsReached words A nodes k) (low high : ℕ) (span : IsSpan nodes k.inst low high) where
-      -- the nodes of the instance move to one another alone
+      -- the nodes of the instance only move to one another
       pub apart : IsApart moves low high
       apart =
           record {
@@ -177,7 +177,7 @@ module _ (words : Program) (A : List Entry) (nodes : List Node) (shown : AreShow
                   let e = same_number nodes shown.ascending start i first.node s.node first.is s.at (first.same ∙ sym (only_entry k.inst s.node.key s.begins)) in
                   subst (Contains (start ∷ [])) e (first_in start [])
 
-          -- of each number of the key
+          -- for each number of the key
           pub is_way_to : (numbers words' : List ℕ) → IsFirstOfShortest graph ((start - low) ∷ []) (target - low) numbers → words' ≡ map (λ i. pc_at nodes (low + i)) numbers
               → (at : ℕ) (n : Node) → slice_get nodes at ≡ Some n → n.key ≡ k → IsWay words A nodes k.inst at words'
           is_way_to numbers words' f along at n e same =

@@ -1,4 +1,4 @@
-//! What an explanation is.
+//! Explanations.
 
 use avr_model::listed::Listed;
 use mask_states::InstKey;
@@ -40,7 +40,7 @@ impl Explanation {
         self.parts.as_slice().len()
     }
 
-    /// The part of this number, from 0 on.
+    /// The part of this number, from 0.
     pub fn part(&self, n: usize) -> &Part
         requires { n < length self.now.parts }
         ensures { slice_get self.now.parts n ≡ Some result.now }

@@ -7,7 +7,7 @@ ghost use Rattle.edge_rules.specs.Views.{place_of};
 use call_graph::Filled;
 use mask_states::NodeKey;
 
-// The number of the node of this key, which exists.
+// The number of the node of this key, which must exist.
 pub(crate) fn number_of(nodes: &Filled, key: &NodeKey) -> usize
     requires { HasKey nodes.now key.now }
     ensures { place_of key.now nodes.now ≡ Some result }

@@ -84,7 +84,7 @@ pub record IsWordLevel (s : Shape) (w : AllowsWords) (id : Text) : Type 0 where
   pub of_given : (v : Valued) → (bytes_eq id (option_name v) ≡ false) × (bytes_eq (option_name v) id ≡ false)
   pub of_marked : (m : Mark) → (bytes_eq id (mark_name m) ≡ false) × (bytes_eq (mark_name m) id ≡ false)
 
--- the line has all that the command requires, and nothing else
+-- the line has what the command wants, and nothing else
 pub record IsWanted (w : AllowsWords) (l : Line) : Type 0 where
   pub first : is_some l.first ≡ true
   pub second : is_some l.second ≡ w.second

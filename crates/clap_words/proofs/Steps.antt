@@ -14,7 +14,7 @@ use Rattle.commands.specs.declared.line.Valued.{Valued}
 use Rattle.commands.specs.declared.line.Valued.TheVariants.{Assume, Steps, Device, Trials}
 use Rattle.clap_words.proofs.Pieces.{Piece, Named, Given, Marked, Mark, Json, Why, option_name, spelled, mark_name, mark_spelled, all_words, AreFit}
 
--- the walk between two pieces
+-- where the walk stands between two pieces
 abbrev at : Held → Waiting → ℕ → Walk
 at h waiting i = record { held = h; waiting = waiting; position = i; is_trailing = false; stopped = None }
 
@@ -232,7 +232,7 @@ take_flag s h word name i ws go later d l e = by (arg_by_long s.rules name) refl
       step s (at h idle i) (at (reacted s.rules a [] h) idle i) word ws (flag_turn s h i word name a d l is (not-true (takes_values a) p.0) q.0) (flag_walked s h i word name a d l is (not-true (takes_values a) p.0))
       (later (reacted s.rules a [] h) q.1)
 
--- how an option is parsed
+-- how an option is read
 no_option_dashes : (v : Valued) → bytes_eq (spelled v) dashes ≡ false
 unfolding dashes
 no_option_dashes Assume = refl

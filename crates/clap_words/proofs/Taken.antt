@@ -1,4 +1,4 @@
--- Words that are a command are accepted, and none of them is refused.
+-- Words that are a command are taken, and none of them is refused.
 use Rattle.std.proofs.Common.{◌≡◌, ◌≢◌, ℕ, ◌==◌, ◌&&◌, ◌||◌, List, [], ◌∷◌, Bool, true, false, not, refl, ap, ap₂, sym, subst, ◌∙◌, codes, Option, Some, None, cond, is_some, is_none}
 use Rattle.std.specs.Option.{option_map}
 use Rattle.std.specs.List.{list_any}
@@ -97,7 +97,7 @@ name_at s i = the (arg_by_index s.rules i)
 abbrev option_of : Shape → Text → Rule
 option_of s name = the (arg_by_long s.rules name)
 
--- the first use passes
+-- a use passes where there was none
 abbrev once : Rule → List Text → Bool → Bool
 once a values there = (not there || false) && values_pass a values
 
@@ -599,7 +599,7 @@ plain_facts None second None None false false (Some d) command x e = absurd (non
 plain_facts (Some f) None None None false false (Some d) command x e = absurd (none-some x e)
 plain_facts (Some f) (Some g) None None false false (Some d) command x e = (refl, (refl, (refl, (refl, (refl, refl)))))
 
--- for a command with two names and one option without a value, which is not this one
+-- of a command with two names that has one option without a value, of which this is the other
 flagged_facts : (first second steps trials : Option Text) (other : Bool) (device : Option Chip) (command : Chip → Text → Text → Command) (x : Command)
     → cond (is_none steps && (is_none trials && not other)) (on_device device (λ d. with_two first second (command d))) None ≡ Some x
     → (is_some first ≡ true) × ((is_some second ≡ true) × ((is_some steps ≡ false) × ((is_some trials ≡ false) × (other ≡ false))))
@@ -635,7 +635,7 @@ analyse_facts None second None false false (Some d) command x e = absurd (none-s
 analyse_facts (Some f) (Some g) None false false (Some d) command x e = absurd (none-some x e)
 analyse_facts (Some f) None None false false (Some d) command x e = (refl, (refl, (refl, (refl, refl))))
 
--- for a command with two names and all options but this one and those without a value
+-- of a command with two names that has all options but this one and those without a value
 both_facts : (first second other : Option Text) (json why : Bool) (device : Option Chip) (command : Chip → Text → Text → Option Command) (x : Command)
     → cond (is_none other && (not json && not why)) (on_device device (λ d. with_both first second (command d))) None ≡ Some x
     → (is_some first ≡ true) × ((is_some second ≡ true) × ((is_some other ≡ false) × ((json ≡ false) × (why ≡ false))))

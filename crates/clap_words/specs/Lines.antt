@@ -1,4 +1,4 @@
--- The program's command line as `clap` has it, and the words that are refused before it. Source: own.
+-- The program's command line as `clap` has it, and the words that are refused before. Source: own.
 use Rattle.std.specs.Prelude.{◌&&◌, ◌||◌, not, Bool, true, List, [], ◌∷◌, Some, codes}
 use Rattle.std.specs.Borrow.{Bor}
 use Rattle.std.specs.Str.{bytes_eq}

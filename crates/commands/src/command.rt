@@ -20,7 +20,7 @@ pub enum Command<'a> {
         certificate: &'a str,
         assume: Option<&'a str>,
     },
-    /// Writes the least certificate of a firmware, if the rounds end within so many steps.
+    /// Writes the least certificate of a firmware, if the rounds end within this many steps.
     Analyse {
         device: Device,
         firmware: &'a str,
@@ -42,7 +42,7 @@ pub enum Command<'a> {
         assume: Option<&'a str>,
         json: bool,
     },
-    /// Judges a certificate for a firmware, and prints where the bytes of its bound go.
+    /// Judges a certificate for a firmware, and prints the origin of its bound.
     Explain {
         device: Device,
         firmware: &'a str,
@@ -55,7 +55,7 @@ pub enum Command<'a> {
         firmware: &'a str,
         certificate: &'a str,
     },
-    /// Judges a certificate for a firmware, and prints where a step may be flagged, also with causes.
+    /// Judges a certificate for a firmware, and prints the words at which a step may be flagged, also with causes.
     Premises {
         device: Device,
         firmware: &'a str,
@@ -63,7 +63,7 @@ pub enum Command<'a> {
         assume: Option<&'a str>,
         why: bool,
     },
-    /// Judges a certificate for a firmware, and writes it, with the schedule of one of so many guided trials if it has none.
+    /// Judges a certificate for a firmware, and writes it, with the schedule of a guided trial if it has none.
     Attain {
         device: Device,
         firmware: &'a str,
@@ -71,7 +71,7 @@ pub enum Command<'a> {
         assume: Option<&'a str>,
         trials: u32,
     },
-    /// Runs a firmware with timers and receivers, for at most so many choices.
+    /// Runs a firmware with timers and receivers, for at most this many choices.
     Simulate {
         device: Device,
         firmware: &'a str,

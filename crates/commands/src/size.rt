@@ -21,7 +21,7 @@ impl Model for Size {
 }
 
 impl Size {
-    /// The size of so many functions.
+    /// The size of this many functions.
     pub fn new(count: u32) -> Size
         requires low { 1 ≤ count }
         requires high { count ≤ 2000 }
@@ -57,7 +57,7 @@ impl Model for ChoiceCount {
 }
 
 impl ChoiceCount {
-    /// So many choices.
+    /// This many choices.
     pub fn new(count: u32) -> ChoiceCount
         requires { count ≤ 16777216 }
         ensures { result ≡ count }

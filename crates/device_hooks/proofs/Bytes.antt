@@ -5,7 +5,7 @@ use Rattle.sb_base.specs.declared.digits.DigitFault.{DigitFault}
 use Rattle.sb_base.specs.Digits.{hex_answer}
 use Rattle.device_hooks.specs.Reading.{bytes_in}
 
--- bytes that were read before
+-- bytes read before these
 abbrev pub with_front : List ℕ → Option (List ℕ) → Option (List ℕ)
 with_front front due = option_map (λ bs. front ++ bs) due
 
@@ -13,7 +13,7 @@ front_next : (front : List ℕ) (b : ℕ) (d : Option (List ℕ)) → with_front
 front_next front b None = refl
 front_next front b (Some bs) = ap Some (sym (append_assoc front (b ∷ []) bs))
 
--- one byte more
+-- one more byte
 pub bytes_more : (front : List ℕ) (w : List ℕ) (ws rest : List (List ℕ)) (b : ℕ) (all : Option (List ℕ)) → ws ≡ w ∷ rest → Ok b ≡ hex_answer w 2
     → with_front front (bytes_in ws) ≡ all → with_front (front ++ b ∷ []) (bytes_in rest) ≡ all
 bytes_more front w ws rest b all e read is = sym (front_next front b (bytes_in rest)) ∙ rw (e, ← read) at is

@@ -1,4 +1,4 @@
--- The run that devices choose by themselves is one list of choices.
+-- The run that devices choose by themselves is unique.
 use Rattle.std.proofs.Common.{arith, suc, zero, ◌≡◌, refl, sym, ap, subst, ◌∙◌, ℕ, ◌-◌, ◌&&◌, ◌||◌, ◌==◌, not, length, inl, inr, Bool, true, false, List, [], ◌∷◌, Option, Some, None, slice_get}
 use Rattle.std.proofs.lemmas.List.{length-set}
 use Rattle.std.proofs.Math.ListN.{length-replicate}
@@ -40,7 +40,7 @@ first_as setup menu m timers taken now is =
     first_same (is_ready setup (stands_in menu) timers taken now) (is_ready setup (λ v. may_take m v false) timers taken now) 0 (length setup.sources)
     (λ k. ready_same (stands_in menu) (λ v. may_take m v false) timers (slice_get setup.sources k) _ now (may_as menu m is))
 
--- one who answers the first due source of a kind
+-- the rule that answers the first due source of a kind
 abbrev pub IsFirstDue : Answering → Setup → Bool → Type 0
 IsFirstDue answers setup timers =
     (now : ℕ) (taken : List ℕ) (menu : Menu) (answer : Option ℕ) → length taken ≡ length setup.sources → answers now taken menu answer → answer ≡ first_ready setup (stands_in menu) timers taken now
@@ -54,7 +54,7 @@ some_first a b n e = rw (← e) refl
 some_second : (a b : Option ℕ) (n : ℕ) → None ≡ a → Some n ≡ b → Some n ≡ or_else a b
 some_second a b n e f = rw (← e) f
 
--- both together answer what is picked
+-- both rules together answer what is picked
 either_picks : (first second : Answering) (setup : Setup) → IsFirstDue first setup true → IsFirstDue second setup false
     → (now : ℕ) (taken : List ℕ) (menu : Menu) (answer : Option ℕ) → length taken ≡ length setup.sources → Either first second now taken menu answer
     → answer ≡ or_else (first_ready setup (stands_in menu) true taken now) (first_ready setup (stands_in menu) false taken now)
@@ -145,7 +145,7 @@ module _ {F : Type 0} (g : Shared F (Bor Moment × (Bor Menu × Unit {0})) (Opti
         ready_takable setup menu timers n _ now (first_is (is_ready setup (stands_in menu) timers taken now) 0 _ n (sym (first_due_by now taken menu (Some n) counts h)));
   }
 
--- a hook that was made of a closure which answers so
+-- a hook of a closure that answers so
 pub first_due_at : {F : Type 0} {g : Shared F (Bor Moment × (Bor Menu × Unit {0})) (Option ℕ)} (h k : Setup × F) (timers : Bool) → IsHook g h.0 h.1 → h ≡ k
     → ((moment : Bor Moment) (menu : Bor Menu) (answer : Option ℕ) → length moment.now.taken.now ≡ length k.0.sources → g.post k.1 (moment, (menu, tt)) answer
     → answer ≡ first_ready k.0 (stands_in menu.now) timers moment.now.taken.now moment.now.step) → IsFirstDue (MayAnswer g h.1) k.0 timers
@@ -153,7 +153,7 @@ first_due_at {F} {g} h k timers hook same answers =
     let P : Setup × F → Type 0 = λ x. IsFirstDue (MayAnswer g x.1) k.0 timers in
     subst P (sym same) (first_due_by g k.1 k.0 timers answers)
 
--- what is told of the walk is what is told of the run of the devices alone
+-- the record of the walk is that of the run of the devices alone
 pub told : DepthIsKept → (first second : Answering) (setup : Setup) (words : Program) (A : List Entry) (n : ℕ) (m : Machine) (walk : WalkedRun) (end : Machine) → Walks (Either first second) setup words A n false m walk end
     → m ≡ starting (initial words setup) → IsFirstDue first setup true → IsFirstDue second setup false
     → ◌≡◌ {A = Report} (record { steps = walk.steps; depth = end.depth; stop = walk.stop }) (simulation_of words A setup n)

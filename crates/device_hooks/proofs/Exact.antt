@@ -1,4 +1,4 @@
--- A setup's text: what is read is spelled so, what is spelled is read, and where nothing is read no setup can go on.
+-- The text of a setup: reading and spelling are inverse, and if nothing is read no setup continues.
 use Rattle.std.proofs.Common.{ℕ, ◌+◌, ◌-◌, ◌<◌, ◌≤◌, ◌≡◌, List, [], ◌∷◌, ◌++◌, refl, ap, sym, ◌∙◌, arith, Option, Some, None, Result, Ok, Err, length, ◌⊎◌, inl, inr, codes, map, lit<, lit≤, subst, append-nil}
 use Rattle.std.proofs.lemmas.Slice.Eq.{bytes_eq-Decides}
 use Rattle.std.specs.List.{AllByRecursion}
@@ -131,7 +131,7 @@ one_text k a b fa fb e =
 
 -- ---- a refusal
 
--- a source for which a line is left
+-- a source, if a line is left for it
 record NextSource (left : ℕ) (ws : List (List ℕ)) : Type 0 where
   pub source : Source
   pub fits : IsSource source
@@ -145,7 +145,7 @@ end_is_no_kind (Bytes bs) e = cc
 end_is_no_source : (s : Source) → ending ≡ source_words s → ⊥
 end_is_no_source s e = end_is_no_kind s.kind (same_head_and_tail _ _ _ _ e).0
 
--- a line of other sources behind these sources is the end, or that of a source for which a line is left
+-- after these sources a line of other sources is the end, or a source with a line left for it
 last_or_source : (left : ℕ) (sources others : List Source) (ws : List (List ℕ)) (more : List (List (List ℕ))) → length others ≤ left → AllByRecursion IsSource others
     → source_lines others ≡ (map source_words sources ++ ws ∷ []) ++ more → (ws ≡ ending) ⊎ NextSource (left - length sources) ws
 last_or_source left [] [] ws more few fit e = inl (sym (same_head_and_tail ending ws [] more e).0)
@@ -165,7 +165,7 @@ no_end [] (s ∷ ss) e = nil_not_cons (source_words s) (source_lines ss) (sym e)
 no_end (r ∷ rs) [] e = end_is_no_source r (same_head_and_tail ending (source_words r) [] (map source_words rs ++ []) e).0
 no_end (r ∷ rs) (s ∷ ss) e = no_end rs ss (same_head_and_tail (source_words s) (source_words r) (source_lines ss) (map source_words rs ++ []) e).1
 
--- nothing stands behind the last line
+-- nothing follows the last line
 no_more : (sources others : List Source) (ws : List (List ℕ)) (more : List (List (List ℕ))) → source_lines others ≡ (source_lines sources ++ ws ∷ []) ++ more → ⊥
 no_more [] [] ws more e = nil_not_cons ws more (same_head_and_tail ending ending [] (ws ∷ more) e).1
 no_more [] (s ∷ ss) ws more e = end_is_no_source s (sym (same_head_and_tail (source_words s) ending (source_lines ss) (ws ∷ more) e).0)
@@ -209,7 +209,7 @@ stop_end setup l ls = λ ws more is b.
     let d = same_head_and_tail (filling b.setup.fill) (filling setup.fill) (source_lines b.setup.sources) ((source_lines setup.sources ++ ws ∷ []) ++ more) c.1 in
     no_more setup.sources b.setup.sources ws more d.1
 
--- where a text is refused, by place
+-- the refusal of a text, by place
 record StuckAt (p q : Place) : Type 0 where
   pub before : List (List (List ℕ))
   pub passed : Passes p (map whole before) q

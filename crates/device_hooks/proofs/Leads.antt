@@ -1,4 +1,4 @@
--- Runs that go on step by step.
+-- Runs that continue step by step.
 use Rattle.std.proofs.Common.{arith, suc, ◌≡◌, ◌≢◌, refl, sym, ap, subst, ◌∙◌, ℕ, ◌<◌, ◌≤◌, ◌-◌, ◌+◌, ◌++◌, length, Bool, true, List, [], ◌∷◌, Some, None}
 use Rattle.std.proofs.lemmas.List.{append-nil, length-append}
 use Rattle.basics.specs.Numbers.{less_none, less_one_more}
@@ -28,7 +28,7 @@ states_some : (words : Program) (A : List Entry) (cs : List Choice) (m : State) 
 states_some words A [] m = omega arith
 states_some words A (c ∷ cs) m = omega arith
 
--- one done step more
+-- one more step that is done
 one_step : (words : Program) (A : List Entry) (c : Choice) (cs : List Choice) (m s : State) → step words A m c ≡ Done s → steps_of words A (c ∷ cs) m ≡ suc (steps_of words A cs s)
 one_step words A c cs m s is =
     let some = states_some words A cs s in
@@ -39,7 +39,7 @@ module _ (answers : Answering) (setup : Setup) (words : Program) (A : List Entry
   abbrev pub Led : ℕ → Progress → Machine → List Choice → Progress → Machine → Type 0
   Led n p m cs last end = Leads answers setup words A n p m cs last end
 
-  -- a whole run, with so many done steps and this stop
+  -- a whole run with this many steps and this stop
   pub record Whole (n : ℕ) (p : Progress) (m : Machine) (cs : List Choice) (end : Machine) (steps : ℕ) (stop : Stop) : Type 0 where
     pub chooses : Chooses answers setup words A n p m.state cs
     pub run : IsRun words A cs m.state
@@ -47,13 +47,13 @@ module _ (answers : Answering) (setup : Setup) (words : Program) (A : List Entry
     pub steps_are : steps ≡ steps_of words A cs m.state
     pub stop_is : stop ≡ stop_of words A cs m.state
 
-  -- some first choices, and then more
+  -- a prefix, and then more
   leads_joined : (n : ℕ) (p : Progress) (m : Machine) (cs more : List Choice) (mid : Progress) (at : Machine) (last : Progress) (end : Machine) → Led n p m cs mid at → Led (n - length cs) mid at more last end → Led n p m (cs ++ more) last end
   leads_joined n p m [] more mid at last end h k = subst (λ (x : Progress). Led n x m more last end) h.0 (subst (λ (x : Machine). Led n mid x more last end) h.1 (subst (λ (x : ℕ). Led x mid at more last end) (less_none n) k))
   leads_joined n p m (c ∷ cs) more mid at last end h k =
       (h.0, h.1, h.2, h.3, h.4, h.5, h.6, leads_joined (n - 1) (next_on setup p h.2) (moved_on m (Done h.5)) cs more mid at last end h.7 (subst (λ (x : ℕ). Led x mid at more last end) (less_one_more n (length cs)) k))
 
-  -- some first choices, and then a whole run
+  -- a prefix, and then a whole run
   whole_joined : (n : ℕ) (p : Progress) (m : Machine) (cs more : List Choice) (mid : Progress) (at end : Machine) (steps : ℕ) (stop : Stop) → Led n p m cs mid at → Whole (n - length cs) mid at more end steps stop → Whole n p m (cs ++ more) end (length cs + steps) stop
   whole_joined n p m [] more mid at end steps stop h k =
       let here = subst (λ (x : Progress). Whole n x m more end steps stop) h.0 (subst (λ (x : Machine). Whole n mid x more end steps stop) h.1 (subst (λ (x : ℕ). Whole x mid at more end steps stop) (less_none n) k)) in

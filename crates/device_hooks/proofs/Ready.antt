@@ -35,7 +35,7 @@ first_is ready at (suc n) k e = elim (chosen (ready at) _ _ (Some k) e) [
   | inr h ↦ first_is ready (at + 1) n k h.1
 ]
 
--- where the same are ready, the first is the same
+-- if the same sources are ready, the first is the same
 pub first_same : (ready other : ℕ → Bool) (at n : ℕ) → ((k : ℕ) → ready k ≡ other k) → first_from ready at n ≡ first_from other at n
 first_same ready other at zero same = refl
 first_same ready other at (suc n) same = rw (same at, first_same ready other (at + 1) n same) refl

@@ -1,4 +1,4 @@
--- Sources: what is read as one is spelled so, and what is spelled is read.
+-- Reading and spelling of sources are inverse.
 use Rattle.std.proofs.Common.{ℕ, ◌+◌, ◌-◌, ◌≤◌, ◌<◌, ◌≡◌, ◌&&◌, List, [], ◌∷◌, ◌++◌, true, false, refl, ap, sym, ◌∙◌, arith, Option, Some, None, Result, Ok, Err, inl, inr, cond, codes, nat_le, map, length, lit<, subst, option_map}
 use Rattle.std.proofs.lemmas.Bool.Decides.{nat_tests}
 use Rattle.std.proofs.lemmas.Slice.Eq.{bytes_eq-Decides}
@@ -280,7 +280,7 @@ one_take k left at l ls ss q (Some (Some s)) is f e =
       passes = passes_more (record { at = at; rest = l ∷ ls }) (record { at = at + size_of l; rest = ls }) q (whole (source_words s) ∷ []) (map whole (source_lines front.0)) (passes_one at l (whole (source_words s)) ls line) more.passes;
     })
 
--- what is read as sources is their lines
+-- lines that are read as sources are their lines
 pub sources_take : WordLaws → (left at : ℕ) (ls : List TextLine) (ss : List Source) (q : Place) → sources_from left at ls ≡ Ok (ss, q) → SourcesRead left at ls ss q
 unfolding sources_from
 sources_take k left at [] ss q e = absurd (err_ok {A = List Source × Place} (record { at = at; rest = [] }) (ss, q) e)
@@ -289,7 +289,7 @@ sources_take k left at (l ∷ ls) ss q e =
 
 -- ---- a refusal
 
--- the next line is that of no source for which a line is left, and not the last one
+-- the next line is neither that of a source with a line left for it, nor the last one
 abbrev pub NoSource : ℕ → List TextLine → Type 0
 NoSource left [] = Unit {0}
 NoSource left (l ∷ ls) = ((s : Source) → IsSource s → 1 ≤ left → l ≡ whole (source_words s) → ⊥) × (l ≡ whole ending → ⊥)
@@ -334,7 +334,7 @@ one_stuck k left at l ls q (Some (Some s)) is f e =
       stop = let P : ℕ → Type 0 = λ n. NoSource n q.rest in subst P less stuck.stop;
     }
 
--- where sources are refused, none can come and no end
+-- if sources are refused, neither a source nor the end may follow
 pub sources_stuck : WordLaws → (left at : ℕ) (ls : List TextLine) (q : Place) → sources_from left at ls ≡ Err q → SourcesStuck left at ls q
 unfolding sources_from
 sources_stuck k left at [] q e =

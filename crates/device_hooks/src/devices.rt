@@ -59,7 +59,7 @@ impl Source {
         }
     }
 
-    // Whether requests are left after so many.
+    // Whether requests are left after this many.
     fn is_left(&self, taken: u32) -> bool
         ensures { result ≡ is_left self.now.kind taken }
     {
@@ -79,7 +79,7 @@ impl Source {
         }
     }
 
-    /// Whether a request is pending at this step, after so many were taken. No request is dropped.
+    /// Whether a request is pending at this step, after this many were taken. No request is lost.
     pub fn is_due(&self, taken: u32, step: u32) -> bool
         ensures { result ≡ is_due self.now taken step }
     {
@@ -106,7 +106,7 @@ impl Model for Devices {
 /// Why a text is refused, or not read.
 #[derive(Clone, Copy, Drop)]
 pub enum DevicesFault {
-    /// No text of devices goes on with the line at this offset; or a line is missing, and this is the text's length.
+    /// No text of devices continues with the line at this offset. If a line is missing, this is the text's length.
     Malformed(usize),
     /// Out of memory.
     Memory,
@@ -142,8 +142,8 @@ impl Devices {
         Devices { fill, sources }
     }
 
-    /// Parses a text of devices. `Malformed` is returned exactly when the text is none, with the offset of the first line at which none can
-    /// go on, or with the text's length if a line is missing. Source: own.
+    /// Parses a text of devices. Fails with `Malformed` exactly if the text is none, with the offset of the first line with which none
+    /// continues, or with the text's length if a line is missing. Source: own.
     pub fn read(alloc: Global, text: &[u8]) -> Result<Devices, DevicesFault>
         ensures exact { Answers (λ d. d) fault.Memory result (setup_in text.now) }
         ensures told { IsSetupDueUnlessMemory text.now result }
@@ -190,7 +190,7 @@ impl Devices {
         self.sources[n].is_timer()
     }
 
-    /// Whether a request of source `n`, of which so many were taken, is pending at this step.
+    /// Whether a request of source `n` is pending at this step, after this many were taken.
     pub fn due(&self, n: usize, taken: u32, step: u32) -> bool
         requires { n < length self.now.sources }
         ensures { option_map (λ s. is_due s taken step) (slice_get self.now.sources n) ≡ Some result }

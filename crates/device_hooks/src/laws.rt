@@ -5,8 +5,7 @@ ghost use Rattle.device_hooks.specs.Laws.{SimulationsAreRuns, SimulationsAreBoun
 
 use line_reading::laws::word_laws;
 
-/// What is read is spelled so, all that is spelled is read, and a refused text is stuck at the reported line. No text is that of two
-/// setups.
+/// Reading and spelling are inverse, and a refusal has the first line with which no text continues. No text is that of two setups.
 pub fn reading_is_exact()
     ensures read { ReadSetupIsSpelled }
     ensures spelled { SpelledSetupIsRead }

@@ -133,7 +133,7 @@ fn source_of(alloc: Global, text: &[u8]) -> Result<Option<Source>, AllocError>
     }
 }
 
-// Parses a line: a source, or none for `end`. So many lines are left for sources.
+// Parses a line: a source, or none for `end`. This many lines are left for sources.
 #[tactic(auto, unfolding(crate::specs::Reading::part_by))]
 fn part_of(alloc: Global, text: &[u8], left: u32) -> Result<Option<Option<Source>>, AllocError>
     ensures exact { IfOk result (λ o. o ≡ part_by left text.now) }

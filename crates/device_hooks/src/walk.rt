@@ -80,7 +80,7 @@ fn keep(choices: &mut Choices, keeps: bool, choice: Choice) -> Result<(), AllocE
     Ok(())
 }
 
-// Steps the machine by the hooks' choices up to the first stop, or so many times. Returns the choices if `keeps`.
+// Steps the machine by the hooks' choices up to the first stop, or this many times. Returns the choices if `keeps`.
 pub(crate) fn walk<
     F: Fn(&Moment<'_>, &Menu) -> Option<usize>,
     G: Fn(&Moment<'_>, &Menu) -> Option<usize>,

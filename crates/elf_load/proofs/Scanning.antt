@@ -96,17 +96,17 @@ unended tail m is none =
         let same : take m tail ≡ tail = take_all m tail le in
         ap named_of (endless tail (subst (λ (l : List ℕ). HasNoZero l (length l)) same none))
 
--- the first of them is
+-- the first byte is zero
 pub nameless : (tail : List ℕ) (m : ℕ) → 0 < length (take m tail) → (get_or (take m tail) 0 0 == 0) ≡ true → named_of (name_before_zero tail) ≡ None
 nameless tail m lt zeroed =
     subst (λ (l : List ℕ). named_of (name_before_zero l) ≡ None) (whole tail m) (ap named_of (ended (take m tail) (drop m tail) 0 lt refl zeroed))
 
--- a byte before it can't stand in a name
+-- a byte before it may not be in a name
 pub unprintable : (tail : List ℕ) (m n : ℕ) → n < length (take m tail) → HasNoZero (take m tail) n → list_all is_name_byte (take n (take m tail)) ≡ false → named_of (name_before_zero tail) ≡ None
 unprintable tail m n lt none all =
     subst (λ (l : List ℕ). named_of (name_before_zero l) ≡ None) (whole tail m) (ap named_of (spoiled (take m tail) (drop m tail) n (omega (arith, lt)) none all))
 
--- all bytes before it can, and they are not too many
+-- all bytes before it may, and there are not too many
 pub is_named : (tail : List ℕ) (m n : ℕ) → m ≤ length tail → m ≤ 1025 → 0 < n → n < length (take m tail) → list_all is_name_byte (take n (take m tail)) ≡ true → (get_or (take m tail) n 0 == 0) ≡ true
     → (n ≤ length tail) × (named_of (name_before_zero tail) ≡ Some (take n tail))
 is_named tail m n le most low lt all zeroed =

@@ -202,13 +202,13 @@ instance_is words A nodes insts inst low high g is span places entries =
       );
     }
 
--- what a node with a whole stack pointer adds
+-- the places and edges that a node with a whole stack pointer adds
 pub adds_closed : (insts : List InstKey) (at : ℕ) (ways : List Entering) (sp : SpForm) (o : ℕ) (ps ps' : List Place) (es es' : List Entered)
     → sp ≡ Closed o → ps' ≡ ps ++ record { node = at; offset = o } ∷ [] → es' ≡ es ++ map (entry_of insts (record { node = at; offset = o })) ways
     → AddsAt insts at ways sp ps es ps' es'
 adds_closed insts at ways sp o ps ps' es es' is places entries = subst (λ (f : SpForm). AddsAt insts at ways f ps es ps' es') (sym is) (places, entries)
 
--- the instance that is made of these lists
+-- the instance with these lists
 pub instance_made : (words : Program) (A : List Entry) (nodes : List Node) (insts : List InstKey) (key inst : InstKey) (low high at : ℕ) (places ps : List Place) (entries es : List Entered)
     → key ≡ inst → IsSpan nodes key low high → at ≡ high → ps ≡ places → es ≡ entries
     → ((p : Place) → Contains places p ↔ IsPlaceBetween nodes low at p) → ((e : Entered) → Contains entries e ↔ IsEntryBetween words A nodes insts low at e)

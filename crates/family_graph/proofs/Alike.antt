@@ -38,7 +38,7 @@ not_less x e = let q : inst_cmp x x ≡ Equal = (keys_are_ordered.equal_insts x 
 pub both_ways : (x y : InstKey) → inst_cmp x y ≡ Less → inst_cmp y x ≡ Less → ⊥
 both_ways x y a b = not_less x (keys_are_ordered.insts.trans x y x a b)
 
--- the least of two such lists is one
+-- the least of two such lists is the same
 pub heads : (x y : InstKey) (xs ys : List InstKey) → AllByRecursion (λ z. inst_cmp x z ≡ Less) xs → AllByRecursion (λ z. inst_cmp y z ≡ Less) ys → Contains (y ∷ ys) x → Contains (x ∷ xs) y → x ≡ y
 heads x y xs ys hx hy in_y in_x =
     elim (Contains-append_cases (y ∷ []) ys x in_y) [

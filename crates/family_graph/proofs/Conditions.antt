@@ -46,7 +46,7 @@ not_below (suc x) o later e =
     let less : Greater ≡ Less = subst (λ (r : Ordering). ordering_then r o ≡ Less) (sym above) e in
     absurd cc
 
--- nothing is below so many zeros
+-- nothing comes before a list of this many zeros
 zeros_least : (xs : List ℕ) → slice_cmp nat_cmp xs (map (λ x. 0) xs) ≡ Less → ⊥
 zeros_least [] e = absurd cc
 zeros_least (x ∷ xs) e = not_below x (slice_cmp nat_cmp xs (map (λ y. 0) xs)) (zeros_least xs) e
@@ -67,7 +67,7 @@ root_at insts (suc k) within ascending is =
     let e : get_or insts (suc k) root_inst ≡ root_inst = get_or_from_slice_get insts (suc k) root_inst root_inst is in
     absurd (root_least (get_or insts 0 root_inst) (subst (λ (y : InstKey). inst_cmp (get_or insts 0 root_inst) y ≡ Less) e less))
 
--- the nodes of a certificate have one expansion, of which the conditions hold
+-- the nodes of a certificate have one expansion, which meets the conditions
 pub meets_conditions : (words : Program) (A : List Entry) (c : Claim) → FilledOrMissing → IsSound words A c → (nodes : List Node) → IsFilled words A c.nodes nodes
     → MeetsConditions words A c nodes
 meets_conditions words A c law sound nodes filled = subst (MeetsConditions words A c) (law.one words A c.nodes sound.nodes nodes sound.expanded filled) sound.meets
@@ -76,7 +76,7 @@ module _ (words : Program) (A : List Entry) (c : Claim) (nodes : List Node) (mee
   member : (n : Node) (at : ℕ) → slice_get nodes at ≡ Some n → Contains nodes n
   member n at e = member_of nodes n at e
 
-  -- an instance that is entered has its first node
+  -- an entered instance has its first node
   landed : (n : Node) (way : EdgeKind) (into : InstKey) (back : ℕ) → Contains nodes n → Enters words A n way into back
       → IsCovered nodes (record { key = entry_key into; state = entered n.state })
   landed n way into back has enters = meets.edges n (record { kind = way; to = entry_key into; state = entered n.state }) has (entering way into back enters)
@@ -118,7 +118,7 @@ module _ (words : Program) (A : List Entry) (c : Claim) (nodes : List Node) (mee
               (subst (λ (o : ℕ). o + 2 + need_in c.instances h.into ≤ need_in c.instances h.inst) (ap offset_of h.entry.closed) n));
         }
 
-    -- the covered first node of an instance is a place of it
+    -- the covered first node of an instance is its place
     place_at : (inst : InstKey) (i : ℕ) → slice_get (insts_of gs) i ≡ Some inst → (s : _) → IsCovered nodes (record { key = entry_key inst; state = s }) → HasSome gs i
     place_at inst i e s covered =
         let n : Node = record { key = entry_key inst; state = covered.state } in

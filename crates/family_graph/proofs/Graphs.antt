@@ -27,7 +27,7 @@ pub keys_long : (gs : List GraphInst) → length (insts_of gs) ≡ length gs
 keys_long [] = refl
 keys_long (g ∷ gs) = ap suc (keys_long gs)
 
--- lists with the same items are the same
+-- lists with the same items are equal
 lists_same : (xs ys : List InstKey) → length xs ≡ length ys → ((i : ℕ) (x : InstKey) → slice_get ys i ≡ Some x → slice_get xs i ≡ Some x) → xs ≡ ys
 lists_same [] [] e h = refl
 lists_same [] (y ∷ ys) e h = absurd (omega (arith, e))

@@ -1,4 +1,4 @@
--- Instances by their numbers.
+-- Instances by number.
 use Rattle.std.proofs.Common.{arith, refl, sym, ap, subst, ◌∙◌, ◌≡◌, ℕ, zero, suc, ◌+◌, ◌-◌, ◌<◌, ◌≤◌, inl, inr, Bool, false, true, List, [], ◌∷◌, ◌++◌, length, length-append, Option, Some, None, get_or, slice_get, slice_index, IsTrue}
 use Rattle.std.proofs.lemmas.Option.{slice_get_within, slice_get-get_or, none-some, same_Some}
 use Rattle.std.specs.Option.{option_map}
@@ -28,7 +28,7 @@ pub less_differs : (a b : InstKey) → inst_cmp a b ≡ Less → same_inst a b �
 unfolding same_inst
 less_differs a b e = ap is_eq e
 
--- an instance's number is where it stands
+-- an instance's number is its place
 pub number_is : (xs : List InstKey) (i : ℕ) (x : InstKey) → IsStrictlySortedBy inst_cmp xs → slice_get xs i ≡ Some x → number_in xs x ≡ i
 unfolding IsStrictlySortedBy
 number_is [] i x h e = absurd (none-some x e)
@@ -162,7 +162,7 @@ module _ (nodes : List Node) where
         sym (number_is insts (slice_index numbers low) inst are.ascending (subst (λ (x : InstKey). slice_get insts (slice_index numbers low) ≡ Some x) same (are.named low a inside first))),
       )
 
--- an instance that has a node stands at its number
+-- an instance with a node is at its number
 pub number_there : (nodes : List Node) (insts : List InstKey) (numbers : List ℕ) (inst : InstKey) → AreInstNumbers nodes (length nodes) insts numbers → HasInst nodes inst
     → slice_get insts (number_in insts inst) ≡ Some inst
 number_there nodes insts numbers inst are has =

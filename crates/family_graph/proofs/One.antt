@@ -1,4 +1,4 @@
--- A family has one deepest chain.
+-- The deepest chain of a family is unique.
 use Rattle.std.proofs.Common.{sym, ap, subst, ◌∙◌, ◌≡◌, ℕ, List, slice_index}
 use Rattle.avr_model.specs.declared.assumption.Entry.{Entry}
 use Rattle.avr_model.specs.Devices.{Program}

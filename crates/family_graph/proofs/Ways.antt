@@ -1,4 +1,4 @@
--- In which ways nodes enter instances, node by node.
+-- Entries of instances by nodes, node by node.
 use Rattle.std.proofs.Common.{◌≡◌, refl, sym, ap, ◌∙◌, subst, ℕ, zero, suc, ◌+◌, ◌<◌, ⊎_elim, Bool, true, false, if◌then◌else◌, List, [], ◌∷◌, ◌++◌, length, get_or, Option, Some, None, slice_get, Contains, arith}
 use Rattle.std.proofs.lemmas.List.{length_push}
 use Rattle.std.proofs.lemmas.Option.{slice_get_within}
@@ -33,7 +33,7 @@ kind_enters : (words : Program) (A : List Entry) (n : Node) (way : EdgeKind) (in
 kind_enters words A n way inst back (by_call offset site f sp has) = refl
 kind_enters words A n way inst back (by_interrupt offset v clears f sp i delay on allowed dog) = refl
 
--- the number of a key that is there
+-- the number of an existing key
 place_there : (k : NodeKey) (nodes : List Node) → HasKey nodes k → (at : ℕ) × (place_of k nodes ≡ Some at)
 place_there k nodes h = by (place_of k nodes) refl
   where
@@ -115,13 +115,13 @@ module _ (words : Program) (A : List Entry) (nodes : List Node) (peopled : IsPeo
 pub ways_none : (words : Program) (A : List Entry) (nodes : List Node) → AreWaysTo words A nodes 0 []
 ways_none words A nodes = record { count_is = refl; each = λ at n lt. absurd (omega (arith, lt)) }
 
--- a list that is read by its number
+-- a list read by its number
 pub read_list : {X : Type 0} (lists : List (List X)) (i : ℕ) (x : List X) → i < length lists → x ≡ get_or lists i x → x ≡ get_or lists i []
 read_list [] i x lt is = absurd (omega (arith, lt))
 read_list (g ∷ lists) zero x lt is = is
 read_list (g ∷ lists) (suc i) x lt is = read_list lists i x (omega (arith, lt)) is
 
--- the ways of the node of this number, as they are read
+-- the entries of the node of this number, as read
 pub ways_at : (words : Program) (A : List Entry) (nodes : List Node) (all : List (List Entering)) → AreWays words A nodes all → (at : ℕ) (n : Node) → slice_get nodes at ≡ Some n
     → (item ways : List Entering) → item ≡ get_or all at item → ways ≡ item → AreWaysOf words A n ways
 ways_at words A nodes all are at n e item ways read is =

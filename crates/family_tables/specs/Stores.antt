@@ -14,11 +14,11 @@ use Rattle.edge_rules.specs.Families.{RankedFamily}
 use Rattle.clear_laws.specs.Held.{is_guarded_push}
 use Rattle.clear_laws.specs.Clear.{is_clear}
 
--- a call of the next word makes room for two bytes; `in r28, 0x3d`; `sts 0x08FE, r0` onto the second byte; a jump to itself
+-- a call of the next word makes room for two bytes; `in r28, 0x3d`; `sts 0x08FE, r0`, onto the second; a jump to itself
 abbrev pub over_room : List ℕ
 over_room = 0xD000 ∷ 0xB7CD ∷ 0x9200 ∷ 0x08FE ∷ 0xCFFF ∷ replicate 16379 0xFFFF
 
--- the same, but two registers are pushed
+-- the same, where two registers are pushed
 abbrev pub over_pushed : List ℕ
 over_pushed = 0x920F ∷ 0x920F ∷ 0x9200 ∷ 0x08FE ∷ 0xCFFF ∷ replicate 16379 0xFFFF
 

@@ -1,5 +1,5 @@
-//! Tables of whole families: edges, nesting, states that are left out, verdicts, and trials. Found certificates and their reports are in
-//! tests/end_to_end.
+//! Tables of whole families: edges, nesting, which states are left out, verdicts, and trials. Certificates that are found, and what is
+//! told of them, stand in tests/end_to_end.
 #![tactic(auto)]
 
 #[cfg(test)]

@@ -269,7 +269,7 @@ led_more words A nodes shown at n is landings exact leads are = record {
 all_written : (xs ys : List Lead) (n : ℕ) → n ≡ length xs → length ys ≡ length xs → take n (ys ++ drop (length ys) xs) ≡ ys
 all_written xs ys n size same = grind (arith, common_steps)
 
--- the same of what is written back
+-- after writing back
 pub led_written : (words : Program) (A : List Entry) (nodes : List Node) → AreShown nodes → (at : ℕ) (n : Node) → slice_get nodes at ≡ Some n → (landings : List Landing)
     → AreLandingsOf words A nodes n landings → (leads ys zs : List Lead) (size : ℕ) → AreLeads words A nodes at leads → zs ≡ leads
     → ys ≡ fold (noted at) zs landings → size ≡ length leads → AreLeads words A nodes (at + 1) (take size (ys ++ drop (length ys) leads))

@@ -112,8 +112,8 @@ fn ask_nesting(
     check_nesting(flash, nesting)
 }
 
-// Visits nodes, the least offset and word first, until the worklist is empty. The nesting is checked on the way, since a cycle ends the
-// rounds early.
+// Looks at nodes, the least offset and word first, until none waits. How instances nest is asked on the way, since the rounds are stopped
+// soon where they don't.
 fn walk(
     task: &Task<'_>,
     table: &mut Table,
@@ -139,8 +139,7 @@ fn walk(
     }
 }
 
-// Checks with new notes whether the rounds end at the family. `drop` releases the notes: a call is one step of the proof, whatever they
-// own.
+// Whether the rounds end at the family, with notes of its own. `drop` lets go of these: a call is one step of the proof, whatever they own.
 fn is_end(task: &Task<'_>, table: &Table, counted: u64) -> Result<(), Refusal>
     requires made { IsMade task.now.flash.now task.now.assumptions.now table.now }
     requires count { counted ≡ cells table.now }
@@ -154,7 +153,7 @@ fn is_end(task: &Task<'_>, table: &Table, counted: u64) -> Result<(), Refusal>
     told
 }
 
-// Worklist iteration from an empty family and with new notes. Returns the number of the family's cells.
+// The walk from no nodes, none of which waits, with notes of its own: the number of the family's cells.
 fn walked(task: &Task<'_>, table: &mut Table) -> Result<u64, Refusal>
     requires { table.old ≡ empty }
     ensures made { OnOk result (IsMade task.now.flash.now task.now.assumptions.now table.new) }
@@ -172,7 +171,7 @@ fn walked(task: &Task<'_>, table: &mut Table) -> Result<u64, Refusal>
     }
 }
 
-// Worklist iteration from an empty family to one at which the rounds end.
+// The walk from an empty family to one at which the rounds end.
 fn walk_to_end(task: &Task<'_>, table: &mut Table) -> Result<(), Refusal>
     requires { table.old ≡ empty }
     ensures { OnOk result (AreRoundsFound task.now.flash.now task.now.assumptions.now None table.new) }
@@ -190,8 +189,8 @@ pub fn ordered_family(task: &Task<'_>) -> Result<Table, Refusal>
     walk_to_end(task, &mut table).and(Ok(table))
 }
 
-/// The family at which the rounds end, or the reason why they end at none within the budget. With a budget only rounds run. Without one
-/// they begin in a hurry; if they are abandoned, the worklist is tried, and if that fails, the rounds run to their end.
+/// The family at which the rounds end, or why they end at none within the budget. With a budget the rounds alone tell this. Without one they
+/// begin in a hurry; where they are left, the other order is tried, and where that gives nothing, they go to their end.
 pub fn found_family(task: &Task<'_>, steps: Option<u64>) -> Result<Table, Refusal>
     ensures found { IfOk result (λ f. AreRoundsFound task.now.flash.now task.now.assumptions.now steps f) }
     ensures why_not { IfErr result (λ r. IsWhyNot task.now.flash.now task.now.assumptions.now steps r) }

@@ -86,14 +86,14 @@ fn spend(steps: Option<u64>, left: Option<u64>) -> Result<Option<u64>, Refusal>
     }
 }
 
-// Whether rounds in a hurry are abandoned: many of this many visits were repeated ones.
+// Whether the rounds are to be left, in a hurry: many of so many looks were at nodes that had been looked at before.
 fn is_late(hurry: bool, looks: usize, table: &Table) -> bool {
     hurry && looks.saturating_sub(256) > table.len()
 }
 
-// The rounds, from an empty table and empty notes: the family at which they end, or the reason why they end at none within the budget. In
-// a hurry they are abandoned, as if memory ran out, once they visit nodes again and again. The caller owns both, so each early exit here
-// drops only the list of nodes.
+// The rounds, on a table and notes that are empty: the family at which they end, or why they end at none within the budget. In a hurry they
+// are left as for want of memory once they look at nodes again and again. Their caller owns both, so that each early end here lets go of the
+// work at most.
 fn go_on(
     task: &Task<'_>,
     steps: Option<u64>,
@@ -125,8 +125,8 @@ fn go_on(
     }
 }
 
-/// The family at which the rounds end, or the reason why they end at none within the budget. In a hurry they are abandoned, as if memory
-/// ran out, once they visit nodes again and again.
+/// The family at which the rounds end, or why they end at none within the budget. In a hurry the rounds are left, as for want of memory, once
+/// they look at nodes again and again.
 pub fn least_family(task: &Task<'_>, steps: Option<u64>, hurry: bool) -> Result<Table, Refusal>
     ensures found { IfOk result (λ f. AreRoundsFound task.now.flash.now task.now.assumptions.now steps f) }
     ensures why_not { IfErr result (λ r. IsWhyNot task.now.flash.now task.now.assumptions.now steps r) }

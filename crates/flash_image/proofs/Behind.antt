@@ -1,4 +1,4 @@
--- What stands behind a device's flash: nothing, or a least word.
+-- The words behind a device's flash: all erased, or a first one that isn't.
 use Rattle.std.proofs.Common.{◌≡◌, ◌≢◌, ◌<◌, ◌+◌, ◌-◌, ◌==◌, ℕ, zero, suc, not, Bool, true, false, List, [], ◌∷◌, length, take, drop, slice_index, Some, None, cond, refl, sym, ap, ◌∙◌, arith}
 use Rattle.std.specs.List.{position_from}
 use Rattle.std.proofs.lemmas.Bool.Decides.{nat_tests}
@@ -14,7 +14,7 @@ use Rattle.avr_model.proofs.AllLaws.{devices_are_alike}
 abbrev is_written : ℕ → Bool
 is_written w = not (w == 0xFFFF)
 
--- the place of the first written word, where the list begins at one
+-- the place of the first written word, in a list that begins with one
 all_erased : (xs : List ℕ) (at : ℕ) → ((k : ℕ) → k < length xs → slice_index xs k ≡ 0xFFFF) → position_from is_written at xs ≡ None
 all_erased [] at f = refl
 all_erased (x ∷ xs) at f =

@@ -13,7 +13,7 @@ use Rattle.pair_domain.specs.Marks.{mark_below, mark_above}
 use Rattle.flash_image.specs.Marked.{IsTable, AreListed, IsListOf}
 use Rattle.flash_image.proofs.Marked.{below_is, above_is}
 
--- what is marked is in the table
+-- marked numbers are in the table
 on_inside : (table : List Bool) (k : ℕ) → get_or table k false ≡ true → k < length table
 on_inside [] k e = absurd (let wrong : false ≡ true = e in cc)
 on_inside (b ∷ t) zero e = omega arith

@@ -1,4 +1,4 @@
--- What a program loads into registers, told by a table, and that no marks come from behind its last written word.
+-- The table of bytes that a program loads into registers. No marks come from behind its last written word.
 use Rattle.std.proofs.Common.{◌≡◌, ◌≢◌, ⊎_elim, ℕ, zero, suc, ◌+◌, ◌*◌, ◌/◌, ◌%◌, ◌<◌, ◌≤◌, Bool, true, false, eqb, List, [], ◌∷◌, ◌++◌, length, get_or, set, map, replicate, Option, Some, None, subst, arith, refl, sym, ap, ◌∙◌}
 use Rattle.std.specs.Prelude.{◌||◌, ◌&&◌, if◌then◌else◌, slice_index}
 use Rattle.std.specs.List.{list_any}
@@ -54,12 +54,12 @@ all_marked words start now n flash le erased is =
 
 -- ---- noting what is loaded
 
--- a whole table, which tells what the first n words load
+-- a whole table with the bytes that the first n words load
 pub record AreLoadsNoted (words : Program) (n : ℕ) (table : List Bool) : Type 0 where
   pub size : length table ≡ 8192
   pub tells : AreLoadsBelow n words table
 
--- before the first
+-- no word so far
 pub noted_none : (words : Program) (table : List Bool) → table ≡ replicate 8192 false → AreLoadsNoted words 0 table
 noted_none words table is = record {
   size = ap length is ∙ length-replicate 8192 false;
@@ -101,7 +101,7 @@ note_long : (t : Bool) (table : List Bool) (m : ℕ) → length (if t then set t
 note_long true table m = length-set table m true
 note_long false table m = refl
 
--- one more word, which is one of a register and a byte
+-- one more word, which has a register and a byte
 pub noted_more : (words : Program) (n : ℕ) (table next : List Bool) (x : ImmediateInstr) → AreLoadsNoted words n table → x.byte < 256 → Some x ≡ immediate_at words n
     → next ≡ noted table (Some x) → AreLoadsNoted words (n + 1) next
 noted_more words n table next x so_far byte at is = record {
@@ -117,7 +117,7 @@ pub none_found : (found at : Option ImmediateInstr) → ((x : ImmediateInstr) �
 none_found None at never is = is
 none_found (Some x) at never is = absurd (never x refl)
 
--- or isn't
+-- one more word, which has not
 pub noted_no_more : (words : Program) (n : ℕ) (table next : List Bool) → AreLoadsNoted words n table → None ≡ immediate_at words n → next ≡ table → AreLoadsNoted words (n + 1) next
 noted_no_more words n table next so_far at is = record {
   size = ap length is ∙ so_far.size;
@@ -168,7 +168,7 @@ mapped_tell low k (x ∷ xs) low_lt =
     ∙ ap (λ (b : Bool). (eqb (k % 256) low && eqb x (k / 256)) || b) (mapped_tell low k xs low_lt)
     ∙ both_with (eqb (k % 256) low) (eqb x (k / 256)) (list_any (λ (n : ℕ). eqb n (k / 256)) xs)
 
--- the number, where it is told
+-- the number, if the table has it
 abbrev pub if_told : List Bool → ℕ → ℕ → List ℕ
 if_told table p h = if get_or table (256 * p + h) false then h ∷ [] else []
 
@@ -203,7 +203,7 @@ told table p (suc n) m lt = list_any-append (λ (k : ℕ). eqb k m) (joined_belo
         ap (λ (b : Bool). b || list_any (λ (k : ℕ). eqb k m) (if_told table p n)) (none_told table p n m ge)
         ∙ ap (λ (h : ℕ). list_any (λ (k : ℕ). eqb k m) (if_told table p h)) (let e : n ≡ m = omega (arith, lt, ge) in e) ∙ its_number (get_or table (256 * p + m) false) m
 
--- the mark of a low and a high byte, where the high one is told
+-- the mark of a low and a high byte, if the table has the high one
 abbrev pub high_marks : List Bool → ℕ → ℕ → ℕ → List ℕ
 high_marks table p low h = map (λ (high : ℕ). 256 * high + low) (if_told table p h)
 

@@ -1,4 +1,4 @@
--- Tables of marks, and what they tell of intervals.
+-- Tables of marks, and widening by them.
 use Rattle.std.proofs.Common.{◌≡◌, ◌≢◌, ◌⊎◌, inl, inr, ⊎_elim, ℕ, zero, suc, ◌+◌, ◌<◌, ◌≤◌, max, min, nat_le, Bool, true, false, eqb, List, [], ◌∷◌, ◌++◌, length, get_or, set, map, replicate, subst, arith, refl, sym, ap, ◌∙◌, append_assoc}
 use Rattle.std.specs.Prelude.{◌||◌, if◌then◌else◌}
 use Rattle.std.specs.List.{list_any}
@@ -45,7 +45,7 @@ marked_tells (m ∷ ms) table k lt =
     ∙ ap (λ (b : Bool). list_any (λ n. eqb n k) ms || b) (set_tells table m k lt)
     ∙ turned (list_any (λ n. eqb n k) ms) (eqb m k) (get_or table k false)
 
--- in a table in which nothing was marked
+-- from a table without marks
 pub table_of : (ms : List ℕ) (table : List Bool) → table ≡ marked (replicate 65536 false) ms → IsTable ms table
 table_of ms table is =
     record {
@@ -65,7 +65,7 @@ pub joined_more : (n : ℕ) (f : ℕ → List ℕ) → joined_below (n + 1) f �
 unfolding joined_below
 joined_more n f = ap (λ (m : ℕ). joined_below m f) (let e : n + 1 ≡ suc n = omega arith in e)
 
--- before the first
+-- no list so far
 pub marked_none : (start now : List Bool) (front : List ℕ) (f : ℕ → List ℕ) → now ≡ marked start front → now ≡ marked start (front ++ joined_below 0 f)
 marked_none start now front f is = is ∙ sym (marked_append start front (joined_below 0 f) ∙ ap (marked (marked start front)) (joined_none f))
 

@@ -1,4 +1,4 @@
--- What is kept of a word is what it says.
+-- The cached form of a word is its decoded form.
 use Rattle.std.proofs.Common.{◌≡◌, ℕ, true, List, length, nat_lt, slice_index_or, refl, sym, ap, ◌∙◌}
 use Rattle.std.proofs.lemmas.Option.{slice_get_read}
 use Rattle.std.specs.Prelude.{slice_get}

@@ -7,28 +7,28 @@ use Rattle.avr_model.specs.Marks.{joined_below, immediate_at, loaded_byte, marks
 use Rattle.avr_model.specs.Sites.{loads}
 use Rattle.avr_model.specs.Devices.{Program}
 
--- the table with these numbers marked, too
+-- the table with these numbers marked too
 abbrev pub marked : List Bool → List ℕ → List Bool
 marked table [] = table
 marked table (m ∷ ms) = marked (slice_set table m true) ms
 
--- the table tells of each number whether it is one of these
+-- the table has exactly these numbers
 pub record IsTable (ms : List ℕ) (table : List Bool) : Type 0 where
   pub count : length table ≡ 65536
   pub each : (m : ℕ) → m < 65536 → slice_index_or table m false ≡ list_any (λ n. n == m) ms
 
--- the numbers that a table marks, ascending
+-- the marked numbers of a table, ascending
 pub record AreListed (table : List Bool) (list : List ℕ) : Type 0 where
   pub ascending : IsNonDecreasingBy (λ m. m) list
   pub exact : (m : ℕ) → Contains list m ↔ (slice_index_or table m false ≡ true)
 
--- the list has these numbers, ascending and each once
+-- the list has these numbers, ascending and without repeats
 pub record IsListOf (ms list : List ℕ) : Type 0 where
   pub table : List Bool
   pub tells : IsTable ms table
   pub listed : AreListed table list
 
--- there is no list yet, or it is that of the program's marks
+-- there is no list yet, or it has the program's marks
 abbrev pub AreMarksKept : Program → List ℕ → Type 0
 AreMarksKept words list = 0 < length list → IsListOf (marks words) list
 
@@ -41,10 +41,10 @@ noted table (Some x) = if loads x.op then slice_set table (256 * x.register + x.
 abbrev pub loaded_below : Program → ℕ → ℕ → List ℕ
 loaded_below words p n = joined_below n (λ a. loaded_byte p (immediate_at words a))
 
--- the table tells of each byte and register whether one of the first n words loads it
+-- the table has the bytes that the first n words load, by register
 abbrev pub AreLoadsBelow : ℕ → Program → List Bool → Type 0
 AreLoadsBelow n words table = (p b : ℕ) → p < 32 → b < 256 → slice_index_or table (256 * p + b) false ≡ list_any (λ m. m == b) (loaded_below words p n)
 
--- the table tells of each byte and register whether the program loads it
+-- the table has the bytes that the program loads, by register
 abbrev pub AreLoads : Program → List Bool → Type 0
 AreLoads words table = AreLoadsBelow (length words) words table

@@ -1,15 +1,15 @@
--- A flash that is narrowed to a device.
+-- Narrowing a flash to a device.
 use Rattle.std.specs.Prelude.{ℕ, ◌≡◌, ◌==◌, not, List, length, take, drop, Option, Some, None}
 use Rattle.std.specs.List.{position_from}
 use Rattle.avr_model.specs.declared.device.Device.{Device}
 use Rattle.avr_model.specs.Devices.{Program, words_of}
 use Rattle.avr_model.specs.Image.{WORDS, IsNarrowed, IsOutside}
 
--- the least word behind a device's flash that isn't erased, where there is one
+-- the first word behind a device's flash that isn't erased, if there is one
 abbrev pub outside_word : Device → List ℕ → Option ℕ
 outside_word device all = position_from (λ w. not (w == 0xFFFF)) (words_of device) (drop (words_of device) all)
 
--- Words of the greatest flash are narrowed to their first ones, just where no word is outside; and the word outside is one.
+-- The greatest flash's words are narrowed to the first ones exactly if no word is outside. The word outside is unique.
 pub record NarrowingIsExact : Type 0 where
   pub words : (device : Device) (all : List ℕ) (words : Program) → length all ≡ WORDS → IsNarrowed device all words → words ≡ take (words_of device) all
   pub none : (device : Device) (all : List ℕ) (words : Program) → length all ≡ WORDS → IsNarrowed device all words → outside_word device all ≡ None

@@ -1,4 +1,4 @@
-//! What the words of flash say, each of which is decoded once.
+//! The decoded form of flash; each word is decoded once.
 
 ghost use Rattle.std.specs.Prelude.{◌≡◌};
 ghost use Rattle.avr_model.specs.Assumptions.{is_fixed_site};
@@ -10,8 +10,8 @@ use avr_model::instruction::Instr;
 use vector_table::Assumptions;
 
 impl Flash {
-    /// Works out what the words say, so that none is decoded at each look. Without memory for that (12 bytes a word), each is
-    /// decoded as it is asked for.
+    /// Decodes all words, so that no later use decodes one again. Without memory for that (12 bytes a word), each word is decoded when it
+    /// is used.
     pub fn decode(&mut self)
         ensures { self.new ≡ self.old }
     {
@@ -20,7 +20,7 @@ impl Flash {
         }
     }
 
-    /// The instruction at word `a`, which counts modulo the number of words; none where the word is undefined.
+    /// The instruction at word `a`, which counts modulo the number of words; none if the word is undefined.
     #[inline(always)]
     pub fn instruction(&self, a: u16) -> Option<Instr>
         ensures { result ≡ instruction_at self.now a }
@@ -31,7 +31,7 @@ impl Flash {
         }
     }
 
-    /// Whether word `a` is a store whose pointer is sure to be loaded just before.
+    /// Whether word `a` is a store whose pointer is certainly loaded just before.
     pub fn is_fixed(&self, a: u16) -> bool
         ensures { result ≡ is_fixed self.now a }
     {
@@ -60,7 +60,7 @@ impl Flash {
         }
     }
 
-    /// The word of the `ijmp` of the table site that begins at word `a`; none where none does.
+    /// The word of the `ijmp` of the table site that begins at word `a`; none if no site does.
     #[tactic(auto, unfolding(avr_model::specs::Sites::table_site))]
     pub fn table_site(&self, a: u16) -> Option<u16>
         ensures { result ≡ table_site self.now a }

@@ -19,9 +19,9 @@ pub struct Flash {
     pub(crate) alloc: Global,
     pub(crate) device: Device,
     pub(crate) words: Vec<u16>,
-    // What the first words say, where that was worked out.
+    // The decoded form of the first words, if it was computed.
     pub(crate) readings: Vec<Reading>,
-    // The program's marks, ascending, where they were worked out.
+    // The program's marks, ascending, if they were computed.
     pub(crate) mark_list: Vec<u16>,
 }
 
@@ -38,7 +38,7 @@ impl Model for Flash {
     ghost invariant = { λ f. IsFlash f.words.items × (f.device ≡ device_of f.words.items) × AreReadings f.words.items f.readings.items × AreMarksKept f.words.items f.mark_list.items };
 }
 
-/// Why a file is no raw image, or that there was no memory for it.
+/// Why a file is refused as a raw image.
 #[derive(Debug, Drop, PartialEq, Eq, Error)]
 pub enum RawFault {
     #[error("the length is odd")]
@@ -49,11 +49,11 @@ pub enum RawFault {
     Memory,
 }
 
-/// The least word behind a device's flash that isn't erased.
+/// The first word behind a device's flash that isn't erased.
 #[derive(Clone, Copy, Drop)]
 pub struct Outside(pub u16);
 
-// How many words the ATmega328P's flash has, as a length.
+// The number of words of the ATmega328P's flash, as a length.
 const COUNT: usize = WORDS as usize;
 
 impl Flash {
@@ -118,8 +118,8 @@ impl Flash {
         self.words[usize::from(self.device.wrap(a))]
     }
 
-    /// The ATmega328P's words on another device, which has fewer or as many: refused where a word behind that device's last
-    /// isn't FFFF, and the least such word is told. What its words say is worked out then; a refused flash is dropped.
+    /// The ATmega328P's words on another device, which has at most as many. Refuses with the first word behind that device's last that
+    /// isn't FFFF; a refused flash is dropped. Its words are decoded.
     pub fn narrow(mut self, device: Device) -> Result<Flash, Outside>
         requires { length self ≡ WORDS }
         ensures answer { MatchResult result (λ flash. IsNarrowed device self flash) (λ fault. IsOutside device self fault.0) }

@@ -1,4 +1,4 @@
-//! Tables of marks, a truth for each number of 16 bits, and the lists of what is marked.
+//! Tables of marks, with a truth for each 16-bit number, and ascending lists of marks.
 
 ghost use Rattle.std.specs.Prelude.{◌≡◌, ◌+◌, ◌*◌, ◌<◌, ℕ, List, Some, IfOk, length};
 ghost use Rattle.avr_model.specs.Marks.{loaded_number, pair_number, added_number, side_marks, usual_marks};
@@ -10,10 +10,10 @@ use avr_model::instruction::{ImmediateInstr, ImmediateOp};
 use pair_domain::Interval;
 use std::alloc::{AllocError, Global};
 
-// How many numbers have 16 bits.
+// The number of 16-bit numbers.
 pub(crate) const NUMBERS: usize = 65536;
 
-// How many pairs of a register and a byte there are: byte `b` of register `r` is number `256 * r + b`.
+// The number of pairs of a register and a byte: byte `b` of register `r` is number `256 * r + b`.
 pub(crate) const LOADS: usize = 8192;
 
 // The number of two bytes.
@@ -23,7 +23,7 @@ fn number(low: u8, high: u8) -> u16
     256 * u16::from(high) + u16::from(low)
 }
 
-// Marks the number of both bytes, where the registers are a pair.
+// Marks the number of both bytes, if the registers are a pair.
 fn mark_pair(table: &mut [bool; NUMBERS], low: ImmediateInstr, high: ImmediateInstr)
     ensures { table.new ≡ marked table.old (pair_number low high) }
 {
@@ -32,7 +32,7 @@ fn mark_pair(table: &mut [bool; NUMBERS], low: ImmediateInstr, high: ImmediateIn
     }
 }
 
-// Marks what two instructions load into a pair.
+// Marks the number that two instructions load into a pair.
 #[tactic(auto, using(crate::proofs::Marked::marked_append))]
 pub(crate) fn mark_loaded(
     table: &mut [bool; NUMBERS],
@@ -47,7 +47,7 @@ pub(crate) fn mark_loaded(
     }
 }
 
-// Marks what two instructions add to a pair.
+// Marks the number that two instructions add to a pair.
 pub(crate) fn mark_added(table: &mut [bool; NUMBERS], first: ImmediateInstr, second: ImmediateInstr)
     ensures { table.new ≡ marked table.old (added_number first second) }
 {
@@ -82,7 +82,7 @@ pub(crate) fn mark_side(table: &mut [bool; NUMBERS], loads: &[bool; LOADS], side
     }
 }
 
-// Marks what is a mark of every program.
+// Marks the marks of every program.
 pub(crate) fn mark_usual(table: &mut [bool; NUMBERS])
     ensures { table.new ≡ marked table.old usual_marks }
 {
@@ -96,7 +96,7 @@ pub(crate) fn mark_usual(table: &mut [bool; NUMBERS])
     }
 }
 
-// The greatest mark up to `x`, and 0 where there is none.
+// The greatest mark up to `x`, or 0.
 fn below(table: &[bool], x: u16) -> u16
     requires { length table.now ≡ NUMBERS }
     ensures { (ms : List ℕ) → IsTable ms table.now → result ≡ mark_below ms x }
@@ -111,7 +111,7 @@ fn below(table: &[bool], x: u16) -> u16
     at
 }
 
-// The least mark from `x` on, and 65,535 where there is none.
+// The least mark from `x` on, or 65,535.
 fn above(table: &[bool], x: u16) -> u16
     requires { length table.now ≡ NUMBERS }
     ensures { (ms : List ℕ) → IsTable ms table.now → result ≡ mark_above ms x }
@@ -151,7 +151,7 @@ pub(crate) fn listed(alloc: Global, table: &[bool]) -> Result<Vec<u16>, AllocErr
     Ok(list)
 }
 
-// The greatest of ascending marks up to `x`, and 0 where there is none.
+// The greatest of ascending marks up to `x`, or 0.
 fn last_to(marks: &[u16], x: u16) -> u16
     ensures { (ms : List ℕ) → IsListOf ms marks.now → result ≡ mark_below ms x }
 {
@@ -159,7 +159,7 @@ fn last_to(marks: &[u16], x: u16) -> u16
     if count == 0 { 0 } else { marks[count - 1] }
 }
 
-// The least of ascending marks from `x` on, and 65,535 where there is none.
+// The least of ascending marks from `x` on, or 65,535.
 fn first_from(marks: &[u16], x: u16) -> u16
     ensures { (ms : List ℕ) → IsListOf ms marks.now → result ≡ mark_above ms x }
 {

@@ -1,4 +1,4 @@
-//! The marks of a program, to which computed intervals of pairs of registers are widened.
+//! The marks of a program: widening thresholds for computed intervals of register pairs.
 
 ghost use Rattle.std.specs.Prelude.{◌≡◌, ◌≤◌, ◌<◌, IfSome, length};
 ghost use Rattle.avr_model.specs.Devices.{IsFlash};
@@ -19,8 +19,8 @@ use pair_domain::Interval;
 use std::alloc::AllocError;
 
 impl Flash {
-    /// Works out the marks of the program and keeps them, so that they aren't worked out at each look. The error is want of memory,
-    /// after which they are as they were. It isn't inlined: its table, 64 KiB of stack, would stay in its caller's frame.
+    /// Computes the marks of the program and keeps them, so that no later use computes them again. If memory runs out, nothing changes.
+    /// Not inlined: its table, 64 KiB of stack, would stay in its caller's frame.
     #[inline(never)]
     pub fn keep_marks(&mut self) -> Result<(), AllocError>
         ensures { self.new ≡ self.old }
@@ -43,7 +43,7 @@ impl Flash {
         }
     }
 
-    // The same, with the marks worked out for it.
+    // The same, with the marks computed for it.
     #[inline(never)]
     fn widened_anew(&self, interval: Interval) -> Interval
         ensures { result ≡ outward (marks self.now) interval }
@@ -64,7 +64,7 @@ impl Flash {
         }
     }
 
-    // How many words there are up to the last that isn't erased: no marks come from those behind.
+    // The number of words up to the last that isn't erased: words behind have no marks.
     fn written(&self) -> u16
         ensures within { result ≤ length self.now }
         ensures erased { AreErased self.now result (length self.now) }
@@ -73,7 +73,7 @@ impl Flash {
         written(&self.words) as u16
     }
 
-    // Which bytes the program loads into each register.
+    // The bytes that the program loads into each register.
     fn loads(&self) -> [bool; LOADS]
         ensures { AreLoads self.now result }
     {
@@ -86,7 +86,7 @@ impl Flash {
         loads
     }
 
-    // Marks those of the instruction at a word address with the ones behind it.
+    // Marks those of the instruction at a word address with the ones after it.
     #[tactic(auto, using(crate::proofs::Marked::marked_append))]
     fn mark_at(&self, table: &mut [bool; NUMBERS], loads: &[bool; LOADS], a: u16)
         requires word { a < WORDS }
@@ -101,7 +101,7 @@ impl Flash {
         }
     }
 
-    // The instruction at a word address, where it is one of a register and a byte.
+    // The instruction at a word address, if it has a register and a byte.
     fn immediate(&self, a: u16) -> Option<ImmediateInstr>
         ensures value { result ≡ immediate_at self.now a }
         ensures register { IfSome result (λ found. found.register < 32) }
@@ -112,7 +112,7 @@ impl Flash {
         }
     }
 
-    // Marks those of an instruction with the one at word `a`, which stands one to three words behind it.
+    // Marks those of an instruction with the one at word `a`, which is one to three words after it.
     #[tactic(auto, using(crate::proofs::Marked::marked_append))]
     fn mark_near(&self, table: &mut [bool; NUMBERS], first: ImmediateInstr, a: u16)
         ensures { table.new ≡ marked table.old (near_marks first (immediate_at self.now a)) }

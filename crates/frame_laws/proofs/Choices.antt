@@ -68,7 +68,7 @@ not_never A word h = by_test (is_never A word) refl h
     by_test false is h = refl
     by_test true is h = absurd (cc)
 
--- a vector's word is in the device's flash
+-- a vector's word is one of the device's
 pub vector_inside : (device : Device) (v : ℕ) → v ≤ 26 → vector_word device v < words_of device
 vector_inside M48 v le = omega arith
 vector_inside M88 v le = omega arith

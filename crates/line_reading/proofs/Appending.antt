@@ -1,4 +1,4 @@
--- What is appended, and parts of it.
+-- Appended texts, and prefixes of them.
 use Rattle.std.proofs.Common.{◌≡◌, inl, inr, ◌++◌, ℕ, List, [], ◌∷◌, if◌then◌else◌, refl, ap, sym, ◌∙◌, subst, append_assoc, append-nil}
 use Rattle.std.proofs.lemmas.List.{append_cancel_left}
 use Rattle.sb_base.specs.Lines.{line}
@@ -8,7 +8,7 @@ use Rattle.line_reading.specs.Appending.{WroteWords, LineIsAppended, LineIsPart,
 pub line_is_appended : WritesLines → LineIsAppended
 line_is_appended law old new ws none e = e ∙ law old ws none
 
--- all that was written stands at the front of what will be
+-- what was written is a prefix of what will be
 record Between (old new last : List ℕ) : Type 0 where
   pub done : List ℕ
   pub missing : List ℕ

@@ -1,4 +1,4 @@
--- The bytes of a word: what is read is spelled so, and what is spelled is read.
+-- Reading and spelling of the bytes of a word are inverse.
 use Rattle.std.proofs.Common.{ℕ, zero, suc, ◌/◌, ◌%◌, ◌<◌, ◌^◌, ◌≡◌, inl, inr, List, [], ◌∷◌, ◌++◌, length, take, drop, true, false, refl, ap, ap₂, sym, ◌∙◌, arith, Some, Result, Ok, Err, nat_lt, length-append}
 use Rattle.std.proofs.lemmas.Bool.Decides.{nat_tests}
 use Rattle.std.proofs.lemmas.List.{take-append-drop}

@@ -1,4 +1,4 @@
--- Which way tests and steps of a reading went.
+-- Outcomes of tests and steps of a reading.
 use Rattle.std.proofs.Common.{◌≡◌, ◌+◌, ℕ, List, [], ◌∷◌, ◌++◌, Bool, true, refl, ap, sym, ◌∙◌, arith, Option, Some, None, option_map, Result, Ok, Err, cond, ◌⊎◌, inl, inr, append_assoc}
 use Rattle.basics.specs.Lists.{chosen, nil_not_cons, same_head_and_tail}
 use Rattle.std.proofs.lemmas.Option.{same_Some, none-some}
@@ -29,7 +29,7 @@ no_words (w ∷ ws) e = cc
 
 -- ---- lines
 
--- a line that is read is whole, and its text is read
+-- a line that is read has a line feed, and its text is read
 pub first_some : {A : Type 0} (f : List ℕ → Option A) (l : TextLine) (ls : List TextLine) (x : A) → first_by f (l ∷ ls) ≡ Some x → (l ≡ record { text = l.text; whole = true }) × (f l.text ≡ Some x)
 first_some f l ls x e =
     let step = bind_some (cond l.whole (Some l.text) None) f x e in

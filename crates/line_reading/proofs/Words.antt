@@ -1,4 +1,4 @@
--- What is written is read, and what is read was written.
+-- Reading and writing are inverse.
 use Rattle.std.proofs.Common.{ℕ, ◌+◌, ◌*◌, ◌^◌, ◌<◌, ◌≤◌, ◌≡◌, ◌==◌, List, [], ◌∷◌, ◌++◌, length, length-append, append_assoc, map, Bool, true, false, not, refl, ap, sym, ◌∙◌, arith, Err, Ok, Result, Option, Some, inl, inr, nat_lt, add-one}
 use Rattle.std.proofs.Math.Nat.{pow-suc}
 use Rattle.std.proofs.lemmas.Bool.Decides.{nat_tests}

@@ -63,7 +63,7 @@ impl<'a> Letters<'a> {
         Some(*first)
     }
 
-    /// Reads the next bytes as a number in so many upper-case hexadecimal digits.
+    /// Reads the next bytes as a number of this many upper-case hexadecimal digits.
     #[tactic(auto, unfolding(crate::specs::Letters::digits_at))]
     pub fn digits(&mut self, count: usize) -> Option<u32>
         requires some { 1 ≤ count }

@@ -12,11 +12,11 @@ ghost use Rattle.line_reading.specs.Reading.{hex_at, dec_at, word_at, is_over, t
 pub use letters::Letters;
 use sb_base::{LineReader, Words, read_dec, read_hex};
 
-/// The line at this offset is not of its form, or is missing.
+/// The line at this offset has the wrong form, or is missing.
 #[derive(Clone, Copy)]
 pub struct Malformed(pub usize);
 
-/// Reads the next word as a number in so many upper-case hexadecimal digits.
+/// Reads the next word as a number of exactly `digits` upper-case hexadecimal digits.
 pub fn hex_word(words: &mut Words<'_>, digits: usize) -> Option<u32>
     requires some { 1 ≤ digits }
     requires few { digits ≤ 8 }

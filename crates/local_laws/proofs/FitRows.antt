@@ -52,7 +52,7 @@ use Rattle.local_laws.proofs.Quiet.{IsFit, none_ascend, quiet_fits, if_quiet, br
 
 -- ---- the targets of indirect calls are words
 
--- a number with as many bits as a word address is a word of the device
+-- a number with the bits of a word address is one of the device's
 width_words : (device : Device) (z : ℕ) → z < 2 ^ width device → z < words_of device
 width_words M48 z lt = omega (arith, lt)
 width_words M88 z lt = omega (arith, lt)

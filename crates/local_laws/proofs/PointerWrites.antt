@@ -153,7 +153,7 @@ module _ {may : Bool} (m : State) (o : Origin) (k : NodeKey) (s : AbsState) (at 
   fixed_written a None is clean = absurd (cc)
   fixed_written a (Some x) is clean = subst (λ b. ReachesNode may m o told k guarded (effect b) (fixed_write m.device (Some x) k.pc key state v)) (sym (is x refl)) (known_written x clean)
 
-  -- an address outside these ranges
+  -- an address outside registers, stack pointer and status register
   elsewhere_written : (a masks : ℕ) → is_core a ≡ false → EnablesAre may (written_enables m.enables a byte) masks
       → ArrivesWhere may m o told guarded (effect a) (record { key = record key { masks = masks }; state = state })
   elsewhere_written a masks free enables =

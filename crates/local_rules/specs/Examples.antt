@@ -32,7 +32,7 @@ use Rattle.local_rules.specs.Reads.{read_at}
 use Rattle.local_rules.specs.Writes.{written_at}
 use Rattle.local_rules.specs.Local.{below, raw}
 
--- a firmware of one or two words, followed by erased words
+-- a firmware of one or two words, and erased words behind them
 abbrev firmware : ℕ → ℕ → List ℕ
 firmware w0 w1 = w0 ∷ w1 ∷ replicate 16382 0xFFFF
 

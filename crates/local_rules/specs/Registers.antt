@@ -237,7 +237,7 @@ abbrev pub tri_of_bool : Bool → Tri
 tri_of_bool true = One
 tri_of_bool false = Zero
 
--- the carry tag ends where C is written
+-- the carry tag ends if C is written
 abbrev pub carry_tag_at : AbsState → ℕ → CarryTag
 carry_tag_at s n = if n == 0 then carry.None else s.flags.carry
 

@@ -1,4 +1,4 @@
--- The laws, each under the name of the public function that carries it. Crates above cite them from here.
+-- The laws, each under the name of its public function. Crates above cite them from here.
 use Rattle.std.proofs.Common.{◌≡◌, ℕ, ◌+◌, ◌≤◌, ◌<◌, Some, None, List, [], ◌∷◌, slice_index, slice_get, refl, sym, ap, ◌∙◌, subst, arith, ◌⊎◌}
 use Rattle.std.proofs.lemmas.Grind.{same_number_lists}
 use Rattle.nesting_bound.specs.declared.graph.Entered.{Entered}

@@ -1,4 +1,4 @@
--- Where no place and no edge is as deep as the need, the need is not the least.
+-- If no place and no edge is as deep as the need, the need is not the least.
 use Rattle.std.proofs.Common.{◌≡◌, ℕ, ◌+◌, ◌-◌, ◌<◌, ◌≤◌, Bool, true, false, eqb, Option, Some, None, List, length, slice_index, refl, sym, subst, arith, ⊎_elim, slice_get}
 use Rattle.std.specs.List.{Contains}
 use Rattle.std.proofs.lemmas.Bool.{cases_eq, eqb-true}

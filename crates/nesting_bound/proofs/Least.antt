@@ -1,4 +1,4 @@
--- A table with all found has the least ranks and needs; a table that is stuck has a cycle.
+-- A table with all entries has the least ranks and needs; a table that is stuck has a cycle.
 use Rattle.std.proofs.Common.{◌≡◌, ◌≢◌, ℕ, zero, suc, ◌+◌, ◌<◌, Option, Some, None, List, [], ◌∷◌, ◌++◌, map, take, length, get_or, slice_index, refl, sym, ap, ◌∙◌, subst, arith, ⊎_elim}
 use Rattle.std.proofs.lemmas.List.{take_more, take_all, map-append}
 use Rattle.std.proofs.lemmas.Option.{slice_get_within}
@@ -67,13 +67,13 @@ module _ (gs : List GraphInst) (table : List (Option Found)) (sound : IsSoundTab
                   omega (arith, need_at i x.0 x.1, (sound.settled i x.0 x.1).need_least need needs);
             }
 
-  -- a table that is stuck with something missing has an instance that reaches itself
+  -- a table that is stuck with an entry missing has an instance on a cycle
   pub stuck_cycle : IsGraph gs → ((i : ℕ) → i < length gs → at table i ≡ None → IsInstStuck gs table i) → (i : ℕ) → i < length table → at table i ≡ None → ((j : ℕ) → j < length gs → ReachesBy gs j j → ⊥) → ⊥
   stuck_cycle graph stuck i lt none acyclic =
       let c = some_cycle gs (length gs) (λ j. (j < length gs) × (at table j ≡ None)) (λ j h. h.0) (λ j h. let s = stuck j h.0 h.1 in (s.0, s.1, (graph.within j s.0 s.1, s.2))) i (subst (λ n. i < n) sound.same lt, none) in
       acyclic c.0 (reaches_inside gs c.0 c.0 c.1) c.1
 
-  -- the same, by the lists that the code has on the way
+  -- for the code's intermediate lists
   pub stuck_at : (gs0 : List GraphInst) (table0 : List (Option Found)) → gs0 ≡ gs → table0 ≡ table → IsGraph gs → ((i : ℕ) → i < length gs0 → at table i ≡ None → IsInstStuck gs0 table i) → IsInstMissing table0 → ((j : ℕ) → j < length gs0 → ReachesBy gs0 j j → ⊥) → ⊥
   stuck_at gs0 table0 eg et graph stuck missing acyclic =
       let m : IsInstMissing table = subst IsInstMissing et missing in

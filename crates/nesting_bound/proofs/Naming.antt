@@ -1,4 +1,4 @@
--- Which instance is named: settled ones never are, and one instance more.
+-- The named instance: settled ones never are, and one more instance.
 use Rattle.std.specs.Option.{is_some}
 use Rattle.std.specs.List.{Contains}
 use Rattle.std.proofs.Common.{true, ◌≡◌, ◌≢◌, ◌∙◌, ℕ, zero, suc, ◌+◌, ◌<◌, ◌≤◌, Option, Some, None, List, length, replicate, slice_get, slice_index, refl, sym, ap, subst, arith, ◌⊎◌, ⊎_elim, inr}
@@ -14,7 +14,7 @@ use Rattle.nesting_bound.specs.Table.{at, IsSoundTable}
 use Rattle.nesting_bound.proofs.Table.{same_found}
 use Rattle.nesting_bound.proofs.Tested.{edge_of}
 
--- what a settled instance reaches is settled, at a lower rank
+-- what a settled instance reaches is settled, with a lower rank
 lower : (gs : List GraphInst) (table : List (Option Found)) → IsSoundTable gs table → (i j : ℕ) → ReachesBy gs i j → (x : Found) → at table i ≡ Some x → (y : Found) × (at table j ≡ Some y) × (y.rank < x.rank)
 lower gs table sound i j (once _ e enters) x is = let p = (sound.settled i x is).entered e enters in (p.0, p.1, p.2)
 lower gs table sound i j (more _ _ e enters rest) x is =
@@ -40,7 +40,7 @@ reached_no_higher : (gs : List GraphInst) (numbers : List ℕ) → AreLayers gs 
 reached_no_higher gs numbers layers i j (once _ e enters) = layers i e enters
 reached_no_higher gs numbers layers i j (more _ _ e enters rest) = omega (arith, layers i e enters, reached_no_higher gs numbers layers e.into j rest)
 
--- an instance that reaches itself enters one of its own number
+-- an instance on a cycle enters one of its own number
 pub stays_on : (gs : List GraphInst) (numbers : List ℕ) → AreLayers gs numbers → (i : ℕ) → ReachesBy gs i i → (e : Entered) × EntersAlong gs i e × (slice_index numbers e.into ≡ slice_index numbers i)
 stays_on gs numbers layers i (once _ e enters) = (e, enters, refl)
 stays_on gs numbers layers i (more _ _ e enters rest) =

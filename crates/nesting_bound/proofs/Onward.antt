@@ -1,4 +1,4 @@
--- A chain goes on by one link.
+-- A chain continues by one link.
 use Rattle.std.proofs.Common.{◌≡◌, ℕ, ◌+◌, Some, None, List, [], ◌∷◌, ◌++◌, sym, subst, arith, append_assoc}
 use Rattle.nesting_bound.specs.declared.chaining.Turn.{Turn}
 use Rattle.nesting_bound.specs.declared.chaining.Turn.TheVariants.{Ends, Enters}

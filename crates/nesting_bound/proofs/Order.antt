@@ -14,7 +14,7 @@ use Rattle.nesting_bound.specs.declared.graph.Entered.{Entered}
 use Rattle.nesting_bound.specs.declared.graph.GraphInst.{GraphInst}
 use Rattle.nesting_bound.specs.Chain.{kind_numbers, entry_of, turn_of, edge_cmp, IsEdgeUpTo}
 
--- lists of one length decide before what follows them
+-- lists of one length are compared before what follows them
 cmp_append : (xs ys us vs : List ℕ) → length xs ≡ length ys
     → slice_cmp nat_cmp (xs ++ us) (ys ++ vs) ≡ ordering_then (slice_cmp nat_cmp xs ys) (slice_cmp nat_cmp us vs)
 cmp_append [] [] us vs e = refl
@@ -79,6 +79,6 @@ less_of Greater b e h = absurd (let a : false ≡ true = sym e ∙ h in cc)
 pub not_less_of : (o : Ordering) (b : Bool) → b ≡ is_lt o → b ≡ false → o ≢ Less
 not_less_of o b e h is = let a : false ≡ true = sym h ∙ e ∙ ap is_lt is in cc
 
--- what is up to all that x is up to, for an edge before x
+-- an edge before x comes up to all that x comes up to
 pub edge_over : (gs : List GraphInst) (y x : Entered) → edge_cmp gs y x ≡ Less → (z : Entered) → IsEdgeUpTo gs x z → IsEdgeUpTo gs y z
 edge_over gs y x before z up = λ less. up ((edge_total gs).trans z y x less before)

@@ -1,4 +1,4 @@
--- Edges with the same numbers and the same depth are the same.
+-- Edges with equal numbers and equal depth are equal.
 use Rattle.std.proofs.Common.{◌≡◌, ◌≢◌, ◌∙◌, sym, ap, refl, ℕ, ◌+◌, List, [], ◌∷◌, ◌++◌, arith, Less, Equal, Greater, slice_get, slice_index}
 use Rattle.std.specs.Cmp.Lexicographic.{slice_cmp}
 use Rattle.std.specs.Ordering.{nat_cmp, ordering_reverse}
@@ -46,7 +46,7 @@ neither Less a b = absurd (a refl)
 neither Equal a b = refl
 neither Greater a b = absurd (b refl)
 
--- two edges, neither of which is before the other, as deep as one another
+-- two equally deep edges, neither before the other
 pub edges_same : (gs : List GraphInst) (needs : List ℕ) (a b : Entered) (n : ℕ) → IsEdgeUpTo gs a b → IsEdgeUpTo gs b a → a.offset + 2 + slice_index needs a.into ≡ n → b.offset + 2 + slice_index needs b.into ≡ n → a ≡ b
 unfolding edge_cmp turn_of
 edges_same gs needs a b n up down deep_a deep_b =

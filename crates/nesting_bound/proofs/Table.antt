@@ -1,4 +1,4 @@
--- A table of what was found: one instance more.
+-- The table with one more instance.
 use Rattle.std.proofs.Common.{◌≡◌, ◌≢◌, ℕ, zero, suc, ◌+◌, ◌*◌, ◌<◌, ◌≤◌, true, false, Option, Some, None, List, [], ◌∷◌, length, get_or, set, take, max, replicate, slice_get, refl, sym, ap, ◌∙◌, subst, arith, ◌⊎◌, ⊎_elim, get_or-set_other, get_or-set_same}
 use Rattle.std.specs.List.{Contains}
 use Rattle.std.specs.Option.{is_some}
@@ -16,7 +16,7 @@ use Rattle.nesting_bound.specs.declared.found.Found.{Found}
 use Rattle.nesting_bound.specs.Graph.{EntersAlong, HasPlace, IsGraph}
 use Rattle.nesting_bound.specs.Table.{at, IsOver, raised, one_if_found, one_if_missing, count_found, count_missing, IsSmall, IsSettled, IsSoundTable, IsInstStuck, IsVisit}
 
--- stand-ins for an element that is not there
+-- stand-ins for a missing item
 abbrev pub no_entry : Entered
 no_entry = record { node = 0; offset = 0; kind = Local; into = 0 }
 
@@ -67,7 +67,7 @@ over_more es offsets table i d f x f' lt is e over =
       need_least = λ m all_offsets all. let old = over.need_least m all_offsets (λ e' y h. all e' y (within_first es i d e' lt h)) in let new = all last x (within_last es i d lt) is in omega (arith, en);
     }
 
--- the same, of a list that the code has on the way
+-- for a list that the code has on the way
 pub over_more_at : (es es0 : List Entered) (offsets : List Place) (table : List (Option Found)) (i : ℕ) (d : Entered) (f x f' : Found) → es0 ≡ es → i < length es0 → at table (get_or es0 i d).into ≡ Some x → f' ≡ raised f (get_or es0 i d) x → IsOver (take i es) offsets table f → IsOver (take (i + 1) es) offsets table f'
 over_more_at es es0 offsets table i d f x f' e lt is raise over =
     subst (λ ys. IsOver (take (i + 1) ys) offsets table f') e (over_more es0 offsets table i d f x f' lt is raise (subst (λ ys. IsOver (take i ys) offsets table f) (sym e) over))
@@ -129,7 +129,7 @@ module _ (gs : List GraphInst) (table : List (Option Found)) (graph : IsGraph gs
         let z : one_if_missing (at table i) ≡ 1 = ap one_if_missing missing in
         omega (arith, e, z)
 
-    -- what was settled stays so
+    -- settled entries stay settled
     lift : (j : ℕ) (x : Found) → IsSettled gs table j x → IsSettled gs (set table i (Some f)) j x
     lift j x s =
         record {

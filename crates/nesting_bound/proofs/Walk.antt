@@ -1,4 +1,4 @@
--- Where each open instance enters an open one, some instance reaches itself.
+-- If each open instance enters an open one, some instance is on a cycle.
 use Rattle.std.proofs.Common.{◌≡◌, ◌||◌, ℕ, zero, suc, ◌+◌, ◌<◌, ◌≤◌, Bool, true, false, List, [], ◌∷◌, length, eqb, refl, sym, ap, ◌∙◌, subst, arith}
 use Rattle.std.specs.List.{IsDistinct, AllByRecursion, list_any}
 use Rattle.std.proofs.lemmas.Bool.{eqb-true}
@@ -7,7 +7,7 @@ use Rattle.nesting_bound.specs.declared.graph.GraphInst.{GraphInst}
 use Rattle.nesting_bound.specs.declared.graph.Entered.{Entered}
 use Rattle.nesting_bound.specs.Graph.{EntersAlong, AreGraphRanks, ReachesBy, once, more}
 
--- ranks rule out that an instance reaches itself
+-- ranks exclude cycles
 reached_lower : (gs : List GraphInst) (rank : ℕ → ℕ) → AreGraphRanks gs rank → (i j : ℕ) → ReachesBy gs i j → rank j < rank i
 reached_lower gs rank ranks i j (once _ e enters) = ranks i e enters
 reached_lower gs rank ranks i j (more _ _ e enters rest) =
@@ -33,7 +33,7 @@ apart_all h (x ∷ xs) e =
     (λ is. absurd (let e' : (eqb h x || list_any (eqb h) xs) ≡ false = e in let e'' : (true || list_any (eqb h) xs) ≡ false = ap (λ b. b || list_any (eqb h) xs) (sym is) ∙ e' in cc))
     (λ is. (is, apart_all h xs (ap (λ b. b || list_any (eqb h) xs) (sym is) ∙ e)))
 
--- what the list with h in front has is h or in the list
+-- an item of the list with h in front is h or in the list
 wider : (P : Type 0) (q h : ℕ) (xs : List ℕ) → (q ≡ h → P) → (list_any (eqb q) xs ≡ true → P) → list_any (eqb q) (h ∷ xs) ≡ true → P
 wider P q h xs here there e =
     decide P (eqb q h) (λ is. here (eqb-true q h is)) (λ is. there (ap (λ b. b || list_any (eqb q) xs) (sym is) ∙ e))
@@ -42,7 +42,7 @@ module _ (gs : List GraphInst) (n : ℕ) (IsOpen : ℕ → Type 0) (inside : (i 
   below_more : (h : ℕ) (xs : List ℕ) → IsOpen h → ((q : ℕ) → list_any (eqb q) xs ≡ true → q < n) → (q : ℕ) → list_any (eqb q) (h ∷ xs) ≡ true → q < n
   below_more h xs open_h below q any = wider (q < n) q h xs (λ same. subst (λ x. x < n) (sym same) (inside h open_h)) (below q) any
 
-  -- a walk over the numbers xs, no two equal, which has come to h: it comes back before it has seen more than n
+  -- a walk over the different numbers xs that reached h: it repeats before it has seen more than n
   walk : (fuel : ℕ) (xs : List ℕ) (h : ℕ) → length xs + fuel ≡ n → IsDistinct eqb xs → ((q : ℕ) → list_any (eqb q) xs ≡ true → q < n) → IsOpen h → ((q : ℕ) → list_any (eqb q) xs ≡ true → ReachesBy gs q h) → (c : ℕ) × ReachesBy gs c c
   unfolding IsDistinct
   walk zero xs h size distinct below open_h reaches =

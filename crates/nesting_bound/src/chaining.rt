@@ -65,7 +65,7 @@ fn is_before(instances: &[GraphInst], a: &Entered, b: &Entered) -> bool
         .is_lt()
 }
 
-// The first of the edges below which the stack becomes so deep. In 64 bits no sum overflows.
+// The first of the edges that give this depth. In 64 bits no sum overflows.
 fn best_edge(
     instances: &[GraphInst],
     needs: &[u32],
@@ -107,8 +107,8 @@ fn goes_on(instances: &[GraphInst], needs: &[u32], inst: u32) -> Turn
 }
 
 /// The deepest chain. It starts at the root. In each instance it ends at the least node whose offset is the instance's need, if there is
-/// one. Otherwise it follows the least edge whose offset + 2 + need is: by node, calls before interrupts, calls by target and interrupts by
-/// vector, the one that keeps its own enable bit before the one that clears it. Source: own.
+/// one. Otherwise it follows the least edge whose offset + 2 + need is: by node, calls before interrupts, calls by target and interrupts
+/// by vector, the one that keeps its own enable bit before the one that clears it. Source: own.
 pub fn chain(alloc: Global, graph: &Graph, composed: &Composed) -> Result<Vec<Link>, AllocError>
     requires graph { IsGraph graph.now.instances }
     requires least { IsLeast graph.now.instances composed.now.ranks composed.now.needs }

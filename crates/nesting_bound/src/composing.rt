@@ -60,7 +60,7 @@ fn settled(alloc: Global, table: &[Option<Found>]) -> Result<Option<Composed>, A
     }))
 }
 
-// The result of a table in which all is settled that can be: the least ranks and needs, or the named instance.
+// The result of a table in which all that can be is settled: the least ranks and needs, or the named instance.
 fn told(
     alloc: Global,
     instances: &[GraphInst],
@@ -83,10 +83,9 @@ fn told(
     }
 }
 
-/// The least ranks and needs. The rank of an instance is above that of each instance it enters. Its need is at least the offset of each of
-/// its nodes, and offset + 2 + need of each instance it enters. `Cycle` is returned exactly when an instance reaches itself by one or more
-/// entries. It names one of the least such vector, otherwise one of the least entry, and of those the one with the least number. Source:
-/// own.
+/// The least ranks and needs. The rank of an instance is above that of each instance it enters. Its need is at least the offset of each
+/// of its nodes, and offset + 2 + need of each instance it enters. Fails with `Cycle` exactly if an instance is on a cycle. It names one
+/// of the least such vector, otherwise one of the least entry, and of those the one with the least number. Source: own.
 pub fn compose(alloc: Global, graph: &Graph) -> Result<Composed, ComposeFault>
     requires { IsGraph graph.now.instances }
     ensures ok { IfOk result (λ c. IsLeast graph.now.instances c.ranks c.needs) }

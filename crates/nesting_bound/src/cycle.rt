@@ -1,4 +1,4 @@
-//! Which instance a cycle is named by.
+//! The instance that names a cycle.
 
 ghost use Rattle.std.specs.Prelude.{◌≡◌, ◌⊎◌, ◌+◌, ◌<◌, ◌≤◌, Contains, IfOk, IfSome, length, slice_index, true, false};
 ghost use Rattle.nesting_bound.specs.declared.graph.Entered.{Entered};

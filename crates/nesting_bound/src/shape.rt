@@ -27,7 +27,7 @@ fn are_low(places: &[Place]) -> bool
     true
 }
 
-// Whether each offset is at most 2,048, and each edge enters one of so many instances.
+// Whether each offset is at most 2,048, and each edge enters one of `count` instances.
 fn lead_inside(edges: &[Entered], count: usize) -> bool
     ensures yes { result ≡ true → (e : Entered) → Contains edges.now e → (e.offset ≤ model.SIZE) × (e.into < count) }
     ensures no { result ≡ false → (e : Entered) × Contains edges.now e × ((e.offset ≤ model.SIZE) × (e.into < count) → ⊥) }

@@ -13,7 +13,7 @@ use Rattle.pair_cuts.specs.Places.{on_byte}
 use Rattle.pair_cuts.proofs.Capped.{narrow_capped}
 use Rattle.pair_cut_laws.proofs.Steps.{EndsInHull}
 
--- a cut of a byte keeps each byte of which P holds; it says more, and fits where the byte did
+-- a cut of a byte keeps each byte with P, is within its argument, and fits if the byte did
 pub record IsByteCut (P : ℕ → Type 0) (cut : ByteSet → Option ByteSet) : Type 0 where
   pub keeps : (b : ByteSet) (x : ℕ) → SetHas b x → P x → (m : ByteSet) × ((cut b ≡ Some m) × SetHas m x)
   pub under : (b m : ByteSet) → cut b ≡ Some m → IsSetWithin m b
@@ -70,7 +70,7 @@ pub high_was : (p m : PairSet) (o : Option ByteSet) → with_high p o ≡ Some m
 high_was p m None e = absurd (cc)
 high_was p m (Some s) e = (s, (refl, e))
 
--- of the low byte where `even`, else of the high one
+-- the low byte if `even`, else the high one
 abbrev byte_cut : Bool → (ByteSet → Option ByteSet) → PairSet → Option PairSet
 byte_cut even cut p = if even then with_low p (cut p.low) else with_high p (cut p.high)
 

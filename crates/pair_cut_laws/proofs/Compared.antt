@@ -1,4 +1,4 @@
--- What C, Z and S tell of registers and pairs.
+-- Cuts of registers and pairs by C, Z and S.
 use Rattle.std.proofs.Common.{◌≡◌, refl, sym, ◌∙◌, ap, subst, ℕ, ◌+◌, ◌-◌, ◌*◌, ◌%◌, ◌<◌, ◌≤◌, ◌&&◌, Bool, true, false, nat_lt, List, Option, Some, None, slice_index, arith}
 use Rattle.std.specs.Prelude.{⊤, ◌==◌, if◌then◌else◌}
 use Rattle.std.proofs.lemmas.Bool.{eqb-true, eqb-false, ltb-true, ltb-false, false≢true}
@@ -47,7 +47,7 @@ is_in place.Neither i registers h = tt
 is_in (place.Byte r) i registers h = h
 is_in (place.Pair r) i registers h = h
 
--- a place that is followed
+-- the place names a register or a pair
 abbrev pub IsFollowed : CutPlace → Type 0
 IsFollowed place.Neither = ⊥
 IsFollowed (place.Byte r) = ⊤
@@ -70,7 +70,7 @@ same_keeps p b k m fits some is o s offset a h =
 pub same_leaves : (p : CutPlace) (b : Bool) (k : ℕ) → PlaceFits p → LeavesLess (same_cut p b k)
 same_leaves p b k fits s t offset a e = to_leaves p (equal_part b k (range_at s p)) fits s t offset a e
 
--- to intervals of which the second holds the first
+-- to intervals, the second of which includes the first
 pub to_more : (p : CutPlace) (x y : Option Interval) → PlaceFits p → LeavesMore x y → LeavesMoreBy (narrow_to p x) (narrow_to p y)
 to_more p None y fits more s s' t offset a b le e = absurd (cc)
 to_more p (Some i) y fits more s s' t offset a b le e =
@@ -251,7 +251,7 @@ side_fits : (y : Side) → SideFits y → PlaceFits (side_place y)
 side_fits (side.Byte k) fits = tt
 side_fits (side.Register q) fits = fits
 
--- what is known of a side's byte
+-- the value of a side's byte
 record IsSide (s : AbsState) (y : Side) : Type 0 where
   ordered : (side_range s.registers y).low ≤ (side_range s.registers y).high
   small : (side_range s.registers y).high < 256
@@ -272,7 +272,7 @@ side_within : (y : Side) (s s' : AbsState) (offset : ℕ) → SideFits y → IsF
 side_within (side.Byte k) s s' offset fits a le = intervals_are_ordered.same (just k)
 side_within (side.Register q) s s' offset fits a le = range_within (place.Byte q) s s' offset fits a le
 
--- the right side of pairs: a pair where it is one
+-- the right side of a comparison of pairs
 abbrev word_at : List ℕ → Side → ℕ → ℕ
 word_at registers y p = side_byte registers y + 256 * slice_index registers p
 

@@ -1,4 +1,4 @@
--- The state where two registers are equal, or aren't.
+-- The state if two registers are equal, or differ.
 use Rattle.std.proofs.Common.{◌≡◌, ◌≢◌, refl, sym, ◌∙◌, ap, subst, ℕ, ◌+◌, ◌-◌, ◌*◌, ◌/◌, ◌%◌, ◌<◌, ◌≤◌, ◌⊎◌, inl, inr, max, min, nat_le, Bool, true, false, length, Option, Some, None, slice_set, arith}
 use Rattle.std.specs.Prelude.{◌==◌, if◌then◌else◌}
 use Rattle.std.specs.Int.{from_bool}
@@ -59,7 +59,7 @@ constant_has t k e =
     let member = bytes_are_sets.member t in
     (omega (arith, known.1, member.0), subst (Has t) known.1 member.1)
 
--- what says more is the same
+-- a byte within a known one is equal to it
 constant_less : (t u : TriByte) (k : ℕ) → IsWithin t u → byte_constant u ≡ Some k → byte_constant t ≡ Some k
 constant_less t u k le e =
     let member = bytes_are_sets.member t in
@@ -71,7 +71,7 @@ constant_less t u k le e =
 or_none : (n : ℕ) → bit_or n 0 ≡ n
 or_none n = same_from_bits (bit_or n 0) n (λ i. let e = bit_at_or n 0 i in let z = bit_at-zero i in omega (arith, e, z))
 
--- its range has this byte alone
+-- its range has only this byte
 constant_range : (b : ByteSet) (k : ℕ) → RangeFits b → byte_constant b.bits ≡ Some k → (b.low ≡ k) × (b.high ≡ k)
 constant_range b k fits e =
     let known = constant_was b.bits k e in
@@ -135,7 +135,7 @@ module _ (d r : ℕ) (b : Bool) (left : d < 32) (right : r < 32) where
 
 -- ---- both are known in the lesser state: what is left of it lies within a cut of the other register
 
--- an interval that lies in another is what both hold
+-- the meet with an interval around it is the interval itself
 meets_within : (i h : Interval) → i.low ≤ i.high → IsIntervalWithin i h → (j : Interval) × ((interval_meet i h ≡ Some j) × IsIntervalWithin i j)
 meets_within i h ordered le =
     let lo = max i.low h.low in
@@ -145,7 +145,7 @@ meets_within i h ordered le =
       (ap (λ (t : Bool). interval_if t lo hi) some, record { low = omega (arith, le.low); high = omega (arith, le.high) }),
     )
 
--- a pair that lies in its hull keeps all under a cut to the hull
+-- a pair whose interval lies in the hull keeps it under a cut to the hull
 hull_stays : (p q : PairSet) → p.interval.low ≤ p.interval.high → IsIntervalWithin p.interval (hull p.low p.high) → IsPairWithin p q → (m : PairSet) × ((cut_pair q ≡ Some m) × IsPairWithin p m)
 hull_stays p q ordered inside le =
     let j = meets_within p.interval (hull p.low p.high) ordered inside in
@@ -153,7 +153,7 @@ hull_stays p q ordered inside le =
     let m = pairs_are_cut.hull_more p q (record p { interval = j.0 }) le (ap (with_interval p) j.1.0) in
     (m.0, (m.1.0, pair_through p (record p { interval = j.0 }) m.0 own m.1.1))
 
--- a known byte that lies in the range stays
+-- a known byte in the range stays
 known_stays : (b b' : ByteSet) (i : Interval) (k : ℕ) → byte_constant b.bits ≡ Some k → b.low ≡ k → b.high ≡ k → IsSetWithin b b' → InInterval i k
     → (m : ByteSet) × ((narrow b' i.low i.high ≡ Some m) × IsSetWithin b m)
 known_stays b b' i k e low high le inside =
@@ -184,7 +184,7 @@ module _ (p q : PairSet) (i : Interval) (k : ℕ) (ordered : p.interval.low ≤ 
       let m = hull_stays p (record q { high = s.0 }) ordered inside (record { low = le.low; high = s.1.1; interval = le.interval }) in
       (m.0, (ap (with_high q) s.1.0 ∙ m.1.0, m.1.1))
 
--- a state lies within a greater one with a pair that its own lies within
+-- a state is within a greater one if its pair is within the other's
 module _ (t s : AbsState) (f g : PairFacts) (n : ℕ) (q : PairSet) (lt : n < 16) (count : length s.registers ≡ 32) (pairs : length g.intervals ≡ 16) (is : t.facts ≡ Some f) (le : IsStateWithin t s)
     (facts : AreFactsWithin f g) (pair : IsPairWithin (pair_of t.registers f.intervals n) q) where
   register_within : (r : ℕ) → r < 32 → IsByteWithin (value_at t.registers r) (value_at (pair_set s.registers n q) r)
@@ -230,7 +230,7 @@ module _ (t s : AbsState) (f g : PairFacts) (n : ℕ) (q : PairSet) (lt : n < 16
         facts = subst (λ (x : Option PairFacts). IsKnownWithin x (Some (record g { intervals = slice_set g.intervals n q.interval }))) (sym is) known;
       }
 
--- of a known register and an interval that has its byte
+-- a known register and an interval with its byte
 module _ (t s : AbsState) (f g : PairFacts) (offset r k : ℕ) (i : Interval) (lt : r < 32) (a : IsFormed t offset) (b : IsFormed s offset) (is : t.facts ≡ Some f) (is' : s.facts ≡ Some g)
     (le : IsStateWithin t s) (hulls : AreInHulls t.registers t.facts) (known : byte_constant (value_at t.registers r).bits ≡ Some k) (is_in : InInterval i k) where
   abbrev n : ℕ
@@ -306,7 +306,7 @@ off_none x k low high =
     ∙ ap (λ (t : Bool). interval_from (k + 1) (if t then k - 1 else x.high)) (eq-eqb x.high k high)
     ∙ ap (λ (t : Bool). interval_if t (k + 1) (k - 1)) none
 
--- where something is left of a known register, the two are equal or not as they are cut
+-- if something is left of a known register, the two have the outcome
 told_by : (d k w : ℕ) (b : Bool) (s t : AbsState) (offset : ℕ) (f : PairFacts) → d < 32 → IsFormed s offset → s.facts ≡ Some f → byte_constant (value_at s.registers d).bits ≡ Some w
     → same_cut (place.Byte d) b k s ≡ Some t → (k == w) ≡ b
 told_by d k w true s t offset f lt a is known e =
@@ -335,7 +335,7 @@ module _ (d r : ℕ) (b : Bool) (s s' t : AbsState) (offset : ℕ) (g : PairFact
   less : (k w : ℕ) → k < 32 → byte_constant (bits s' k) ≡ Some w → byte_constant (bits s k) ≡ Some w
   less k w lt e = constant_less (bits s k) (bits s' k) w (le.registers k lt).bits e
 
-  -- both are known in s, and d alone in s'
+  -- both are known in s, and only d in s'
   other_cut : (k w : ℕ) → byte_constant (bits s r) ≡ Some k → byte_constant (bits s' d) ≡ Some w → same_cut (place.Byte d) b k s ≡ Some t
       → (t' : AbsState) × ((same_cut (place.Byte r) b w s' ≡ Some t') × IsStateWithin t t')
   other_cut k w known known' e =

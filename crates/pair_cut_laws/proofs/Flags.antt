@@ -1,4 +1,4 @@
--- Bits that become known, and the state where a flag is so.
+-- Bits that become known, and the state if a flag has a value.
 use Rattle.std.proofs.Common.{◌≡◌, ◌≢◌, refl, sym, ◌∙◌, ap, subst, ℕ, ◌-◌, ◌<◌, ◌≤◌, Bool, true, false, Option, Some, None, arith}
 use Rattle.std.specs.Prelude.{◌==◌, if◌then◌else◌}
 use Rattle.std.specs.Int.{bit_at, from_bool}
@@ -71,7 +71,7 @@ known_less bits n on may =
 pub known_more : (bits bits' : TriByte) (n : ℕ) (on : Bool) → IsWithin bits bits' → IsWithin (with_on bits n on) (with_on bits' n on)
 known_more bits bits' n on le = writes_cover.more bits bits' n (tri_bit (from_bool on)) (tri_bit (from_bool on)) le (λ k h. h)
 
--- what permits more permits it too
+-- `may_be` is monotone
 pub may_more : (bits bits' : TriByte) (n k : ℕ) → n < 8 → IsWithin bits bits' → Permits (tri_at bits n) k → Permits (tri_at bits' n) k
 may_more bits bits' n k lt le may = (bytes_are_sets.within bits bits').0 le n lt k may
 
@@ -142,7 +142,7 @@ flag_keeps n b m lt is o s offset a h =
     flag_bit x i true e = eqb-true (bit_at x i) 1 e
     flag_bit x i false e = let ne : bit_at x i ≢ 1 = eqb-false (bit_at x i) 1 e in omega (arith, bit_at-lt x i, ne)
 
--- what is left with the flag known
+-- the state with the flag known
 bits_left : (s u : AbsState) (bits : TriByte) (offset n : ℕ) (on : Bool) → n < 7 → IsFormed s offset → Permits (tri_at s.flags.bits n) (from_bool on) → with_on s.flags.bits n on ≡ bits
     → IsLeftOf s u offset → IsLeftOf s (with_bits bits u) offset
 bits_left s u bits offset n on lt a may is left =

@@ -1,4 +1,4 @@
--- What an outcome tells of two sides.
+-- Intervals of two sides by an outcome.
 use Rattle.std.proofs.Common.{◌≡◌, ◌≢◌, refl, sym, ◌∙◌, subst, ℕ, ◌*◌, ◌<◌, ◌≤◌, Bool, true, false, Some, None}
 use Rattle.std.specs.Prelude.{◌==◌, if◌then◌else◌}
 use Rattle.std.proofs.lemmas.Bool.{eqb-true, eqb-false, ltb-true, ltb-false}
@@ -12,7 +12,7 @@ use Rattle.pair_cuts.specs.declared.outcomes.Outcome.{Outcome}
 use Rattle.pair_cuts.specs.declared.outcomes.Outcome.TheVariants as outcome
 use Rattle.pair_cuts.specs.Outcomes.{left_part, right_part, outcome_if, outcome_of}
 
--- x and y compare so
+-- x and y have this outcome
 abbrev pub AgreesWith : Outcome → ℕ → ℕ → ℕ → Type 0
 AgreesWith outcome.Below half x y = x < y
 AgreesWith outcome.NotBelow half x y = y ≤ x

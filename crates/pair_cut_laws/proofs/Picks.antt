@@ -1,4 +1,4 @@
--- The state where a byte of register 30 is picked.
+-- The state after a byte of register 30 is picked.
 use Rattle.std.proofs.Common.{◌≡◌, sym, ◌∙◌, subst, subst₂, ℕ, ◌+◌, ◌*◌, ◌<◌, ◌⊎◌, inl, inr, List, length, Option, Some, None, slice_index, slice_set, length-set, arith}
 use Rattle.std.proofs.lemmas.Bool.{cases_eq}
 use Rattle.avr_model.specs.State.{State, register}
@@ -23,7 +23,7 @@ use Rattle.pair_cut_laws.specs.Laws.{StandsFor, KeepsMachine, IsLeftOf, LeavesMo
 use Rattle.pair_cut_laws.proofs.Steps.{value_there, value_other, OthersInHulls, state_keeps, state_leaves, state_more, state_hulls}
 use Rattle.pair_cut_laws.proofs.Bytes.{hull_ends}
 
--- what holds of the register that is set and of each other register holds of all
+-- a property of the register that is set and of each other register holds of all
 each_register : (Q : ℕ → AbsByte → Type 0) (vs : List AbsByte) (d : ℕ) (v : AbsByte) → d < length vs → Q d v → ((r : ℕ) → r < 32 → Q r (value_at vs r))
     → (r : ℕ) → r < 32 → Q r (value_at (slice_set vs d v) r)
 each_register Q vs d v lt here rest r small = by (cases_eq r d)
@@ -88,7 +88,7 @@ index_within byte s s' offset a b le =
     by here r small (inr ne) =
         subst₂ IsByteWithin (sym (value_other s.registers 30 r (index_of byte s) ne)) (sym (value_other s'.registers 30 r (index_of byte s') ne)) (le.registers r small)
 
--- the other pairs are as they were
+-- the other pairs stay
 index_others : (byte : ℕ) (s : AbsState) (x : Option PairFacts) → AreInHulls s.registers x → OthersInHulls 15 (with_index byte s).registers x
 index_others byte s None h = tt
 index_others byte s (Some f) h = λ k small ne.

@@ -75,7 +75,7 @@ on_byte_capped false p i low high = ap (with_high p) (narrow_capped p.high i.low
 pair_capped : (p : PairSet) (i : Interval) → p.interval.high < 65536 → pair_narrow p i ≡ pair_narrow p (capped 65535 i)
 pair_capped p i small = ap (λ (h : ℕ). bytes_within p (interval_from (max p.interval.low i.low) h)) (omega (arith, small))
 
--- two cuts that are one at the pair of a state
+-- two cuts that agree on the pair of a state
 cut_same : (cut cut' : PairSet → Option PairSet) (s : AbsState) (n : ℕ) (x : Option PairFacts) → ((f : PairFacts) → x ≡ Some f → cut (pair_of s.registers f.intervals n) ≡ cut' (pair_of s.registers f.intervals n))
     → cut_known cut s n x ≡ cut_known cut' s n x
 cut_same cut cut' s n None same = refl
@@ -105,7 +105,7 @@ PlaceFits place.Neither = ⊤
 PlaceFits (place.Byte r) = r < 32
 PlaceFits (place.Pair r) = IsPair r
 
--- the number at the place lies in the interval
+-- the number at the place is in the interval
 abbrev pub IsIn : CutPlace → Interval → List ℕ → Type 0
 IsIn place.Neither i registers = ⊤
 IsIn (place.Byte r) i registers = InInterval i (slice_index registers r)
@@ -165,7 +165,7 @@ range_ordered place.Neither s offset fits a = omega arith
 range_ordered (place.Byte r) s offset fits a = (a.ranges r fits).ordered
 range_ordered (place.Pair r) s offset fits a = (known_fits s.facts a.facts (r / 2) (half_small r fits.register)).ordered
 
--- of twice `half` numbers
+-- half the number of signed numbers
 abbrev pub half_at : CutPlace → ℕ
 half_at place.Neither = 32768
 half_at (place.Byte r) = 128

@@ -1,4 +1,4 @@
--- The state where one bit of a register is on, or off.
+-- The state if one bit of a register is set, or clear.
 use Rattle.std.proofs.Common.{◌≡◌, refl, sym, ◌∙◌, ap, subst, ℕ, ◌+◌, ◌*◌, ◌/◌, ◌%◌, ◌<◌, Bool, true, false, Option, Some, None, arith}
 use Rattle.std.specs.Prelude.{◌==◌, if◌then◌else◌}
 use Rattle.std.specs.Int.{bit_at, from_bool}
@@ -60,7 +60,7 @@ with_bit_more bit on lt b b' m le e =
     (record { bits = known_more b.bits b'.bits bit on le.bits; low = le.low; high = le.high }) (omega arith) (omega arith) was.1 in
     (n.0, (ap (λ (y : Option TriByte). bytes_by y b') (known_some b'.bits bit on may) ∙ n.1.0, n.1.1))
 
--- where something is left of a pair the bit of its byte may be so
+-- if something is left of a pair, the bit of its byte may have this value
 module _ (s : AbsState) (f : PairFacts) (r bit : ℕ) (on : Bool) where
   abbrev here : PairSet
   here = pair_of s.registers f.intervals (r / 2)

@@ -1,4 +1,4 @@
--- A cut of one pair of a state, and one cut after another.
+-- A cut of one pair of a state, and two cuts in sequence.
 use Rattle.std.proofs.lemmas.Grind.{elements}
 use Rattle.std.proofs.Common.{◌≡◌, ◌≢◌, refl, sym, ◌∙◌, ap, subst, ℕ, ◌+◌, ◌*◌, ◌<◌, ◌⊎◌, inl, inr, List, length, Option, Some, None, slice_set, length-set, arith}
 use Rattle.std.proofs.lemmas.Bool.{cases_eq}
@@ -109,7 +109,7 @@ untagged_by s t rest none = record {
 
 -- ---- hulls
 
--- what a cut of a pair leaves lies in its hull
+-- what a cut of a pair leaves is in its hull
 abbrev pub EndsInHull : (PairSet → Option PairSet) → Type 0
 EndsInHull cut = (p m : PairSet) → cut p ≡ Some m → IsIntervalWithin m.interval (hull m.low m.high)
 
@@ -156,7 +156,7 @@ hulls_known cut s t n whole lt ends (Some f) is count e h =
 
 -- ---- a cut of one pair
 
--- of more, and by more, more is left
+-- cuts are monotone in the state and in the cut
 abbrev pub LeavesMoreBy : (AbsState → Option AbsState) → (AbsState → Option AbsState) → Type 0
 LeavesMoreBy cut cut' =
     (s s' t : AbsState) (offset : ℕ) → IsFormed s offset → IsFormed s' offset → IsStateWithin s s' → cut s ≡ Some t
@@ -221,7 +221,7 @@ after_was (Some u) cut t e = (u, (refl, e))
 pub after_some : (o : Option AbsState) (cut : AbsState → Option AbsState) (u : AbsState) (v : Option AbsState) → o ≡ Some u → cut u ≡ v → after o cut ≡ v
 after_some o cut u v p q = ap (λ (x : Option AbsState). after x cut) p ∙ q
 
--- the state itself is left
+-- the state itself is a possible result
 pub left_same : (s : AbsState) (offset : ℕ) → IsFormed s offset → IsLeftOf s s offset
 left_same s offset a = record {
   within = states_are_ordered.same s;
@@ -254,7 +254,7 @@ nothing_keeps m o s offset a h = (s, (refl, h))
 pub nothing_leaves : LeavesLess (λ s. Some s)
 nothing_leaves s t offset a e = let same : s ≡ t = cc in subst (λ (u : AbsState). IsLeftOf s u offset) same (left_same s offset a)
 
--- a cut that says nothing of the greater state
+-- each cut is below the one that leaves all
 pub nothing_more : (cut : AbsState → Option AbsState) → LeavesLess cut → LeavesMoreBy cut (λ s. Some s)
 nothing_more cut leaves s s' t offset a b le e = (s', (refl, states_are_ordered.through t s s' (leaves s t offset a e).within le))
 

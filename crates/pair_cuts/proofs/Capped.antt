@@ -1,4 +1,4 @@
--- A byte that is cut to numbers beyond those of a byte.
+-- A byte cut to numbers beyond 255.
 use Rattle.std.proofs.Common.{◌≡◌, ◌∙◌, ap, ℕ, ◌%◌, ◌<◌, max, min, Bool, true, false, None, arith}
 use Rattle.std.specs.Prelude.{◌==◌, if◌then◌else◌}
 use Rattle.bit_domain.specs.Ranges.{ByteSet}
@@ -7,11 +7,11 @@ use Rattle.pair_domain.specs.PairSets.{PairSet, with_low, with_high, narrow_low,
 use Rattle.pair_domain.proofs.AllLaws.{narrowing_cuts}
 use Rattle.pair_cuts.specs.Places.{on_byte}
 
--- a high end beyond bytes is as good as 255
+-- a high end beyond 255 cuts like 255
 pub narrow_capped : (b : ByteSet) (low high : ℕ) → b.high < 256 → narrow b low high ≡ narrow b low (min high 255)
 narrow_capped b low high small = ap (λ (h : ℕ). narrowed b (max b.low low) h) (omega (arith, small))
 
--- beyond bytes there is none
+-- beyond 255 nothing is left
 narrow_far : (b : ByteSet) (low high : ℕ) → b.high < 256 → 255 < low → narrow b low high ≡ None
 narrow_far b low high small far =
     narrow_capped b low high small ∙ (narrowing_cuts.none b low (min high 255) (omega arith)).1 (λ x h down up. omega (arith, down, up, far))

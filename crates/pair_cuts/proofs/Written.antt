@@ -1,4 +1,4 @@
--- What is left of a pair, written back, is the cut of the state.
+-- Writing back the cut pair gives the cut state.
 use Rattle.std.proofs.Common.{◌≡◌, ◌∙◌, refl, ap, ℕ, ◌+◌, ◌*◌, Bool, Option, Some, None}
 use Rattle.pair_domain.specs.declared.facts.PairFacts.{PairFacts}
 use Rattle.pair_domain.specs.Facts.{interval_at}

@@ -11,10 +11,10 @@ use abs_state::{AbsByte, AbsState, PairBytes};
 use pair_domain::facts::interval_at;
 use pair_domain::{Interval, PairFacts};
 
-/// What a tag of flags names. Source: own.
+/// The place that a flag tag names. Source: own.
 #[derive(Clone, Copy)]
 pub enum CutPlace {
-    /// No register that is followed.
+    /// No register.
     Neither,
     /// This register, 0 to 31.
     Byte(u8),

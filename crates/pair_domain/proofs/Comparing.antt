@@ -1,4 +1,4 @@
--- What comparisons tell.
+-- Cuts by comparisons.
 use Rattle.std.proofs.Common.{◌≡◌, ◌≢◌, refl, sym, ap, subst, ℕ, ◌+◌, ◌-◌, ◌*◌, ◌<◌, ◌≤◌, ◌⊎◌, inl, inr, max, min, Bool, true, false, Option, Some, None, arith}
 use Rattle.std.specs.Prelude.{◌==◌, nat_lt, if◌then◌else◌}
 use Rattle.std.proofs.lemmas.Bool.{eqb-true, eqb-false, eq-eqb, ne_eqb, false≢true, cases_lt}
@@ -79,7 +79,7 @@ off_keeps i j x y a b ne = by (j.low == j.high) refl
         let other : x ≢ j.low = λ same. ne (omega (arith, same, one, b.low, b.high)) in
         from_keeps (if i.low == j.low then j.low + 1 else i.low) (if i.high == j.low then j.low - 1 else i.high) x (low_end i.low j.low x a.low other) (high_end i.high j.low x a.high other)
 
--- the ends of what is left are at least those of more
+-- cuts of ends are monotone
 low_less : (l l' k : ℕ) → l' ≤ l → (if l' == k then k + 1 else l') ≤ (if l == k then k + 1 else l)
 low_less l l' k le = by (l == k) (l' == k) refl refl
   where
@@ -223,7 +223,7 @@ module _ (half : ℕ) where
   place_high : (x : ℕ) → half ≤ x → signed_place half x ≡ x - half
   place_high x le = ap (λ (b : Bool). if b then x + half else x - half) (isnt_below x half le)
 
-  -- a number is below the greatest, and not below the least
+  -- each number is at most the signed greatest, and at least the least
   greatest_place : (j : Interval) (y : ℕ) → 0 < half → j.high < 2 * half → InInterval j y
       → (signed_place half y ≤ signed_place half (signed_greatest half j)) × (signed_greatest half j < 2 * half)
   greatest_place j y pos small h = by (nat_lt j.low half) refl (cases_lt j.high half) (cases_lt y half)
@@ -303,7 +303,7 @@ module _ (half : ℕ) where
           (omega (arith, le, place_high l (wasnt_below l half e), place_high l' (wasnt_below l' half f), wasnt_below l half e, wasnt_below l' half f)) (omega arith))
           (part_more i i' 0 half 0 half a (omega arith) (omega arith))
 
-  -- the signed greatest and least number of an interval are members of it
+  -- the greatest and the least number of an interval in the signed order are its members
   greatest_in : (j : Interval) → 0 < half → j.low ≤ j.high → InInterval j (signed_greatest half j)
   greatest_in j pos ordered = by (nat_lt j.low half) refl
     where

@@ -1,4 +1,4 @@
--- What is known where pairs are followed and where they aren't.
+-- Facts with pairs followed and without.
 use Rattle.std.proofs.Common.{◌≡◌, refl, sym, ap, subst, ℕ, ◌+◌, ◌<◌, ◌≤◌, ◌⊎◌, inl, inr, ⊎_elim, Bool, List, Option, Some, None, arith}
 use Rattle.pair_domain.specs.declared.facts.PairFacts.{PairFacts}
 use Rattle.pair_domain.specs.declared.tags.SumTag.{SumTag}
@@ -49,7 +49,7 @@ within None y m n near le = refl
 within (Some f) None m n near le = absurd le
 within (Some f) (Some g) m n near le = ap (λ (h : PairFacts). Some h) (facts_are_ordered.within f g m n near le)
 
--- what is a join is kept
+-- a join of sum tags is kept
 pub near_joined : (t u v : SumTag) → v ≡ sum_join t u → IsNear v
 near_joined t u v e = subst IsNear (sym e) (sums_are_ordered.near t u)
 

@@ -1,10 +1,10 @@
--- Intervals by their numbers.
+-- Intervals by number.
 use Rattle.std.proofs.Common.{◌≡◌, refl, ap, ℕ, zero, suc, ◌<◌, List, [], ◌∷◌, length, slice_index_or, arith}
 use Rattle.pair_domain.specs.declared.intervals.Interval.{Interval}
 use Rattle.pair_domain.specs.Intervals.{interval_join}
 use Rattle.pair_domain.specs.Facts.{interval_at, intervals_join}
 
--- two lists of one length with the same items are the same
+-- two lists of one length with the same items are equal
 pub same_items : {A : Type 0} (d : A) (xs ys : List A) → length xs ≡ length ys
     → ((k : ℕ) → k < length xs → slice_index_or xs k d ≡ slice_index_or ys k d) → xs ≡ ys
 same_items d [] [] n e = refl

@@ -145,7 +145,7 @@ greatest_there bits x (suc n) y a b h = last_by bits x n y (λ less. greatest_th
 
 -- ---- cuts
 
--- what a cut has: the bits of both, and their least and greatest member in the range
+-- a cut: the bits of both, and their least and greatest member in the range
 record IsIntervalNarrowed (s : ByteSet) (low high : ℕ) (m : ByteSet) : Type 0 where
   met : byte_meet s.bits (shared_bits low high) ≡ Some m.bits
   least : least_member m.bits low high ≡ Some m.low
@@ -178,7 +178,7 @@ made s low high l h bits met least greatest =
     ∙ ap (λ o. ends_with bits o (greatest_member bits low high)) least
     ∙ ap (λ o. ends_with bits (Some l) o) greatest
 
--- the meet stands for what both stand for
+-- the meet has the members of both
 met_by : (o : Option TriByte) (a b : TriByte) (x : ℕ) → IsIntersection a b o → x < 256 → Has a x → Has b x → (m : TriByte) × ((o ≡ Some m) × Has m x)
 met_by (Some m) a b x is small h g = (m, (refl, (is x small).1 (h, g)))
 met_by None a b x is small h g = absurd (is x small h g)
@@ -188,7 +188,7 @@ met_within o a b m is e =
     let both = subst (IsIntersection a b) e is in
     λ x small has. let h = (both x small).0 has in h.0
 
--- a number that lies in the range and in s is kept
+-- a member in the range is kept
 kept : (s : ByteSet) (low high x : ℕ) → Has s.bits x → x < 256 → low ≤ x → x ≤ high → (m : ByteSet) × ((narrowed s low high ≡ Some m) × SetHas m x)
 kept s low high x has small down up =
     let met = met_by (byte_meet s.bits (shared_bits low high)) s.bits (shared_bits low high) x (lattice_is_of_sets.meets s.bits (shared_bits low high)) small has (shared_has low high x down up) in

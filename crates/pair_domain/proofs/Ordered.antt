@@ -1,4 +1,4 @@
--- The order, the join and the meet of intervals and of the tags of flags.
+-- Order, join and meet of intervals and of flag tags.
 use Rattle.std.proofs.Common.{◌≡◌, refl, sym, ◌∙◌, subst, ℕ, ◌+◌, ◌<◌, ◌≤◌, ◌⊎◌, inl, inr, ⊎_elim, max, min, arith, Bool, true, false, Some, None, List}
 use Rattle.std.specs.Prelude.{◌==◌, nat_le, nat_lt, if◌then◌else◌}
 use Rattle.std.specs.Int.{from_bool}
@@ -46,7 +46,7 @@ empty_if : (test : Bool) (lo hi : ℕ) → interval_if test lo hi ≡ None → t
 empty_if true lo hi e = absurd (cc)
 empty_if false lo hi e = refl
 
--- an interval from low to high, where there is one
+-- the interval from low to high exists
 pub there : (lo hi : ℕ) → lo ≤ hi → interval_if (nat_le lo hi) lo hi ≡ Some (record { low = lo; high = hi })
 there lo hi le = let test : nat_le lo hi ≡ true = grind (arith, nat_tests, le) in made (nat_le lo hi) lo hi test
 
@@ -110,7 +110,7 @@ hulls_hold = record {
 
 -- ---- tags of flags
 
--- a tag that is kept where the test of its ends holds
+-- a tag is kept if the test of its ends holds
 up_above : (test : Bool) (r a b c d : ℕ) → c ≤ a → b ≤ d → IsSumTagWithin (sum.Up r a b) (up_if test r c d)
 up_above true r a b c d low high = λ near. record { pair = refl; low = low; high = high }
 up_above false r a b c d low high = tt
@@ -127,7 +127,7 @@ down_near : (test : Bool) (r a b : ℕ) → (test ≡ true → b < a + 65535) �
 down_near true r a b near = near refl
 down_near false r a b near = tt
 
--- ends that lie within kept ones are kept
+-- ends within kept ones are kept, by the test
 up_below : (test : Bool) (r a b c d : ℕ) → (test ≡ false → a + 65535 ≤ b) → c ≤ a → b ≤ d → d < c + 65535 → IsSumTagWithin (up_if test r a b) (sum.Up r c d)
 up_below true r a b c d wide low high near = λ again. record { pair = refl; low = low; high = high }
 up_below false r a b c d wide low high near = absurd (omega (arith, wide refl, low, high, near))
@@ -282,7 +282,7 @@ least_near (sum.Up r a b) (sum.Down s c d) (sum.Up k l h) near p q = absurd (q n
 least_near (sum.Down r a b) sum.None (sum.Down k l h) near p q = absurd (q near)
 least_near (sum.Down r a b) (sum.Up s c d) (sum.Down k l h) near p q = absurd (q near)
 
--- each tag is below one that says nothing
+-- each tag is below one that isn't kept
 wide_above : (t v : SumTag) → (IsNear v → ⊥) → IsSumTagWithin t v
 wide_above t sum.None wide = tt
 wide_above sum.None (sum.Up k l h) wide = wide

@@ -126,7 +126,7 @@ high_more l h l' h' small down up p p' m le e =
 
 -- ---- both bytes by the interval
 
--- the low byte of a number of the interval is kept
+-- the low byte of a number in the interval is kept
 low_keeps : (test : Bool) (s : ByteSet) (i : Interval) (x y : ℕ) → (test ≡ true → i.low / 256 ≡ i.high / 256) → SetHas s x → InInterval i (x + 256 * y)
     → (m : ByteSet) × (((if test then narrow s (i.low % 256) (i.high % 256) else Some s) ≡ Some m) × SetHas m x)
 low_keeps false s i x y same h inside = (s, (refl, h))

@@ -1,4 +1,4 @@
--- Facts that say less are further up.
+-- Greater facts have greater rank.
 use Rattle.std.proofs.Common.{◌≡◌, refl, sym, ap, ap₂, subst, ℕ, suc, ◌+◌, ◌-◌, ◌*◌, ◌<◌, ◌≤◌, max, min, ◌⊎◌, inl, inr, ⊎_elim, Bool, true, false, List, [], ◌∷◌, length, arith}
 use Rattle.std.specs.Prelude.{◌==◌, nat_lt, if◌then◌else◌}
 use Rattle.std.proofs.lemmas.Bool.{cases_lt}
@@ -19,7 +19,7 @@ use Rattle.pair_domain.proofs.Listed.{interval_at-join}
 use Rattle.pair_domain.proofs.Ordered.{is_near}
 use Rattle.pair_domain.proofs.Whole.{count_joined, interval_at-nothing}
 
--- the same, or further up
+-- equal, or of greater rank
 abbrev Step : {X : Type 0} → (X → ℕ) → X → X → Type 0
 Step rank a b = (a ≡ b) ⊎ (rank a < rank b)
 
@@ -30,7 +30,7 @@ both_step f ra rb rc is a a' b b' (inl e) (inr lt) = inr (omega (arith, is a b, 
 both_step f ra rb rc is a a' b b' (inr lt) (inl e) = inr (omega (arith, is a b, is a' b', ap rb e, lt))
 both_step f ra rb rc is a a' b b' (inr lt) (inr more) = inr (omega (arith, is a b, is a' b', lt, more))
 
--- the ends of an interval
+-- the width of an interval
 abbrev width : ℕ × ℕ → ℕ
 width p = p.1 - p.0
 

@@ -1,4 +1,4 @@
--- What rows tell.
+-- Transfer functions of rows.
 use Rattle.std.proofs.Common.{◌≡◌, refl, subst, ℕ, ◌+◌, ◌-◌, ◌*◌, ◌/◌, ◌%◌, ◌<◌, ◌≤◌, Bool, true, false, Some, None, arith}
 use Rattle.std.specs.Prelude.{◌==◌, nat_lt, nat_le, if◌then◌else◌}
 use Rattle.std.specs.Int.{from_bool}
@@ -22,7 +22,7 @@ told_by true a b x same down up = let e = same refl in record { low = omega (ari
 modulo_true : (a b x : ℕ) → a ≤ x → x ≤ b → ToldHolds (modulo a b) (x % 65536)
 modulo_true a b x down up = told_by (a / 65536 == b / 65536) a b x (λ e. eqb-true (a / 65536) (b / 65536) e) down up
 
--- the same of another name of the number
+-- another name of the number
 modulo_at : (a b x w : ℕ) → x % 65536 ≡ w → a ≤ x → x ≤ b → ToldHolds (modulo a b) w
 modulo_at a b x w is down up = subst (ToldHolds (modulo a b)) is (modulo_true a b x down up)
 
@@ -85,7 +85,7 @@ rows_are_true = record {
   product = λ n m n' m' x y a b c d. record { low = mul-le-mul a c; high = mul-le-mul b d };
 }
 
--- of wider ends a tag says less, and none is kept where they are too far apart
+-- tags are monotone in their ends, and none is kept if these are too far apart
 up_less : (test test' : Bool) (r a b c d : ℕ) → nat_lt b (a + 65535) ≡ test → nat_lt d (c + 65535) ≡ test' → c ≤ a → b ≤ d
     → IsSumTagWithin (up_if test r a b) (up_if test' r c d)
 up_less test false r a b c d e e' low high = tt

@@ -1,4 +1,4 @@
--- What the loops that seek a member have done so far.
+-- Invariants of the loops that search a member.
 use Rattle.std.proofs.Common.{◌≡◌, ◌≢◌, refl, sym, ◌∙◌, ap, ℕ, suc, ◌+◌, ◌-◌, ◌/◌, ◌^◌, ◌<◌, ◌≤◌, inl, inr, Bool, true, false, Some, None, arith}
 use Rattle.std.specs.Prelude.{◌==◌, if◌then◌else◌}
 use Rattle.std.specs.Int.{bit_at}
@@ -27,7 +27,7 @@ passed : (b : Bool) (t u : Tri) → b ≡ false → (if b then t else u) ≡ u
 passed true t u e = absurd (false≢true (sym e))
 passed false t u e = refl
 
--- bit i is written too
+-- one more bit is written
 pub with_more : (t : TriByte) (f : ℕ → Tri) (i : ℕ) → i < 8 → ((k : ℕ) → k < i → tri_at t k ≡ f k) → (k : ℕ) → k < i + 1 → tri_at (byte_with t i (f i)) k ≡ f k
 with_more t f i small done k h =
     bytes_are_their_bits.has_bits (λ j. if j == i then f i else tri_at t j) k (omega arith)

@@ -1,4 +1,4 @@
--- The order and the join of facts, and what holds where less is said.
+-- Order and join of facts, and what holds in greater ones.
 use Rattle.std.proofs.Common.{◌≡◌, sym, ◌∙◌, subst, ℕ, ◌*◌, ◌<◌, length, arith}
 use Rattle.std.proofs.lemmas.List.{get_or-replicate}
 use Rattle.pair_domain.specs.declared.intervals.Interval.{Interval}

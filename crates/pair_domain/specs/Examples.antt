@@ -97,7 +97,7 @@ no_common_number = refl
 
 -- ---- sums and differences
 
--- a sum is told if all numbers wrap or none does
+-- a sum is known if all numbers wrap or none does
 sum_below : moved_up (from 10 20) 5 ≡ just 15 25
 sum_below = refl
 

@@ -3,8 +3,8 @@
 ghost use Rattle.std.specs.Prelude.{◌≡◌, ◌↔◌, ◌+◌, nat_lt, IsTrue};
 ghost use Rattle.pair_domain.specs.Tags.{up_from, down_from, sum_join, IsSumTagWithin, compare_join, IsCompareWithin, zero_join, IsZeroWithin};
 
-/// What relates a register pair and C between the two instructions of a sum or difference of 16 bits. A tag is normal if its ends are less
-/// than 65,535 apart. Source: own.
+/// The relation between a register pair and C, between the two instructions of a 16-bit sum or difference. A tag is normal if its ends
+/// are less than 65,535 apart. Source: own.
 #[derive(Clone, Copy, PartialEq, Eq)]
 pub enum SumTag {
     /// Unknown.

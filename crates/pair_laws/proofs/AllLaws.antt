@@ -1,4 +1,4 @@
--- The laws, each under the name of the public function that carries it. Crates above cite them from here.
+-- The laws, each under the name of its public function. Crates above cite them from here.
 use Rattle.pair_laws.specs.Laws.{OperandsFit, ValuesAreCovered}
 use Rattle.pair_laws.proofs.Operands.{registers_there}
 use Rattle.pair_laws.proofs.Doubled.{doubled_is_covered}

@@ -1,4 +1,4 @@
--- What is told cuts a state.
+-- The interval of a transfer function cuts a state.
 use Rattle.std.proofs.Common.{◌≡◌, refl, sym, ◌∙◌, ap, subst, ℕ, ◌+◌, ◌*◌, ◌<◌, ◌≤◌, ◌⊎◌, inl, inr, ⊎_elim, List, length, Option, Some, None, slice_set, length-set, arith}
 use Rattle.std.proofs.lemmas.Bool.{cases_eq, cases_lt}
 use Rattle.std.proofs.lemmas.List.{get_or_past}
@@ -124,7 +124,7 @@ cut_more marks (told.Computed n j) (told.Computed k j') s s' u fits fits' less w
 
 -- ---- what stays: the flags, the slots, and the tags of values
 
--- the value of each register has the tag that it had
+-- each register keeps its tag
 abbrev pub AreTaggedLike : AbsState → AbsState → Type 0
 AreTaggedLike t u = (r : ℕ) → (value_at u.registers r).tag ≡ (value_at t.registers r).tag
 

@@ -1,4 +1,4 @@
--- A byte and itself, and a carry.
+-- The sum of a byte, itself and a carry.
 use Rattle.std.proofs.Common.{◌≡◌, refl, sym, ◌∙◌, subst, ℕ, zero, suc, ◌+◌, ◌-◌, ◌*◌, ◌/◌, ◌%◌, ◌<◌, ◌==◌, ◌⊎◌, inl, inr, Bool, true, false, if◌then◌else◌, arith}
 use Rattle.std.proofs.lemmas.Bool.{cases_eq, eqb-true, eq-eqb, ne_eqb, false≢true}
 use Rattle.std.specs.Int.{bit_at}
@@ -35,7 +35,7 @@ after_zero k e = by (cases_eq k 0)
     by (inl zero_is) = absurd (false≢true (sym e ∙ eq-eqb k 0 zero_is))
     by (inr other) = omega arith
 
--- what is permitted of the new lowest bit and of the old ones below bit 7 is permitted of all
+-- if the new lowest bit and the old bits below bit 7 are permitted, all are
 each_bit : (b : TriByte) (low : Tri) (y : ℕ) → Permits low (bit_at y 0) → ((k : ℕ) → k < 7 → Permits (tri_at b k) (bit_at y (k + 1)))
     → (k : ℕ) → k < 8 → Permits (if k == 0 then low else tri_at b (k - 1)) (bit_at y k)
 each_bit b low y first rest k lt = by (k == 0) refl
@@ -66,7 +66,7 @@ doubled_more b b' low low' le first =
 
 -- ---- the plain sum is above it
 
--- the byte whose bits below bit 7 are those of x above bit 0, with bit 7 of n
+-- the byte of the bits of x above bit 0, with bit 7 of n on top
 abbrev halved : ℕ → ℕ → ℕ
 halved x n = x / 2 + 128 * (n / 128 % 2)
 
@@ -83,7 +83,7 @@ halved_bit x n (suc (suc (suc (suc (suc (suc (suc k))))))) small inside = absurd
 halved_top : (x n : ℕ) → x < 256 → bit_at n 7 ≡ bit_at (halved x n) 7
 halved_top x n small = omega arith
 
--- of a doubled byte: its lowest bit, and the bits of its half
+-- a doubled byte: its lowest bit, and the bits of its half
 bits_of : (b : TriByte) (low : Tri) (x k : ℕ) → k < 8 → Has (doubled b low) x → Permits (if k == 0 then low else tri_at b (k - 1)) (bit_at x k)
 bits_of b low x k lt has =
     subst (λ (t : Tri). Permits t (bit_at x k)) (bytes_are_their_bits.has_bits (λ j. if j == 0 then low else tri_at b (j - 1)) k lt) (has k lt)

@@ -144,7 +144,7 @@ is_in_flash words permits z e lt may =
 
 -- ---- joins
 
--- the join of the numbers below n + 1, where n is permitted and where it isn't
+-- the join for the numbers below n + 1, by whether n is permitted
 abbrev joined_if : Bool → Option AbsByte → AbsByte → Option AbsByte
 joined_if b o v = if b then Some (joined_with o v) else o
 
@@ -152,7 +152,7 @@ with_second : (o : Option AbsByte) (v : AbsByte) → IsByteWithin v (joined_with
 with_second None v = values_are_ordered.same v
 with_second (Some w) v = values_are_ordered.second w v
 
--- a value that some permitted number has is within the join
+-- the value of a permitted number is within the join
 pub joined_has : (permits : ℕ → Bool) (value : ℕ → AbsByte) (n z : ℕ) → z < n → permits z ≡ true
     → (v : AbsByte) × ((joined_below permits value n ≡ Some v) × IsByteWithin (value z) v)
 unfolding joined_below
@@ -187,7 +187,7 @@ with_least : (o : Option AbsByte) (v w : AbsByte) → ((u : AbsByte) → o ≡ S
 with_least None v w rest le = le
 with_least (Some u) v w rest le = values_are_ordered.least u v w (rest u refl) le
 
--- the join is the least above all
+-- the join is the least upper bound
 pub joined_under : (permits : ℕ → Bool) (value : ℕ → AbsByte) (w : AbsByte) (n : ℕ) → ((z : ℕ) → z < n → permits z ≡ true → IsByteWithin (value z) w)
     → (v : AbsByte) → joined_below permits value n ≡ Some v → IsByteWithin v w
 unfolding joined_below
@@ -201,7 +201,7 @@ joined_under permits value w (suc n) each v e = by (λ u is. joined_under permit
         subst (λ (u : AbsByte). IsByteWithin u w) (same_Some (joined_with (joined_below permits value n) (value n)) v is)
         (with_least (joined_below permits value n) (value n) w rest (each n (omega arith) may))
 
--- what holds of each value and of joins holds of the join
+-- a property of each value and of joins holds of the join
 pub joined_is : (C : AbsByte → Type 0) (permits : ℕ → Bool) (value : ℕ → AbsByte) (n : ℕ) → ((z : ℕ) → C (value z)) → ((v w : AbsByte) → C v → C w → C (value_join v w))
     → (v : AbsByte) → joined_below permits value n ≡ Some v → C v
 unfolding joined_below
@@ -216,7 +216,7 @@ joined_is C permits value (suc n) each joins v e = by (λ u is. joined_is C perm
     by rest false is = rest v is
     by rest true is = subst C (same_Some (joined_with (joined_below permits value n) (value n)) v is) (onto (joined_below permits value n) rest)
 
--- there is none where none is permitted
+-- there is no join if no number is permitted
 nothing_there : (permits : ℕ → Bool) (value : ℕ → AbsByte) (n : ℕ) → ((z : ℕ) → z < n → permits z ≡ true → ⊥) → (v : AbsByte) → joined_below permits value n ≡ Some v → ⊥
 unfolding joined_below
 nothing_there permits value zero none v e = none-some v e
@@ -226,7 +226,7 @@ nothing_there permits value (suc n) none v e = by (nothing_there permits value n
     by rest true may is = none n (omega arith) may
     by rest false other is = rest is
 
--- of more numbers it is there too, and more
+-- the join is monotone in the permitted numbers
 pub joined_more : (permits permits' : ℕ → Bool) (value : ℕ → AbsByte) → IsMore permits permits' → (v : AbsByte) → joined_below permits value 65536 ≡ Some v
     → (v' : AbsByte) × ((joined_below permits' value 65536 ≡ Some v') × IsByteWithin v v')
 joined_more permits permits' value more v e = by (joined_below permits' value 65536) refl
@@ -263,7 +263,7 @@ pub flash_untagged : (words : Program) (permits : ℕ → Bool) (v : AbsByte) �
 flash_untagged words permits v e =
     joined_is (λ w. w.tag ≡ tag.None) permits (flash_known words) 65536 (λ z. refl) (λ v w a b. ap₂ tag_join a b) v e
 
--- below each value that is above what is read at each number that is permitted
+-- the join is below each value that is above all permitted bytes
 pub flash_covered : (words : Program) (p : PairSet) (w : AbsByte) → CoversFlash words p w → few_in_flash words (pair_permits p) ≡ true
     → (v : AbsByte) → flash_joined words (pair_permits p) ≡ Some v → IsByteWithin v w
 flash_covered words p w covers few v e =

@@ -1,4 +1,4 @@
--- The pairs that an instruction writes have their hulls as intervals.
+-- The intervals of written pairs are their hulls.
 use Rattle.std.proofs.Common.{◌≡◌, refl, sym, ◌∙◌, ap, subst, ℕ, ◌+◌, ◌*◌, ◌/◌, ◌<◌, ◌≤◌, ◌⊎◌, inl, inr, ⊎_elim, Bool, List, [], ◌∷◌, length, Option, Some, None, slice_set, length-set, arith}
 use Rattle.std.specs.Prelude.{⊤, ◌||◌, ◌==◌, true, if◌then◌else◌}
 use Rattle.std.proofs.lemmas.Bool.{cases_eq, cases_lt, eq-eqb}
@@ -192,7 +192,7 @@ all_less values (r ∷ rs) x above =
     known_is_ordered.through (all_hulled values rs (written_hull values r x)) (written_hull values r x) x
     (all_less values rs (written_hull values r x) (all_above values r rs x above.1)) (hulled_less values r x above.0)
 
--- a register of the list is one of its pair
+-- a written register belongs to its pair
 in_its_pair : (written : ℕ → Bool) (r : ℕ) → written r ≡ true → in_pair written (2 * (r / 2)) ≡ true
 in_its_pair written r e = by (cases_eq (2 * (r / 2)) r)
   where
@@ -225,7 +225,7 @@ none_above : (values : List AbsByte) (rs : List ℕ) → AreAbove values rs None
 none_above values [] = tt
 none_above values (r ∷ rs) = (tt, none_above values rs)
 
--- what the hulls say is no less than what was left
+-- the hulls are above what was left
 pub hulls_less : (values : List AbsByte) → AreValuesFit values → (rs : List ℕ) (flags carry : Bool) (x : Option PairFacts) → AreBytesBelow rs
     → IsKnownWithin (all_hulled values rs (ended (is_one_of rs) flags carry x)) (ended (is_one_of rs) flags carry x)
 hulls_less values fit rs flags carry None below = all_less values rs None (none_above values rs)

@@ -73,7 +73,7 @@ pair_ended registers instr (Some f) k small kept h =
     ended_at (is_one_of (written instr)) f.intervals k ∙ ap (λ (b : Bool). if b then whole else interval_at f.intervals k) kept in
     subst (λ (j : Interval). IsIntervalWithin j (hull_at registers k)) (sym there) (h k small)
 
--- more is told of registers that are written
+-- values of written registers are refined
 set_kept : (t : AbsState) (d : ℕ) (v : AbsByte) (rs : List ℕ) (r : ℕ) → is_one_of (d ∷ rs) r ≡ false → value_at (with_value t d v).registers r ≡ value_at t.registers r
 set_kept t d v rs r kept =
     value_other t.registers d r v (λ same. let hit : is_one_of (d ∷ rs) r ≡ true = ap (λ (b : Bool). b || is_one_of rs r) (eq-eqb d r (sym same)) in false≢true (sym kept ∙ hit))
@@ -123,7 +123,7 @@ module _ (s t a : AbsState) (r : ℕ) where
 
 -- ---- pairs that have their hulls
 
--- pair 2 k is in its hull, or it is one of those that are left
+-- pair 2 k is in its hull, or among the remaining ones
 abbrev InOrLeft : List AbsByte → List ℕ → Option PairFacts → ℕ → Type 0
 InOrLeft vs rs x k = PairIn vs x k ⊎ (in_pair (is_one_of rs) (2 * k) ≡ true)
 

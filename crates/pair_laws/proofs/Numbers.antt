@@ -1,4 +1,4 @@
--- Numbers of pairs in registers of which some are set.
+-- Numbers of pairs after some registers are set.
 use Rattle.std.proofs.Common.{◌≡◌, sym, ◌∙◌, ap₂, subst, ℕ, ◌+◌, ◌*◌, ◌/◌, ◌%◌, ◌<◌, ◌≤◌, ◌⊎◌, inl, inr, ⊎_elim, List, length, slice_index, slice_set, arith, length-set}
 use Rattle.std.proofs.lemmas.Bool.{cases_eq, cases_lt}
 use Rattle.std.proofs.lemmas.List.{get_or_past}
@@ -40,7 +40,7 @@ module _ (rs : List ℕ) (count : length rs ≡ 32) where
   pub set_word : (k w : ℕ) → k < 16 → pair_number (slice_set (slice_set rs (2 * k) (w % 256)) (2 * k + 1) (w / 256)) (2 * k) ≡ w
   set_word k w lt = let e : w % 256 + 256 * (w / 256) ≡ w = omega arith in set_both k (w % 256) (w / 256) lt ∙ e
 
-  -- behind it another register is set
+  -- a later write of another register
   pub word_kept : (k d w x : ℕ) → k < 16 → (d / 2 ≡ k → ⊥)
       → pair_number (slice_set (slice_set (slice_set rs (2 * k) (w % 256)) (2 * k + 1) (w / 256)) d x) (2 * k) ≡ w
   word_kept k d w x lt away =
@@ -49,7 +49,7 @@ module _ (rs : List ℕ) (count : length rs ≡ 32) where
       (set_other (slice_set (slice_set rs (2 * k) (w % 256)) (2 * k + 1) (w / 256)) d (2 * k + 1) x (λ e. away (omega arith)))
       ∙ set_word k w lt
 
-  -- a register of a pair, by its number, that becomes a function of what it holds
+  -- a register of a pair becomes a function of its old value
   pub high_is : (k d : ℕ) (g : ℕ → ℕ) → k < 16 → 2 * k + 1 ≡ d
       → pair_number (slice_set rs d (g (slice_index rs d))) (2 * k) ≡ slice_index rs (2 * k) + 256 * g (slice_index rs (2 * k + 1))
   high_is k d g lt e =
@@ -59,6 +59,6 @@ module _ (rs : List ℕ) (count : length rs ≡ 32) where
   pub low_is : (d x : ℕ) → d < 32 → pair_number (slice_set rs d x) d ≡ x + 256 * slice_index rs (d + 1)
   low_is d x lt = ap₂ (λ (a b : ℕ). a + 256 * b) (set_there rs d x (omega (arith, lt, count))) (set_other rs d (d + 1) x (λ e. omega arith))
 
-  -- a pair of which a register is set to what it holds
+  -- a register of a pair is set to its old value
   pub same_is : (d k x : ℕ) → x ≡ slice_index rs d → pair_number (slice_set rs d x) (2 * k) ≡ pair_number rs (2 * k)
   same_is d k x is = ap₂ (λ (a b : ℕ). a + 256 * b) (set_same rs d (2 * k) x is) (set_same rs d (2 * k + 1) x is)

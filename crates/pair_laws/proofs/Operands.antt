@@ -1,4 +1,4 @@
--- The registers of an instruction that is decoded are there.
+-- The registers of a decoded instruction exist.
 use Rattle.std.proofs.Common.{◌≡◌, subst, ℕ, ◌+◌, ◌<◌, Bool, true, false, if◌then◌else◌, ◌&&◌, not, List, [], ◌∷◌, Option, Some, None, arith}
 use Rattle.std.specs.Prelude.{⊤, ◌==◌, ◌*◌, ◌≤◌, length}
 use Rattle.std.specs.Int.{bit_at}
@@ -29,7 +29,7 @@ there_in (row ∷ rows) w next instr h e = here (matches row w) (there_in rows w
     here true rest same = subst HasRegisters (some_is (row.instr (fields row.pattern w next)) same) (h.0 w next)
     here false rest same = rest same
 
--- the number in the places of a letter, at most: all its bits are 1
+-- the greatest number in the places of a letter: all its bits are 1
 abbrev most : ℕ → ℕ → List ℕ → ℕ
 most c sofar [] = sofar
 most c sofar (x ∷ p) = most c (if x == c then sofar * 2 + 1 else sofar) p

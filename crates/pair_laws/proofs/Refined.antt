@@ -43,7 +43,7 @@ use Rattle.pair_laws.proofs.Retold.{IsRetold, same, sets, retold_was, retold_und
 
 -- ---- the steps
 
--- what is left of t, with its values retold, and with what is told
+-- t with refined values, cut by the transfer function
 pub record IsRefined (marks : List ℕ) (words : Program) (instr : Instr) (s t u : AbsState) (f : PairFacts) : Type 0 where
   pub values : AbsState
   pub cut : AbsState
@@ -110,7 +110,7 @@ retold_facts : (t u : AbsState) → IsRetold t u → u.facts ≡ t.facts
 retold_facts t u (same is) = ap (λ (v : AbsState). v.facts) is
 retold_facts t u (sets d v is fits untagged) = ap (λ (w : AbsState). w.facts) is
 
--- what holds of tags, and of none, holds of them still
+-- a property of tags, and of none, is preserved
 retold_tags : (C : Tag → Type 0) (t u : AbsState) → C tag.None → IsRetold t u → ((r : ℕ) → r < 32 → C (value_at t.registers r).tag) → (r : ℕ) → r < 32 → C (value_at u.registers r).tag
 retold_tags C t u none (same is) old = subst (λ (v : AbsState). (r : ℕ) → r < 32 → C (value_at v.registers r).tag) (sym is) old
 retold_tags C t u none (sets d v is fits untagged) old =
@@ -120,7 +120,7 @@ retold_tags C t u none (sets d v is fits untagged) old =
 -- ---- a state that is refined
 
 module _ (marks : List ℕ) (words : Program) (instr : Instr) (n k : ℕ) (s t : AbsState) (fit : HasRegisters instr) (before : IsFormed s n) (behind : IsFormed t k) where
-  -- the state in which the hulls are told
+  -- the state with the hulls as intervals
   hulled_formed : (f : PairFacts) (a : AbsState) → retold words s f instr t ≡ Some a → IsFormed (with_hulls (written instr) a) k
   hulled_formed f a is =
       let formed = retold_formed t a k (retold_was words s f instr t a is) behind in
@@ -144,7 +144,7 @@ module _ (marks : List ℕ) (words : Program) (instr : Instr) (n k : ℕ) (s t :
         facts = tags_fit f fits s n before instr was.cut.facts fit cut.facts;
       })
 
-  -- what holds of tags of t, and of none, holds of those of u
+  -- a property of the tags of t, and of none, holds of those of u
   tags_known : (C : Tag → Type 0) (x : Option PairFacts) (u : AbsState) → C tag.None → ((r : ℕ) → r < 32 → C (value_at t.registers r).tag) → refined_known marks words instr s t x ≡ Some u
       → (r : ℕ) → r < 32 → C (value_at u.registers r).tag
   tags_known C None u none old e = subst (λ (v : AbsState). (r : ℕ) → r < 32 → C (value_at v.registers r).tag) (same_Some t u e) old
@@ -185,7 +185,7 @@ module _ (marks : List ℕ) (words : Program) (instr : Instr) (n k : ℕ) (s t :
         facts = tags_under s f instr was.cut.facts t.facts plain all.facts;
       })
 
-  -- what is told leaves intervals in hulls
+  -- cuts leave intervals in hulls
   in_hulls_known : (x : Option PairFacts) (u : AbsState) → t.facts ≡ ended_by instr x
       → ((r : ℕ) → r < 32 → is_one_of (written instr) r ≡ false → set_of (value_at t.registers r) ≡ set_of (value_at s.registers r)) → AreInHulls s.registers x
       → refined_known marks words instr s t x ≡ Some u → IsInHulls u

@@ -1,4 +1,4 @@
--- Values of which more is told.
+-- Refined values.
 use Rattle.std.proofs.Common.{◌≡◌, refl, sym, ◌∙◌, ap, subst, subst₂, ℕ, ◌/◌, ◌%◌, ◌<◌, ◌==◌, if◌then◌else◌, ◌⊎◌, inl, inr, ⊎_elim, zero, suc, ◌≤◌, Bool, true, false, List, length, Option, Some, None, slice_index, slice_set, arith, length-set}
 use Rattle.std.specs.Int.{from_bool}
 use Rattle.std.specs.List.{All}
@@ -57,7 +57,7 @@ value_there vs d v lt = grind (arith, elements)
 value_past : (vs : List AbsByte) (d : ℕ) (v : AbsByte) → length vs ≤ d → value_at (slice_set vs d v) d ≡ value_at vs d
 value_past vs d v past = get_or_past (slice_set vs d v) d unknown (omega (arith, past, length-set vs d v)) ∙ sym (get_or_past vs d unknown past)
 
--- what holds of the new value and of all old ones holds of all
+-- a property of the new value and of all old ones holds of all
 pub value_set : (Q : ℕ → AbsByte → Type 0) (values : List AbsByte) (d : ℕ) (v : AbsByte) → Q d v → ((r : ℕ) → r < 32 → Q r (value_at values r))
     → (r : ℕ) → r < 32 → Q r (value_at (slice_set values d v) r)
 value_set Q values d v new old r lt = by (cases_eq r d)
@@ -72,7 +72,7 @@ value_set Q values d v new old r lt = by (cases_eq r d)
         subst P (sym e) (⊎_elim (λ set. subst (Q d) (sym set) new) (λ past. subst (Q d) (sym past) here) there)
     by (inr ne) = let other : value_at (slice_set values d v) r ≡ value_at values r = grind (arith, elements) in subst (Q r) (sym other) (old r lt)
 
--- the same of two lists of as many values
+-- a relation of two lists of equal length holds after both are set
 pub both_set : (vs ws : List AbsByte) (d : ℕ) (v w : AbsByte) → length vs ≡ length ws → IsByteWithin v w → ((r : ℕ) → r < 32 → IsByteWithin (value_at vs r) (value_at ws r))
     → (r : ℕ) → r < 32 → IsByteWithin (value_at (slice_set vs d v) r) (value_at (slice_set ws d w) r)
 both_set vs ws d v w count new old r lt = by (cases_eq r d)
@@ -221,13 +221,13 @@ z_within s s' f f' le facts =
       interval = facts.intervals 15 (omega arith);
     }
 
--- u is there, and more than that
+-- the second exists and is above u
 abbrev IsMoreThan : AbsState → Option AbsState → Type 0
 IsMoreThan u o = (u' : AbsState) × (o ≡ Some u') × IsStateWithin u u'
 
 module _ (words : Program) (t t' u : AbsState) (d : ℕ) (count : length t.registers ≡ length t'.registers) (le : IsStateWithin t t') (p p' : PairSet) (more : IsPairWithin p p')
     (covers : CoversFlash words p' (value_at t'.registers d)) where
-  -- where few numbers are permitted of both
+  -- few numbers are permitted of both
   both_few : (o : Option AbsByte) → flash_joined words (pair_permits p) ≡ o → with_joined t d o ≡ Some u → IsMoreThan u (with_joined t' d (flash_joined words (pair_permits p')))
   both_few None is e = absurd (cc)
   both_few (Some v) is e =
@@ -237,7 +237,7 @@ module _ (words : Program) (t t' u : AbsState) (d : ℕ) (count : length t.regis
         subst (λ (w : AbsState). IsStateWithin w (with_value t' d joined.0)) (same_Some (with_value t d v) u e) (values_less t t' d v joined.0 count joined.1.1 le),
       )
 
-  -- of the second too many are
+  -- too many are permitted of the second
   first_few : few_in_flash words (pair_permits p) ≡ true → (o : Option AbsByte) → flash_joined words (pair_permits p) ≡ o → with_joined t d o ≡ Some u → IsStateWithin u t'
   first_few few None is e = absurd (cc)
   first_few few (Some v) is e =
@@ -326,7 +326,7 @@ byte_small words z all = here (z % 2 == 0)
     here true = omega arith
     here false = omega (arith, word)
 
--- there is such a state with these facts, whose registers stand
+-- such a state with these facts exists, and its registers hold
 abbrev StandsRetold : Origin → AbsState → Option AbsState → List ℕ → Type 0
 StandsRetold o t left registers = (u : AbsState) × (left ≡ Some u) × RegistersStand o u.registers registers × (u.facts ≡ t.facts)
 
@@ -414,7 +414,7 @@ module _ (o : Origin) (m : State) (s t : AbsState) (n : ℕ) (at : IsBefore o s 
           subst (λ (q : ℕ). StandsRetold o t (Some (doubled_by s op d t)) (with_registers m.registers (binary_effect words m op d q).registers)) is
           (by_stands op d lt (subst (λ (q : ℕ). RegistersStand o t.registers (with_registers m.registers (binary_effect words m op d q).registers)) (sym is) stand))
 
-  -- behind a pointer that moved
+  -- after a pointer moved
   behind_pair : (d x lo hi : ℕ) → d < 32 → slice_index (slice_set (slice_set (slice_set m.registers 30 lo) 31 hi) d x) d ≡ x
   behind_pair d x lo hi lt =
       set_there (slice_set (slice_set m.registers 30 lo) 31 hi) d x

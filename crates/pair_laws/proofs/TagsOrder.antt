@@ -1,4 +1,4 @@
--- Of more an instruction gives tags that say less; they fit, and say more than what the plain rules leave.
+-- Tags of an instruction are monotone, fit, and are within those that the plain rules leave.
 use Rattle.std.proofs.Common.{◌≡◌, refl, sym, ◌∙◌, ap, subst, ℕ, ◌+◌, ◌*◌, ◌/◌, ◌%◌, ◌<◌, ◌≤◌, ◌==◌, nat_lt, ◌&&◌, if◌then◌else◌, ◌⊎◌, inl, inr, Bool, true, false, Option, Some, None, arith}
 use Rattle.std.proofs.lemmas.Bool.{cases_eq, eqb-true, eq-eqb, and_parts, false≢true}
 use Rattle.std.proofs.lemmas.Bool.Decides.{nat_tests}
@@ -359,7 +359,7 @@ module _ (f : PairFacts) (fits : FactsFit f) where
 
 -- ---- where the tags were ended before
 
--- where C is written no sum is left, and where flags are no other tag
+-- a write of C ends the sum tag, a write of flags ends the others
 sum_gone : (written : ℕ → Bool) (t : SumTag) → sum_ended written true t ≡ sum.None
 sum_gone written sum.None = refl
 sum_gone written (sum.Up r a b) = refl
@@ -375,7 +375,7 @@ zero_gone written zero.None = refl
 zero_gone written (zero.Byte x) = refl
 zero_gone written (zero.Pair r) = refl
 
--- x says no more than what was left, of which y has less tags
+-- x is above what was left; y has fewer tags than x
 pub tags_under : (s : AbsState) (f : PairFacts) (instr : Instr) (x y : Option PairFacts) → y ≡ ended_by instr (Some f) → IsKnownWithin x y
     → IsKnownWithin (tagged s.registers f instr x) y
 tags_under s f instr x None is le = tt

@@ -1,4 +1,4 @@
--- The tags that an instruction gives are true of the registers and flags behind it.
+-- The tags of an instruction hold of registers and flags after it.
 use Rattle.std.proofs.Common.{◌≡◌, refl, sym, ◌∙◌, ap, ap₂, subst, subst₂, ℕ, ◌+◌, ◌-◌, ◌*◌, ◌/◌, ◌%◌, ◌<◌, ◌==◌, nat_lt, nat_le, ◌&&◌, ◌||◌, not, if◌then◌else◌, ◌⊎◌, inl, inr, Bool, true, false, List, length, Option, Some, None, slice_index, slice_set, arith}
 use Rattle.std.specs.Int.{from_bool}
 use Rattle.std.proofs.lemmas.Bool.{cases_eq, eqb-true, eq-eqb, and_parts, false≢true}
@@ -137,7 +137,7 @@ zero_alone : (b c : Bool) → (b && (not false || c)) ≡ b
 zero_alone true c = refl
 zero_alone false c = refl
 
--- Z after a result goes to register d
+-- Z after a result that goes to register d
 zero_there : (registers : List ℕ) (d result : ℕ) (z : Bool) → d < length registers → z ≡ (result == 0) → ZeroHolds (slice_set registers d result) (zero.Byte d) z
 zero_there registers d result z lt is = is ∙ ap (λ (x : ℕ). x == 0) (sym (set_there registers d result lt))
 
@@ -167,7 +167,7 @@ both_zero x y z is = by z is
     by true e = grind (arith, nat_tests)
     by false e = grind (arith, nat_tests)
 
--- `sbc` leaves Z where it was and the result is 0
+-- `sbc` keeps Z for a result of 0
 kept_zero : (registers : List ℕ) (count : length registers ≡ 32) (t : ZeroTag) (d b s : ℕ) (c : Bool) → d < 32 → ZeroHolds registers t (flag s 1)
     → ZeroHolds (slice_set registers d (difference_of (slice_index registers d) b c)) (zero_high t d) (flag (flags_of_difference (slice_index registers d) b c true s) 1)
 kept_zero registers count zero.None d b s c lt h = tt

@@ -1,4 +1,4 @@
--- What is said of what an instruction tells: that it is true of registers, that it fits, and that another tells no more.
+-- Results of the transfer function: that they hold of registers, that they fit, and their order.
 use Rattle.std.proofs.Common.{◌≡◌, refl, sym, ◌∙◌, ℕ, ◌+◌, ◌*◌, ◌/◌, ◌%◌, ◌<◌, ◌==◌, if◌then◌else◌, Bool, true, false, List, Option, Some, None, arith}
 use Rattle.std.specs.Prelude.{⊤}
 use Rattle.std.proofs.lemmas.Bool.{eqb-true, eq-eqb, false≢true}
@@ -10,19 +10,19 @@ use Rattle.pair_rules.specs.declared.told.Told.{Told}
 use Rattle.pair_rules.specs.declared.told.Told.TheVariants as told
 use Rattle.pair_rules.specs.Told.{is_odd, computed, computed_high, unless_set}
 
--- it holds of the registers
+-- the result holds of the registers
 abbrev pub TellsTrue : Told → List ℕ → Type 0
 TellsTrue told.Nothing registers = ⊤
 TellsTrue (told.Kept n j) registers = InInterval j (pair_number registers (2 * n))
 TellsTrue (told.Computed n j) registers = InInterval j (pair_number registers (2 * n))
 
--- there is such a pair, and its interval has numbers of 16 bits
+-- the pair exists, and its interval has 16-bit numbers
 abbrev pub ToldFits : Told → Type 0
 ToldFits told.Nothing = ⊤
 ToldFits (told.Kept n j) = n < 16
 ToldFits (told.Computed n j) = (n < 16) × (j.high < 65536)
 
--- the second tells no more than the first
+-- the second claims no more than the first
 abbrev pub IsToldLess : Told → Told → Type 0
 IsToldLess t told.Nothing = ⊤
 IsToldLess (told.Kept n i) (told.Kept k j) = (n ≡ k) × IsIntervalWithin i j

@@ -1,4 +1,4 @@
--- Of more less is told.
+-- The transfer function is monotone.
 use Rattle.std.proofs.Common.{refl, subst, ℕ, ◌+◌, ◌/◌, ◌<◌, ◌≤◌, ◌==◌, if◌then◌else◌, Bool, true, false, None, arith}
 use Rattle.avr_model.specs.declared.instruction.Instr.{Instr}
 use Rattle.avr_model.specs.declared.instruction.Instr.TheVariants as i
@@ -25,7 +25,7 @@ use Rattle.pair_rules.specs.Told.{interval_of, kept_same, carried, borrowed, tol
 use Rattle.pair_rules.specs.Fits.{HasRegisters}
 use Rattle.pair_laws.proofs.Tellings.{IsToldLess, computed_less, high_less, unless_less}
 
--- the range from n to m, which has a byte, lies in the one from n' to m'
+-- the range from n to m has a byte, and is within the one from n' to m'
 pub record AreBounds (n m n' m' : ℕ) : Type 0 where
   pub ordered : n ≤ m
   pub low : n' ≤ n

@@ -1,4 +1,4 @@
--- What an instruction tells is true of the registers behind it, and fits.
+-- The transfer function holds of the registers after the instruction, and fits.
 use Rattle.std.proofs.Common.{◌≡◌, refl, sym, ◌∙◌, ap, subst, ℕ, ◌+◌, ◌-◌, ◌*◌, ◌/◌, ◌%◌, ◌<◌, ◌≤◌, ◌==◌, if◌then◌else◌, Bool, true, false, List, length, Option, Some, None, slice_index, slice_set, arith}
 use Rattle.std.specs.Prelude.{◌++◌, bit_and, bit_or}
 use Rattle.std.specs.Int.{from_bool}
@@ -144,7 +144,7 @@ module _ (o : Origin) (m : State) (s : AbsState) (n : ℕ) (at : IsBefore o s m)
   word_true k w told lt small holds =
       computed_true k told (slice_set (slice_set m.registers (2 * k) (w % 256)) (2 * k + 1) (w / 256)) (subst (ToldHolds told) (sym (set_word m.registers at.count k w lt)) holds)
 
-  -- the same, and behind it a register
+  -- a pair that is set to a word, and then a register
   pointer_true : (d k w byte : ℕ) (told : Option Interval) → k < 16 → w < 65536 → ToldHolds told w
       → TellsTrue (unless_set d k told) (slice_set (slice_set (slice_set m.registers (2 * k) (w % 256)) (2 * k + 1) (w / 256)) d byte)
   pointer_true d k w byte told lt small holds =

@@ -87,7 +87,7 @@ high_byte_falls = refl
 high_byte_less_a_number : told_by registers (lies 12 (from 0x0310 0x0320)) (i.Immediate immediate.Subi 25 2) ≡ told.Computed 12 (from 0x0110 0x0120)
 high_byte_less_a_number = refl
 
--- the sum of the low bytes alone tells nothing of the pair
+-- the sum of the low bytes alone gives no interval
 low_byte_tells_nothing : told_by registers (lies 12 (from 0x0110 0x0120)) (i.Binary binary.Add 24 16) ≡ told.Nothing
 low_byte_tells_nothing = refl
 

@@ -1,4 +1,4 @@
--- What the loop over the numbers of a pair has done so far.
+-- Invariant of the loop over the numbers of a pair.
 use Rattle.std.proofs.Common.{◌≡◌, refl, sym, ◌∙◌, ap, subst, ℕ, zero, suc, ◌+◌, ◌-◌, ◌/◌, ◌%◌, ◌<◌, ◌≤◌, nat_le, ◌&&◌, ◌||◌, not, if◌then◌else◌, ⊎_elim, Bool, true, false, List, Option, Some, None, arith}
 use Rattle.std.proofs.lemmas.Bool.{cases_eq, and_parts, false≢true}
 use Rattle.std.proofs.lemmas.Bool.Decides.{nat_tests}
@@ -23,7 +23,7 @@ same_test true b to back = sym (to refl)
 same_test false true to back = back refl
 same_test false false to back = refl
 
--- a byte's members are those that the test tells
+-- a byte's members are those that the test accepts
 pub has_is : (t : TriByte) (x : ℕ) (result : Bool) → (IsTrue result → Has t x) → (Has t x → IsTrue result) → result ≡ has t x
 has_is t x result to back = same_test result (has t x) (λ e. (tests_tell_members.bytes t x).1 (to e)) (λ e. back ((tests_tell_members.bytes t x).0 e))
 
@@ -41,14 +41,14 @@ is_above p z lt =
     ∙ ap (λ (b : Bool). (b && set_permits p.low (z % 256)) && set_permits p.high (z / 256)) (and_with_false (nat_le p.interval.low z))
 
 module _ (words : Program) (permits : ℕ → Bool) where
-  -- the answer where all numbers are counted
+  -- the answer after all numbers are counted
   abbrev answer : Option (Option AbsByte)
   answer = if few_in_flash words permits then Some (flash_joined words permits) else None
 
   abbrev in_flash : ℕ → Bool
   in_flash z = not (permits z) || is_flash words z
 
-  -- what is known of the numbers below n
+  -- the result for the numbers below n
   pub record IsSoFar (n count : ℕ) (value : Option AbsByte) : Type 0 where
     pub count_is : count ≡ count_below permits n
     pub few : count ≤ 64

@@ -1,4 +1,4 @@
--- Crates above cite this crate's proofs from here.
+-- The lemmas that crates above cite.
 use Rattle.line_reading.specs.Words.{WordLaws}
 use Rattle.pair_words.specs.Laws.{FactsWords}
 use Rattle.pair_words.proofs.Whole.{facts_take, facts_again}

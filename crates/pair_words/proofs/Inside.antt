@@ -1,4 +1,4 @@
--- Intervals of a word: what is read is spelled so, and what is spelled is read.
+-- Reading and spelling of the intervals of a word are inverse.
 use Rattle.std.proofs.Common.{ℕ, zero, suc, ◌+◌, ◌*◌, ◌<◌, ◌≤◌, ◌^◌, ◌≡◌, ◌==◌, ◌&&◌, nat_le, not, inl, inr, List, [], ◌∷◌, ◌++◌, length, Bool, true, false, refl, ap, ap₂, sym, ◌∙◌, arith, Option, Some, None, subst, append_assoc, ne_eqb}
 use Rattle.std.specs.Prelude.{⊤}
 use Rattle.std.proofs.lemmas.Bool.{eqb-true, and_parts, cases_Bool}
@@ -17,7 +17,7 @@ use Rattle.pair_words.specs.Reading.{is_inside, inside_at, interval_by, interval
 
 -- ---- intervals that lie within their hulls
 
--- two ends are in order and lie within the hull
+-- two ends are ordered and within the hull
 pub record LiesWithin (hull : Interval) (least most : ℕ) : Type 0 where
   pub low : hull.low ≤ least
   pub ordered : least ≤ most
@@ -136,7 +136,7 @@ left_out r hull bs z fits e =
     subst P (same_Some {A = Interval × List ℕ} (hull, bs) z e)
     (record { text = ap (λ (xs : List ℕ). xs ++ bs) (sym (own_text r hull)); lies = record { low = omega arith; ordered = fits.ordered; high = omega arith } })
 
--- a pair's text where its interval isn't the hull
+-- the text of a pair whose interval isn't the hull
 other_text : (r : ℕ) (hull i : Interval) → are_ends hull i.low i.high ≡ false → interval_text r hull i ≡ hex_digits r 2 ++ (hex_digits i.low 4 ++ hex_digits i.high 4)
 other_text r hull i e = rw e refl
 
@@ -164,7 +164,7 @@ interval_take : WordLaws → (r : ℕ) (hull : Interval) (bs : List ℕ) (z : In
 unfolding interval_at
 interval_take k r hull bs z fits e = interval_by_take k r hull bs z (digits_at 2 bs) fits refl e
 
--- no number stands there, or a greater one
+-- there is no number, or a greater one
 abbrev IsLater : ℕ → Option (ℕ × List ℕ) → Type 0
 IsLater r None = ⊤
 IsLater r (Some n) = r < n.0
@@ -220,7 +220,7 @@ no_digits : digits_at 2 [] ≡ None
 unfolding digits_at
 no_digits = refl
 
--- the number that stands first is that of one of the pairs
+-- the first number is that of one of the pairs
 texts_later : WordLaws → (m r : ℕ) (hulls is : List Interval) → m < r → r + 2 * length hulls ≤ 256 → IsLater m (digits_at 2 (intervals_text r hulls is))
 unfolding intervals_text
 texts_later k m r [] is lt few = subst (IsLater m) (sym no_digits) tt
@@ -248,7 +248,7 @@ intervals_again k r (hull ∷ hulls) (i ∷ is) few fits h =
     let later = texts_later k r (r + 2) hulls is (omega arith) (omega (arith, few)) in
     rw (interval_again k r hull i rest (omega (arith, few)) fits.0 h.0 later, intervals_again k (r + 2) hulls is (omega (arith, few)) fits.1 h.1) refl
 
--- where no number stands, all intervals are the hulls
+-- without a number, all intervals are the hulls
 pub none_read : (r : ℕ) (hulls : List Interval) (bs : List ℕ) → digits_at 2 bs ≡ None → intervals_at r hulls bs ≡ Some (hulls, bs)
 unfolding intervals_at
 none_read r [] bs e = refl

@@ -1,4 +1,4 @@
--- One pair more.
+-- One more pair.
 use Rattle.std.proofs.Common.{ℕ, ◌+◌, ◌*◌, ◌<◌, ◌≤◌, ◌≡◌, List, [], ◌∷◌, ◌++◌, length, take, drop, get_or, refl, ap, ap₂, sym, ◌∙◌, arith, Option, option_map, Some, None, append_assoc}
 use Rattle.std.proofs.lemmas.List.{append-nil, drop_more, drop_all, take_all}
 use Rattle.line_reading.specs.Reading.{◌>>=◌}
@@ -8,7 +8,7 @@ use Rattle.pair_words.specs.Reading.{interval_at, intervals_at}
 
 -- ---- reading
 
--- intervals that were read before
+-- intervals read before these
 abbrev pub with_front : List Interval → Option (List Interval × List ℕ) → Option (List Interval × List ℕ)
 with_front front found = option_map (λ is. (front ++ is.0, is.1)) found
 
@@ -23,7 +23,7 @@ unfolding intervals_at
 read_by front r hull hulls bs None e = rw e refl
 read_by front r hull hulls bs (Some i) e = rw e (front_next front i.0 (intervals_at (r + 2) hulls i.1))
 
--- the pairs from this one on are it and those behind it
+-- the pairs from this one on are it and the later ones
 at_pair : (front hulls : List Interval) (n r : ℕ) (hull d : Interval) (bs : List ℕ) (o : Option (Interval × List ℕ)) → n < length hulls → hull ≡ get_or hulls n d → r ≡ 2 * n → o ≡ interval_at r hull bs
     → with_front front (intervals_at (2 * n) (drop n hulls) bs) ≡ (o >>= λ i. with_front (front ++ i.0 ∷ []) (intervals_at (2 * (n + 1)) (drop (n + 1) hulls) i.1))
 at_pair front hulls n r hull d bs o lt is number read =

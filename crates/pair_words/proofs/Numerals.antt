@@ -25,6 +25,6 @@ five n =
     ap₂ (λ (d e : ℕ). hex_digit d ∷ hex_digit e ∷ hex_digit (n / 16 / 16 % 16) ∷ hex_digit (n / 16 % 16) ∷ hex_digit (n % 16) ∷ []) a b
     ∙ ap (λ (d : ℕ). hex_digit (n / 65536 % 16) ∷ hex_digit (n / 4096 % 16) ∷ hex_digit d ∷ hex_digit (n / 16 % 16) ∷ hex_digit (n % 16) ∷ []) c
 
--- parts whose digits are known, one behind the other
+-- known parts, one after the other
 pub joined_three : (a b c xs ys zs : List ℕ) → a ≡ xs → b ≡ ys → c ≡ zs → xs ++ (ys ++ zs) ≡ a ++ (b ++ c)
 joined_three a b c xs ys zs e f g = rw (e, f, g) refl

@@ -1,4 +1,4 @@
--- The words of tags: what is read is spelled so, and what is spelled is read.
+-- Reading and spelling of tags are inverse.
 use Rattle.std.proofs.Common.{ℕ, ◌+◌, ◌%◌, ◌<◌, ◌≤◌, ◌^◌, ◌≡◌, ◌==◌, ◌&&◌, nat_lt, nat_le, inl, inr, List, [], ◌∷◌, ◌++◌, length, length-append, codes, true, false, refl, ap, ap₂, sym, ◌∙◌, arith, Option, option_map, Some, subst}
 use Rattle.std.proofs.lemmas.Bool.{eqb-true, eq-eqb, and_parts, cases_Bool}
 use Rattle.std.proofs.lemmas.Bool.Decides.{nat_tests}
@@ -27,7 +27,7 @@ use Rattle.pair_words.specs.Reading.{register_at, is_even, pair_at, are_near, en
 abbrev front : ℕ → List ℕ → List ℕ
 front x xs = x ∷ xs
 
--- words of two bytes and more are no dash
+-- words of two or more bytes are no dash
 pub not_dash : (w : List ℕ) → 2 ≤ length w → bytes_eq w (codes "-") ≡ false
 not_dash w long = elim (cases_Bool (bytes_eq w (codes "-"))) [
   | inl dash ↦ let size = ap length ((bytes_eq-Decides w (codes "-")).0 dash) in absurd (omega (arith, size, long))
@@ -213,7 +213,7 @@ compare_take k w c e =
           (first.0 ∙ ap (λ (xs : List ℕ). hex_digits x.0.0 2 ++ xs) second.0 ∙ t.0, t.1)
     ]
 
--- digits and what stands behind them are no dash
+-- digits followed by more bytes are no dash
 digits_first : (x : ℕ) (xs : List ℕ) → bytes_eq (hex_digits x 2 ++ xs) (codes "-") ≡ false
 digits_first x xs = not_dash (hex_digits x 2 ++ xs) (omega (arith, length-append (hex_digits x 2) xs, length_hex x 2))
 

@@ -1,4 +1,4 @@
--- All four words: what is read is spelled so, and what is spelled is read.
+-- Reading and spelling of all four words are inverse.
 use Rattle.std.proofs.Common.{ℕ, ◌*◌, ◌<◌, ◌≤◌, ◌≡◌, inl, inr, List, [], ◌∷◌, ◌++◌, length, codes, false, refl, ap, ap₂, sym, ◌∙◌, arith, Option, Some, None, subst}
 use Rattle.std.proofs.lemmas.Bool.{cases_Bool}
 use Rattle.std.proofs.lemmas.List.{append-nil}
@@ -54,7 +54,7 @@ dash_is_none : digits_at 2 (codes "-") ≡ None
 unfolding digits_at
 dash_is_none = refl
 
--- intervals that no text tells are the hulls, and a dash is no text of intervals
+-- intervals with an empty text are the hulls, and a dash is no text of intervals
 by_text : WordLaws → (hulls is : List Interval) (text : List ℕ) → AreAll hulls → intervals_at 0 hulls text ≡ Some (is, []) → intervals_in hulls (or_dash text) ≡ Some is
 unfolding intervals_in
 by_text k hulls is [] fits e =

@@ -94,7 +94,7 @@ raw_fault_none n even fits =
     let f : nat_lt 32768 n ≡ false = grind (arith, nat_tests) in
     rw (e, f) refl
 
--- neither fault is there
+-- there is neither fault
 none_of : (a b : Option (List ℕ)) → fault_or a b ≡ None → (a ≡ None) × (b ≡ None)
 none_of None b e = (refl, e)
 none_of (Some text) b e = absurd (let wrong = e in cc)
@@ -196,7 +196,7 @@ pub attains_by : (bound : ℕ) (x : Result Replayed ℕ) → IsOkAnd x (λ r. (r
 attains_by bound (Err step) h = absurd h
 attains_by bound (Ok r) h = let d : (r.depth == bound) ≡ true = (let e = h.1 in grind (arith, nat_tests)) in rw (h.0, d) refl
 
--- the schedule attains the bound, and what follows is answered
+-- the schedule attains the bound, and the answer continues
 pub record IsAttainmentTold (words : Program) (A : List Entry) (next : Reply) (bound : ℕ) (w : Option Plan) (text : List ℕ) : Type 0 where
   pub attained : IsAttained words A bound w
   pub says : next 0 text
@@ -217,7 +217,7 @@ witness_zero words A next bound (Some plan) status text h k = subst (λ b. Attai
 
 -- ---- the verdict and the certificate
 
--- the certificate is sound, its schedule attains its bound, and what follows is answered
+-- the certificate is sound, its schedule attains its bound, and the answer continues
 pub record IsAccepted (words : Program) (A : List Entry) (next : Claim → Reply) (c : Claim) (text : List ℕ) : Type 0 where
   pub sound : IsSound words A c
   pub told : IsAttainmentTold words A (next c) c.bound c.witness text
@@ -240,7 +240,7 @@ certificate_zero words A next x c status text e sound attained k =
 
 -- ---- where a verdict is given
 
--- the certificate is valid and what follows is answered, or it isn't valid
+-- the certificate is valid and the answer continues, or it isn't valid
 abbrev pub IsJudged : Program → List Entry → (Claim → Reply) → Claim → Reply
 IsJudged words A next c status text = (IsValid words A c × next c status text) ⊎ ((IsValid words A c → ⊥) × (status ≡ 1))
 
@@ -281,15 +281,15 @@ fault_none o reply status text e h = subst (λ x. ImageBy x reply status text) e
 
 -- ---- all
 
--- what is answered of a certificate that is accepted, for a firmware of these bytes with these words, under these assumptions
+-- the answer to an accepted certificate, for a firmware of these bytes with these words, under these assumptions
 abbrev pub Accepting : Type 1
 Accepting = List ℕ → List ℕ → List Entry → Claim → Reply
 
--- what a command that judges makes of the bytes of its files
+-- the answer of a command that judges, by the bytes of its files
 abbrev JudgeReply : Device → Accepting → List ℕ → List ℕ → Option (List ℕ) → Reply
 JudgeReply device next firmware second list = WithImage device firmware (λ words. WithList list (λ A. CertificateReply words A (next firmware words A) (certificate_in second)))
 
--- the answer of a command that judges the certificate of this name for the firmware of that one, with what follows where it accepts
+-- the answer of a command that judges this certificate for this firmware, and how it continues if it accepts
 abbrev pub IsReplyJudged : Device → Accepting → List ℕ → List ℕ → Option (List ℕ) → Contents → Reply
 IsReplyJudged device next fw cert assume seen = WithFile fw seen.firmware (λ firmware. WithFile cert seen.second (λ s. WithOptional assume seen.assumptions (λ list. JudgeReply device next firmware s list)))
 
@@ -303,7 +303,7 @@ module _
     (bounds : SoundCertificatesBoundEveryRun)
     (device : Device)
     (next : Accepting) where
-  -- what status 0 rests on
+  -- the premises of status 0
   record IsZero (assume : Option (List ℕ)) (seen : Contents) (text : List ℕ) : Type 0 where
     firmware : List ℕ
     certificate : List ℕ
@@ -383,7 +383,7 @@ module _
   list_read None A later status text e h = subst (λ l. later l status text) (sym e) h
   list_read (Some bytes) A later status text e h = subst (λ x. ListBy x later status text) (lists.due bytes (Ok A) e) h
 
-  -- where all files read as values
+  -- all files are well-formed
   module _ (fw cert : List ℕ) (assume : Option (List ℕ)) (seen : Contents) (firmware certificate : List ℕ) (list : Option (List ℕ)) (words : Program) (claim : Claim) (A : List Entry)
       (are : AreRead assume seen firmware certificate list) (stand : StandFor device firmware certificate list words claim A) where
     -- the answer is by the verdict on the certificate

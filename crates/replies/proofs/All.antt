@@ -60,12 +60,12 @@ no_thirteen e = cc
 one_thirteen : ◌≡◌ {A = ℕ} 1 13 → ⊥
 one_thirteen e = cc
 
--- what is read of the text of devices is spelled so, and what is spelled is read
+-- reading and spelling of devices are inverse
 pub record DevicesAreExact : Type 0 where
   pub read : DevicesAreSpelled
   pub spelled : DevicesAreRead
 
--- which certificates are clear, and where runs may be flagged under others
+-- the clear certificates, and the flags of runs under others
 pub record ClearIsTold : Type 0 where
   pub one : ClearVerdictsAreOne
   pub never : ClearFirmwaresAreNeverFlagged
@@ -73,7 +73,7 @@ pub record ClearIsTold : Type 0 where
   pub places : FlaggedRunsEndAtPlaces
   pub empty : ClearWhereNoSites
 
--- no words, no places
+-- without words there are no places
 no_words : (places : List FlaggedPlace) → map word_of places ≡ [] → places ≡ []
 no_words [] e = refl
 no_words (p ∷ ps) e = absurd (cc)

@@ -39,7 +39,7 @@ schedule_found words A points bound (Some plan) h = h.trial.fits
 
 -- ---- what is written fits a file that is read
 
--- the text of the certificate of an analysis is no longer than that of a certificate may be
+-- the text of an analysis' certificate is within the limit
 abbrev pub AnalysesFit : Type 0
 AnalysesFit = (words : Program) (A : List Entry) (steps : Option ℕ) (c : Claim) → IsAnalysis words A steps c → IsCertificate c → length (text_of c) ≤ certificate_cap
 
@@ -140,7 +140,7 @@ module _
     (bounds : SoundCertificatesBoundEveryRun)
     (runs : ReplaysAreRuns)
     (words : Program) (A : List Entry) (steps : Option ℕ) where
-  -- what holds of the certificate of an analysis
+  -- the properties of an analysis' certificate
   pub record IsBest (c : Claim) : Type 0 where
     pub fits : IsCertificate c
     pub valid : IsValid words A c

@@ -31,7 +31,7 @@ pub up_first : (names : List Named) → least_name names 0 ≡ name_up_to names 
 unfolding name_up_to
 up_first names = refl
 
--- no word between two has a name
+-- no word between the two has a name
 pub up_there : (names : List Named) (from at pc word : ℕ) → from ≤ at → at ≤ from → name_up_to names at ≡ name_up_to names pc → least_name names word ≡ name_up_to names from
     → least_name names word ≡ name_up_to names pc
 up_there names from at pc word low high same named =

@@ -4,7 +4,7 @@ use Rattle.std.specs.Option.{option_map}
 use Rattle.sb_base.specs.Writing.{Written, with_words, with_end}
 use Rattle.replies.specs.Texts.{told, AreWritten}
 
--- the words that were written in a line are those that it tells
+-- the words written in a line are those of its text
 pub told_written : (words : Option (List (List ℕ))) (before after : Written) (bytes : List ℕ) → before ≡ record { bytes = []; begun = false } → AreWritten before after words → bytes ≡ (with_end after).bytes
     → option_map told words ≡ Some bytes
 told_written None before after bytes new written is = absurd written

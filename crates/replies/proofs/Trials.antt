@@ -16,7 +16,7 @@ use Rattle.witness_search.specs.Trials.{fills, trial_of, Succeeds, NoneSucceeds,
 
 -- ---- the choices of a schedule determine its runs
 
--- the list doesn't begin with this
+-- the list does not begin with this choice
 abbrev BeginsOtherwise : Choice → List Choice → Type 0
 BeginsOtherwise x [] = ⊤
 BeginsOtherwise x (a ∷ xs) = a ≢ x

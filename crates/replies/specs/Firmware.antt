@@ -18,7 +18,7 @@ IsImageBy false bytes all = IsRawImage bytes all
 abbrev pub IsImage : List ℕ → List ℕ → Type 0
 IsImage bytes all = IsImageBy (is_elf bytes) bytes all
 
--- The words of a firmware file on a device: those of its image; all behind the device's flash are erased.
+-- The words that a firmware file stands for on a device: those of its image, of which all behind the device's flash are erased.
 pub record IsFirmware (device : Device) (bytes : List ℕ) (words : Program) : Type 0 where
   pub all : List ℕ
   pub image : IsImage bytes all
@@ -45,7 +45,7 @@ abbrev pub fault_by : Bool → List ℕ → Option (List ℕ)
 fault_by true bytes = option_map elf_refused (elf_fault bytes)
 fault_by false bytes = if length bytes % 2 == 1 then Some (raw_fault 1) else (if nat_lt 32768 (length bytes) then Some (raw_fault 2) else None)
 
--- the words of a firmware file on a device
+-- the words of a firmware file on a device in order
 abbrev pub firmware_words : Device → List ℕ → List ℕ
 firmware_words device bytes = take (words_of device) (words_by (is_elf bytes) bytes)
 

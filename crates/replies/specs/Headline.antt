@@ -233,9 +233,10 @@ pub record IsMeasured (size : ℕ) (text : List ℕ) : Type 0 where
 
 -- ---- what status 0 says
 
--- If a certificate is accepted, the bound holds, an explanation accounts for its bytes, no step is flagged if all nodes are clear, and
--- steps are flagged only at listed words with listed causes. If one is written, it is the least, or the accepted one with a schedule that
--- reaches its bound. A simulated run stays within each accepted bound. The numbers of an image are those of its rounds.
+-- where a certificate is accepted, the bound holds, an explanation tells where its bytes go, no step is flagged where all nodes are clear, and
+-- steps are flagged only at the words that are told, and as it is told; where one is written, it is the least, or the accepted one with a schedule that reaches its
+-- bound; a simulated run keeps each bound that is accepted;
+-- the numbers of an image are those of its rounds
 abbrev pub Headline : Command → Contents → ℕ → List ℕ → Type 0
 Headline (Check device firmware certificate assume) seen status text = status ≡ 0 → HoldsAsRead (Check device firmware certificate assume) assume seen text
 Headline (Analyse device firmware assume steps) seen status text = status ≡ 0 → IsLeastAsRead device assume seen text
@@ -262,13 +263,13 @@ abbrev pub Blames : Command → Program → List Entry → Claim → Type 0
 Blames (Clear device firmware certificate) words A c = IsValid words A c × ((node pc : ℕ) × IsFirstUnclear words A c node pc)
 Blames command words A c = ⊥
 
--- the status says whether the certificate is accepted, has a node that isn't clear, or isn't valid
+-- the status says whether the certificate is accepted, whether a node isn't clear, and whether it isn't valid
 pub record SaysWhether (command : Command) (words : Program) (A : List Entry) (c : Claim) (status : ℕ) : Type 0 where
   pub accepted : (status ≡ 0) ↔ Accepts command words A c
   pub unclear : (status ≡ 13) ↔ Blames command words A c
   pub rejected : (status ≡ 1) ↔ (IsValid words A c → ⊥)
 
--- `SaysWhether` for the files of a command, if they are well-formed
+-- the same of the files of a command, where they read as values
 abbrev pub AcceptsExactly : Command → Option (List ℕ) → Contents → ℕ → Type 0
 AcceptsExactly command assume seen status =
     (firmware certificate : List ℕ) (list : Option (List ℕ)) (words : Program) (claim : Claim) (A : List Entry)
@@ -278,22 +279,22 @@ AcceptsExactly command assume seen status =
 abbrev pub HasValid : Program → List Entry → Type 0
 HasValid words A = (c : Claim) × IsClaim c × IsValid words A c
 
--- The status says how the rounds end: within the budget with a certificate, or with a cause against it, or at no family within the
--- budget. Without a budget the answer is a certificate exactly if a valid one exists.
+-- The status says how the rounds end: within the budget with a certificate, or with a cause against it, or at none of the families that
+-- the budget serves for. Without a budget there is a certificate exactly where one is valid.
 pub record SaysHowRoundsEnd (words : Program) (A : List Entry) (steps : Option ℕ) (status : ℕ) : Type 0 where
   pub solved : (status ≡ 0) ↔ ((c : Claim) × IsClaim c × IsAnswer words A steps c)
   pub refused : (status ≡ 10) ↔ ((r : Refusal) × (r ≢ Memory) × IsRefusal words A steps r)
   pub spent : (status ≡ 11) ↔ ((n : ℕ) × (steps ≡ Some n) × GoesBeyond words A n)
   pub valid : steps ≡ None → (status ≡ 0) ↔ HasValid words A
 
--- `SaysHowRoundsEnd` for the files of an analysis, if they are well-formed
+-- the same of the files of an analysis, where they read as values
 abbrev pub AnswersRounds : Device → Option (List ℕ) → Option ℕ → Contents → ℕ → Type 0
 AnswersRounds device assume steps seen status =
     (firmware : List ℕ) (list : Option (List ℕ)) (words : Program) (A : List Entry)
     → AreLoaded assume seen firmware list → Mean device firmware list words A → SaysHowRoundsEnd words A steps status
 
--- If the files of a simulation were read, and firmware and assumptions are well-formed, it is refused exactly if the devices' text is
--- malformed.
+-- Where the files of a simulation read, and firmware and assumptions stand for values, it is refused exactly where the devices' text is that
+-- of none.
 abbrev pub AnswersDevices : Device → Option (List ℕ) → Contents → ℕ → Type 0
 AnswersDevices device assume seen status =
     (firmware devices : List ℕ) (list : Option (List ℕ)) (words : Program) (A : List Entry)

@@ -71,7 +71,7 @@ abbrev pub ImageBy : Option (List ℕ) → Reply → Reply
 ImageBy (Some refusal) reply status text = Says 6 refusal status text
 ImageBy None reply status text = reply status text
 
--- continues with the words of a firmware on a device
+-- the words of a firmware on a device, and what follows with them
 abbrev pub WithImage : Device → List ℕ → (List ℕ → Reply) → Reply
 WithImage device bytes next = ImageBy (firmware_fault device bytes) (next (firmware_words device bytes))
 
@@ -108,7 +108,7 @@ abbrev pub VerdictReply : Program → List Entry → (Claim → Reply) → Claim
 VerdictReply words A next c (Rejected reason) status text = Says 1 (rejected reason) status text
 VerdictReply words A next c (Accepted bound) status text = WitnessReply words A (next c) bound c.witness status text
 
--- the answer by the verdict on a certificate
+-- by the verdict on a certificate
 pub record JudgedReply (words : Program) (A : List Entry) (next : Claim → Reply) (c : Claim) (status : ℕ) (text : List ℕ) : Type 0 where
   pub verdict : Verdict
   pub is : IsVerdict words A c verdict
@@ -128,7 +128,7 @@ abbrev pub told_of : Command → List ℕ → Claim → List ℕ
 told_of (Report device firmware certificate assume json) bytes c = report_by json device (firmware_names bytes) (firmware_end bytes) c
 told_of command bytes c = accepted c.bound (is_some c.witness)
 
--- the answer is the explanation of a certificate, with these names of words
+-- the explanation of a certificate is told, with these names of words
 pub record ExplainReply (names : List Named) (words : Program) (A : List Entry) (c : Claim) (status : ℕ) (text : List ℕ) : Type 0 where
   pub explanation : Explanation
   pub is : IsExplanation words A c explanation
@@ -144,8 +144,8 @@ pub record ClearReply (words : Program) (c : Claim) (status : ℕ) (text : List 
   pub is : IsClearVerdict words c verdict
   pub says : ClearSays words c verdict status text
 
--- The answer lists all words at which some node of a certificate isn't clear, with these names, and those of vectors that may be taken
--- despite `never` lines.
+-- All words at which some node of a certificate isn't clear are told, with these names of words, and those of vectors that may be taken
+-- though they have `never` lines.
 pub record PremisesReply (names : List Named) (words : Program) (A : List Entry) (c : Claim) (status : ℕ) (text : List ℕ) : Type 0 where
   pub sites : List ℕ
   pub nevers : List ℕ
@@ -153,7 +153,7 @@ pub record PremisesReply (names : List Named) (words : Program) (A : List Entry)
   pub are_nevers : AreNevers words A c nevers
   pub says : Says 0 (premises_text words names c.bound sites nevers) status text
 
--- the answer lists the words of `PremisesReply`, with causes
+-- the same with what may happen there
 pub record WhyReply (names : List Named) (words : Program) (A : List Entry) (c : Claim) (status : ℕ) (text : List ℕ) : Type 0 where
   pub places : List FlaggedPlace
   pub nevers : List ℕ
@@ -166,7 +166,8 @@ abbrev pub PlacesReply : Bool → List Named → Program → List Entry → Clai
 PlacesReply false names words A c status text = PremisesReply names words A c status text
 PlacesReply true names words A c status text = WhyReply names words A c status text
 
--- The answer is the certificate with its own schedule, or else with the one that guided trials find, which attains its bound.
+-- The certificate is written, as it is where it has a schedule, and else with the one that so many guided trials find, which attains its
+-- bound.
 pub record AttainReply (words : Program) (A : List Entry) (trials : ℕ) (c : Claim) (status : ℕ) (text : List ℕ) : Type 0 where
   pub claim : Claim
   pub completed : IsCompleted words A trials c claim
@@ -205,13 +206,13 @@ SimulateReply words A steps (Ok setup) status text = Says 0 (run_text (simulatio
 
 -- ---- analyse and demo
 
--- the answer is the certificate of an analysis
+-- the certificate of an analysis is written
 pub record AnalysedReply (words : Program) (A : List Entry) (steps : Option ℕ) (status : ℕ) (text : List ℕ) : Type 0 where
   pub claim : Claim
   pub analysis : IsAnalysis words A steps claim
   pub says : Says 0 (text_of claim) status text
 
--- the answer is the reason for having no certificate
+-- it is told why there is none
 pub record WhyNotReply (words : Program) (A : List Entry) (steps : Option ℕ) (status : ℕ) (text : List ℕ) : Type 0 where
   pub refusal : Refusal
   pub why : IsWhyNot words A steps refusal
@@ -220,7 +221,7 @@ pub record WhyNotReply (words : Program) (A : List Entry) (steps : Option ℕ) (
 abbrev pub AnalyseReply : Program → List Entry → Option ℕ → Reply
 AnalyseReply words A steps status text = AnalysedReply words A steps status text ⊎ WhyNotReply words A steps status text
 
--- the answer has the numbers of an image's certificate
+-- the numbers of the certificate of an image are told
 pub record MeasuredReply (size : ℕ) (status : ℕ) (text : List ℕ) : Type 0 where
   pub claim : Claim
   pub fits : IsClaim claim

@@ -26,7 +26,7 @@ pub struct Program<'a> {
     pub names: &'a Names,
 }
 
-/// The line of a firmware of which no step can be flagged, with its certificate's bound.
+/// The line for a firmware no step of which can be flagged, with its certificate's bound.
 pub fn clear_text(alloc: Global, bound: u16) -> Result<Vec<u8>, AllocError>
     ensures { IfOk result (λ v. v.items ≡ clear_text bound) }
 {
@@ -110,7 +110,7 @@ fn put_named(
     write_name(out, program.names, place.named)
 }
 
-// Writes the lines of places. If they ascend, each search goes on from the one before.
+// Writes the lines of places. If they ascend, each search continues from the one before.
 fn write_places(
     out: &mut LineWriter,
     alloc: Global,
@@ -213,7 +213,7 @@ fn write_causes(out: &mut LineWriter, place: &FlaggedPlace) -> Result<(), AllocE
     write_where(out, place.transfer, b"transfer")
 }
 
-// Writes the lines of places with their causes. If they ascend, each search goes on from the one before.
+// Writes the lines of places with their causes. If they ascend, each search continues from the one before.
 fn write_whys(
     out: &mut LineWriter,
     alloc: Global,

@@ -1,2 +1,2 @@
--- Crates above cite this crate's lemmas from here.
+-- The lemmas that crates above cite.
 pub use Rattle.reports.proofs.Lines.{line_and_text, numbers_next}

@@ -12,7 +12,7 @@ use Rattle.reports.proofs.Lines.{texts_next}
 
 -- ---- instances
 
--- one instance more behind others
+-- one more instance after others
 pub more_insts : (names : List Named) (xs : List Inst) (i : ℕ) (x : Inst) (start before after : List ℕ) → i < length xs → x ≡ get_or xs i x
     → before ≡ start ++ others_text names (take i xs) → after ≡ before ++ (44 ∷ compact_text (inst_data names x)) → after ≡ start ++ others_text names (take (i + 1) xs)
 more_insts names xs i x start before after lt is e f =
@@ -28,7 +28,7 @@ behind names (x ∷ xs) =
     ap (λ (t : List ℕ). 44 ∷ (compact_text (inst_data names x) ++ t)) (behind names xs)
     ∙ ap (λ (t : List ℕ). 44 ∷ t) (sym (append_assoc (compact_text (inst_data names x)) (others_text names xs) (93 ∷ [])))
 
--- the items of the list of instances are these, and the bracket behind them
+-- the items of the list of instances, and the bracket at its end
 pub list_of_insts : (names : List Named) (xs : List Inst) → items_text false (items_of (map (inst_data names) xs)) ≡ insts_text names xs ++ 93 ∷ []
 list_of_insts names [] = refl
 list_of_insts names (x ∷ xs) =
@@ -43,7 +43,7 @@ past a m n end e = append_assoc a m end ∙ ap (λ (t : List ℕ). a ++ t) e
 grow : (a b u v t : List ℕ) → b ≡ a ++ u → t ≡ b ++ v → t ≡ a ++ (u ++ v)
 grow a b u v t e f = f ∙ ap (λ (x : List ℕ). x ++ v) e ∙ append_assoc a u v
 
--- the members from each on: in the object, and as they are written with the line's end
+-- the members from each on: in the object, and as written with the line's end
 abbrev object_5 : List ℕ → List ℕ
 object_5 x = codes ",\"witness\":" ++ (x ++ 125 ∷ [])
 
@@ -115,7 +115,7 @@ is_line device c names e =
     let x = compact_text (witness_data c.witness) in
     ap (λ (items : List ℕ). object_0 b f items r s x ++ 10 ∷ []) (list_of_insts names c.instances) ∙ ends_0 b f (insts_text names c.instances) r s x
 
--- what is written part by part is the line
+-- the parts as written form the line
 pub written : (device : Device) (c : Claim) (names : List Named) (e : Option ℕ) (start o p q t u v w all : List ℕ) → o ≡ start ++ (codes "{\"bound\":" ++ compact_text (count c.bound))
     → p ≡ o ++ (codes ",\"fits\":" ++ compact_text (fits_data device c.bound e)) → q ≡ p ++ codes ",\"instances\":[" → t ≡ q ++ insts_text names c.instances
     → u ≡ t ++ (codes "],\"room\":" ++ compact_text (room_data device e)) → v ≡ u ++ (codes ",\"static\":" ++ compact_text (static_data e))

@@ -12,7 +12,7 @@ pub(crate) fn room(device: Device, static_end: u16) -> u16
     (device.ramend() + 1).saturating_sub(static_end)
 }
 
-// Whether a stack of so many bytes stays clear of static data.
+// Whether a stack of this many bytes does not reach static data.
 fn fits(device: Device, bound: u16, static_end: u16) -> bool
     ensures { result ≡ fits device bound static_end }
 {

@@ -79,7 +79,7 @@ hex_of n (suc k) h =
 digit_back : (b : ℕ) → is_hex b ≡ true → (hex_digit (digit_of b) ≡ b) × (digit_of b < 16)
 digit_back b h = (grind (arith, nat_tests), grind (arith, nat_tests))
 
--- digits behind a number so far, of which `j` digits count
+-- digits after a number so far, of which `j` count
 spelled_from : (w : List ℕ) (n j k : ℕ) → AllByRecursion (λ b. is_hex b ≡ true) w → k ≡ j + length w → hex_digits (number_from 16 n w) k ≡ hex_digits n j ++ w
 spelled_from [] n j k h e = let same : k ≡ j = omega arith in rw same (sym (append-nil (hex_digits n j)))
 spelled_from (b ∷ bs) n j k h e =
@@ -90,7 +90,7 @@ spelled_from (b ∷ bs) n j k h e =
     ∙ ap (λ (xs : List ℕ). xs ++ bs) (hex_digits_more (16 * n + digit_of b) j)
     ∙ rw (high, low, d.0) (append_assoc (hex_digits n j) (b ∷ []) bs)
 
--- what exactly so many digits are read as, as facts
+-- the facts on this many digits
 hex_facts : (w : List ℕ) (k n : ℕ) → hex_answer w k ≡ Ok n → (length w ≡ k) × AllByRecursion (λ b. is_hex b ≡ true) w × (number_from 16 0 w ≡ n)
 hex_facts w k n e = elim (chosen (length w == k) _ _ (Ok n) e) [
   | inl h ↦ let r = unless_bad_ok (position (λ b. not (is_hex b)) w) (Ok (number_from 16 0 w)) n h.1 in

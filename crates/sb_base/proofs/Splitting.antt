@@ -1,4 +1,4 @@
--- Where lines and words end.
+-- The ends of lines and words.
 use Rattle.std.proofs.Common.{ℕ, zero, suc, ◌+◌, ◌-◌, ◌<◌, ◌≡◌, ◌==◌, List, [], ◌∷◌, ◌++◌, length, take, drop, Bool, true, false, refl, sym, ap, ◌∙◌, arith, if◌then◌else◌}
 use Rattle.std.proofs.lemmas.Bool.{false_from_ne_true}
 use Rattle.std.proofs.lemmas.Bool.Decides.{nat_tests}
@@ -8,7 +8,7 @@ use Rattle.std.proofs.lemmas.List.Splits.{slice_split_at, slice_split_none, join
 use Rattle.memchr.specs.Find.{Nowhere, NoneBefore, Passes, is_byte}
 use Rattle.sb_base.specs.Lines.{TextLine, lines_of, onto_line, words_of, spaced, joined, AreLines, IsEnded, Lacks}
 
--- what the search for a byte says: it stands nowhere, or its first place parts the text
+-- the result of a search for a byte: it does not occur, or its first place splits the text
 lacks_all : (c : ℕ) (text : List ℕ) → Nowhere (Passes (is_byte c) text) 0 (length text) → Lacks c text
 lacks_all c [] h = tt
 lacks_all c (b ∷ bs) h = (false_from_ne_true (b == c) (h 0 (omega arith) (omega arith)), lacks_all c bs (λ k low high. h (suc k) (omega arith) (omega arith)))
@@ -37,7 +37,7 @@ pub lines_at : (xs ys : List ℕ) → Lacks 10 xs → lines_of (xs ++ 10 ∷ ys)
 lines_at [] ys h = refl
 lines_at (x ∷ xs) ys h = rw (h.0, lines_at xs ys h.1) refl
 
--- a last line with no end
+-- a last line without a line feed
 pub lines_none : (x : ℕ) (xs : List ℕ) → Lacks 10 (x ∷ xs) → lines_of (x ∷ xs) ≡ record { text = x ∷ xs; whole = false } ∷ []
 lines_none x [] h = rw h.0 refl
 lines_none x (y ∷ ys) h = rw (h.0, lines_none y ys h.1) refl
@@ -46,7 +46,7 @@ pub lines_none_of : (xs : List ℕ) → Lacks 10 xs → 0 < length xs → lines_
 lines_none_of [] h l = absurd (omega arith)
 lines_none_of (x ∷ xs) h l = lines_none x xs h
 
--- a text that is cut at its first line feed, and one without any
+-- a text split at its first line feed, and one without any
 pub lines_cut : (text : List ℕ) (end : ℕ) → NoneBefore (Passes (is_byte 10) text) 0 (length text) end × Passes (is_byte 10) text end
     → lines_of text ≡ record { text = take end text; whole = true } ∷ lines_of (take (length text - (end + 1)) (drop (end + 1) text))
 lines_cut text end first = ap lines_of (parted 10 text end first) ∙ lines_at (take end text) _ (lacks_before 10 text end first.0)
@@ -60,7 +60,7 @@ words_at xs ys h = slice_split_at _ xs 32 ys (All-from_recursion _ xs h) refl
 pub words_none : (xs : List ℕ) → Lacks 32 xs → words_of xs ≡ xs ∷ []
 words_none xs h = slice_split_none _ xs (All-from_recursion _ xs h)
 
--- one more byte at the front of the first line is one more at the front of the text
+-- one more byte in front of the first line is one more in front of the text
 pub joined_onto : (b : ℕ) (ls : List TextLine) → joined (onto_line b ls) ≡ b ∷ joined ls
 joined_onto b [] = refl
 joined_onto b (l ∷ ls) = elim l.whole as (λ w. (if w then (b ∷ l.text) ++ 10 ∷ [] else b ∷ l.text) ++ joined ls ≡ b ∷ ((if w then l.text ++ 10 ∷ [] else l.text) ++ joined ls)) [ true ↦ refl | false ↦ refl ]

@@ -9,7 +9,7 @@ use Rattle.sb_base.specs.Writing.{Written, with_words, with_end}
 use Rattle.sb_base.proofs.Spelling.{hex_digits_none, hex_digits_more}
 use Rattle.sb_base.proofs.Splitting.{lines_at, lines_none_of, words_at, words_none}
 
--- one digit more, from the right
+-- one more digit, from the right
 digit_step : (rest a d : ℕ) (glyphs all : List ℕ) → a < d → d ≤ length glyphs
     → hex_digits rest (a + 1) ++ take (d - (a + 1)) (drop (a + 1) glyphs) ≡ all
     → hex_digits (rest / 16) a ++ take (d - a) (drop a (set glyphs a (hex_digit (rest % 16)))) ≡ all

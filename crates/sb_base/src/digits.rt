@@ -4,14 +4,14 @@ ghost use Rattle.std.specs.Prelude.{◌≡◌, ◌≤◌, ◌<◌, ◌+◌, ◌*
 ghost use Rattle.std.specs.List.{position, AllByRecursion};
 ghost use Rattle.sb_base.specs.Digits.{is_dec, is_hex, digit_of, hex_digit, number_from, hex_answer, dec_answer, capped};
 
-/// Why digits are no number of the wanted form.
+/// Why digits are refused as a number.
 #[derive(Clone, Copy, PartialEq, Eq)]
 pub enum DigitFault {
-    /// There are so many bytes, which is not the wanted number of them, or none where some are wanted.
+    /// The text has this many bytes, which is not the required number, or it is empty.
     WrongLength(usize),
-    /// The first byte that is no digit, or 0 where a decimal of several digits begins with the digit 0.
+    /// The place of the first byte that is no digit; 0 if a decimal of several digits begins with the digit 0.
     BadDigit(usize),
-    /// The number passes the greatest one that is wanted.
+    /// The number exceeds the greatest one permitted.
     TooGreat,
 }
 
@@ -27,7 +27,7 @@ fn is_hexadecimal(byte: u8) -> bool
     is_decimal(byte) || (byte >= b'A' && byte <= b'F')
 }
 
-// The number that a hexadecimal digit stands for.
+// The value of a hexadecimal digit.
 fn value_of(digit: u8) -> u8
     requires { is_hex digit ≡ true }
     ensures value { result ≡ digit_of digit }
@@ -40,7 +40,7 @@ fn value_of(digit: u8) -> u8
     }
 }
 
-// The number that at most eight hexadecimal digits stand for.
+// The value of at most eight hexadecimal digits.
 fn hex_number(digits: &[u8]) -> u32
     requires short { length digits.now ≤ 8 }
     requires digits { AllByRecursion (λ b. is_hex b ≡ true) digits.now }
@@ -54,7 +54,7 @@ fn hex_number(digits: &[u8]) -> u32
     number
 }
 
-// Where the first byte stands that is no hexadecimal digit.
+// The place of the first byte that is no hexadecimal digit.
 fn bad_hex(text: &[u8]) -> Option<usize>
     ensures at { result ≡ position (λ b. not (is_hex b)) text.now }
     ensures all { IfNone result (AllByRecursion (λ b. is_hex b ≡ true) text.now) }
@@ -62,7 +62,7 @@ fn bad_hex(text: &[u8]) -> Option<usize>
     text.iter().position(|byte| !is_hexadecimal(*byte))
 }
 
-// Where the first byte stands that is no decimal digit.
+// The place of the first byte that is no decimal digit.
 fn bad_dec(text: &[u8]) -> Option<usize>
     ensures at { result ≡ position (λ b. not (is_dec b)) text.now }
     ensures all { IfNone result (AllByRecursion (λ b. is_dec b ≡ true) text.now) }
@@ -70,9 +70,9 @@ fn bad_dec(text: &[u8]) -> Option<usize>
     text.iter().position(|byte| !is_decimal(*byte))
 }
 
-/// The number that exactly `digits` upper-case hexadecimal digits stand for.
+/// Reads a number of exactly `digits` upper-case hexadecimal digits.
 ///
-/// `WrongLength` comes exactly where the text hasn't so many bytes; else `BadDigit` exactly where a byte is no such digit.
+/// Fails with `WrongLength` exactly if the text has another number of bytes, else with `BadDigit` exactly if a byte is no such digit.
 pub fn read_hex(text: &[u8], digits: usize) -> Result<u32, DigitFault>
     requires some { 1 ≤ digits }
     requires few { digits ≤ 8 }
@@ -88,7 +88,7 @@ pub fn read_hex(text: &[u8], digits: usize) -> Result<u32, DigitFault>
     }
 }
 
-// The number that decimal digits stand for, if it is at most `most`.
+// The value of decimal digits, if it is at most `most`.
 fn dec_number(digits: &[u8], most: u64) -> Result<u64, DigitFault>
     requires { AllByRecursion (λ b. is_dec b ≡ true) digits.now }
     ensures { result ≡ capped (number_from 10 0 digits.now) most }
@@ -104,10 +104,10 @@ fn dec_number(digits: &[u8], most: u64) -> Result<u64, DigitFault>
     Ok(number)
 }
 
-/// The number, at most `most`, that a decimal without sign or leading zero stands for.
+/// Reads a decimal number of at most `most`, without sign or leading zero.
 ///
-/// `WrongLength` comes exactly where the text is empty; else `BadDigit` exactly where a byte is no decimal digit or several
-/// bytes begin with the digit 0; else `TooGreat` exactly where the number passes `most`.
+/// Fails with `WrongLength` exactly if the text is empty, else with `BadDigit` exactly if a byte is no decimal digit or several bytes
+/// begin with the digit 0, else with `TooGreat` exactly if the number exceeds `most`.
 pub fn read_dec(text: &[u8], most: u64) -> Result<u64, DigitFault>
     ensures exact { result ≡ dec_answer text.now most }
     ensures small { IfOk result (λ n. n ≤ most) }
@@ -124,7 +124,7 @@ pub fn read_dec(text: &[u8], most: u64) -> Result<u64, DigitFault>
     }
 }
 
-/// The upper-case hexadecimal digit that stands for a number.
+/// The upper-case hexadecimal digit of a value.
 pub fn hex_glyph(value: u8) -> u8
     requires { value < 16 }
     ensures { result ≡ hex_digit value }

@@ -1,4 +1,4 @@
-//! What every layer stands on: files and a sink that are handed in, numbers in digits, and lines of words.
+//! The base of every layer: files and a sink that callers pass in, numbers in digits, and lines of words. Tests: `text_tables`.
 #![tactic(auto)]
 
 pub mod digits;

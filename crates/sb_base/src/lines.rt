@@ -10,15 +10,15 @@ use std::marker::Model;
 /// A line of a text.
 #[derive(Clone, Copy)]
 pub struct Line<'a> {
-    /// Where the line begins in the text.
+    /// The offset of the line in the text.
     pub at: usize,
     /// The line without its line feed.
     pub text: &'a [u8],
-    /// A line feed ended it.
+    /// Whether a line feed ended it.
     pub whole: bool,
 }
 
-/// Goes over the lines of a text. It is seen as its place: the offset of the next line, and the lines from there on.
+/// A reader of the lines of a text. Seen as its place: the offset of the next line, and the lines from there on.
 #[derive(Drop)]
 pub struct LineReader<'a> {
     rest: &'a [u8],
@@ -36,7 +36,7 @@ impl<'a> Model for LineReader<'a> {
     ghost invariant = { λ r. r.at + length r.rest.now < 2 ^ 64 };
 }
 
-// What stands before the first such byte, and what stands behind it.
+// The bytes before the first such byte, and those after it.
 fn cut(text: &[u8], at: u8) -> Option<(&[u8], &[u8])>
     ensures none { IfNone result (Lacks at text.now) }
     ensures some { IfSome result (λ r. text.now ≡ r.0.now ++ at ∷ r.1.now) }
@@ -46,8 +46,8 @@ fn cut(text: &[u8], at: u8) -> Option<(&[u8], &[u8])>
     Some((&text[..end], &text[end + 1..]))
 }
 
-// The first line of a text that isn't empty, and the text behind it. Lines are often long, so that their end is sought in many
-// bytes at once, which takes longer where it is near.
+// The first line of a text that isn't empty, and the text after it. Lines are often long, so many bytes are searched at once, which is
+// slower for short lines.
 #[tactic(auto, using(crate::proofs::Splitting::lines_cut, crate::proofs::Splitting::lines_uncut))]
 fn first_of(text: &[u8], at: usize) -> (Line<'_>, &[u8])
     requires { 0 < length text.now }
@@ -76,8 +76,8 @@ fn first_of(text: &[u8], at: usize) -> (Line<'_>, &[u8])
 }
 
 impl<'a> LineReader<'a> {
-    /// A reader at the beginning of a text. Its lines, each with its line feed, make up the text; a line feed stands in
-    /// none of them, and only the last one can lack the one behind it.
+    /// A reader at the beginning of a text. Its lines with their line feeds make up the text. No line has a line feed in it, and only the
+    /// last one may lack the one at its end.
     #[tactic(auto, using(crate::proofs::Splitting::joined_lines, crate::proofs::Splitting::are_lines))]
     pub fn new(text: &'a [u8]) -> LineReader<'a>
         ensures place { result ≡ record { at = 0; rest = lines_of text.now } }
@@ -94,7 +94,7 @@ impl<'a> LineReader<'a> {
         self.at
     }
 
-    /// The next line, which stays the next one. None exactly where the text is used up.
+    /// The next line, without moving the reader. None exactly at the end of the text.
     pub fn peek(&self) -> Option<Line<'a>>
         ensures line { option_map (λ l. record { text = l.text.now; whole = l.whole }) result ≡ first_line self.now.rest }
         ensures at { IfSome result (λ l. l.at ≡ self.now.at) }
@@ -106,7 +106,7 @@ impl<'a> LineReader<'a> {
         Some(line)
     }
 
-    /// The next line, behind which the reader then stands. None exactly where the text is used up.
+    /// The next line; the reader moves past it. None exactly at the end of the text.
     pub fn next(&mut self) -> Option<Line<'a>>
         ensures none { result ≡ None → (self.old.rest ≡ []) × (self.new ≡ self.old) }
         ensures used_up { self.old.rest ≡ [] → result ≡ None }
@@ -124,7 +124,7 @@ impl<'a> LineReader<'a> {
     }
 }
 
-/// The words of a line, one after the other: what stands between single spaces. An empty line has one empty word.
+/// A reader of the words of a line: the bytes between single spaces. An empty line has one empty word.
 #[derive(Drop)]
 pub struct Words<'a> {
     rest: &'a [u8],
@@ -153,7 +153,7 @@ impl<'a> Words<'a> {
         }
     }
 
-    /// The next word. None exactly where all were given.
+    /// The next word. None exactly after the last one.
     #[tactic(auto, using(crate::proofs::Splitting::words_at, crate::proofs::Splitting::words_none))]
     pub fn next(&mut self) -> Option<&'a [u8]>
         ensures none { result ≡ None → (self.old ≡ []) × (self.new ≡ []) }

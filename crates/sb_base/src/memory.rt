@@ -1,4 +1,4 @@
-//! Files and a sink in memory, whose faults are chosen by call. Calls are counted from 0.
+//! Files and a sink in memory, with faults at chosen calls. Calls are counted from 0, also those that fail.
 
 ghost use Rattle.std.specs.Prelude.{◌≡◌, ◌≢◌, ◌≤◌, ◌<◌, ◌+◌, Some, None, OnOk, OnErr, IfOk, IfSome, IfNone, [], ◌∷◌, ◌++◌, take, ℕ, List, length};
 ghost use Rattle.std.specs.Option.{option_copied};
@@ -30,7 +30,7 @@ impl Model for File {
     ghost view = { λ f. record { name = string_bytes f.name; bytes = f.bytes.items } };
 }
 
-/// Files in memory. A read fails exactly where its call is listed or no file of that name was added.
+/// Files in memory. A read fails exactly if its call is listed or no file of that name was added.
 #[derive(Drop)]
 pub struct MemFiles {
     alloc: Global,
@@ -66,7 +66,7 @@ impl MemFiles {
         }
     }
 
-    /// Holds these bytes under a name, in place of what was held under it. Refused, it changes nothing.
+    /// Adds a file with these bytes under a name, in place of an earlier one. If memory runs out, nothing changes.
     pub fn add(&mut self, name: &str, bytes: &[u8]) -> Result<(), AllocError>
         ensures added { OnOk result (self.new ≡ record self.old { files = record { name = name.now; bytes = bytes.now } ∷ self.old.files }) }
         ensures refused { OnErr result (self.new ≡ self.old) }
@@ -79,7 +79,7 @@ impl MemFiles {
         Ok(())
     }
 
-    /// Lets the read of this number fail. Refused, it changes nothing.
+    /// Makes the read of this number fail. If memory runs out, nothing changes.
     pub fn fail(&mut self, call: u32) -> Result<(), AllocError>
         ensures listed { OnOk result (self.new ≡ record self.old { failing = self.old.failing ++ call ∷ [] }) }
         ensures refused { OnErr result (self.new ≡ self.old) }
@@ -89,7 +89,7 @@ impl MemFiles {
     }
 }
 
-// The file that was added last under a name.
+// The file that was last added under a name.
 fn find_file<'a>(files: &'a [File], name: &str) -> Option<&'a File>
     ensures { option_copied result ≡ find (λ f. bytes_eq f.name name.now) files.now }
 {
@@ -101,7 +101,7 @@ fn find_file<'a>(files: &'a [File], name: &str) -> Option<&'a File>
     None
 }
 
-// The bytes that are held under a name.
+// The bytes under a name.
 fn bytes_under<'a>(files: &'a [File], name: &str) -> Option<&'a [u8]>
     ensures held { IfSome result (λ b. held_in files.now name.now ≡ Bytes b.now) }
     ensures missing { IfNone result (held_in files.now name.now ≡ Missing) }
@@ -112,7 +112,7 @@ fn bytes_under<'a>(files: &'a [File], name: &str) -> Option<&'a [u8]>
     }
 }
 
-// Whether a call is among those listed.
+// Whether the call is in the list.
 fn has_call(calls: &[u32], call: u64) -> bool
     ensures { result ≡ is_listed call calls.now }
 {
@@ -124,7 +124,7 @@ fn has_call(calls: &[u32], call: u64) -> bool
     false
 }
 
-// A copy of bytes that are at most `cap`.
+// A copy of at most `cap` bytes.
 fn copy_within(alloc: Global, bytes: &[u8], cap: usize) -> Result<Vec<u8>, FileFault>
     ensures exact { Answers (λ v. v.items) NoMemory result (within (Bytes bytes.now) cap) }
     ensures bytes { IfOk result (λ v. v.items ≡ bytes.now) }
@@ -181,8 +181,8 @@ impl Files for MemFiles {
     }
 }
 
-/// A sink in memory. A put fails exactly where its call is listed to fail; else it takes the whole piece, or its first
-/// bytes up to the number that is listed for the call.
+/// A sink in memory. A put fails exactly if its call is listed to fail. Else it takes the whole piece, or as many bytes as are listed for
+/// the call.
 #[derive(Drop)]
 pub struct MemSink {
     taken: Vec<u8>,
@@ -200,7 +200,7 @@ impl Model for MemSink {
     ghost view = { λ m. record { bytes = m.taken.items; calls = m.calls; failing = m.failing.items; shorts = m.shorts.items; faults = m.faults } };
 }
 
-// How many of the bytes offered a call takes: no more than the limit that is listed for it.
+// How many of the offered bytes a call takes: at most the limit that is listed for it.
 fn allowed(shorts: &[(u32, usize)], call: u64, offered: usize) -> usize
     ensures { result ≡ limited (limit_of call shorts.now) offered }
 {
@@ -226,7 +226,7 @@ impl MemSink {
         }
     }
 
-    /// Lets the put of this number fail. Refused, it changes nothing.
+    /// Makes the put of this number fail. If memory runs out, nothing changes.
     pub fn fail(&mut self, call: u32) -> Result<(), AllocError>
         ensures listed { OnOk result (self.new ≡ record self.old { failing = self.old.failing ++ call ∷ [] }) }
         ensures refused { OnErr result (self.new ≡ self.old) }
@@ -235,7 +235,7 @@ impl MemSink {
         Ok(())
     }
 
-    /// Lets the put of this number take at most so many bytes. Refused, it changes nothing.
+    /// Makes the put of this number take at most `most` bytes. If memory runs out, nothing changes.
     pub fn short(&mut self, call: u32, most: usize) -> Result<(), AllocError>
         ensures listed { OnOk result (self.new ≡ record self.old { shorts = (call, most) ∷ self.old.shorts }) }
         ensures refused { OnErr result (self.new ≡ self.old) }

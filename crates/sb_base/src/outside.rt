@@ -1,4 +1,4 @@
-//! The files that are read and the sink that is written to, as objects that the caller hands in.
+//! The files that are read and the sink that is written to, as objects that the caller passes in.
 
 ghost use Rattle.std.specs.Prelude.{◌≡◌, ◌≢◌, ◌≤◌, ◌<◌, ◌-◌, ℕ, List, Option, length, take, IfOk, OnOk, OnErr};
 ghost use Rattle.sb_base.specs.declared.outside.FileFault.TheVariants.{Failed as ReadFailed, TooLong, Memory as NoMemory};
@@ -10,30 +10,30 @@ use std::alloc::Global;
 /// Why a read gave no bytes.
 #[derive(Clone, Copy, PartialEq, Eq)]
 pub enum FileFault {
-    /// The file can't be read; the object's count of faults rose.
+    /// The file cannot be read; the object's count of faults rose.
     Failed,
-    /// More bytes are held than were asked for.
+    /// The file has more bytes than were asked for.
     TooLong,
-    /// Want of memory.
+    /// Out of memory.
     Memory,
 }
 
 /// Why a put took nothing.
 #[derive(Clone, Copy, PartialEq, Eq)]
 pub enum SinkFault {
-    /// The sink can't be written to; its count of faults rose.
+    /// The sink cannot be written to; its count of faults rose.
     Failed,
-    /// Want of memory.
+    /// Out of memory.
     Memory,
 }
 
-/// Files by name. What they hold doesn't change by being read. Their count of faults is at most 2^64 - 1, and a count
-/// that stands there counts as risen.
+/// Files by name. Reading does not change what they hold. The count of faults is at most 2^64 - 1, and a count of this value counts as
+/// risen.
 pub trait Files {
-    /// The bytes under a name, as far as the object tells.
+    /// The bytes under a name, as far as the object reports them.
     ghost holds: { Self → List ℕ → Held };
 
-    /// How often a read has failed.
+    /// The number of reads that failed.
     ghost faults: { Self → ℕ };
 
     /// The name of the last read that failed.
@@ -55,16 +55,15 @@ pub trait Files {
         ensures kept_blame { result ≢ Err ReadFailed → blamed self.new ≡ blamed self.old };
 }
 
-/// What is written to, piece after piece. The count of faults is at most 2^64 - 1, and a count that stands there counts
-/// as risen.
+/// A sink, written piece after piece. The count of faults is at most 2^64 - 1, and a count of this value counts as risen.
 pub trait Sink {
-    /// The bytes taken so far, where the object tells them.
+    /// The bytes taken so far, if the object reports them.
     ghost written: { Self → Option (List ℕ) };
 
-    /// How often a put has failed or was stuck.
+    /// The number of puts that failed or took nothing.
     ghost faults: { Self → ℕ };
 
-    /// Takes the first bytes of the piece, and says how many. None of a piece that isn't empty is a fault that counts.
+    /// Takes a prefix of the piece, and returns its length. Taking nothing of a piece that isn't empty counts as a fault.
     fn put(&mut self, piece: &[u8]) -> Result<usize, SinkFault>
         ensures count { IfOk result (λ n. n ≤ length piece.now) }
         ensures taken { IfOk result (λ n. written self.new ≡ grown (written self.old) (take n piece.now)) }
@@ -78,7 +77,7 @@ pub trait Sink {
         ensures nothing { IfOk result (λ _. length piece.now ≡ 0 → faults self.new ≡ faults self.old) };
 }
 
-/// Puts the whole text. After a refusal some first bytes of it are written, and no more of it.
+/// Puts the whole text. After a refusal a prefix of it was written.
 pub fn put_all<K: Sink>(out: &mut K, text: &[u8]) -> Result<(), SinkFault>
     ensures whole { OnOk result (K.written out.new ≡ grown (K.written out.old) text.now) }
     ensures unfailing { OnOk result (K.faults out.new ≡ K.faults out.old) }

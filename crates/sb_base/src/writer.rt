@@ -1,4 +1,4 @@
-//! Lines of words, written one after the other.
+//! A writer of lines of words.
 
 ghost use Rattle.std.specs.Prelude.{◌≡◌, ◌≤◌, ◌<◌, ◌^◌, [], take, OnOk, OnErr, false, decimal};
 ghost use Rattle.sb_base.specs.Digits.{hex_digits};
@@ -8,8 +8,8 @@ use crate::digits::hex_glyph;
 use std::alloc::{AllocError, Global};
 use std::marker::Model;
 
-/// Writes lines of words that single spaces divide. It is seen as the bytes so far and whether a line is begun. A call
-/// that is refused changes nothing.
+/// Writes lines of words separated by single spaces. Seen as the bytes so far and whether a line has begun. A call that fails changes
+/// nothing.
 #[derive(Drop)]
 pub struct LineWriter {
     alloc: Global,
@@ -25,7 +25,7 @@ impl Model for LineWriter {
     ghost view = { λ w. record { bytes = w.bytes.items; begun = w.begun } };
 }
 
-// So many hexadecimal digits of a number, at the front of what is given.
+// The hexadecimal digits of a number, at the front of the array.
 fn hex_glyphs(number: u32, digits: usize) -> [u8; 8]
     requires { digits ≤ 8 }
     ensures { take digits result ≡ hex_digits number digits }
@@ -103,7 +103,7 @@ impl LineWriter {
         Ok(())
     }
 
-    /// The bytes that were written. It takes no memory.
+    /// The written bytes. Takes no memory.
     pub fn finish(self) -> Vec<u8>
         ensures { result.items ≡ self.bytes }
     {

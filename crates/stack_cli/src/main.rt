@@ -25,7 +25,7 @@ fn words_of(rt: &HostRuntime) -> Result<Option<Vec<String>>, AllocError> {
     }
 }
 
-// The status of the top call with real files and the standard output.
+// The status of the top call over real files and the standard output.
 fn answer(rt: &HostRuntime, alloc: Global, owned: &[String]) -> Result<u8, AllocError> {
     let mut words: Vec<&str> = Vec::new(alloc);
     for word in owned {
@@ -36,7 +36,7 @@ fn answer(rt: &HostRuntime, alloc: Global, owned: &[String]) -> Result<u8, Alloc
     Ok(stackbound(alloc, &words, &mut files, &mut out))
 }
 
-// The status of this run. If a word isn't UTF-8, the words are no command; nor is an empty list.
+// The status of this run. Words of which one isn't UTF-8 are no command, as no words are none.
 fn status(rt: &HostRuntime) -> Result<u8, AllocError> {
     match words_of(rt)? {
         Some(words) => answer(rt, rt.alloc(), &words),
@@ -44,7 +44,7 @@ fn status(rt: &HostRuntime) -> Result<u8, AllocError> {
     }
 }
 
-// Answers the words after the program's name, and exits with the top call's status; 12 if memory runs out for the words.
+// Answers the words behind the program's name, and ends with the top call's status; 12 where there is no memory for the words.
 fn main(rt: HostRuntime) -> ExitCode {
     match status(&rt) {
         Ok(status) => ExitCode::from(status),

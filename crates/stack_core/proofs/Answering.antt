@@ -38,7 +38,7 @@ use Rattle.stack_core.specs.Answer.{IsAnswered, IsReplyWritten, IsReadFault, IsS
 
 -- ---- no reply has a status that isn't the reply's
 
--- not the statuses of usage, of a read fault, of a write fault and of running out of memory
+-- not the statuses of usage, of a read fault, of a write fault and of want of memory
 record IsReplyPlain (status : ℕ) : Type 0 where
   two : status ≢ 2
   three : status ≢ 3

@@ -84,11 +84,11 @@ refused_as : (words : Program) (A : List Entry) (next : Claim → Reply) (x : Re
     → CertificateReply words A next x 8 text
 refused_as words A next x f text e t = subst (λ y. CertificateReply words A next y 8 text) (sym e) (subst (λ o. Refuses 8 o 8 text) (sym t) (refl, refl))
 
--- a certificate that is read
+-- one that is
 pub read_claim : {E : Type 0} (words : Program) (A : List Entry) (x : Result Claim CertFault) (c : Claim) (j : Result Judged E) → x ≡ Ok c → IfOk j (IsJudgedAs words A (Ok c)) → IfOk j (IsJudgedAs words A x)
 read_claim words A x c j e h = subst (λ y. IfOk j (IsJudgedAs words A y)) (sym e) h
 
--- if an accepted certificate gets one of two replies alike, so does each text
+-- where an accepted certificate is answered alike, so is each text
 attained_alike : (next other : Reply) (attained : Bool) (status : ℕ) (text : List ℕ) → (next status text → other status text) → AttainedBy next attained status text → AttainedBy other attained status text
 attained_alike next other true status text f h = f h
 attained_alike next other false status text f h = h
@@ -108,7 +108,7 @@ told_alike : (words : Program) (A : List Entry) (next other : Claim → Reply) (
 told_alike words A next other (Err e) status text f h = h
 told_alike words A next other (Ok c) status text f h = record { verdict = h.verdict; is = h.is; reply = verdict_alike words A next other c h.verdict status text (f c) h.reply }
 
--- the reply to an accepted certificate
+-- what follows an accepted certificate
 pub accepted_reply : (words : Program) (A : List Entry) (next : Claim → Reply) (x : Result Claim CertFault) (c : Claim) (status : ℕ) (text : List ℕ) → (x ≡ Ok c) × IsValid words A c → next c status text
     → CertificateReply words A next x status text
 accepted_reply words A next x c status text h k =

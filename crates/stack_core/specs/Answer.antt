@@ -15,9 +15,9 @@ use Rattle.replies.specs.Headline.{Mean, StandFor, Holds, IsLeastCertificate, Is
 
 -- ---- the answer where no call failed and memory sufficed
 
--- Each file of a command has one value, by its place, which agrees with what the files object reports, also if one name occurs twice. The
--- answer is the one reply to these values. A reply that accepts a certificate says that the bound holds, and comes exactly if the
--- certificate is valid. One that writes a certificate says that it is the least, and its status says how the rounds end.
+-- For each file of a command there is one value, by its place, that was read: it agrees with what the files tell, also where one name
+-- stands twice. Of these values the answer is the one reply. One that accepts a certificate says that the bound holds, and comes exactly
+-- where the certificate is valid. One that writes a certificate says that it is the least, and its status says how the rounds end.
 pub record IsAnswered (command : Command) (holds : List ℕ → Held) (status : ℕ) (text : List ℕ) : Type 0 where
   pub seen : Contents
   pub agrees : AllAgree command holds seen
@@ -30,7 +30,7 @@ abbrev pub IsReplyDue : Option Command → (List ℕ → Held) → ℕ → List 
 IsReplyDue None holds status text = (status ≡ 2) × (text ≡ usage)
 IsReplyDue (Some command) holds status text = IsAnswered command holds status text
 
--- the reply is due, and its text was written
+-- the same, and its text was written
 pub record IsReplyWritten (command : Option Command) (holds : List ℕ → Held) (status : ℕ) (before after : Option (List ℕ)) : Type 0 where
   pub text : List ℕ
   pub due : IsReplyDue command holds status text
@@ -45,7 +45,7 @@ IsReadFault (Some command) holds before after blamed name = IsFirstFailed comman
 
 -- ---- before anything is written
 
--- an answer before which no read failed
+-- an answer that no read fault comes before
 pub record IsSettledAnswer (command : Option Command) (holds : List ℕ → Held) (before after : ℕ) (status : ℕ) (text : List ℕ) : Type 0 where
   pub quiet : after ≡ before
   pub due : IsReplyDue command holds status text
@@ -54,7 +54,7 @@ pub record IsSettledAnswer (command : Option Command) (holds : List ℕ → Held
   pub write : status ≢ 4
   pub ample : status ≢ 12
 
--- the answer names the read that failed
+-- a read fault is told
 pub record IsFaultTold (command : Option Command) (holds : List ℕ → Held) (before after : ℕ) (blamed : Blamed) (status : ℕ) (text : List ℕ) : Type 0 where
   pub three : status ≡ 3
   pub name : List ℕ
@@ -105,13 +105,13 @@ pub record IsJudging (command : Option Command) (judge : Command) (holds : List 
   pub certificate_fits : length certificate ≤ certificate_cap
   pub list_held : AreHeld holds assume list
 
--- if a command on held bytes accepts a certificate, the bound holds of them and is printed
+-- where a command of held bytes accepts a certificate, the bound holds of them, and is told
 abbrev pub HeldHeadline : Option Command → (List ℕ → Held) → ℕ → Option (List ℕ) → Option (List ℕ) → Type 0
 HeldHeadline command holds status before after =
     (judge : Command) (firmware certificate : List ℕ) (list : Option (List ℕ)) → IsJudging command judge holds firmware certificate list → status ≡ 0
     → (text : List ℕ) × Holds judge firmware certificate list text × (after ≡ grown before text)
 
--- if held bytes are well-formed, it accepts exactly if the certificate is valid, and for `clear` all nodes are clear
+-- where held bytes read as values, it accepts exactly where the certificate is valid, and for `clear` all nodes are clear
 abbrev pub IsHeldExact : Option Command → (List ℕ → Held) → ℕ → Type 0
 IsHeldExact command holds status =
     (judge : Command) (firmware certificate : List ℕ) (list : Option (List ℕ)) (words : Program) (claim : Claim) (A : List Entry)
@@ -126,13 +126,13 @@ pub record IsAnalysing (command : Option Command) (device : Device) (steps : Opt
   pub firmware_fits : length firmware ≤ firmware_cap
   pub list_held : AreHeld holds assume list
 
--- if an analysis of held bytes answers 0, it has written exactly the text of their least certificate
+-- where an analysis of held bytes answers 0, it has written the text of their least certificate, and nothing else
 abbrev pub HeldLeast : Option Command → (List ℕ → Held) → ℕ → Option (List ℕ) → Option (List ℕ) → Type 0
 HeldLeast command holds status before after =
     (device : Device) (steps : Option ℕ) (firmware : List ℕ) (list : Option (List ℕ)) → IsAnalysing command device steps holds firmware list → status ≡ 0
     → (text : List ℕ) × IsLeastCertificate device firmware list text × (after ≡ grown before text)
 
--- if held bytes are well-formed, the status says how the rounds end
+-- where held bytes read as values, the status says how the rounds end
 abbrev pub IsHeldEnd : Option Command → (List ℕ → Held) → ℕ → Type 0
 IsHeldEnd command holds status =
     (device : Device) (steps : Option ℕ) (firmware : List ℕ) (list : Option (List ℕ)) (words : Program) (A : List Entry)
@@ -150,14 +150,13 @@ pub record IsSimulating (command : Option Command) (device : Device) (steps : �
   pub devices_fit : length devices ≤ devices_cap
   pub list_held : AreHeld holds assume list
 
--- if a simulation of held bytes answers 0, it has printed the run that the devices choose, which stays within each bound that `check`
--- accepts
+-- where a simulation of held bytes answers 0, it has told the run that the devices choose, which keeps each bound that `check` accepts
 abbrev pub HeldSimulated : Option Command → (List ℕ → Held) → ℕ → Option (List ℕ) → Option (List ℕ) → Type 0
 HeldSimulated command holds status before after =
     (device : Device) (steps : ℕ) (firmware devices : List ℕ) (list : Option (List ℕ)) → IsSimulating command device steps holds firmware devices list → status ≡ 0
     → (text : List ℕ) × IsSimulated device steps firmware devices list text × (after ≡ grown before text)
 
--- if held firmware and assumptions are well-formed, it answers 0 exactly if the devices' text is well-formed
+-- where held firmware and assumptions read as values, it answers 0 exactly where the devices' text reads as such
 abbrev pub AreHeldDevices : Option Command → (List ℕ → Held) → ℕ → Type 0
 AreHeldDevices command holds status =
     (device : Device) (steps : ℕ) (firmware devices : List ℕ) (list : Option (List ℕ)) (words : Program) (A : List Entry)

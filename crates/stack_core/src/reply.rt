@@ -1,6 +1,6 @@
 //! Replies.
 
-/// A status with its text.
+/// A status, and the text that goes with it.
 #[derive(Drop)]
 pub struct Reply {
     pub status: u8,

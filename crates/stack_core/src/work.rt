@@ -58,7 +58,7 @@ fn on_flash(
     }
 }
 
-// The same, with the program's marks kept if the list has the line `pairs`, whose rules use them often.
+// The same, with the marks of the program kept where the list has the line `pairs`, whose rules look for them again and again.
 fn with_marks(
     alloc: Global,
     command: &Command<'_>,
@@ -74,7 +74,7 @@ fn with_marks(
     on_flash(alloc, command, loaded, assumptions, second)
 }
 
-// The answer for a loaded firmware.
+// What is answered for a firmware that was loaded.
 fn under_list(
     alloc: Global,
     command: &Command<'_>,

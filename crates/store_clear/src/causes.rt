@@ -44,14 +44,14 @@ fn mark_addresses(store: &Store<'_>, marks: &mut [bool])
     }
 }
 
-// Whether a node with this condition left isn't clear, and is at this word.
+// Whether a node that still asks this isn't clear, and lies at this word.
 fn is_unclear_at(pc: u16, key: &NodeKey, asks: Asks) -> bool
     ensures { result ≡ is_unclear_at pc key.now asks }
 {
     !passes(asks) && key.pc == pc
 }
 
-// Marks the addresses of all nodes there that aren't clear.
+// Marks such addresses of all nodes there that aren't clear.
 fn mark_nodes(task: &Task<'_>, told: &ToldNodes<'_>, site: &WordSite<'_>, marks: &mut [bool])
     requires same { length told.now.asks.now ≡ length told.now.nodes.now }
     requires all { length marks.old ≡ 256 }
@@ -143,7 +143,7 @@ fn place_at(
     }
 }
 
-// The causes at each of these words; each has a node that isn't clear.
+// What may happen at each of these words, at each of which some node isn't clear.
 pub(crate) fn places_at(
     task: &Task<'_>,
     certificate: &Certificate,

@@ -80,10 +80,10 @@ pub fn flagged_sites_in(
     sites_of(task.alloc, &told)
 }
 
-/// The word addresses of `flagged_sites_in`, each with its causes: the protected addresses that a store may write and that are flagged,
-/// whether a store may write a pushed byte, and whether a transfer may go to an unlisted word. Each has a cause. A run from reset that
-/// ends flagged ends at one of them with the cause of its flag, or takes a vector that is assumed never to be taken. Fails if memory runs
-/// out. Each word costs a pass over all nodes. Source: own.
+/// The same word addresses, each with what may happen there by some node that isn't clear: which protected addresses a store may write that
+/// are flagged, whether one may write a byte that was pushed, whether a transfer may go to an unlisted word; and something may happen at
+/// each. What a run from reset is flagged for is told of the word at which it ends, unless it takes a vector that is assumed never to be
+/// taken. The error is want of memory. Beside what the words cost, each of them costs a look at each node. Source: own.
 pub fn flagged_places_in(
     task: &Task<'_>,
     certificate: &Certificate,
@@ -170,10 +170,10 @@ pub fn flagged_sites(
     sites
 }
 
-/// The word addresses of `flagged_sites`, each with its causes: the protected addresses that a store may write and that are flagged,
-/// whether a store may write a pushed byte, and whether a transfer may go to an unlisted word. Each has a cause. A run from reset that
-/// ends flagged ends at one of them with the cause of its flag, or takes a vector that is assumed never to be taken. Fails if memory runs
-/// out. Each word costs a pass over all nodes. Source: own.
+/// The same word addresses, each with what may happen there by some node that isn't clear: which protected addresses a store may write that
+/// are flagged, whether one may write a byte that was pushed, whether a transfer may go to an unlisted word; and something may happen at
+/// each. What a run from reset is flagged for is told of the word at which it ends, unless it takes a vector that is assumed never to be
+/// taken. The error is want of memory. Beside what the words cost, each of them costs a look at each node. Source: own.
 pub fn flagged_places(
     alloc: Global,
     flash: &Flash,

@@ -1,6 +1,6 @@
-//! The nodes of a certificate that may flag a step: the first of them, and all their words, with causes. In order: the addresses of
-//! stores and the conditions of nodes on their slots (`aims` to `writes`), where slots spread (`reach`, `spreading`), which conditions
-//! are met (`settling`, `telling`), and the answers. Source: own. Tests: `tests/end_to_end`, the rows of `clear` and `premises`.
+//! Which nodes of a certificate may flag a step: the least of them, and all words at which one lies, with what may happen there. Where the
+//! store of one node goes and what it asks of its slots comes first (`aims` to `writes`), then where slots spread (`reach`, `spreading`),
+//! then which nodes get what they ask (`settling`, `telling`), and what is told of their words. Source: own.
 #![tactic(auto)]
 
 mod aims;

@@ -1,4 +1,5 @@
--- A sum by the definition, bit by bit, which the code has to give from whole words: of a byte whose low half is unknown and of a known one.
+-- A sum by the definition, bit by bit, which the code must compute from whole words: of a byte whose low half is unknown and of a known
+-- one.
 use Rattle.std.specs.Prelude.{◌≡◌, refl, nat_lt, if◌then◌else◌}
 use Rattle.std.specs.Int.{bit_at}
 use Rattle.bit_domain.specs.declared.bits.Tri.TheVariants.{Zero, Any}
