@@ -41,10 +41,6 @@ pub made_if : {A X E : Type 0} (told : Result A E) (x : X) (r : Result X E) (P :
 made_if (Ok a) x r P is h = subst (λ s. IfOk s P) (sym is) h
 made_if (Err e) x r P is h = subst (λ s. IfOk s P) (sym is) tt
 
-pub refused_if : {A X E : Type 0} (told : Result A E) (x : X) (r : Result X E) (P : E → Type 0) → r ≡ result_and told (Ok x) → IfErr told P → IfErr r P
-refused_if (Ok a) x r P is h = subst (λ s. IfErr s P) (sym is) tt
-refused_if (Err e) x r P is h = subst (λ s. IfErr s P) (sym is) h
-
 module _ (words : Program) (A : List Entry) where
   pub too_large : (f : Family) (r : Refusal) → IsTooLarge f r → AreRoundsStopped words A f r
   too_large f r h = record { test = over h.limit; holds = h.over; is = h.is }

@@ -14,6 +14,7 @@ ghost use Rattle.fixpoint.specs.Progress.{AreKnown, AreRoundsFound};
 ghost use Rattle.fixpoint.specs.Confirm.{AreKnownAt, LandAt};
 
 use crate::testing::{check_nesting, check_size, note_seen};
+use crate::unfound::Unfound;
 use call_graph::Task;
 use mask_states::NodeKey;
 use round_rules::Refusal;
@@ -58,7 +59,7 @@ fn check_all_edges(
     table: &Table,
     notes: &Notes,
     keys: &[NodeKey],
-) -> Result<(), Refusal>
+) -> Result<(), Unfound>
     requires formed { AreFormed (has_pairs task.now.assumptions.now) table.now }
     requires known { AreKnown task.now.flash.now task.now.assumptions.now table.now notes.now }
     ensures { OnOk result (LandAt task.now.flash.now task.now.assumptions.now table.now keys.now) }
@@ -69,7 +70,7 @@ fn check_all_edges(
         let lands = nodes.is_empty();
         drop(nodes);
         if !lands {
-            return Err(Refusal::Memory);
+            return Err(Unfound::Stopped);
         }
     }
     Ok(())
@@ -82,7 +83,7 @@ pub fn confirm(
     counted: u64,
     notes: &mut Notes,
     keys: &[NodeKey],
-) -> Result<(), Refusal>
+) -> Result<(), Unfound>
     requires made { IsMade task.now.flash.now task.now.assumptions.now table.now }
     requires count { counted ≡ cells table.now }
     requires no_notes { notes.old ≡ blank }

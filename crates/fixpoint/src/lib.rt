@@ -9,6 +9,7 @@ pub mod ordering;
 pub mod rounds;
 pub mod solving;
 mod testing;
+mod unfound;
 mod writing;
 
 pub use certificate::{Certificate, Limit};

@@ -16,6 +16,7 @@ ghost use Rattle.fixpoint.specs.OrderLaws.{OrdersEnd};
 use crate::confirming::confirm;
 use crate::rounds::{least_family, start};
 use crate::testing::{check_nesting, check_size, note_seen};
+use crate::unfound::Unfound;
 use call_graph::Task;
 use flash_image::Flash;
 use mask_states::NodeKey;
@@ -98,7 +99,7 @@ fn ask_nesting(
     nesting: &mut Nesting,
     nodes: usize,
     due: &mut usize,
-) -> Result<(), Refusal>
+) -> Result<(), Unfound>
     requires { AreOnce nesting.old.insts }
     ensures { OnOk result (AreOnce nesting.new.insts) }
 {
@@ -106,21 +107,23 @@ fn ask_nesting(
         return Ok(());
     }
     if nesting.count() > 65536 {
-        return Err(Refusal::Memory);
+        return Err(Unfound::Stopped);
     }
     *due = nodes.saturating_add(64);
-    check_nesting(flash, nesting)
+    check_nesting(flash, nesting)?;
+    Ok(())
 }
 
-// Looks at nodes, the least offset and word first, until none waits. How instances nest is asked on the way, since the rounds are stopped
-// soon where they don't.
+// Looks at nodes, the least offset and word first, until none waits, or so often at most. How instances nest is asked on the way, since the
+// rounds are stopped soon where they don't.
 fn walk(
     task: &Task<'_>,
     table: &mut Table,
     counted: &mut u64,
     notes: &mut Notes,
     waiting: &mut BinaryHeap<Due>,
-) -> Result<(), Refusal>
+    most: usize,
+) -> Result<(), Unfound>
     requires no_nodes { table.old ≡ empty }
     requires no_notes { notes.old ≡ blank }
     ensures { OnOk result (IsUnderWay task.now.flash.now task.now.assumptions.now table.new counted.new notes.new) }
@@ -128,10 +131,15 @@ fn walk(
     let first = start(task, table, counted)?;
     await_all(waiting, first)?;
     let mut due = 64;
+    let mut left = most;
     'looks: loop {
         let Some(key) = take_first(waiting) else {
             return Ok(());
         };
+        if left == 0 {
+            return Err(Unfound::Late);
+        }
+        left -= 1;
         let changed = look_on(task, table, counted, notes, key)?;
         await_all(waiting, changed)?;
         check_size(table, *counted)?;
@@ -140,7 +148,7 @@ fn walk(
 }
 
 // Whether the rounds end at the family, with notes of its own. `drop` lets go of these: a call is one step of the proof, whatever they own.
-fn is_end(task: &Task<'_>, table: &Table, counted: u64) -> Result<(), Refusal>
+fn is_end(task: &Task<'_>, table: &Table, counted: u64) -> Result<(), Unfound>
     requires made { IsMade task.now.flash.now task.now.assumptions.now table.now }
     requires count { counted ≡ cells table.now }
     ensures { OnOk result (AreRoundsFound task.now.flash.now task.now.assumptions.now None table.now) }
@@ -154,7 +162,7 @@ fn is_end(task: &Task<'_>, table: &Table, counted: u64) -> Result<(), Refusal>
 }
 
 // The walk from no nodes, none of which waits, with notes of its own: the number of the family's cells.
-fn walked(task: &Task<'_>, table: &mut Table) -> Result<u64, Refusal>
+fn walked(task: &Task<'_>, table: &mut Table, most: usize) -> Result<u64, Unfound>
     requires { table.old ≡ empty }
     ensures made { OnOk result (IsMade task.now.flash.now task.now.assumptions.now table.new) }
     ensures count { IfOk result (λ counted. counted ≡ cells table.new) }
@@ -162,47 +170,70 @@ fn walked(task: &Task<'_>, table: &mut Table) -> Result<u64, Refusal>
     let mut notes = Notes::new(task.alloc);
     let mut waiting = BinaryHeap::new(task.alloc);
     let mut counted = 0;
-    let told = walk(task, table, &mut counted, &mut notes, &mut waiting);
+    let told = walk(task, table, &mut counted, &mut notes, &mut waiting, most);
     drop(waiting);
     drop(notes);
     match told {
         Ok(()) => Ok(counted),
-        Err(refusal) => Err(refusal),
+        Err(unfound) => Err(unfound),
     }
 }
 
 // The walk from an empty family to one at which the rounds end.
-fn walk_to_end(task: &Task<'_>, table: &mut Table) -> Result<(), Refusal>
+fn walk_to_end(task: &Task<'_>, table: &mut Table, most: usize) -> Result<(), Unfound>
     requires { table.old ≡ empty }
     ensures { OnOk result (AreRoundsFound task.now.flash.now task.now.assumptions.now None table.new) }
 {
-    let counted = walked(task, table)?;
+    let counted = walked(task, table, most)?;
     is_end(task, table, counted)?;
     Ok(())
 }
 
-/// The family at which the rounds end, found in another order. An error says nothing of it.
-pub fn ordered_family(task: &Task<'_>) -> Result<Table, Refusal>
+/// The family at which the rounds end, found in another order with so many looks at most. An error says nothing of it.
+pub fn ordered_family(task: &Task<'_>, most: usize) -> Result<Table, Unfound>
     ensures { IfOk result (λ f. AreRoundsFound task.now.flash.now task.now.assumptions.now None f) }
 {
     let mut table = Table::new(task.alloc);
-    walk_to_end(task, &mut table).and(Ok(table))
+    walk_to_end(task, &mut table, most).and(Ok(table))
 }
 
+// The family at which the rounds end, or why they end at none within the budget, with no hurry.
+fn unhurried_family(task: &Task<'_>, steps: Option<u64>) -> Result<Table, Refusal>
+    ensures found { IfOk result (λ f. AreRoundsFound task.now.flash.now task.now.assumptions.now steps f) }
+    ensures why_not { IfErr result (λ r. IsWhyNot task.now.flash.now task.now.assumptions.now steps r) }
+{
+    match least_family(task, steps, None) {
+        Ok(Some(table)) => Ok(table),
+        Ok(None) => unreachable!(),
+        Err(refusal) => Err(refusal),
+    }
+}
+
+// How often the other order may look at nodes, in turn, and after it the rounds.
+const TURNS: [usize; 4] = [8_192, 131_072, 2_097_152, 33_554_432];
+
 /// The family at which the rounds end, or why they end at none within the budget. With a budget the rounds alone tell this. Without one they
-/// begin in a hurry; where they are left, the other order is tried, and where that gives nothing, they go to their end.
+/// begin in a hurry; if they are late, the other order is tried, and if that is late too, the rounds again, each turn with more looks: so
+/// neither costs much more than the other. If the other order stops, the rounds go to their end.
 pub fn found_family(task: &Task<'_>, steps: Option<u64>) -> Result<Table, Refusal>
     ensures found { IfOk result (λ f. AreRoundsFound task.now.flash.now task.now.assumptions.now steps f) }
     ensures why_not { IfErr result (λ r. IsWhyNot task.now.flash.now task.now.assumptions.now steps r) }
 {
     if steps.is_some() {
-        return least_family(task, steps, false);
+        return unhurried_family(task, steps);
     }
-    match least_family(task, steps, true) {
-        Err(Refusal::Memory) => match ordered_family(task) {
-            Ok(table) => Ok(table),
-            Err(_) => least_family(task, steps, false),
-        },
-        told => told,
+    let mut looks = 0;
+    for most in TURNS {
+        match least_family(task, steps, Some(looks)) {
+            Ok(Some(table)) => return Ok(table),
+            Ok(None) => {}
+            Err(refusal) => return Err(refusal),
+        }
+        match ordered_family(task, most) {
+            Ok(table) => return Ok(table),
+            Err(Unfound::Late) => looks = most,
+            Err(Unfound::Stopped) => break,
+        }
     }
+    unhurried_family(task, steps)
 }

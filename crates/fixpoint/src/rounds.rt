@@ -1,6 +1,6 @@
 //! The rounds, from the root's node after reset to the fixpoint or a refusal.
 
-ghost use Rattle.std.specs.Prelude.{ℕ, ◌+◌, ◌≡◌, ◌≢◌, Some, IfOk, IfErr, OnOk};
+ghost use Rattle.std.specs.Prelude.{ℕ, ◌+◌, ◌≡◌, ◌≢◌, true, false, None, Some, IsSome, IfSome, IfOk, IfErr, OnOk};
 ghost use Rattle.std.specs.FinMap.{empty};
 ghost use Rattle.avr_model.specs.Assumptions.{has_pairs};
 ghost use Rattle.mask_states.specs.Keys.{root_inst};
@@ -86,24 +86,30 @@ fn spend(steps: Option<u64>, left: Option<u64>) -> Result<Option<u64>, Refusal>
     }
 }
 
-// Whether the rounds are to be left, in a hurry: many of so many looks were at nodes that had been looked at before.
-fn is_late(hurry: bool, looks: usize, table: &Table) -> bool {
-    hurry && looks.saturating_sub(256) > table.len()
+// Whether the rounds are late, which they are in a hurry alone: they have looked at nodes more often than this, and at many nodes again.
+fn is_late(hurry: Option<usize>, looks: usize, table: &Table) -> bool
+    ensures { result ≡ true → IsSome hurry }
+{
+    match hurry {
+        Some(most) => looks > most && looks.saturating_sub(256) > table.len(),
+        None => false,
+    }
 }
 
-// The rounds, on a table and notes that are empty: the family at which they end, or why they end at none within the budget. In a hurry they
-// are left as for want of memory once they look at nodes again and again. Their caller owns both, so that each early end here lets go of the
-// work at most.
+// The rounds, on a table and notes that are empty: whether they come to their end, with the family there, or why they end at none within the
+// budget. They don't come to it only in a hurry, if they are late. Their caller owns both, so that each early end here lets go of the work at
+// most.
 fn go_on(
     task: &Task<'_>,
     steps: Option<u64>,
-    hurry: bool,
+    hurry: Option<usize>,
     table: &mut Table,
     notes: &mut Notes,
-) -> Result<(), Refusal>
+) -> Result<bool, Refusal>
     requires no_nodes { table.old ≡ empty }
     requires no_notes { notes.old ≡ blank }
-    ensures found { OnOk result (AreRoundsFound task.now.flash.now task.now.assumptions.now steps table.new) }
+    ensures found { IfOk result (λ ended. ended ≡ true → AreRoundsFound task.now.flash.now task.now.assumptions.now steps table.new) }
+    ensures late { IfOk result (λ ended. ended ≡ false → IsSome hurry) }
     ensures why_not { IfErr result (λ r. IsWhyNot task.now.flash.now task.now.assumptions.now steps r) }
 {
     let mut counted = 0;
@@ -112,28 +118,43 @@ fn go_on(
     let mut looks = 0;
     'rounds: loop {
         if is_late(hurry, looks, table) {
-            return Err(Refusal::Memory);
+            return Ok(false);
         }
         looks = looks.saturating_add(work.len());
         let told = next_nodes(task, table, counted, &work, notes);
         drop(work);
         work = join_all(task.alloc, table, &mut counted, told?)?;
         if work.is_empty() {
-            return Ok(());
+            return Ok(true);
         }
         left = spend(steps, left)?;
     }
 }
 
-/// The family at which the rounds end, or why they end at none within the budget. In a hurry the rounds are left, as for want of memory, once
-/// they look at nodes again and again.
-pub fn least_family(task: &Task<'_>, steps: Option<u64>, hurry: bool) -> Result<Table, Refusal>
-    ensures found { IfOk result (λ f. AreRoundsFound task.now.flash.now task.now.assumptions.now steps f) }
+/// The family at which the rounds end, or why they end at none within the budget. None says that they were late and were left. They are left
+/// only in a hurry: once they have looked at nodes more often than `hurry` says, and at many nodes again.
+pub fn least_family(
+    task: &Task<'_>,
+    steps: Option<u64>,
+    hurry: Option<usize>,
+) -> Result<Option<Table>, Refusal>
+    ensures found { IfOk result (λ told. IfSome told (λ f. AreRoundsFound task.now.flash.now task.now.assumptions.now steps f)) }
+    ensures late { IfOk result (λ told. told ≡ None → IsSome hurry) }
     ensures why_not { IfErr result (λ r. IsWhyNot task.now.flash.now task.now.assumptions.now steps r) }
 {
     let mut table = Table::new(task.alloc);
     let mut notes = Notes::new(task.alloc);
     let told = go_on(task, steps, hurry, &mut table, &mut notes);
     drop(notes);
-    told.and(Ok(table))
+    match told {
+        Ok(true) => Ok(Some(table)),
+        Ok(false) => {
+            drop(table);
+            Ok(None)
+        }
+        Err(refusal) => {
+            drop(table);
+            Err(refusal)
+        }
+    }
 }

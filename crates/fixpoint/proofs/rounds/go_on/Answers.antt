@@ -46,7 +46,7 @@ returns-in_err-work-2-clause-why_not c =
     handed_on c.from_residual-in_err-work-2.result Memory (IsWhyNot c.args.task.now.flash.now c.args.task.now.assumptions.now c.args.steps) c.from_residual-in_err-work-2.ensures.1 tt
 
 pub returns-then-is_empty-clause-found : goal.returns-then-is_empty-clause-found
-returns-then-is_empty-clause-found c =
+returns-then-is_empty-clause-found c = λ ended.
     is_found c.args.task.now.flash.now c.args.task.now.assumptions.now c.args.steps c.rounds.left c.rounds.table c.rounds.counted c.rounds.work.items c.rounds.notes c.rounds.invariant
     c.join_all.new.table c.next_nodes-told.new.notes c.in_ok-told.field-0.items c.in_ok-work-2.work.items c.in_ok-told.ensures.ready c.in_ok-work-2.ensures.joined
     c.in_ok-work-2.ensures.kept c.in_ok-work-2.ensures.more (none_if c.in_ok-work-2.work.items c.is_empty.result _ c.is_empty.ensures (omega (arith, c.in_ok-work-2.work.ok.0)) c.if-is_empty.true)
