@@ -36,7 +36,9 @@ use Rattle.clear_laws.specs.Verdict.{AreSites}
 use Rattle.store_clear.specs.Settling.{ask_at, passes, IsTold, places_of}
 use Rattle.store_clear.specs.Takes.{AreMarkedBeside}
 use Rattle.store_clear.specs.Causing.{IsProtectedBelow, is_unclear_at, PassesBelow, IsProtectedAt, IsLiveAt, ArePlacesOf}
+use Rattle.store_clear.specs.ByWord.{IsNext}
 use Rattle.store_clear.proofs.Marked.{placed, placing, ascending}
+use Rattle.store_clear.proofs.Linked.{skipped, reached}
 use Rattle.store_clear.proofs.Taken.{marks_none, marks_one, marks_both, marks_as}
 
 -- ---- the addresses of a node
@@ -110,10 +112,11 @@ module _ (words : Program) (A : List Entry) (nodes : List Node) (asks : List Ask
         nodes_more at n k s ask old mid new is key state same so
         (marks_as (IsProtectedBelow words A pc s instr 256) (From k s ask) mid new (λ a t. (e, t)) (λ a t. t.1) one)
 
-    pub nodes_same : is_unclear_at pc k ask ≡ false → AreMarkedBeside (At (at + 1)) old mid
-    nodes_same e =
-        nodes_more at n k s ask old mid mid is key state same so
-        (marks_none (From k s ask) mid (λ a t. never_both (is_unclear_at pc k ask) t.0 e))
+  -- those that come next
+  pub nodes_skipped : (start at : ℕ) (old new : List Bool) → IsNext nodes asks pc start at → AreMarkedBeside (At start) old new → AreMarkedBeside (At at) old new
+  nodes_skipped start at old new next so =
+      marks_as (At start) (At at) old new (λ a t. (t.0, reached nodes asks pc start at next (λ s. may_write_protected words A pc s instr a) t.1))
+      (λ a t. (t.0, skipped nodes asks pc start at next (λ s. may_write_protected words A pc s instr a) t.1)) so
 
 -- ---- the list
 
@@ -157,19 +160,21 @@ module _ (words : Program) (A : List Entry) (bound : ℕ) (nodes : List Node) (a
           passes = ap (λ (x : AbsState). may_write_live words A bound pc x instr) state ∙ live;
         }
 
-    pub live_not : (LiveAt at → ⊥) → (is_unclear_at pc k (ask_at asks at) ≡ true → may_write_live words A bound pc s instr ≡ true → ⊥) → LiveAt (at + 1) → ⊥
+    pub live_not : (LiveAt at → ⊥) → may_write_live words A bound pc s instr ≡ false → LiveAt (at + 1) → ⊥
     live_not none here t =
         ⊎_elim (λ lt. none (record { at = t.at; node = t.node; below = lt; is = t.is; unclear = t.unclear; passes = t.passes }))
         (λ e.
         let m : t.node ≡ n = one_at nodes at t.node n (subst (λ i. slice_get nodes i ≡ Some t.node) e t.is) is in
-        here
-        (sym (ap (λ (x : Node). is_unclear_at pc x.key (ask_at asks at)) m ∙ ap (λ (x : NodeKey). is_unclear_at pc x (ask_at asks at)) key)
-        ∙ ap (λ i. is_unclear_at pc t.node.key (ask_at asks i)) (sym e) ∙ t.unclear)
-        (sym (ap (λ (x : Node). may_write_live words A bound pc x.state instr) m ∙ ap (λ (x : AbsState). may_write_live words A bound pc x instr) state) ∙ t.passes))
+        never_both (may_write_live words A bound pc s instr)
+        (sym (ap (λ (x : Node). may_write_live words A bound pc x.state instr) m ∙ ap (λ (x : AbsState). may_write_live words A bound pc x instr) state) ∙ t.passes) here)
         (before_or_last t.at at t.below)
 
   pub live_none : LiveAt 0 → ⊥
   live_none t = let lt = t.below in omega (arith, lt)
+
+  -- none among those that come next
+  pub live_skipped : (start at : ℕ) → IsNext nodes asks pc start at → (LiveAt start → ⊥) → LiveAt at → ⊥
+  live_skipped start at next none t = none (skipped nodes asks pc start at next (λ s. may_write_live words A bound pc s instr) t)
 
 -- ---- a word
 

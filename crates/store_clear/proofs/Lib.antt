@@ -8,5 +8,6 @@ pub mod Settled
 pub mod Told
 pub mod Marked
 pub mod Taken
+pub mod Linked
 pub mod Causing
 pub mod Sites

@@ -3,3 +3,4 @@ pub mod Numbers
 pub mod Settling
 pub mod Takes
 pub mod Causing
+pub mod ByWord

@@ -9,11 +9,13 @@ ghost use Rattle.clear_laws.specs.Clear.{MayBeFlagged};
 ghost use Rattle.clear_laws.specs.Places.{IsPlaceOf};
 ghost use Rattle.store_clear.specs.Settling.{IsTold};
 ghost use Rattle.store_clear.specs.Takes.{AreMarkedBeside};
-ghost use Rattle.store_clear.specs.Causing.{IsProtectedBelow, is_unclear_at, IsProtectedAt, IsLiveAt, ArePlacesOf};
+ghost use Rattle.store_clear.specs.Causing.{IsProtectedBelow, IsProtectedAt, IsLiveAt, ArePlacesOf};
+ghost use Rattle.store_clear.specs.ByWord.{AreLinked, IsChain};
 
+use crate::by_word::{ByWord, by_word};
 use crate::need::is_indirect;
 use crate::store::Store;
-use crate::telling::{ToldNodes, passes};
+use crate::telling::ToldNodes;
 use crate::words::places;
 use crate::writes::{may_write_live, may_write_protected};
 use avr_model::instruction::Instr;
@@ -21,15 +23,15 @@ use avr_model::listed::Listed;
 use call_graph::Task;
 use certificate::Certificate;
 use clear_laws::FlaggedPlace;
-use clear_laws::slots::Asks;
-use mask_states::NodeKey;
 use std::alloc::AllocError;
 
-// A word with its instruction.
+// A word with its instruction, and its nodes that aren't clear: the first, and by the number of each the next.
 #[derive(Clone, Copy)]
 struct WordSite<'a> {
     pc: u16,
     instr: &'a Instr,
+    first: usize,
+    later: &'a [usize],
 }
 
 // Marks the addresses that a store may write and that are flagged as protected.
@@ -44,31 +46,25 @@ fn mark_addresses(store: &Store<'_>, marks: &mut [bool])
     }
 }
 
-// Whether a node that still asks this isn't clear, and lies at this word.
-fn is_unclear_at(pc: u16, key: &NodeKey, asks: Asks) -> bool
-    ensures { result ≡ is_unclear_at pc key.now asks }
-{
-    !passes(asks) && key.pc == pc
-}
-
 // Marks such addresses of all nodes there that aren't clear.
 fn mark_nodes(task: &Task<'_>, told: &ToldNodes<'_>, site: &WordSite<'_>, marks: &mut [bool])
     requires same { length told.now.asks.now ≡ length told.now.nodes.now }
+    requires chain { IsChain told.now.nodes.now told.now.asks.now site.now.pc site.now.first site.now.later.now }
     requires all { length marks.old ≡ 256 }
     ensures { AreMarkedBeside (IsProtectedAt task.now.flash.now task.now.assumptions.now told.now.nodes.now told.now.asks.now site.now.pc site.now.instr.now (length told.now.asks.now)) marks.old marks.new }
 {
     let _count = told.nodes.count();
-    for at in 0..told.asks.len() {
-        if is_unclear_at(site.pc, told.nodes.key(at), told.asks[at]) {
-            let store = Store {
-                flash: task.flash,
-                assumptions: task.assumptions,
-                pc: site.pc,
-                state: told.nodes.state(at),
-                instr: site.instr,
-            };
-            mark_addresses(&store, marks);
-        }
+    let mut at = site.first;
+    while at < told.asks.len() {
+        let store = Store {
+            flash: task.flash,
+            assumptions: task.assumptions,
+            pc: site.pc,
+            state: told.nodes.state(at),
+            instr: site.instr,
+        };
+        mark_addresses(&store, marks);
+        at = site.later[at];
     }
 }
 
@@ -78,7 +74,8 @@ fn protected_of(
     told: &ToldNodes<'_>,
     site: &WordSite<'_>,
 ) -> Result<Listed<u16>, AllocError>
-    requires { length told.now.asks.now ≡ length told.now.nodes.now }
+    requires same { length told.now.asks.now ≡ length told.now.nodes.now }
+    requires chain { IsChain told.now.nodes.now told.now.asks.now site.now.pc site.now.first site.now.later.now }
     ensures exact { IfOk result (λ list. (a : ℕ) → Contains list a ↔ IsProtectedAt task.now.flash.now task.now.assumptions.now told.now.nodes.now told.now.asks.now site.now.pc site.now.instr.now (length told.now.asks.now) a) }
     ensures ascending { IfOk result (λ list. IsStrictlySortedBy nat_cmp list) }
 {
@@ -90,22 +87,24 @@ fn protected_of(
 // Whether a store at some node there, which isn't clear, may write a pushed byte.
 fn is_live_at(task: &Task<'_>, bound: u16, told: &ToldNodes<'_>, site: &WordSite<'_>) -> bool
     requires same { length told.now.asks.now ≡ length told.now.nodes.now }
+    requires chain { IsChain told.now.nodes.now told.now.asks.now site.now.pc site.now.first site.now.later.now }
     requires small { bound ≤ size_of (device_of task.now.flash.now) }
     ensures { (result ≡ true) ↔ IsLiveAt task.now.flash.now task.now.assumptions.now bound told.now.nodes.now told.now.asks.now site.now.pc site.now.instr.now (length told.now.asks.now) }
 {
     let _count = told.nodes.count();
-    for at in 0..told.asks.len() {
-        let (key, state) = (told.nodes.key(at), told.nodes.state(at));
+    let mut at = site.first;
+    while at < told.asks.len() {
         let store = Store {
             flash: task.flash,
             assumptions: task.assumptions,
             pc: site.pc,
-            state,
+            state: told.nodes.state(at),
             instr: site.instr,
         };
-        if is_unclear_at(site.pc, key, told.asks[at]) && may_write_live(&store, bound) {
+        if may_write_live(&store, bound) {
             return true;
         }
+        at = site.later[at];
     }
     false
 }
@@ -115,8 +114,10 @@ fn place_at(
     task: &Task<'_>,
     certificate: &Certificate,
     told: &ToldNodes<'_>,
+    links: &ByWord,
     pc: u16,
 ) -> Result<FlaggedPlace, AllocError>
+    requires linked { AreLinked told.now.nodes.now told.now.asks.now 0 links.now.first.items links.now.later.items }
     requires small { certificate.now.bound ≤ size_of (device_of task.now.flash.now) }
     requires told { IsTold task.now.flash.now task.now.assumptions.now certificate.now told.now.nodes.now told.now.asks.now }
     requires site { MayBeFlagged task.now.flash.now task.now.assumptions.now (family_of certificate.now told.now.nodes.now) pc }
@@ -131,7 +132,13 @@ fn place_at(
             transfer: false,
         }),
         Some(instr) => {
-            let site = WordSite { pc, instr: &instr };
+            let _count = told.nodes.count();
+            let site = WordSite {
+                pc,
+                instr: &instr,
+                first: links.first[usize::from(pc)],
+                later: links.later.as_slice(),
+            };
             let protected = protected_of(task, told, &site)?;
             Ok(FlaggedPlace {
                 word: pc,
@@ -144,6 +151,28 @@ fn place_at(
 }
 
 // What may happen at each of these words, at each of which some node isn't clear.
+fn places_by(
+    task: &Task<'_>,
+    certificate: &Certificate,
+    told: &ToldNodes<'_>,
+    links: &ByWord,
+    sites: &[u16],
+) -> Result<Listed<FlaggedPlace>, AllocError>
+    requires linked { AreLinked told.now.nodes.now told.now.asks.now 0 links.now.first.items links.now.later.items }
+    requires small { certificate.now.bound ≤ size_of (device_of task.now.flash.now) }
+    requires told { IsTold task.now.flash.now task.now.assumptions.now certificate.now told.now.nodes.now told.now.asks.now }
+    requires sites { (pc : ℕ) → Contains sites.now pc → MayBeFlagged task.now.flash.now task.now.assumptions.now (family_of certificate.now told.now.nodes.now) pc }
+    ensures { IfOk result (λ list. ArePlacesOf task.now.flash.now task.now.assumptions.now (family_of certificate.now told.now.nodes.now) sites.now list) }
+{
+    let mut list = Listed::empty(task.alloc);
+    for site in sites {
+        let place = place_at(task, certificate, told, links, *site)?;
+        list.push(place)?;
+    }
+    Ok(list)
+}
+
+// The same, with the nodes linked by their words first.
 pub(crate) fn places_at(
     task: &Task<'_>,
     certificate: &Certificate,
@@ -155,10 +184,8 @@ pub(crate) fn places_at(
     requires sites { (pc : ℕ) → Contains sites.now pc → MayBeFlagged task.now.flash.now task.now.assumptions.now (family_of certificate.now told.now.nodes.now) pc }
     ensures { IfOk result (λ list. ArePlacesOf task.now.flash.now task.now.assumptions.now (family_of certificate.now told.now.nodes.now) sites.now list) }
 {
-    let mut list = Listed::empty(task.alloc);
-    for site in sites {
-        let place = place_at(task, certificate, told, *site)?;
-        list.push(place)?;
-    }
-    Ok(list)
+    let links = by_word(task.alloc, told)?;
+    let list = places_by(task, certificate, told, &links, sites);
+    drop(links);
+    list
 }

@@ -1,9 +1,10 @@
 //! Which nodes of a certificate may flag a step: the least of them, and all words at which one lies, with what may happen there. Where the
 //! store of one node goes and what it asks of its slots comes first (`aims` to `writes`), then where slots spread (`reach`, `spreading`),
-//! then which nodes get what they ask (`settling`, `telling`), and what is told of their words. Source: own.
+//! then which nodes get what they ask (`settling`, `telling`), and what is told of their words (`words` to `causes`). Source: own.
 #![tactic(auto)]
 
 mod aims;
+mod by_word;
 mod causes;
 pub mod clearing;
 mod need;

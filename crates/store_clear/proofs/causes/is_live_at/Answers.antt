@@ -1,38 +1,55 @@
-use Rattle.std.proofs.Common.{◌<◌, arith, length, refl, sym, ◌∙◌}
-use Rattle.basics.specs.Booleans.{never_both}
+use Rattle.std.proofs.Common.{◌<◌, ◌+◌, arith, get_or, length, refl, sym, ◌∙◌}
 use Rattle.basics.specs.Lists.{get_inside}
-use Rattle.store_clear.proofs.Askings.{key_is, state_is}
-use Rattle.store_clear.proofs.Causing.{live_none, live_found, live_not}
-use Rattle.store_clear.proofs.causes.is_live_at.Goals.{else-is_unclear_at-via-then-is_unclear_at+else-may_write_live, else-is_unclear_at-via-else-is_unclear_at}
+use Rattle.store_clear.proofs.Askings.{state_is}
+use Rattle.store_clear.proofs.Linked.{on_chain}
+use Rattle.store_clear.proofs.Causing.{live_none, live_found, live_not, live_skipped}
 use Rattle.store_clear.proofs.causes.is_live_at.Goals as goal
 
 pub loop-at-init : goal.loop-at-init
-loop-at-init c = live_none c.args.task.now.flash.now c.args.task.now.assumptions.now c.args.bound c.args.told.now.nodes.now c.args.told.now.asks.now c.args.site.now.pc c.args.site.now.instr.now
+loop-at-init c =
+    let words = c.args.task.now.flash.now in
+    let A = c.args.task.now.assumptions.now in
+    let nodes = c.args.told.now.nodes.now in
+    let asks = c.args.told.now.asks.now in
+    let site = c.args.site.now in (
+      live_skipped words A c.args.bound nodes asks site.pc site.instr.now 0 site.first c.requires.chain.first_is (live_none words A c.args.bound nodes asks site.pc site.instr.now),
+      on_chain nodes asks site.pc 0 site.first c.requires.chain.first_is,
+    )
 
 pub returns-then-may_write_live : goal.returns-then-may_write_live
 returns-then-may_write_live c =
     let nodes = c.args.told.now.nodes.now in
+    let site = c.args.site.now in
     let at = c.loop-at.at in
     let lt : at < length nodes = omega (arith, c.requires.same, c.loop-at-test.true) in
     let n = get_inside nodes at lt in (
-      λ e. live_found c.args.task.now.flash.now c.args.task.now.assumptions.now c.args.bound nodes c.args.told.now.asks.now c.args.site.now.pc c.args.site.now.instr.now at n.0
-          c.key-key.result.now c.state-state.result.now n.1 (key_is nodes at n.0 n.1 c.key-key.result.now c.key-key.ensures)
-          (state_is nodes at n.0 n.1 c.state-state.result.now c.state-state.ensures) _ c.loop-at-test.true (sym c.is_unclear_at.ensures ∙ c.if-is_unclear_at.true)
-          (sym c.may_write_live.ensures ∙ c.if-may_write_live.true),
+      λ e. live_found c.args.task.now.flash.now c.args.task.now.assumptions.now c.args.bound nodes c.args.told.now.asks.now site.pc site.instr.now at n.0 n.0.key c.state.result.now n.1 refl
+          (state_is nodes at n.0 n.1 c.state.result.now c.state.ensures) _ c.loop-at-test.true (c.loop-at.invariant.1.is n.0 n.1) (sym c.may_write_live.ensures ∙ c.if-may_write_live.true),
       λ t. refl,
     )
 
 pub loop-at-preserved : goal.loop-at-preserved
 loop-at-preserved c =
+    let words = c.args.task.now.flash.now in
+    let A = c.args.task.now.assumptions.now in
+    let nodes = c.args.told.now.nodes.now in
+    let asks = c.args.told.now.asks.now in
+    let site = c.args.site.now in
+    let at = c.loop-at.at in
+    let lt : at < length nodes = omega (arith, c.requires.same, c.loop-at-test.true) in
+    let n = get_inside nodes at lt in
+    let next = c.requires.chain.later_is at n.0 n.1 (c.loop-at.invariant.1.is n.0 n.1) in (
+      live_skipped words A c.args.bound nodes asks site.pc site.instr.now (at + 1) (get_or site.later.now at 0) next
+          (live_not words A c.args.bound nodes asks site.pc site.instr.now at n.0 n.0.key c.state.result.now n.1 refl (state_is nodes at n.0 n.1 c.state.result.now c.state.ensures)
+          c.loop-at.invariant.0 (sym c.may_write_live.ensures ∙ c.if-may_write_live.false)),
+      on_chain nodes asks site.pc (at + 1) (get_or site.later.now at 0) next,
+    )
+
+pub loop-at-smaller : goal.loop-at-smaller
+loop-at-smaller c =
     let nodes = c.args.told.now.nodes.now in
     let at = c.loop-at.at in
     let lt : at < length nodes = omega (arith, c.requires.same, c.loop-at-test.true) in
     let n = get_inside nodes at lt in
-    live_not c.args.task.now.flash.now c.args.task.now.assumptions.now c.args.bound nodes c.args.told.now.asks.now c.args.site.now.pc c.args.site.now.instr.now at n.0 c.key-key.result.now
-    c.state-state.result.now n.1 (key_is nodes at n.0 n.1 c.key-key.result.now c.key-key.ensures) (state_is nodes at n.0 n.1 c.state-state.result.now c.state-state.ensures)
-    c.loop-at.invariant
-    (λ unclear live.
-    elim c.else-is_unclear_at.branch [
-      | else-is_unclear_at-via-then-is_unclear_at+else-may_write_live w ↦ never_both _ live (sym w.may_write_live.ensures ∙ w.if-may_write_live.false)
-      | else-is_unclear_at-via-else-is_unclear_at w ↦ never_both _ unclear (sym c.is_unclear_at.ensures ∙ w.if-is_unclear_at.false)
-    ])
+    let next = c.requires.chain.later_is at n.0 n.1 (c.loop-at.invariant.1.is n.0 n.1) in
+    omega (arith, next.beyond, next.within, c.loop-at-test.true)

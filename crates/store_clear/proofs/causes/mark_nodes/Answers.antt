@@ -1,14 +1,21 @@
-use Rattle.std.proofs.Common.{◌<◌, ◌∙◌, ◌+◌, List, Bool, subst, sym, arith, length, refl}
+use Rattle.std.proofs.Common.{◌<◌, ◌+◌, arith, get_or, length, refl}
 use Rattle.basics.specs.Lists.{get_inside}
-use Rattle.store_clear.specs.Takes.{AreMarkedBeside}
-use Rattle.store_clear.specs.Causing.{IsProtectedAt}
-use Rattle.store_clear.proofs.Askings.{key_is, state_is}
-use Rattle.store_clear.proofs.Causing.{nodes_none, nodes_marked, nodes_same}
-use Rattle.store_clear.proofs.causes.mark_nodes.Goals.{then-is_unclear_at, else-is_unclear_at}
+use Rattle.store_clear.proofs.Askings.{state_is}
+use Rattle.store_clear.proofs.Linked.{on_chain}
+use Rattle.store_clear.proofs.Causing.{nodes_none, nodes_marked, nodes_skipped}
 use Rattle.store_clear.proofs.causes.mark_nodes.Goals as goal
 
 pub loop-at-init : goal.loop-at-init
-loop-at-init c = nodes_none c.args.task.now.flash.now c.args.task.now.assumptions.now c.args.told.now.nodes.now c.args.told.now.asks.now c.args.site.now.pc c.args.site.now.instr.now c.args.marks.now
+loop-at-init c =
+    let words = c.args.task.now.flash.now in
+    let A = c.args.task.now.assumptions.now in
+    let nodes = c.args.told.now.nodes.now in
+    let asks = c.args.told.now.asks.now in
+    let site = c.args.site.now in (
+      nodes_skipped words A nodes asks site.pc site.instr.now 0 site.first c.args.marks.now c.args.marks.now c.requires.chain.first_is
+          (nodes_none words A nodes asks site.pc site.instr.now c.args.marks.now),
+      on_chain nodes asks site.pc 0 site.first c.requires.chain.first_is,
+    )
 
 pub loop-at-preserved : goal.loop-at-preserved
 loop-at-preserved c =
@@ -16,20 +23,24 @@ loop-at-preserved c =
     let A = c.args.task.now.assumptions.now in
     let nodes = c.args.told.now.nodes.now in
     let asks = c.args.told.now.asks.now in
-    let pc = c.args.site.now.pc in
-    let instr = c.args.site.now.instr.now in
+    let site = c.args.site.now in
     let at = c.loop-at.at in
     let lt : at < length nodes = omega (arith, c.requires.same, c.loop-at-test.true) in
     let n = get_inside nodes at lt in
-    let key = key_is nodes at n.0 n.1 c.key.result.now c.key.ensures in
-    elim c.if-is_unclear_at.branch [
-      | then-is_unclear_at w ↦
-          let state = state_is nodes at n.0 n.1 w.state.result.now w.state.ensures in
-          subst (λ (xs : List Bool). AreMarkedBeside (IsProtectedAt words A nodes asks pc instr (at + 1)) c.args.marks.now xs) (sym w.marks-is)
-          (nodes_marked words A nodes asks pc instr at n.0 c.key.result.now w.state.result.now _ c.args.marks.now c.loop-at.marks n.1 key state refl c.loop-at.invariant w.mark_addresses.new.marks
-          (sym c.is_unclear_at.ensures ∙ w.if-is_unclear_at.true) w.mark_addresses.ensures)
-      | else-is_unclear_at w ↦
-          subst (λ (xs : List Bool). AreMarkedBeside (IsProtectedAt words A nodes asks pc instr (at + 1)) c.args.marks.now xs) (sym w.marks-is)
-          (nodes_same words A nodes asks pc instr at n.0 c.key.result.now n.0.state _ c.args.marks.now c.loop-at.marks n.1 key refl refl c.loop-at.invariant
-          (sym c.is_unclear_at.ensures ∙ w.if-is_unclear_at.false))
-    ]
+    let unclear = c.loop-at.invariant.1.is n.0 n.1 in
+    let state = state_is nodes at n.0 n.1 c.state.result.now c.state.ensures in
+    let next = c.requires.chain.later_is at n.0 n.1 unclear in (
+      nodes_skipped words A nodes asks site.pc site.instr.now (at + 1) (get_or site.later.now at 0) c.args.marks.now c.mark_addresses.new.marks next
+          (nodes_marked words A nodes asks site.pc site.instr.now at n.0 n.0.key c.state.result.now _ c.args.marks.now c.loop-at.marks n.1 refl state refl c.loop-at.invariant.0
+          c.mark_addresses.new.marks unclear c.mark_addresses.ensures),
+      on_chain nodes asks site.pc (at + 1) (get_or site.later.now at 0) next,
+    )
+
+pub loop-at-smaller : goal.loop-at-smaller
+loop-at-smaller c =
+    let nodes = c.args.told.now.nodes.now in
+    let at = c.loop-at.at in
+    let lt : at < length nodes = omega (arith, c.requires.same, c.loop-at-test.true) in
+    let n = get_inside nodes at lt in
+    let next = c.requires.chain.later_is at n.0 n.1 (c.loop-at.invariant.1.is n.0 n.1) in
+    omega (arith, next.beyond, next.within, c.loop-at-test.true)

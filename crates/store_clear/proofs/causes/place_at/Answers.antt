@@ -1,8 +1,10 @@
-use Rattle.std.proofs.Common.{◌≡◌, ℕ, Bool, true, false, List, length, sym, subst, ◌∙◌}
+use Rattle.std.proofs.Common.{◌≡◌, ◌<◌, ℕ, Bool, true, false, List, length, sym, subst, ◌∙◌, arith}
 use Rattle.std.specs.Prelude.{◌↔◌}
+use Rattle.avr_model.specs.Image.{WORDS}
 use Rattle.certificate.specs.Valid.{family_of}
 use Rattle.clear_laws.specs.Places.{IsPlaceOf}
 use Rattle.store_clear.specs.Causing.{IsLiveAt}
+use Rattle.store_clear.proofs.Linked.{word_of_flagged, chain_read}
 use Rattle.store_clear.proofs.Causing.{nothing_there, place_given}
 use Rattle.store_clear.proofs.causes.place_at.Goals as goal
 
@@ -22,3 +24,30 @@ returns-in_ok-protected-in-Some-clause-exact c =
     (sym c.is_indirect.ensures)
     (place_given words A c.args.certificate.now told.nodes.now told.asks.now c.requires.told c.args.pc c.in-Some.instr (sym c.instruction.ensures ∙ c.in-Some.is)
     c.in_ok-protected-in-Some.protected c.is_live_at.result c.in_ok-protected-in-Some.ensures.exact c.in_ok-protected-in-Some.ensures.ascending alive c.requires.site)
+
+pub index-requires : goal.index-requires
+index-requires c =
+    let words = c.args.task.now.flash.now in
+    let A = c.args.task.now.assumptions.now in
+    let small : c.args.pc < WORDS = word_of_flagged words A c.args.certificate.now c.args.told.now.nodes.now c.args.pc c.count-count.ensures.shown c.requires.site in
+    omega (arith, small, c.from.ensures, c.requires.linked.words, c.args.links.now.first.ok.0)
+
+pub protected_of-requires-clause-chain : goal.protected_of-requires-clause-chain
+protected_of-requires-clause-chain c =
+    let words = c.args.task.now.flash.now in
+    let A = c.args.task.now.assumptions.now in
+    let told = c.args.told.now in
+    let links = c.args.links.now in
+    let small = word_of_flagged words A c.args.certificate.now told.nodes.now c.args.pc c.count-count.ensures.shown c.requires.site in
+    chain_read told.nodes.now told.asks.now c.args.pc c.from.result c.index.result.now links.first.items links.later.items c.as_slice.result.now small c.requires.linked c.from.ensures c.index.ensures
+    c.as_slice.ensures.value
+
+pub is_live_at-requires-clause-chain : goal.is_live_at-requires-clause-chain
+is_live_at-requires-clause-chain c =
+    let words = c.args.task.now.flash.now in
+    let A = c.args.task.now.assumptions.now in
+    let told = c.args.told.now in
+    let links = c.args.links.now in
+    let small = word_of_flagged words A c.args.certificate.now told.nodes.now c.args.pc c.count-count.ensures.shown c.requires.site in
+    chain_read told.nodes.now told.asks.now c.args.pc c.from.result c.index.result.now links.first.items links.later.items c.as_slice.result.now small c.requires.linked c.from.ensures c.index.ensures
+    c.as_slice.ensures.value

@@ -4,7 +4,7 @@ use Rattle.certificate.specs.Valid.{family_of}
 use Rattle.clear_laws.specs.declared.place.FlaggedPlace.{FlaggedPlace}
 use Rattle.store_clear.specs.Causing.{ArePlacesOf}
 use Rattle.store_clear.proofs.Causing.{places_none, places_more}
-use Rattle.store_clear.proofs.causes.places_at.Goals as goal
+use Rattle.store_clear.proofs.causes.places_by.Goals as goal
 
 pub loop-site-init : goal.loop-site-init
 loop-site-init c =
