@@ -2,6 +2,8 @@
 use Rattle.std.proofs.Common.{◌≡◌, ℕ, true, List, Option, Some, None, refl, sym, ap, ◌∙◌, subst}
 use Rattle.sb_base.specs.Outside.{Held, Blamed, Rose, IsBlamed}
 use Rattle.commands.specs.Commands.{Command, Role, Firmware, Second, Assumptions, name_of}
+use Rattle.replies.specs.declared.status.Status.{Status}
+use Rattle.replies.specs.declared.status.Status.TheVariants as exit
 use Rattle.replies.specs.Texts.{too_long}
 use Rattle.replies.specs.Reading as read
 use Rattle.replies.specs.Reading.{Seen, Unread, Whole, Long, firmware_cap, second_cap, assumption_cap, cap_of, Agrees, AgreesUnder, AllAgree, is_before, WasRead}
@@ -47,21 +49,21 @@ read_as holds there cap cap' before after o o' bytes is caps same h =
 
 -- ---- replies to files that are too long, and to files that were read
 
-bytes_reply : (o : Option (List ℕ)) (bytes : List ℕ) (next : List ℕ → Reply) (status : ℕ) (text : List ℕ) → GoWith o bytes → next bytes status text → WithBytes o (seen_under o bytes) next status text
+bytes_reply : (o : Option (List ℕ)) (bytes : List ℕ) (next : List ℕ → Reply) (status : Status) (text : List ℕ) → GoWith o bytes → next bytes status text → WithBytes o (seen_under o bytes) next status text
 bytes_reply None bytes next status text e h = subst (λ b. next b status text) e h
 bytes_reply (Some name) bytes next status text e h = h
 
-optional_reply : (o list : Option (List ℕ)) (next : Option (List ℕ) → Reply) (status : ℕ) (text : List ℕ) → GoTogether o list → next list status text → WithOptional o (whole_of list) next status text
+optional_reply : (o list : Option (List ℕ)) (next : Option (List ℕ) → Reply) (status : Status) (text : List ℕ) → GoTogether o list → next list status text → WithOptional o (whole_of list) next status text
 optional_reply None None next status text g h = h
 optional_reply None (Some b) next status text g h = absurd g
 optional_reply (Some n) None next status text g h = absurd g
 optional_reply (Some n) (Some b) next status text g h = h
 
-long_bytes : (o : Option (List ℕ)) (n : List ℕ) (next : List ℕ → Reply) → o ≡ Some n → WithBytes o Long next 5 (too_long n)
-long_bytes o n next e = subst (λ x. WithBytes x Long next 5 (too_long n)) (sym e) (refl, refl)
+long_bytes : (o : Option (List ℕ)) (n : List ℕ) (next : List ℕ → Reply) → o ≡ Some n → WithBytes o Long next exit.TooLong (too_long n)
+long_bytes o n next e = subst (λ x. WithBytes x Long next exit.TooLong (too_long n)) (sym e) (refl, refl)
 
-long_optional : (o : Option (List ℕ)) (n : List ℕ) (next : Option (List ℕ) → Reply) → o ≡ Some n → WithOptional o Long next 5 (too_long n)
-long_optional o n next e = subst (λ x. WithOptional x Long next 5 (too_long n)) (sym e) (refl, refl)
+long_optional : (o : Option (List ℕ)) (n : List ℕ) (next : Option (List ℕ) → Reply) → o ≡ Some n → WithOptional o Long next exit.TooLong (too_long n)
+long_optional o n next e = subst (λ x. WithOptional x Long next exit.TooLong (too_long n)) (sym e) (refl, refl)
 
 -- the reply after the firmware, and after the second file
 abbrev AfterFirmware : Command → Seen → Seen → List ℕ → Reply
@@ -70,7 +72,7 @@ AfterFirmware c second list fw = WithBytes (name_of c Second) second (λ s. With
 abbrev AfterSecond : Command → Seen → List ℕ → List ℕ → Reply
 AfterSecond c list fw s = WithOptional (name_of c Assumptions) list (λ l. WorkReply c fw s l)
 
-pub whole_reply : (c : Command) (firmware second : List ℕ) (list : Option (List ℕ)) (status : ℕ) (text : List ℕ) → GoWith (name_of c Firmware) firmware → GoWith (name_of c Second) second
+pub whole_reply : (c : Command) (firmware second : List ℕ) (list : Option (List ℕ)) (status : Status) (text : List ℕ) → GoWith (name_of c Firmware) firmware → GoWith (name_of c Second) second
     → GoTogether (name_of c Assumptions) list → WorkReply c firmware second list status text → IsReply c (seen_whole c firmware second list) status text
 whole_reply c firmware second list status text f s g h =
     bytes_reply (name_of c Firmware) firmware (AfterFirmware c (seen_under (name_of c Second) second) (whole_of list)) status text f
@@ -122,7 +124,7 @@ second_stops c holds there fw cap before middle after blamed (Some s) (unread.Lo
       record {
         seen = record { firmware = seen_under (name_of c Firmware) fw; second = Long; assumptions = Unread };
         agrees = all_agree c holds _ first.0.agrees (agrees_under holds (second_cap c) (name_of c Second) s Long is long) (unread_under holds assumption_cap (name_of c Assumptions));
-        reply = bytes_reply (name_of c Firmware) fw (AfterFirmware c Long Unread) 5 (too_long n.now) first.0.goes (long_bytes (name_of c Second) n.now (AfterSecond c Unread fw) (is ∙ ap Some (sym h.0)));
+        reply = bytes_reply (name_of c Firmware) fw (AfterFirmware c Long Unread) exit.TooLong (too_long n.now) first.0.goes (long_bytes (name_of c Second) n.now (AfterSecond c Unread fw) (is ∙ ap Some (sym h.0)));
       },
       h.2 ∙ first.1,
     )
@@ -150,8 +152,8 @@ third_stops c holds there fw second before middle after blamed (Some a) (unread.
         seen = record { firmware = seen_under (name_of c Firmware) fw; second = seen_under (name_of c Second) second; assumptions = Long };
         agrees = all_agree c holds _ two.first.agrees two.next.agrees (agrees_under holds assumption_cap (name_of c Assumptions) a Long is long);
         reply =
-            bytes_reply (name_of c Firmware) fw (AfterFirmware c (seen_under (name_of c Second) second) Long) 5 (too_long n.now) two.first.goes
-            (bytes_reply (name_of c Second) second (AfterSecond c Long fw) 5 (too_long n.now) two.next.goes
+            bytes_reply (name_of c Firmware) fw (AfterFirmware c (seen_under (name_of c Second) second) Long) exit.TooLong (too_long n.now) two.first.goes
+            (bytes_reply (name_of c Second) second (AfterSecond c Long fw) exit.TooLong (too_long n.now) two.next.goes
             (long_optional (name_of c Assumptions) n.now (λ l. WorkReply c fw second l) (is ∙ ap Some (sym h.0))));
       },
       h.2 ∙ two.quiet,

@@ -4,6 +4,7 @@ use Rattle.std.specs.Option.{option_map}
 use Rattle.std.specs.Global.{Vec}
 use Rattle.sb_base.specs.Outside.{Held, Blamed, Rose, IsBlamed}
 use Rattle.commands.specs.Commands.{Command, Firmware, Second, Assumptions, name_of}
+use Rattle.replies.specs.declared.status.Status.TheVariants as exit
 use Rattle.replies.specs.Texts.{too_long}
 use Rattle.replies.specs.Reading as read
 use Rattle.replies.specs.Reading.{Seen, Unread, Whole, Long, Agrees, AllAgree, IsFirstFailed}
@@ -83,7 +84,7 @@ IsGathered command holds before after c = AreBytes command holds c.firmware.item
 pub record IsTooLong (command : Command) (holds : List ℕ → Held) (name : List ℕ) : Type 0 where
   pub seen : read.Contents
   pub agrees : AllAgree command holds seen
-  pub reply : IsReply command seen 5 (too_long name)
+  pub reply : IsReply command seen exit.TooLong (too_long name)
 
 abbrev pub IsUngathered : Command → (List ℕ → Held) → ℕ → ℕ → Blamed → Unfetched → Type 0
 IsUngathered command holds before after blamed (unread.Long n) = IsTooLong command holds n.now × (after ≡ before)

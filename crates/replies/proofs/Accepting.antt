@@ -29,6 +29,9 @@ use Rattle.cert_check.specs.Verdict.{IsVerdict}
 use Rattle.cert_check.specs.declared.verdict.Reason.{Reason}
 use Rattle.cert_check.specs.declared.verdict.Verdict.{Verdict}
 use Rattle.cert_check.specs.declared.verdict.Verdict.TheVariants.{Accepted, Rejected}
+use Rattle.replies.specs.declared.status.Status.{Status}
+use Rattle.replies.specs.declared.status.Status.TheVariants as exit
+use Rattle.replies.specs.declared.raw.RawRefusal.TheVariants as raw
 use Rattle.replies.specs.Firmware.{IsImageBy, IsFirmware, words_by, firmware_words, fault_by, outside_fault, fault_or, firmware_fault}
 use Rattle.replies.specs.Texts.{elf_refused, raw_fault, firmware_outside, assumptions_refused, certificate_refused}
 use Rattle.replies.specs.Reading.{Seen, Unread, Whole, Long, Contents}
@@ -36,59 +39,59 @@ use Rattle.replies.specs.Reply.{Reply, Refuses, WithFile, WithOptional, ImageBy,
 use Rattle.replies.specs.Headline.{IsSeen, AreRead, IsListOf, StandFor}
 use Rattle.replies.proofs.ElfWords.{one_elf, some_elf, no_refusal}
 
-no_five : ◌≡◌ {A = ℕ} 0 5 → ⊥
-no_five e = cc
+not_long : ◌≡◌ {A = Status} exit.Done exit.TooLong → ⊥
+not_long e = cc
 
-no_six : ◌≡◌ {A = ℕ} 0 6 → ⊥
-no_six e = cc
+not_firmware : ◌≡◌ {A = Status} exit.Done exit.BadFirmware → ⊥
+not_firmware e = cc
 
-no_seven : ◌≡◌ {A = ℕ} 0 7 → ⊥
-no_seven e = cc
+not_assumptions : ◌≡◌ {A = Status} exit.Done exit.BadAssumptions → ⊥
+not_assumptions e = cc
 
-no_eight : ◌≡◌ {A = ℕ} 0 8 → ⊥
-no_eight e = cc
+not_certificate : ◌≡◌ {A = Status} exit.Done exit.BadCertificate → ⊥
+not_certificate e = cc
 
-pub no_one : ◌≡◌ {A = ℕ} 0 1 → ⊥
-no_one e = cc
+pub not_rejected : ◌≡◌ {A = Status} exit.Done exit.Rejected → ⊥
+not_rejected e = cc
 
 no_true : ◌≡◌ {A = Bool} true false → ⊥
 no_true e = cc
 
 -- ---- files
 
-pub zero_file : (name : List ℕ) (seen : Seen) (next : List ℕ → Reply) (text : List ℕ) → WithFile name seen next 0 text → (bytes : List ℕ) × (seen ≡ Whole bytes) × next bytes 0 text
+pub zero_file : (name : List ℕ) (seen : Seen) (next : List ℕ → Reply) (text : List ℕ) → WithFile name seen next exit.Done text → (bytes : List ℕ) × (seen ≡ Whole bytes) × next bytes exit.Done text
 zero_file name Unread next text h = absurd h
 zero_file name (Whole bytes) next text h = (bytes, refl, h)
-zero_file name Long next text h = absurd (no_five h.0)
+zero_file name Long next text h = absurd (not_long h.0)
 
-pub file_zero : (name : List ℕ) (seen : Seen) (bytes : List ℕ) (next : List ℕ → Reply) (status : ℕ) (text : List ℕ) → seen ≡ Whole bytes → next bytes status text → WithFile name seen next status text
+pub file_zero : (name : List ℕ) (seen : Seen) (bytes : List ℕ) (next : List ℕ → Reply) (status : Status) (text : List ℕ) → seen ≡ Whole bytes → next bytes status text → WithFile name seen next status text
 file_zero name seen bytes next status text e h = subst (λ s. WithFile name s next status text) (sym e) h
 
-pub zero_optional : (o : Option (List ℕ)) (seen : Seen) (next : Option (List ℕ) → Reply) (text : List ℕ) → WithOptional o seen next 0 text → (list : Option (List ℕ)) × IsSeen o seen list × next list 0 text
+pub zero_optional : (o : Option (List ℕ)) (seen : Seen) (next : Option (List ℕ) → Reply) (text : List ℕ) → WithOptional o seen next exit.Done text → (list : Option (List ℕ)) × IsSeen o seen list × next list exit.Done text
 zero_optional None seen next text h = (None, refl, h)
 zero_optional (Some name) seen next text h = let f = zero_file name seen (λ bytes. next (Some bytes)) text h in (Some f.0, f.1, f.2)
 
-pub optional_zero : (o : Option (List ℕ)) (seen : Seen) (list : Option (List ℕ)) (next : Option (List ℕ) → Reply) (status : ℕ) (text : List ℕ) → IsSeen o seen list → next list status text → WithOptional o seen next status text
+pub optional_zero : (o : Option (List ℕ)) (seen : Seen) (list : Option (List ℕ)) (next : Option (List ℕ) → Reply) (status : Status) (text : List ℕ) → IsSeen o seen list → next list status text → WithOptional o seen next status text
 optional_zero None seen list next status text e h = subst (λ l. next l status text) e h
 optional_zero (Some name) seen None next status text e h = absurd e
 optional_zero (Some name) seen (Some bytes) next status text e h = file_zero name seen bytes (λ b. next (Some b)) status text e h
 
 -- ---- the image
 
-zero_by : (o : Option (List ℕ)) (reply : Reply) (text : List ℕ) → ImageBy o reply 0 text → (o ≡ None) × reply 0 text
+zero_by : (o : Option (List ℕ)) (reply : Reply) (text : List ℕ) → ImageBy o reply exit.Done text → (o ≡ None) × reply exit.Done text
 zero_by None reply text h = (refl, h)
-zero_by (Some refusal) reply text h = absurd (no_six h.0)
+zero_by (Some refusal) reply text h = absurd (not_firmware h.0)
 
-pub by_none : (o : Option (List ℕ)) (reply : Reply) (status : ℕ) (text : List ℕ) → o ≡ None → reply status text → ImageBy o reply status text
+pub by_none : (o : Option (List ℕ)) (reply : Reply) (status : Status) (text : List ℕ) → o ≡ None → reply status text → ImageBy o reply status text
 by_none None reply status text e h = h
 by_none (Some refusal) reply status text e h = absurd (let wrong = e in cc)
 
-no_raw_fault : (n : ℕ) (odd long : Bool) → (n % 2 == 1) ≡ odd → nat_lt 32768 n ≡ long → (if odd then Some (raw_fault 1) else (if long then Some (raw_fault 2) else None)) ≡ None → (n % 2 ≡ 0) × (n ≤ 32768)
+no_raw_fault : (n : ℕ) (odd long : Bool) → (n % 2 == 1) ≡ odd → nat_lt 32768 n ≡ long → (if odd then Some (raw_fault raw.OddLength) else (if long then Some (raw_fault raw.TooLong) else None)) ≡ None → (n % 2 ≡ 0) × (n ≤ 32768)
 no_raw_fault n true long e f h = absurd (let wrong = h in cc)
 no_raw_fault n false true e f h = absurd (let wrong = h in cc)
 no_raw_fault n false false e f h = (grind (arith, nat_tests), grind (arith, nat_tests))
 
-raw_fault_none : (n : ℕ) → n % 2 ≡ 0 → n ≤ 32768 → (if n % 2 == 1 then Some (raw_fault 1) else (if nat_lt 32768 n then Some (raw_fault 2) else None)) ≡ None
+raw_fault_none : (n : ℕ) → n % 2 ≡ 0 → n ≤ 32768 → (if n % 2 == 1 then Some (raw_fault raw.OddLength) else (if nat_lt 32768 n then Some (raw_fault raw.TooLong) else None)) ≡ None
 raw_fault_none n even fits =
     let e : (n % 2 == 1) ≡ false = grind (arith, nat_tests) in
     let f : nat_lt 32768 n ≡ false = grind (arith, nat_tests) in
@@ -142,35 +145,35 @@ module _
       ∙ ap (outside_fault device) (sym (all_of (is_elf bytes) bytes h.all h.image))
       ∙ ap (option_map firmware_outside) none
 
-  pub zero_image : (device : Device) (bytes : List ℕ) (next : List ℕ → Reply) (text : List ℕ) → WithImage device bytes next 0 text
-      → IsFirmware device bytes (firmware_words device bytes) × next (firmware_words device bytes) 0 text
+  pub zero_image : (device : Device) (bytes : List ℕ) (next : List ℕ → Reply) (text : List ℕ) → WithImage device bytes next exit.Done text
+      → IsFirmware device bytes (firmware_words device bytes) × next (firmware_words device bytes) exit.Done text
   zero_image device bytes next text h =
       let by = zero_by (firmware_fault device bytes) (next (firmware_words device bytes)) text h in
       (firmware_here device bytes by.0, by.1)
 
-  pub image_zero : (device : Device) (bytes : List ℕ) (words : Program) (next : List ℕ → Reply) (status : ℕ) (text : List ℕ) → IsFirmware device bytes words → next words status text → WithImage device bytes next status text
+  pub image_zero : (device : Device) (bytes : List ℕ) (words : Program) (next : List ℕ → Reply) (status : Status) (text : List ℕ) → IsFirmware device bytes words → next words status text → WithImage device bytes next status text
   image_zero device bytes words next status text firmware h =
       by_none (firmware_fault device bytes) (next (firmware_words device bytes)) status text (fault_of device bytes words firmware)
       (subst (λ ws. next ws status text) (words_of device bytes words firmware) h)
 
 -- ---- the assumptions
 
-pub zero_refused : (n : ℕ) → (◌≡◌ {A = ℕ} 0 n → ⊥) → (o : Option (List ℕ)) (text : List ℕ) → Refuses n o 0 text → ⊥
+pub zero_refused : (n : Status) → (◌≡◌ {A = Status} exit.Done n → ⊥) → (o : Option (List ℕ)) (text : List ℕ) → Refuses n o exit.Done text → ⊥
 zero_refused n apart None text h = h
 zero_refused n apart (Some t) text h = apart h.0
 
-zero_read : (x : Result (List Entry) AssumeText) (next : List Entry → Reply) (text : List ℕ) → ListBy x next 0 text → (A : List Entry) × (x ≡ Ok A) × next A 0 text
+zero_read : (x : Result (List Entry) AssumeText) (next : List Entry → Reply) (text : List ℕ) → ListBy x next exit.Done text → (A : List Entry) × (x ≡ Ok A) × next A exit.Done text
 zero_read (Ok A) next text h = (A, refl, h)
-zero_read (Err fault) next text h = absurd (zero_refused 7 no_seven (assumptions_refused fault) text h)
+zero_read (Err fault) next text h = absurd (zero_refused exit.BadAssumptions not_assumptions (assumptions_refused fault) text h)
 
 module _ (exact : ReadingIsExact) where
-  pub zero_list : (list : Option (List ℕ)) (next : List Entry → Reply) (text : List ℕ) → WithList list next 0 text → (A : List Entry) × IsListOf list A × next A 0 text
+  pub zero_list : (list : Option (List ℕ)) (next : List Entry → Reply) (text : List ℕ) → WithList list next exit.Done text → (A : List Entry) × IsListOf list A × next A exit.Done text
   zero_list None next text h = ([], refl, h)
   zero_list (Some bytes) next text h =
       let r = zero_read (entries_in bytes) next text h in
       (r.0, subst (IsListDue bytes) r.1 (exact.read bytes), r.2)
 
-  pub list_zero : (list : Option (List ℕ)) (A : List Entry) (next : List Entry → Reply) (status : ℕ) (text : List ℕ) → IsListOf list A → next A status text → WithList list next status text
+  pub list_zero : (list : Option (List ℕ)) (A : List Entry) (next : List Entry → Reply) (status : Status) (text : List ℕ) → IsListOf list A → next A status text → WithList list next status text
   list_zero None A next status text e h = subst (λ l. next l status text) e h
   list_zero (Some bytes) A next status text e h = subst (λ x. ListBy x next status text) (sym (exact.due bytes (Ok A) e)) h
 
@@ -199,18 +202,18 @@ attains_by bound (Ok r) h = let d : (r.depth == bound) ≡ true = (let e = h.1 i
 -- the schedule attains the bound, and the answer continues
 pub record IsAttainmentTold (words : Program) (A : List Entry) (next : Reply) (bound : ℕ) (w : Option Plan) (text : List ℕ) : Type 0 where
   pub attained : IsAttained words A bound w
-  pub says : next 0 text
+  pub says : next exit.Done text
 
 zero_attained : (words : Program) (A : List Entry) (next : Reply) (bound : ℕ) (plan : Plan) (attained : Bool) (text : List ℕ) → attains bound (replay_of words A plan) ≡ attained
-    → AttainedBy next attained 0 text → IsAttainmentTold words A next bound (Some plan) text
+    → AttainedBy next attained exit.Done text → IsAttainmentTold words A next bound (Some plan) text
 zero_attained words A next bound plan true text e h = record { attained = attained_by bound (replay_of words A plan) e; says = h }
-zero_attained words A next bound plan false text e h = absurd (no_one h.0)
+zero_attained words A next bound plan false text e h = absurd (not_rejected h.0)
 
-zero_witness : (words : Program) (A : List Entry) (next : Reply) (bound : ℕ) (w : Option Plan) (text : List ℕ) → WitnessReply words A next bound w 0 text → IsAttainmentTold words A next bound w text
+zero_witness : (words : Program) (A : List Entry) (next : Reply) (bound : ℕ) (w : Option Plan) (text : List ℕ) → WitnessReply words A next bound w exit.Done text → IsAttainmentTold words A next bound w text
 zero_witness words A next bound None text h = record { attained = tt; says = h }
 zero_witness words A next bound (Some plan) text h = zero_attained words A next bound plan (attains bound (replay_of words A plan)) text refl h
 
-pub witness_zero : (words : Program) (A : List Entry) (next : Reply) (bound : ℕ) (w : Option Plan) (status : ℕ) (text : List ℕ) → IsAttained words A bound w → next status text
+pub witness_zero : (words : Program) (A : List Entry) (next : Reply) (bound : ℕ) (w : Option Plan) (status : Status) (text : List ℕ) → IsAttained words A bound w → next status text
     → WitnessReply words A next bound w status text
 witness_zero words A next bound None status text h k = k
 witness_zero words A next bound (Some plan) status text h k = subst (λ b. AttainedBy next b status text) (sym (attains_by bound (replay_of words A plan) h)) k
@@ -222,17 +225,17 @@ pub record IsAccepted (words : Program) (A : List Entry) (next : Claim → Reply
   pub sound : IsSound words A c
   pub told : IsAttainmentTold words A (next c) c.bound c.witness text
 
-zero_verdict : (words : Program) (A : List Entry) (next : Claim → Reply) (c : Claim) (v : Verdict) (text : List ℕ) → IsVerdict words A c v → VerdictReply words A next c v 0 text → IsAccepted words A next c text
-zero_verdict words A next c (Rejected reason) text is h = absurd (no_one h.0)
+zero_verdict : (words : Program) (A : List Entry) (next : Claim → Reply) (c : Claim) (v : Verdict) (text : List ℕ) → IsVerdict words A c v → VerdictReply words A next c v exit.Done text → IsAccepted words A next c text
+zero_verdict words A next c (Rejected reason) text is h = absurd (not_rejected h.0)
 zero_verdict words A next c (Accepted bound) text is h =
     record { sound = is.0; told = subst (λ b. IsAttainmentTold words A (next c) b c.witness text) is.1 (zero_witness words A (next c) bound c.witness text h) }
 
-zero_certificate : (words : Program) (A : List Entry) (next : Claim → Reply) (x : Result Claim CertFault) (text : List ℕ) → CertificateReply words A next x 0 text
+zero_certificate : (words : Program) (A : List Entry) (next : Claim → Reply) (x : Result Claim CertFault) (text : List ℕ) → CertificateReply words A next x exit.Done text
     → (c : Claim) × (x ≡ Ok c) × IsAccepted words A next c text
-zero_certificate words A next (Err fault) text h = absurd (zero_refused 8 no_eight (certificate_refused fault) text h)
+zero_certificate words A next (Err fault) text h = absurd (zero_refused exit.BadCertificate not_certificate (certificate_refused fault) text h)
 zero_certificate words A next (Ok c) text h = (c, refl, zero_verdict words A next c h.verdict text h.is h.reply)
 
-certificate_zero : (words : Program) (A : List Entry) (next : Claim → Reply) (x : Result Claim CertFault) (c : Claim) (status : ℕ) (text : List ℕ) → x ≡ Ok c → IsSound words A c → IsAttained words A c.bound c.witness
+certificate_zero : (words : Program) (A : List Entry) (next : Claim → Reply) (x : Result Claim CertFault) (c : Claim) (status : Status) (text : List ℕ) → x ≡ Ok c → IsSound words A c → IsAttained words A c.bound c.witness
     → next c status text → CertificateReply words A next x status text
 certificate_zero words A next x c status text e sound attained k =
     subst (λ y. CertificateReply words A next y status text) (sym e)
@@ -242,16 +245,16 @@ certificate_zero words A next x c status text e sound attained k =
 
 -- the certificate is valid and the answer continues, or it isn't valid
 abbrev pub IsJudged : Program → List Entry → (Claim → Reply) → Claim → Reply
-IsJudged words A next c status text = (IsValid words A c × next c status text) ⊎ ((IsValid words A c → ⊥) × (status ≡ 1))
+IsJudged words A next c status text = (IsValid words A c × next c status text) ⊎ ((IsValid words A c → ⊥) × (status ≡ exit.Rejected))
 
-by_attained : (words : Program) (A : List Entry) (next : Claim → Reply) (c : Claim) (plan : Plan) (attained : Bool) (status : ℕ) (text : List ℕ) → IsSound words A c → c.witness ≡ Some plan
+by_attained : (words : Program) (A : List Entry) (next : Claim → Reply) (c : Claim) (plan : Plan) (attained : Bool) (status : Status) (text : List ℕ) → IsSound words A c → c.witness ≡ Some plan
     → attains c.bound (replay_of words A plan) ≡ attained → AttainedBy (next c) attained status text → IsJudged words A next c status text
 by_attained words A next c plan true status text sound is e h =
     inl (record { sound = sound; attained = subst (IsAttained words A c.bound) (sym is) (attained_by c.bound (replay_of words A plan) e) }, h)
 by_attained words A next c plan false status text sound is e h =
     inr (λ v. no_true (sym (attains_by c.bound (replay_of words A plan) (subst (IsAttained words A c.bound) is v.attained)) ∙ e), h.0)
 
-by_witness : (words : Program) (A : List Entry) (next : Claim → Reply) (c : Claim) (w : Option Plan) (status : ℕ) (text : List ℕ) → IsSound words A c → c.witness ≡ w
+by_witness : (words : Program) (A : List Entry) (next : Claim → Reply) (c : Claim) (w : Option Plan) (status : Status) (text : List ℕ) → IsSound words A c → c.witness ≡ w
     → WitnessReply words A (next c) c.bound w status text → IsJudged words A next c status text
 by_witness words A next c None status text sound is h = inl (record { sound = sound; attained = subst (IsAttained words A c.bound) (sym is) tt }, h)
 by_witness words A next c (Some plan) status text sound is h = by_attained words A next c plan (attains c.bound (replay_of words A plan)) status text sound is refl h
@@ -259,7 +262,7 @@ by_witness words A next c (Some plan) status text sound is h = by_attained words
 rejected_apart : (reason : Reason) (bound : ℕ) → Rejected reason ≡ Accepted bound → ⊥
 rejected_apart reason bound e = cc
 
-by_verdict : VerdictsAreOne → (words : Program) (A : List Entry) (next : Claim → Reply) (c : Claim) → IsClaim c → (v : Verdict) (status : ℕ) (text : List ℕ) → IsVerdict words A c v
+by_verdict : VerdictsAreOne → (words : Program) (A : List Entry) (next : Claim → Reply) (c : Claim) → IsClaim c → (v : Verdict) (status : Status) (text : List ℕ) → IsVerdict words A c v
     → VerdictReply words A next c v status text → IsJudged words A next c status text
 by_verdict verdicts words A next c claim (Rejected reason) status text is h =
     inr (λ v. rejected_apart reason c.bound (verdicts words A c (Rejected reason) (Accepted c.bound) claim is (v.sound, refl)), h.0)
@@ -268,15 +271,15 @@ by_verdict verdicts words A next c claim (Accepted bound) status text is h =
 
 -- ---- what follows files that were read
 
-pub file_read : (name : List ℕ) (seen : Seen) (bytes : List ℕ) (next : List ℕ → Reply) (status : ℕ) (text : List ℕ) → seen ≡ Whole bytes → WithFile name seen next status text → next bytes status text
+pub file_read : (name : List ℕ) (seen : Seen) (bytes : List ℕ) (next : List ℕ → Reply) (status : Status) (text : List ℕ) → seen ≡ Whole bytes → WithFile name seen next status text → next bytes status text
 file_read name seen bytes next status text e h = subst (λ s. WithFile name s next status text) e h
 
-pub optional_read : (o : Option (List ℕ)) (seen : Seen) (list : Option (List ℕ)) (next : Option (List ℕ) → Reply) (status : ℕ) (text : List ℕ) → IsSeen o seen list → WithOptional o seen next status text → next list status text
+pub optional_read : (o : Option (List ℕ)) (seen : Seen) (list : Option (List ℕ)) (next : Option (List ℕ) → Reply) (status : Status) (text : List ℕ) → IsSeen o seen list → WithOptional o seen next status text → next list status text
 optional_read None seen list next status text e h = subst (λ l. next l status text) (sym e) h
 optional_read (Some name) seen None next status text e h = absurd e
 optional_read (Some name) seen (Some bytes) next status text e h = file_read name seen bytes (λ b. next (Some b)) status text e h
 
-fault_none : (o : Option (List ℕ)) (reply : Reply) (status : ℕ) (text : List ℕ) → o ≡ None → ImageBy o reply status text → reply status text
+fault_none : (o : Option (List ℕ)) (reply : Reply) (status : Status) (text : List ℕ) → o ≡ None → ImageBy o reply status text → reply status text
 fault_none o reply status text e h = subst (λ x. ImageBy x reply status text) e h
 
 -- ---- all
@@ -316,7 +319,7 @@ module _
     is : certificate_in certificate ≡ Ok claim
     accepted : IsAccepted (firmware_words device firmware) A (next firmware (firmware_words device firmware) A) claim text
 
-  zero_judgement : (fw cert : List ℕ) (assume : Option (List ℕ)) (seen : Contents) (text : List ℕ) → IsReplyJudged device next fw cert assume seen 0 text → IsZero assume seen text
+  zero_judgement : (fw cert : List ℕ) (assume : Option (List ℕ)) (seen : Contents) (text : List ℕ) → IsReplyJudged device next fw cert assume seen exit.Done text → IsZero assume seen text
   zero_judgement fw cert assume seen text h =
       let first = zero_file fw seen.firmware _ text h in
       let second = zero_file cert seen.second _ text first.2 in
@@ -350,10 +353,10 @@ module _
     pub fit : AreWords words
     pub valid : IsValid words A claim
     pub bounded : Bounded words A claim.bound
-    pub told : next firmware words A claim 0 text
+    pub told : next firmware words A claim exit.Done text
 
   pub judgement_holds : (fw cert : List ℕ) (assume : Option (List ℕ)) (seen : Contents) (text : List ℕ) → ((firmware : List ℕ) → seen.firmware ≡ Whole firmware → AreWords (firmware_words device firmware))
-      → IsReplyJudged device next fw cert assume seen 0 text → HoldsOf assume seen text
+      → IsReplyJudged device next fw cert assume seen exit.Done text → HoldsOf assume seen text
   judgement_holds fw cert assume seen text has h =
       let z = zero_judgement fw cert assume seen text h in
       let spelling = read z.certificate z.claim z.is in
@@ -374,12 +377,12 @@ module _
 
   -- ---- exactness
 
-  pub image_read : (bytes : List ℕ) (words : Program) (later : List ℕ → Reply) (status : ℕ) (text : List ℕ) → IsFirmware device bytes words → WithImage device bytes later status text → later words status text
+  pub image_read : (bytes : List ℕ) (words : Program) (later : List ℕ → Reply) (status : Status) (text : List ℕ) → IsFirmware device bytes words → WithImage device bytes later status text → later words status text
   image_read bytes words later status text firmware h =
       subst (λ ws. later ws status text) (sym (words_of one images narrowing device bytes words firmware))
       (fault_none (firmware_fault device bytes) (later (firmware_words device bytes)) status text (fault_of one images narrowing device bytes words firmware) h)
 
-  pub list_read : (list : Option (List ℕ)) (A : List Entry) (later : List Entry → Reply) (status : ℕ) (text : List ℕ) → IsListOf list A → WithList list later status text → later A status text
+  pub list_read : (list : Option (List ℕ)) (A : List Entry) (later : List Entry → Reply) (status : Status) (text : List ℕ) → IsListOf list A → WithList list later status text → later A status text
   list_read None A later status text e h = subst (λ l. later l status text) (sym e) h
   list_read (Some bytes) A later status text e h = subst (λ x. ListBy x later status text) (lists.due bytes (Ok A) e) h
 
@@ -387,7 +390,7 @@ module _
   module _ (fw cert : List ℕ) (assume : Option (List ℕ)) (seen : Contents) (firmware certificate : List ℕ) (list : Option (List ℕ)) (words : Program) (claim : Claim) (A : List Entry)
       (are : AreRead assume seen firmware certificate list) (stand : StandFor device firmware certificate list words claim A) where
     -- the answer is by the verdict on the certificate
-    judged_so : (status : ℕ) (text : List ℕ) → IsReplyJudged device next fw cert assume seen status text → JudgedReply words A (next firmware words A) claim status text
+    judged_so : (status : Status) (text : List ℕ) → IsReplyJudged device next fw cert assume seen status text → JudgedReply words A (next firmware words A) claim status text
     judged_so status text h =
         let first = file_read fw seen.firmware firmware _ status text are.loaded.firmware_read h in
         let second = file_read cert seen.second certificate _ status text are.second_read first in
@@ -397,11 +400,11 @@ module _
         (list_read list A (λ B. CertificateReply words B (next firmware words B) (certificate_in certificate)) status text stand.mean.assumptions image)
 
     -- the certificate is valid and what follows is answered, or it isn't valid
-    pub judged_by : VerdictsAreOne → (status : ℕ) (text : List ℕ) → IsReplyJudged device next fw cert assume seen status text → IsJudged words A (next firmware words A) claim status text
+    pub judged_by : VerdictsAreOne → (status : Status) (text : List ℕ) → IsReplyJudged device next fw cert assume seen status text → IsJudged words A (next firmware words A) claim status text
     judged_by verdicts status text h =
         let j = judged_so status text h in by_verdict verdicts words A (next firmware words A) claim stand.fits.claim j.verdict status text j.is j.reply
 
-    pub valid_judged : (status : ℕ) (text : List ℕ) → IsValid words A claim → next firmware words A claim status text → IsReplyJudged device next fw cert assume seen status text
+    pub valid_judged : (status : Status) (text : List ℕ) → IsValid words A claim → next firmware words A claim status text → IsReplyJudged device next fw cert assume seen status text
     valid_judged status text v says =
         file_zero fw seen.firmware firmware _ status text are.loaded.firmware_read
         (file_zero cert seen.second certificate _ status text are.second_read

@@ -42,23 +42,25 @@ use Rattle.clear_laws.specs.ListLaws.{ClearWhereNoSites}
 use Rattle.cert_writing.specs.Sizes.{TextsFit}
 use Rattle.guided_trials.specs.Laws.{TrialsAreLed}
 use Rattle.commands.specs.Commands.{Command, Check, Analyse, Run, Report, Explain, Clear, Premises, Attain, Simulate, Demo, device_for}
+use Rattle.replies.specs.declared.status.Status.{Status}
+use Rattle.replies.specs.declared.status.Status.TheVariants as exit
 use Rattle.replies.specs.Firmware.{IsFirmware, firmware_words, firmware_names}
 use Rattle.replies.specs.Texts.{devices_refused, accepted, run_text}
 use Rattle.replies.specs.Reading.{Whole, Contents, certificate_cap}
 use Rattle.replies.specs.Reply.{Reply, WithOptional, WithImage, WithList, ClearSays, ClearReply, PlacesReply, AcceptedReply, AnalyseReply, SimulateReply, DemoReply, IsReply}
 use Rattle.replies.specs.Headline.{AreLoaded, IsListOf, StandFor, Shows, HoldsAsRead, IsLeastAsRead, IsAttainedAsRead, IsSimulatedAsRead, IsMeasured, SaysWhether, AcceptsExactly, AnswersRounds, AnswersDevices, AcceptingRepliesHold, RepliesAreExact}
-use Rattle.replies.proofs.Accepting.{zero_file, zero_optional, zero_image, zero_list, zero_refused, no_one, IsJudged, file_read, optional_read, Accepting, IsReplyJudged, HoldsOf, judgement_holds, image_read, list_read, judged_by, valid_judged}
+use Rattle.replies.proofs.Accepting.{zero_file, zero_optional, zero_image, zero_list, zero_refused, not_rejected, IsJudged, file_read, optional_read, Accepting, IsReplyJudged, HoldsOf, judgement_holds, image_read, list_read, judged_by, valid_judged}
 use Rattle.replies.proofs.Attaining.{written_attained}
 use Rattle.replies.proofs.Least.{AnalysesFit, analysis_best, best_bounds, Ends, analyse_ends, says_ends, not_written}
 
-no_fourteen : ◌≡◌ {A = ℕ} 0 14 → ⊥
-no_fourteen e = cc
+not_devices : ◌≡◌ {A = Status} exit.Done exit.BadDevices → ⊥
+not_devices e = cc
 
-no_thirteen : ◌≡◌ {A = ℕ} 0 13 → ⊥
-no_thirteen e = cc
+not_unclear : ◌≡◌ {A = Status} exit.Done exit.Unclear → ⊥
+not_unclear e = cc
 
-one_thirteen : ◌≡◌ {A = ℕ} 1 13 → ⊥
-one_thirteen e = cc
+rejected_apart_from_unclear : ◌≡◌ {A = Status} exit.Rejected exit.Unclear → ⊥
+rejected_apart_from_unclear e = cc
 
 -- reading and spelling of devices are inverse
 pub record DevicesAreExact : Type 0 where
@@ -141,26 +143,26 @@ module _
         };
         again = λ name other.
             valid_judged raw images narrowing lists read spelled bounds device (check_next device name other assume) name other assume (record seen { second = Whole text }) h.firmware text h.list h.words shows.claim h.A
-            (record { loaded = record { firmware_read = h.are_read.loaded.firmware_read; list_read = h.are_read.loaded.list_read }; second_read = refl }) stand 0 (accepted shows.claim.bound (is_some shows.claim.witness)) shows.valid (refl, refl);
+            (record { loaded = record { firmware_read = h.are_read.loaded.firmware_read; list_read = h.are_read.loaded.list_read }; second_read = refl }) stand exit.Done (accepted shows.claim.bound (is_some shows.claim.witness)) shows.valid (refl, refl);
       }
 
   -- a command that answers 0 where a certificate is valid
-  record SaysValid (words : Program) (A : List Entry) (c : Claim) (status : ℕ) : Type 0 where
-    accepted : (status ≡ 0) ↔ IsValid words A c
-    unclear : status ≡ 13 → ⊥
-    rejected : (status ≡ 1) ↔ (IsValid words A c → ⊥)
+  record SaysValid (words : Program) (A : List Entry) (c : Claim) (status : Status) : Type 0 where
+    accepted : (status ≡ exit.Done) ↔ IsValid words A c
+    unclear : status ≡ exit.Unclear → ⊥
+    rejected : (status ≡ exit.Rejected) ↔ (IsValid words A c → ⊥)
 
-  accepts_by : (words : Program) (A : List Entry) (next : Claim → Reply) (c : Claim) (status : ℕ) (text : List ℕ) → ((s : ℕ) (t : List ℕ) → next c s t → s ≡ 0) → IsJudged words A next c status text
+  accepts_by : (words : Program) (A : List Entry) (next : Claim → Reply) (c : Claim) (status : Status) (text : List ℕ) → ((s : Status) (t : List ℕ) → next c s t → s ≡ exit.Done) → IsJudged words A next c status text
       → SaysValid words A c status
   accepts_by words A next c status text zero (inl h) =
       let z = zero status text h.1 in
-      record { accepted = (λ e. h.0, λ v. z); unclear = λ e. no_thirteen (sym z ∙ e); rejected = (λ e. absurd (no_one (sym z ∙ e)), λ n. absurd (n h.0)) }
+      record { accepted = (λ e. h.0, λ v. z); unclear = λ e. not_unclear (sym z ∙ e); rejected = (λ e. absurd (not_rejected (sym z ∙ e)), λ n. absurd (n h.0)) }
   accepts_by words A next c status text zero (inr h) =
-      record { accepted = (λ e. absurd (no_one (sym e ∙ h.1)), λ v. absurd (h.0 v)); unclear = λ e. one_thirteen (sym h.1 ∙ e); rejected = (λ e. h.0, λ n. h.1) }
+      record { accepted = (λ e. absurd (not_rejected (sym e ∙ h.1)), λ v. absurd (h.0 v)); unclear = λ e. rejected_apart_from_unclear (sym h.1 ∙ e); rejected = (λ e. h.0, λ n. h.1) }
 
-  accepts_valid : (command : Command) (fw cert : List ℕ) (assume : Option (List ℕ)) (seen : Contents) (status : ℕ) (text : List ℕ)
-      → ((bytes : List ℕ) (words : Program) (A : List Entry) (c : Claim) (s : ℕ) (t : List ℕ) → AcceptedReply command bytes words A c s t → s ≡ 0)
-      → ((words : Program) (A : List Entry) (c : Claim) (s : ℕ) → SaysValid words A c s → SaysWhether command words A c s)
+  accepts_valid : (command : Command) (fw cert : List ℕ) (assume : Option (List ℕ)) (seen : Contents) (status : Status) (text : List ℕ)
+      → ((bytes : List ℕ) (words : Program) (A : List Entry) (c : Claim) (s : Status) (t : List ℕ) → AcceptedReply command bytes words A c s t → s ≡ exit.Done)
+      → ((words : Program) (A : List Entry) (c : Claim) (s : Status) → SaysValid words A c s → SaysWhether command words A c s)
       → IsReplyJudged (device_for command) (AcceptedReply command) fw cert assume seen status text → AcceptsExactly command assume seen status
   accepts_valid command fw cert assume seen status text zero says h firmware certificate list words claim A are stand =
       says words A claim status
@@ -172,30 +174,30 @@ module _
   none_apart : (node pc : ℕ) → ◌≡◌ {A = ClearVerdict} clear.Clear (clear.Unclear node pc) → ⊥
   none_apart node pc e = cc
 
-  clear_by : (words : Program) (c : Claim) (status : ℕ) (text : List ℕ) (v : ClearVerdict) → IsClearVerdict words c v → ClearSays words c v status text → IsValid words [] c
+  clear_by : (words : Program) (c : Claim) (status : Status) (text : List ℕ) (v : ClearVerdict) → IsClearVerdict words c v → ClearSays words c v status text → IsValid words [] c
       → (device : Device) (fw cert : List ℕ) → SaysWhether (Clear device fw cert) words [] c status
   clear_by words c status text clear.Clear is says valid device fw cert =
       record {
         accepted = (λ e. (valid, is), λ a. says.0);
         unclear = (
-          λ e. absurd (no_thirteen (sym says.0 ∙ e)),
+          λ e. absurd (not_unclear (sym says.0 ∙ e)),
           λ b. absurd (none_apart b.1.0 b.1.1 (told_clear.one words c clear.Clear (clear.Unclear b.1.0 b.1.1) is b.1.2)),
         );
-        rejected = (λ e. absurd (no_one (sym says.0 ∙ e)), λ n. absurd (n valid));
+        rejected = (λ e. absurd (not_rejected (sym says.0 ∙ e)), λ n. absurd (n valid));
       }
   clear_by words c status text (clear.Unclear node pc) is says valid device fw cert =
       record {
-        accepted = (λ e. absurd (no_thirteen (sym e ∙ says.0)), λ a. absurd (none_apart node pc (told_clear.one words c clear.Clear (clear.Unclear node pc) a.1 is)));
+        accepted = (λ e. absurd (not_unclear (sym e ∙ says.0)), λ a. absurd (none_apart node pc (told_clear.one words c clear.Clear (clear.Unclear node pc) a.1 is)));
         unclear = (λ e. (valid, (node, pc, is)), λ b. says.0);
-        rejected = (λ e. absurd (one_thirteen (sym e ∙ says.0)), λ n. absurd (n valid));
+        rejected = (λ e. absurd (rejected_apart_from_unclear (sym e ∙ says.0)), λ n. absurd (n valid));
       }
 
-  clear_says : (words : Program) (c : Claim) (status : ℕ) (text : List ℕ) (device : Device) (fw cert : List ℕ) → IsJudged words [] (ClearReply words) c status text → SaysWhether (Clear device fw cert) words [] c status
+  clear_says : (words : Program) (c : Claim) (status : Status) (text : List ℕ) (device : Device) (fw cert : List ℕ) → IsJudged words [] (ClearReply words) c status text → SaysWhether (Clear device fw cert) words [] c status
   clear_says words c status text device fw cert (inl h) = clear_by words c status text h.1.verdict h.1.is h.1.says h.0 device fw cert
   clear_says words c status text device fw cert (inr h) =
       record {
-        accepted = (λ e. absurd (no_one (sym e ∙ h.1)), λ a. absurd (h.0 a.0));
-        unclear = (λ e. absurd (one_thirteen (sym h.1 ∙ e)), λ b. absurd (h.0 b.0));
+        accepted = (λ e. absurd (not_rejected (sym e ∙ h.1)), λ a. absurd (h.0 a.0));
+        unclear = (λ e. absurd (rejected_apart_from_unclear (sym h.1 ∙ e)), λ b. absurd (h.0 b.0));
         rejected = (λ e. h.0, λ n. h.1);
       }
 
@@ -203,7 +205,7 @@ module _
   no_list None A e h = sym h
   no_list (Some bytes) A e h = absurd (let wrong = e in cc)
 
-  clear_read : (device : Device) (fw cert : List ℕ) (seen : Contents) (status : ℕ) (text : List ℕ) → IsReplyJudged device (AcceptedReply (Clear device fw cert)) fw cert None seen status text
+  clear_read : (device : Device) (fw cert : List ℕ) (seen : Contents) (status : Status) (text : List ℕ) → IsReplyJudged device (AcceptedReply (Clear device fw cert)) fw cert None seen status text
       → AcceptsExactly (Clear device fw cert) None seen status
   clear_read device fw cert seen status text h firmware certificate list words claim A are stand =
       let empty : [] ≡ A = no_list list A are.loaded.list_read stand.mean.assumptions in
@@ -211,9 +213,9 @@ module _
       subst (λ B. SaysWhether (Clear device fw cert) words B claim status) empty
       (clear_says words claim status text device fw cert (subst (λ B. IsJudged words B (ClearReply words) claim status text) (sym empty) judged))
 
-  all_clear : (words : Program) (c : Claim) (text : List ℕ) (v : ClearVerdict) → IsClearVerdict words c v → ClearSays words c v 0 text → AreAllClear words [] c
+  all_clear : (words : Program) (c : Claim) (text : List ℕ) (v : ClearVerdict) → IsClearVerdict words c v → ClearSays words c v exit.Done text → AreAllClear words [] c
   all_clear words c text clear.Clear is says = is
-  all_clear words c text (clear.Unclear node pc) is says = absurd (no_thirteen says.0)
+  all_clear words c text (clear.Unclear node pc) is says = absurd (not_unclear says.0)
 
   clear_as : (device : Device) (fw cert : List ℕ) (seen : Contents) (text : List ℕ)
       → HoldsOf raw images narrowing lists read spelled bounds device (AcceptedReply (Clear device fw cert)) None seen text → HoldsAsRead (Clear device fw cert) None seen text
@@ -274,7 +276,7 @@ module _
         told = h.told.says.1;
       })
 
-  places_zero : (why : Bool) (names : List Named) (words : Program) (A : List Entry) (c : Claim) (status : ℕ) (text : List ℕ) → PlacesReply why names words A c status text → status ≡ 0
+  places_zero : (why : Bool) (names : List Named) (words : Program) (A : List Entry) (c : Claim) (status : Status) (text : List ℕ) → PlacesReply why names words A c status text → status ≡ exit.Done
   places_zero false names words A c status text k = k.says.0
   places_zero true names words A c status text k = k.says.0
 
@@ -293,7 +295,7 @@ module _
   AfterAnalysis device steps firmware list = WithImage device firmware (λ words. WithList list (λ A. AnalyseReply words A steps))
 
   least_text : (device : Device) (assume : Option (List ℕ)) (steps : Option ℕ) (seen : Contents) (text firmware : List ℕ) (list : Option (List ℕ)) (A : List Entry) → AreLoaded assume seen firmware list
-      → IsFirmware device firmware (firmware_words device firmware) → IsListOf list A → AreWords (firmware_words device firmware) → AnalyseReply (firmware_words device firmware) A steps 0 text → IsLeastAsRead device assume seen text
+      → IsFirmware device firmware (firmware_words device firmware) → IsListOf list A → AreWords (firmware_words device firmware) → AnalyseReply (firmware_words device firmware) A steps exit.Done text → IsLeastAsRead device assume seen text
   least_text device assume steps seen text firmware list A loaded image listed has (inr h) = absurd (not_written answers rounds solutions bounds runs (firmware_words device firmware) A steps text h)
   least_text device assume steps seen text firmware list A loaded image listed has (inl h) =
       let best = analysis_best answers rounds solutions bounds runs (firmware_words device firmware) A steps h.claim h.analysis in
@@ -316,11 +318,11 @@ module _
         };
         again = λ fw cert.
             valid_judged raw images narrowing lists read spelled bounds device (check_next device fw cert assume) fw cert assume (record seen { second = Whole text }) firmware text list (firmware_words device firmware) h.claim A
-            (record { loaded = record { firmware_read = loaded.firmware_read; list_read = loaded.list_read }; second_read = refl }) stand 0 (accepted h.claim.bound (is_some h.claim.witness)) best.valid (refl, refl);
+            (record { loaded = record { firmware_read = loaded.firmware_read; list_read = loaded.list_read }; second_read = refl }) stand exit.Done (accepted h.claim.bound (is_some h.claim.witness)) best.valid (refl, refl);
       }
 
   zero_analysis : (device : Device) (fw : List ℕ) (assume : Option (List ℕ)) (steps : Option ℕ) (seen : Contents) (text : List ℕ) → ((firmware : List ℕ) → seen.firmware ≡ Whole firmware → AreWords (firmware_words device firmware))
-      → IsReply (Analyse device fw assume steps) seen 0 text → IsLeastAsRead device assume seen text
+      → IsReply (Analyse device fw assume steps) seen exit.Done text → IsLeastAsRead device assume seen text
   zero_analysis device fw assume steps seen text has h =
       let first = zero_file fw seen.firmware _ text h in
       let second = zero_optional assume seen.assumptions (AfterAnalysis device steps first.0) text first.2 in
@@ -328,7 +330,7 @@ module _
       let list = zero_list lists second.0 (λ B. AnalyseReply (firmware_words device first.0) B steps) text image.1 in
       least_text device assume steps seen text first.0 second.0 list.0 (record { firmware_read = first.1; list_read = second.1 }) image.0 list.1 (has first.0 first.1) list.2
 
-  analysis_read : (device : Device) (fw : List ℕ) (assume : Option (List ℕ)) (steps : Option ℕ) (seen : Contents) (status : ℕ) (text : List ℕ) → IsReply (Analyse device fw assume steps) seen status text → AnswersRounds device assume steps seen status
+  analysis_read : (device : Device) (fw : List ℕ) (assume : Option (List ℕ)) (steps : Option ℕ) (seen : Contents) (status : Status) (text : List ℕ) → IsReply (Analyse device fw assume steps) seen status text → AnswersRounds device assume steps seen status
   analysis_read device fw assume steps seen status text h firmware list words A loaded mean =
       let first : WithOptional assume seen.assumptions (AfterAnalysis device steps firmware) status text = file_read fw seen.firmware firmware (λ b. WithOptional assume seen.assumptions (AfterAnalysis device steps b)) status text loaded.firmware_read h in
       let second = optional_read assume seen.assumptions list (AfterAnalysis device steps firmware) status text loaded.list_read first in
@@ -342,13 +344,13 @@ module _
   AfterDevices device steps firmware devices list = WithImage device firmware (λ words. WithList list (λ A. SimulateReply words A steps (setup_in devices)))
 
   -- status 0 comes with a setup, and one brings status 0
-  zero_setup : (words : Program) (A : List Entry) (steps : ℕ) (x : Result Setup DevicesFault) (text : List ℕ) → SimulateReply words A steps x 0 text
+  zero_setup : (words : Program) (A : List Entry) (steps : ℕ) (x : Result Setup DevicesFault) (text : List ℕ) → SimulateReply words A steps x exit.Done text
       → (setup : Setup) × (x ≡ Ok setup) × (text ≡ run_text (simulation_of words A setup steps))
-  zero_setup words A steps (Err fault) text h = absurd (zero_refused 14 no_fourteen (devices_refused fault) text h)
+  zero_setup words A steps (Err fault) text h = absurd (zero_refused exit.BadDevices not_devices (devices_refused fault) text h)
   zero_setup words A steps (Ok setup) text h = (setup, refl, h.1)
 
   zero_simulation : (device : Device) (fw dev : List ℕ) (assume : Option (List ℕ)) (steps : ℕ) (seen : Contents) (text : List ℕ) → ((firmware : List ℕ) → seen.firmware ≡ Whole firmware → AreWords (firmware_words device firmware))
-      → IsReply (Simulate device fw dev assume steps) seen 0 text → IsSimulatedAsRead device assume steps seen text
+      → IsReply (Simulate device fw dev assume steps) seen exit.Done text → IsSimulatedAsRead device assume steps seen text
   zero_simulation device fw dev assume steps seen text has h =
       let first = zero_file fw seen.firmware _ text h in
       let second = zero_file dev seen.second _ text first.2 in
@@ -374,13 +376,13 @@ module _
         };
       }
 
-  simulated_by : (words : Program) (A : List Entry) (steps : ℕ) (text bytes : List ℕ) (status : ℕ) → SimulateReply words A steps (setup_in bytes) status text → (status ≡ 0) ↔ ((setup : Setup) × IsDevices bytes setup)
+  simulated_by : (words : Program) (A : List Entry) (steps : ℕ) (text bytes : List ℕ) (status : Status) → SimulateReply words A steps (setup_in bytes) status text → (status ≡ exit.Done) ↔ ((setup : Setup) × IsDevices bytes setup)
   simulated_by words A steps text bytes status h = (
     λ zero. let s = zero_setup words A steps (setup_in bytes) text (subst (λ x. SimulateReply words A steps (setup_in bytes) x text) zero h) in (s.0, devices.read bytes s.0 s.1),
     λ s. (subst (λ x. SimulateReply words A steps x status text) (devices.spelled bytes s.0 s.1) h).0,
   )
 
-  simulation_read : (device : Device) (fw dev : List ℕ) (assume : Option (List ℕ)) (steps : ℕ) (seen : Contents) (status : ℕ) (text : List ℕ) → IsReply (Simulate device fw dev assume steps) seen status text → AnswersDevices device assume seen status
+  simulation_read : (device : Device) (fw dev : List ℕ) (assume : Option (List ℕ)) (steps : ℕ) (seen : Contents) (status : Status) (text : List ℕ) → IsReply (Simulate device fw dev assume steps) seen status text → AnswersDevices device assume seen status
   simulation_read device fw dev assume steps seen status text h firmware devices list words A are mean =
       let first = file_read fw seen.firmware firmware _ status text are.loaded.firmware_read h in
       let second = file_read dev seen.second devices _ status text are.second_read first in
@@ -391,11 +393,11 @@ module _
 
   -- ---- demo
 
-  measured : (size : ℕ) (text : List ℕ) → DemoReply size 0 text → IsMeasured size text
+  measured : (size : ℕ) (text : List ℕ) → DemoReply size exit.Done text → IsMeasured size text
   measured size text (inl h) = record { claim = h.claim; fits = h.fits; answer = h.answer; told = h.says.1 }
   measured size text (inr k) = absurd (not_written answers rounds solutions bounds runs (demo_words size) [] None text k)
 
-  demo_ends : (size status : ℕ) (text : List ℕ) → DemoReply size status text → Ends answers rounds solutions bounds runs (demo_words size) [] None status text
+  demo_ends : (size : ℕ) (status : Status) (text : List ℕ) → DemoReply size status text → Ends answers rounds solutions bounds runs (demo_words size) [] None status text
   demo_ends size status text (inl h) = inl (record { claim = h.claim; fits = h.fits; answer = h.answer; zero = h.says.0 })
   demo_ends size status text (inr k) = inr k
 

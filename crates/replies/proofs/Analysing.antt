@@ -11,16 +11,17 @@ use Rattle.round_solutions.specs.Answers.{AnswersAreOne}
 use Rattle.witness_search.specs.Laws.{WaypointsAreOne}
 use Rattle.witness_search.specs.Trials.{IsFound}
 use Rattle.demo_image.specs.Image.{demo_words}
+use Rattle.replies.specs.declared.status.Status.{Status}
 use Rattle.replies.specs.Texts.{why_not_status, why_not_text, demo_text}
 use Rattle.replies.specs.Analysis.{TrialsFind, IsAnalysis}
 use Rattle.replies.specs.Reply.{Refuses, WhyNotReply, AnalyseReply, MeasuredReply, DemoReply}
 use Rattle.replies.proofs.Trials.{found_one}
 
 -- want of memory is never told
-pub no_memory : (words : Program) (r : Refusal) (status : ℕ) (text : List ℕ) → Refuses (why_not_status r) (why_not_text words r) status text → r ≢ Memory
+pub no_memory : (words : Program) (r : Refusal) (status : Status) (text : List ℕ) → Refuses (why_not_status r) (why_not_text words r) status text → r ≢ Memory
 no_memory words r status text h e = subst (λ x. Refuses (why_not_status x) (why_not_text words x) status text) e h
 
-refuses_one : (n : ℕ) (o : Option (List ℕ)) (s t : ℕ) (a b : List ℕ) → Refuses n o s a → Refuses n o t b → (s ≡ t) × (a ≡ b)
+refuses_one : (n : Status) (o : Option (List ℕ)) (s t : Status) (a b : List ℕ) → Refuses n o s a → Refuses n o t b → (s ≡ t) × (a ≡ b)
 refuses_one n None s t a b h k = absurd h
 refuses_one n (Some x) s t a b h k = (h.0 ∙ sym k.0, h.1 ∙ sym k.1)
 
@@ -41,25 +42,25 @@ module _ (one : AnswersAreOne) (chains : WaypointsAreOne) where
       let least = one.answer words A steps h.least k.least h.claim k.claim h.answer k.answer in
       h.is ∙ (witnessed h.least k.least h.found k.found least (trials_one words A h.least k.least h.found k.found least h.trials k.trials) ∙ sym k.is)
 
-  why_not_one : (words : Program) (A : List Entry) (steps : Option ℕ) (s t : ℕ) (a b : List ℕ) → WhyNotReply words A steps s a → WhyNotReply words A steps t b → (s ≡ t) × (a ≡ b)
+  why_not_one : (words : Program) (A : List Entry) (steps : Option ℕ) (s t : Status) (a b : List ℕ) → WhyNotReply words A steps s a → WhyNotReply words A steps t b → (s ≡ t) × (a ≡ b)
   why_not_one words A steps s t a b h k =
       let e = one.why_not words A steps h.refusal k.refusal h.why k.why (no_memory words h.refusal s a h.says) (no_memory words k.refusal t b k.says) in
       refuses_one (why_not_status k.refusal) (why_not_text words k.refusal) s t a b (subst (λ r. Refuses (why_not_status r) (why_not_text words r) s a) e h.says) k.says
 
-  never_both : {X : Type 0} (words : Program) (A : List Entry) (steps : Option ℕ) (c : Claim) (t : ℕ) (b : List ℕ) → IsAnalysis words A steps c → WhyNotReply words A steps t b → X
+  never_both : {X : Type 0} (words : Program) (A : List Entry) (steps : Option ℕ) (c : Claim) (t : Status) (b : List ℕ) → IsAnalysis words A steps c → WhyNotReply words A steps t b → X
   never_both words A steps c t b h k = absurd (no_memory words k.refusal t b k.says (one.either words A steps h.least k.refusal h.answer k.why))
 
-  pub analyse_one : (words : Program) (A : List Entry) (steps : Option ℕ) (s t : ℕ) (a b : List ℕ) → AnalyseReply words A steps s a → AnalyseReply words A steps t b → (s ≡ t) × (a ≡ b)
+  pub analyse_one : (words : Program) (A : List Entry) (steps : Option ℕ) (s t : Status) (a b : List ℕ) → AnalyseReply words A steps s a → AnalyseReply words A steps t b → (s ≡ t) × (a ≡ b)
   analyse_one words A steps s t a b (inl h) (inl k) =
       (h.says.0 ∙ sym k.says.0, h.says.1 ∙ (ap text_of (analysis_one words A steps h.claim k.claim h.analysis k.analysis) ∙ sym k.says.1))
   analyse_one words A steps s t a b (inl h) (inr k) = never_both words A steps h.claim t b h.analysis k
   analyse_one words A steps s t a b (inr h) (inl k) = never_both words A steps k.claim s a k.analysis h
   analyse_one words A steps s t a b (inr h) (inr k) = why_not_one words A steps s t a b h k
 
-  never_measured : {X : Type 0} (size : ℕ) (s t : ℕ) (a b : List ℕ) → MeasuredReply size s a → WhyNotReply (demo_words size) [] None t b → X
+  never_measured : {X : Type 0} (size : ℕ) (s t : Status) (a b : List ℕ) → MeasuredReply size s a → WhyNotReply (demo_words size) [] None t b → X
   never_measured size s t a b h k = absurd (no_memory (demo_words size) k.refusal t b k.says (one.either (demo_words size) [] None h.claim k.refusal h.answer k.why))
 
-  pub demo_one : (size : ℕ) (s t : ℕ) (a b : List ℕ) → DemoReply size s a → DemoReply size t b → (s ≡ t) × (a ≡ b)
+  pub demo_one : (size : ℕ) (s t : Status) (a b : List ℕ) → DemoReply size s a → DemoReply size t b → (s ≡ t) × (a ≡ b)
   demo_one size s t a b (inl h) (inl k) =
       (h.says.0 ∙ sym k.says.0, h.says.1 ∙ (ap (demo_text size) (one.answer (demo_words size) [] None h.claim k.claim h.fits k.fits h.answer k.answer) ∙ sym k.says.1))
   demo_one size s t a b (inl h) (inr k) = never_measured size s t a b h k

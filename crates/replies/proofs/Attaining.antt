@@ -15,6 +15,8 @@ use Rattle.guided_trials.specs.Trials.{fill_of, trial_of, IsFirstGuided, IsGuide
 use Rattle.guided_trials.specs.Attaining.{IsScheduled, IsCompleted}
 use Rattle.guided_trials.specs.Laws.{TrialsAreLed}
 use Rattle.guided_trials.proofs.AllLaws.{claim_with, sound_with, attained_where}
+use Rattle.replies.specs.declared.status.Status.{Status}
+use Rattle.replies.specs.declared.status.Status.TheVariants as exit
 use Rattle.replies.specs.Reading.{certificate_cap}
 use Rattle.replies.specs.Reply.{AttainReply}
 use Rattle.replies.specs.Headline.{IsDepthReached, IsWrittenAttained}
@@ -46,7 +48,7 @@ module _ (words : Program) (A : List Entry) (n : ℕ) (c : Claim) where
   completed_one d e h k =
       h.same ∙ ap (λ (w : Option Plan). record c { witness = w }) (schedule_one c.witness d.witness e.witness h.schedule k.schedule) ∙ sym k.same
 
-pub attain_one : (words : Program) (A : List Entry) (n : ℕ) (c : Claim) (s t : ℕ) (a b : List ℕ) → AttainReply words A n c s a → AttainReply words A n c t b → (s ≡ t) × (a ≡ b)
+pub attain_one : (words : Program) (A : List Entry) (n : ℕ) (c : Claim) (s t : Status) (a b : List ℕ) → AttainReply words A n c s a → AttainReply words A n c t b → (s ≡ t) × (a ≡ b)
 attain_one words A n c s t a b h k =
     (h.says.0 ∙ sym k.says.0, h.says.1 ∙ ap text_of (completed_one words A n c h.claim k.claim h.completed k.completed) ∙ sym k.says.1)
 
@@ -80,7 +82,7 @@ module _ (led : TrialsAreLed) (fit : TextsFit) (words : Program) (A : List Entry
   bound_as : (d : Claim) → IsCompleted words A n c d → d.bound ≡ c.bound
   bound_as d h = ap (λ (x : Claim). x.bound) h.same
 
-  pub written_attained : (runs : ReplaysAreRuns) (text : List ℕ) → AttainReply words A n c 0 text → IsCertificate c → IsValid words A c → IsWrittenAttained words A n c text
+  pub written_attained : (runs : ReplaysAreRuns) (text : List ℕ) → AttainReply words A n c exit.Done text → IsCertificate c → IsValid words A c → IsWrittenAttained words A n c text
   written_attained runs text h is valid =
       let fits = fits_as h.claim h.completed is in
       record {

@@ -26,6 +26,8 @@ use Rattle.witness_search.specs.Laws.{TrialsAreShort}
 use Rattle.witness_search.specs.Trials.{IsFound}
 use Rattle.witness_search.specs.declared.waypoint.Waypoint.{Waypoint}
 use Rattle.guided_trials.proofs.AllLaws.{claim_with, sound_with}
+use Rattle.replies.specs.declared.status.Status.{Status}
+use Rattle.replies.specs.declared.status.Status.TheVariants as exit
 use Rattle.replies.specs.Texts.{why_not_status, why_not_text}
 use Rattle.replies.specs.Reading.{certificate_cap}
 use Rattle.replies.specs.Analysis.{TrialsFind, IsAnalysis}
@@ -89,7 +91,7 @@ module _ (words : Program) (A : List Entry) (steps : Option ℕ) where
   IsSpent r = (n : ℕ) × (r ≡ refusal.Spent n) × (steps ≡ Some n) × GoesBeyond words A n
 
   abbrev IsCause : Refusal → Type 0
-  IsCause r = IsRefusal words A steps r × (why_not_status r ≡ 10)
+  IsCause r = IsRefusal words A steps r × (why_not_status r ≡ exit.NoCertificate)
 
   why_cases : (r : Refusal) → IsWhyNot words A steps r → r ≢ refusal.Memory → IsCause r ⊎ IsSpent r
   why_cases (refusal.UnresolvedJump at) h m = inl (h, refl)
@@ -103,7 +105,7 @@ module _ (words : Program) (A : List Entry) (steps : Option ℕ) where
   why_cases (refusal.Spent n) h m = inr (n, refl, h.0, h.1)
   why_cases refusal.Memory h m = absurd (m refl)
 
-  why_of : (r : Refusal) → IsRefusal words A steps r → r ≢ refusal.Memory → IsWhyNot words A steps r × (why_not_status r ≡ 10)
+  why_of : (r : Refusal) → IsRefusal words A steps r → r ≢ refusal.Memory → IsWhyNot words A steps r × (why_not_status r ≡ exit.NoCertificate)
   why_of (refusal.UnresolvedJump at) h m = (h, refl)
   why_of (refusal.Recursion at) h m = (h, refl)
   why_of (refusal.ReEntry v at) h m = (h, refl)
@@ -115,18 +117,18 @@ module _ (words : Program) (A : List Entry) (steps : Option ℕ) where
   why_of (refusal.Spent n) h m = absurd (never_spent h.refused.test n (sym h.refused.is))
   why_of refusal.Memory h m = absurd (m refl)
 
-says_status : (n : ℕ) (o : Option (List ℕ)) (status : ℕ) (text : List ℕ) → Refuses n o status text → status ≡ n
+says_status : (n : Status) (o : Option (List ℕ)) (status : Status) (text : List ℕ) → Refuses n o status text → status ≡ n
 says_status n None status text h = absurd h
 says_status n (Some t) status text h = h.0
 
-two_zero : {X : Type 0} (s : ℕ) → s ≡ 0 → s ≡ 10 → X
-two_zero s e f = absurd (let wrong : ◌≡◌ {A = ℕ} 0 10 = sym e ∙ f in cc)
+done_refused : {X : Type 0} (s : Status) → s ≡ exit.Done → s ≡ exit.NoCertificate → X
+done_refused s e f = absurd (let wrong : ◌≡◌ {A = Status} exit.Done exit.NoCertificate = sym e ∙ f in cc)
 
-zero_eleven : {X : Type 0} (s : ℕ) → s ≡ 0 → s ≡ 11 → X
-zero_eleven s e f = absurd (let wrong : ◌≡◌ {A = ℕ} 0 11 = sym e ∙ f in cc)
+done_spent : {X : Type 0} (s : Status) → s ≡ exit.Done → s ≡ exit.Spent → X
+done_spent s e f = absurd (let wrong : ◌≡◌ {A = Status} exit.Done exit.Spent = sym e ∙ f in cc)
 
-ten_eleven : {X : Type 0} (s : ℕ) → s ≡ 10 → s ≡ 11 → X
-ten_eleven s e f = absurd (let wrong : ◌≡◌ {A = ℕ} 10 11 = sym e ∙ f in cc)
+refused_spent : {X : Type 0} (s : Status) → s ≡ exit.NoCertificate → s ≡ exit.Spent → X
+refused_spent s e f = absurd (let wrong : ◌≡◌ {A = Status} exit.NoCertificate exit.Spent = sym e ∙ f in cc)
 
 none_some : {X : Type 0} (o : Option ℕ) (n : ℕ) → o ≡ None → o ≡ Some n → X
 none_some o n e f = absurd (let wrong : ◌≡◌ {A = Option ℕ} None (Some n) = sym e ∙ f in cc)
@@ -167,23 +169,23 @@ module _
   -- ---- where the rounds end
 
   -- they end at this certificate, and the status says so
-  pub record IsSolvedAt (status : ℕ) : Type 0 where
+  pub record IsSolvedAt (status : Status) : Type 0 where
     pub claim : Claim
     pub fits : IsClaim claim
     pub answer : IsAnswer words A steps claim
-    pub zero : status ≡ 0
+    pub zero : status ≡ exit.Done
 
-  abbrev pub Ends : ℕ → List ℕ → Type 0
+  abbrev pub Ends : Status → List ℕ → Type 0
   Ends status text = IsSolvedAt status ⊎ WhyNotReply words A steps status text
 
-  pub analyse_ends : (status : ℕ) (text : List ℕ) → AnalyseReply words A steps status text → Ends status text
+  pub analyse_ends : (status : Status) (text : List ℕ) → AnalyseReply words A steps status text → Ends status text
   analyse_ends status text (inl h) = inl (record { claim = h.analysis.least; fits = h.analysis.claim; answer = h.analysis.answer; zero = h.says.0 })
   analyse_ends status text (inr k) = inr k
 
   pub best_bounds : (c : Claim) → AreWords words → IsBest c → Bounded words A c.bound
   best_bounds c has h = bounds words A c has h.fits.claim h.valid.sound
 
-  module _ (status : ℕ) (text : List ℕ) where
+  module _ (status : Status) (text : List ℕ) where
     told_status : (k : WhyNotReply words A steps status text) → status ≡ why_not_status k.refusal
     told_status k = says_status (why_not_status k.refusal) (why_not_text words k.refusal) status text k.says
 
@@ -191,70 +193,70 @@ module _
     not_memory k = no_memory words k.refusal status text k.says
 
     told_cases : (k : WhyNotReply words A steps status text) → IsCause words A steps k.refusal ⊎ IsSpent words A steps k.refusal
-        → ((status ≡ 10) × IsRefusal words A steps k.refusal) ⊎ ((status ≡ 11) × ((n : ℕ) × (steps ≡ Some n) × GoesBeyond words A n))
+        → ((status ≡ exit.NoCertificate) × IsRefusal words A steps k.refusal) ⊎ ((status ≡ exit.Spent) × ((n : ℕ) × (steps ≡ Some n) × GoesBeyond words A n))
     told_cases k (inl h) = inl (told_status k ∙ h.1, h.0)
     told_cases k (inr h) = inr (told_status k ∙ ap why_not_status h.1, (h.0, h.2, h.3))
 
-    told_by : (k : WhyNotReply words A steps status text) → ((status ≡ 10) × IsRefusal words A steps k.refusal) ⊎ ((status ≡ 11) × ((n : ℕ) × (steps ≡ Some n) × GoesBeyond words A n))
+    told_by : (k : WhyNotReply words A steps status text) → ((status ≡ exit.NoCertificate) × IsRefusal words A steps k.refusal) ⊎ ((status ≡ exit.Spent) × ((n : ℕ) × (steps ≡ Some n) × GoesBeyond words A n))
     told_by k = told_cases k (why_cases words A steps k.refusal k.why (not_memory k))
 
     -- ---- where there is a certificate
 
-    not_told : {X Y Z : Type 0} → status ≡ 0 → ((status ≡ 10) × Y) ⊎ ((status ≡ 11) × Z) → X
-    not_told e (inl h) = two_zero status e h.0
-    not_told e (inr h) = zero_eleven status e h.0
+    not_told : {X Y Z : Type 0} → status ≡ exit.Done → ((status ≡ exit.NoCertificate) × Y) ⊎ ((status ≡ exit.Spent) × Z) → X
+    not_told e (inl h) = done_refused status e h.0
+    not_told e (inr h) = done_spent status e h.0
 
-    solved_if : Ends status text → status ≡ 0 → (c : Claim) × IsClaim c × IsAnswer words A steps c
+    solved_if : Ends status text → status ≡ exit.Done → (c : Claim) × IsClaim c × IsAnswer words A steps c
     solved_if (inl h) e = (h.claim, h.fits, h.answer)
     solved_if (inr k) e = not_told e (told_by k)
 
-    if_solved : Ends status text → ((c : Claim) × IsClaim c × IsAnswer words A steps c) → status ≡ 0
+    if_solved : Ends status text → ((c : Claim) × IsClaim c × IsAnswer words A steps c) → status ≡ exit.Done
     if_solved (inl h) s = h.zero
     if_solved (inr k) s = absurd (not_memory k (one.either words A steps s.0 k.refusal s.2 k.why))
 
     -- ---- where there is a cause
 
-    cause_told : {Y : Type 0} (k : WhyNotReply words A steps status text) → status ≡ 10 → ((status ≡ 10) × IsRefusal words A steps k.refusal) ⊎ ((status ≡ 11) × Y)
+    cause_told : {Y : Type 0} (k : WhyNotReply words A steps status text) → status ≡ exit.NoCertificate → ((status ≡ exit.NoCertificate) × IsRefusal words A steps k.refusal) ⊎ ((status ≡ exit.Spent) × Y)
         → (r : Refusal) × (r ≢ refusal.Memory) × IsRefusal words A steps r
     cause_told k e (inl h) = (k.refusal, not_memory k, h.1)
-    cause_told k e (inr h) = ten_eleven status e h.0
+    cause_told k e (inr h) = refused_spent status e h.0
 
-    refused_if : Ends status text → status ≡ 10 → (r : Refusal) × (r ≢ refusal.Memory) × IsRefusal words A steps r
-    refused_if (inl h) e = two_zero status h.zero e
+    refused_if : Ends status text → status ≡ exit.NoCertificate → (r : Refusal) × (r ≢ refusal.Memory) × IsRefusal words A steps r
+    refused_if (inl h) e = done_refused status h.zero e
     refused_if (inr k) e = cause_told k e (told_by k)
 
     if_why : Ends status text → (r : Refusal) → r ≢ refusal.Memory → IsWhyNot words A steps r → status ≡ why_not_status r
     if_why (inl h) r m why = absurd (m (one.either words A steps h.claim r h.answer why))
     if_why (inr k) r m why = told_status k ∙ ap why_not_status (one.why_not words A steps k.refusal r k.why why (not_memory k) m)
 
-    if_refused : Ends status text → ((r : Refusal) × (r ≢ refusal.Memory) × IsRefusal words A steps r) → status ≡ 10
+    if_refused : Ends status text → ((r : Refusal) × (r ≢ refusal.Memory) × IsRefusal words A steps r) → status ≡ exit.NoCertificate
     if_refused reply h = let w = why_of words A steps h.0 h.2 h.1 in if_why reply h.0 h.1 w.0 ∙ w.1
 
     -- ---- where the budget is spent
 
-    spent_told : {Y Z : Type 0} → status ≡ 11 → ((status ≡ 10) × Y) ⊎ ((status ≡ 11) × Z) → Z
-    spent_told e (inl h) = ten_eleven status h.0 e
+    spent_told : {Y Z : Type 0} → status ≡ exit.Spent → ((status ≡ exit.NoCertificate) × Y) ⊎ ((status ≡ exit.Spent) × Z) → Z
+    spent_told e (inl h) = refused_spent status h.0 e
     spent_told e (inr h) = h.1
 
-    spent_if : Ends status text → status ≡ 11 → (n : ℕ) × (steps ≡ Some n) × GoesBeyond words A n
-    spent_if (inl h) e = zero_eleven status h.zero e
+    spent_if : Ends status text → status ≡ exit.Spent → (n : ℕ) × (steps ≡ Some n) × GoesBeyond words A n
+    spent_if (inl h) e = done_spent status h.zero e
     spent_if (inr k) e = spent_told e (told_by k)
 
-    if_spent : Ends status text → ((n : ℕ) × (steps ≡ Some n) × GoesBeyond words A n) → status ≡ 11
+    if_spent : Ends status text → ((n : ℕ) × (steps ≡ Some n) × GoesBeyond words A n) → status ≡ exit.Spent
     if_spent reply h = if_why reply (refusal.Spent h.0) (λ e. let wrong = e in cc) (h.1, h.2)
 
     -- ---- without a budget
 
-    valid_if : Ends status text → status ≡ 0 → HasValid words A
+    valid_if : Ends status text → status ≡ exit.Done → HasValid words A
     valid_if (inl h) e = (h.claim, h.fits, solutions.valid words A h.answer.number h.answer.family h.claim h.fits h.answer.solved h.answer.solution)
     valid_if (inr k) e = not_told e (told_by k)
 
     never_told : (k : WhyNotReply words A steps status text) → steps ≡ None → HasValid words A
-        → ((status ≡ 10) × IsRefusal words A steps k.refusal) ⊎ ((status ≡ 11) × ((n : ℕ) × (steps ≡ Some n) × GoesBeyond words A n)) → status ≡ 0
+        → ((status ≡ exit.NoCertificate) × IsRefusal words A steps k.refusal) ⊎ ((status ≡ exit.Spent) × ((n : ℕ) × (steps ≡ Some n) × GoesBeyond words A n)) → status ≡ exit.Done
     never_told k none v (inl h) = absurd (rounds.never words A h.1.number v.0 k.refusal (record { claim = v.1; sound = v.2.sound }) h.1.refused)
     never_told k none v (inr h) = none_some steps h.1.0 none h.1.1
 
-    if_valid : Ends status text → steps ≡ None → HasValid words A → status ≡ 0
+    if_valid : Ends status text → steps ≡ None → HasValid words A → status ≡ exit.Done
     if_valid (inl h) none v = h.zero
     if_valid (inr k) none v = never_told k none v (told_by k)
 
@@ -268,5 +270,5 @@ module _
         }
 
   -- status 0 tells no cause
-  pub not_written : (text : List ℕ) → WhyNotReply words A steps 0 text → ⊥
-  not_written text k = not_told 0 text refl (told_by 0 text k)
+  pub not_written : (text : List ℕ) → WhyNotReply words A steps exit.Done text → ⊥
+  not_written text k = not_told exit.Done text refl (told_by exit.Done text k)

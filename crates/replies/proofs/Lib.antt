@@ -9,3 +9,4 @@ pub mod All
 pub mod AllLaws
 mod Attaining
 mod Told
+mod Codes

@@ -29,6 +29,8 @@ use Rattle.device_hooks.specs.Spelling.{Setup}
 use Rattle.device_hooks.specs.Reading.{setup_in}
 use Rattle.device_hooks.specs.Simulating.{simulation_of}
 use Rattle.commands.specs.Commands.{Command, Check, Analyse, Run, Report, Explain, Clear, Premises, Attain, Simulate, Demo, Firmware, Second, Assumptions, device_for, name_of}
+use Rattle.replies.specs.declared.status.Status.{Status}
+use Rattle.replies.specs.declared.status.Status.TheVariants as exit
 use Rattle.replies.specs.Firmware.{firmware_words, firmware_fault, firmware_names}
 use Rattle.replies.specs.Texts.{too_long, assumptions_refused, certificate_refused, schedule_malformed, schedule_illegal, devices_refused, rejected, witness_rejected, run_text}
 use Rattle.replies.specs.Places.{clear_text, unclear_text, premises_text, why_text}
@@ -40,19 +42,19 @@ use Rattle.replies.proofs.Attaining.{attain_one}
 
 -- at most one status with one text is the answer
 abbrev IsOneAnswer : Reply → Type 0
-IsOneAnswer R = (s t : ℕ) (a b : List ℕ) → R s a → R t b → (s ≡ t) × (a ≡ b)
+IsOneAnswer R = (s t : Status) (a b : List ℕ) → R s a → R t b → (s ≡ t) × (a ≡ b)
 
-says_one : (n : ℕ) (x : List ℕ) → IsOneAnswer (Says n x)
+says_one : (n : Status) (x : List ℕ) → IsOneAnswer (Says n x)
 says_one n x s t a b h k = (h.0 ∙ sym k.0, h.1 ∙ sym k.1)
 
-refuses_one : (n : ℕ) (o : Option (List ℕ)) → IsOneAnswer (Refuses n o)
+refuses_one : (n : Status) (o : Option (List ℕ)) → IsOneAnswer (Refuses n o)
 refuses_one n None s t a b h k = absurd h
 refuses_one n (Some x) s t a b h k = (h.0 ∙ sym k.0, h.1 ∙ sym k.1)
 
 file_one : (name : List ℕ) (seen : Seen) (next : List ℕ → Reply) → ((bytes : List ℕ) → IsOneAnswer (next bytes)) → IsOneAnswer (WithFile name seen next)
 file_one name Unread next f s t a b h k = absurd h
 file_one name (Whole bytes) next f s t a b h k = f bytes s t a b h k
-file_one name Long next f s t a b h k = says_one 5 (too_long name) s t a b h k
+file_one name Long next f s t a b h k = says_one exit.TooLong (too_long name) s t a b h k
 
 bytes_one : (o : Option (List ℕ)) (seen : Seen) (next : List ℕ → Reply) → ((bytes : List ℕ) → IsOneAnswer (next bytes)) → IsOneAnswer (WithBytes o seen next)
 bytes_one None seen next f s t a b h k = f [] s t a b h k
@@ -63,12 +65,12 @@ optional_one None seen next f s t a b h k = f None s t a b h k
 optional_one (Some name) seen next f s t a b h k = file_one name seen (λ bytes. next (Some bytes)) (λ bytes. f (Some bytes)) s t a b h k
 
 image_one : (o : Option (List ℕ)) (reply : Reply) → IsOneAnswer reply → IsOneAnswer (ImageBy o reply)
-image_one (Some refusal) reply f s t a b h k = says_one 6 refusal s t a b h k
+image_one (Some refusal) reply f s t a b h k = says_one exit.BadFirmware refusal s t a b h k
 image_one None reply f s t a b h k = f s t a b h k
 
 list_one : (x : Result (List Entry) AssumeText) (next : List Entry → Reply) → ((A : List Entry) → IsOneAnswer (next A)) → IsOneAnswer (ListBy x next)
 list_one (Ok A) next f s t a b h k = f A s t a b h k
-list_one (Err fault) next f s t a b h k = refuses_one 7 (assumptions_refused fault) s t a b h k
+list_one (Err fault) next f s t a b h k = refuses_one exit.BadAssumptions (assumptions_refused fault) s t a b h k
 
 with_list_one : (list : Option (List ℕ)) (next : List Entry → Reply) → ((A : List Entry) → IsOneAnswer (next A)) → IsOneAnswer (WithList list next)
 with_list_one None next f = f []
@@ -76,30 +78,30 @@ with_list_one (Some bytes) next f = list_one (entries_in bytes) next f
 
 attained_one : (next : Reply) (attained : Bool) → IsOneAnswer next → IsOneAnswer (AttainedBy next attained)
 attained_one next true f s t a b h k = f s t a b h k
-attained_one next false f s t a b h k = says_one 1 witness_rejected s t a b h k
+attained_one next false f s t a b h k = says_one exit.Rejected witness_rejected s t a b h k
 
 witness_one : (words : Program) (A : List Entry) (next : Reply) (bound : ℕ) (w : Option Plan) → IsOneAnswer next → IsOneAnswer (WitnessReply words A next bound w)
 witness_one words A next bound None f s t a b h k = f s t a b h k
 witness_one words A next bound (Some plan) f s t a b h k = attained_one next (attains bound (replay_of words A plan)) f s t a b h k
 
 verdict_one : (words : Program) (A : List Entry) (next : Claim → Reply) (c : Claim) (v : Verdict) → IsOneAnswer (next c) → IsOneAnswer (VerdictReply words A next c v)
-verdict_one words A next c (Rejected reason) f s t a b h k = says_one 1 (rejected reason) s t a b h k
+verdict_one words A next c (Rejected reason) f s t a b h k = says_one exit.Rejected (rejected reason) s t a b h k
 verdict_one words A next c (Accepted bound) f s t a b h k = witness_one words A (next c) bound c.witness f s t a b h k
 
 simulate_one : (words : Program) (A : List Entry) (steps : ℕ) (x : Result Setup DevicesFault) → IsOneAnswer (SimulateReply words A steps x)
-simulate_one words A steps (Err fault) s t a b h k = refuses_one 14 (devices_refused fault) s t a b h k
-simulate_one words A steps (Ok setup) s t a b h k = says_one 0 (run_text (simulation_of words A setup steps)) s t a b h k
+simulate_one words A steps (Err fault) s t a b h k = refuses_one exit.BadDevices (devices_refused fault) s t a b h k
+simulate_one words A steps (Ok setup) s t a b h k = says_one exit.Done (run_text (simulation_of words A setup steps)) s t a b h k
 
 run_one : (x : Result Replayed ℕ) → IsOneAnswer (RunReply x)
-run_one (Err step) s t a b h k = says_one 9 (schedule_illegal step) s t a b h k
-run_one (Ok r) s t a b h k = says_one 0 (run_text r) s t a b h k
+run_one (Err step) s t a b h k = says_one exit.BadSchedule (schedule_illegal step) s t a b h k
+run_one (Ok r) s t a b h k = says_one exit.Done (run_text r) s t a b h k
 
 ends_one : (ls : List TextLine) (at : ℕ) (reply : Reply) → IsOneAnswer reply → IsOneAnswer (EndsBefore ls at reply)
 ends_one [] at reply f s t a b h k = f s t a b h k
-ends_one (l ∷ ls) at reply f s t a b h k = says_one 9 (schedule_malformed at) s t a b h k
+ends_one (l ∷ ls) at reply f s t a b h k = says_one exit.BadSchedule (schedule_malformed at) s t a b h k
 
 schedule_one : (words : Program) (A : List Entry) (x : Result (Plan × Place) ℕ) → IsOneAnswer (ScheduleReply words A x)
-schedule_one words A (Err at) s t a b h k = says_one 9 (schedule_malformed at) s t a b h k
+schedule_one words A (Err at) s t a b h k = says_one exit.BadSchedule (schedule_malformed at) s t a b h k
 schedule_one words A (Ok read) s t a b h k =
     ends_one read.1.rest read.1.at (RunReply (replay_of words A read.0)) (run_one (replay_of words A read.0)) s t a b h k
 
@@ -111,7 +113,7 @@ module _ (read : ReadCertificateIsSpelled) (one : VerdictsAreOne) (answers : Ans
       verdict_one words A next c k.verdict f s t a b (subst (λ v. VerdictReply words A next c v s a) e h.reply) k.reply
 
   certificate_one : (words : Program) (A : List Entry) (next : Claim → Reply) (x : Result Claim CertFault) → ((c : Claim) → x ≡ Ok c → IsClaim c) → ((c : Claim) → IsClaim c → IsOneAnswer (next c)) → IsOneAnswer (CertificateReply words A next x)
-  certificate_one words A next (Err fault) f g s t a b h k = refuses_one 8 (certificate_refused fault) s t a b h k
+  certificate_one words A next (Err fault) f g s t a b h k = refuses_one exit.BadCertificate (certificate_refused fault) s t a b h k
   certificate_one words A next (Ok c) f g s t a b h k = judged_one words A next c (f c refl) (g c (f c refl)) s t a b h k
 
   read_one : (words : Program) (A : List Entry) (next : Claim → Reply) (bytes : List ℕ) → ((c : Claim) → IsClaim c → IsOneAnswer (next c)) → IsOneAnswer (CertificateReply words A next (certificate_in bytes))
@@ -123,8 +125,8 @@ module _ (read : ReadCertificateIsSpelled) (one : VerdictsAreOne) (answers : Ans
       (h.says.0 ∙ sym k.says.0, h.says.1 ∙ (ap (explanation_text c.bound names) e ∙ sym k.says.1))
 
   clear_says_one : (words : Program) (c : Claim) (v : ClearVerdict) → IsOneAnswer (ClearSays words c v)
-  clear_says_one words c clear.Clear s t a b h k = says_one 0 (clear_text c.bound) s t a b h k
-  clear_says_one words c (clear.Unclear node pc) s t a b h k = says_one 13 (unclear_text words node pc) s t a b h k
+  clear_says_one words c clear.Clear s t a b h k = says_one exit.Done (clear_text c.bound) s t a b h k
+  clear_says_one words c (clear.Unclear node pc) s t a b h k = says_one exit.Unclear (unclear_text words node pc) s t a b h k
 
   clear_one : (words : Program) (c : Claim) → IsClaim c → IsOneAnswer (ClearReply words c)
   clear_one words c claim s t a b h k =
@@ -148,11 +150,11 @@ module _ (read : ReadCertificateIsSpelled) (one : VerdictsAreOne) (answers : Ans
 
   flash_one : (command : Command) (firmware bytes : List ℕ) (words : Program) (A : List Entry) → IsOneAnswer (FlashReply command firmware bytes words A)
   flash_one (Check device fw cert assume) firmware bytes words A =
-      read_one words A (AcceptedReply (Check device fw cert assume) firmware words A) bytes (λ c claim. says_one 0 (told_of (Check device fw cert assume) firmware c))
+      read_one words A (AcceptedReply (Check device fw cert assume) firmware words A) bytes (λ c claim. says_one exit.Done (told_of (Check device fw cert assume) firmware c))
   flash_one (Analyse device fw assume steps) firmware bytes words A = analyse_one answers chains words A steps
   flash_one (Run device fw schedule assume) firmware bytes words A = schedule_one words A (schedule_in _)
   flash_one (Report device fw cert assume json) firmware bytes words A =
-      read_one words A (AcceptedReply (Report device fw cert assume json) firmware words A) bytes (λ c claim. says_one 0 (told_of (Report device fw cert assume json) firmware c))
+      read_one words A (AcceptedReply (Report device fw cert assume json) firmware words A) bytes (λ c claim. says_one exit.Done (told_of (Report device fw cert assume json) firmware c))
   flash_one (Explain device fw cert assume) firmware bytes words A =
       read_one words A (AcceptedReply (Explain device fw cert assume) firmware words A) bytes (explain_one (firmware_names firmware) words A)
   flash_one (Clear device fw cert) firmware bytes words A = read_one words [] (ClearReply words) bytes (clear_one words)

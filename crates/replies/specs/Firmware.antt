@@ -7,6 +7,7 @@ use Rattle.avr_model.specs.Image.{WORDS, IsRawImage, raw_words, IsNarrowed}
 use Rattle.flash_image.specs.Narrowing.{outside_word}
 use Rattle.flash_image.specs.Naming.{Named}
 use Rattle.elf_load.specs.Elf.{is_elf, elf_fault, elf_byte, IsElfImage, elf_names, static_end}
+use Rattle.replies.specs.declared.raw.RawRefusal.TheVariants as raw
 use Rattle.replies.specs.Texts.{elf_refused, raw_fault, firmware_outside}
 
 -- a file that begins with 7F 45 4C 46 is an ELF file, any other a raw image
@@ -43,7 +44,7 @@ words_by false bytes = raw_words bytes
 
 abbrev pub fault_by : Bool → List ℕ → Option (List ℕ)
 fault_by true bytes = option_map elf_refused (elf_fault bytes)
-fault_by false bytes = if length bytes % 2 == 1 then Some (raw_fault 1) else (if nat_lt 32768 (length bytes) then Some (raw_fault 2) else None)
+fault_by false bytes = if length bytes % 2 == 1 then Some (raw_fault raw.OddLength) else (if nat_lt 32768 (length bytes) then Some (raw_fault raw.TooLong) else None)
 
 -- the words of a firmware file on a device in order
 abbrev pub firmware_words : Device → List ℕ → List ℕ

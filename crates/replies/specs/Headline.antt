@@ -35,6 +35,8 @@ use Rattle.device_hooks.specs.Exact.{IsSetupReading as IsDevices}
 use Rattle.device_hooks.specs.Simulating.{simulation_of}
 use Rattle.commands.specs.Commands.{Command, Check, Analyse, Run, Report, Explain, Clear, Premises, Attain, Simulate, Demo, device_for}
 use Rattle.local_rules.specs.Machine.{AreWords}
+use Rattle.replies.specs.declared.status.Status.{Status}
+use Rattle.replies.specs.declared.status.Status.TheVariants as exit
 use Rattle.replies.specs.Firmware.{IsFirmware, firmware_words, firmware_names}
 use Rattle.replies.specs.Texts.{accepted, run_text, demo_text}
 use Rattle.replies.specs.Places.{premises_text, why_text}
@@ -154,7 +156,7 @@ pub record Holds (command : Command) (firmware certificate : List ℕ) (list : O
   pub assumptions : List Entry
   pub stand : StandFor (device_for command) firmware certificate list words claim assumptions
   pub bounded : Bounded words assumptions claim.bound
-  pub told : AcceptedReply command firmware words assumptions claim 0 text
+  pub told : AcceptedReply command firmware words assumptions claim exit.Done text
   pub shows : Shows command firmware words assumptions claim text
 
 -- all files of a command that judges a certificate were read, and the bound holds of their bytes
@@ -186,7 +188,7 @@ pub record IsLeastCertificate (device : Device) (firmware : List ℕ) (list : Op
 -- `check` of this text accepts, with the same device, firmware and assumptions
 abbrev pub IsAcceptedAgain : Device → Option (List ℕ) → Contents → List ℕ → Claim → Type 0
 IsAcceptedAgain device assume seen text c =
-    (firmware certificate : List ℕ) → IsReply (Check device firmware certificate assume) (record seen { second = Whole text }) 0 (accepted c.bound (is_some c.witness))
+    (firmware certificate : List ℕ) → IsReply (Check device firmware certificate assume) (record seen { second = Whole text }) exit.Done (accepted c.bound (is_some c.witness))
 
 -- all files of an analysis were read, and its text is that of their least certificate
 pub record IsLeastAsRead (device : Device) (assume : Option (List ℕ)) (seen : Contents) (text : List ℕ) : Type 0 where
@@ -237,19 +239,19 @@ pub record IsMeasured (size : ℕ) (text : List ℕ) : Type 0 where
 -- steps are flagged only at the words that are told, and as it is told; where one is written, it is the least, or the accepted one with a schedule that reaches its
 -- bound; a simulated run keeps each bound that is accepted;
 -- the numbers of an image are those of its rounds
-abbrev pub Headline : Command → Contents → ℕ → List ℕ → Type 0
-Headline (Check device firmware certificate assume) seen status text = status ≡ 0 → HoldsAsRead (Check device firmware certificate assume) assume seen text
-Headline (Analyse device firmware assume steps) seen status text = status ≡ 0 → IsLeastAsRead device assume seen text
+abbrev pub Headline : Command → Contents → Status → List ℕ → Type 0
+Headline (Check device firmware certificate assume) seen status text = status ≡ exit.Done → HoldsAsRead (Check device firmware certificate assume) assume seen text
+Headline (Analyse device firmware assume steps) seen status text = status ≡ exit.Done → IsLeastAsRead device assume seen text
 Headline (Run device firmware schedule assume) seen status text = ⊤
 Headline (Report device firmware certificate assume json) seen status text =
-    status ≡ 0 → HoldsAsRead (Report device firmware certificate assume json) assume seen text
-Headline (Explain device firmware certificate assume) seen status text = status ≡ 0 → HoldsAsRead (Explain device firmware certificate assume) assume seen text
-Headline (Clear device firmware certificate) seen status text = status ≡ 0 → HoldsAsRead (Clear device firmware certificate) None seen text
+    status ≡ exit.Done → HoldsAsRead (Report device firmware certificate assume json) assume seen text
+Headline (Explain device firmware certificate assume) seen status text = status ≡ exit.Done → HoldsAsRead (Explain device firmware certificate assume) assume seen text
+Headline (Clear device firmware certificate) seen status text = status ≡ exit.Done → HoldsAsRead (Clear device firmware certificate) None seen text
 Headline (Premises device firmware certificate assume why) seen status text =
-    status ≡ 0 → HoldsAsRead (Premises device firmware certificate assume why) assume seen text
-Headline (Attain device firmware certificate assume trials) seen status text = status ≡ 0 → IsAttainedAsRead device firmware certificate assume trials seen text
-Headline (Simulate device firmware devices assume steps) seen status text = status ≡ 0 → IsSimulatedAsRead device assume steps seen text
-Headline (Demo size) seen status text = status ≡ 0 → IsMeasured size text
+    status ≡ exit.Done → HoldsAsRead (Premises device firmware certificate assume why) assume seen text
+Headline (Attain device firmware certificate assume trials) seen status text = status ≡ exit.Done → IsAttainedAsRead device firmware certificate assume trials seen text
+Headline (Simulate device firmware devices assume steps) seen status text = status ≡ exit.Done → IsSimulatedAsRead device assume steps seen text
+Headline (Demo size) seen status text = status ≡ exit.Done → IsMeasured size text
 
 -- ---- when the answers come
 
@@ -264,13 +266,13 @@ Blames (Clear device firmware certificate) words A c = IsValid words A c × ((no
 Blames command words A c = ⊥
 
 -- the status says whether the certificate is accepted, whether a node isn't clear, and whether it isn't valid
-pub record SaysWhether (command : Command) (words : Program) (A : List Entry) (c : Claim) (status : ℕ) : Type 0 where
-  pub accepted : (status ≡ 0) ↔ Accepts command words A c
-  pub unclear : (status ≡ 13) ↔ Blames command words A c
-  pub rejected : (status ≡ 1) ↔ (IsValid words A c → ⊥)
+pub record SaysWhether (command : Command) (words : Program) (A : List Entry) (c : Claim) (status : Status) : Type 0 where
+  pub accepted : (status ≡ exit.Done) ↔ Accepts command words A c
+  pub unclear : (status ≡ exit.Unclear) ↔ Blames command words A c
+  pub rejected : (status ≡ exit.Rejected) ↔ (IsValid words A c → ⊥)
 
 -- the same of the files of a command, where they read as values
-abbrev pub AcceptsExactly : Command → Option (List ℕ) → Contents → ℕ → Type 0
+abbrev pub AcceptsExactly : Command → Option (List ℕ) → Contents → Status → Type 0
 AcceptsExactly command assume seen status =
     (firmware certificate : List ℕ) (list : Option (List ℕ)) (words : Program) (claim : Claim) (A : List Entry)
     → AreRead assume seen firmware certificate list → StandFor (device_for command) firmware certificate list words claim A → SaysWhether command words A claim status
@@ -281,26 +283,26 @@ HasValid words A = (c : Claim) × IsClaim c × IsValid words A c
 
 -- The status says how the rounds end: within the budget with a certificate, or with a cause against it, or at none of the families that
 -- the budget serves for. Without a budget there is a certificate exactly where one is valid.
-pub record SaysHowRoundsEnd (words : Program) (A : List Entry) (steps : Option ℕ) (status : ℕ) : Type 0 where
-  pub solved : (status ≡ 0) ↔ ((c : Claim) × IsClaim c × IsAnswer words A steps c)
-  pub refused : (status ≡ 10) ↔ ((r : Refusal) × (r ≢ Memory) × IsRefusal words A steps r)
-  pub spent : (status ≡ 11) ↔ ((n : ℕ) × (steps ≡ Some n) × GoesBeyond words A n)
-  pub valid : steps ≡ None → (status ≡ 0) ↔ HasValid words A
+pub record SaysHowRoundsEnd (words : Program) (A : List Entry) (steps : Option ℕ) (status : Status) : Type 0 where
+  pub solved : (status ≡ exit.Done) ↔ ((c : Claim) × IsClaim c × IsAnswer words A steps c)
+  pub refused : (status ≡ exit.NoCertificate) ↔ ((r : Refusal) × (r ≢ Memory) × IsRefusal words A steps r)
+  pub spent : (status ≡ exit.Spent) ↔ ((n : ℕ) × (steps ≡ Some n) × GoesBeyond words A n)
+  pub valid : steps ≡ None → (status ≡ exit.Done) ↔ HasValid words A
 
 -- the same of the files of an analysis, where they read as values
-abbrev pub AnswersRounds : Device → Option (List ℕ) → Option ℕ → Contents → ℕ → Type 0
+abbrev pub AnswersRounds : Device → Option (List ℕ) → Option ℕ → Contents → Status → Type 0
 AnswersRounds device assume steps seen status =
     (firmware : List ℕ) (list : Option (List ℕ)) (words : Program) (A : List Entry)
     → AreLoaded assume seen firmware list → Mean device firmware list words A → SaysHowRoundsEnd words A steps status
 
 -- Where the files of a simulation read, and firmware and assumptions stand for values, it is refused exactly where the devices' text is that
 -- of none.
-abbrev pub AnswersDevices : Device → Option (List ℕ) → Contents → ℕ → Type 0
+abbrev pub AnswersDevices : Device → Option (List ℕ) → Contents → Status → Type 0
 AnswersDevices device assume seen status =
     (firmware devices : List ℕ) (list : Option (List ℕ)) (words : Program) (A : List Entry)
-    → AreRead assume seen firmware devices list → Mean device firmware list words A → (status ≡ 0) ↔ ((setup : Setup) × IsDevices devices setup)
+    → AreRead assume seen firmware devices list → Mean device firmware list words A → (status ≡ exit.Done) ↔ ((setup : Setup) × IsDevices devices setup)
 
-abbrev pub IsExact : Command → Contents → ℕ → Type 0
+abbrev pub IsExact : Command → Contents → Status → Type 0
 IsExact (Check device firmware certificate assume) seen status = AcceptsExactly (Check device firmware certificate assume) assume seen status
 IsExact (Analyse device firmware assume steps) seen status = AnswersRounds device assume steps seen status
 IsExact (Run device firmware schedule assume) seen status = ⊤
@@ -316,7 +318,7 @@ IsExact (Demo size) seen status = SaysHowRoundsEnd (demo_words size) [] None sta
 
 -- the answer to what was read of a command's files is unique
 abbrev pub RepliesAreOne : Type 0
-RepliesAreOne = (command : Command) (seen : Contents) (s t : ℕ) (a b : List ℕ) → IsReply command seen s a → IsReply command seen t b → (s ≡ t) × (a ≡ b)
+RepliesAreOne = (command : Command) (seen : Contents) (s t : Status) (a b : List ℕ) → IsReply command seen s a → IsReply command seen t b → (s ≡ t) × (a ≡ b)
 
 -- the words of a command's firmware have 16 bits
 abbrev pub HasWords : Command → List ℕ → Type 0
@@ -329,10 +331,10 @@ ReadsWords command seen = (firmware : List ℕ) → seen.firmware ≡ Whole firm
 
 abbrev pub AcceptingRepliesHold : Type 0
 AcceptingRepliesHold =
-    (command : Command) (seen : Contents) (status : ℕ) (text : List ℕ) → IsReply command seen status text → (status ≡ 0 → ReadsWords command seen) → Headline command seen status text
+    (command : Command) (seen : Contents) (status : Status) (text : List ℕ) → IsReply command seen status text → (status ≡ exit.Done → ReadsWords command seen) → Headline command seen status text
 
 abbrev pub RepliesAreExact : Type 0
-RepliesAreExact = (command : Command) (seen : Contents) (status : ℕ) (text : List ℕ) → IsReply command seen status text → IsExact command seen status
+RepliesAreExact = (command : Command) (seen : Contents) (status : Status) (text : List ℕ) → IsReply command seen status text → IsExact command seen status
 
 -- lists of names that agree on each word give the same texts of words at which a step may be flagged
 abbrev pub PlacesSayTheSame : Type 0

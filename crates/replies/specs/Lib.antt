@@ -1,3 +1,4 @@
+pub mod Status
 pub mod Says
 pub mod Texts
 pub mod Places

@@ -40,6 +40,8 @@ use Rattle.cert_check.specs.Verdict.{IsVerdict}
 use Rattle.cert_check.specs.declared.verdict.Verdict.{Verdict}
 use Rattle.cert_check.specs.declared.verdict.Verdict.TheVariants.{Accepted, Rejected}
 use Rattle.commands.specs.Commands.{Command, Analyse, Run, Report, Explain, Clear, Premises, Attain, Simulate, Demo, Firmware, Second, Assumptions, device_for, name_of}
+use Rattle.replies.specs.declared.status.Status.{Status}
+use Rattle.replies.specs.declared.status.Status.TheVariants as exit
 use Rattle.replies.specs.Firmware.{firmware_words, firmware_fault, firmware_names, firmware_end}
 use Rattle.replies.specs.Texts.{too_long, assumptions_refused, certificate_refused, schedule_malformed, schedule_illegal, devices_refused, accepted, rejected, witness_rejected, run_text, why_not_text, why_not_status, demo_text}
 use Rattle.replies.specs.Places.{clear_text, unclear_text, premises_text, why_text}
@@ -53,7 +55,7 @@ pub use Rattle.replies.specs.Says.{Reply, Says, Refuses}
 abbrev pub WithFile : List ℕ → Seen → (List ℕ → Reply) → Reply
 WithFile name Unread next status text = ⊥
 WithFile name (Whole bytes) next status text = next bytes status text
-WithFile name Long next status text = Says 5 (too_long name) status text
+WithFile name Long next status text = Says exit.TooLong (too_long name) status text
 
 -- continues with the bytes of an optional file, or with none
 abbrev pub WithBytes : Option (List ℕ) → Seen → (List ℕ → Reply) → Reply
@@ -68,7 +70,7 @@ WithOptional (Some name) seen next status text = WithFile name seen (λ bytes. n
 -- ---- firmware and assumptions
 
 abbrev pub ImageBy : Option (List ℕ) → Reply → Reply
-ImageBy (Some refusal) reply status text = Says 6 refusal status text
+ImageBy (Some refusal) reply status text = Says exit.BadFirmware refusal status text
 ImageBy None reply status text = reply status text
 
 -- the words of a firmware on a device, and what follows with them
@@ -77,7 +79,7 @@ WithImage device bytes next = ImageBy (firmware_fault device bytes) (next (firmw
 
 abbrev pub ListBy : Result (List Entry) AssumeText → (List Entry → Reply) → Reply
 ListBy (Ok entries) next status text = next entries status text
-ListBy (Err fault) next status text = Refuses 7 (assumptions_refused fault) status text
+ListBy (Err fault) next status text = Refuses exit.BadAssumptions (assumptions_refused fault) status text
 
 -- continues with the assumptions of a file, or with none
 abbrev pub WithList : Option (List ℕ) → (List Entry → Reply) → Reply
@@ -98,25 +100,25 @@ attains bound (Ok r) = is_end r.stop && (r.depth == bound)
 -- continues if the schedule attains the bound
 abbrev pub AttainedBy : Reply → Bool → Reply
 AttainedBy next true status text = next status text
-AttainedBy next false status text = Says 1 witness_rejected status text
+AttainedBy next false status text = Says exit.Rejected witness_rejected status text
 
 abbrev pub WitnessReply : Program → List Entry → Reply → ℕ → Option Plan → Reply
 WitnessReply words A next bound None status text = next status text
 WitnessReply words A next bound (Some plan) status text = AttainedBy next (attains bound (replay_of words A plan)) status text
 
 abbrev pub VerdictReply : Program → List Entry → (Claim → Reply) → Claim → Verdict → Reply
-VerdictReply words A next c (Rejected reason) status text = Says 1 (rejected reason) status text
+VerdictReply words A next c (Rejected reason) status text = Says exit.Rejected (rejected reason) status text
 VerdictReply words A next c (Accepted bound) status text = WitnessReply words A (next c) bound c.witness status text
 
 -- by the verdict on a certificate
-pub record JudgedReply (words : Program) (A : List Entry) (next : Claim → Reply) (c : Claim) (status : ℕ) (text : List ℕ) : Type 0 where
+pub record JudgedReply (words : Program) (A : List Entry) (next : Claim → Reply) (c : Claim) (status : Status) (text : List ℕ) : Type 0 where
   pub verdict : Verdict
   pub is : IsVerdict words A c verdict
   pub reply : VerdictReply words A next c verdict status text
 
 -- the answer to a certificate that is read; continues with an accepted one
 abbrev pub CertificateReply : Program → List Entry → (Claim → Reply) → Result Claim CertFault → Reply
-CertificateReply words A next (Err fault) status text = Refuses 8 (certificate_refused fault) status text
+CertificateReply words A next (Err fault) status text = Refuses exit.BadCertificate (certificate_refused fault) status text
 CertificateReply words A next (Ok c) status text = JudgedReply words A next c status text
 
 abbrev pub report_by : Bool → Device → List Named → Option ℕ → Claim → List ℕ
@@ -129,37 +131,37 @@ told_of (Report device firmware certificate assume json) bytes c = report_by jso
 told_of command bytes c = accepted c.bound (is_some c.witness)
 
 -- the explanation of a certificate is told, with these names of words
-pub record ExplainReply (names : List Named) (words : Program) (A : List Entry) (c : Claim) (status : ℕ) (text : List ℕ) : Type 0 where
+pub record ExplainReply (names : List Named) (words : Program) (A : List Entry) (c : Claim) (status : Status) (text : List ℕ) : Type 0 where
   pub explanation : Explanation
   pub is : IsExplanation words A c explanation
-  pub says : Says 0 (explanation_text c.bound names explanation) status text
+  pub says : Says exit.Done (explanation_text c.bound names explanation) status text
 
 -- the answer by whether all nodes of a certificate are clear
 abbrev pub ClearSays : Program → Claim → ClearVerdict → Reply
-ClearSays words c clear.Clear status text = Says 0 (clear_text c.bound) status text
-ClearSays words c (clear.Unclear node pc) status text = Says 13 (unclear_text words node pc) status text
+ClearSays words c clear.Clear status text = Says exit.Done (clear_text c.bound) status text
+ClearSays words c (clear.Unclear node pc) status text = Says exit.Unclear (unclear_text words node pc) status text
 
-pub record ClearReply (words : Program) (c : Claim) (status : ℕ) (text : List ℕ) : Type 0 where
+pub record ClearReply (words : Program) (c : Claim) (status : Status) (text : List ℕ) : Type 0 where
   pub verdict : ClearVerdict
   pub is : IsClearVerdict words c verdict
   pub says : ClearSays words c verdict status text
 
 -- All words at which some node of a certificate isn't clear are told, with these names of words, and those of vectors that may be taken
 -- though they have `never` lines.
-pub record PremisesReply (names : List Named) (words : Program) (A : List Entry) (c : Claim) (status : ℕ) (text : List ℕ) : Type 0 where
+pub record PremisesReply (names : List Named) (words : Program) (A : List Entry) (c : Claim) (status : Status) (text : List ℕ) : Type 0 where
   pub sites : List ℕ
   pub nevers : List ℕ
   pub are : AreSites words A c sites
   pub are_nevers : AreNevers words A c nevers
-  pub says : Says 0 (premises_text words names c.bound sites nevers) status text
+  pub says : Says exit.Done (premises_text words names c.bound sites nevers) status text
 
 -- the same with what may happen there
-pub record WhyReply (names : List Named) (words : Program) (A : List Entry) (c : Claim) (status : ℕ) (text : List ℕ) : Type 0 where
+pub record WhyReply (names : List Named) (words : Program) (A : List Entry) (c : Claim) (status : Status) (text : List ℕ) : Type 0 where
   pub places : List FlaggedPlace
   pub nevers : List ℕ
   pub are : ArePlaces words A c places
   pub are_nevers : AreNevers words A c nevers
-  pub says : Says 0 (why_text words names c.bound places nevers) status text
+  pub says : Says exit.Done (why_text words names c.bound places nevers) status text
 
 -- the list with causes, or without
 abbrev pub PlacesReply : Bool → List Named → Program → List Entry → Claim → Reply
@@ -168,11 +170,11 @@ PlacesReply true names words A c status text = WhyReply names words A c status t
 
 -- The certificate is written, as it is where it has a schedule, and else with the one that so many guided trials find, which attains its
 -- bound.
-pub record AttainReply (words : Program) (A : List Entry) (trials : ℕ) (c : Claim) (status : ℕ) (text : List ℕ) : Type 0 where
+pub record AttainReply (words : Program) (A : List Entry) (trials : ℕ) (c : Claim) (status : Status) (text : List ℕ) : Type 0 where
   pub claim : Claim
   pub completed : IsCompleted words A trials c claim
   pub attained : IsAttained words A c.bound claim.witness
-  pub says : Says 0 (text_of claim) status text
+  pub says : Says exit.Done (text_of claim) status text
 
 -- the answer of a command that accepts a certificate, for a firmware of these bytes with these words, under these assumptions
 abbrev pub AcceptedReply : Command → List ℕ → Program → List Entry → Claim → Reply
@@ -180,40 +182,40 @@ AcceptedReply (Explain device firmware certificate assume) bytes words A c = Exp
 AcceptedReply (Clear device firmware certificate) bytes words A c = ClearReply words c
 AcceptedReply (Premises device firmware certificate assume why) bytes words A c = PlacesReply why (firmware_names bytes) words A c
 AcceptedReply (Attain device firmware certificate assume trials) bytes words A c = AttainReply words A trials c
-AcceptedReply command bytes words A c = Says 0 (told_of command bytes c)
+AcceptedReply command bytes words A c = Says exit.Done (told_of command bytes c)
 
 -- ---- run
 
 abbrev pub RunReply : Result Replayed ℕ → Reply
-RunReply (Err step) status text = Says 9 (schedule_illegal step) status text
-RunReply (Ok r) status text = Says 0 (run_text r) status text
+RunReply (Err step) status text = Says exit.BadSchedule (schedule_illegal step) status text
+RunReply (Ok r) status text = Says exit.Done (run_text r) status text
 
 -- nothing follows a schedule in its file
 abbrev pub EndsBefore : List TextLine → ℕ → Reply → Reply
 EndsBefore [] at reply status text = reply status text
-EndsBefore (l ∷ ls) at reply status text = Says 9 (schedule_malformed at) status text
+EndsBefore (l ∷ ls) at reply status text = Says exit.BadSchedule (schedule_malformed at) status text
 
 abbrev pub ScheduleReply : Program → List Entry → Result (Plan × Place) ℕ → Reply
-ScheduleReply words A (Err at) status text = Says 9 (schedule_malformed at) status text
+ScheduleReply words A (Err at) status text = Says exit.BadSchedule (schedule_malformed at) status text
 ScheduleReply words A (Ok read) status text = EndsBefore read.1.rest read.1.at (RunReply (replay_of words A read.0)) status text
 
 -- ---- simulate
 
 -- the report of the run that devices choose, if their text is well-formed
 abbrev pub SimulateReply : Program → List Entry → ℕ → Result Setup DevicesFault → Reply
-SimulateReply words A steps (Err fault) status text = Refuses 14 (devices_refused fault) status text
-SimulateReply words A steps (Ok setup) status text = Says 0 (run_text (simulation_of words A setup steps)) status text
+SimulateReply words A steps (Err fault) status text = Refuses exit.BadDevices (devices_refused fault) status text
+SimulateReply words A steps (Ok setup) status text = Says exit.Done (run_text (simulation_of words A setup steps)) status text
 
 -- ---- analyse and demo
 
 -- the certificate of an analysis is written
-pub record AnalysedReply (words : Program) (A : List Entry) (steps : Option ℕ) (status : ℕ) (text : List ℕ) : Type 0 where
+pub record AnalysedReply (words : Program) (A : List Entry) (steps : Option ℕ) (status : Status) (text : List ℕ) : Type 0 where
   pub claim : Claim
   pub analysis : IsAnalysis words A steps claim
-  pub says : Says 0 (text_of claim) status text
+  pub says : Says exit.Done (text_of claim) status text
 
 -- it is told why there is none
-pub record WhyNotReply (words : Program) (A : List Entry) (steps : Option ℕ) (status : ℕ) (text : List ℕ) : Type 0 where
+pub record WhyNotReply (words : Program) (A : List Entry) (steps : Option ℕ) (status : Status) (text : List ℕ) : Type 0 where
   pub refusal : Refusal
   pub why : IsWhyNot words A steps refusal
   pub says : Refuses (why_not_status refusal) (why_not_text words refusal) status text
@@ -222,11 +224,11 @@ abbrev pub AnalyseReply : Program → List Entry → Option ℕ → Reply
 AnalyseReply words A steps status text = AnalysedReply words A steps status text ⊎ WhyNotReply words A steps status text
 
 -- the numbers of the certificate of an image are told
-pub record MeasuredReply (size : ℕ) (status : ℕ) (text : List ℕ) : Type 0 where
+pub record MeasuredReply (size : ℕ) (status : Status) (text : List ℕ) : Type 0 where
   pub claim : Claim
   pub fits : IsClaim claim
   pub answer : IsAnswer (demo_words size) [] None claim
-  pub says : Says 0 (demo_text size claim) status text
+  pub says : Says exit.Done (demo_text size claim) status text
 
 abbrev pub DemoReply : ℕ → Reply
 DemoReply size status text = MeasuredReply size status text ⊎ WhyNotReply (demo_words size) [] None status text

@@ -28,6 +28,10 @@ use Rattle.cert_check.specs.declared.verdict.Reason.{Reason}
 use Rattle.cert_check.specs.declared.verdict.Reason.TheVariants.{Root, Node, Edge, Rank, Need, Bound, Assumptions, Expansion}
 use Rattle.elf_load.specs.Elf.{ElfRefusal, Short, NotElf32Little, NotExecutable, NotAvr, EntrySize, SegmentOutside, Overlap}
 use Rattle.witness_replay.specs.Replay.{Report}
+use Rattle.replies.specs.declared.status.Status.{Status}
+use Rattle.replies.specs.declared.status.Status.TheVariants as exit
+use Rattle.replies.specs.declared.raw.RawRefusal.{RawRefusal}
+use Rattle.replies.specs.declared.raw.RawRefusal.TheVariants as raw
 
 -- the line of these words
 abbrev pub told : List (List ℕ) → List ℕ
@@ -42,9 +46,13 @@ read_fault name = told (codes "read" ∷ codes "fault" ∷ name ∷ [])
 abbrev pub too_long : List ℕ → List ℕ
 too_long name = told (codes "too" ∷ codes "long" ∷ name ∷ [])
 
--- 1: the length is odd; 2: the file is longer than flash
-abbrev pub raw_fault : ℕ → List ℕ
-raw_fault number = told (codes "firmware" ∷ codes "raw" ∷ decimal number ∷ [])
+-- the number of a raw file's refusal
+abbrev pub raw_number : RawRefusal → ℕ
+raw_number raw.OddLength = 1
+raw_number raw.TooLong = 2
+
+abbrev pub raw_fault : RawRefusal → List ℕ
+raw_fault refusal = told (codes "firmware" ∷ codes "raw" ∷ decimal (raw_number refusal) ∷ [])
 
 -- the number of the test that fails, and what it names
 abbrev pub refusal_words : ElfRefusal → List (List ℕ)
@@ -177,9 +185,9 @@ why_not_words words refusal.Memory = None
 abbrev pub why_not_text : Program → Refusal → Option (List ℕ)
 why_not_text words r = option_map told (why_not_words words r)
 
-abbrev pub why_not_status : Refusal → ℕ
-why_not_status (refusal.Spent n) = 11
-why_not_status r = 10
+abbrev pub why_not_status : Refusal → Status
+why_not_status (refusal.Spent n) = exit.Spent
+why_not_status r = exit.NoCertificate
 
 -- ---- demo
 

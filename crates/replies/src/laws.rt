@@ -1,5 +1,6 @@
 //! Laws of replies: contracts of functions with an empty body.
 
+ghost use Rattle.replies.specs.Status.{CodesAreApart};
 ghost use Rattle.replies.specs.Headline.{RepliesAreOne, AcceptingRepliesHold, RepliesAreExact, PlacesSayTheSame, CausesSayTheSame};
 
 use cert_check::laws::{sound_certificates_bound_every_run, verdicts_are_one};
@@ -23,10 +24,12 @@ use witness_search::laws::trials_are_due;
 /// - If all nodes are clear, no run is flagged; otherwise runs are flagged only at the printed words, for the printed causes.
 /// - A simulated run keeps each accepted bound.
 /// - If the files parse, a certificate is accepted exactly when it is valid, and the status of an analysis says how the rounds end.
+/// - No two statuses have one number.
 pub fn replies_are_claims()
     ensures one { RepliesAreOne }
     ensures holds { AcceptingRepliesHold }
     ensures exact { RepliesAreExact }
+    ensures codes { CodesAreApart }
 {
     raw_images_are_their_words();
     narrowing_is_exact();

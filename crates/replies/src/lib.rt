@@ -5,4 +5,9 @@
 pub mod causes;
 pub mod laws;
 pub mod places;
+pub mod raw;
+pub mod status;
 pub mod texts;
+
+pub use raw::RawRefusal;
+pub use status::Status;

@@ -7,6 +7,7 @@ ghost use Rattle.sb_base.specs.Digits.{hex_digits};
 ghost use Rattle.sb_base.specs.Writing.{with_words, with_end};
 ghost use Rattle.replies.specs.Texts.{told, usage, read_fault, too_long, raw_fault, elf_refused, firmware_outside, IsRefusalWritten, AreWritten, assumption_words, assumptions_refused, limit_word, certificate_words, certificate_refused, schedule_malformed, schedule_illegal, devices_refused, witness_word, accepted, reason_words, rejected, witness_rejected, stop_words, run_text};
 
+use crate::raw::RawRefusal;
 use avr_model::choice::{Flag, Stop};
 use cert_check::Reason;
 use cert_format::{CertFault, Limit};
@@ -64,12 +65,12 @@ pub fn too_long(alloc: Global, name: &str) -> Result<Vec<u8>, AllocError>
     three_words(alloc, b"too", b"long", name.as_bytes())
 }
 
-/// The refusal of a raw file, by number.
-pub fn raw_fault(alloc: Global, number: u64) -> Result<Vec<u8>, AllocError>
-    ensures { IfOk result (λ v. v.items ≡ raw_fault number) }
+/// The refusal of a raw file.
+pub fn raw_fault(alloc: Global, refusal: RawRefusal) -> Result<Vec<u8>, AllocError>
+    ensures { IfOk result (λ v. v.items ≡ raw_fault refusal) }
 {
     let mut line = LineWriter::new(alloc);
-    put_two_and_number(&mut line, b"firmware", b"raw", number)?;
+    put_two_and_number(&mut line, b"firmware", b"raw", refusal.number())?;
     ended(line)
 }
 

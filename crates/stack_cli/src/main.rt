@@ -4,7 +4,7 @@
 mod disk;
 
 use disk::{DiskFiles, StdSink};
-use stack_core::stackbound;
+use stack_core::{Status, stackbound};
 use std::alloc::{AllocError, Global};
 use std::env;
 use std::io::ErrorKind;
@@ -26,7 +26,7 @@ fn words_of(rt: &HostRuntime) -> Result<Option<Vec<String>>, AllocError> {
 }
 
 // The status of the top call over real files and the standard output.
-fn answer(rt: &HostRuntime, alloc: Global, owned: &[String]) -> Result<u8, AllocError> {
+fn answer(rt: &HostRuntime, alloc: Global, owned: &[String]) -> Result<Status, AllocError> {
     let mut words: Vec<&str> = Vec::new(alloc);
     for word in owned {
         words.push(word.as_str())?;
@@ -37,17 +37,18 @@ fn answer(rt: &HostRuntime, alloc: Global, owned: &[String]) -> Result<u8, Alloc
 }
 
 // The status of this run. Words of which one isn't UTF-8 are no command, as no words are none.
-fn status(rt: &HostRuntime) -> Result<u8, AllocError> {
+fn status(rt: &HostRuntime) -> Result<Status, AllocError> {
     match words_of(rt)? {
         Some(words) => answer(rt, rt.alloc(), &words),
         None => answer(rt, rt.alloc(), &[]),
     }
 }
 
-// Answers the words behind the program's name, and ends with the top call's status; 12 where there is no memory for the words.
+// Answers the words behind the program's name, and ends with the top call's status, or out of memory if there is none for the words.
 fn main(rt: HostRuntime) -> ExitCode {
-    match status(&rt) {
-        Ok(status) => ExitCode::from(status),
-        Err(_) => ExitCode::from(12),
-    }
+    let status = match status(&rt) {
+        Ok(status) => status,
+        Err(_) => Status::OutOfMemory,
+    };
+    ExitCode::from(status.code())
 }

@@ -25,6 +25,8 @@ use Rattle.device_hooks.specs.declared.devices.DevicesFault.{DevicesFault}
 use Rattle.device_hooks.specs.Spelling.{Setup}
 use Rattle.device_hooks.specs.Reading.{setup_in}
 use Rattle.commands.specs.Commands.{Command, Check, Analyse, Run, Report, Explain, Clear, Premises, Attain, Simulate, Demo, Firmware, Second, Assumptions, device_for, name_of}
+use Rattle.replies.specs.declared.status.Status.{Status}
+use Rattle.replies.specs.declared.status.Status.TheVariants as exit
 use Rattle.replies.specs.Firmware.{firmware_words, firmware_fault}
 use Rattle.replies.specs.Texts.{read_fault, assumptions_refused, certificate_refused, devices_refused, why_not_status, why_not_text}
 use Rattle.replies.specs.Reading as read
@@ -39,59 +41,59 @@ use Rattle.stack_core.specs.Answer.{IsAnswered, IsReplyWritten, IsReadFault, IsS
 -- ---- no reply has a status that isn't the reply's
 
 -- not the statuses of usage, of a read fault, of a write fault and of want of memory
-record IsReplyPlain (status : ℕ) : Type 0 where
-  two : status ≢ 2
-  three : status ≢ 3
-  four : status ≢ 4
-  twelve : status ≢ 12
+record IsReplyPlain (status : Status) : Type 0 where
+  usage : status ≢ exit.Usage
+  read : status ≢ exit.ReadFault
+  write : status ≢ exit.WriteFault
+  ample : status ≢ exit.OutOfMemory
 
 abbrev IsPlainApart : Reply → Type 0
-IsPlainApart R = (status : ℕ) (text : List ℕ) → R status text → IsReplyPlain status
+IsPlainApart R = (status : Status) (text : List ℕ) → R status text → IsReplyPlain status
 
-at : (n status : ℕ) → IsReplyPlain n → status ≡ n → IsReplyPlain status
+at : (n status : Status) → IsReplyPlain n → status ≡ n → IsReplyPlain status
 at n status h e = subst IsReplyPlain (sym e) h
 
-zero_plain : IsReplyPlain 0
-zero_plain = record { two = λ e. cc; three = λ e. cc; four = λ e. cc; twelve = λ e. cc }
+done_plain : IsReplyPlain exit.Done
+done_plain = record { usage = λ e. cc; read = λ e. cc; write = λ e. cc; ample = λ e. cc }
 
-one_plain : IsReplyPlain 1
-one_plain = record { two = λ e. cc; three = λ e. cc; four = λ e. cc; twelve = λ e. cc }
+rejected_plain : IsReplyPlain exit.Rejected
+rejected_plain = record { usage = λ e. cc; read = λ e. cc; write = λ e. cc; ample = λ e. cc }
 
-five_plain : IsReplyPlain 5
-five_plain = record { two = λ e. cc; three = λ e. cc; four = λ e. cc; twelve = λ e. cc }
+long_plain : IsReplyPlain exit.TooLong
+long_plain = record { usage = λ e. cc; read = λ e. cc; write = λ e. cc; ample = λ e. cc }
 
-six_plain : IsReplyPlain 6
-six_plain = record { two = λ e. cc; three = λ e. cc; four = λ e. cc; twelve = λ e. cc }
+firmware_plain : IsReplyPlain exit.BadFirmware
+firmware_plain = record { usage = λ e. cc; read = λ e. cc; write = λ e. cc; ample = λ e. cc }
 
-seven_plain : IsReplyPlain 7
-seven_plain = record { two = λ e. cc; three = λ e. cc; four = λ e. cc; twelve = λ e. cc }
+assumptions_plain : IsReplyPlain exit.BadAssumptions
+assumptions_plain = record { usage = λ e. cc; read = λ e. cc; write = λ e. cc; ample = λ e. cc }
 
-eight_plain : IsReplyPlain 8
-eight_plain = record { two = λ e. cc; three = λ e. cc; four = λ e. cc; twelve = λ e. cc }
+certificate_plain : IsReplyPlain exit.BadCertificate
+certificate_plain = record { usage = λ e. cc; read = λ e. cc; write = λ e. cc; ample = λ e. cc }
 
-nine_plain : IsReplyPlain 9
-nine_plain = record { two = λ e. cc; three = λ e. cc; four = λ e. cc; twelve = λ e. cc }
+schedule_plain : IsReplyPlain exit.BadSchedule
+schedule_plain = record { usage = λ e. cc; read = λ e. cc; write = λ e. cc; ample = λ e. cc }
 
-ten_plain : IsReplyPlain 10
-ten_plain = record { two = λ e. cc; three = λ e. cc; four = λ e. cc; twelve = λ e. cc }
+refused_plain : IsReplyPlain exit.NoCertificate
+refused_plain = record { usage = λ e. cc; read = λ e. cc; write = λ e. cc; ample = λ e. cc }
 
-eleven_plain : IsReplyPlain 11
-eleven_plain = record { two = λ e. cc; three = λ e. cc; four = λ e. cc; twelve = λ e. cc }
+spent_plain : IsReplyPlain exit.Spent
+spent_plain = record { usage = λ e. cc; read = λ e. cc; write = λ e. cc; ample = λ e. cc }
 
-thirteen_plain : IsReplyPlain 13
-thirteen_plain = record { two = λ e. cc; three = λ e. cc; four = λ e. cc; twelve = λ e. cc }
+unclear_plain : IsReplyPlain exit.Unclear
+unclear_plain = record { usage = λ e. cc; read = λ e. cc; write = λ e. cc; ample = λ e. cc }
 
-fourteen_plain : IsReplyPlain 14
-fourteen_plain = record { two = λ e. cc; three = λ e. cc; four = λ e. cc; twelve = λ e. cc }
+devices_plain : IsReplyPlain exit.BadDevices
+devices_plain = record { usage = λ e. cc; read = λ e. cc; write = λ e. cc; ample = λ e. cc }
 
-refuses_apart : (n : ℕ) → IsReplyPlain n → (o : Option (List ℕ)) → IsPlainApart (Refuses n o)
+refuses_apart : (n : Status) → IsReplyPlain n → (o : Option (List ℕ)) → IsPlainApart (Refuses n o)
 refuses_apart n p None s t h = absurd h
 refuses_apart n p (Some x) s t h = at n s p h.0
 
 file_apart : (name : List ℕ) (seen : Seen) (next : List ℕ → Reply) → ((bytes : List ℕ) → IsPlainApart (next bytes)) → IsPlainApart (WithFile name seen next)
 file_apart name Unread next f s t h = absurd h
 file_apart name (Whole bytes) next f s t h = f bytes s t h
-file_apart name Long next f s t h = at 5 s five_plain h.0
+file_apart name Long next f s t h = at exit.TooLong s long_plain h.0
 
 bytes_apart : (o : Option (List ℕ)) (seen : Seen) (next : List ℕ → Reply) → ((bytes : List ℕ) → IsPlainApart (next bytes)) → IsPlainApart (WithBytes o seen next)
 bytes_apart None seen next f s t h = f [] s t h
@@ -102,12 +104,12 @@ optional_apart None seen next f s t h = f None s t h
 optional_apart (Some name) seen next f s t h = file_apart name seen (λ bytes. next (Some bytes)) (λ bytes. f (Some bytes)) s t h
 
 image_apart : (o : Option (List ℕ)) (reply : Reply) → IsPlainApart reply → IsPlainApart (ImageBy o reply)
-image_apart (Some refusal) reply f s t h = at 6 s six_plain h.0
+image_apart (Some refusal) reply f s t h = at exit.BadFirmware s firmware_plain h.0
 image_apart None reply f s t h = f s t h
 
 list_apart : (x : Result (List Entry) AssumeText) (next : List Entry → Reply) → ((A : List Entry) → IsPlainApart (next A)) → IsPlainApart (ListBy x next)
 list_apart (Ok A) next f s t h = f A s t h
-list_apart (Err fault) next f s t h = refuses_apart 7 seven_plain (assumptions_refused fault) s t h
+list_apart (Err fault) next f s t h = refuses_apart exit.BadAssumptions assumptions_plain (assumptions_refused fault) s t h
 
 with_list_apart : (list : Option (List ℕ)) (next : List Entry → Reply) → ((A : List Entry) → IsPlainApart (next A)) → IsPlainApart (WithList list next)
 with_list_apart None next f = f []
@@ -115,64 +117,64 @@ with_list_apart (Some bytes) next f = list_apart (entries_in bytes) next f
 
 attained_apart : (next : Reply) (attained : Bool) → IsPlainApart next → IsPlainApart (AttainedBy next attained)
 attained_apart next true f s t h = f s t h
-attained_apart next false f s t h = at 1 s one_plain h.0
+attained_apart next false f s t h = at exit.Rejected s rejected_plain h.0
 
 witness_apart : (words : Program) (A : List Entry) (next : Reply) (bound : ℕ) (w : Option Plan) → IsPlainApart next → IsPlainApart (WitnessReply words A next bound w)
 witness_apart words A next bound None f s t h = f s t h
 witness_apart words A next bound (Some plan) f s t h = attained_apart next (attains bound (replay_of words A plan)) f s t h
 
 verdict_apart : (words : Program) (A : List Entry) (next : Claim → Reply) (c : Claim) (v : Verdict) → IsPlainApart (next c) → IsPlainApart (VerdictReply words A next c v)
-verdict_apart words A next c (Rejected reason) f s t h = at 1 s one_plain h.0
+verdict_apart words A next c (Rejected reason) f s t h = at exit.Rejected s rejected_plain h.0
 verdict_apart words A next c (Accepted bound) f s t h = witness_apart words A (next c) bound c.witness f s t h
 
 certificate_apart : (words : Program) (A : List Entry) (next : Claim → Reply) (x : Result Claim CertFault) → ((c : Claim) → IsPlainApart (next c)) → IsPlainApart (CertificateReply words A next x)
-certificate_apart words A next (Err fault) f s t h = refuses_apart 8 eight_plain (certificate_refused fault) s t h
+certificate_apart words A next (Err fault) f s t h = refuses_apart exit.BadCertificate certificate_plain (certificate_refused fault) s t h
 certificate_apart words A next (Ok c) f s t h = verdict_apart words A next c h.verdict (f c) s t h.reply
 
-accepted_apart : (text : Claim → List ℕ) (c : Claim) → IsPlainApart (Says 0 (text c))
-accepted_apart text c s t h = at 0 s zero_plain h.0
+accepted_apart : (text : Claim → List ℕ) (c : Claim) → IsPlainApart (Says exit.Done (text c))
+accepted_apart text c s t h = at exit.Done s done_plain h.0
 
 clear_apart : (words : Program) (c : Claim) (v : ClearVerdict) → IsPlainApart (ClearSays words c v)
-clear_apart words c clear.Clear s t h = at 0 s zero_plain h.0
-clear_apart words c (clear.Unclear node pc) s t h = at 13 s thirteen_plain h.0
+clear_apart words c clear.Clear s t h = at exit.Done s done_plain h.0
+clear_apart words c (clear.Unclear node pc) s t h = at exit.Unclear s unclear_plain h.0
 
 simulate_apart : (words : Program) (A : List Entry) (steps : ℕ) (x : Result Setup DevicesFault) → IsPlainApart (SimulateReply words A steps x)
-simulate_apart words A steps (Err fault) s t h = refuses_apart 14 fourteen_plain (devices_refused fault) s t h
-simulate_apart words A steps (Ok setup) s t h = at 0 s zero_plain h.0
+simulate_apart words A steps (Err fault) s t h = refuses_apart exit.BadDevices devices_plain (devices_refused fault) s t h
+simulate_apart words A steps (Ok setup) s t h = at exit.Done s done_plain h.0
 
 why_not_plain : (r : Refusal) → IsReplyPlain (why_not_status r)
-why_not_plain (refusal.UnresolvedJump pc) = ten_plain
-why_not_plain (refusal.Recursion pc) = ten_plain
-why_not_plain (refusal.ReEntry v pc) = ten_plain
-why_not_plain (refusal.UntrackedSp pc) = ten_plain
-why_not_plain (refusal.Unsupported pc) = ten_plain
-why_not_plain (refusal.TooDeep pc need) = ten_plain
-why_not_plain (refusal.TooLarge limit) = ten_plain
-why_not_plain (refusal.UnknownPointer pc) = ten_plain
-why_not_plain (refusal.Spent n) = eleven_plain
-why_not_plain refusal.Memory = ten_plain
+why_not_plain (refusal.UnresolvedJump pc) = refused_plain
+why_not_plain (refusal.Recursion pc) = refused_plain
+why_not_plain (refusal.ReEntry v pc) = refused_plain
+why_not_plain (refusal.UntrackedSp pc) = refused_plain
+why_not_plain (refusal.Unsupported pc) = refused_plain
+why_not_plain (refusal.TooDeep pc need) = refused_plain
+why_not_plain (refusal.TooLarge limit) = refused_plain
+why_not_plain (refusal.UnknownPointer pc) = refused_plain
+why_not_plain (refusal.Spent n) = spent_plain
+why_not_plain refusal.Memory = refused_plain
 
 why_not_apart : (words : Program) (A : List Entry) (steps : Option ℕ) → IsPlainApart (WhyNotReply words A steps)
 why_not_apart words A steps s t h = refuses_apart (why_not_status h.refusal) (why_not_plain h.refusal) (why_not_text words h.refusal) s t h.says
 
 analyse_apart : (words : Program) (A : List Entry) (steps : Option ℕ) → IsPlainApart (AnalyseReply words A steps)
-analyse_apart words A steps s t (inl h) = at 0 s zero_plain h.says.0
+analyse_apart words A steps s t (inl h) = at exit.Done s done_plain h.says.0
 analyse_apart words A steps s t (inr h) = why_not_apart words A steps s t h
 
 demo_apart : (size : ℕ) → IsPlainApart (DemoReply size)
-demo_apart size s t (inl h) = at 0 s zero_plain h.says.0
+demo_apart size s t (inl h) = at exit.Done s done_plain h.says.0
 demo_apart size s t (inr h) = why_not_apart (demo_words size) [] None s t h
 
 run_apart : (x : Result Replayed ℕ) → IsPlainApart (RunReply x)
-run_apart (Err step) s t h = at 9 s nine_plain h.0
-run_apart (Ok r) s t h = at 0 s zero_plain h.0
+run_apart (Err step) s t h = at exit.BadSchedule s schedule_plain h.0
+run_apart (Ok r) s t h = at exit.Done s done_plain h.0
 
 ends_apart : (ls : List TextLine) (place : ℕ) (reply : Reply) → IsPlainApart reply → IsPlainApart (EndsBefore ls place reply)
 ends_apart [] place reply f s t h = f s t h
-ends_apart (l ∷ ls) place reply f s t h = at 9 s nine_plain h.0
+ends_apart (l ∷ ls) place reply f s t h = at exit.BadSchedule s schedule_plain h.0
 
 schedule_apart : (words : Program) (A : List Entry) (x : Result (Plan × Place) ℕ) → IsPlainApart (ScheduleReply words A x)
-schedule_apart words A (Err place) s t h = at 9 s nine_plain h.0
+schedule_apart words A (Err place) s t h = at exit.BadSchedule s schedule_plain h.0
 schedule_apart words A (Ok r) s t h = ends_apart r.1.rest r.1.at (RunReply (replay_of words A r.0)) (run_apart (replay_of words A r.0)) s t h
 
 flash_apart : (c : Command) (firmware bytes : List ℕ) (words : Program) (A : List Entry) → IsPlainApart (FlashReply c firmware bytes words A)
@@ -183,14 +185,14 @@ flash_apart (Run device f k a) firmware bytes words A = schedule_apart words A (
 flash_apart (Report device f k a json) firmware bytes words A =
     certificate_apart words A (AcceptedReply (Report device f k a json) firmware words A) (certificate_in bytes) (accepted_apart (told_of (Report device f k a json) firmware))
 flash_apart (Explain device f k a) firmware bytes words A =
-    certificate_apart words A (AcceptedReply (Explain device f k a) firmware words A) (certificate_in bytes) (λ c s t h. at 0 s zero_plain h.says.0)
+    certificate_apart words A (AcceptedReply (Explain device f k a) firmware words A) (certificate_in bytes) (λ c s t h. at exit.Done s done_plain h.says.0)
 flash_apart (Clear device f k) firmware bytes words A = certificate_apart words [] (ClearReply words) (certificate_in bytes) (λ c s t h. clear_apart words c h.verdict s t h.says)
 flash_apart (Premises device f k a false) firmware bytes words A =
-    certificate_apart words A (AcceptedReply (Premises device f k a false) firmware words A) (certificate_in bytes) (λ c s t h. at 0 s zero_plain h.says.0)
+    certificate_apart words A (AcceptedReply (Premises device f k a false) firmware words A) (certificate_in bytes) (λ c s t h. at exit.Done s done_plain h.says.0)
 flash_apart (Premises device f k a true) firmware bytes words A =
-    certificate_apart words A (AcceptedReply (Premises device f k a true) firmware words A) (certificate_in bytes) (λ c s t h. at 0 s zero_plain h.says.0)
+    certificate_apart words A (AcceptedReply (Premises device f k a true) firmware words A) (certificate_in bytes) (λ c s t h. at exit.Done s done_plain h.says.0)
 flash_apart (Attain device f k a trials) firmware bytes words A =
-    certificate_apart words A (AcceptedReply (Attain device f k a trials) firmware words A) (certificate_in bytes) (λ c s t h. at 0 s zero_plain h.says.0)
+    certificate_apart words A (AcceptedReply (Attain device f k a trials) firmware words A) (certificate_in bytes) (λ c s t h. at exit.Done s done_plain h.says.0)
 flash_apart (Simulate device f k a steps) firmware bytes words A = simulate_apart words A steps (setup_in bytes)
 flash_apart (Demo size) firmware bytes words A = demo_apart size
 
@@ -223,27 +225,27 @@ seen_is (Some name) bytes b e = cc
 
 -- ---- answers
 
-settle : (c : Command) (holds : List ℕ → Held) (before after status : ℕ) (text : List ℕ) → after ≡ before → IsAnswered c holds status text → IsSettledAnswer (Some c) holds before after status text
+settle : (c : Command) (holds : List ℕ → Held) (before after : ℕ) (status : Status) (text : List ℕ) → after ≡ before → IsAnswered c holds status text → IsSettledAnswer (Some c) holds before after status text
 settle c holds before after status text quiet h =
     let plain = reply_apart c h.seen status text h.reply in
     record {
       quiet = quiet;
       due = h;
-      usage_alone = (λ e. absurd (plain.two e), λ e. absurd (let wrong = e in cc));
-      read = plain.three;
-      write = plain.four;
-      ample = plain.twelve;
+      usage_alone = (λ e. absurd (plain.usage e), λ e. absurd (let wrong = e in cc));
+      read = plain.read;
+      write = plain.write;
+      ample = plain.ample;
     }
 
 module _ (hold : AcceptingRepliesHold) (exact : RepliesAreExact) where
-  worked : (c : Command) (holds : List ℕ → Held) (before after : ℕ) (blamed : Blamed) (firmware second : List ℕ) (list : Option (List ℕ)) (status : ℕ) (text : List ℕ)
+  worked : (c : Command) (holds : List ℕ → Held) (before after : ℕ) (blamed : Blamed) (firmware second : List ℕ) (list : Option (List ℕ)) (status : Status) (text : List ℕ)
       → AreBytes c holds firmware second list × (after ≡ before)
-      → WorkReply c firmware second list status text → (status ≡ 0 → HasWords c firmware)
+      → WorkReply c firmware second list status text → (status ≡ exit.Done → HasWords c firmware)
       → IsOutcome (Some c) holds before after blamed status text
   worked c holds before after blamed firmware second list status text read work words =
       let seen = seen_whole c firmware second list in
       let reply = whole_reply c firmware second list status text read.0.with_firmware read.0.with_second read.0.with_list work in
-      let has : status ≡ 0 → ReadsWords c seen = λ zero fw e. subst (λ b. HasWords c b) (seen_is (name_of c Firmware) firmware fw e) (words zero) in
+      let has : status ≡ exit.Done → ReadsWords c seen = λ zero fw e. subst (λ b. HasWords c b) (seen_is (name_of c Firmware) firmware fw e) (words zero) in
       inl (settle c holds before after status text read.1
       (record {
         seen = seen;
@@ -255,23 +257,23 @@ module _ (hold : AcceptingRepliesHold) (exact : RepliesAreExact) where
 
   pub worked_result : (c : Command) (holds : List ℕ → Held) (before after : ℕ) (blamed : Blamed) {E : Type 0} (firmware second : List ℕ) (list : Option (List ℕ)) (x : Result Answered E)
       → AreBytes c holds firmware second list × (after ≡ before)
-      → IfOk x (λ r. WorkReply c firmware second list r.status r.text.items) → IfOk x (λ r. r.status ≡ 0 → HasWords c firmware)
+      → IfOk x (λ r. WorkReply c firmware second list r.status r.text.items) → IfOk x (λ r. r.status ≡ exit.Done → HasWords c firmware)
       → MatchResult x (λ r. IsOutcome (Some c) holds before after blamed r.status r.text.items) (λ e. IsCutOff (Some c) holds before after blamed)
   worked_result c holds before after blamed firmware second list (Ok r) read work words = worked c holds before after blamed firmware second list r.status r.text.items read work words
   worked_result c holds before after blamed firmware second list (Err e) read work words = inl read.1
 
-pub failed : (o : Option Command) (holds : List ℕ → Held) (before after : ℕ) (blamed : Blamed) (name : List ℕ) (status : ℕ) (text : List ℕ)
-    → IsReadFault o holds before after blamed name → status ≡ 3 → text ≡ read_fault name → IsOutcome o holds before after blamed status text
-failed o holds before after blamed name status text fault three told = inr (record { three = three; name = name; fault = fault; text_is = told })
+pub failed : (o : Option Command) (holds : List ℕ → Held) (before after : ℕ) (blamed : Blamed) (name : List ℕ) (status : Status) (text : List ℕ)
+    → IsReadFault o holds before after blamed name → status ≡ exit.ReadFault → text ≡ read_fault name → IsOutcome o holds before after blamed status text
+failed o holds before after blamed name status text fault three told = inr (record { is_fault = three; name = name; fault = fault; text_is = told })
 
 -- ---- where memory is wanting
 
 -- ---- where the whole text was written
 
-pub written_of : (o : Option Command) (holds : List ℕ → Held) (before after : ℕ) (blamed : Blamed) (status : ℕ) (text : List ℕ) (old new : Option (List ℕ)) → IsOutcome o holds before after blamed status text
-    → status ≢ 3 → new ≡ grown old text → IsReplyWritten o holds status old new
+pub written_of : (o : Option Command) (holds : List ℕ → Held) (before after : ℕ) (blamed : Blamed) (status : Status) (text : List ℕ) (old new : Option (List ℕ)) → IsOutcome o holds before after blamed status text
+    → status ≢ exit.ReadFault → new ≡ grown old text → IsReplyWritten o holds status old new
 written_of o holds before after blamed status text old new (inl s) apart grew = record { text = text; due = s.due; grew = grew }
-written_of o holds before after blamed status text old new (inr t) apart grew = absurd (apart t.three)
+written_of o holds before after blamed status text old new (inr t) apart grew = absurd (apart t.is_fault)
 
-pub zero_apart : (status : ℕ) → status ≡ 0 → status ≢ 3
-zero_apart status zero three = let wrong : ◌≡◌ {A = ℕ} 0 3 = sym zero ∙ three in cc
+pub zero_apart : (status : Status) → status ≡ exit.Done → status ≢ exit.ReadFault
+zero_apart status zero three = let wrong : ◌≡◌ {A = Status} exit.Done exit.ReadFault = sym zero ∙ three in cc

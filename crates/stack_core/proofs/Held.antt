@@ -2,6 +2,8 @@
 use Rattle.std.proofs.Common.{◌≡◌, ◌≤◌, ◌<◌, ℕ, List, [], length, Option, Some, None, refl, sym, ap, ◌∙◌, subst, arith}
 use Rattle.sb_base.specs.Outside.{Held, Bytes, Gives, MayExceed}
 use Rattle.commands.specs.Commands.{Command, Analyse, Simulate, Firmware, Second, Assumptions, name_of}
+use Rattle.replies.specs.declared.status.Status.{Status}
+use Rattle.replies.specs.declared.status.Status.TheVariants as exit
 use Rattle.replies.specs.Reading.{Seen, Unread, Whole, Long, Contents, firmware_cap, certificate_cap, devices_cap, assumption_cap, second_cap, Agrees, AgreesUnder, AllAgree}
 use Rattle.replies.specs.Reply.{Reply, WithFile, WithBytes, WithOptional, WorkReply, IsReply}
 use Rattle.replies.specs.Headline.{IsSeen, AreRead, Holds, HoldsAsRead, IsLeastCertificate, IsSimulated, Headline, AcceptsExactly, IsExact}
@@ -20,14 +22,14 @@ no_longer : (h : Held) (cap : ℕ) (bytes : List ℕ) → MayExceed h cap → h 
 no_longer h cap bytes long is fits = let more : cap < length bytes = subst (λ x. MayExceed x cap) is long in omega (arith, more, fits)
 
 -- what is held was read, and the reply follows
-file_held : (n : List ℕ) (s : Seen) (h : Held) (cap : ℕ) (bytes : List ℕ) (next : List ℕ → Reply) (status : ℕ) (text : List ℕ) → WithFile n s next status text → Agrees h cap s → h ≡ Bytes bytes
+file_held : (n : List ℕ) (s : Seen) (h : Held) (cap : ℕ) (bytes : List ℕ) (next : List ℕ → Reply) (status : Status) (text : List ℕ) → WithFile n s next status text → Agrees h cap s → h ≡ Bytes bytes
     → length bytes ≤ cap → (s ≡ Whole bytes) × next bytes status text
 file_held n Unread h cap bytes next status text reply agrees is fits = absurd reply
 file_held n (Whole b) h cap bytes next status text reply agrees is fits =
     let e : b ≡ bytes = held_is h cap (Whole b) b bytes agrees refl is in (ap Whole e, subst (λ x. next x status text) e reply)
 file_held n Long h cap bytes next status text reply agrees is fits = absurd (no_longer h cap bytes agrees is fits)
 
-optional_held : (holds : List ℕ → Held) (o : Option (List ℕ)) (s : Seen) (list : Option (List ℕ)) (next : Option (List ℕ) → Reply) (status : ℕ) (text : List ℕ) → WithOptional o s next status text
+optional_held : (holds : List ℕ → Held) (o : Option (List ℕ)) (s : Seen) (list : Option (List ℕ)) (next : Option (List ℕ) → Reply) (status : Status) (text : List ℕ) → WithOptional o s next status text
     → AgreesUnder holds assumption_cap o s → AreHeld holds o list → IsSeen o s list
 optional_held holds None s list next status text reply agrees held = held
 optional_held holds (Some n) s None next status text reply agrees held = absurd held
@@ -35,12 +37,12 @@ optional_held holds (Some n) s (Some b) next status text reply agrees held =
     (file_held n s (holds n) assumption_cap b (λ x. next (Some x)) status text reply agrees held.0 held.1).0
 
 -- the answer to this command, of which one was due
-due_to : (o : Option Command) (c : Command) (holds : List ℕ → Held) (status : ℕ) (text : List ℕ) → o ≡ Some c → IsReplyDue o holds status text → IsAnswered c holds status text
+due_to : (o : Option Command) (c : Command) (holds : List ℕ → Held) (status : Status) (text : List ℕ) → o ≡ Some c → IsReplyDue o holds status text → IsAnswered c holds status text
 due_to o c holds status text e h = subst (λ x. IsReplyDue x holds status text) e h
 
 -- ---- commands that judge
 
-judged_headline : (judge : Command) (fw cert : List ℕ) (assume : Option (List ℕ)) (seen : Contents) (status : ℕ) (text : List ℕ) → Judges judge fw cert assume → Headline judge seen status text → status ≡ 0
+judged_headline : (judge : Command) (fw cert : List ℕ) (assume : Option (List ℕ)) (seen : Contents) (status : Status) (text : List ℕ) → Judges judge fw cert assume → Headline judge seen status text → status ≡ exit.Done
     → HoldsAsRead judge assume seen text
 judged_headline _ _ _ _ seen status text (checks device fw cert assume) h zero = h zero
 judged_headline _ _ _ _ seen status text (reports device fw cert assume json) h zero = h zero
@@ -49,7 +51,7 @@ judged_headline _ _ _ _ seen status text (clears device fw cert) h zero = h zero
 judged_headline _ _ _ _ seen status text (lists_premises device fw cert assume why) h zero = h zero
 judged_headline _ _ _ _ seen status text (completes device fw cert assume trials) h zero = (h zero).holds
 
-judged_exact : (judge : Command) (fw cert : List ℕ) (assume : Option (List ℕ)) (seen : Contents) (status : ℕ) → Judges judge fw cert assume → IsExact judge seen status → AcceptsExactly judge assume seen status
+judged_exact : (judge : Command) (fw cert : List ℕ) (assume : Option (List ℕ)) (seen : Contents) (status : Status) → Judges judge fw cert assume → IsExact judge seen status → AcceptsExactly judge assume seen status
 judged_exact _ _ _ _ seen status (checks device fw cert assume) h = h
 judged_exact _ _ _ _ seen status (reports device fw cert assume json) h = h
 judged_exact _ _ _ _ seen status (explains device fw cert assume) h = h
@@ -69,7 +71,7 @@ judged_names _ _ _ _ (completes device fw cert assume trials) = (refl, refl, ref
 agrees_as : (holds : List ℕ → Held) (cap cap' : ℕ) (o : Option (List ℕ)) (name : List ℕ) (s : Seen) → o ≡ Some name → cap ≡ cap' → AgreesUnder holds cap o s → Agrees (holds name) cap' s
 agrees_as holds cap cap' o name s e caps h = subst (λ x. Agrees (holds name) x s) caps (subst (λ x. AgreesUnder holds cap x s) e h)
 
-written_headline : (o : Option Command) (holds : List ℕ → Held) (status : ℕ) (before after : Option (List ℕ)) → IsReplyWritten o holds status before after → HeldHeadline o holds status before after
+written_headline : (o : Option Command) (holds : List ℕ → Held) (status : Status) (before after : Option (List ℕ)) → IsReplyWritten o holds status before after → HeldHeadline o holds status before after
 written_headline o holds status before after w judge firmware certificate list j zero =
     let d = due_to o judge holds status w.text j.named w.due in
     let names = judged_names judge j.firmware_name j.certificate_name j.assume j.judges in
@@ -88,7 +90,7 @@ written_headline o holds status before after w judge firmware certificate list j
     )
 
 -- bytes that are held were read, where the reply to what was read isn't that a file is too long
-are_read : (c : Command) (holds : List ℕ → Held) (seen : Contents) (fw cert : List ℕ) (assume : Option (List ℕ)) (firmware certificate : List ℕ) (list : Option (List ℕ)) (cap status : ℕ) (text : List ℕ)
+are_read : (c : Command) (holds : List ℕ → Held) (seen : Contents) (fw cert : List ℕ) (assume : Option (List ℕ)) (firmware certificate : List ℕ) (list : Option (List ℕ)) (cap : ℕ) (status : Status) (text : List ℕ)
     → name_of c Firmware ≡ Some fw → name_of c Second ≡ Some cert → name_of c Assumptions ≡ assume → second_cap c ≡ cap → AllAgree c holds seen → IsReply c seen status text
     → holds fw ≡ Bytes firmware → length firmware ≤ firmware_cap → holds cert ≡ Bytes certificate → length certificate ≤ cap → AreHeld holds assume list → AreRead assume seen firmware certificate list
 are_read c holds seen fw cert assume firmware certificate list cap status text names second third caps agree reply fh ff ch cf lh =
@@ -104,7 +106,7 @@ are_read c holds seen fw cert assume firmware certificate list cap status text n
     let last = optional_held holds assume seen.assumptions list (λ l. work firmware certificate l) status text next.1 (subst (λ x. AgreesUnder holds assumption_cap x seen.assumptions) third (agree Assumptions)) lh in
     record { loaded = record { firmware_read = first.0; list_read = last }; second_read = next.0 }
 
-written_exact : (o : Option Command) (holds : List ℕ → Held) (status : ℕ) (before after : Option (List ℕ)) → IsReplyWritten o holds status before after → IsHeldExact o holds status
+written_exact : (o : Option Command) (holds : List ℕ → Held) (status : Status) (before after : Option (List ℕ)) → IsReplyWritten o holds status before after → IsHeldExact o holds status
 written_exact o holds status before after w judge firmware certificate list words claim A j stand =
     let d = due_to o judge holds status w.text j.named w.due in
     let names = judged_names judge j.firmware_name j.certificate_name j.assume j.judges in
@@ -114,7 +116,7 @@ written_exact o holds status before after w judge firmware certificate list word
 
 -- ---- analyses
 
-written_least : (o : Option Command) (holds : List ℕ → Held) (status : ℕ) (before after : Option (List ℕ)) → IsReplyWritten o holds status before after → HeldLeast o holds status before after
+written_least : (o : Option Command) (holds : List ℕ → Held) (status : Status) (before after : Option (List ℕ)) → IsReplyWritten o holds status before after → HeldLeast o holds status before after
 written_least o holds status before after w device steps firmware list a zero =
     let d = due_to o (Analyse device a.firmware_name a.assume steps) holds status w.text a.named w.due in
     let h = d.headline zero in
@@ -122,7 +124,7 @@ written_least o holds status before after w device steps firmware list a zero =
     let l : h.list ≡ list = held_list holds a.assume d.seen.assumptions h.list list (d.agrees Assumptions) h.read.list_read a.list_held in
     (w.text, subst (λ x. IsLeastCertificate device firmware x w.text) l (subst (λ x. IsLeastCertificate device x h.list w.text) f h.certificate), w.grew)
 
-written_end : (o : Option Command) (holds : List ℕ → Held) (status : ℕ) (before after : Option (List ℕ)) → IsReplyWritten o holds status before after → IsHeldEnd o holds status
+written_end : (o : Option Command) (holds : List ℕ → Held) (status : Status) (before after : Option (List ℕ)) → IsReplyWritten o holds status before after → IsHeldEnd o holds status
 written_end o holds status before after w device steps firmware list words A a mean =
     let c = Analyse device a.firmware_name a.assume steps in
     let d = due_to o (Analyse device a.firmware_name a.assume steps) holds status w.text a.named w.due in
@@ -133,7 +135,7 @@ written_end o holds status before after w device steps firmware list words A a m
 
 -- ---- simulations
 
-written_simulated : (o : Option Command) (holds : List ℕ → Held) (status : ℕ) (before after : Option (List ℕ)) → IsReplyWritten o holds status before after → HeldSimulated o holds status before after
+written_simulated : (o : Option Command) (holds : List ℕ → Held) (status : Status) (before after : Option (List ℕ)) → IsReplyWritten o holds status before after → HeldSimulated o holds status before after
 written_simulated o holds status before after w device steps firmware devices list a zero =
     let d = due_to o (Simulate device a.firmware_name a.devices_name a.assume steps) holds status w.text a.named w.due in
     let h = d.headline zero in
@@ -146,7 +148,7 @@ written_simulated o holds status before after w device steps firmware devices li
       w.grew,
     )
 
-written_devices : (o : Option Command) (holds : List ℕ → Held) (status : ℕ) (before after : Option (List ℕ)) → IsReplyWritten o holds status before after → AreHeldDevices o holds status
+written_devices : (o : Option Command) (holds : List ℕ → Held) (status : Status) (before after : Option (List ℕ)) → IsReplyWritten o holds status before after → AreHeldDevices o holds status
 written_devices o holds status before after w device steps firmware devices list words A a mean =
     let c = Simulate device a.firmware_name a.devices_name a.assume steps in
     let d = due_to o (Simulate device a.firmware_name a.devices_name a.assume steps) holds status w.text a.named w.due in

@@ -30,6 +30,8 @@ use Rattle.cert_check.specs.declared.verdict.Verdict.{Verdict}
 use Rattle.cert_check.specs.Verdict.{IsFamilyOf, IsReason}
 use Rattle.basics.specs.Booleans.{never_both}
 use Rattle.cert_check.specs.declared.verdict.Verdict.TheVariants.{Accepted, Rejected}
+use Rattle.replies.specs.declared.status.Status.{Status}
+use Rattle.replies.specs.declared.status.Status.TheVariants as exit
 use Rattle.replies.specs.Firmware.{words_by, outside_fault, fault_or, firmware_fault, firmware_words, firmware_names, firmware_end}
 use Rattle.replies.specs.Texts.{firmware_outside, witness_rejected, rejected, assumptions_refused, certificate_refused}
 use Rattle.replies.specs.Reply.{Reply, Says, Refuses, ListBy, WithList, attains, AttainedBy, WitnessReply, VerdictReply, JudgedReply, CertificateReply, report_by, ExplainReply, PremisesReply, WhyReply, PlacesReply, AttainReply, AcceptedReply, FlashReply}
@@ -48,18 +50,18 @@ use Rattle.stack_core.specs.declared.loading.Listing.TheVariants.{Unlisted}
 
 -- ---- a certificate's schedule
 
-by_missing : (next : Reply) (attained : Bool) (text : List ℕ) → attained ≡ false → text ≡ witness_rejected → AttainedBy next attained 1 text
-by_missing next attained text e t = subst (λ b. AttainedBy next b 1 text) (sym e) (refl, t)
+by_missing : (next : Reply) (attained : Bool) (text : List ℕ) → attained ≡ false → text ≡ witness_rejected → AttainedBy next attained exit.Rejected text
+by_missing next attained text e t = subst (λ b. AttainedBy next b exit.Rejected text) (sym e) (refl, t)
 
 missed_reply : (words : Program) (A : List Entry) (next : Reply) (bound : ℕ) (witness : Option Plan) (text : List ℕ) → (IsAttained words A bound witness → ⊥) → text ≡ witness_rejected
-    → WitnessReply words A next bound witness 1 text
+    → WitnessReply words A next bound witness exit.Rejected text
 missed_reply words A next bound None text a t = absurd (a tt)
 missed_reply words A next bound (Some plan) text a t =
     by_missing next (attains bound (replay_of words A plan)) text (false_from_ne_true (attains bound (replay_of words A plan)) (λ h. a (attained_by bound (replay_of words A plan) h))) t
 
 -- a certificate whose schedule misses its bound
 pub missed_judged : (words : Program) (A : List Entry) (next : Claim → Reply) (c : Claim) (family : Worked) (text : List ℕ) → IsFamilyOf words A c family
-    → (b : Bool) → (IsTrue b ↔ IsAttained words A c.bound c.witness) → b ≡ false → text ≡ witness_rejected → JudgedReply words A next c 1 text
+    → (b : Bool) → (IsTrue b ↔ IsAttained words A c.bound c.witness) → b ≡ false → text ≡ witness_rejected → JudgedReply words A next c exit.Rejected text
 missed_judged words A next c family text f b told missed t =
     record {
       verdict = Accepted c.bound;
@@ -69,7 +71,7 @@ missed_judged words A next c family text f b told missed t =
 
 -- a certificate that fails a condition
 pub rejected_judged : (words : Program) (A : List Entry) (next : Claim → Reply) (c : Claim) (r : Reason) (text : List ℕ) → IsReason words A c r → text ≡ rejected r
-    → JudgedReply words A next c 1 text
+    → JudgedReply words A next c exit.Rejected text
 rejected_judged words A next c r text h t = record { verdict = Rejected r; is = h; reply = (refl, t) }
 
 pub copied_is_some : (o : Option (Bor Plan)) (w : Option Plan) → option_copied o ≡ w → is_some o ≡ is_some w
@@ -80,36 +82,32 @@ copied_is_some (Some s) (Some p) e = refl
 
 -- ---- a certificate's text
 
-refused_as : (words : Program) (A : List Entry) (next : Claim → Reply) (x : Result Claim CertFault) (f : CertFault) (text : List ℕ) → x ≡ Err f → certificate_refused f ≡ Some text
-    → CertificateReply words A next x 8 text
-refused_as words A next x f text e t = subst (λ y. CertificateReply words A next y 8 text) (sym e) (subst (λ o. Refuses 8 o 8 text) (sym t) (refl, refl))
-
 -- one that is
 pub read_claim : {E : Type 0} (words : Program) (A : List Entry) (x : Result Claim CertFault) (c : Claim) (j : Result Judged E) → x ≡ Ok c → IfOk j (IsJudgedAs words A (Ok c)) → IfOk j (IsJudgedAs words A x)
 read_claim words A x c j e h = subst (λ y. IfOk j (IsJudgedAs words A y)) (sym e) h
 
 -- where an accepted certificate is answered alike, so is each text
-attained_alike : (next other : Reply) (attained : Bool) (status : ℕ) (text : List ℕ) → (next status text → other status text) → AttainedBy next attained status text → AttainedBy other attained status text
+attained_alike : (next other : Reply) (attained : Bool) (status : Status) (text : List ℕ) → (next status text → other status text) → AttainedBy next attained status text → AttainedBy other attained status text
 attained_alike next other true status text f h = f h
 attained_alike next other false status text f h = h
 
-witness_alike : (words : Program) (A : List Entry) (next other : Reply) (bound : ℕ) (w : Option Plan) (status : ℕ) (text : List ℕ) → (next status text → other status text)
+witness_alike : (words : Program) (A : List Entry) (next other : Reply) (bound : ℕ) (w : Option Plan) (status : Status) (text : List ℕ) → (next status text → other status text)
     → WitnessReply words A next bound w status text → WitnessReply words A other bound w status text
 witness_alike words A next other bound None status text f h = f h
 witness_alike words A next other bound (Some plan) status text f h = attained_alike next other (attains bound (replay_of words A plan)) status text f h
 
-verdict_alike : (words : Program) (A : List Entry) (next other : Claim → Reply) (c : Claim) (v : Verdict) (status : ℕ) (text : List ℕ) → (next c status text → other c status text)
+verdict_alike : (words : Program) (A : List Entry) (next other : Claim → Reply) (c : Claim) (v : Verdict) (status : Status) (text : List ℕ) → (next c status text → other c status text)
     → VerdictReply words A next c v status text → VerdictReply words A other c v status text
 verdict_alike words A next other c (Rejected reason) status text f h = h
 verdict_alike words A next other c (Accepted bound) status text f h = witness_alike words A (next c) (other c) bound c.witness status text f h
 
-told_alike : (words : Program) (A : List Entry) (next other : Claim → Reply) (x : Result Claim CertFault) (status : ℕ) (text : List ℕ) → ((c : Claim) → next c status text → other c status text)
+told_alike : (words : Program) (A : List Entry) (next other : Claim → Reply) (x : Result Claim CertFault) (status : Status) (text : List ℕ) → ((c : Claim) → next c status text → other c status text)
     → CertificateReply words A next x status text → CertificateReply words A other x status text
 told_alike words A next other (Err e) status text f h = h
 told_alike words A next other (Ok c) status text f h = record { verdict = h.verdict; is = h.is; reply = verdict_alike words A next other c h.verdict status text (f c) h.reply }
 
 -- what follows an accepted certificate
-pub accepted_reply : (words : Program) (A : List Entry) (next : Claim → Reply) (x : Result Claim CertFault) (c : Claim) (status : ℕ) (text : List ℕ) → (x ≡ Ok c) × IsValid words A c → next c status text
+pub accepted_reply : (words : Program) (A : List Entry) (next : Claim → Reply) (x : Result Claim CertFault) (c : Claim) (status : Status) (text : List ℕ) → (x ≡ Ok c) × IsValid words A c → next c status text
     → CertificateReply words A next x status text
 accepted_reply words A next x c status text h k =
     subst (λ y. CertificateReply words A next y status text) (sym h.0)
@@ -123,13 +121,13 @@ accepted_result words A next x c (Ok a) h k = accepted_reply words A next x c a.
 
 -- ---- a certificate that is written with a schedule
 
-pub attain_reply : (words : Program) (A : List Entry) (n : ℕ) (c d : Claim) (text : List ℕ) → IsCompleted words A n c d → IsValid words A d → text ≡ text_of d → AttainReply words A n c 0 text
+pub attain_reply : (words : Program) (A : List Entry) (n : ℕ) (c d : Claim) (text : List ℕ) → IsCompleted words A n c d → IsValid words A d → text ≡ text_of d → AttainReply words A n c exit.Done text
 attain_reply words A n c d text h valid told =
     record { claim = d; completed = h; attained = subst (λ (b : ℕ). IsAttained words A b d.witness) (ap (λ (x : Claim). x.bound) h.same) valid.attained; says = (refl, told) }
 
 -- ---- an analysis
 
-pub refused_by : (n : ℕ) (o : Option (List ℕ)) (status : ℕ) (text : List ℕ) → status ≡ n → o ≡ Some text → Refuses n o status text
+pub refused_by : (n : Status) (o : Option (List ℕ)) (status : Status) (text : List ℕ) → status ≡ n → o ≡ Some text → Refuses n o status text
 refused_by n o status text s t = subst (λ x. Refuses n x status text) (sym t) (s, refl)
 
 -- ---- the words of a firmware
@@ -146,14 +144,14 @@ has_words (Attain device name cert assume trials) firmware h = h
 has_words (Simulate device name devices assume steps) firmware h = h
 has_words (Demo size) firmware h = tt
 
-pub result_has_words : {E : Type 0} (x : Result Answered E) (command : Command) (firmware : List ℕ) → IfOk x (λ r. r.status ≡ 0 → AreWords (firmware_words (device_for command) firmware))
-    → IfOk x (λ r. r.status ≡ 0 → HasWords command firmware)
+pub result_has_words : {E : Type 0} (x : Result Answered E) (command : Command) (firmware : List ℕ) → IfOk x (λ r. r.status ≡ exit.Done → AreWords (firmware_words (device_for command) firmware))
+    → IfOk x (λ r. r.status ≡ exit.Done → HasWords command firmware)
 result_has_words (Err e) command firmware h = tt
 result_has_words (Ok r) command firmware h = λ zero. has_words command firmware (h zero)
 
 -- ---- an assumption file
 
-pub unlisted : (bytes : List ℕ) (f : AssumeText) (r : Answered) → (f ≢ assume.Memory → entries_in bytes ≡ Err f) → r.status ≡ 7 → assumptions_refused f ≡ Some r.text.items → ReadsAs bytes (Unlisted r)
+pub unlisted : (bytes : List ℕ) (f : AssumeText) (r : Answered) → (f ≢ assume.Memory → entries_in bytes ≡ Err f) → r.status ≡ exit.BadAssumptions → assumptions_refused f ≡ Some r.text.items → ReadsAs bytes (Unlisted r)
 unlisted bytes (assume.Malformed line) r e s t = (assume.Malformed line, e (λ w. cc), s, t)
 unlisted bytes (assume.Order line) r e s t = (assume.Order line, e (λ w. cc), s, t)
 unlisted bytes assume.Memory r e s t = absurd (let wrong = t in cc)
@@ -164,12 +162,12 @@ report_alike : (laws : NamesThatSayTheSame) (json : Bool) (device : Device) (nam
 report_alike laws true device names others end end' same e c = (laws device c names others end same).1 ∙ ap (λ x. report_by true device others x c) e
 report_alike laws false device names others end end' same e c = (laws device c names others end same).0 ∙ ap (λ x. report_by false device others x c) e
 
-explain_alike : ExplanationsSayTheSame → (names others : List Named) (words : Program) (A : List Entry) → SayTheSame names others → (c : Claim) (status : ℕ) (text : List ℕ)
+explain_alike : ExplanationsSayTheSame → (names others : List Named) (words : Program) (A : List Entry) → SayTheSame names others → (c : Claim) (status : Status) (text : List ℕ)
     → ExplainReply names words A c status text → ExplainReply others words A c status text
 explain_alike texts names others words A same c status text h =
     record { explanation = h.explanation; is = h.is; says = (h.says.0, h.says.1 ∙ texts c.bound names others h.explanation same) }
 
-premises_alike : PlacesSayTheSame → (names others : List Named) (words : Program) (A : List Entry) → SayTheSame names others → (c : Claim) (status : ℕ) (text : List ℕ)
+premises_alike : PlacesSayTheSame → (names others : List Named) (words : Program) (A : List Entry) → SayTheSame names others → (c : Claim) (status : Status) (text : List ℕ)
     → PremisesReply names words A c status text → PremisesReply others words A c status text
 premises_alike places names others words A same c status text h =
     record {
@@ -180,7 +178,7 @@ premises_alike places names others words A same c status text h =
       says = (h.says.0, h.says.1 ∙ places words names others c.bound h.sites h.nevers same);
     }
 
-why_alike : CausesSayTheSame → (names others : List Named) (words : Program) (A : List Entry) → SayTheSame names others → (c : Claim) (status : ℕ) (text : List ℕ)
+why_alike : CausesSayTheSame → (names others : List Named) (words : Program) (A : List Entry) → SayTheSame names others → (c : Claim) (status : Status) (text : List ℕ)
     → WhyReply names words A c status text → WhyReply others words A c status text
 why_alike causes names others words A same c status text h =
     record {
@@ -191,18 +189,18 @@ why_alike causes names others words A same c status text h =
       says = (h.says.0, h.says.1 ∙ causes words names others c.bound h.places h.nevers same);
     }
 
-places_alike : PlacesSayTheSame → CausesSayTheSame → (why : Bool) (names others : List Named) (words : Program) (A : List Entry) → SayTheSame names others → (c : Claim) (status : ℕ) (text : List ℕ)
+places_alike : PlacesSayTheSame → CausesSayTheSame → (why : Bool) (names others : List Named) (words : Program) (A : List Entry) → SayTheSame names others → (c : Claim) (status : Status) (text : List ℕ)
     → PlacesReply why names words A c status text → PlacesReply why others words A c status text
 places_alike places causes false names others words A same c status text h = premises_alike places names others words A same c status text h
 places_alike places causes true names others words A same c status text h = why_alike causes names others words A same c status text h
 
-flash_alike : (laws : NamesThatSayTheSame) (texts : ExplanationsSayTheSame) (places : PlacesSayTheSame) (causes : CausesSayTheSame) (command : Command) (firmware bytes : List ℕ) (loaded : Loaded) (A : List Entry) (status : ℕ) (text : List ℕ) → SayTheSame loaded.names (firmware_names firmware)
+flash_alike : (laws : NamesThatSayTheSame) (texts : ExplanationsSayTheSame) (places : PlacesSayTheSame) (causes : CausesSayTheSame) (command : Command) (firmware bytes : List ℕ) (loaded : Loaded) (A : List Entry) (status : Status) (text : List ℕ) → SayTheSame loaded.names (firmware_names firmware)
     → loaded.static_end ≡ firmware_end firmware → LoadedReply command loaded bytes A status text → FlashReply command firmware bytes loaded.flash A status text
 flash_alike laws texts places causes (Check device name cert assume) firmware bytes loaded A status text names end h = h
 flash_alike laws texts places causes (Analyse device name assume steps) firmware bytes loaded A status text names end h = h
 flash_alike laws texts places causes (Run device name schedule assume) firmware bytes loaded A status text names end h = h
 flash_alike laws texts places causes (Report device name cert assume json) firmware bytes loaded A status text names end h =
-    told_alike loaded.flash A (λ c. Says 0 (report_by json device loaded.names loaded.static_end c)) (AcceptedReply (Report device name cert assume json) firmware loaded.flash A) (certificate_in bytes) status text
+    told_alike loaded.flash A (λ c. Says exit.Done (report_by json device loaded.names loaded.static_end c)) (AcceptedReply (Report device name cert assume json) firmware loaded.flash A) (certificate_in bytes) status text
     (λ c k. (k.0, k.1 ∙ report_alike laws json device loaded.names (firmware_names firmware) loaded.static_end (firmware_end firmware) names end c)) h
 flash_alike laws texts places causes (Explain device name cert assume) firmware bytes loaded A status text names end h =
     told_alike loaded.flash A (ExplainReply loaded.names loaded.flash A) (AcceptedReply (Explain device name cert assume) firmware loaded.flash A) (certificate_in bytes) status text
@@ -215,15 +213,15 @@ flash_alike laws texts places causes (Attain device name cert assume trials) fir
 flash_alike laws texts places causes (Simulate device name devices assume steps) firmware bytes loaded A status text names end h = h
 flash_alike laws texts places causes (Demo size) firmware bytes loaded A status text names end h = h
 
-list_alike : (x : Result (List Entry) AssumeText) (next other : List Entry → Reply) (status : ℕ) (text : List ℕ) → ((A : List Entry) → next A status text → other A status text) → ListBy x next status text → ListBy x other status text
+list_alike : (x : Result (List Entry) AssumeText) (next other : List Entry → Reply) (status : Status) (text : List ℕ) → ((A : List Entry) → next A status text → other A status text) → ListBy x next status text → ListBy x other status text
 list_alike (Ok A) next other status text f h = f A h
 list_alike (Err fault) next other status text f h = h
 
-next_alike : (list : Option (List ℕ)) (next other : List Entry → Reply) (status : ℕ) (text : List ℕ) → ((A : List Entry) → next A status text → other A status text) → WithList list next status text → WithList list other status text
+next_alike : (list : Option (List ℕ)) (next other : List Entry → Reply) (status : Status) (text : List ℕ) → ((A : List Entry) → next A status text → other A status text) → WithList list next status text → WithList list other status text
 next_alike None next other status text f h = f [] h
 next_alike (Some bytes) next other status text f h = list_alike (entries_in bytes) next other status text f h
 
-pub loaded_reply : (laws : NamesThatSayTheSame) (texts : ExplanationsSayTheSame) (places : PlacesSayTheSame) (causes : CausesSayTheSame) (command : Command) (firmware second : List ℕ) (list : Option (List ℕ)) (loaded : Loaded) (status : ℕ) (text : List ℕ) → GivesOn (device_for command) firmware loaded
+pub loaded_reply : (laws : NamesThatSayTheSame) (texts : ExplanationsSayTheSame) (places : PlacesSayTheSame) (causes : CausesSayTheSame) (command : Command) (firmware second : List ℕ) (list : Option (List ℕ)) (loaded : Loaded) (status : Status) (text : List ℕ) → GivesOn (device_for command) firmware loaded
     → WithList list (λ A. LoadedReply command loaded second A) status text → ImageReply command firmware second list status text
 loaded_reply laws texts places causes command firmware second list loaded status text g h =
     let there : WithList list (λ A. FlashReply command firmware second loaded.flash A) status text =

@@ -8,6 +8,8 @@ use Rattle.certificate.specs.Claims.{Claim}
 use Rattle.device_hooks.specs.Spelling.{Setup}
 use Rattle.device_hooks.specs.Exact.{IsSetupReading as IsDevices}
 use Rattle.commands.specs.Commands.{Command, Check, Analyse, Report, Explain, Clear, Premises, Attain, Simulate, device_for}
+use Rattle.replies.specs.declared.status.Status.{Status}
+use Rattle.replies.specs.declared.status.Status.TheVariants as exit
 use Rattle.replies.specs.Texts.{usage, read_fault}
 use Rattle.replies.specs.Reading.{Contents, AllAgree, IsFirstFailed, firmware_cap, certificate_cap, devices_cap, assumption_cap}
 use Rattle.replies.specs.Reply.{IsReply}
@@ -18,7 +20,7 @@ use Rattle.replies.specs.Headline.{Mean, StandFor, Holds, IsLeastCertificate, Is
 -- For each file of a command there is one value, by its place, that was read: it agrees with what the files tell, also where one name
 -- stands twice. Of these values the answer is the one reply. One that accepts a certificate says that the bound holds, and comes exactly
 -- where the certificate is valid. One that writes a certificate says that it is the least, and its status says how the rounds end.
-pub record IsAnswered (command : Command) (holds : List ℕ → Held) (status : ℕ) (text : List ℕ) : Type 0 where
+pub record IsAnswered (command : Command) (holds : List ℕ → Held) (status : Status) (text : List ℕ) : Type 0 where
   pub seen : Contents
   pub agrees : AllAgree command holds seen
   pub reply : IsReply command seen status text
@@ -26,12 +28,12 @@ pub record IsAnswered (command : Command) (holds : List ℕ → Held) (status : 
   pub exact : IsExact command seen status
 
 -- the answer to words that are this command, or none
-abbrev pub IsReplyDue : Option Command → (List ℕ → Held) → ℕ → List ℕ → Type 0
-IsReplyDue None holds status text = (status ≡ 2) × (text ≡ usage)
+abbrev pub IsReplyDue : Option Command → (List ℕ → Held) → Status → List ℕ → Type 0
+IsReplyDue None holds status text = (status ≡ exit.Usage) × (text ≡ usage)
 IsReplyDue (Some command) holds status text = IsAnswered command holds status text
 
 -- the same, and its text was written
-pub record IsReplyWritten (command : Option Command) (holds : List ℕ → Held) (status : ℕ) (before after : Option (List ℕ)) : Type 0 where
+pub record IsReplyWritten (command : Option Command) (holds : List ℕ → Held) (status : Status) (before after : Option (List ℕ)) : Type 0 where
   pub text : List ℕ
   pub due : IsReplyDue command holds status text
   pub grew : after ≡ grown before text
@@ -46,22 +48,22 @@ IsReadFault (Some command) holds before after blamed name = IsFirstFailed comman
 -- ---- before anything is written
 
 -- an answer that no read fault comes before
-pub record IsSettledAnswer (command : Option Command) (holds : List ℕ → Held) (before after : ℕ) (status : ℕ) (text : List ℕ) : Type 0 where
+pub record IsSettledAnswer (command : Option Command) (holds : List ℕ → Held) (before after : ℕ) (status : Status) (text : List ℕ) : Type 0 where
   pub quiet : after ≡ before
   pub due : IsReplyDue command holds status text
-  pub usage_alone : (status ≡ 2) ↔ (command ≡ None)
-  pub read : status ≢ 3
-  pub write : status ≢ 4
-  pub ample : status ≢ 12
+  pub usage_alone : (status ≡ exit.Usage) ↔ (command ≡ None)
+  pub read : status ≢ exit.ReadFault
+  pub write : status ≢ exit.WriteFault
+  pub ample : status ≢ exit.OutOfMemory
 
 -- a read fault is told
-pub record IsFaultTold (command : Option Command) (holds : List ℕ → Held) (before after : ℕ) (blamed : Blamed) (status : ℕ) (text : List ℕ) : Type 0 where
-  pub three : status ≡ 3
+pub record IsFaultTold (command : Option Command) (holds : List ℕ → Held) (before after : ℕ) (blamed : Blamed) (status : Status) (text : List ℕ) : Type 0 where
+  pub is_fault : status ≡ exit.ReadFault
   pub name : List ℕ
   pub fault : IsReadFault command holds before after blamed name
   pub text_is : text ≡ read_fault name
 
-abbrev pub IsOutcome : Option Command → (List ℕ → Held) → ℕ → ℕ → Blamed → ℕ → List ℕ → Type 0
+abbrev pub IsOutcome : Option Command → (List ℕ → Held) → ℕ → ℕ → Blamed → Status → List ℕ → Type 0
 IsOutcome command holds before after blamed status text = IsSettledAnswer command holds before after status text ⊎ IsFaultTold command holds before after blamed status text
 
 -- when memory runs out: no read failed, or one did whose fault is due
@@ -73,7 +75,7 @@ IsCutOff command holds before after blamed = (after ≡ before) ⊎ ((name : Lis
 -- A prefix of the due text was written: that of the answer if no read failed, else that of the read fault.
 abbrev pub Cuts : Option Command → (List ℕ → Held) → ℕ → ℕ → Blamed → Option (List ℕ) → Option (List ℕ) → Type 0
 Cuts command holds before after blamed old new =
-    ((after ≡ before) × ((new ≡ old) ⊎ ((status : ℕ) × (text : List ℕ) × IsReplyDue command holds status text × GrewByPrefix old new text)))
+    ((after ≡ before) × ((new ≡ old) ⊎ ((status : Status) × (text : List ℕ) × IsReplyDue command holds status text × GrewByPrefix old new text)))
     ⊎ ((name : List ℕ) × IsReadFault command holds before after blamed name × GrewByPrefix old new (read_fault name))
 
 -- ---- over files that tell what they hold
@@ -106,13 +108,13 @@ pub record IsJudging (command : Option Command) (judge : Command) (holds : List 
   pub list_held : AreHeld holds assume list
 
 -- where a command of held bytes accepts a certificate, the bound holds of them, and is told
-abbrev pub HeldHeadline : Option Command → (List ℕ → Held) → ℕ → Option (List ℕ) → Option (List ℕ) → Type 0
+abbrev pub HeldHeadline : Option Command → (List ℕ → Held) → Status → Option (List ℕ) → Option (List ℕ) → Type 0
 HeldHeadline command holds status before after =
-    (judge : Command) (firmware certificate : List ℕ) (list : Option (List ℕ)) → IsJudging command judge holds firmware certificate list → status ≡ 0
+    (judge : Command) (firmware certificate : List ℕ) (list : Option (List ℕ)) → IsJudging command judge holds firmware certificate list → status ≡ exit.Done
     → (text : List ℕ) × Holds judge firmware certificate list text × (after ≡ grown before text)
 
 -- where held bytes read as values, it accepts exactly where the certificate is valid, and for `clear` all nodes are clear
-abbrev pub IsHeldExact : Option Command → (List ℕ → Held) → ℕ → Type 0
+abbrev pub IsHeldExact : Option Command → (List ℕ → Held) → Status → Type 0
 IsHeldExact command holds status =
     (judge : Command) (firmware certificate : List ℕ) (list : Option (List ℕ)) (words : Program) (claim : Claim) (A : List Entry)
     → IsJudging command judge holds firmware certificate list → StandFor (device_for judge) firmware certificate list words claim A → SaysWhether judge words A claim status
@@ -127,13 +129,13 @@ pub record IsAnalysing (command : Option Command) (device : Device) (steps : Opt
   pub list_held : AreHeld holds assume list
 
 -- where an analysis of held bytes answers 0, it has written the text of their least certificate, and nothing else
-abbrev pub HeldLeast : Option Command → (List ℕ → Held) → ℕ → Option (List ℕ) → Option (List ℕ) → Type 0
+abbrev pub HeldLeast : Option Command → (List ℕ → Held) → Status → Option (List ℕ) → Option (List ℕ) → Type 0
 HeldLeast command holds status before after =
-    (device : Device) (steps : Option ℕ) (firmware : List ℕ) (list : Option (List ℕ)) → IsAnalysing command device steps holds firmware list → status ≡ 0
+    (device : Device) (steps : Option ℕ) (firmware : List ℕ) (list : Option (List ℕ)) → IsAnalysing command device steps holds firmware list → status ≡ exit.Done
     → (text : List ℕ) × IsLeastCertificate device firmware list text × (after ≡ grown before text)
 
 -- where held bytes read as values, the status says how the rounds end
-abbrev pub IsHeldEnd : Option Command → (List ℕ → Held) → ℕ → Type 0
+abbrev pub IsHeldEnd : Option Command → (List ℕ → Held) → Status → Type 0
 IsHeldEnd command holds status =
     (device : Device) (steps : Option ℕ) (firmware : List ℕ) (list : Option (List ℕ)) (words : Program) (A : List Entry)
     → IsAnalysing command device steps holds firmware list → Mean device firmware list words A → SaysHowRoundsEnd words A steps status
@@ -151,27 +153,27 @@ pub record IsSimulating (command : Option Command) (device : Device) (steps : �
   pub list_held : AreHeld holds assume list
 
 -- where a simulation of held bytes answers 0, it has told the run that the devices choose, which keeps each bound that `check` accepts
-abbrev pub HeldSimulated : Option Command → (List ℕ → Held) → ℕ → Option (List ℕ) → Option (List ℕ) → Type 0
+abbrev pub HeldSimulated : Option Command → (List ℕ → Held) → Status → Option (List ℕ) → Option (List ℕ) → Type 0
 HeldSimulated command holds status before after =
-    (device : Device) (steps : ℕ) (firmware devices : List ℕ) (list : Option (List ℕ)) → IsSimulating command device steps holds firmware devices list → status ≡ 0
+    (device : Device) (steps : ℕ) (firmware devices : List ℕ) (list : Option (List ℕ)) → IsSimulating command device steps holds firmware devices list → status ≡ exit.Done
     → (text : List ℕ) × IsSimulated device steps firmware devices list text × (after ≡ grown before text)
 
 -- where held firmware and assumptions read as values, it answers 0 exactly where the devices' text reads as such
-abbrev pub AreHeldDevices : Option Command → (List ℕ → Held) → ℕ → Type 0
+abbrev pub AreHeldDevices : Option Command → (List ℕ → Held) → Status → Type 0
 AreHeldDevices command holds status =
     (device : Device) (steps : ℕ) (firmware devices : List ℕ) (list : Option (List ℕ)) (words : Program) (A : List Entry)
-    → IsSimulating command device steps holds firmware devices list → Mean device firmware list words A → (status ≡ 0) ↔ ((setup : Setup) × IsDevices devices setup)
+    → IsSimulating command device steps holds firmware devices list → Mean device firmware list words A → (status ≡ exit.Done) ↔ ((setup : Setup) × IsDevices devices setup)
 
 -- ---- laws
 
 -- what holds of an answer whose text was written, if the files object reports what it holds
 pub record WrittenAnswersHold : Type 0 where
-  pub headline : (command : Option Command) (holds : List ℕ → Held) (status : ℕ) (before after : Option (List ℕ)) → IsReplyWritten command holds status before after
+  pub headline : (command : Option Command) (holds : List ℕ → Held) (status : Status) (before after : Option (List ℕ)) → IsReplyWritten command holds status before after
       → HeldHeadline command holds status before after
-  pub exact : (command : Option Command) (holds : List ℕ → Held) (status : ℕ) (before after : Option (List ℕ)) → IsReplyWritten command holds status before after → IsHeldExact command holds status
-  pub least : (command : Option Command) (holds : List ℕ → Held) (status : ℕ) (before after : Option (List ℕ)) → IsReplyWritten command holds status before after
+  pub exact : (command : Option Command) (holds : List ℕ → Held) (status : Status) (before after : Option (List ℕ)) → IsReplyWritten command holds status before after → IsHeldExact command holds status
+  pub least : (command : Option Command) (holds : List ℕ → Held) (status : Status) (before after : Option (List ℕ)) → IsReplyWritten command holds status before after
       → HeldLeast command holds status before after
-  pub ends : (command : Option Command) (holds : List ℕ → Held) (status : ℕ) (before after : Option (List ℕ)) → IsReplyWritten command holds status before after → IsHeldEnd command holds status
-  pub simulated : (command : Option Command) (holds : List ℕ → Held) (status : ℕ) (before after : Option (List ℕ)) → IsReplyWritten command holds status before after
+  pub ends : (command : Option Command) (holds : List ℕ → Held) (status : Status) (before after : Option (List ℕ)) → IsReplyWritten command holds status before after → IsHeldEnd command holds status
+  pub simulated : (command : Option Command) (holds : List ℕ → Held) (status : Status) (before after : Option (List ℕ)) → IsReplyWritten command holds status before after
       → HeldSimulated command holds status before after
-  pub devices : (command : Option Command) (holds : List ℕ → Held) (status : ℕ) (before after : Option (List ℕ)) → IsReplyWritten command holds status before after → AreHeldDevices command holds status
+  pub devices : (command : Option Command) (holds : List ℕ → Held) (status : Status) (before after : Option (List ℕ)) → IsReplyWritten command holds status before after → AreHeldDevices command holds status

@@ -19,6 +19,7 @@ use Rattle.cert_words.specs.Text.{text_of}
 use Rattle.cert_format.specs.declared.fault.CertFault.{CertFault}
 use Rattle.cert_format.specs.Reading.{certificate_in}
 use Rattle.commands.specs.Commands.{Command, Report, Explain, Premises, device_for}
+use Rattle.replies.specs.declared.status.Status.TheVariants as exit
 use Rattle.replies.specs.Texts.{assumptions_refused}
 use Rattle.replies.specs.Firmware.{words_by, fault_by, names_by, end_by, outside_fault, firmware_words, firmware_fault, firmware_names, firmware_end}
 use Rattle.replies.specs.Analysis.{TrialsFind}
@@ -42,7 +43,7 @@ pub record GivesAs (elf : Bool) (bytes : List ℕ) (loaded : Firmware) : Type 0 
 -- a firmware that was loaded, or its refusal
 abbrev pub LoadsBy : Bool → List ℕ → Image → Type 0
 LoadsBy elf bytes (Loaded loaded) = GivesAs elf bytes loaded
-LoadsBy elf bytes (Refused r) = (r.status ≡ 6) × (fault_by elf bytes ≡ Some r.text.items)
+LoadsBy elf bytes (Refused r) = (r.status ≡ exit.BadFirmware) × (fault_by elf bytes ≡ Some r.text.items)
 
 abbrev pub LoadsAs : List ℕ → Image → Type 0
 LoadsAs bytes image = LoadsBy (is_elf bytes) bytes image
@@ -51,7 +52,7 @@ LoadsAs bytes image = LoadsBy (is_elf bytes) bytes image
 abbrev pub NarrowedTo : Device → Firmware → Image → Type 0
 NarrowedTo device before (Loaded after) =
     IsNarrowed device before.flash after.flash × ((after.names ≡ before.names) × (after.static_end ≡ before.static_end))
-NarrowedTo device before (Refused r) = (r.status ≡ 6) × (outside_fault device before.flash ≡ Some r.text.items)
+NarrowedTo device before (Refused r) = (r.status ≡ exit.BadFirmware) × (outside_fault device before.flash ≡ Some r.text.items)
 
 -- a firmware on a device has the words, names and static data of the file's bytes there
 pub record GivesOn (device : Device) (bytes : List ℕ) (loaded : Firmware) : Type 0 where
@@ -63,12 +64,12 @@ pub record GivesOn (device : Device) (bytes : List ℕ) (loaded : Firmware) : Ty
 -- a firmware that was loaded for a device, or its refusal
 abbrev pub LoadsOn : Device → List ℕ → Image → Type 0
 LoadsOn device bytes (Loaded loaded) = GivesOn device bytes loaded
-LoadsOn device bytes (Refused r) = (r.status ≡ 6) × (firmware_fault device bytes ≡ Some r.text.items)
+LoadsOn device bytes (Refused r) = (r.status ≡ exit.BadFirmware) × (firmware_fault device bytes ≡ Some r.text.items)
 
 -- a list that was read, or its refusal
 abbrev pub ReadsAs : List ℕ → Listing → Type 0
 ReadsAs bytes (Listed A) = entries_in bytes ≡ Ok A
-ReadsAs bytes (Unlisted r) = (fault : AssumeText) × (entries_in bytes ≡ Err fault) × (r.status ≡ 7) × (assumptions_refused fault ≡ Some r.text.items)
+ReadsAs bytes (Unlisted r) = (fault : AssumeText) × (entries_in bytes ≡ Err fault) × (r.status ≡ exit.BadAssumptions) × (assumptions_refused fault ≡ Some r.text.items)
 
 -- the list of an optional file, or its refusal; without a file the list is empty
 abbrev pub ListsAs : Option (List ℕ) → Listing → Type 0
@@ -88,7 +89,7 @@ IsJudgedAs words A x (judged.Refused r) = CertificateReply words A nothing x r.s
 -- a certificate is accepted with its family, unless a line refuses it
 abbrev pub judged_by : Claim → Result Worked (Vec ℕ) → Judged
 judged_by c (Ok family) = Accepted c family
-judged_by c (Err text) = judged.Refused (record { status = 1; text = text })
+judged_by c (Err text) = judged.Refused (record { status = exit.Rejected; text = text })
 
 -- the certificate is the least one with the schedule that the trials find, which attains its bound
 pub record IsWitnessed (words : Program) (A : List Entry) (least c : Claim) : Type 0 where
@@ -106,7 +107,7 @@ pub record IsWitnessedText (words : Program) (A : List Entry) (least : Claim) (t
 -- the answer for a loaded firmware, with its names and static data
 abbrev pub LoadedReply : Command → Firmware → List ℕ → List Entry → Reply
 LoadedReply (Report device name certificate assume json) loaded bytes A =
-    CertificateReply loaded.flash A (λ c. Says 0 (report_by json device loaded.names loaded.static_end c)) (certificate_in bytes)
+    CertificateReply loaded.flash A (λ c. Says exit.Done (report_by json device loaded.names loaded.static_end c)) (certificate_in bytes)
 LoadedReply (Explain device name certificate assume) loaded bytes A = CertificateReply loaded.flash A (ExplainReply loaded.names loaded.flash A) (certificate_in bytes)
 LoadedReply (Premises device name certificate assume why) loaded bytes A = CertificateReply loaded.flash A (PlacesReply why loaded.names loaded.flash A) (certificate_in bytes)
 LoadedReply command loaded bytes A = FlashReply command [] bytes loaded.flash A

@@ -16,18 +16,19 @@ use commands::Size;
 use demo_image::demo_image;
 use fixpoint::{Refusal, solve};
 use flash_image::Flash;
+use replies::status::Status;
 use replies::{causes, texts};
 use std::alloc::{AllocError, Global};
 use vector_table::Assumptions;
 use witness_search::search;
 
 // The status in place of a certificate.
-fn why_not_status(refusal: &Refusal) -> u8
+fn why_not_status(refusal: &Refusal) -> Status
     ensures { result ≡ why_not_status refusal.now }
 {
     match refusal {
-        Refusal::Spent(_) => 11,
-        _ => 10,
+        Refusal::Spent(_) => Status::Spent,
+        _ => Status::NoCertificate,
     }
 }
 
@@ -65,7 +66,7 @@ pub fn analyse(task: &Task<'_>, steps: Option<u64>) -> Result<Reply, AllocError>
 {
     match solve(task.alloc, task.flash, task.assumptions, steps) {
         Ok(certificate) => Ok(Reply {
-            status: 0,
+            status: Status::Done,
             text: solved(task, certificate)?,
         }),
         Err(refusal) => why_not(task.alloc, task.flash, &refusal),
@@ -75,17 +76,17 @@ pub fn analyse(task: &Task<'_>, steps: Option<u64>) -> Result<Reply, AllocError>
 // The answer for an image with this certificate, which is judged and accepted.
 fn measured(task: &Task<'_>, size: u32, certificate: &Certificate) -> Result<Reply, AllocError>
     requires { IsSound task.now.flash.now task.now.assumptions.now certificate.now }
-    ensures reply { IfOk result (λ r. (r.status ≡ 0) × (r.text.items ≡ demo_text size certificate.now)) }
+    ensures reply { IfOk result (λ r. (r.status ≡ Status.Done) × (r.text.items ≡ demo_text size certificate.now)) }
     ensures claim { IfOk result (λ r. IsClaim certificate.now) }
 {
     let _nodes = certificate.nodes();
     match judge(task.alloc, task.flash, task.assumptions, certificate)? {
         Verdict::Accepted(_) => Ok(Reply {
-            status: 0,
+            status: Status::Done,
             text: causes::demo_text(task.alloc, size, certificate)?,
         }),
         Verdict::Rejected(reason) => Ok(Reply {
-            status: 1,
+            status: Status::Rejected,
             text: texts::rejected(task.alloc, &reason)?,
         }),
     }

@@ -11,6 +11,7 @@ use clap_words::command_of;
 use command_files::{Unread, gather};
 use commands::Command;
 use replies::laws::replies_are_claims;
+use replies::status::Status;
 use replies::texts;
 use sb_base::Files;
 use std::alloc::{AllocError, Global};
@@ -33,11 +34,11 @@ fn answer_to<F: Files>(
             &read.assumptions,
         ),
         Err(Unread::Long(name)) => Ok(Reply {
-            status: 5,
+            status: Status::TooLong,
             text: texts::too_long(alloc, name)?,
         }),
         Err(Unread::Failed(name)) => Ok(Reply {
-            status: 3,
+            status: Status::ReadFault,
             text: texts::read_fault(alloc, name)?,
         }),
         Err(Unread::Memory) => Err(AllocError),
@@ -51,7 +52,7 @@ pub fn answer<F: Files>(alloc: Global, words: &[&str], files: &mut F) -> Result<
     match command_of(alloc, words) {
         Ok(Some(command)) => answer_to(alloc, &command, files),
         Ok(None) => Ok(Reply {
-            status: 2,
+            status: Status::Usage,
             text: texts::usage(alloc)?,
         }),
         Err(fault) => Err(fault),

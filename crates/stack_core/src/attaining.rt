@@ -12,12 +12,13 @@ use cert_check::laws::sound_certificates_bound_every_run;
 use cert_format::Certificate;
 use cert_writing::write;
 use local_rules::laws::words_have_16_bits;
+use replies::status::Status;
 use std::alloc::AllocError;
 
 // The text of an accepted certificate, with the schedule that guided trials find if it has none.
 fn completed(task: &Task<'_>, certificate: Certificate, trials: u32) -> Result<Vec<u8>, AllocError>
     requires { IsValid task.now.flash.now task.now.assumptions.now certificate }
-    ensures { IfOk result (λ v. AttainReply task.now.flash.now task.now.assumptions.now trials certificate 0 v.items) }
+    ensures { IfOk result (λ v. AttainReply task.now.flash.now task.now.assumptions.now trials certificate Status.Done v.items) }
 {
     sound_certificates_bound_every_run();
     words_have_16_bits(task.flash.words());
@@ -40,7 +41,7 @@ pub fn attain(task: &Task<'_>, text: &[u8], trials: u32) -> Result<Reply, AllocE
         Judged::Accepted(certificate, family) => {
             drop(family);
             Ok(Reply {
-                status: 0,
+                status: Status::Done,
                 text: completed(task, certificate, trials)?,
             })
         }

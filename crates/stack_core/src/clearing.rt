@@ -11,6 +11,7 @@ use call_graph::{Task, Worked};
 use cert_format::Certificate;
 use flash_image::{Flash, Names};
 use replies::places::{self, Program};
+use replies::status::Status;
 use std::alloc::{AllocError, Global};
 use store_clear::{
     ClearVerdict, clear_family, flagged_places_in, flagged_sites_in, never_takes_in,
@@ -25,11 +26,11 @@ fn cleared(task: &Task<'_>, certificate: &Certificate, family: &Worked) -> Resul
 {
     match clear_family(task, certificate, family)? {
         ClearVerdict::Clear => Ok(Reply {
-            status: 0,
+            status: Status::Done,
             text: places::clear_text(task.alloc, certificate.bound())?,
         }),
         ClearVerdict::Unclear(node, pc) => Ok(Reply {
-            status: 13,
+            status: Status::Unclear,
             text: places::unclear_text(task.alloc, task.flash, node, pc)?,
         }),
     }
@@ -77,7 +78,10 @@ fn told(
             marked.as_slice(),
             nevers.as_slice(),
         )?;
-        Ok(Reply { status: 0, text })
+        Ok(Reply {
+            status: Status::Done,
+            text,
+        })
     } else {
         let sites = flagged_sites_in(task, certificate, family)?;
         let text = places::premises_text(
@@ -87,7 +91,10 @@ fn told(
             sites.as_slice(),
             nevers.as_slice(),
         )?;
-        Ok(Reply { status: 0, text })
+        Ok(Reply {
+            status: Status::Done,
+            text,
+        })
     }
 }
 

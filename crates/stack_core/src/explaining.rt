@@ -11,6 +11,7 @@ use call_graph::{Task, Worked};
 use cert_format::Certificate;
 use chain_explain::explain_family;
 use flash_image::Names;
+use replies::status::Status;
 use reports::explanation_text;
 use std::alloc::AllocError;
 
@@ -27,7 +28,7 @@ fn explained(
     let _nodes = certificate.nodes();
     let explanation = explain_family(task, certificate, family)?;
     Ok(Reply {
-        status: 0,
+        status: Status::Done,
         text: explanation_text(task.alloc, certificate.bound(), names, &explanation)?,
     })
 }

@@ -13,6 +13,7 @@ use cert_check::{Judgement, is_attained, judge_family};
 use cert_format::{Certificate, read as read_certificate};
 use elf_load::Loaded;
 use flash_image::Device;
+use replies::status::Status;
 use replies::texts;
 use reports::{report_json, report_text};
 use std::alloc::{AllocError, Global};
@@ -27,11 +28,11 @@ pub enum Judged {
 // The answer to an accepted certificate.
 #[tactic(auto, using(crate::proofs::Replies::copied_is_some))]
 fn checked(alloc: Global, certificate: &Certificate) -> Result<Reply, AllocError>
-    ensures { IfOk result (λ r. Says 0 (accepted certificate.now.bound (is_some certificate.now.witness)) r.status r.text.items) }
+    ensures { IfOk result (λ r. Says Status.Done (accepted certificate.now.bound (is_some certificate.now.witness)) r.status r.text.items) }
 {
     let attained = certificate.witness().is_some();
     Ok(Reply {
-        status: 0,
+        status: Status::Done,
         text: texts::accepted(alloc, certificate.bound(), attained)?,
     })
 }
@@ -44,14 +45,17 @@ fn reported(
     loaded: &Loaded,
     json: bool,
 ) -> Result<Reply, AllocError>
-    ensures { IfOk result (λ r. Says 0 (report_by json device loaded.now.names loaded.now.static_end certificate.now) r.status r.text.items) }
+    ensures { IfOk result (λ r. Says Status.Done (report_by json device loaded.now.names loaded.now.static_end certificate.now) r.status r.text.items) }
 {
     let text = if json {
         report_json(alloc, device, certificate, &loaded.names, loaded.static_end)?
     } else {
         report_text(alloc, device, certificate, &loaded.names, loaded.static_end)?
     };
-    Ok(Reply { status: 0, text })
+    Ok(Reply {
+        status: Status::Done,
+        text,
+    })
 }
 
 // The family of an accepted certificate, or the line of a rejected one.
@@ -79,7 +83,10 @@ fn judge_claim(task: &Task<'_>, certificate: Certificate) -> Result<Judged, Allo
 {
     match weighed(task, &certificate) {
         Ok(Ok(family)) => Ok(Judged::Accepted(certificate, family)),
-        Ok(Err(text)) => Ok(Judged::Refused(Reply { status: 1, text })),
+        Ok(Err(text)) => Ok(Judged::Refused(Reply {
+            status: Status::Rejected,
+            text,
+        })),
         Err(fault) => Err(fault),
     }
 }
@@ -91,7 +98,7 @@ pub fn judge_text(task: &Task<'_>, text: &[u8]) -> Result<Judged, AllocError>
     match read_certificate(task.alloc, text) {
         Ok(certificate) => judge_claim(task, certificate),
         Err(fault) => Ok(Judged::Refused(Reply {
-            status: 8,
+            status: Status::BadCertificate,
             text: texts::certificate_refused(task.alloc, &fault)?,
         })),
     }
@@ -99,7 +106,7 @@ pub fn judge_text(task: &Task<'_>, text: &[u8]) -> Result<Judged, AllocError>
 
 /// The answer of `check` on the text of a certificate.
 pub fn check(task: &Task<'_>, text: &[u8]) -> Result<Reply, AllocError>
-    ensures { IfOk result (λ r. CertificateReply task.now.flash.now task.now.assumptions.now (λ c. Says 0 (accepted c.bound (is_some c.witness))) (certificate_in text.now) r.status r.text.items) }
+    ensures { IfOk result (λ r. CertificateReply task.now.flash.now task.now.assumptions.now (λ c. Says Status.Done (accepted c.bound (is_some c.witness))) (certificate_in text.now) r.status r.text.items) }
 {
     match judge_text(task, text)? {
         Judged::Accepted(certificate, family) => {
@@ -118,7 +125,7 @@ pub fn report(
     loaded: &Loaded,
     json: bool,
 ) -> Result<Reply, AllocError>
-    ensures { IfOk result (λ r. CertificateReply task.now.flash.now task.now.assumptions.now (λ c. Says 0 (report_by json device loaded.now.names loaded.now.static_end c)) (certificate_in text.now) r.status r.text.items) }
+    ensures { IfOk result (λ r. CertificateReply task.now.flash.now task.now.assumptions.now (λ c. Says Status.Done (report_by json device loaded.now.names loaded.now.static_end c)) (certificate_in text.now) r.status r.text.items) }
 {
     match judge_text(task, text)? {
         Judged::Accepted(certificate, family) => {

@@ -16,3 +16,4 @@ pub mod simulating;
 pub mod work;
 
 pub use call::stackbound;
+pub use replies::status::Status;

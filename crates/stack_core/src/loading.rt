@@ -10,6 +10,8 @@ use elf_load::{Loaded, is_elf, load};
 use flash_image::laws::{narrowing_is_exact, raw_images_are_their_words};
 use flash_image::{Device, Flash, Names, Outside, RawFault};
 use indirect_targets::read as read_list;
+use replies::raw::RawRefusal;
+use replies::status::Status;
 use replies::texts;
 use std::alloc::{AllocError, Global};
 use vector_table::Assumptions;
@@ -40,12 +42,12 @@ fn raw_image(alloc: Global, bytes: &[u8]) -> Result<Image, AllocError>
             static_end: None,
         })),
         Err(RawFault::OddLength) => Ok(Image::Refused(Reply {
-            status: 6,
-            text: texts::raw_fault(alloc, 1)?,
+            status: Status::BadFirmware,
+            text: texts::raw_fault(alloc, RawRefusal::OddLength)?,
         })),
         Err(RawFault::TooLong) => Ok(Image::Refused(Reply {
-            status: 6,
-            text: texts::raw_fault(alloc, 2)?,
+            status: Status::BadFirmware,
+            text: texts::raw_fault(alloc, RawRefusal::TooLong)?,
         })),
         Err(RawFault::Memory) => Err(AllocError),
     }
@@ -61,9 +63,22 @@ fn whole(alloc: Global, bytes: &[u8]) -> Result<Image, AllocError>
     match load(alloc, bytes) {
         Ok(loaded) => Ok(Image::Loaded(loaded)),
         Err(fault) => Ok(Image::Refused(Reply {
-            status: 6,
+            status: Status::BadFirmware,
             text: texts::elf_refused(alloc, &fault)?,
         })),
+    }
+}
+
+// The same firmware with its widening thresholds, so that no rule works them out at each look.
+fn marked(mut loaded: Loaded) -> Result<Loaded, AllocError>
+    ensures { IfOk result (λ l. (l.flash ≡ loaded.flash) × ((l.names ≡ loaded.names) × (l.static_end ≡ loaded.static_end))) }
+{
+    match loaded.flash.keep_marks() {
+        Ok(()) => Ok(loaded),
+        Err(fault) => {
+            drop(loaded);
+            Err(fault)
+        }
     }
 }
 
@@ -79,13 +94,13 @@ fn narrowed(alloc: Global, device: Device, loaded: Loaded) -> Result<Image, Allo
         static_end,
     } = loaded;
     match flash.narrow(device) {
-        Ok(flash) => Ok(Image::Loaded(Loaded {
+        Ok(flash) => Ok(Image::Loaded(marked(Loaded {
             flash,
             names,
             static_end,
-        })),
+        })?)),
         Err(Outside(word)) => Ok(Image::Refused(Reply {
-            status: 6,
+            status: Status::BadFirmware,
             text: texts::firmware_outside(alloc, word)?,
         })),
     }
@@ -112,7 +127,7 @@ pub fn listed(alloc: Global, list: &Option<Vec<u8>>) -> Result<Listing, AllocErr
     match read_list(alloc, bytes) {
         Ok(assumptions) => Ok(Listing::Listed(assumptions)),
         Err(fault) => Ok(Listing::Unlisted(Reply {
-            status: 7,
+            status: Status::BadAssumptions,
             text: texts::assumptions_refused(alloc, &fault)?,
         })),
     }

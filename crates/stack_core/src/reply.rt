@@ -1,8 +1,10 @@
 //! Replies.
 
+use replies::status::Status;
+
 /// A status, and the text that goes with it.
 #[derive(Drop)]
 pub struct Reply {
-    pub status: u8,
+    pub status: Status,
     pub text: Vec<u8>,
 }

@@ -9,6 +9,7 @@ ghost use Rattle.replies.specs.Reply.{RunReply, ScheduleReply};
 
 use crate::reply::Reply;
 use call_graph::Task;
+use replies::status::Status;
 use replies::texts;
 use sb_base::LineReader;
 use std::alloc::{AllocError, Global};
@@ -20,21 +21,21 @@ fn replayed(task: &Task<'_>, schedule: &Schedule) -> Result<Reply, AllocError>
 {
     match replay(task.flash, task.assumptions, schedule) {
         Ok(report) => Ok(Reply {
-            status: 0,
+            status: Status::Done,
             text: texts::run_text(task.alloc, &report)?,
         }),
         Err(IllegalChoice(step)) => Ok(Reply {
-            status: 9,
+            status: Status::BadSchedule,
             text: texts::schedule_illegal(task.alloc, step)?,
         }),
     }
 }
 
 fn schedule_malformed(alloc: Global, at: usize) -> Result<Reply, AllocError>
-    ensures { IfOk result (λ r. (r.status ≡ 9) × (r.text.items ≡ told.schedule_malformed at)) }
+    ensures { IfOk result (λ r. (r.status ≡ Status.BadSchedule) × (r.text.items ≡ told.schedule_malformed at)) }
 {
     Ok(Reply {
-        status: 9,
+        status: Status::BadSchedule,
         text: texts::schedule_malformed(alloc, at)?,
     })
 }

@@ -10,6 +10,7 @@ use crate::reply::Reply;
 use call_graph::Task;
 use commands::ChoiceCount;
 use device_hooks::{Devices, simulation};
+use replies::status::Status;
 use replies::texts;
 use std::alloc::AllocError;
 
@@ -33,11 +34,11 @@ pub fn simulate(task: &Task<'_>, steps: ChoiceCount, text: &[u8]) -> Result<Repl
 {
     match Devices::read(task.alloc, text) {
         Ok(devices) => Ok(Reply {
-            status: 0,
+            status: Status::Done,
             text: simulated(task, steps, &devices)?,
         }),
         Err(fault) => Ok(Reply {
-            status: 14,
+            status: Status::BadDevices,
             text: texts::devices_refused(task.alloc, &fault)?,
         }),
     }

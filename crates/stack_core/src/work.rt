@@ -4,6 +4,7 @@ ghost use Rattle.std.specs.Prelude.{◌≡◌, IfOk};
 ghost use Rattle.local_rules.specs.Machine.{AreWords};
 ghost use Rattle.commands.specs.Commands.{device_for};
 ghost use Rattle.commands.specs.Views.{command_seen};
+ghost use Rattle.replies.specs.declared.status.Status.TheVariants as exit;
 ghost use Rattle.replies.specs.Firmware.{firmware_words};
 ghost use Rattle.replies.specs.Reply.{WithList, WorkReply};
 ghost use Rattle.replies.specs.Headline.{HasWords};
@@ -58,34 +59,18 @@ fn on_flash(
     }
 }
 
-// The same, with the marks of the program kept where the list has the line `pairs`, whose rules look for them again and again.
-fn with_marks(
-    alloc: Global,
-    command: &Command<'_>,
-    loaded: &mut Loaded,
-    assumptions: &Assumptions,
-    second: &[u8],
-) -> Result<Reply, AllocError>
-    ensures { IfOk result (λ r. LoadedReply (command_seen command.now) loaded.old second.now assumptions.now r.status r.text.items) }
-{
-    if assumptions.has_pairs() {
-        loaded.flash.keep_marks()?;
-    }
-    on_flash(alloc, command, loaded, assumptions, second)
-}
-
 // What is answered for a firmware that was loaded.
 fn under_list(
     alloc: Global,
     command: &Command<'_>,
-    loaded: &mut Loaded,
+    loaded: &Loaded,
     second: &[u8],
     list: &Option<Vec<u8>>,
 ) -> Result<Reply, AllocError>
-    ensures { IfOk result (λ r. WithList (bytes_of list.now) (λ A. LoadedReply (command_seen command.now) loaded.old second.now A) r.status r.text.items) }
+    ensures { IfOk result (λ r. WithList (bytes_of list.now) (λ A. LoadedReply (command_seen command.now) loaded.now second.now A) r.status r.text.items) }
 {
     match listed(alloc, list)? {
-        Listing::Listed(assumptions) => with_marks(alloc, command, loaded, &assumptions, second),
+        Listing::Listed(assumptions) => on_flash(alloc, command, loaded, &assumptions, second),
         Listing::Unlisted(reply) => Ok(reply),
     }
 }
@@ -99,14 +84,14 @@ fn on_image(
     list: &Option<Vec<u8>>,
 ) -> Result<Reply, AllocError>
     ensures reply { IfOk result (λ r. ImageReply (command_seen command.now) firmware.now second.now (bytes_of list.now) r.status r.text.items) }
-    ensures words { IfOk result (λ r. r.status ≡ 0 → AreWords (firmware_words (device_for (command_seen command.now)) firmware.now)) }
+    ensures words { IfOk result (λ r. r.status ≡ exit.Done → AreWords (firmware_words (device_for (command_seen command.now)) firmware.now)) }
 {
     same_names_give_same_reports();
     same_names_give_same_places();
     match loaded(alloc, command.device(), firmware)? {
-        Image::Loaded(mut loaded) => {
+        Image::Loaded(loaded) => {
             words_have_16_bits(loaded.flash.words());
-            let reply = under_list(alloc, command, &mut loaded, second, list)?;
+            let reply = under_list(alloc, command, &loaded, second, list)?;
             Ok(reply)
         }
         Image::Refused(reply) => Ok(reply),
@@ -122,7 +107,7 @@ pub fn work(
     list: &Option<Vec<u8>>,
 ) -> Result<Reply, AllocError>
     ensures reply { IfOk result (λ r. WorkReply (command_seen command.now) firmware.now second.now (bytes_of list.now) r.status r.text.items) }
-    ensures words { IfOk result (λ r. r.status ≡ 0 → HasWords (command_seen command.now) firmware.now) }
+    ensures words { IfOk result (λ r. r.status ≡ exit.Done → HasWords (command_seen command.now) firmware.now) }
 {
     match command {
         Command::Check { .. } => on_image(alloc, command, firmware, second, list),

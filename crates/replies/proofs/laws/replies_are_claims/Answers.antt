@@ -1,3 +1,4 @@
+use Rattle.replies.proofs.Codes.{codes_apart}
 use Rattle.replies.proofs.One.{replies_are_one}
 use Rattle.replies.proofs.Least.{AnalysesFit, analyses_fit}
 use Rattle.replies.proofs.All.{DevicesAreExact, ClearIsTold, replies_hold, replies_are_exact}
@@ -26,4 +27,5 @@ returns c =
       one = replies_are_one texts.read verdicts answers chains c.explanations_tell.ensures.one c.clear_answers_are_one.ensures.verdicts c.clear_answers_are_one.ensures.sites c.clear_answers_are_one.ensures.places c.clear_answers_are_one.ensures.nevers;
       holds = replies_hold raw.one raw.some narrowing lists texts.read texts.spelled verdicts bounds answers chains rounds solutions runs fit devices simulations explanations told_clear c.trials_are_led.ensures c.texts_fit.ensures;
       exact = replies_are_exact raw.one raw.some narrowing lists texts.read texts.spelled verdicts bounds answers chains rounds solutions runs fit devices simulations explanations told_clear c.trials_are_led.ensures c.texts_fit.ensures;
+      codes = codes_apart;
     }

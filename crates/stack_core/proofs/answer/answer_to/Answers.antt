@@ -1,6 +1,7 @@
 use Rattle.std.proofs.Common.{subst}
 use Rattle.std.specs.Prelude.{◌≡◌, IfOk}
 use Rattle.commands.specs.Views.{command_seen}
+use Rattle.replies.specs.declared.status.Status.TheVariants as exit
 use Rattle.replies.specs.Reply.{WorkReply}
 use Rattle.replies.specs.Headline.{HasWords}
 use Rattle.command_files.specs.Reading.{bytes_of}
@@ -15,4 +16,4 @@ returns-in-Ok g c =
     c.in-Ok.ensures
     (subst (λ b. IfOk c.work.result (λ r. WorkReply (command_seen c.args.command.now) b c.in-Ok.read.second.items (bytes_of c.in-Ok.read.assumptions) r.status r.text.items)) c.deref.ensures.value
     (subst (λ b. IfOk c.work.result (λ r. WorkReply (command_seen c.args.command.now) c.deref.result.now b (bytes_of c.in-Ok.read.assumptions) r.status r.text.items)) c.deref-in-Ok.ensures.value c.work.ensures.reply))
-    (subst (λ b. IfOk c.work.result (λ r. r.status ≡ 0 → HasWords (command_seen c.args.command.now) b)) c.deref.ensures.value c.work.ensures.words)
+    (subst (λ b. IfOk c.work.result (λ r. r.status ≡ exit.Done → HasWords (command_seen c.args.command.now) b)) c.deref.ensures.value c.work.ensures.words)

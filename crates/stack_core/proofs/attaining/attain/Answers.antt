@@ -1,5 +1,6 @@
 use Rattle.std.proofs.Common.{subst}
 use Rattle.cert_format.specs.Reading.{certificate_in}
+use Rattle.replies.specs.declared.status.Status.TheVariants as exit
 use Rattle.replies.specs.Reply.{AttainReply}
 use Rattle.stack_core.specs.Answering.{IsJudgedAs}
 use Rattle.stack_core.proofs.Replies.{accepted_reply}
@@ -10,7 +11,7 @@ completed-requires c = (subst (IsJudgedAs c.args.task.now.flash.now c.args.task.
 
 pub returns-in_ok-completed-in-Accepted : goal.returns-in_ok-completed-in-Accepted
 returns-in_ok-completed-in-Accepted c =
-    accepted_reply c.args.task.now.flash.now c.args.task.now.assumptions.now (AttainReply c.args.task.now.flash.now c.args.task.now.assumptions.now c.args.trials) (certificate_in c.args.text.now) c.in-Accepted.certificate 0
+    accepted_reply c.args.task.now.flash.now c.args.task.now.assumptions.now (AttainReply c.args.task.now.flash.now c.args.task.now.assumptions.now c.args.trials) (certificate_in c.args.text.now) c.in-Accepted.certificate exit.Done
     c.in_ok-completed-in-Accepted.field-0.items
     (subst (IsJudgedAs c.args.task.now.flash.now c.args.task.now.assumptions.now (certificate_in c.args.text.now)) c.in-Accepted.is c.in_ok-certificate.ensures).0
     c.in_ok-completed-in-Accepted.ensures

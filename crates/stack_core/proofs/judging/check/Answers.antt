@@ -1,6 +1,7 @@
 use Rattle.std.proofs.Common.{subst}
 use Rattle.std.specs.Option.{is_some}
 use Rattle.cert_format.specs.Reading.{certificate_in}
+use Rattle.replies.specs.declared.status.Status.TheVariants as exit
 use Rattle.replies.specs.Texts.{accepted}
 use Rattle.replies.specs.Reply.{Says}
 use Rattle.stack_core.specs.Answering.{IsJudgedAs}
@@ -9,6 +10,6 @@ use Rattle.stack_core.proofs.judging.check.Goals as goal
 
 pub returns-in-Accepted : goal.returns-in-Accepted
 returns-in-Accepted c =
-    accepted_result c.args.task.now.flash.now c.args.task.now.assumptions.now (λ d. Says 0 (accepted d.bound (is_some d.witness))) (certificate_in c.args.text.now) c.in-Accepted.certificate c.checked.result
+    accepted_result c.args.task.now.flash.now c.args.task.now.assumptions.now (λ d. Says exit.Done (accepted d.bound (is_some d.witness))) (certificate_in c.args.text.now) c.in-Accepted.certificate c.checked.result
     (subst (IsJudgedAs c.args.task.now.flash.now c.args.task.now.assumptions.now (certificate_in c.args.text.now)) c.in-Accepted.is c.in_ok-certificate.ensures).0
     c.checked.ensures

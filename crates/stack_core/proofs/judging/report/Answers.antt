@@ -1,5 +1,6 @@
 use Rattle.std.proofs.Common.{subst}
 use Rattle.cert_format.specs.Reading.{certificate_in}
+use Rattle.replies.specs.declared.status.Status.TheVariants as exit
 use Rattle.replies.specs.Reply.{Says, report_by}
 use Rattle.stack_core.specs.Answering.{IsJudgedAs}
 use Rattle.stack_core.proofs.Replies.{accepted_result}
@@ -7,7 +8,7 @@ use Rattle.stack_core.proofs.judging.report.Goals as goal
 
 pub returns-in-Accepted : goal.returns-in-Accepted
 returns-in-Accepted c =
-    accepted_result c.args.task.now.flash.now c.args.task.now.assumptions.now (λ d. Says 0 (report_by c.args.json c.args.device c.args.loaded.now.names c.args.loaded.now.static_end d)) (certificate_in c.args.text.now)
+    accepted_result c.args.task.now.flash.now c.args.task.now.assumptions.now (λ d. Says exit.Done (report_by c.args.json c.args.device c.args.loaded.now.names c.args.loaded.now.static_end d)) (certificate_in c.args.text.now)
     c.in-Accepted.certificate c.reported.result
     (subst (IsJudgedAs c.args.task.now.flash.now c.args.task.now.assumptions.now (certificate_in c.args.text.now)) c.in-Accepted.is c.in_ok-certificate.ensures).0
     c.reported.ensures
