@@ -1,6 +1,7 @@
 //! The tables by subject, and nodes that two of them share. A test reports the first table and row that is wrong.
 
 mod clearness;
+mod doors;
 mod edges;
 mod forms;
 mod nesting;
@@ -70,6 +71,7 @@ fn tell_families(told: &mut Told, alloc: Global) {
     tell(told, alloc, &edges::ROWS);
     tell(told, alloc, &forms::ROWS);
     tell(told, alloc, &verdicts::ROWS);
+    tell(told, alloc, &doors::ROWS);
     tell(told, alloc, &trials::ROWS);
 }
 
