@@ -34,7 +34,7 @@ use Rattle.clear_laws.specs.StepLaws.{PlacesHaveCauses}
 use Rattle.clear_laws.proofs.Below.{any_found, found_below}
 use Rattle.clear_laws.proofs.Kept.{Holding}
 use Rattle.clear_laws.proofs.Told.{clear_nodes_are_told}
-use Rattle.clear_laws.proofs.Unflagged.{IsSafe, IsStore, flagged_by_write, writes, by_instruction, inside, IsTaken, taken_here}
+use Rattle.clear_laws.proofs.Unflagged.{IsStore, flagged_by_write, writes, by_instruction, inside, IsTaken, taken_here}
 
 -- ---- which case a flag is of
 
@@ -153,9 +153,6 @@ module _ (words : Program) (A : List Entry) (f : RankedFamily) (sound : IsSoundF
   module _ (b1 b2 : ℕ) (instr : Instr) (is : instruction_at words m.pc ≡ Some instr) where
     abbrev effect : Effect
     effect = effect_of words m instr b1 b2
-
-    abbrev Safe : Type 0
-    Safe = IsSafe words A f sound m g gs runs holds b1 b2 instr is
 
     abbrev Store : Type 0
     Store = IsStore words A f sound m g gs runs holds b1 b2 instr is

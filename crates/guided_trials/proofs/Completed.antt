@@ -59,10 +59,6 @@ none_as None e = refl
 none_as (Some p) e = absurd (let wrong = e in cc)
 
 module _ (words : Program) (A : List Entry) (n : ℕ) (c : Claim) where
-  its_own : (w : Option Plan) → is_some w ≡ true → IsScheduled words A n c w w
-  its_own None e = absurd (let wrong = e in cc)
-  its_own (Some p) e = refl
-
   pub with_found : (d : Claim) (found : Option Plan) → c.witness ≡ None → IsGuidedFound words A (guide_of words A c) n found → d ≡ record c { witness = found } → IsCompleted words A n c d
   with_found d found none h is =
       subst (IsCompleted words A n c) (sym is)

@@ -1,13 +1,13 @@
 -- The named instance: settled ones never are, and one more instance.
 use Rattle.std.specs.Option.{is_some}
 use Rattle.std.specs.List.{Contains}
-use Rattle.std.proofs.Common.{true, ◌≡◌, ◌≢◌, ◌∙◌, ℕ, zero, suc, ◌+◌, ◌<◌, ◌≤◌, Option, Some, None, List, length, replicate, slice_get, slice_index, refl, sym, ap, subst, arith, ◌⊎◌, ⊎_elim, inr}
+use Rattle.std.proofs.Common.{true, ◌≡◌, ◌≢◌, ◌∙◌, ℕ, zero, suc, ◌+◌, ◌<◌, ◌≤◌, Option, Some, None, List, length, replicate, slice_get, slice_index, refl, sym, ap, subst, arith, ◌⊎◌, ⊎_elim}
 use Rattle.std.proofs.lemmas.Option.{slice_get_within}
 use Rattle.basics.specs.Numbers.{before_or_last}
 use Rattle.nesting_bound.specs.declared.found.Found.{Found}
 use Rattle.nesting_bound.specs.declared.graph.Entered.{Entered}
 use Rattle.nesting_bound.specs.declared.graph.GraphInst.{GraphInst}
-use Rattle.nesting_bound.specs.Cycle.{group_of, number_of, IsNoLater, IsNamed}
+use Rattle.nesting_bound.specs.Cycle.{IsNamed}
 use Rattle.nesting_bound.specs.Graph.{EntersAlong, ReachesBy, once, more}
 use Rattle.nesting_bound.specs.Search.{AreLayers, IsNamedOf, IsNamedBelow}
 use Rattle.nesting_bound.specs.Table.{at, IsSoundTable}
@@ -65,30 +65,6 @@ none_above : (n i : ℕ) → slice_index (replicate n 0) i ≡ 0
 none_above zero i = refl
 none_above (suc n) zero = refl
 none_above (suc n) (suc i) = none_above n i
-
--- ---- the order of names
-onward : (g g' g'' n n' n'' i j k : ℕ) → (g < g') ⊎ ((g ≡ g') × ((n < n') ⊎ ((n ≡ n') × (i ≤ j)))) → (g' < g'') ⊎ ((g' ≡ g'') × ((n' < n'') ⊎ ((n' ≡ n'') × (j ≤ k)))) → (g < g'') ⊎ ((g ≡ g'') × ((n < n'') ⊎ ((n ≡ n'') × (i ≤ k))))
-onward g g' g'' n n' n'' i j k a b = grind arith
-
-itself : (g n i : ℕ) → (g < g) ⊎ ((g ≡ g) × ((n < n) ⊎ ((n ≡ n) × (i ≤ i))))
-itself g n i = inr (refl, inr (refl, omega arith))
-
-module _ (gs : List GraphInst) (i : ℕ) (x : GraphInst) (here : slice_get gs i ≡ Some x) where
-  same_at : (j : ℕ) (c : GraphInst) → j ≡ i → slice_get gs j ≡ Some c → x ≡ c
-  same_at j c same is = let is' : slice_get gs i ≡ Some c = subst (λ k. slice_get gs k ≡ Some c) same is in cc
-
-  module _ (at : ℕ) (b : GraphInst) (there : slice_get gs at ≡ Some b) where
-    pub named_takes : i < length gs → ReachesBy gs i i → IsNoLater x.key i b.key at → IsNamedOf gs i at → IsNamedOf gs (i + 1) i
-    named_takes inside reaches le named = record {
-      inside = inside;
-      reaches = reaches;
-      first = λ j a c lt r is_a is_c.
-          let ea : x ≡ a = cc in
-          subst (λ y. IsNoLater y.key i c.key j) ea (⊎_elim
-          (λ less. onward (group_of x.key.kind) (group_of b.key.kind) (group_of c.key.kind) (number_of x.key.kind x.key.entry) (number_of b.key.kind b.key.entry) (number_of c.key.kind c.key.entry) i at j le (named.first j b c less r there is_c))
-          (λ same. subst (λ k. IsNoLater x.key i c.key k) (sym same) (subst (λ y. IsNoLater x.key i y.key i) (same_at j c same is_c) (itself (group_of x.key.kind) (number_of x.key.kind x.key.entry) i)))
-          (before_or_last j i lt));
-    }
 
 pub named_skip : (gs : List GraphInst) (i : ℕ) (best : Option ℕ) → (ReachesBy gs i i → ⊥) → IsNamedBelow gs i best → IsNamedBelow gs (i + 1) best
 named_skip gs i None never named = λ j lt r. ⊎_elim (λ less. named j less r) (λ same. never (subst (λ k. ReachesBy gs k k) same r)) (before_or_last j i lt)

@@ -96,9 +96,6 @@ module _ (words : Program) (A : List Entry) (bound pc : ℕ) (instr : Instr) (s 
         let at = inside p permitted in
         in_range first last (plus16 p up) h (over least most p up at.1 at.2 small less ascends) (under least most p up at.1 at.2 small less ascends))
 
-    pub scanned_none : Scanned least
-    scanned_none p le lt = absurd (omega (arith, le, lt))
-
     pub scanned_more : (n : ℕ) → Scanned n → is_number_harmless words A bound pc s instr r up n ≡ true → Scanned (n + 1)
     scanned_more n before here p le lt =
         ⊎_elim (λ less. before p le less)
