@@ -44,7 +44,7 @@ use Rattle.pair_cuts.specs.Cuts.{side_place, side_range, pair_place, pair_range,
 use Rattle.pair_cuts.specs.Outcomes.{outcome_of, left_part, right_part}
 use Rattle.abs_step.specs.declared.pairs.Test.{Test}
 use Rattle.abs_step.specs.declared.pairs.Test.TheVariants.{Flag, Bit, Equal}
-use Rattle.abs_step.specs.Tests.{cut_by}
+use Rattle.abs_step.specs.Conditions.{cut_by}
 
 -- if anything is left, it has these slots
 abbrev KeepsSlots : List (Slot AbsByte) → Option AbsState → Type 0

@@ -1,7 +1,7 @@
 -- Worked nodes, each computed: targets and tags. The rows of `node_table` cover bits.
 use Rattle.std.specs.Prelude.{ℕ, ◌+◌, ◌≡◌, Bool, true, false, List, [], ◌∷◌, map, replicate, refl, slice_set, Option, Some, None}
 use Rattle.avr_model.specs.declared.assumption.Entry.TheVariants.{Jump, Store}
-use Rattle.avr_model.specs.Devices.{device_of}
+use Rattle.avr_model.specs.Devices.{device_row, Program, M328, image}
 use Rattle.avr_model.specs.Bits.{any_below, all_below}
 use Rattle.avr_model.specs.Sites.{is_scratch, is_fixed, path_behind, is_loaded_behind, table_site, ijmp_from}
 use Rattle.avr_model.specs.Assumptions.{jump_line, store_line, is_proved, is_freed, is_never, is_frame, is_fixed_site, has_masks}
@@ -38,8 +38,8 @@ use Rattle.local_rules.specs.Flow.{site}
 use Rattle.local_rules.specs.Local.{raw, may_come}
 
 -- a firmware of one or two words, and erased words behind them
-abbrev firmware : ℕ → ℕ → List ℕ
-firmware w0 w1 = w0 ∷ w1 ∷ replicate 16382 0xFFFF
+abbrev firmware : ℕ → ℕ → Program
+firmware w0 w1 = image M328 (w0 ∷ w1 ∷ replicate 16382 0xFFFF)
 
 -- a node at word 0 of a call's frame, with the flag I
 abbrev in_call : SpForm → NodeKey
@@ -79,19 +79,19 @@ faults r = r.faults
 
 -- `subi r28, 32` of the low byte of base - 5 leaves its borrow for `sbci r29, 1`
 leaves_its_borrow : carries (raw (firmware 0x52C0 0xFFFF) [] (in_call (Closed 0)) (from_base 5 5)) ≡ carry.Borrow 5 32 ∷ []
-unfolding raw table_site ijmp_from is_scratch any_below all_below decoded device_of is_frame
+unfolding raw table_site ijmp_from is_scratch any_below all_below decoded device_row is_frame
 leaves_its_borrow = refl
 
 abbrev borrowing : AbsState
 borrowing = record (from_base 37 5) { flags = record root.flags { carry = carry.Borrow 5 32 } }
 
 takes_the_borrow : tags 29 (raw (firmware 0x40D1 0xFFFF) [] (in_call (Closed 0)) borrowing) ≡ tag.SpHi 293 ∷ []
-unfolding raw table_site ijmp_from is_scratch any_below all_below decoded device_of is_frame
+unfolding raw table_site ijmp_from is_scratch any_below all_below decoded device_row is_frame
 takes_the_borrow = refl
 
 -- `out 0x3f, r29` of the flags of the entry restores them
 restores_flags : entries (raw (firmware 0xBFDF 0xFFFF) [] (in_call (Closed 0)) (with_pair 28 unknown (with_bits tag.EntryFlags (byte_known 128)))) ≡ true ∷ []
-unfolding raw table_site ijmp_from is_scratch any_below all_below decoded device_of written_at packed
+unfolding raw table_site ijmp_from is_scratch any_below all_below decoded device_row written_at packed
 restores_flags = refl
 
 -- `ldd r16, Y+1` at base - 1 reads the slot at the base
@@ -99,35 +99,35 @@ abbrev with_slot : AbsState
 with_slot = record (from_base 1 1) { slots = Guarded (with_bits (tag.Entry 4) unknown.bits) ∷ [] }
 
 reads_a_slot : tags 16 (raw (firmware 0x8109 0xFFFF) [] (in_call (Closed 1)) with_slot) ≡ tag.Entry 4 ∷ []
-unfolding raw table_site ijmp_from is_scratch any_below all_below decoded device_of read_at packed
+unfolding raw table_site ijmp_from is_scratch any_below all_below decoded device_row read_at packed
 reads_a_slot = refl
 
 -- `st X, r16` of an unknown byte, with X = 0x003D, and 0x003D and 0x005D listed: nothing changes, or the two enable bits do
 stores_at_listed : enables (raw (firmware 0x930C 0xFFFF) (Store 0 (0x3D ∷ 0x5D ∷ []) ∷ []) (in_call (Closed 0)) (with_pair 26 (known 0x3D) (known 0))) ≡ 0 ∷ 0 ∷ 1 ∷ 2 ∷ 3 ∷ []
-unfolding raw table_site ijmp_from is_scratch is_fixed path_behind is_loaded_behind is_proved is_freed is_fixed_site store_line any_below all_below decoded device_of written_at numbers_of enable_tri row_of packed permits_below may_wake admits_enables has_masks
+unfolding raw table_site ijmp_from is_scratch is_fixed path_behind is_loaded_behind is_proved is_freed is_fixed_site store_line any_below all_below decoded device_row written_at numbers_of enable_tri row_of packed permits_below may_wake admits_enables has_masks
 stores_at_listed = refl
 
 -- `ijmp` with Z = 5 goes to the one listed word that Z permits
 jumps_to_listed : words (raw (firmware 0x9409 0xFFFF) (Jump 0 (5 ∷ 7 ∷ []) ∷ []) (in_call (Closed 0)) (with_pair 30 (known 5) (known 0))) ≡ 5 ∷ []
-unfolding raw table_site ijmp_from is_scratch jump_line any_below all_below decoded device_of numbers_of packed
+unfolding raw table_site ijmp_from is_scratch jump_line any_below all_below decoded device_row numbers_of packed
 jumps_to_listed = refl
 
 -- `call 0x0010`, `ret` and `reti`
 calls_a_word : calls (raw (firmware 0x940E 0x0010) [] (in_call (Closed 0)) root) ≡ site 16 2 ∷ []
-unfolding raw table_site ijmp_from is_scratch any_below all_below decoded device_of
+unfolding raw table_site ijmp_from is_scratch any_below all_below decoded device_row
 calls_a_word = refl
 
 returns : leaves (raw (firmware 0x9508 0xFFFF) [] (in_call (Closed 0)) root) ≡ Some (record { masks = 0; i = true; delay = false })
-unfolding raw table_site ijmp_from is_scratch any_below all_below decoded device_of
+unfolding raw table_site ijmp_from is_scratch any_below all_below decoded device_row
 returns = refl
 
 returns_from_interrupt : leaves (raw (firmware 0x9518 0xFFFF) [] (record (in_call (Closed 0)) { i = false }) root) ≡ Some (record { masks = 0; i = true; delay = true })
-unfolding raw table_site ijmp_from is_scratch any_below all_below decoded device_of
+unfolding raw table_site ijmp_from is_scratch any_below all_below decoded device_row
 returns_from_interrupt = refl
 
 -- an interrupt may come while the stack pointer is half written
 hangs : faults (raw (firmware 0x0000 0xFFFF) [] (record (in_call (Open 0 (Tagged 2))) { masks = 32768 }) root) ≡ UntrackedSp 0 ∷ []
-unfolding raw table_site ijmp_from is_scratch any_below all_below decoded device_of may_come is_never
+unfolding raw table_site ijmp_from is_scratch any_below all_below decoded device_row may_come is_never
 hangs = refl
 
 -- of two depths the smaller one is the fault

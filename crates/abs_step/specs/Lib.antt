@@ -1,4 +1,4 @@
 pub mod Examples
 pub mod Leading
 pub mod Adding
-pub mod Tests
+pub mod Conditions

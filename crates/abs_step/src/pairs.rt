@@ -9,7 +9,7 @@ ghost use Rattle.local_rules.specs.Flow as flow;
 ghost use Rattle.local_rules.specs.Local as rows;
 ghost use Rattle.abs_step.specs.Adding.{Adds, plain, refined_if};
 ghost use Rattle.abs_step.specs.Leading.{LeadsOn};
-ghost use Rattle.abs_step.specs.Tests.{IsTest, cut_by};
+ghost use Rattle.abs_step.specs.Conditions.{IsTest, cut_by};
 
 use crate::flow::{Outgoing, staying};
 use crate::instruction::{before, row_forgetting};

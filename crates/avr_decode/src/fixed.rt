@@ -1,7 +1,7 @@
 //! The rule of fixed stores: their pointer is loaded a few words before.
 
 ghost use Rattle.std.specs.Prelude.{◌≡◌, ◌<◌, ◌==◌, IfSome, if◌then◌else◌};
-ghost use Rattle.avr_model.specs.Devices.{IsFlash};
+ghost use Rattle.avr_model.specs.Devices.{IsFlash, image};
 ghost use Rattle.avr_model.specs.Image.{word_at};
 ghost use Rattle.avr_model.specs.Sites.{leaves, sets, store_pointer, instruction_at, is_fixed};
 ghost use Rattle.avr_model.specs.Table.{length_of};
@@ -11,6 +11,7 @@ use crate::decoding::length;
 use crate::pointers::{base_register, pointer_register};
 use crate::program::{WORDS, instruction, word};
 use crate::register_set::writes;
+use avr_model::device::Device;
 use avr_model::instruction::{BinaryOp, ImmediateOp, Instr};
 
 // The greatest distance in words from a pointer's load to its store.
@@ -71,19 +72,20 @@ fn set_before(register: u16, instr: &Instr, behind: Option<bool>) -> Option<bool
 // The answer for the path from word `at`; `one` and `two` are those from one and from two words later. `None` if the path meets an
 // undefined word, branches off or misses the store.
 fn told_from(
+    device: Device,
     words: &[u16],
     at: usize,
     register: u16,
     one: Option<PointerTold>,
     two: Option<PointerTold>,
 ) -> Option<PointerTold>
-    requires flash { IsFlash words.now }
+    requires flash { IsFlash (image device words.now) }
     requires room { at < 131072 }
     requires register { register < 31 }
-    ensures { result ≡ told_before register (instruction_at words.now at) (if length_of (word_at words.now at) == 1 then one else two) }
+    ensures { result ≡ told_before register (instruction_at (image device words.now) at) (if length_of (word_at (image device words.now) at) == 1 then one else two) }
 {
-    let instr = instruction(words, at)?;
-    let rest = if length(word(words, at)) == 1 {
+    let instr = instruction(device, words, at)?;
+    let rest = if length(word(device, words, at)) == 1 {
         one
     } else {
         two
@@ -110,12 +112,12 @@ fn loads(told: Option<PointerTold>, unset: bool) -> bool
 
 /// Whether word `a` is `st` or `std` with its pointer surely loaded just before. From some word 1 to 32 words before it, decoding forward
 /// reaches it exactly, through defined words without a jump, call, return, branch or skip, and the last instruction there that sets each
-/// register of the pointer is `ldi`. `words` are those of any device's flash, modulo whose number addresses count. Source: own.
-pub fn is_fixed(words: &[u16], a: u16) -> bool
-    requires { IsFlash words.now }
-    ensures { result ≡ is_fixed words.now a }
+/// register of the pointer is `ldi`. `words` are those of the device's flash, modulo whose number addresses count. Source: own.
+pub fn is_fixed(device: Device, words: &[u16], a: u16) -> bool
+    requires { IsFlash (image device words.now) }
+    ensures { result ≡ is_fixed (image device words.now) a }
 {
-    let Some(instr) = instruction(words, a as usize) else {
+    let Some(instr) = instruction(device, words, a as usize) else {
         return false;
     };
     let Some(register) = store_pointer(&instr) else {
@@ -128,7 +130,14 @@ pub fn is_fixed(words: &[u16], a: u16) -> bool
     });
     let mut two = None;
     for distance in 1..FARTHEST + 1 {
-        let told = told_from(words, usize::from(a) + WORDS - distance, register, one, two);
+        let told = told_from(
+            device,
+            words,
+            usize::from(a) + WORDS - distance,
+            register,
+            one,
+            two,
+        );
         if loads(told, false) {
             return true;
         }

@@ -1,13 +1,14 @@
 //! The decoded form of a program's words.
 
 ghost use Rattle.std.specs.Prelude.{◌≤◌, IfOk, length};
-ghost use Rattle.avr_model.specs.Devices.{IsFlash};
+ghost use Rattle.avr_model.specs.Devices.{IsFlash, image};
 ghost use Rattle.avr_model.specs.Image.{AreErased};
 ghost use Rattle.avr_decode.specs.Reading.{AreReadings};
 
 use crate::fixed::is_fixed;
 use crate::program::instruction;
 use crate::scratch::is_scratch;
+use avr_model::device::Device;
 use avr_model::instruction::Instr;
 use std::alloc::{AllocError, Global};
 
@@ -35,19 +36,19 @@ pub fn written(words: &[u16]) -> usize
 }
 
 impl Reading {
-    /// The decoded form of each word up to the last one that is not erased. `words` are those of any device's flash, modulo whose number
+    /// The decoded form of each word up to the last one that is not erased. `words` are those of the device's flash, modulo whose number
     /// addresses count.
-    pub fn all(alloc: Global, words: &[u16]) -> Result<Vec<Reading>, AllocError>
-        requires { IsFlash words.now }
-        ensures { IfOk result (λ v. AreReadings words.now v.items) }
+    pub fn all(alloc: Global, device: Device, words: &[u16]) -> Result<Vec<Reading>, AllocError>
+        requires { IsFlash (image device words.now) }
+        ensures { IfOk result (λ v. AreReadings (image device words.now) v.items) }
     {
         let count = written(words);
         let mut readings = Vec::with_capacity(alloc, count)?;
         for a in 0..count {
             readings.push(Reading {
-                instruction: instruction(words, a),
-                is_fixed: is_fixed(words, a as u16),
-                is_scratch: is_scratch(words, a as u16),
+                instruction: instruction(device, words, a),
+                is_fixed: is_fixed(device, words, a as u16),
+                is_scratch: is_scratch(device, words, a as u16),
             })?;
         }
         Ok(readings)

@@ -1,9 +1,9 @@
 //! The rule of jump tables: an index is added to a table's address and an `ijmp` follows.
 
 ghost use Rattle.std.specs.Prelude.{◌≡◌, ◌<◌, ◌≤◌, ◌+◌, ◌&&◌};
-ghost use Rattle.avr_model.specs.Devices.{IsFlash};
+ghost use Rattle.avr_model.specs.Devices.{IsFlash, image};
 ghost use Rattle.avr_model.specs.Image.{WORDS};
-ghost use Rattle.avr_model.specs.Sites.{adds_low, adds_high, is_some_that, instruction_at, onward, ijmp_from, table_site};
+ghost use Rattle.avr_model.specs.Sites.{adds_low, adds_high, is_some_that, is_ijmp, instruction_at, onward, ijmp_from, table_site};
 
 use crate::decoding::length;
 use crate::fixed::leaves;
@@ -26,13 +26,13 @@ pub fn adds_low(instr: &Instr) -> bool
 }
 
 // Whether word `at` and the next one, an `sbci` of r31, add an index to a table's address.
-fn adds(words: &[u16], at: usize) -> bool
-    requires flash { IsFlash words.now }
+fn adds(device: Device, words: &[u16], at: usize) -> bool
+    requires flash { IsFlash (image device words.now) }
     requires room { at < 65536 }
-    ensures { result ≡ (is_some_that adds_low (instruction_at words.now at) && is_some_that adds_high (instruction_at words.now (at + 1))) }
+    ensures { result ≡ (is_some_that adds_low (instruction_at (image device words.now) at) && is_some_that adds_high (instruction_at (image device words.now) (at + 1))) }
 {
-    match &instruction(words, at) {
-        Some(instr) if adds_low(instr) => match &instruction(words, at + 1) {
+    match &instruction(device, words, at) {
+        Some(instr) if adds_low(instr) => match &instruction(device, words, at + 1) {
             Some(Instr::Immediate(ImmediateOp::Sbci, register, _)) => register.get() == 31,
             _ => false,
         },
@@ -53,40 +53,46 @@ fn onward(at: u16, size: u16, instr: &Instr) -> Option<u16>
     }
 }
 
+fn is_ijmp(instr: &Instr) -> bool
+    ensures { result ≡ is_ijmp instr.now }
+{
+    matches!(*instr, Instr::Ijmp)
+}
+
 // The word of the `ijmp` that at most `most` instructions from word `at` reach, itself counted.
 #[tactic(auto, using(crate::proofs::JumpTables::none_left, crate::proofs::JumpTables::undefined, crate::proofs::JumpTables::ended, crate::proofs::JumpTables::left, crate::proofs::JumpTables::went_on))]
-fn ijmp_from(words: &[u16], most: u8, at: u16) -> Option<u16>
-    requires flash { IsFlash words.now }
+fn ijmp_from(device: Device, words: &[u16], most: u8, at: u16) -> Option<u16>
+    requires flash { IsFlash (image device words.now) }
     requires inside { at < WORDS }
-    ensures { result ≡ ijmp_from words.now most at }
+    ensures { result ≡ ijmp_from (image device words.now) most at }
 {
     if most == 0 {
         return None;
     }
-    let Some(instr) = instruction(words, usize::from(at)) else {
+    let Some(instr) = instruction(device, words, usize::from(at)) else {
         return None;
     };
-    if matches!(instr, Instr::Ijmp) {
+    if is_ijmp(&instr) {
         return Some(at);
     }
-    let Some(next) = onward(at, length(word(words, usize::from(at))), &instr) else {
+    let Some(next) = onward(at, length(word(device, words, usize::from(at))), &instr) else {
         return None;
     };
-    ijmp_from(words, most - 1, Device::of_words(words).wrap(next))
+    ijmp_from(device, words, most - 1, device.wrap(next))
 }
 
 /// The word of the `ijmp` of a table site, if one begins at `a`. Word `a` is a `subi` of r30 and the next one an `sbci` of r31. At most 16
 /// instructions lead from there to the `ijmp`, itself counted, along `jmp` and `rjmp` and without a branch, skip, call, return or undefined
-/// word. `words` are those of any device's flash, modulo whose number addresses count. Source: own.
+/// word. `words` are those of the device's flash, modulo whose number addresses count. Source: own.
 #[tactic(auto, using(crate::proofs::JumpTables::two_behind), unfolding(avr_model::specs::Sites::table_site))]
-pub fn table_site(words: &[u16], a: u16) -> Option<u16>
-    requires { IsFlash words.now }
-    ensures { result ≡ table_site words.now a }
+pub fn table_site(device: Device, words: &[u16], a: u16) -> Option<u16>
+    requires { IsFlash (image device words.now) }
+    ensures { result ≡ table_site (image device words.now) a }
 {
     let at = usize::from(a);
-    if adds(words, at) {
-        let from = Device::of_words(words).wrap(a % WORDS + 2);
-        ijmp_from(words, MOST, from)
+    if adds(device, words, at) {
+        let from = device.wrap(a % WORDS + 2);
+        ijmp_from(device, words, MOST, from)
     } else {
         None
     }

@@ -4,8 +4,7 @@ use Rattle.std.specs.Prelude.{slice_index, slice_set}
 use Rattle.std.proofs.lemmas.List.{length-take, length-take-le, get_or-take, get_or_past, take_all, set_past, take-replicate}
 use Rattle.std.proofs.Math.Seq.{take-set-lt}
 use Rattle.avr_model.specs.declared.device.Device.{Device}
-use Rattle.avr_model.specs.declared.device.Device.TheVariants.{M328}
-use Rattle.avr_model.specs.Devices.{size_of}
+use Rattle.avr_model.specs.Devices.{M328, size_of, device_row}
 use Rattle.avr_model.specs.State.{Memory}
 use Rattle.avr_model.proofs.AllLaws.{devices_are_alike}
 
@@ -13,6 +12,7 @@ pub count_part : (device : Device) (bytes : List ℕ) → length bytes ≡ 2048 
 count_part device bytes n = length-take-le (size_of device) bytes (let most = devices_are_alike.most_bytes device in omega (arith, most, n))
 
 pub whole_part : (bytes : List ℕ) → length bytes ≡ 2048 → take (size_of M328) bytes ≡ bytes
+unfolding device_row
 whole_part bytes n = take_all 2048 bytes (omega (arith, n))
 
 pub filled_part : {A : Type 0} (device : Device) (x : A) → take (size_of device) (replicate 2048 x) ≡ replicate (size_of device) x

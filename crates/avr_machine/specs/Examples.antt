@@ -1,7 +1,7 @@
 -- Worked rows of stores under the line `masks`, on the ATmega328P: the enable bits of INT0 and INT1 are at address 0x3D, and INT0 is
 -- entered at word 2.
 use Rattle.std.specs.Prelude.{◌≡◌, refl, true, false, List, [], ◌∷◌}
-use Rattle.avr_model.specs.declared.device.Device.TheVariants.{M328}
+use Rattle.avr_model.specs.Devices.{M328, device_row}
 use Rattle.avr_model.specs.declared.assumption.Entry.{Entry}
 use Rattle.avr_model.specs.declared.assumption.Entry.TheVariants.{Masks, Store, Never}
 use Rattle.avr_model.specs.Assumptions.{has_masks, store_line, is_never}
@@ -13,32 +13,32 @@ lines = Masks ∷ Never 2 ∷ Store 6 (0 ∷ []) ∷ []
 
 -- into r0, and to SREG
 into_a_register : is_flagged_write M328 lines 1 0 0xFF ≡ true
-unfolding admits_enables has_masks store_line
+unfolding device_row admits_enables has_masks store_line
 into_a_register = refl
 
 to_the_status_register : is_flagged_write M328 lines 1 0x5F 0 ≡ true
-unfolding admits_enables has_masks store_line
+unfolding device_row admits_enables has_masks store_line
 to_the_status_register = refl
 
 -- 2 enables INT1, and 3 also INT0, which is never taken
 enables_another : is_flagged_write M328 lines 1 0x3D 2 ≡ false
-unfolding admits_enables has_masks store_line enables_barred is_never
+unfolding device_row admits_enables has_masks store_line enables_barred is_never
 enables_another = refl
 
 enables_what_is_barred : is_flagged_write M328 lines 1 0x3D 3 ≡ true
-unfolding admits_enables has_masks store_line enables_barred is_never
+unfolding device_row admits_enables has_masks store_line enables_barred is_never
 enables_what_is_barred = refl
 
 -- a site with a `store` line, which lists r0 alone
 listed_register : is_flagged_write M328 lines 6 0 0xFF ≡ false
-unfolding admits_enables has_masks store_line has_enables
+unfolding device_row admits_enables has_masks store_line has_enables
 listed_register = refl
 
 unlisted_enable_bits : is_flagged_write M328 lines 6 0x3D 2 ≡ true
-unfolding admits_enables has_masks store_line has_enables
+unfolding device_row admits_enables has_masks store_line has_enables
 unlisted_enable_bits = refl
 
 -- without the line
 without_the_line : is_flagged_write M328 (Never 2 ∷ []) 1 0x3D 2 ≡ true
-unfolding admits_enables has_masks store_line has_enables
+unfolding device_row admits_enables has_masks store_line has_enables
 without_the_line = refl

@@ -4,7 +4,7 @@ ghost use Rattle.std.specs.Prelude.{◌≡◌, ◌<◌, false, None};
 ghost use Rattle.avr_model.specs.Devices.{words_of};
 ghost use Rattle.avr_model.specs.Sites.{pointer_register};
 ghost use Rattle.avr_model.specs.State.{pair, register};
-ghost use Rattle.avr_model.specs.Effects.{storing, store_effect, port, out_effect, bit_effect, pointed};
+ghost use Rattle.avr_model.specs.Effects.{delay_of_out, storing, store_effect, port, out_effect, bit_effect, pointed};
 ghost use Rattle.avr_model.specs.Step.{result_of, state_after};
 ghost use Rattle.avr_machine.specs.Quiet.{protected_at, store_answer};
 
@@ -78,7 +78,14 @@ impl Processor {
         }
     }
 
-    /// `out`: one more instruction executes before any interrupt where it turns I on (own for `out`).
+    // Whether this write to a data address turns I on.
+    fn turns_on(&self, address: u16, byte: u8) -> bool
+        ensures { result ≡ delay_of_out self.now address byte }
+    {
+        address == SREG && has_bit(byte, I) && !self.flag(I)
+    }
+
+    /// `out`. If it sets I, one more instruction executes before any interrupt (own for `out`).
     pub fn output(&mut self, address: u16, r: u16) -> StepResult
         requires address { address < 64 }
         requires r { r < 32 }
@@ -88,7 +95,7 @@ impl Processor {
         let address = IO + address;
         let byte = self.register(r);
         let next = self.further(1);
-        let delay = address == SREG && has_bit(byte, I) && !self.flag(I);
+        let delay = self.turns_on(address, byte);
         self.store_step(None, Write { address, byte }, next, delay)
     }
 

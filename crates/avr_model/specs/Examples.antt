@@ -4,7 +4,7 @@ use Rattle.std.specs.Fmt.{digits}
 use Rattle.avr_model.specs.declared.instruction.Instr.TheVariants as i
 use Rattle.avr_model.specs.declared.instruction.Base.TheVariants as base
 use Rattle.avr_model.specs.declared.device.TheConstants as device
-use Rattle.avr_model.specs.Devices.{Program, device_of}
+use Rattle.avr_model.specs.Devices.{Program, M328, device_row}
 use Rattle.avr_model.specs.Image.{WORDS}
 use Rattle.avr_model.specs.State.{SIZE, BELOW, SPL, SPH, SREG}
 use Rattle.avr_model.specs.Table.{decoded, length_of}
@@ -33,8 +33,8 @@ pub code_has_sreg : SREG ≡ device.SREG
 code_has_sreg = refl
 
 -- the ATmega328P's flash that begins with these words, and is erased behind them
-abbrev pub firmware : Program → List ℕ
-firmware words = words ++ replicate 16384 0xFFFF
+abbrev pub firmware : List ℕ → Program
+firmware words = record { device = M328; words = words ++ replicate 16384 0xFFFF }
 
 -- `std` through Z without displacement, `ld` of r30 through Z+ is no instruction, and `sts` takes two words
 pub store_decodes : decoded 0x8300 0xFFFF ≡ Some (i.Std base.Z 0 16)
@@ -54,54 +54,54 @@ unfolding length_of
 store_length = refl
 
 -- a frame of three bytes: rcall to the next word, push r1, in r28, in r29, std Y+1, three pops
-abbrev pub small_frame : List ℕ
+abbrev pub small_frame : Program
 small_frame = firmware (0xD000 ∷ 0x921F ∷ 0xB7CD ∷ 0xB7DE ∷ 0x8389 ∷ 0x900F ∷ 0x900F ∷ 0x900F ∷ 0xCFFF ∷ [])
 
 pub frame_scratch : map (is_scratch small_frame) (0 ∷ 1 ∷ 2 ∷ 3 ∷ 5 ∷ []) ≡ true ∷ true ∷ false ∷ false ∷ false ∷ []
-unfolding device_of is_scratch any_below all_below
+unfolding device_row is_scratch any_below all_below
 frame_scratch = refl
 
 -- a jump, ldi r30, ldi r31, std Z+0
-abbrev pub fixed_store : List ℕ
+abbrev pub fixed_store : Program
 fixed_store = firmware (0xC001 ∷ 0xE0E0 ∷ 0xE0F1 ∷ 0x8300 ∷ 0xCFFF ∷ [])
 
 pub store_is_fixed : is_fixed fixed_store 3 ≡ true
-unfolding device_of is_fixed any_below path_behind is_loaded_behind decoded length_of
+unfolding device_row is_fixed any_below path_behind is_loaded_behind decoded length_of
 store_is_fixed = refl
 
 pub ldi_is_not_fixed : is_fixed fixed_store 2 ≡ false
-unfolding device_of is_fixed any_below path_behind is_loaded_behind decoded length_of
+unfolding device_row is_fixed any_below path_behind is_loaded_behind decoded length_of
 ldi_is_not_fixed = refl
 
 -- cpi and brcc before, ldi r31, subi r30, sbci r31, ijmp, and a table of two jumps
-abbrev pub jump_table : List ℕ
+abbrev pub jump_table : Program
 jump_table = firmware (0x3082 ∷ 0xF430 ∷ 0x2FE8 ∷ 0xE0F0 ∷ 0x5FE9 ∷ 0x4FFF ∷ 0x9409 ∷ 0xC001 ∷ 0xC000 ∷ 0xCFFF ∷ [])
 
 pub tables_begin_at_subi : map (table_site jump_table) (3 ∷ 4 ∷ 5 ∷ []) ≡ None ∷ Some 6 ∷ None ∷ []
-unfolding device_of table_site ijmp_from decoded length_of
+unfolding device_row table_site ijmp_from decoded length_of
 tables_begin_at_subi = refl
 
 -- subi r30, sbci r31, then a jump over one word to `lpm r0, Z+` and `ijmp`
 pub ways_follow_jumps : table_site (firmware (0x5FE9 ∷ 0x4FFF ∷ 0xC001 ∷ 0x9508 ∷ 0x9005 ∷ 0x9409 ∷ [])) 0 ≡ Some 5
-unfolding device_of table_site ijmp_from decoded length_of
+unfolding device_row table_site ijmp_from decoded length_of
 ways_follow_jumps = refl
 
 -- a branch, and an undefined word, end the path
 pub branches_end_ways : table_site (firmware (0x5FE9 ∷ 0x4FFF ∷ 0xF400 ∷ 0x9409 ∷ [])) 0 ≡ None
-unfolding device_of table_site ijmp_from decoded length_of
+unfolding device_row table_site ijmp_from decoded length_of
 branches_end_ways = refl
 
 pub undefined_words_end_ways : table_site (firmware (0x5FE9 ∷ 0x4FFF ∷ 0xFFFF ∷ 0x9409 ∷ [])) 0 ≡ None
-unfolding device_of table_site ijmp_from decoded length_of
+unfolding device_row table_site ijmp_from decoded length_of
 undefined_words_end_ways = refl
 
 -- `ijmp` is the last of 16 instructions at most
 pub sixteen_lead_there : table_site (firmware (0x5FE9 ∷ 0x4FFF ∷ replicate 15 0 ++ 0x9409 ∷ [])) 0 ≡ Some 17
-unfolding device_of table_site ijmp_from decoded length_of
+unfolding device_row table_site ijmp_from decoded length_of
 sixteen_lead_there = refl
 
 pub seventeen_are_too_many : table_site (firmware (0x5FE9 ∷ 0x4FFF ∷ replicate 16 0 ++ 0x9409 ∷ [])) 0 ≡ None
-unfolding device_of table_site ijmp_from decoded length_of
+unfolding device_row table_site ijmp_from decoded length_of
 seventeen_are_too_many = refl
 
 pub watchdog_enable : enable_of 0x60 6 ≡ Some 7

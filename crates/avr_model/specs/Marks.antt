@@ -71,7 +71,7 @@ loaded_byte p (Some x) = if loads x.op && (x.register == p) then x.byte ∷ [] e
 
 -- the bytes that the text loads into register p: 0, and that of each `ldi`
 abbrev pub loaded_bytes : Program → ℕ → List ℕ
-loaded_bytes words p = 0 ∷ joined_below (length words) (λ a. loaded_byte p (immediate_at words a))
+loaded_bytes words p = 0 ∷ joined_below (length words.words) (λ a. loaded_byte p (immediate_at words a))
 
 abbrev pub compares : ImmediateOp → Bool
 compares immediate.Cpi = true
@@ -110,4 +110,4 @@ marks_at words a = marks_from words a (immediate_at words a)
 
 -- The marks of a program, by the words of a device's flash; word addresses count modulo their number.
 unfoldable pub marks : Program → List ℕ
-marks words = usual_marks ++ joined_below (length words) (marks_at words)
+marks words = usual_marks ++ joined_below (length words.words) (marks_at words)

@@ -4,6 +4,7 @@ ghost use Rattle.std.specs.Prelude.{ℕ, ◌≡◌, ◌≤◌, ◌↔◌, List, 
 ghost use Rattle.avr_model.specs.declared.assumption.Entry.{Entry};
 ghost use Rattle.avr_model.specs.Assumptions.{has_pairs};
 ghost use Rattle.avr_model.specs.Run.{Bounded};
+ghost use Rattle.avr_model.specs.Devices.{Program};
 ghost use Rattle.edge_rules.specs.Expansion.{IsFilled};
 ghost use Rattle.call_graph.specs.declared.worked.Worked as worked_type;
 ghost use Rattle.call_graph.specs.Exits.{AreExits};
@@ -152,7 +153,7 @@ pub fn judge_family(task: &Task<'_>, certificate: &Certificate) -> Result<Judgem
 
 // The verdict of a judgement.
 fn verdict_of(certificate: &Certificate, judgement: Judgement) -> Verdict
-    ensures { (words : List ℕ) (A : List Entry) → IsJudgement words A certificate.now judgement → IsVerdict words A certificate.now result }
+    ensures { (words : Program) (A : List Entry) → IsJudgement words A certificate.now judgement → IsVerdict words A certificate.now result }
 {
     match judgement {
         Judgement::Accepted(family) => {

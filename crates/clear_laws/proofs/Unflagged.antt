@@ -5,7 +5,7 @@ use Rattle.std.proofs.lemmas.Bool.Decides.{nat_tests}
 use Rattle.std.proofs.lemmas.Bool.{false_from_ne_true as never, and_from, and_left, and_parts, or_cases, or_from, or_left, or_parts, or_right, not-true, cases_lt}
 use Rattle.basics.specs.Booleans.{never_both, left_of_and}
 use Rattle.basics.specs.Numbers.{less_from_test, at_most_from_test}
-use Rattle.frame_laws.proofs.AllLaws.{vector_inside, vector_small}
+use Rattle.frame_laws.proofs.AllLaws.{vector_small}
 use Rattle.avr_model.proofs.AllLaws.{devices_are_alike}
 use Rattle.avr_model.specs.declared.assumption.Entry.{Entry}
 use Rattle.avr_model.specs.declared.device.Device.{Device}
@@ -234,7 +234,7 @@ module _ (words : Program) (A : List Entry) (f : RankedFamily) (sound : IsSoundF
   -- the word of a vector
   vector_is : (v : ℕ) → is_enabled m.enables v ≡ true → wrapped m.device (vector_word m.device v) ≡ vector_word (device_of words) v
   vector_is v enabled =
-      devices_are_alike.same m.device (vector_word m.device v) (vector_inside m.device v (vector_small m.enables v enabled))
+      devices_are_alike.same m.device (vector_word m.device v) (devices_are_alike.vectors m.device v (vector_small m.enables v enabled))
       ∙ ap (λ device. vector_word device v) runs.device
 
   -- nothing is protected above the first addresses of data space

@@ -3,11 +3,11 @@ use Rattle.std.specs.Prelude.{ℕ, ◌≡◌, ◌==◌, ◌&&◌, not, nat_le, B
 use Rattle.std.specs.Option.{option_map}
 use Rattle.std.specs.Str.{bytes_eq}
 use Rattle.avr_model.specs.declared.device.Device.{Device}
-use Rattle.avr_model.specs.declared.device.Device.TheVariants.{M48, M88, M168, M328}
+use Rattle.avr_model.specs.Devices.{M48, M88, M168, M328}
 use Rattle.sb_base.specs.declared.digits.DigitFault.{DigitFault}
 use Rattle.sb_base.specs.Digits.{dec_answer}
-use Rattle.commands.specs.declared.line.Valued.{Valued}
-use Rattle.commands.specs.declared.line.Valued.TheVariants as option
+use Rattle.commands.specs.Options.{Valued}
+use Rattle.commands.specs.Options as option
 
 -- A command, with its device and the names of its files: judge a certificate; write the least one, within a number of rounds if given;
 -- replay a schedule; judge a certificate and report it, or the origin of its bound, or whether no step can be flagged, or where a step

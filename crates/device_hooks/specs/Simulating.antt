@@ -37,7 +37,7 @@ chosen setup words A (suc n) p m =
     choice_on setup p (picked setup p m)
     ∷ choices_on (step words A m (choice_on setup p (picked setup p m))) (λ s. chosen setup words A n (next_on setup p (picked setup p m)) s)
 
--- the initial state: after reset with the fill byte everywhere, on the device of these words
+-- the initial state: after reset with the fill byte everywhere, on the image's device
 abbrev pub initial : Program → Setup → State
 initial words setup = filled (device_of words) setup.fill
 

@@ -4,7 +4,6 @@ use Rattle.std.proofs.lemmas.Bool.Decides.{nat_tests}
 use Rattle.avr_model.proofs.AllLaws.{devices_are_alike}
 use Rattle.avr_model.specs.Devices.{Program, device_of}
 use Rattle.avr_model.specs.declared.device.Device.{Device}
-use Rattle.avr_model.specs.declared.device.Device.TheVariants.{M48, M88, M168, M328}
 use Rattle.avr_model.specs.declared.assumption.Entry.{Entry}
 use Rattle.avr_model.specs.Image.{WORDS}
 use Rattle.avr_model.specs.Vectors.{is_enabled, vector_word}
@@ -103,10 +102,7 @@ enabled_small : (enables v : ℕ) → is_enabled enables v ≡ true → v ≤ 26
 enabled_small enables v e = grind (arith, nat_tests)
 
 pub vector_small : (device : Device) (v : ℕ) → v ≤ 26 → vector_word device v < WORDS
-vector_small M48 v h = omega arith
-vector_small M88 v h = omega arith
-vector_small M168 v h = omega arith
-vector_small M328 v h = omega arith
+vector_small device v h = let inside = devices_are_alike.vectors device v h in let most = devices_are_alike.most_words device in omega arith
 
 entered_node : {followed : Bool} (words : Program) (A : List Entry) (n : Node) (way : EdgeKind) (inst : InstKey) (back : ℕ) → IsNodeIn followed n.key n.state → Enters words A n way inst back
     → IsNodeIn followed (entry_key inst) (entered n.state) × (back < WORDS)

@@ -65,7 +65,7 @@ abbrev pub AreLeft : Program → List Entry → RankedFamily → Memory → List
 AreLeft words A f memory [] inst o = (inst ≡ root_inst) × (o.base ≡ ramend (device_of words))
 AreLeft words A f memory (g ∷ gs) inst o = IsLeft words A f memory g inst o × AreLeft words A f memory gs g.node.key.inst g.origin
 
--- the machine has the device of these words, and runs in the frame g, above the frames gs
+-- the machine has the image's device, and runs in the frame g, above the frames gs
 pub record Runs (words : Program) (A : List Entry) (f : RankedFamily) (m : State) (g : Frame) (gs : List Frame) : Type 0 where
   pub device : m.device ≡ device_of words
   pub present : Contains f.nodes g.node

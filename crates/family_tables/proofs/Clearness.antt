@@ -6,7 +6,7 @@ use Rattle.basics.specs.Items.{none_in, first_or_further, first_in}
 use Rattle.avr_model.specs.declared.instruction.Instr.TheVariants as i
 use Rattle.avr_model.specs.Assumptions.{has_pairs}
 use Rattle.avr_model.specs.Bits.{any_below, all_below}
-use Rattle.avr_model.specs.Devices.{size_of, device_of}
+use Rattle.avr_model.specs.Devices.{size_of, device_of, device_row}
 use Rattle.avr_model.specs.Sites.{instruction_at, is_scratch, table_site, ijmp_from}
 use Rattle.avr_model.specs.Table.{decoded}
 use Rattle.avr_model.specs.Vectors.{row_of}
@@ -50,19 +50,19 @@ use Rattle.family_tables.specs.Stores.{over_room, over_pushed, with_bytes, at_de
 use Rattle.family_tables.specs.Clearness.{ClearnessIsMet}
 
 room_leads : raw_of over_room [] (at_depth 0 0) ≡ one (at_depth 1 2).key (with_bytes 2)
-unfolding raw table_site ijmp_from is_scratch any_below all_below decoded device_of
+unfolding raw table_site ijmp_from is_scratch any_below all_below decoded device_row
 room_leads = refl
 
 read_leads : raw_of over_room [] (at_depth 1 2) ≡ one (at_depth 2 2).key (record (with_bytes 2) { registers = set (with_bytes 2) 28 (known 0xFD) })
-unfolding raw table_site ijmp_from is_scratch any_below all_below decoded device_of read_at
+unfolding raw table_site ijmp_from is_scratch any_below all_below decoded device_row read_at
 read_leads = refl
 
 store_leads : raw_of over_room [] (at_depth 2 2) ≡ one (at_depth 4 2).key (with_bytes 2)
-unfolding raw table_site ijmp_from is_scratch any_below all_below decoded device_of written_at numbers_of enable_tri row_of
+unfolding raw table_site ijmp_from is_scratch any_below all_below decoded device_row written_at numbers_of enable_tri row_of
 store_leads = refl
 
 loop_leads : raw_of over_room [] (at_depth 4 2) ≡ one (at_depth 4 2).key (with_bytes 2)
-unfolding raw table_site ijmp_from is_scratch any_below all_below decoded device_of
+unfolding raw table_site ijmp_from is_scratch any_below all_below decoded device_row
 loop_leads = refl
 
 -- ---- states in which nothing is known
@@ -170,7 +170,7 @@ offset_is : (a b : ℕ) → Closed a ≡ Closed b → a ≡ b
 offset_is a b e = ap offset_of e
 
 room_small : 2 ≤ size_of (device_of over_room)
-unfolding device_of
+unfolding device_row
 room_small = omega arith
 
 abbrev read_node : Node
@@ -211,7 +211,7 @@ room_is_sound =
 -- ---- nothing is pushed, so no slot is held, and each node is clear
 
 nothing_pushed : (n : Node) → Contains room_family.nodes n → is_guarded_push over_room n.key.pc ≡ false
-unfolding is_scratch any_below all_below decoded device_of
+unfolding is_scratch any_below all_below decoded device_row
 nothing_pushed = four (λ (n : Node). is_guarded_push over_room n.key.pc ≡ false) refl refl refl refl
 
 nothing_held : (k : NodeKey) (d : ℕ) → MayHold over_room [] room_family.nodes k d → ⊥
@@ -228,7 +228,7 @@ clear_by_test : (n : Node) → is_clear over_room [] 2 n (λ d. false) ≡ true 
 clear_by_test n = clear_nodes_are_told.clear over_room [] room_family n (λ d. false) (λ d lt none may. nothing_held n.key d may)
 
 room_is_clear : (n : Node) → Contains room_family.nodes n → IsClear over_room [] room_family n
-unfolding decoded device_of
+unfolding decoded device_row
 room_is_clear =
     four (IsClear over_room [] room_family) (clear_by_test (at_depth 0 0) refl) (clear_by_test (at_depth 1 2) refl) (clear_by_test (at_depth 2 2) clear_where_free)
     (clear_by_test (at_depth 4 2) refl)
@@ -236,7 +236,7 @@ room_is_clear =
 -- ---- a byte that was pushed is held, though its slot is free
 
 push_leads : raw_of over_pushed [] (at_depth 1 1) ≡ one (at_depth 2 2).key (record (with_bytes 1) { slots = Free ∷ Guarded (value (with_bytes 1) 0) ∷ [] })
-unfolding raw table_site ijmp_from is_scratch any_below all_below decoded device_of
+unfolding raw table_site ijmp_from is_scratch any_below all_below decoded device_row
 push_leads = refl
 
 held_there : MayHold over_pushed [] pushed_family.nodes (at_depth 2 2).key 1
@@ -247,7 +247,7 @@ held_there =
     (moving to (ap (λ (r : Raw). r.faults) push_leads) (subst (λ (r : Raw). Contains (joined_onto [] r.moves) to) (sym push_leads) (first_in to []))) refl push_is_guarded
 
 at_store : instruction_at over_pushed 2 ≡ Some (i.Sts 0x08FE 0)
-unfolding decoded device_of
+unfolding decoded device_row
 at_store = refl
 
 abbrev store_aim : Aim
@@ -260,7 +260,7 @@ last_of span e = sym (span_is _ span e)
     span_is a b e = cc
 
 top_is : IsHarmless over_pushed [] pushed_family (at_depth 2 2) (i.Sts 0x08FE 0) store_aim → ⊥
-unfolding device_of
+unfolding device_row
 top_is (no_address is) = absurd (cc)
 top_is (under_stack span is low high) = omega (arith, high, ap (λ (s : Span). s.last) (last_of span is))
 top_is (above_memory span is over) = omega (arith, over, ap (λ (s : Span). s.first) (last_of span is))
@@ -272,7 +272,7 @@ top_is (free_slot d is lt none) = none (subst (MayHold over_pushed [] pushed_fam
     one_is d e = cc
 
 pushed_is_unclear : IsClear over_pushed [] pushed_family (at_depth 2 2) → ⊥
-unfolding device_of
+unfolding device_row
 pushed_is_unclear clear = top_is (clear.store (i.Sts 0x08FE 0) store_aim at_store refl)
 
 pub clearness_is_met : ClearnessIsMet

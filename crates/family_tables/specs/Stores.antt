@@ -1,7 +1,7 @@
 -- Two firmwares that store onto their own stack: onto a free byte, and onto a pushed one.
 use Rattle.std.specs.Prelude.{ℕ, ◌≡◌, true, false, List, [], ◌∷◌, replicate, refl}
 use Rattle.avr_model.specs.Bits.{any_below, all_below}
-use Rattle.avr_model.specs.Devices.{device_of}
+use Rattle.avr_model.specs.Devices.{device_row, Program, M328, image}
 use Rattle.avr_model.specs.Sites.{is_scratch, is_fixed}
 use Rattle.avr_model.specs.Table.{decoded}
 use Rattle.sp_domain.specs.declared.slots.Slot.TheVariants.{Free}
@@ -14,13 +14,13 @@ use Rattle.edge_rules.specs.Families.{RankedFamily}
 use Rattle.clear_laws.specs.Held.{is_guarded_push}
 use Rattle.clear_laws.specs.Clear.{is_clear}
 
--- a call of the next word makes room for two bytes; `in r28, 0x3d`; `sts 0x08FE, r0`, onto the second; a jump to itself
-abbrev pub over_room : List ℕ
-over_room = 0xD000 ∷ 0xB7CD ∷ 0x9200 ∷ 0x08FE ∷ 0xCFFF ∷ replicate 16379 0xFFFF
+-- a call of the next word makes room for two bytes; `in r28, 0x3d`; `sts 0x08FE, r0` onto the second byte; a jump to itself
+abbrev pub over_room : Program
+over_room = image M328 (0xD000 ∷ 0xB7CD ∷ 0x9200 ∷ 0x08FE ∷ 0xCFFF ∷ replicate 16379 0xFFFF)
 
--- the same, where two registers are pushed
-abbrev pub over_pushed : List ℕ
-over_pushed = 0x920F ∷ 0x920F ∷ 0x9200 ∷ 0x08FE ∷ 0xCFFF ∷ replicate 16379 0xFFFF
+-- the same, but two registers are pushed
+abbrev pub over_pushed : Program
+over_pushed = image M328 (0x920F ∷ 0x920F ∷ 0x9200 ∷ 0x08FE ∷ 0xCFFF ∷ replicate 16379 0xFFFF)
 
 -- a node of the root with this many unknown bytes on the stack
 abbrev pub with_bytes : ℕ → AbsState
@@ -40,14 +40,14 @@ pushed_family = family_of (at_depth 0 0 ∷ at_depth 1 1 ∷ at_depth 2 2 ∷ at
 
 -- the store is clear exactly if its slot may not hold a live byte
 pub clear_where_free : is_clear over_room [] 2 (at_depth 2 2) (λ d. false) ≡ true
-unfolding decoded is_fixed device_of
+unfolding decoded is_fixed device_row
 clear_where_free = refl
 
 pub unclear_where_held : is_clear over_pushed [] 2 (at_depth 2 2) (λ d. true) ≡ false
-unfolding decoded is_fixed device_of
+unfolding decoded is_fixed device_row
 unclear_where_held = refl
 
 -- `push` guards its byte; the call that makes room doesn't
 pub push_is_guarded : is_guarded_push over_pushed 1 ≡ true
-unfolding is_scratch any_below all_below decoded device_of
+unfolding is_scratch any_below all_below decoded device_row
 push_is_guarded = refl

@@ -32,7 +32,7 @@ use Rattle.round_steps.specs.declared.noting.Notes.{Notes}
 use Rattle.round_steps.specs.Notings.{blank}
 use Rattle.round_steps.specs.Joins.{AreNew, KeptBut}
 use Rattle.fixpoint.specs.Progress.{Turn, IsBudgetLeft, RoundsProgress, IsSpent, AreRoundsFound}
-use Rattle.fixpoint.specs.Tests.{AreRoundsStopped, IsReady}
+use Rattle.fixpoint.specs.Checks.{AreRoundsStopped, IsReady}
 use Rattle.fixpoint.proofs.Next.{next_turn, first_turn, not_closed, unchanged, closed_then}
 
 -- ---- the first family

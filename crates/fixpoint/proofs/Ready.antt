@@ -25,7 +25,7 @@ use Rattle.round_steps.specs.Looks.{AreSeen}
 use Rattle.round_steps.specs.Targets.{all_targets}
 use Rattle.round_steps.specs.Gathers.{AreBeyond}
 use Rattle.fixpoint.specs.Progress.{AreKnown, Turn}
-use Rattle.fixpoint.specs.Tests.{IsTooLarge, nesting_refusal, IsVerdictTold, AreRoundsStopped, IsReady}
+use Rattle.fixpoint.specs.Checks.{IsTooLarge, nesting_refusal, IsVerdictTold, AreRoundsStopped, IsReady}
 use Rattle.fixpoint.proofs.Looked.{seen_node, least_fault}
 use Rattle.fixpoint.proofs.Known.{nesting_is}
 use Rattle.fixpoint.proofs.Aims.{round_is}

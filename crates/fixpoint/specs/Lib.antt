@@ -1,5 +1,5 @@
 pub mod Progress
-pub mod Tests
+pub mod Checks
 pub mod Order
 pub mod OrderLaws
 pub mod Confirm

@@ -13,7 +13,7 @@ ghost use Rattle.round_steps.specs.Notings.{blank};
 ghost use Rattle.fixpoint.specs.Progress.{AreKnown, AreRoundsFound};
 ghost use Rattle.fixpoint.specs.Confirm.{AreKnownAt, LandAt};
 
-use crate::testing::{check_nesting, check_size, note_seen};
+use crate::checking::{check_nesting, check_size, note_seen};
 use crate::unfound::Unfound;
 use call_graph::Task;
 use mask_states::NodeKey;

@@ -2,13 +2,13 @@
 //! the rounds end, with least ranks and needs, and leaves out states that one edge alone determines. Source: own. Tests: `family_tables`.
 #![tactic(auto)]
 
+mod checking;
 mod confirming;
 pub mod forming;
 mod leading;
 pub mod ordering;
 pub mod rounds;
 pub mod solving;
-mod testing;
 mod unfound;
 mod writing;
 

@@ -13,9 +13,9 @@ ghost use Rattle.fixpoint.specs.Progress.{AreRoundsFound};
 ghost use Rattle.fixpoint.specs.Order.{IsUnderWay};
 ghost use Rattle.fixpoint.specs.OrderLaws.{OrdersEnd};
 
+use crate::checking::{check_nesting, check_size, note_seen};
 use crate::confirming::confirm;
 use crate::rounds::{least_family, start};
-use crate::testing::{check_nesting, check_size, note_seen};
 use crate::unfound::Unfound;
 use call_graph::Task;
 use flash_image::Flash;
@@ -114,8 +114,8 @@ fn ask_nesting(
     Ok(())
 }
 
-// Looks at nodes, the least offset and word first, until none waits, or so often at most. How instances nest is asked on the way, since the
-// rounds are stopped soon where they don't.
+// Visits nodes, the least offset and word first, until the worklist is empty, or so often at most. The nesting is checked on the way, since
+// a cycle ends the rounds early.
 fn walk(
     task: &Task<'_>,
     table: &mut Table,
@@ -147,7 +147,8 @@ fn walk(
     }
 }
 
-// Whether the rounds end at the family, with notes of its own. `drop` lets go of these: a call is one step of the proof, whatever they own.
+// Checks with new notes whether the rounds end at the family. `drop` releases the notes: a call is one step of the proof, whatever they
+// own.
 fn is_end(task: &Task<'_>, table: &Table, counted: u64) -> Result<(), Unfound>
     requires made { IsMade task.now.flash.now task.now.assumptions.now table.now }
     requires count { counted ≡ cells table.now }
@@ -161,7 +162,7 @@ fn is_end(task: &Task<'_>, table: &Table, counted: u64) -> Result<(), Unfound>
     told
 }
 
-// The walk from no nodes, none of which waits, with notes of its own: the number of the family's cells.
+// Worklist iteration from an empty family and with new notes. Returns the number of the family's cells.
 fn walked(task: &Task<'_>, table: &mut Table, most: usize) -> Result<u64, Unfound>
     requires { table.old ≡ empty }
     ensures made { OnOk result (IsMade task.now.flash.now task.now.assumptions.now table.new) }
@@ -179,7 +180,7 @@ fn walked(task: &Task<'_>, table: &mut Table, most: usize) -> Result<u64, Unfoun
     }
 }
 
-// The walk from an empty family to one at which the rounds end.
+// Worklist iteration from an empty family to one at which the rounds end.
 fn walk_to_end(task: &Task<'_>, table: &mut Table, most: usize) -> Result<(), Unfound>
     requires { table.old ≡ empty }
     ensures { OnOk result (AreRoundsFound task.now.flash.now task.now.assumptions.now None table.new) }

@@ -11,9 +11,9 @@ ghost use Rattle.round_rules.specs.Solutions.{IsWhyNot};
 ghost use Rattle.round_steps.specs.Joins.{KeptBut};
 ghost use Rattle.round_steps.specs.Notings.{blank};
 ghost use Rattle.fixpoint.specs.Progress.{Turn, IsBudgetLeft, IsSpent, AreRoundsFound};
-ghost use Rattle.fixpoint.specs.Tests.{AreRoundsStopped, IsReady};
+ghost use Rattle.fixpoint.specs.Checks.{AreRoundsStopped, IsReady};
 
-use crate::testing::{check_nesting, check_size, note_seen};
+use crate::checking::{check_nesting, check_size, note_seen};
 use call_graph::{Task, root_of};
 use local_rules::Node;
 use mask_states::{InstKey, NodeKey};

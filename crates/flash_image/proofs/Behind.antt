@@ -6,7 +6,7 @@ use Rattle.std.proofs.lemmas.List.{get_or-drop, get_or-take, length-drop, length
 use Rattle.std.proofs.lemmas.Grind.{same_number_lists}
 use Rattle.basics.specs.Numbers.{one_step_on}
 use Rattle.avr_model.specs.declared.device.Device.{Device}
-use Rattle.avr_model.specs.Devices.{Program, words_of}
+use Rattle.avr_model.specs.Devices.{Program, image, words_of}
 use Rattle.avr_model.specs.Image.{WORDS, IsNarrowed, IsOutside}
 use Rattle.flash_image.specs.Narrowing.{outside_word}
 use Rattle.avr_model.proofs.AllLaws.{devices_are_alike}
@@ -56,12 +56,14 @@ behind_at : (device : Device) (all : List ℕ) (k : ℕ) → slice_index (behind
 unfolding behind
 behind_at device all k = get_or-drop (words_of device) all k 0
 
-pub narrowed : (device : Device) (all : List ℕ) (words : Program) → length all ≡ WORDS → IsNarrowed device all words → words ≡ take (words_of device) all
+pub narrowed : (device : Device) (all : List ℕ) (words : Program) → length all ≡ WORDS → IsNarrowed device all words → words ≡ image device (take (words_of device) all)
 narrowed device all words size n =
     let most = devices_are_alike.most_words device in
     let count : length (take (words_of device) all) ≡ words_of device = length-take-le (words_of device) all (omega (arith, size, most)) in
-    same_number_lists words (take (words_of device) all) (n.count ∙ sym count)
-    (λ a lt. let less : a < words_of device = (let e = n.count in omega (arith, e, lt)) in n.each a less ∙ sym (get_or-take (words_of device) all a 0 less))
+    let same : words.words ≡ take (words_of device) all =
+    same_number_lists words.words (take (words_of device) all) (n.count ∙ sym count)
+    (λ a lt. let less : a < words_of device = (let e = n.count in omega (arith, e, lt)) in n.each a less ∙ sym (get_or-take (words_of device) all a 0 less)) in
+    λ i. image (n.is i) (same i)
 
 pub none_outside : (device : Device) (all : List ℕ) (words : Program) → length all ≡ WORDS → IsNarrowed device all words → outside_word device all ≡ None
 unfolding behind
@@ -82,12 +84,13 @@ one_outside device all word size o =
     (λ j lt. behind_at device all j ∙ o.least (words_of device + j) (omega arith) (omega (arith, lt, from)))
     ∙ ap Some place
 
-pub narrows : (device : Device) (all : List ℕ) → length all ≡ WORDS → outside_word device all ≡ None → IsNarrowed device all (take (words_of device) all)
+pub narrows : (device : Device) (all : List ℕ) → length all ≡ WORDS → outside_word device all ≡ None → IsNarrowed device all (image device (take (words_of device) all))
 unfolding behind
 narrows device all size none =
     let most = devices_are_alike.most_words device in
     let count = behind_length device all size in
     record {
+      is = refl;
       count = length-take-le (words_of device) all (omega (arith, size, most));
       each = λ a lt. get_or-take (words_of device) all a 0 lt;
       erased = λ a from lt.

@@ -23,11 +23,11 @@ undefined : (next : ℕ) → decoded 0xFFFF next ≡ None
 unfolding decoded
 undefined next = refl
 
-unwritten : (words : Program) (a : ℕ) → IsFlash words → a < length words → slice_index words a ≡ 0xFFFF → instruction_at words a ≡ None
+unwritten : (words : Program) (a : ℕ) → IsFlash words → a < length words.words → slice_index words.words a ≡ 0xFFFF → instruction_at words a ≡ None
 unwritten words a flash lt is = ap (on_device (device_of words)) (ap (λ (w : ℕ). decoded w (word_at words (a + 1))) (place ∙ is) ∙ undefined (word_at words (a + 1)))
   where
-    place : word_at words a ≡ slice_index words a
-    place = ap (slice_index words) (devices_are_alike.same (device_of words) a (omega (arith, lt, flash)))
+    place : word_at words a ≡ slice_index words.words a
+    place = ap (slice_index words.words) (devices_are_alike.same (device_of words) a (omega (arith, lt, flash)))
 
 joined_behind : (n m : ℕ) (f : ℕ → List ℕ) → n ≤ m → ((a : ℕ) → n ≤ a → a < m → f a ≡ []) → joined_below n f ≡ joined_below m f
 unfolding joined_below
@@ -42,14 +42,14 @@ joined_behind n (suc m) f le none = ⊎_elim (before (joined_behind n m f)) last
     last : suc m ≤ n → joined_below n f ≡ joined_below (suc m) f
     last ge = ap (λ (k : ℕ). joined_below k f) (let e : n ≡ suc m = omega (arith, le, ge) in e)
 
--- all marks, where those of the words up to the last written one are marked
-pub all_marked : (words : Program) (start now : List Bool) (n : ℕ) → IsFlash words → n ≤ length words → AreErased words n (length words)
+-- all marks, if those of the words up to the last written one are marked
+pub all_marked : (words : Program) (start now : List Bool) (n : ℕ) → IsFlash words → n ≤ length words.words → AreErased words.words n (length words.words)
     → now ≡ marked start (usual_marks ++ joined_below n (marks_at words)) → now ≡ marked start (marks words)
 unfolding marks
 all_marked words start now n flash le erased is =
-    is ∙ ap (λ (ms : List ℕ). marked start (usual_marks ++ ms)) (joined_behind n (length words) (marks_at words) le none)
+    is ∙ ap (λ (ms : List ℕ). marked start (usual_marks ++ ms)) (joined_behind n (length words.words) (marks_at words) le none)
   where
-    none : (a : ℕ) → n ≤ a → a < length words → marks_at words a ≡ []
+    none : (a : ℕ) → n ≤ a → a < length words.words → marks_at words a ≡ []
     none a from below = ap (λ (x : Option Instr). marks_from words a (immediate_in x)) (unwritten words a flash below (erased a from below))
 
 -- ---- noting what is loaded
@@ -127,13 +127,13 @@ noted_no_more words n table next so_far at is = record {
       ∙ sym (more_loaded words n p b);
 }
 
--- all
-pub all_loads : (words : Program) (n : ℕ) (table : List Bool) → IsFlash words → n ≤ length words → AreErased words n (length words) → AreLoadsBelow n words table
+-- all words
+pub all_loads : (words : Program) (n : ℕ) (table : List Bool) → IsFlash words → n ≤ length words.words → AreErased words.words n (length words.words) → AreLoadsBelow n words table
     → AreLoads words table
 all_loads words n table flash le erased so_far p b p_lt b_lt =
-    so_far p b p_lt b_lt ∙ ap (list_any (λ (m : ℕ). eqb m b)) (joined_behind n (length words) (λ a. loaded_byte p (immediate_at words a)) le none)
+    so_far p b p_lt b_lt ∙ ap (list_any (λ (m : ℕ). eqb m b)) (joined_behind n (length words.words) (λ a. loaded_byte p (immediate_at words a)) le none)
   where
-    none : (a : ℕ) → n ≤ a → a < length words → loaded_byte p (immediate_at words a) ≡ []
+    none : (a : ℕ) → n ≤ a → a < length words.words → loaded_byte p (immediate_at words a) ≡ []
     none a from below = ap (λ (x : Option Instr). loaded_byte p (immediate_in x)) (unwritten words a flash below (erased a from below))
 
 -- ---- a low byte with the high bytes that are loaded
@@ -219,16 +219,16 @@ side_marked words table start now p low n all p_lt low_lt size are is =
     is ∙ ap (λ (m : ℕ). marked start (low ∷ joined_below m (high_marks table p low))) all
     ∙ ap (λ (ms : List ℕ). marked start (low ∷ ms)) (sym (map_joined (λ (high : ℕ). 256 * high + low) 256 (if_told table p)))
     ∙ ap (λ (m : ℕ). marked start (m ∷ map (λ (high : ℕ). 256 * high + low) (joined_below 256 (if_told table p)))) first
-    ∙ same_marks (map (λ (high : ℕ). 256 * high + low) (0 ∷ joined_below 256 (if_told table p))) (map (λ (high : ℕ). 256 * high + low) (0 ∷ loaded_below words p (length words))) start each
+    ∙ same_marks (map (λ (high : ℕ). 256 * high + low) (0 ∷ joined_below 256 (if_told table p))) (map (λ (high : ℕ). 256 * high + low) (0 ∷ loaded_below words p (length words.words))) start each
   where
     first : low ≡ 256 * 0 + low
     first = omega arith
 
-    same : (m : ℕ) → m < 256 → list_any (λ (k : ℕ). eqb k m) (0 ∷ joined_below 256 (if_told table p)) ≡ list_any (λ (k : ℕ). eqb k m) (0 ∷ loaded_below words p (length words))
+    same : (m : ℕ) → m < 256 → list_any (λ (k : ℕ). eqb k m) (0 ∷ joined_below 256 (if_told table p)) ≡ list_any (λ (k : ℕ). eqb k m) (0 ∷ loaded_below words p (length words.words))
     same m lt = ap (λ (b : Bool). eqb 0 m || b) (told table p 256 m lt ∙ are p m p_lt lt)
 
     each : (k : ℕ) → k < length start
-        → list_any (λ (n : ℕ). eqb n k) (map (λ (high : ℕ). 256 * high + low) (0 ∷ joined_below 256 (if_told table p))) ≡ list_any (λ (n : ℕ). eqb n k) (map (λ (high : ℕ). 256 * high + low) (0 ∷ loaded_below words p (length words)))
+        → list_any (λ (n : ℕ). eqb n k) (map (λ (high : ℕ). 256 * high + low) (0 ∷ joined_below 256 (if_told table p))) ≡ list_any (λ (n : ℕ). eqb n k) (map (λ (high : ℕ). 256 * high + low) (0 ∷ loaded_below words p (length words.words)))
     each k lt =
         mapped_tell low k (0 ∷ joined_below 256 (if_told table p)) low_lt ∙ ap (λ (b : Bool). eqb (k % 256) low && b) (same (k / 256) (omega (arith, lt, size)))
-        ∙ sym (mapped_tell low k (0 ∷ loaded_below words p (length words)) low_lt)
+        ∙ sym (mapped_tell low k (0 ∷ loaded_below words p (length words.words)) low_lt)

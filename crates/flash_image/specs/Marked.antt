@@ -47,4 +47,4 @@ AreLoadsBelow n words table = (p b : ℕ) → p < 32 → b < 256 → slice_index
 
 -- the table has the bytes that the program loads, by register
 abbrev pub AreLoads : Program → List Bool → Type 0
-AreLoads words table = AreLoadsBelow (length words) words table
+AreLoads words table = AreLoadsBelow (length words.words) words table

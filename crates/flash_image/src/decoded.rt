@@ -15,7 +15,7 @@ impl Flash {
     pub fn decode(&mut self)
         ensures { self.new ≡ self.old }
     {
-        if let Ok(readings) = Reading::all(self.alloc, &self.words) {
+        if let Ok(readings) = Reading::all(self.alloc, self.device, &self.words) {
             self.readings = readings;
         }
     }
@@ -27,7 +27,7 @@ impl Flash {
     {
         match self.readings.get(usize::from(a)) {
             Some(reading) => reading.instruction,
-            None => avr_decode::instruction(&self.words, usize::from(a)),
+            None => avr_decode::instruction(self.device, &self.words, usize::from(a)),
         }
     }
 
@@ -37,7 +37,7 @@ impl Flash {
     {
         match self.readings.get(usize::from(a)) {
             Some(reading) => reading.is_fixed,
-            None => avr_decode::is_fixed(&self.words, a),
+            None => avr_decode::is_fixed(self.device, &self.words, a),
         }
     }
 
@@ -56,7 +56,7 @@ impl Flash {
     {
         match self.readings.get(usize::from(a)) {
             Some(reading) => reading.is_scratch,
-            None => avr_decode::is_scratch(&self.words, a),
+            None => avr_decode::is_scratch(self.device, &self.words, a),
         }
     }
 
@@ -66,7 +66,7 @@ impl Flash {
         ensures { result ≡ table_site self.now a }
     {
         match &self.instruction(a) {
-            Some(instr) if adds_low(instr) => avr_decode::table_site(&self.words, a),
+            Some(instr) if adds_low(instr) => avr_decode::table_site(self.device, &self.words, a),
             _ => None,
         }
     }

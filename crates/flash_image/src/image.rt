@@ -1,8 +1,7 @@
 //! The words of a device's flash.
 
 ghost use Rattle.std.specs.Prelude.{◌≡◌, ℕ, ◌+◌, ◌*◌, ◌%◌, ◌<◌, ◌≤◌, ◌↔◌, ◌≢◌, List, length, IfOk, MatchResult, MatchOption, IsTrue, is_ok, replicate};
-ghost use Rattle.avr_model.specs.declared.device.Device.TheVariants.{M328};
-ghost use Rattle.avr_model.specs.Devices.{words_of, device_of, IsFlash};
+ghost use Rattle.avr_model.specs.Devices.{M328, words_of, device_of, image, IsFlash};
 ghost use Rattle.avr_model.specs.Image.{word_at, byte_at, IsRawImage, IsNarrowed, IsOutside, AreErased, FLASH_BYTES};
 ghost use Rattle.flash_image.specs.Placing.{placed};
 
@@ -12,8 +11,8 @@ use std::alloc::{AllocError, Global};
 use std::marker::Model;
 use thiserror::Error;
 
-/// The flash of a device, seen as the list of its words, whose number tells the device. Addresses of words count modulo
-/// this number, and the low byte of a word comes first.
+/// The flash of a device. Contracts see an image: the device and the words. Word addresses count modulo the number of words, and the
+/// low byte of a word comes first.
 #[derive(Drop)]
 pub struct Flash {
     pub(crate) alloc: Global,
@@ -26,16 +25,15 @@ pub struct Flash {
 }
 
 impl Model for Flash {
-    ghost use Rattle.std.specs.Prelude.{◌≡◌, ℕ, List};
-    ghost use Rattle.avr_model.specs.Devices.{device_of, IsFlash};
+    ghost use Rattle.avr_model.specs.Devices.{Program, image, IsFlash};
     ghost use Rattle.avr_decode.specs.Reading.{AreReadings};
     ghost use Rattle.flash_image.specs.Marked.{AreMarksKept};
 
-    ghost Value = { List ℕ };
+    ghost Value = { Program };
 
-    ghost view = { λ f. f.words.items };
+    ghost view = { λ f. image f.device f.words.items };
 
-    ghost invariant = { λ f. IsFlash f.words.items × (f.device ≡ device_of f.words.items) × AreReadings f.words.items f.readings.items × AreMarksKept f.words.items f.mark_list.items };
+    ghost invariant = { λ f. IsFlash (image f.device f.words.items) × AreReadings (image f.device f.words.items) f.readings.items × AreMarksKept (image f.device f.words.items) f.mark_list.items };
 }
 
 /// Why a file is refused as a raw image.
@@ -59,7 +57,7 @@ const COUNT: usize = WORDS as usize;
 impl Flash {
     /// The ATmega328P's flash with all words FFFF.
     pub fn erased(alloc: Global) -> Result<Flash, AllocError>
-        ensures words { IfOk result (λ flash. flash ≡ replicate WORDS 0xFFFF) }
+        ensures words { IfOk result (λ flash. flash ≡ image M328 (replicate WORDS 0xFFFF)) }
         ensures device { IfOk result (λ flash. device_of flash ≡ M328) }
     {
         let words = vec![in alloc; 0xFFFFu16; COUNT]?;
@@ -72,12 +70,10 @@ impl Flash {
         })
     }
 
-    /// The ATmega328P's flash with the words of a raw image, the low byte of each first; the rest is erased. Refused are
-    /// files of odd length, and of the others those that are longer than flash. Source: own, since a raw file names no
-    /// address.
-    #[tactic(auto, using(crate::proofs::Narrowing::greatest))]
+    /// The ATmega328P's flash with the words of a raw image, the low byte of each first; the rest is erased. Refuses files of odd length,
+    /// and then those longer than flash. Source: own, since a raw file has no address.
     pub fn from_raw(alloc: Global, bytes: &[u8]) -> Result<Flash, RawFault>
-        ensures image { IfOk result (λ flash. IsRawImage bytes.now flash) }
+        ensures image { IfOk result (λ flash. IsRawImage bytes.now flash.words) }
         ensures device { IfOk result (λ flash. device_of flash ≡ M328) }
         ensures odd { (result ≡ Err RawFault.OddLength) ↔ (length bytes.now % 2 ≡ 1) }
         ensures long { (result ≡ Err RawFault.TooLong) ↔ ((length bytes.now % 2 ≡ 0) × (32768 < length bytes.now)) }
@@ -104,8 +100,8 @@ impl Flash {
 
     /// All words.
     pub fn words(&self) -> &[u16]
-        ensures value { result.now ≡ self.now }
-        ensures flash { IsFlash result.now }
+        ensures value { result.now ≡ self.now.words }
+        ensures flash { IsFlash self.now }
     {
         self.words.as_slice()
     }
@@ -121,9 +117,9 @@ impl Flash {
     /// The ATmega328P's words on another device, which has at most as many. Refuses with the first word behind that device's last that
     /// isn't FFFF; a refused flash is dropped. Its words are decoded.
     pub fn narrow(mut self, device: Device) -> Result<Flash, Outside>
-        requires { length self ≡ WORDS }
-        ensures answer { MatchResult result (λ flash. IsNarrowed device self flash) (λ fault. IsOutside device self fault.0) }
-        ensures exact { IsTrue (is_ok result) ↔ AreErased self (words_of device) WORDS }
+        requires { length self.words ≡ WORDS }
+        ensures answer { MatchResult result (λ flash. IsNarrowed device self.words flash) (λ fault. IsOutside device self.words fault.0) }
+        ensures exact { IsTrue (is_ok result) ↔ AreErased self.words (words_of device) WORDS }
     {
         if let Some(word) = self.first_outside(device) {
             return Err(Outside(word));
@@ -138,8 +134,8 @@ impl Flash {
 
     // The first word behind a device's last that isn't FFFF.
     fn first_outside(&self, device: Device) -> Option<u16>
-        requires { length self.now ≡ WORDS }
-        ensures { MatchOption result (AreErased self.now (words_of device) WORDS) (IsOutside device self.now) }
+        requires { length self.now.words ≡ WORDS }
+        ensures { MatchOption result (AreErased self.now.words (words_of device) WORDS) (IsOutside device self.now.words) }
     {
         for at in device.words()..WORDS {
             if self.words[usize::from(at)] != 0xFFFF {
@@ -153,7 +149,7 @@ impl Flash {
     #[tactic(auto, using(crate::proofs::Narrowing::half))]
     pub fn byte(&self, z: u16) -> u8
         requires { z < 2 * words_of (device_of self.now) }
-        ensures { result ≡ byte_at self.now z }
+        ensures { result ≡ byte_at self.now.words z }
     {
         let word = self.words[z as usize / 2];
         if z % 2 == 0 {
@@ -163,14 +159,13 @@ impl Flash {
         }
     }
 
-    /// Puts bytes at the byte addresses of the ATmega328P's flash from `at` on; every other byte stays as it was.
-    #[tactic(auto, using(crate::proofs::Narrowing::greatest))]
+    /// Puts bytes at the byte addresses of the ATmega328P's flash from `at` on; every other byte stays.
     pub fn place(&mut self, at: u16, bytes: &[u8])
-        requires device { length self.old ≡ WORDS }
+        requires device { length self.old.words ≡ WORDS }
         requires fits { at + length bytes.now ≤ FLASH_BYTES }
-        ensures count { length self.new ≡ WORDS }
-        ensures device { device_of self.new ≡ M328 }
-        ensures bytes { (z : ℕ) → z < FLASH_BYTES → byte_at self.new z ≡ placed at bytes.now self.old z }
+        ensures count { length self.new.words ≡ WORDS }
+        ensures device { device_of self.new ≡ device_of self.old }
+        ensures bytes { (z : ℕ) → z < FLASH_BYTES → byte_at self.new.words z ≡ placed at bytes.now self.old.words z }
     {
         self.readings.clear();
         self.mark_list.clear();

@@ -1,6 +1,7 @@
 //! Tables of marks, with a truth for each 16-bit number, and ascending lists of marks.
 
 ghost use Rattle.std.specs.Prelude.{◌≡◌, ◌+◌, ◌*◌, ◌<◌, ℕ, List, Some, IfOk, length};
+ghost use Rattle.avr_model.specs.Devices.{Program};
 ghost use Rattle.avr_model.specs.Marks.{loaded_number, pair_number, added_number, side_marks, usual_marks};
 ghost use Rattle.pair_domain.specs.Marks.{mark_below, mark_above, outward};
 ghost use Rattle.flash_image.specs.Marked.{marked, IsTable, AreListed, IsListOf, noted, AreLoads};
@@ -72,7 +73,7 @@ pub(crate) fn note_load(loads: &mut [bool; LOADS], load: ImmediateInstr)
 // Marks a low byte with each high byte that the program loads into a register, and with 0.
 pub(crate) fn mark_side(table: &mut [bool; NUMBERS], loads: &[bool; LOADS], side: u16, low: u8)
     requires { side < 32 }
-    ensures { (words : List ℕ) → AreLoads words loads.now → table.new ≡ marked table.old (side_marks words low (Some side)) }
+    ensures { (words : Program) → AreLoads words loads.now → table.new ≡ marked table.old (side_marks words low (Some side)) }
 {
     table[usize::from(low)] = true;
     for high in 0..256 {

@@ -66,8 +66,8 @@ impl Flash {
 
     // The number of words up to the last that isn't erased: words behind have no marks.
     fn written(&self) -> u16
-        ensures within { result ≤ length self.now }
-        ensures erased { AreErased self.now result (length self.now) }
+        ensures within { result ≤ length self.now.words }
+        ensures erased { AreErased self.now.words result (length self.now.words) }
         ensures flash { IsFlash self.now }
     {
         written(&self.words) as u16

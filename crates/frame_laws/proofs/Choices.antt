@@ -3,7 +3,6 @@ use Rattle.std.proofs.Common.{◌≡◌, ℕ, ◌%◌, Bool, true, false, not, �
 use Rattle.std.proofs.lemmas.Bool.Decides.{nat_tests}
 use Rattle.basics.specs.Booleans.{never_both}
 use Rattle.avr_model.specs.declared.device.Device.{Device}
-use Rattle.avr_model.specs.declared.device.Device.TheVariants.{M48, M88, M168, M328}
 use Rattle.avr_model.proofs.AllLaws.{devices_are_alike}
 use Rattle.avr_model.specs.Devices.{Program, words_of, wrapped, device_of}
 use Rattle.avr_model.specs.declared.assumption.Entry.{Entry}
@@ -68,13 +67,6 @@ not_never A word h = by_test (is_never A word) refl h
     by_test false is h = refl
     by_test true is h = absurd (cc)
 
--- a vector's word is one of the device's
-pub vector_inside : (device : Device) (v : ℕ) → v ≤ 26 → vector_word device v < words_of device
-vector_inside M48 v le = omega arith
-vector_inside M88 v le = omega arith
-vector_inside M168 v le = omega arith
-vector_inside M328 v le = omega arith
-
 -- I is cleared
 flag_cleared : (sreg : ℕ) → flag (sreg % 128) 7 ≡ false
 flag_cleared sreg = grind (arith, nat_tests)
@@ -134,7 +126,7 @@ module _ (cover : LocalPartsCover) (machines : MachinesStay) (live : LiveBytesSt
 
     vector_is : (v : ℕ) → is_enabled m.enables v ≡ true → wrapped m.device (vector_word m.device v) ≡ vector_word (device_of words) v
     vector_is v enabled =
-        devices_are_alike.same m.device (vector_word m.device v) (vector_inside m.device v (vector_small m.enables v enabled))
+        devices_are_alike.same m.device (vector_word m.device v) (devices_are_alike.vectors m.device v (vector_small m.enables v enabled))
         ∙ ap (λ device. vector_word device v) runs.device
 
     -- the entry of an interrupt that may be taken

@@ -4,7 +4,7 @@ use Rattle.std.proofs.lemmas.List.{get_or-replicate}
 use Rattle.basics.specs.Items.{none_in, only_one_in}
 use Rattle.std.proofs.lemmas.Option.{same_Some}
 use Rattle.avr_model.specs.Assumptions.{has_pairs}
-use Rattle.avr_model.specs.Devices.{size_of, device_of}
+use Rattle.avr_model.specs.Devices.{size_of, device_of, device_row}
 use Rattle.bit_domain.specs.declared.bits.Tri.TheVariants.{Any}
 use Rattle.bit_domain.specs.TriByte.{IsWithin, byte_any}
 use Rattle.bit_domain.proofs.AllLaws.{bytes_are_their_bits, bytes_are_sets, ranges_hold}
@@ -164,7 +164,7 @@ no_pairs = refl
 
 -- the worked firmware has the greatest device
 sample_small : 2 ≤ size_of (device_of sample)
-unfolding device_of
+unfolding device_row
 sample_small = omega arith
 
 pub the_sample_is_sound : IsSoundFamily sample [] family

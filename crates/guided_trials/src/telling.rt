@@ -2,12 +2,12 @@
 
 ghost use Rattle.std.specs.Prelude.{◌≡◌, ◌<◌, ◌==◌, ◌||◌, ◌++◌, ◌∷◌, [], ℕ, false, if◌then◌else◌, slice_index_or, IfOk, OnOk};
 ghost use Rattle.avr_model.specs.Assumptions.{lists};
-ghost use Rattle.avr_model.specs.Devices.{IsFlash, device_of, words_of};
+ghost use Rattle.avr_model.specs.Devices.{device_of, words_of};
 ghost use Rattle.avr_model.specs.Sites.{instruction_at};
 ghost use Rattle.guided_trials.specs.Telling as spec;
 
 use crate::guide::ToldBytes;
-use avr_decode::{ImmediateOp, Instr, instruction};
+use avr_decode::{ImmediateOp, Instr};
 use avr_model::listed::Listed;
 use flash_image::Flash;
 use std::alloc::{AllocError, Global};
@@ -60,23 +60,20 @@ fn mark_told(told: &mut [bool; 256], instr: &Instr)
 }
 
 // Marks the bytes that the word at an address distinguishes, if it is an instruction.
-fn mark_at(told: &mut [bool; 256], words: &[u16], at: usize)
-    requires flash { IsFlash words.now }
-    requires inside { at < words_of (device_of words.now) }
-    ensures { (b : ℕ) → b < 256 → slice_index_or told.new b false ≡ (slice_index_or told.old b false || lists (spec.told_if (instruction_at words.now at)) b) }
+fn mark_at(told: &mut [bool; 256], flash: &Flash, at: u16)
+    ensures { (b : ℕ) → b < 256 → slice_index_or told.new b false ≡ (slice_index_or told.old b false || lists (spec.told_if (instruction_at flash.now at)) b) }
 {
-    if let Some(instr) = instruction(words, at) {
+    if let Some(instr) = flash.instruction(at) {
         mark_told(told, &instr);
     }
 }
 
 // Marks the bytes that the words of flash distinguish.
-fn mark_words(told: &mut [bool; 256], words: &[u16])
-    requires { IsFlash words.now }
-    ensures { (b : ℕ) → b < 256 → slice_index_or told.new b false ≡ (slice_index_or told.old b false || spec.is_told words.now (words_of (device_of words.now)) b) }
+fn mark_words(told: &mut [bool; 256], flash: &Flash)
+    ensures { (b : ℕ) → b < 256 → slice_index_or told.new b false ≡ (slice_index_or told.old b false || spec.is_told flash.now (words_of (device_of flash.now)) b) }
 {
-    for at in 0..words.len() {
-        mark_at(told, words, at);
+    for at in 0..flash.device().words() {
+        mark_at(told, flash, at);
     }
 }
 
@@ -107,7 +104,7 @@ pub fn telling(alloc: Global, flash: &Flash) -> Result<ToldBytes, AllocError>
 {
     let mut told = [false; 256];
     mark_fills(&mut told);
-    mark_words(&mut told, flash.words());
+    mark_words(&mut told, flash);
     let bytes = marked(alloc, &told)?;
     Ok(ToldBytes::new(Listed::new(bytes)))
 }

@@ -114,7 +114,7 @@ flash_by o false x input small lt = any_stands o input lt
 flash_stands : (o : Origin) (words : Program) (c : Option ℕ) (z input : ℕ) → AreWords words → input < 256 → ((x : ℕ) → c ≡ Some x → z ≡ x) → ByteStands o (flash_value words c) (flash_read words z input)
 flash_stands o words None z input are lt is = any_stands o (flash_read words z input) (flash_small words z input are lt)
 flash_stands o words (Some x) z input are lt is =
-    subst (λ y. ByteStands o (flash_value words (Some x)) (flash_read words y input)) (sym (is x refl)) (flash_by o (nat_lt x (2 * words_of (device_of words))) (byte_at words x) input (byte_at_small words x are) lt)
+    subst (λ y. ByteStands o (flash_value words (Some x)) (flash_read words y input)) (sym (is x refl)) (flash_by o (nat_lt x (2 * words_of (device_of words))) (byte_at words.words x) input (byte_at_small words x are) lt)
 
 -- ---- a bit that is tested
 

@@ -50,17 +50,17 @@ wide_flags_small : (up : Bool) (a k s : ℕ) → s < 256 → flags_of_wide up a 
 wide_flags_small true a k s h = with_flags_small _ _ _ _ _ s h
 wide_flags_small false a k s h = with_flags_small _ _ _ _ _ s h
 
-pub byte_at_small : (words : Program) (z : ℕ) → AreWords words → byte_at words z < 256
+pub byte_at_small : (words : Program) (z : ℕ) → AreWords words → byte_at words.words z < 256
 byte_at_small words z h = here (z % 2 == 0)
   where
-    here : (b : Bool) → (if b then slice_index words (z / 2) % 256 else slice_index words (z / 2) / 256) < 256
+    here : (b : Bool) → (if b then slice_index words.words (z / 2) % 256 else slice_index words.words (z / 2) / 256) < 256
     here true = omega arith
-    here false = omega (arith, below_in_list 65536 words (z / 2) (omega arith) h)
+    here false = omega (arith, below_in_list 65536 words.words (z / 2) (omega arith) h)
 
 pub flash_small : (words : Program) (z input : ℕ) → AreWords words → input < 256 → flash_read words z input < 256
 flash_small words z input h small = here (nat_lt z (2 * words_of (device_of words)))
   where
-    here : (b : Bool) → (if b then byte_at words z else input) < 256
+    here : (b : Bool) → (if b then byte_at words.words z else input) < 256
     here true = byte_at_small words z h
     here false = small
 

@@ -7,7 +7,6 @@ use Rattle.basics.specs.Items.{none_in}
 use Rattle.avr_model.proofs.AllLaws.{devices_are_alike}
 use Rattle.avr_model.specs.Devices.{Program, size_of, wrapped, width, device_of, words_of}
 use Rattle.avr_model.specs.declared.device.Device.{Device}
-use Rattle.avr_model.specs.declared.device.Device.TheVariants.{M48, M88, M168, M328}
 use Rattle.avr_model.specs.declared.assumption.Entry.{Entry}
 use Rattle.avr_model.specs.declared.instruction.Instr.{Instr}
 use Rattle.avr_model.specs.declared.instruction.Instr.TheVariants as i
@@ -51,13 +50,6 @@ use Rattle.local_laws.proofs.Ascending.{Ascends, site_targets_ascend, sites_asce
 use Rattle.local_laws.proofs.Quiet.{IsFit, none_ascend, quiet_fits, if_quiet, branch_quiet, flag_branch_quiet, skipping_quiet, going_by_quiet, loading_quiet, flag_quiet, written_quiet, pointer_quiet, jumping_quiet, closed_quiet, pushing_quiet, room_quiet, popping_quiet, untracked_fits, too_deep_fits}
 
 -- ---- the targets of indirect calls are words
-
--- a number with the bits of a word address is one of the device's
-width_words : (device : Device) (z : ℕ) → z < 2 ^ width device → z < words_of device
-width_words M48 z lt = omega (arith, lt)
-width_words M88 z lt = omega (arith, lt)
-width_words M168 z lt = omega (arith, lt)
-width_words M328 z lt = omega (arith, lt)
 
 targets_small : (device : Device) (line : Option (List ℕ)) (lo hi : TriByte) (targets : List ℕ) → ((z : ℕ) → Contains (words_on device lo hi) z → z < words_of device)
     → targets_by device line lo hi ≡ Some targets → (z : ℕ) → Contains targets z → z < words_of device
@@ -132,7 +124,7 @@ module _ (device : Device) (words : Program) (A : List Entry) (k : NodeKey) (s :
   all_words targets e =
       let f = pointer_bit (bits s 30) (bits s 31) in
       record {
-        small = targets_small device (jump_line A k.pc) (bits s 30) (bits s 31) targets (λ z h. width_words device z ((numbers_are_permitted.members f (width device) z).0 h).small) e;
+        small = targets_small device (jump_line A k.pc) (bits s 30) (bits s 31) targets (λ z h. ((numbers_are_permitted.members f (width device) z).0 h).small) e;
         ascending = λ entries. site_targets_ascend device A k.pc (bits s 30) (bits s 31) targets entries (numbers_are_permitted.ascending f (width device)) e;
       }
 

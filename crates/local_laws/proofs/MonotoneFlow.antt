@@ -10,7 +10,6 @@ use Rattle.avr_model.specs.State.{SIZE}
 use Rattle.avr_model.proofs.AllLaws.{devices_are_alike}
 use Rattle.avr_model.specs.Devices.{Program, size_of, width}
 use Rattle.avr_model.specs.declared.device.Device.{Device}
-use Rattle.avr_model.specs.declared.device.Device.TheVariants.{M48, M88, M168, M328}
 use Rattle.avr_model.specs.declared.assumption.Entry.{Entry}
 use Rattle.avr_model.specs.Image.{WORDS, word_at}
 use Rattle.avr_model.specs.Table.{length_of}
@@ -124,10 +123,7 @@ module _ (xs ys : List ℕ) (more : (z : ℕ) → Contains xs z → Contains ys 
 
 -- a word address of the device is one of the greatest flash
 pub width_small : (device : Device) (z : ℕ) → z < 2 ^ width device → z < WORDS
-width_small M48 z lt = omega (arith, lt)
-width_small M88 z lt = omega (arith, lt)
-width_small M168 z lt = omega (arith, lt)
-width_small M328 z lt = omega (arith, lt)
+width_small device z lt = let most = devices_are_alike.most_words device in omega arith
 
 module _ (device : Device) (a b a' b' : TriByte) (lo : IsWithin a a') (hi : IsWithin b b') where
   word_bits : (n i : ℕ) → i < n → IsTriWithin (pointer_bit a b i) (pointer_bit a' b' i)

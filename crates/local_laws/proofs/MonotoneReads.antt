@@ -158,7 +158,7 @@ flash_tag : (words : Program) (f : Option ℕ) → (flash_value words f).tag ≡
 flash_tag words None = refl
 flash_tag words (Some z) = by (nat_lt z (2 * words_of (device_of words)))
   where
-    by : (b : Bool) → (if b then known (byte_at words z) else unknown).tag ≡ tag.None
+    by : (b : Bool) → (if b then known (byte_at words.words z) else unknown).tag ≡ tag.None
     by true = refl
     by false = refl
 
@@ -166,8 +166,8 @@ flash_fits : (words : Program) (f : Option ℕ) → ByteFits (flash_value words 
 flash_fits words None = bits_make_values.fits tag.None byte_any
 flash_fits words (Some z) = by (nat_lt z (2 * words_of (device_of words)))
   where
-    by : (b : Bool) → ByteFits (if b then known (byte_at words z) else unknown)
-    by true = bits_make_values.fits tag.None (byte_known (byte_at words z))
+    by : (b : Bool) → ByteFits (if b then known (byte_at words.words z) else unknown)
+    by true = bits_make_values.fits tag.None (byte_known (byte_at words.words z))
     by false = bits_make_values.fits tag.None byte_any
 
 none_tag_of : (kind : Kind) (t : Tag) → t ≡ tag.None → IsTagOf kind t

@@ -8,8 +8,8 @@ use Rattle.std.specs.Bool.{IsTrue}
 use Rattle.std.specs.Cmp.{IsEquivalence}
 use Rattle.std.specs.Int.{bit_at}
 use Rattle.std.specs.List.{Contains}
+use Rattle.avr_model.proofs.AllLaws.{devices_are_alike}
 use Rattle.avr_model.specs.declared.device.Device.{Device}
-use Rattle.avr_model.specs.declared.device.Device.TheVariants.{M48, M88, M168, M328}
 use Rattle.avr_model.specs.Devices.{words_of, width}
 use Rattle.avr_model.specs.Assumptions.{lists}
 use Rattle.bit_domain.specs.declared.bits.Tri.{Tri}
@@ -139,35 +139,17 @@ module _ (lo hi high : TriByte) (width : ℕ) (least : 8 ≤ width) (most : widt
 
 -- ---- the words of a pointer are those below the end of flash whose bytes are permitted, with the bits left open that no word has
 
-pub bits_of_words : (d : Device) → 2 ^ width d ≡ words_of d
-bits_of_words M48 = refl
-bits_of_words M88 = refl
-bits_of_words M168 = refl
-bits_of_words M328 = refl
-
-least_width : (d : Device) → 8 ≤ width d
-least_width M48 = omega arith
-least_width M88 = omega arith
-least_width M168 = omega arith
-least_width M328 = omega arith
-
-most_width : (d : Device) → width d ≤ 16
-most_width M48 = omega arith
-most_width M88 = omega arith
-most_width M168 = omega arith
-most_width M328 = omega arith
-
 pub none_above : (d : Device) (lo hi : TriByte) (x : ℕ) → words_of d ≤ x → false ≡ lists (words_on d lo hi) x
 none_above d lo hi x above =
     same_test false (lists (words_on d lo hi) x) (λ e. cc)
     (λ e.
     let small = ((numbers_are_permitted.members (pointer_bit lo hi) (width d) x).0 (listed (words_on d lo hi) x e)).small in
-    absurd (omega (arith, small, bits_of_words d)))
+    absurd (omega (arith, small, above)))
 
 pub low_decides : (d : Device) (lo hi : TriByte) (x : ℕ) (fits : Bool) → fits ≡ false → (Has lo (x % 256) → IsTrue fits) → fits ≡ lists (words_on d lo hi) x
 low_decides d lo hi x fits not from =
     same_test fits (lists (words_on d lo hi) x) (λ e. let wrong : true ≡ false = sym e ∙ not in cc)
-    (λ e. from (low_of_permitted lo hi (width d) x (least_width d) ((numbers_are_permitted.members (pointer_bit lo hi) (width d) x).0 (listed (words_on d lo hi) x e))))
+    (λ e. from (low_of_permitted lo hi (width d) x (devices_are_alike.least_width d) ((numbers_are_permitted.members (pointer_bit lo hi) (width d) x).0 (listed (words_on d lo hi) x e))))
 
 pub high_decides : (d : Device) (lo hi high : TriByte) (x : ℕ) (fits : Bool) → x < words_of d → Has lo (x % 256) → IsHighOpen hi (width d) high
     → (IsTrue fits → Has high (x / 256)) → (Has high (x / 256) → IsTrue fits) → fits ≡ lists (words_on d lo hi) x
@@ -176,8 +158,8 @@ high_decides d lo hi high x fits small low is to from =
     (λ e.
     is_listed (words_on d lo hi) x
     ((numbers_are_permitted.members (pointer_bit lo hi) (width d) x).1
-    (permitted lo hi high (width d) (least_width d) (most_width d) is x (omega (arith, small, bits_of_words d)) low (to e))))
+    (permitted lo hi high (width d) (devices_are_alike.least_width d) (let most = devices_are_alike.most_width d in omega arith) is x small low (to e))))
     (λ e.
     from
-    (high_of_permitted lo hi high (width d) (least_width d) (most_width d) is x
+    (high_of_permitted lo hi high (width d) (devices_are_alike.least_width d) (let most = devices_are_alike.most_width d in omega arith) is x
     ((numbers_are_permitted.members (pointer_bit lo hi) (width d) x).0 (listed (words_on d lo hi) x e))))

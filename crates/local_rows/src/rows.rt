@@ -5,6 +5,7 @@ ghost use Rattle.avr_model.specs.declared.device.Device.{Device};
 ghost use Rattle.avr_model.specs.declared.assumption.Entry.{Entry};
 ghost use Rattle.mask_states.specs.declared.keys.NodeKey.{NodeKey};
 ghost use Rattle.avr_model.specs.Assumptions.{is_frame};
+ghost use Rattle.avr_model.specs.Devices.{Program};
 ghost use Rattle.local_rules.specs.FrameLines.{binary_at, immediate_at, unary_at};
 ghost use Rattle.local_rules.specs.Registers.{binary_after, going_by};
 ghost use Rattle.local_rules.specs.Local.{row_of};
@@ -124,7 +125,7 @@ pub fn binary_at(
 /// instructions, and for loads.
 pub fn computed_by(state: &AbsState, line: bool, instr: &Instr) -> Option<Computed>
     ensures value { result ≡ sections.computed_by line state.now instr.now }
-    ensures row { (device : Device) (words : List ℕ) (A : List Entry) (scratch : Bool) (k : NodeKey) → line ≡ is_frame A k.pc → row_of device words A scratch k state.now instr.now ≡ going_by device k state.now result (other_row device words A scratch k state.now instr.now) }
+    ensures row { (device : Device) (words : Program) (A : List Entry) (scratch : Bool) (k : NodeKey) → line ≡ is_frame A k.pc → row_of device words A scratch k state.now instr.now ≡ going_by device k state.now result (other_row device words A scratch k state.now instr.now) }
 {
     match instr {
         Instr::Movw(d, r) => Some(pair_copied(state, d.doubled(), r.doubled())),

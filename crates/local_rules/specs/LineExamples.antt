@@ -5,7 +5,7 @@ use Rattle.avr_model.specs.declared.assumption.Entry.TheVariants.{Prove, Free, N
 use Rattle.avr_model.specs.Assumptions.{store_line, is_proved, is_freed, is_never, is_frame, is_fixed_site, has_masks}
 use Rattle.avr_model.specs.Masks.{admits_enables}
 use Rattle.avr_model.specs.Bits.{any_below, all_below}
-use Rattle.avr_model.specs.Devices.{device_of}
+use Rattle.avr_model.specs.Devices.{device_row, M328, image}
 use Rattle.avr_model.specs.Sites.{is_scratch, is_fixed, path_behind, is_loaded_behind, table_site, ijmp_from}
 use Rattle.avr_model.specs.Table.{length_of, decoded}
 use Rattle.bit_domain.specs.Packed.{packed}
@@ -47,10 +47,10 @@ state_of lo hi n c = record {
 
 -- the successors of one word there, with and without the line
 abbrev lined : ℕ → AbsState → Raw
-lined word s = raw (word ∷ replicate 16383 0xFFFF) (Frame 0 ∷ []) (in_call (Closed 2)) s
+lined word s = raw (image M328 (word ∷ replicate 16383 0xFFFF)) (Frame 0 ∷ []) (in_call (Closed 2)) s
 
 abbrev plain : ℕ → AbsState → Raw
-plain word s = raw (word ∷ replicate 16383 0xFFFF) (Frame 1 ∷ []) (in_call (Closed 2)) s
+plain word s = raw (image M328 (word ∷ replicate 16383 0xFFFF)) (Frame 1 ∷ []) (in_call (Closed 2)) s
 
 -- the tag of a register, and that of C
 abbrev says : ℕ → Raw → List (Tag × CarryTag)
@@ -62,130 +62,130 @@ large = state_of (tag.SpLo 34) (tag.SpHi 290) 32 carry.None
 
 -- `add r28, r24`
 gives_low : says 28 (lined 0x0FC8 large) ≡ (tag.SpLo 2, carry.Sum 34 32) ∷ []
-unfolding raw table_site ijmp_from is_scratch any_below all_below decoded device_of packed is_frame
+unfolding raw table_site ijmp_from is_scratch any_below all_below decoded device_row packed is_frame
 gives_low = refl
 
 -- `add r28, r24` without the line
 gives_nothing : says 28 (plain 0x0FC8 large) ≡ (tag.None, carry.None) ∷ []
-unfolding raw table_site ijmp_from is_scratch any_below all_below decoded device_of packed is_frame
+unfolding raw table_site ijmp_from is_scratch any_below all_below decoded device_row packed is_frame
 gives_nothing = refl
 
 -- `add r24, r28` follows r28
 gives_second : says 24 (lined 0x0F8C large) ≡ (tag.SpLo 2, carry.Sum 34 32) ∷ []
-unfolding raw table_site ijmp_from is_scratch any_below all_below decoded device_of packed is_frame
+unfolding raw table_site ijmp_from is_scratch any_below all_below decoded device_row packed is_frame
 gives_second = refl
 
 -- `add r28, r28`
 gives_twice : says 28 (lined 0x0FCC large) ≡ (tag.None, carry.None) ∷ []
-unfolding raw table_site ijmp_from is_scratch any_below all_below decoded device_of packed is_frame
+unfolding raw table_site ijmp_from is_scratch any_below all_below decoded device_row packed is_frame
 gives_twice = refl
 
 -- `add r28, r25` of an unknown byte
 gives_unknown : says 28 (lined 0x0FC9 large) ≡ (tag.None, carry.None) ∷ []
-unfolding raw table_site ijmp_from is_scratch any_below all_below decoded device_of packed is_frame
+unfolding raw table_site ijmp_from is_scratch any_below all_below decoded device_row packed is_frame
 gives_unknown = refl
 
 -- `add r24, r1` follows r24, which does not belong to the frame pointer
 follows_one : says 24 (lined 0x0D81 (record large { registers = slice_set large.registers 24 (with_bits (tag.SpLo 9) byte_any) })) ≡ (tag.SpLo 9, carry.Sum 9 0) ∷ []
-unfolding raw table_site ijmp_from is_scratch any_below all_below decoded device_of packed is_frame
+unfolding raw table_site ijmp_from is_scratch any_below all_below decoded device_row packed is_frame
 follows_one = refl
 
 -- then `adc r29, r1`, and `adc r29, r24` from base - 290 and one page more
 gives_high : says 29 (lined 0x1DD1 (state_of (tag.SpLo 2) (tag.SpHi 290) 1 (carry.Sum 34 32))) ≡ (tag.SpHi 258, carry.None) ∷ []
-unfolding raw table_site ijmp_from is_scratch any_below all_below decoded device_of packed is_frame
+unfolding raw table_site ijmp_from is_scratch any_below all_below decoded device_row packed is_frame
 gives_high = refl
 
 gives_page : says 29 (lined 0x1FD8 (state_of (tag.SpLo 2) (tag.SpHi 290) 1 (carry.Sum 34 32))) ≡ (tag.SpHi 2, carry.None) ∷ []
-unfolding raw table_site ijmp_from is_scratch any_below all_below decoded device_of packed is_frame
+unfolding raw table_site ijmp_from is_scratch any_below all_below decoded device_row packed is_frame
 gives_page = refl
 
 -- after the carry of another byte, and after a borrow
 gives_no_high : says 29 (lined 0x1DD1 (state_of (tag.SpLo 2) (tag.SpHi 290) 1 (carry.Sum 35 32))) ≡ (tag.None, carry.None) ∷ []
-unfolding raw table_site ijmp_from is_scratch any_below all_below decoded device_of packed is_frame
+unfolding raw table_site ijmp_from is_scratch any_below all_below decoded device_row packed is_frame
 gives_no_high = refl
 
 gives_no_borrow : says 29 (lined 0x1DD1 (state_of (tag.SpLo 2) (tag.SpHi 290) 1 (carry.Borrow 34 32))) ≡ (tag.None, carry.None) ∷ []
-unfolding raw table_site ijmp_from is_scratch any_below all_below decoded device_of packed is_frame
+unfolding raw table_site ijmp_from is_scratch any_below all_below decoded device_row packed is_frame
 gives_no_borrow = refl
 
 -- `add r29, r24` with 255 subtracts a page, so does `sub r29, r24` with 1; `subi r29, 0xFF` adds one
 moves_page : says 29 (lined 0x0FD8 (state_of (tag.SpLo 2) (tag.SpHi 258) 255 carry.None)) ≡ (tag.SpHi 514, carry.None) ∷ []
-unfolding raw table_site ijmp_from is_scratch any_below all_below decoded device_of packed is_frame
+unfolding raw table_site ijmp_from is_scratch any_below all_below decoded device_row packed is_frame
 moves_page = refl
 
 takes_page : says 29 (lined 0x1BD8 (state_of (tag.SpLo 2) (tag.SpHi 2) 1 carry.None)) ≡ (tag.SpHi 258, carry.None) ∷ []
-unfolding raw table_site ijmp_from is_scratch any_below all_below decoded device_of packed is_frame
+unfolding raw table_site ijmp_from is_scratch any_below all_below decoded device_row packed is_frame
 takes_page = refl
 
 less_page : says 29 (lined 0x5FDF (state_of (tag.SpLo 2) (tag.SpHi 258) 1 carry.None)) ≡ (tag.SpHi 2, carry.None) ∷ []
-unfolding raw table_site ijmp_from is_scratch any_below all_below decoded device_of packed is_frame
+unfolding raw table_site ijmp_from is_scratch any_below all_below decoded device_row packed is_frame
 less_page = refl
 
 less_plain : says 29 (plain 0x5FDF (state_of (tag.SpLo 2) (tag.SpHi 258) 1 carry.None)) ≡ (tag.None, carry.None) ∷ []
-unfolding raw table_site ijmp_from is_scratch any_below all_below decoded device_of packed is_frame
+unfolding raw table_site ijmp_from is_scratch any_below all_below decoded device_row packed is_frame
 less_plain = refl
 
 -- `subi r28, 32` is the same with and without the line
 less_low : says 28 (lined 0x52C0 (state_of (tag.SpLo 2) (tag.SpHi 2) 1 carry.None)) ≡ (tag.SpLo 34, carry.Borrow 2 32) ∷ []
-unfolding raw table_site ijmp_from is_scratch any_below all_below decoded device_of packed is_frame
+unfolding raw table_site ijmp_from is_scratch any_below all_below decoded device_row packed is_frame
 less_low = refl
 
 -- `inc r29` and `dec r29` keep C and its tag; `inc r28` carries nothing into the high byte
 steps_up : says 29 (lined 0x95D3 (state_of (tag.SpLo 2) (tag.SpHi 258) 1 (carry.Sum 1 1))) ≡ (tag.SpHi 2, carry.Sum 1 1) ∷ []
-unfolding raw table_site ijmp_from is_scratch any_below all_below decoded device_of packed is_frame
+unfolding raw table_site ijmp_from is_scratch any_below all_below decoded device_row packed is_frame
 steps_up = refl
 
 steps_down : says 29 (lined 0x95DA (state_of (tag.SpLo 2) (tag.SpHi 2) 1 (carry.Sum 1 1))) ≡ (tag.SpHi 258, carry.Sum 1 1) ∷ []
-unfolding raw table_site ijmp_from is_scratch any_below all_below decoded device_of packed is_frame
+unfolding raw table_site ijmp_from is_scratch any_below all_below decoded device_row packed is_frame
 steps_down = refl
 
 steps_low : says 28 (lined 0x95C3 (state_of (tag.SpLo 2) (tag.SpHi 2) 1 carry.None)) ≡ (tag.None, carry.None) ∷ []
-unfolding raw table_site ijmp_from is_scratch any_below all_below decoded device_of packed is_frame
+unfolding raw table_site ijmp_from is_scratch any_below all_below decoded device_row packed is_frame
 steps_low = refl
 
 -- ---- `free` lines: `ldi r26, 0`, `ldi r27, 1` and `st X, r0`, at the store, where X isn't known
 
 abbrev storing : List Entry → Raw
-storing A = raw (0xE0A0 ∷ 0xE0B1 ∷ 0x920C ∷ replicate 16381 0xFFFF) A (record (in_call (Closed 0)) { pc = 2 }) (entered root)
+storing A = raw (image M328 (0xE0A0 ∷ 0xE0B1 ∷ 0x920C ∷ replicate 16381 0xFFFF)) A (record (in_call (Closed 0)) { pc = 2 }) (entered root)
 
 abbrev leads : Raw → List ℕ × List NodeFault
 leads r = (map (λ n. n.key.pc) r.moves, r.faults)
 
 is_fixed_by_words : leads (storing []) ≡ ([], UnknownPointer 2 ∷ [])
-unfolding raw table_site ijmp_from is_scratch is_fixed path_behind is_loaded_behind is_proved is_freed is_fixed_site store_line any_below all_below decoded length_of device_of packed
+unfolding raw table_site ijmp_from is_scratch is_fixed path_behind is_loaded_behind is_proved is_freed is_fixed_site store_line any_below all_below decoded length_of device_row packed
 is_fixed_by_words = refl
 
 is_freed_there : leads (storing (Free 2 ∷ [])) ≡ (3 ∷ [], [])
-unfolding raw table_site ijmp_from is_scratch is_fixed path_behind is_loaded_behind is_proved is_freed is_fixed_site store_line any_below all_below decoded length_of device_of packed may_wake admits_enables has_masks
+unfolding raw table_site ijmp_from is_scratch is_fixed path_behind is_loaded_behind is_proved is_freed is_fixed_site store_line any_below all_below decoded length_of device_row packed may_wake admits_enables has_masks
 is_freed_there = refl
 
 is_freed_elsewhere : leads (storing (Free 1 ∷ [])) ≡ ([], UnknownPointer 2 ∷ [])
-unfolding raw table_site ijmp_from is_scratch is_fixed path_behind is_loaded_behind is_proved is_freed is_fixed_site store_line any_below all_below decoded length_of device_of packed
+unfolding raw table_site ijmp_from is_scratch is_fixed path_behind is_loaded_behind is_proved is_freed is_fixed_site store_line any_below all_below decoded length_of device_row packed
 is_freed_elsewhere = refl
 
 -- a `prove` line fixes the site nevertheless
 is_proved_too : leads (storing (Prove 2 ∷ Free 2 ∷ [])) ≡ ([], UnknownPointer 2 ∷ [])
-unfolding raw table_site ijmp_from is_scratch is_fixed path_behind is_loaded_behind is_proved is_freed is_fixed_site store_line any_below all_below decoded length_of device_of packed
+unfolding raw table_site ijmp_from is_scratch is_fixed path_behind is_loaded_behind is_proved is_freed is_fixed_site store_line any_below all_below decoded length_of device_row packed
 is_proved_too = refl
 
 -- ---- `never` lines: while the pair is open, with TIMER0 COMPA's and OVF's vectors enabled at words 28 and 32
 
 abbrev waiting : List Entry → List NodeFault
-waiting A = (raw (0x0000 ∷ replicate 16383 0xFFFF) A (record (in_call (Open 0 (Tagged 2))) { i = true; masks = 40960 }) root).faults
+waiting A = (raw (image M328 (0x0000 ∷ replicate 16383 0xFFFF)) A (record (in_call (Open 0 (Tagged 2))) { i = true; masks = 40960 }) root).faults
 
 may_be_entered : waiting [] ≡ UntrackedSp 0 ∷ []
-unfolding raw table_site ijmp_from is_scratch may_come is_never any_below all_below decoded device_of
+unfolding raw table_site ijmp_from is_scratch may_come is_never any_below all_below decoded device_row
 may_be_entered = refl
 
 one_may_be_entered : waiting (Never 28 ∷ []) ≡ UntrackedSp 0 ∷ []
-unfolding raw table_site ijmp_from is_scratch may_come is_never any_below all_below decoded device_of
+unfolding raw table_site ijmp_from is_scratch may_come is_never any_below all_below decoded device_row
 one_may_be_entered = refl
 
 none_may_be_entered : waiting (Never 28 ∷ Never 32 ∷ []) ≡ []
-unfolding raw table_site ijmp_from is_scratch may_come is_never any_below all_below decoded device_of
+unfolding raw table_site ijmp_from is_scratch may_come is_never any_below all_below decoded device_row
 none_may_be_entered = refl
 
 -- these are numbers of vectors, not their words
 others_are_never_entered : waiting (Never 15 ∷ Never 17 ∷ []) ≡ UntrackedSp 0 ∷ []
-unfolding raw table_site ijmp_from is_scratch may_come is_never any_below all_below decoded device_of
+unfolding raw table_site ijmp_from is_scratch may_come is_never any_below all_below decoded device_row
 others_are_never_entered = refl

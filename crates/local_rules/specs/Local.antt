@@ -299,7 +299,7 @@ splitting (Some jump) row k s =
 abbrev pub row_in : Device → Program → List Entry → NodeKey → AbsState → Raw
 row_in device words A k s = row_at device words A (is_scratch words k.pc) k s (fetched device words k.pc)
 
--- all successors of a node, with all its faults, on the device of these words
+-- all successors of a node, with all its faults, on the image's device
 unfoldable pub raw : Program → List Entry → NodeKey → AbsState → Raw
 raw words A k s =
     untracked_if (is_hung (device_of words) A k k.sp) k.pc

@@ -150,7 +150,7 @@ read_frame device may k s constant (Some d) =
 abbrev pub read_pointed : Device → Bool → NodeKey → AbsState → Pointed → Option AbsByte
 read_pointed device may k s p = read_frame device may k s p.constant p.frame
 
--- the byte of flash at a known address, on the device of these words
+-- the byte of flash at a known address, on the image's device
 abbrev pub flash_value : Program → Option ℕ → AbsByte
 flash_value words None = unknown
-flash_value words (Some z) = if nat_lt z (2 * words_of (device_of words)) then known (byte_at words z) else unknown
+flash_value words (Some z) = if nat_lt z (2 * words_of (device_of words)) then known (byte_at words.words z) else unknown

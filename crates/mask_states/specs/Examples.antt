@@ -1,8 +1,7 @@
 -- Worked rows of the definitions.
 use Rattle.std.specs.Prelude.{ℕ, ◌≡◌, ◌==◌, refl, true, false, List, [], ◌∷◌, Some, None, if◌then◌else◌}
 use Rattle.std.specs.declared.cmp.Ordering.TheVariants.{Less, Greater}
-use Rattle.avr_model.specs.declared.device.Device.TheVariants.{M48, M328}
-use Rattle.avr_model.specs.Devices.{ramend}
+use Rattle.avr_model.specs.Devices.{M48, M328, ramend, device_row}
 use Rattle.avr_model.specs.State.{filled}
 use Rattle.avr_model.specs.declared.assumption.Entry.{Entry}
 use Rattle.avr_model.specs.declared.assumption.Entry.TheVariants.{Masks, Never}
@@ -78,10 +77,12 @@ one_node = refl
 
 -- a machine after reset is at the root's first node
 at_reset : AtNode false (ramend M328) (filled M328 0x55) (entry_key root_inst)
+unfolding device_row
 at_reset = record { pc = refl; enables = refl; i = refl; delay = refl; sp = (refl, refl) }
 
 -- SPH is written with the high byte of 0x08FF - 0x100, and SPL is still that of 0x08FF - 2
 half_written : SpIs (ramend M328) true 0x07FD (Open 2 (Tag 0x100))
+unfolding device_row
 half_written = (refl, refl, refl)
 
 -- ---- splits: INT0 and INT1 have their enable bits 0 and 1 at address 0x3D, PCINT0 has its at 0x68
@@ -123,33 +124,33 @@ abbrev no_INT0 : List Entry
 no_INT0 = Masks ∷ Never 2 ∷ []
 
 all_but_INT0 : widened M328 no_INT0 0 ≡ 0x1FFFFFE
-unfolding widened number_of is_never
+unfolding device_row widened number_of is_never
 all_but_INT0 = refl
 
 -- INT0 stays among the vectors that may be enabled
 with_INT0 : widened M328 no_INT0 1 ≡ 0x1FFFFFF
-unfolding widened number_of is_never
+unfolding device_row widened number_of is_never
 with_INT0 = refl
 
 -- on the ATmega48PA the word 2 is INT1's
 all_but_INT1 : widened M48 no_INT0 0 ≡ 0x1FFFFFD
-unfolding widened number_of is_never
+unfolding device_row widened number_of is_never
 all_but_INT1 = refl
 
 any_enables_INT0 : may_enable_barred M328 no_INT0 0x3D byte_any ≡ true
-unfolding may_enable_barred packed is_never
+unfolding device_row may_enable_barred packed is_never
 any_enables_INT0 = refl
 
 two_enables_INT1_alone : may_enable_barred M328 no_INT0 0x3D (byte_known 2) ≡ false
-unfolding may_enable_barred packed is_never
+unfolding device_row may_enable_barred packed is_never
 two_enables_INT1_alone = refl
 
 two_enables_another : may_enable_other M328 no_INT0 (λ a. a == 0x3D) (byte_known 2) ≡ true
-unfolding may_enable_other packed is_never
+unfolding device_row may_enable_other packed is_never
 two_enables_another = refl
 
 one_enables_no_other : may_enable_other M328 no_INT0 (λ a. a == 0x3D) (byte_known 1) ≡ false
-unfolding may_enable_other packed is_never
+unfolding device_row may_enable_other packed is_never
 one_enables_no_other = refl
 
 -- if INT1's enable bit reads 0, it leaves a set of what may be enabled, and contradicts a set of what is enabled

@@ -248,16 +248,16 @@ joined_more permits permits' value more v e = by (joined_below permits' value 65
 pub known_stands : (o : Origin) (b : ℕ) → b < 256 → ByteStands o (known b) b
 known_stands o b small = bits_make_values.stands o tag.None (byte_known b) b small tt ((bytes_are_sets.known b b small small).1 refl)
 
--- the byte that is read at a number that the pair holds
-pub joined_stands : (o : Origin) (words : Program) (permits : ℕ → Bool) (z : ℕ) → z < 65536 → permits z ≡ true → byte_at words z < 256
-    → (v : AbsByte) × ((flash_joined words permits ≡ Some v) × ByteStands o v (byte_at words z))
+-- the byte at the number that the pair holds
+pub joined_stands : (o : Origin) (words : Program) (permits : ℕ → Bool) (z : ℕ) → z < 65536 → permits z ≡ true → byte_at words.words z < 256
+    → (v : AbsByte) × ((flash_joined words permits ≡ Some v) × ByteStands o v (byte_at words.words z))
 joined_stands o words permits z lt may small =
     let h = joined_has permits (flash_known words) 65536 z lt may in
-    (h.0, (h.1.0, values_say_less.byte o (flash_known words z) h.0 (byte_at words z) h.1.1 (known_stands o (byte_at words z) small)))
+    (h.0, (h.1.0, values_say_less.byte o (flash_known words z) h.0 (byte_at words.words z) h.1.1 (known_stands o (byte_at words.words z) small)))
 
 pub flash_fits : (words : Program) (permits : ℕ → Bool) (v : AbsByte) → flash_joined words permits ≡ Some v → ByteFits v
 flash_fits words permits v e =
-    joined_is ByteFits permits (flash_known words) 65536 (λ z. bits_make_values.fits tag.None (byte_known (byte_at words z))) bits_make_values.joins_fit v e
+    joined_is ByteFits permits (flash_known words) 65536 (λ z. bits_make_values.fits tag.None (byte_known (byte_at words.words z))) bits_make_values.joins_fit v e
 
 pub flash_untagged : (words : Program) (permits : ℕ → Bool) (v : AbsByte) → flash_joined words permits ≡ Some v → v.tag ≡ tag.None
 flash_untagged words permits v e =
@@ -278,7 +278,7 @@ any_above : (words : Program) (z : ℕ) → IsByteWithin (flash_at words z) unkn
 any_above words z = by (is_flash words z)
   where
     by : (b : Bool) → IsByteWithin (if b then flash_known words z else unknown) unknown
-    by true = bits_make_values.within tag.None tag.None (byte_known (byte_at words z)) byte_any tt (λ x small h. any_has x)
+    by true = bits_make_values.within tag.None tag.None (byte_known (byte_at words.words z)) byte_any tt (λ x small h. any_has x)
     by false = values_are_ordered.same unknown
 
 pub unknown_covers : (words : Program) (p : PairSet) → CoversFlash words p unknown

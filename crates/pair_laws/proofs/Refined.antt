@@ -272,7 +272,7 @@ module _ (marks : List ℕ) (words : Program) (instr : Instr) (n k : ℕ) (s s' 
 
 -- ---- it stands
 
-module _ (marks : List ℕ) (words : Program) (o : Origin) (m : State) (instr : Instr) (b1 b2 n k : ℕ) (s t : AbsState) (are : All (λ w. w < 65536) words) (fit : HasRegisters instr)
+module _ (marks : List ℕ) (words : Program) (o : Origin) (m : State) (instr : Instr) (b1 b2 n k : ℕ) (s t : AbsState) (are : All (λ w. w < 65536) words.words) (fit : HasRegisters instr)
     (before : IsFormed s n) (behind : IsFormed t k) (at : IsBefore o s m) (lands : IsBehind o t (registers_set words m instr b1 b2) (sreg_set words m instr b1 b2)) where
   holds_known : (x : Option PairFacts) → KnownFits x → HoldsAt x m.registers m.sreg
       → (u : AbsState) × (refined_known marks words instr s t x ≡ Some u) × IsBehind o u (registers_set words m instr b1 b2) (sreg_set words m instr b1 b2)

@@ -314,7 +314,7 @@ flag_permitted bits x has = subst (Permits (tri_at bits 0)) (by (bit_at x 0) (bi
     by (suc zero) lt = refl
     by (suc (suc b)) lt = absurd (omega arith)
 
-byte_small : (words : Program) (z : ℕ) → All (λ w. w < 65536) words → byte_at words z < 256
+byte_small : (words : List ℕ) (z : ℕ) → All (λ w. w < 65536) words → byte_at words z < 256
 byte_small words z all = here (z % 2 == 0)
   where
     word : slice_index words (z / 2) < 65536
@@ -330,7 +330,7 @@ byte_small words z all = here (z % 2 == 0)
 abbrev StandsRetold : Origin → AbsState → Option AbsState → List ℕ → Type 0
 StandsRetold o t left registers = (u : AbsState) × (left ≡ Some u) × RegistersStand o u.registers registers × (u.facts ≡ t.facts)
 
-module _ (o : Origin) (m : State) (s t : AbsState) (n : ℕ) (at : IsBefore o s m) (words : Program) (are : All (λ w. w < 65536) words) (f : PairFacts)
+module _ (o : Origin) (m : State) (s t : AbsState) (n : ℕ) (at : IsBefore o s m) (words : Program) (are : All (λ w. w < 65536) words.words) (f : PairFacts)
     (h : HoldsAt (Some f) m.registers m.sreg) (registers : List ℕ) (stand : RegistersStand o t.registers registers) where
   plain_stands : StandsRetold o t (Some t) registers
   plain_stands = (t, refl, stand, refl)
@@ -361,9 +361,9 @@ module _ (o : Origin) (m : State) (s t : AbsState) (n : ℕ) (at : IsBefore o s 
           → StandsRetold o t (if few then with_joined t d (flash_joined words (pair_permits (z_of s f))) else Some t) registers
       by false many = plain_stands
       by true few_is =
-          let joined = joined_stands o words (pair_permits (z_of s f)) (pair m 30) z_small may (byte_small words (pair m 30) are) in
+          let joined = joined_stands o words (pair_permits (z_of s f)) (pair m 30) z_small may (byte_small words.words (pair m 30) are) in
           let inside = is_in_flash words (pair_permits (z_of s f)) (pair m 30) few_is z_small may in
-          let byte : slice_index registers d ≡ byte_at words (pair m 30) = is ∙ ap (λ (b : Bool). if b then byte_at words (pair m 30) else input) inside in
+          let byte : slice_index registers d ≡ byte_at words.words (pair m 30) = is ∙ ap (λ (b : Bool). if b then byte_at words.words (pair m 30) else input) inside in
           let set = value_stands d joined.0 (subst (ByteStands o joined.0) (sym byte) joined.1.1) in
           (set.0, ap (with_joined t d) joined.1.0 ∙ set.1, set.2, set.3)
 
@@ -382,7 +382,7 @@ module _ (o : Origin) (m : State) (s t : AbsState) (n : ℕ) (at : IsBefore o s 
       carry_small true = omega arith
       carry_small false = omega arith
 
-module _ (o : Origin) (m : State) (s t : AbsState) (n : ℕ) (at : IsBefore o s m) (words : Program) (are : All (λ w. w < 65536) words) (f : PairFacts)
+module _ (o : Origin) (m : State) (s t : AbsState) (n : ℕ) (at : IsBefore o s m) (words : Program) (are : All (λ w. w < 65536) words.words) (f : PairFacts)
     (h : HoldsAt (Some f) m.registers m.sreg) (b1 b2 : ℕ) where
   set_at : (d x : ℕ) → d < 32 → slice_index (slice_set m.registers d x) d ≡ x
   set_at d x lt = set_there m.registers d x (omega (arith, lt, at.count))

@@ -76,7 +76,7 @@ pub record IsLike (t u : AbsState) : Type 0 where
 
 -- If the state before the instruction and the plain one after it hold, the refined one exists and holds.
 pub record RefinedHolds : Type 0 where
-  pub holds : (marks : List ℕ) (words : Program) (o : Origin) (m : State) (instr : Instr) (b1 b2 n k : ℕ) (s t : AbsState) → All (λ w. w < 65536) words
+  pub holds : (marks : List ℕ) (words : Program) (o : Origin) (m : State) (instr : Instr) (b1 b2 n k : ℕ) (s t : AbsState) → All (λ w. w < 65536) words.words
       → HasRegisters instr → IsFormed s n → IsFormed t k → IsBefore o s m → IsBehind o t (registers_set words m instr b1 b2) (sreg_set words m instr b1 b2)
       → (u : AbsState) × (refined marks words instr s t ≡ Some u) × IsBehind o u (registers_set words m instr b1 b2) (sreg_set words m instr b1 b2)
 

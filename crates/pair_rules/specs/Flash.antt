@@ -39,7 +39,7 @@ joined_below permits value (suc n) = if permits n then Some (joined_with (joined
 -- ---- flash
 
 abbrev pub flash_known : Program → ℕ → AbsByte
-flash_known words z = known (byte_at words z)
+flash_known words z = known (byte_at words.words z)
 
 abbrev pub is_flash : Program → ℕ → Bool
 is_flash words z = nat_lt z (2 * words_of (device_of words))

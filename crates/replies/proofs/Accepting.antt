@@ -8,7 +8,7 @@ use Rattle.avr_model.specs.declared.assumption.Entry.{Entry}
 use Rattle.avr_model.specs.declared.choice.Stop.{Stop}
 use Rattle.avr_model.specs.declared.choice.Stop.TheVariants as stop
 use Rattle.avr_model.specs.declared.device.Device.{Device}
-use Rattle.avr_model.specs.Devices.{Program, words_of as count_of}
+use Rattle.avr_model.specs.Devices.{Program, words_of as count_of, image}
 use Rattle.avr_model.specs.Image.{WORDS, IsRawImage, raw_words}
 use Rattle.avr_model.specs.Run.{Bounded}
 use Rattle.local_rules.specs.Machine.{AreWords}
@@ -32,7 +32,7 @@ use Rattle.cert_check.specs.declared.verdict.Verdict.TheVariants.{Accepted, Reje
 use Rattle.replies.specs.declared.status.Status.{Status}
 use Rattle.replies.specs.declared.status.Status.TheVariants as exit
 use Rattle.replies.specs.declared.raw.RawRefusal.TheVariants as raw
-use Rattle.replies.specs.Firmware.{IsImageBy, IsFirmware, words_by, firmware_words, fault_by, outside_fault, fault_or, firmware_fault}
+use Rattle.replies.specs.Firmware.{IsImageBy, IsFirmware, words_by, firmware_image, fault_by, outside_fault, fault_or, firmware_fault}
 use Rattle.replies.specs.Texts.{elf_refused, raw_fault, firmware_outside, assumptions_refused, certificate_refused}
 use Rattle.replies.specs.Reading.{Seen, Unread, Whole, Long, Contents}
 use Rattle.replies.specs.Reply.{Reply, Refuses, WithFile, WithOptional, ImageBy, WithImage, ListBy, WithList, is_end, attains, AttainedBy, WitnessReply, VerdictReply, JudgedReply, CertificateReply}
@@ -107,7 +107,7 @@ no_word None e = refl
 no_word (Some word) e = absurd (let wrong = e in cc)
 
 module _
-    (one : (bytes : List ℕ) (words : Program) → IsRawImage bytes words → words ≡ raw_words bytes)
+    (one : (bytes words : List ℕ) → IsRawImage bytes words → words ≡ raw_words bytes)
     (images : (bytes : List ℕ) → length bytes % 2 ≡ 0 → length bytes ≤ 2 * WORDS → IsRawImage bytes (raw_words bytes))
     (narrowing : NarrowingIsExact) where
   image_by : (elf : Bool) (bytes : List ℕ) → fault_by elf bytes ≡ None → IsImageBy elf bytes (words_by elf bytes)
@@ -126,17 +126,17 @@ module _
   image_size true bytes all h = h.size
   image_size false bytes all h = h.size
 
-  firmware_here : (device : Device) (bytes : List ℕ) → firmware_fault device bytes ≡ None → IsFirmware device bytes (firmware_words device bytes)
+  firmware_here : (device : Device) (bytes : List ℕ) → firmware_fault device bytes ≡ None → IsFirmware device bytes (firmware_image device bytes)
   firmware_here device bytes e =
       let all : List ℕ = words_by (is_elf bytes) bytes in
       let none = none_of (fault_by (is_elf bytes) bytes) (outside_fault device all) e in
       let image = image_by (is_elf bytes) bytes none.0 in
       record { all = all; image = image; narrowed = narrowing.some device all (image_size (is_elf bytes) bytes all image) (no_word (outside_word device all) none.1) }
 
-  pub words_of : (device : Device) (bytes : List ℕ) (words : Program) → IsFirmware device bytes words → words ≡ firmware_words device bytes
+  pub words_of : (device : Device) (bytes : List ℕ) (words : Program) → IsFirmware device bytes words → words ≡ firmware_image device bytes
   words_of device bytes words h =
       narrowing.words device h.all words (image_size (is_elf bytes) bytes h.all h.image) h.narrowed
-      ∙ ap (take (count_of device)) (all_of (is_elf bytes) bytes h.all h.image)
+      ∙ ap (λ (all : List ℕ). image device (take (count_of device) all)) (all_of (is_elf bytes) bytes h.all h.image)
 
   pub fault_of : (device : Device) (bytes : List ℕ) (words : Program) → IsFirmware device bytes words → firmware_fault device bytes ≡ None
   fault_of device bytes words h =
@@ -145,15 +145,15 @@ module _
       ∙ ap (outside_fault device) (sym (all_of (is_elf bytes) bytes h.all h.image))
       ∙ ap (option_map firmware_outside) none
 
-  pub zero_image : (device : Device) (bytes : List ℕ) (next : List ℕ → Reply) (text : List ℕ) → WithImage device bytes next exit.Done text
-      → IsFirmware device bytes (firmware_words device bytes) × next (firmware_words device bytes) exit.Done text
+  pub zero_image : (device : Device) (bytes : List ℕ) (next : Program → Reply) (text : List ℕ) → WithImage device bytes next exit.Done text
+      → IsFirmware device bytes (firmware_image device bytes) × next (firmware_image device bytes) exit.Done text
   zero_image device bytes next text h =
-      let by = zero_by (firmware_fault device bytes) (next (firmware_words device bytes)) text h in
+      let by = zero_by (firmware_fault device bytes) (next (firmware_image device bytes)) text h in
       (firmware_here device bytes by.0, by.1)
 
-  pub image_zero : (device : Device) (bytes : List ℕ) (words : Program) (next : List ℕ → Reply) (status : Status) (text : List ℕ) → IsFirmware device bytes words → next words status text → WithImage device bytes next status text
+  pub image_zero : (device : Device) (bytes : List ℕ) (words : Program) (next : Program → Reply) (status : Status) (text : List ℕ) → IsFirmware device bytes words → next words status text → WithImage device bytes next status text
   image_zero device bytes words next status text firmware h =
-      by_none (firmware_fault device bytes) (next (firmware_words device bytes)) status text (fault_of device bytes words firmware)
+      by_none (firmware_fault device bytes) (next (firmware_image device bytes)) status text (fault_of device bytes words firmware)
       (subst (λ ws. next ws status text) (words_of device bytes words firmware) h)
 
 -- ---- the assumptions
@@ -286,7 +286,7 @@ fault_none o reply status text e h = subst (λ x. ImageBy x reply status text) e
 
 -- the answer to an accepted certificate, for a firmware of these bytes with these words, under these assumptions
 abbrev pub Accepting : Type 1
-Accepting = List ℕ → List ℕ → List Entry → Claim → Reply
+Accepting = List ℕ → Program → List Entry → Claim → Reply
 
 -- the answer of a command that judges, by the bytes of its files
 abbrev JudgeReply : Device → Accepting → List ℕ → List ℕ → Option (List ℕ) → Reply
@@ -297,7 +297,7 @@ abbrev pub IsReplyJudged : Device → Accepting → List ℕ → List ℕ → Op
 IsReplyJudged device next fw cert assume seen = WithFile fw seen.firmware (λ firmware. WithFile cert seen.second (λ s. WithOptional assume seen.assumptions (λ list. JudgeReply device next firmware s list)))
 
 module _
-    (one : (bytes : List ℕ) (words : Program) → IsRawImage bytes words → words ≡ raw_words bytes)
+    (one : (bytes words : List ℕ) → IsRawImage bytes words → words ≡ raw_words bytes)
     (images : (bytes : List ℕ) → length bytes % 2 ≡ 0 → length bytes ≤ 2 * WORDS → IsRawImage bytes (raw_words bytes))
     (narrowing : NarrowingIsExact)
     (lists : ReadingIsExact)
@@ -314,10 +314,10 @@ module _
     are_read : AreRead assume seen firmware certificate list
     A : List Entry
     claim : Claim
-    image : IsFirmware device firmware (firmware_words device firmware)
+    image : IsFirmware device firmware (firmware_image device firmware)
     assumptions : IsListOf list A
     is : certificate_in certificate ≡ Ok claim
-    accepted : IsAccepted (firmware_words device firmware) A (next firmware (firmware_words device firmware) A) claim text
+    accepted : IsAccepted (firmware_image device firmware) A (next firmware (firmware_image device firmware) A) claim text
 
   zero_judgement : (fw cert : List ℕ) (assume : Option (List ℕ)) (seen : Contents) (text : List ℕ) → IsReplyJudged device next fw cert assume seen exit.Done text → IsZero assume seen text
   zero_judgement fw cert assume seen text h =
@@ -325,8 +325,8 @@ module _
       let second = zero_file cert seen.second _ text first.2 in
       let third = zero_optional assume seen.assumptions (λ list. JudgeReply device next first.0 second.0 list) text second.2 in
       let image = zero_image one images narrowing device first.0 (λ ws. WithList third.0 (λ B. CertificateReply ws B (next first.0 ws B) (certificate_in second.0))) text third.2 in
-      let list = zero_list lists third.0 (λ B. CertificateReply (firmware_words device first.0) B (next first.0 (firmware_words device first.0) B) (certificate_in second.0)) text image.1 in
-      let judged = zero_certificate (firmware_words device first.0) list.0 (next first.0 (firmware_words device first.0) list.0) (certificate_in second.0) text list.2 in
+      let list = zero_list lists third.0 (λ B. CertificateReply (firmware_image device first.0) B (next first.0 (firmware_image device first.0) B) (certificate_in second.0)) text image.1 in
+      let judged = zero_certificate (firmware_image device first.0) list.0 (next first.0 (firmware_image device first.0) list.0) (certificate_in second.0) text list.2 in
       record {
         firmware = first.0;
         certificate = second.0;
@@ -346,7 +346,7 @@ module _
     pub certificate : List ℕ
     pub list : Option (List ℕ)
     pub are_read : AreRead assume seen firmware certificate list
-    pub words : List ℕ
+    pub words : Program
     pub claim : Claim
     pub A : List Entry
     pub stand : StandFor device firmware certificate list words claim A
@@ -355,7 +355,7 @@ module _
     pub bounded : Bounded words A claim.bound
     pub told : next firmware words A claim exit.Done text
 
-  pub judgement_holds : (fw cert : List ℕ) (assume : Option (List ℕ)) (seen : Contents) (text : List ℕ) → ((firmware : List ℕ) → seen.firmware ≡ Whole firmware → AreWords (firmware_words device firmware))
+  pub judgement_holds : (fw cert : List ℕ) (assume : Option (List ℕ)) (seen : Contents) (text : List ℕ) → ((firmware : List ℕ) → seen.firmware ≡ Whole firmware → AreWords (firmware_image device firmware))
       → IsReplyJudged device next fw cert assume seen exit.Done text → HoldsOf assume seen text
   judgement_holds fw cert assume seen text has h =
       let z = zero_judgement fw cert assume seen text h in
@@ -365,22 +365,22 @@ module _
         certificate = z.certificate;
         list = z.list;
         are_read = z.are_read;
-        words = firmware_words device z.firmware;
+        words = firmware_image device z.firmware;
         claim = z.claim;
         A = z.A;
         stand = record { mean = record { image = z.image; assumptions = z.assumptions }; fits = spelling.1; bytes = spelling.0 };
         fit = has z.firmware z.are_read.loaded.firmware_read;
         valid = record { sound = z.accepted.sound; attained = z.accepted.told.attained };
-        bounded = bounds (firmware_words device z.firmware) z.A z.claim (has z.firmware z.are_read.loaded.firmware_read) spelling.1.claim z.accepted.sound;
+        bounded = bounds (firmware_image device z.firmware) z.A z.claim (has z.firmware z.are_read.loaded.firmware_read) spelling.1.claim z.accepted.sound;
         told = z.accepted.told.says;
       }
 
   -- ---- exactness
 
-  pub image_read : (bytes : List ℕ) (words : Program) (later : List ℕ → Reply) (status : Status) (text : List ℕ) → IsFirmware device bytes words → WithImage device bytes later status text → later words status text
+  pub image_read : (bytes : List ℕ) (words : Program) (later : Program → Reply) (status : Status) (text : List ℕ) → IsFirmware device bytes words → WithImage device bytes later status text → later words status text
   image_read bytes words later status text firmware h =
       subst (λ ws. later ws status text) (sym (words_of one images narrowing device bytes words firmware))
-      (fault_none (firmware_fault device bytes) (later (firmware_words device bytes)) status text (fault_of one images narrowing device bytes words firmware) h)
+      (fault_none (firmware_fault device bytes) (later (firmware_image device bytes)) status text (fault_of one images narrowing device bytes words firmware) h)
 
   pub list_read : (list : Option (List ℕ)) (A : List Entry) (later : List Entry → Reply) (status : Status) (text : List ℕ) → IsListOf list A → WithList list later status text → later A status text
   list_read None A later status text e h = subst (λ l. later l status text) (sym e) h
@@ -389,7 +389,7 @@ module _
   -- all files are well-formed
   module _ (fw cert : List ℕ) (assume : Option (List ℕ)) (seen : Contents) (firmware certificate : List ℕ) (list : Option (List ℕ)) (words : Program) (claim : Claim) (A : List Entry)
       (are : AreRead assume seen firmware certificate list) (stand : StandFor device firmware certificate list words claim A) where
-    -- the answer is by the verdict on the certificate
+    -- the answer by the verdict on the certificate
     judged_so : (status : Status) (text : List ℕ) → IsReplyJudged device next fw cert assume seen status text → JudgedReply words A (next firmware words A) claim status text
     judged_so status text h =
         let first = file_read fw seen.firmware firmware _ status text are.loaded.firmware_read h in
@@ -399,7 +399,7 @@ module _
         subst (λ x. CertificateReply words A (next firmware words A) x status text) (ap certificate_in stand.bytes ∙ spelled claim stand.fits)
         (list_read list A (λ B. CertificateReply words B (next firmware words B) (certificate_in certificate)) status text stand.mean.assumptions image)
 
-    -- the certificate is valid and what follows is answered, or it isn't valid
+    -- the certificate is valid and the answer continues, or it isn't valid
     pub judged_by : VerdictsAreOne → (status : Status) (text : List ℕ) → IsReplyJudged device next fw cert assume seen status text → IsJudged words A (next firmware words A) claim status text
     judged_by verdicts status text h =
         let j = judged_so status text h in by_verdict verdicts words A (next firmware words A) claim stand.fits.claim j.verdict status text j.is j.reply

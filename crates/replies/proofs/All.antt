@@ -22,7 +22,7 @@ use Rattle.cert_check.specs.Laws.{VerdictsAreOne, SoundCertificatesBoundEveryRun
 use Rattle.round_laws.specs.Laws.{RoundsAreLeast, SolutionsAreValid}
 use Rattle.round_solutions.specs.Answers.{AnswersAreOne}
 use Rattle.witness_search.specs.Laws.{WaypointsAreOne}
-use Rattle.demo_image.specs.Image.{demo_words}
+use Rattle.demo_image.specs.Image.{demo_program}
 use Rattle.certificate.specs.Valid.{IsSound, IsValid}
 use Rattle.device_hooks.specs.declared.devices.DevicesFault.{DevicesFault}
 use Rattle.device_hooks.specs.Spelling.{Setup}
@@ -44,7 +44,7 @@ use Rattle.guided_trials.specs.Laws.{TrialsAreLed}
 use Rattle.commands.specs.Commands.{Command, Check, Analyse, Run, Report, Explain, Clear, Premises, Attain, Simulate, Demo, device_for}
 use Rattle.replies.specs.declared.status.Status.{Status}
 use Rattle.replies.specs.declared.status.Status.TheVariants as exit
-use Rattle.replies.specs.Firmware.{IsFirmware, firmware_words, firmware_names}
+use Rattle.replies.specs.Firmware.{IsFirmware, firmware_image, firmware_names}
 use Rattle.replies.specs.Texts.{devices_refused, accepted, run_text}
 use Rattle.replies.specs.Reading.{Whole, Contents, certificate_cap}
 use Rattle.replies.specs.Reply.{Reply, WithOptional, WithImage, WithList, ClearSays, ClearReply, PlacesReply, AcceptedReply, AnalyseReply, SimulateReply, DemoReply, IsReply}
@@ -81,7 +81,7 @@ no_words [] e = refl
 no_words (p ∷ ps) e = absurd (cc)
 
 module _
-    (raw : (bytes : List ℕ) (words : Program) → IsRawImage bytes words → words ≡ raw_words bytes)
+    (raw : (bytes words : List ℕ) → IsRawImage bytes words → words ≡ raw_words bytes)
     (images : (bytes : List ℕ) → length bytes % 2 ≡ 0 → length bytes ≤ 2 * WORDS → IsRawImage bytes (raw_words bytes))
     (narrowing : NarrowingIsExact)
     (lists : ReadingIsExact)
@@ -103,7 +103,7 @@ module _
     (texts_fit : TextsFit) where
   -- ---- commands that judge
 
-  abbrev check_next : Device → List ℕ → List ℕ → Option (List ℕ) → List ℕ → List ℕ → List Entry → Claim → Reply
+  abbrev check_next : Device → List ℕ → List ℕ → Option (List ℕ) → List ℕ → Program → List Entry → Claim → Reply
   check_next device fw cert assume = AcceptedReply (Check device fw cert assume)
 
   holds_as : (command : Command) (assume : Option (List ℕ)) (seen : Contents) (text : List ℕ) (h : HoldsOf raw images narrowing lists read spelled bounds (device_for command) (AcceptedReply command) assume seen text)
@@ -146,7 +146,7 @@ module _
             (record { loaded = record { firmware_read = h.are_read.loaded.firmware_read; list_read = h.are_read.loaded.list_read }; second_read = refl }) stand exit.Done (accepted shows.claim.bound (is_some shows.claim.witness)) shows.valid (refl, refl);
       }
 
-  -- a command that answers 0 where a certificate is valid
+  -- a command that answers 0 if a certificate is valid
   record SaysValid (words : Program) (A : List Entry) (c : Claim) (status : Status) : Type 0 where
     accepted : (status ≡ exit.Done) ↔ IsValid words A c
     unclear : status ≡ exit.Unclear → ⊥
@@ -295,39 +295,39 @@ module _
   AfterAnalysis device steps firmware list = WithImage device firmware (λ words. WithList list (λ A. AnalyseReply words A steps))
 
   least_text : (device : Device) (assume : Option (List ℕ)) (steps : Option ℕ) (seen : Contents) (text firmware : List ℕ) (list : Option (List ℕ)) (A : List Entry) → AreLoaded assume seen firmware list
-      → IsFirmware device firmware (firmware_words device firmware) → IsListOf list A → AreWords (firmware_words device firmware) → AnalyseReply (firmware_words device firmware) A steps exit.Done text → IsLeastAsRead device assume seen text
-  least_text device assume steps seen text firmware list A loaded image listed has (inr h) = absurd (not_written answers rounds solutions bounds runs (firmware_words device firmware) A steps text h)
+      → IsFirmware device firmware (firmware_image device firmware) → IsListOf list A → AreWords (firmware_image device firmware) → AnalyseReply (firmware_image device firmware) A steps exit.Done text → IsLeastAsRead device assume seen text
+  least_text device assume steps seen text firmware list A loaded image listed has (inr h) = absurd (not_written answers rounds solutions bounds runs (firmware_image device firmware) A steps text h)
   least_text device assume steps seen text firmware list A loaded image listed has (inl h) =
-      let best = analysis_best answers rounds solutions bounds runs (firmware_words device firmware) A steps h.claim h.analysis in
-      let stand : StandFor device firmware text list (firmware_words device firmware) h.claim A = record { mean = record { image = image; assumptions = listed }; fits = best.fits; bytes = h.says.1 } in
+      let best = analysis_best answers rounds solutions bounds runs (firmware_image device firmware) A steps h.claim h.analysis in
+      let stand : StandFor device firmware text list (firmware_image device firmware) h.claim A = record { mean = record { image = image; assumptions = listed }; fits = best.fits; bytes = h.says.1 } in
       record {
         firmware = firmware;
         list = list;
         read = loaded;
         certificate = record {
-          words = firmware_words device firmware;
+          words = firmware_image device firmware;
           claim = h.claim;
           assumptions = A;
           stand = stand;
           valid = best.valid;
           least = best.least;
-          bounded = best_bounds answers rounds solutions bounds runs (firmware_words device firmware) A steps h.claim has best;
+          bounded = best_bounds answers rounds solutions bounds runs (firmware_image device firmware) A steps h.claim has best;
           reached = best.reached;
           trials = best.trials;
-          short = subst (λ (t : List ℕ). length t ≤ certificate_cap) (sym h.says.1) (fit (firmware_words device firmware) A steps h.claim h.analysis best.fits);
+          short = subst (λ (t : List ℕ). length t ≤ certificate_cap) (sym h.says.1) (fit (firmware_image device firmware) A steps h.claim h.analysis best.fits);
         };
         again = λ fw cert.
-            valid_judged raw images narrowing lists read spelled bounds device (check_next device fw cert assume) fw cert assume (record seen { second = Whole text }) firmware text list (firmware_words device firmware) h.claim A
+            valid_judged raw images narrowing lists read spelled bounds device (check_next device fw cert assume) fw cert assume (record seen { second = Whole text }) firmware text list (firmware_image device firmware) h.claim A
             (record { loaded = record { firmware_read = loaded.firmware_read; list_read = loaded.list_read }; second_read = refl }) stand exit.Done (accepted h.claim.bound (is_some h.claim.witness)) best.valid (refl, refl);
       }
 
-  zero_analysis : (device : Device) (fw : List ℕ) (assume : Option (List ℕ)) (steps : Option ℕ) (seen : Contents) (text : List ℕ) → ((firmware : List ℕ) → seen.firmware ≡ Whole firmware → AreWords (firmware_words device firmware))
+  zero_analysis : (device : Device) (fw : List ℕ) (assume : Option (List ℕ)) (steps : Option ℕ) (seen : Contents) (text : List ℕ) → ((firmware : List ℕ) → seen.firmware ≡ Whole firmware → AreWords (firmware_image device firmware))
       → IsReply (Analyse device fw assume steps) seen exit.Done text → IsLeastAsRead device assume seen text
   zero_analysis device fw assume steps seen text has h =
       let first = zero_file fw seen.firmware _ text h in
       let second = zero_optional assume seen.assumptions (AfterAnalysis device steps first.0) text first.2 in
       let image = zero_image raw images narrowing device first.0 (λ ws. WithList second.0 (λ B. AnalyseReply ws B steps)) text second.2 in
-      let list = zero_list lists second.0 (λ B. AnalyseReply (firmware_words device first.0) B steps) text image.1 in
+      let list = zero_list lists second.0 (λ B. AnalyseReply (firmware_image device first.0) B steps) text image.1 in
       least_text device assume steps seen text first.0 second.0 list.0 (record { firmware_read = first.1; list_read = second.1 }) image.0 list.1 (has first.0 first.1) list.2
 
   analysis_read : (device : Device) (fw : List ℕ) (assume : Option (List ℕ)) (steps : Option ℕ) (seen : Contents) (status : Status) (text : List ℕ) → IsReply (Analyse device fw assume steps) seen status text → AnswersRounds device assume steps seen status
@@ -343,19 +343,19 @@ module _
   abbrev AfterDevices : Device → ℕ → List ℕ → List ℕ → Option (List ℕ) → Reply
   AfterDevices device steps firmware devices list = WithImage device firmware (λ words. WithList list (λ A. SimulateReply words A steps (setup_in devices)))
 
-  -- status 0 comes with a setup, and one brings status 0
+  -- status 0 comes with a setup, and a setup gives status 0
   zero_setup : (words : Program) (A : List Entry) (steps : ℕ) (x : Result Setup DevicesFault) (text : List ℕ) → SimulateReply words A steps x exit.Done text
       → (setup : Setup) × (x ≡ Ok setup) × (text ≡ run_text (simulation_of words A setup steps))
   zero_setup words A steps (Err fault) text h = absurd (zero_refused exit.BadDevices not_devices (devices_refused fault) text h)
   zero_setup words A steps (Ok setup) text h = (setup, refl, h.1)
 
-  zero_simulation : (device : Device) (fw dev : List ℕ) (assume : Option (List ℕ)) (steps : ℕ) (seen : Contents) (text : List ℕ) → ((firmware : List ℕ) → seen.firmware ≡ Whole firmware → AreWords (firmware_words device firmware))
+  zero_simulation : (device : Device) (fw dev : List ℕ) (assume : Option (List ℕ)) (steps : ℕ) (seen : Contents) (text : List ℕ) → ((firmware : List ℕ) → seen.firmware ≡ Whole firmware → AreWords (firmware_image device firmware))
       → IsReply (Simulate device fw dev assume steps) seen exit.Done text → IsSimulatedAsRead device assume steps seen text
   zero_simulation device fw dev assume steps seen text has h =
       let first = zero_file fw seen.firmware _ text h in
       let second = zero_file dev seen.second _ text first.2 in
       let third = zero_optional assume seen.assumptions (AfterDevices device steps first.0 second.0) text second.2 in
-      let words : List ℕ = firmware_words device first.0 in
+      let words : Program = firmware_image device first.0 in
       let image = zero_image raw images narrowing device first.0 (λ ws. WithList third.0 (λ B. SimulateReply ws B steps (setup_in second.0))) text third.2 in
       let list = zero_list lists third.0 (λ B. SimulateReply words B steps (setup_in second.0)) text image.1 in
       let setup = zero_setup words list.0 steps (setup_in second.0) text list.2 in
@@ -395,9 +395,9 @@ module _
 
   measured : (size : ℕ) (text : List ℕ) → DemoReply size exit.Done text → IsMeasured size text
   measured size text (inl h) = record { claim = h.claim; fits = h.fits; answer = h.answer; told = h.says.1 }
-  measured size text (inr k) = absurd (not_written answers rounds solutions bounds runs (demo_words size) [] None text k)
+  measured size text (inr k) = absurd (not_written answers rounds solutions bounds runs (demo_program size) [] None text k)
 
-  demo_ends : (size : ℕ) (status : Status) (text : List ℕ) → DemoReply size status text → Ends answers rounds solutions bounds runs (demo_words size) [] None status text
+  demo_ends : (size : ℕ) (status : Status) (text : List ℕ) → DemoReply size status text → Ends answers rounds solutions bounds runs (demo_program size) [] None status text
   demo_ends size status text (inl h) = inl (record { claim = h.claim; fits = h.fits; answer = h.answer; zero = h.says.0 })
   demo_ends size status text (inr k) = inr k
 
@@ -443,4 +443,4 @@ module _
   replies_are_exact (Attain device fw cert assume trials) seen status text h =
       accepts_valid (Attain device fw cert assume trials) fw cert assume seen status text (λ bytes ws B c s t k. k.says.0) (λ ws B c s k. record { accepted = k.accepted; unclear = (k.unclear, λ b. absurd b); rejected = k.rejected }) h
   replies_are_exact (Simulate device fw dev assume steps) seen status text h = simulation_read device fw dev assume steps seen status text h
-  replies_are_exact (Demo size) seen status text h = says_ends answers rounds solutions bounds runs (demo_words size) [] None status text (demo_ends size status text h)
+  replies_are_exact (Demo size) seen status text h = says_ends answers rounds solutions bounds runs (demo_program size) [] None status text (demo_ends size status text h)

@@ -10,14 +10,14 @@ use Rattle.round_rules.specs.declared.refusal.Refusal.TheVariants.{Memory}
 use Rattle.round_solutions.specs.Answers.{AnswersAreOne}
 use Rattle.witness_search.specs.Laws.{WaypointsAreOne}
 use Rattle.witness_search.specs.Trials.{IsFound}
-use Rattle.demo_image.specs.Image.{demo_words}
+use Rattle.demo_image.specs.Image.{demo_program}
 use Rattle.replies.specs.declared.status.Status.{Status}
 use Rattle.replies.specs.Texts.{why_not_status, why_not_text, demo_text}
 use Rattle.replies.specs.Analysis.{TrialsFind, IsAnalysis}
 use Rattle.replies.specs.Reply.{Refuses, WhyNotReply, AnalyseReply, MeasuredReply, DemoReply}
 use Rattle.replies.proofs.Trials.{found_one}
 
--- want of memory is never told
+-- running out of memory is never printed
 pub no_memory : (words : Program) (r : Refusal) (status : Status) (text : List ℕ) → Refuses (why_not_status r) (why_not_text words r) status text → r ≢ Memory
 no_memory words r status text h e = subst (λ x. Refuses (why_not_status x) (why_not_text words x) status text) e h
 
@@ -57,12 +57,12 @@ module _ (one : AnswersAreOne) (chains : WaypointsAreOne) where
   analyse_one words A steps s t a b (inr h) (inl k) = never_both words A steps k.claim s a k.analysis h
   analyse_one words A steps s t a b (inr h) (inr k) = why_not_one words A steps s t a b h k
 
-  never_measured : {X : Type 0} (size : ℕ) (s t : Status) (a b : List ℕ) → MeasuredReply size s a → WhyNotReply (demo_words size) [] None t b → X
-  never_measured size s t a b h k = absurd (no_memory (demo_words size) k.refusal t b k.says (one.either (demo_words size) [] None h.claim k.refusal h.answer k.why))
+  never_measured : {X : Type 0} (size : ℕ) (s t : Status) (a b : List ℕ) → MeasuredReply size s a → WhyNotReply (demo_program size) [] None t b → X
+  never_measured size s t a b h k = absurd (no_memory (demo_program size) k.refusal t b k.says (one.either (demo_program size) [] None h.claim k.refusal h.answer k.why))
 
   pub demo_one : (size : ℕ) (s t : Status) (a b : List ℕ) → DemoReply size s a → DemoReply size t b → (s ≡ t) × (a ≡ b)
   demo_one size s t a b (inl h) (inl k) =
-      (h.says.0 ∙ sym k.says.0, h.says.1 ∙ (ap (demo_text size) (one.answer (demo_words size) [] None h.claim k.claim h.fits k.fits h.answer k.answer) ∙ sym k.says.1))
+      (h.says.0 ∙ sym k.says.0, h.says.1 ∙ (ap (demo_text size) (one.answer (demo_program size) [] None h.claim k.claim h.fits k.fits h.answer k.answer) ∙ sym k.says.1))
   demo_one size s t a b (inl h) (inr k) = never_measured size s t a b h k
   demo_one size s t a b (inr h) (inl k) = never_measured size t s b a k h
-  demo_one size s t a b (inr h) (inr k) = why_not_one (demo_words size) [] None s t a b h k
+  demo_one size s t a b (inr h) (inr k) = why_not_one (demo_program size) [] None s t a b h k

@@ -5,7 +5,6 @@ use Rattle.std.proofs.lemmas.Option.{none-some}
 use Rattle.std.proofs.lemmas.Grind.{same_number_lists}
 use Rattle.basics.specs.Numbers.{one_step_on}
 use Rattle.avr_model.specs.Image.{WORDS}
-use Rattle.avr_model.specs.Devices.{Program}
 use Rattle.elf_load.specs.Elf.{ElfRefusal, elf_fault, IsElfImage}
 use Rattle.replies.specs.Firmware.{tabulated, elf_word, elf_words}
 use Rattle.replies.specs.Texts.{elf_refused}
@@ -27,7 +26,7 @@ from_zero a = omega arith
 word_in : (bytes : List ℕ) (a : ℕ) → a < WORDS → slice_index (elf_words bytes) a ≡ elf_word bytes a
 word_in bytes a lt = tabulated_at 0 WORDS (elf_word bytes) a lt ∙ ap (elf_word bytes) (from_zero a)
 
-pub one_elf : (bytes : List ℕ) (words : Program) → IsElfImage bytes words → words ≡ elf_words bytes
+pub one_elf : (bytes words : List ℕ) → IsElfImage bytes words → words ≡ elf_words bytes
 one_elf bytes words image =
     same_number_lists words (elf_words bytes) (image.size ∙ sym (length_tabulated 0 WORDS (elf_word bytes)))
     (λ a lt. let less : a < WORDS = (let e = image.size in omega (arith, e)) in image.each a less ∙ sym (word_in bytes a less))

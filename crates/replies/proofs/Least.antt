@@ -168,7 +168,7 @@ module _
 
   -- ---- where the rounds end
 
-  -- they end at this certificate, and the status says so
+  -- the rounds end at this certificate, and the status says so
   pub record IsSolvedAt (status : Status) : Type 0 where
     pub claim : Claim
     pub fits : IsClaim claim
@@ -269,6 +269,6 @@ module _
           valid = λ none. (valid_if reply, if_valid reply none);
         }
 
-  -- status 0 tells no cause
+  -- status 0 prints no cause
   pub not_written : (text : List ℕ) → WhyNotReply words A steps exit.Done text → ⊥
   not_written text k = not_told exit.Done text refl (told_by exit.Done text k)

@@ -31,7 +31,7 @@ use Rattle.device_hooks.specs.Simulating.{simulation_of}
 use Rattle.commands.specs.Commands.{Command, Check, Analyse, Run, Report, Explain, Clear, Premises, Attain, Simulate, Demo, Firmware, Second, Assumptions, device_for, name_of}
 use Rattle.replies.specs.declared.status.Status.{Status}
 use Rattle.replies.specs.declared.status.Status.TheVariants as exit
-use Rattle.replies.specs.Firmware.{firmware_words, firmware_fault, firmware_names}
+use Rattle.replies.specs.Firmware.{firmware_image, firmware_fault, firmware_names}
 use Rattle.replies.specs.Texts.{too_long, assumptions_refused, certificate_refused, schedule_malformed, schedule_illegal, devices_refused, rejected, witness_rejected, run_text}
 use Rattle.replies.specs.Places.{clear_text, unclear_text, premises_text, why_text}
 use Rattle.replies.specs.Reading.{Seen, Unread, Whole, Long}
@@ -167,8 +167,8 @@ module _ (read : ReadCertificateIsSpelled) (one : VerdictsAreOne) (answers : Ans
 
   on_flash_one : (command : Command) (firmware second : List ℕ) (list : Option (List ℕ)) → IsOneAnswer (WithImage (device_for command) firmware (λ words. WithList list (λ A. FlashReply command firmware second words A)))
   on_flash_one command firmware second list =
-      image_one (firmware_fault (device_for command) firmware) (WithList list (λ A. FlashReply command firmware second (firmware_words (device_for command) firmware) A))
-      (with_list_one list (λ A. FlashReply command firmware second (firmware_words (device_for command) firmware) A) (flash_one command firmware second (firmware_words (device_for command) firmware)))
+      image_one (firmware_fault (device_for command) firmware) (WithList list (λ A. FlashReply command firmware second (firmware_image (device_for command) firmware) A))
+      (with_list_one list (λ A. FlashReply command firmware second (firmware_image (device_for command) firmware) A) (flash_one command firmware second (firmware_image (device_for command) firmware)))
 
   work_one : (command : Command) (firmware second : List ℕ) (list : Option (List ℕ)) → IsOneAnswer (WorkReply command firmware second list)
   work_one (Check device fw cert assume) firmware second list = on_flash_one (Check device fw cert assume) firmware second list

@@ -2,7 +2,7 @@
 use Rattle.std.specs.Prelude.{ℕ, zero, suc, ◌+◌, ◌*◌, ◌%◌, ◌==◌, nat_lt, Bool, true, false, List, [], ◌∷◌, length, take, Option, Some, None, if◌then◌else◌}
 use Rattle.std.specs.Option.{option_map}
 use Rattle.avr_model.specs.declared.device.Device.{Device}
-use Rattle.avr_model.specs.Devices.{Program, words_of}
+use Rattle.avr_model.specs.Devices.{Program, words_of, image}
 use Rattle.avr_model.specs.Image.{WORDS, IsRawImage, raw_words, IsNarrowed}
 use Rattle.flash_image.specs.Narrowing.{outside_word}
 use Rattle.flash_image.specs.Naming.{Named}
@@ -19,7 +19,7 @@ IsImageBy false bytes all = IsRawImage bytes all
 abbrev pub IsImage : List ℕ → List ℕ → Type 0
 IsImage bytes all = IsImageBy (is_elf bytes) bytes all
 
--- The words that a firmware file stands for on a device: those of its image, of which all behind the device's flash are erased.
+-- The image that a firmware file stands for on a device: the words that it gives the greatest flash, of which all behind the device's are erased.
 pub record IsFirmware (device : Device) (bytes : List ℕ) (words : Program) : Type 0 where
   pub all : List ℕ
   pub image : IsImage bytes all
@@ -46,9 +46,9 @@ abbrev pub fault_by : Bool → List ℕ → Option (List ℕ)
 fault_by true bytes = option_map elf_refused (elf_fault bytes)
 fault_by false bytes = if length bytes % 2 == 1 then Some (raw_fault raw.OddLength) else (if nat_lt 32768 (length bytes) then Some (raw_fault raw.TooLong) else None)
 
--- the words of a firmware file on a device in order
-abbrev pub firmware_words : Device → List ℕ → List ℕ
-firmware_words device bytes = take (words_of device) (words_by (is_elf bytes) bytes)
+-- the image of a firmware file on a device
+abbrev pub firmware_image : Device → List ℕ → Program
+firmware_image device bytes = image device (take (words_of device) (words_by (is_elf bytes) bytes))
 
 -- the text of the refusal of an image with a word behind the device's flash
 abbrev pub outside_fault : Device → List ℕ → Option (List ℕ)

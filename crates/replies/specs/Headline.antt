@@ -29,7 +29,7 @@ use Rattle.clear_laws.specs.CertificateLaws.{IsBoundedAndClear, EndFlaggedAt, En
 use Rattle.clear_laws.specs.declared.verdict.ClearVerdict.{ClearVerdict}
 use Rattle.clear_laws.specs.declared.verdict.ClearVerdict.TheVariants.{Clear as AllClear}
 use Rattle.clear_laws.specs.Verdict.{AreAllClear, IsFirstUnclear, IsClearVerdict, AreSites, AreNevers}
-use Rattle.demo_image.specs.Image.{demo_words}
+use Rattle.demo_image.specs.Image.{demo_program}
 use Rattle.device_hooks.specs.Spelling.{Setup}
 use Rattle.device_hooks.specs.Exact.{IsSetupReading as IsDevices}
 use Rattle.device_hooks.specs.Simulating.{simulation_of}
@@ -37,7 +37,7 @@ use Rattle.commands.specs.Commands.{Command, Check, Analyse, Run, Report, Explai
 use Rattle.local_rules.specs.Machine.{AreWords}
 use Rattle.replies.specs.declared.status.Status.{Status}
 use Rattle.replies.specs.declared.status.Status.TheVariants as exit
-use Rattle.replies.specs.Firmware.{IsFirmware, firmware_words, firmware_names}
+use Rattle.replies.specs.Firmware.{IsFirmware, firmware_image, firmware_names}
 use Rattle.replies.specs.Texts.{accepted, run_text, demo_text}
 use Rattle.replies.specs.Places.{premises_text, why_text}
 use Rattle.replies.specs.Reading.{Seen, Whole, Contents, certificate_cap}
@@ -151,7 +151,7 @@ Shows command bytes words A c text = ⊤
 -- holds whatever memory held, whatever interrupts are taken and whatever bytes are read, up to the first step that is flagged under the
 -- assumption file. The printed text is the command's answer on this certificate, with its bound, and states what else it should.
 pub record Holds (command : Command) (firmware certificate : List ℕ) (list : Option (List ℕ)) (text : List ℕ) : Type 0 where
-  pub words : List ℕ
+  pub words : Program
   pub claim : Claim
   pub assumptions : List Entry
   pub stand : StandFor (device_for command) firmware certificate list words claim assumptions
@@ -174,7 +174,7 @@ pub record HoldsAsRead (command : Command) (assume : Option (List ℕ)) (seen : 
 -- one of the trials along its deepest chain is as deep as the bound. The text is within the limit for certificates, so a file with it is
 -- not refused as too long.
 pub record IsLeastCertificate (device : Device) (firmware : List ℕ) (list : Option (List ℕ)) (text : List ℕ) : Type 0 where
-  pub words : List ℕ
+  pub words : Program
   pub claim : Claim
   pub assumptions : List Entry
   pub stand : StandFor device firmware text list words claim assumptions
@@ -208,7 +208,7 @@ pub record IsAttainedAsRead (device : Device) (firmware certificate : List ℕ) 
 -- The text reports the run that these devices choose. It is no deeper than the bound of any certificate that is valid for this firmware
 -- and these assumptions, and those are the ones that `check` accepts.
 pub record IsSimulated (device : Device) (steps : ℕ) (firmware devices : List ℕ) (list : Option (List ℕ)) (text : List ℕ) : Type 0 where
-  pub words : List ℕ
+  pub words : Program
   pub setup : Setup
   pub assumptions : List Entry
   pub mean : Mean device firmware list words assumptions
@@ -230,15 +230,14 @@ pub record IsSimulatedAsRead (device : Device) (assume : Option (List ℕ)) (ste
 pub record IsMeasured (size : ℕ) (text : List ℕ) : Type 0 where
   pub claim : Claim
   pub fits : IsClaim claim
-  pub answer : IsAnswer (demo_words size) [] None claim
+  pub answer : IsAnswer (demo_program size) [] None claim
   pub told : text ≡ demo_text size claim
 
 -- ---- what status 0 says
 
--- where a certificate is accepted, the bound holds, an explanation tells where its bytes go, no step is flagged where all nodes are clear, and
--- steps are flagged only at the words that are told, and as it is told; where one is written, it is the least, or the accepted one with a schedule that reaches its
--- bound; a simulated run keeps each bound that is accepted;
--- the numbers of an image are those of its rounds
+-- If a certificate is accepted, the bound holds, an explanation accounts for its bytes, no step is flagged if all nodes are clear, and
+-- steps are flagged only at listed words with listed causes. If one is written, it is the least, or the accepted one with a schedule that
+-- reaches its bound. A simulated run stays within each accepted bound. The numbers of an image are those of its rounds.
 abbrev pub Headline : Command → Contents → Status → List ℕ → Type 0
 Headline (Check device firmware certificate assume) seen status text = status ≡ exit.Done → HoldsAsRead (Check device firmware certificate assume) assume seen text
 Headline (Analyse device firmware assume steps) seen status text = status ≡ exit.Done → IsLeastAsRead device assume seen text
@@ -265,13 +264,13 @@ abbrev pub Blames : Command → Program → List Entry → Claim → Type 0
 Blames (Clear device firmware certificate) words A c = IsValid words A c × ((node pc : ℕ) × IsFirstUnclear words A c node pc)
 Blames command words A c = ⊥
 
--- the status says whether the certificate is accepted, whether a node isn't clear, and whether it isn't valid
+-- the status says whether the certificate is accepted, has a node that isn't clear, or isn't valid
 pub record SaysWhether (command : Command) (words : Program) (A : List Entry) (c : Claim) (status : Status) : Type 0 where
   pub accepted : (status ≡ exit.Done) ↔ Accepts command words A c
   pub unclear : (status ≡ exit.Unclear) ↔ Blames command words A c
   pub rejected : (status ≡ exit.Rejected) ↔ (IsValid words A c → ⊥)
 
--- the same of the files of a command, where they read as values
+-- `SaysWhether` for the files of a command, if they are well-formed
 abbrev pub AcceptsExactly : Command → Option (List ℕ) → Contents → Status → Type 0
 AcceptsExactly command assume seen status =
     (firmware certificate : List ℕ) (list : Option (List ℕ)) (words : Program) (claim : Claim) (A : List Entry)
@@ -281,22 +280,22 @@ AcceptsExactly command assume seen status =
 abbrev pub HasValid : Program → List Entry → Type 0
 HasValid words A = (c : Claim) × IsClaim c × IsValid words A c
 
--- The status says how the rounds end: within the budget with a certificate, or with a cause against it, or at none of the families that
--- the budget serves for. Without a budget there is a certificate exactly where one is valid.
+-- The status says how the rounds end: within the budget with a certificate, or with a cause against it, or at no family within the
+-- budget. Without a budget the answer is a certificate exactly if a valid one exists.
 pub record SaysHowRoundsEnd (words : Program) (A : List Entry) (steps : Option ℕ) (status : Status) : Type 0 where
   pub solved : (status ≡ exit.Done) ↔ ((c : Claim) × IsClaim c × IsAnswer words A steps c)
   pub refused : (status ≡ exit.NoCertificate) ↔ ((r : Refusal) × (r ≢ Memory) × IsRefusal words A steps r)
   pub spent : (status ≡ exit.Spent) ↔ ((n : ℕ) × (steps ≡ Some n) × GoesBeyond words A n)
   pub valid : steps ≡ None → (status ≡ exit.Done) ↔ HasValid words A
 
--- the same of the files of an analysis, where they read as values
+-- `SaysHowRoundsEnd` for the files of an analysis, if they are well-formed
 abbrev pub AnswersRounds : Device → Option (List ℕ) → Option ℕ → Contents → Status → Type 0
 AnswersRounds device assume steps seen status =
     (firmware : List ℕ) (list : Option (List ℕ)) (words : Program) (A : List Entry)
     → AreLoaded assume seen firmware list → Mean device firmware list words A → SaysHowRoundsEnd words A steps status
 
--- Where the files of a simulation read, and firmware and assumptions stand for values, it is refused exactly where the devices' text is that
--- of none.
+-- If the files of a simulation were read, and firmware and assumptions are well-formed, it is refused exactly if the devices' text is
+-- malformed.
 abbrev pub AnswersDevices : Device → Option (List ℕ) → Contents → Status → Type 0
 AnswersDevices device assume seen status =
     (firmware devices : List ℕ) (list : Option (List ℕ)) (words : Program) (A : List Entry)
@@ -312,7 +311,7 @@ IsExact (Clear device firmware certificate) seen status = AcceptsExactly (Clear 
 IsExact (Premises device firmware certificate assume why) seen status = AcceptsExactly (Premises device firmware certificate assume why) assume seen status
 IsExact (Attain device firmware certificate assume trials) seen status = AcceptsExactly (Attain device firmware certificate assume trials) assume seen status
 IsExact (Simulate device firmware devices assume steps) seen status = AnswersDevices device assume seen status
-IsExact (Demo size) seen status = SaysHowRoundsEnd (demo_words size) [] None status
+IsExact (Demo size) seen status = SaysHowRoundsEnd (demo_program size) [] None status
 
 -- ---- laws
 
@@ -323,7 +322,7 @@ RepliesAreOne = (command : Command) (seen : Contents) (s t : Status) (a b : List
 -- the words of a command's firmware have 16 bits
 abbrev pub HasWords : Command → List ℕ → Type 0
 HasWords (Demo size) firmware = ⊤
-HasWords command firmware = AreWords (firmware_words (device_for command) firmware)
+HasWords command firmware = AreWords (firmware_image (device_for command) firmware)
 
 -- `HasWords` for the firmware that was read
 abbrev pub ReadsWords : Command → Contents → Type 0

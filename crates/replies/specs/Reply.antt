@@ -29,7 +29,7 @@ use Rattle.clear_laws.specs.declared.verdict.ClearVerdict.TheVariants as clear
 use Rattle.clear_laws.specs.Verdict.{IsClearVerdict, AreSites, AreNevers}
 use Rattle.clear_laws.specs.declared.place.FlaggedPlace.{FlaggedPlace}
 use Rattle.clear_laws.specs.Places.{ArePlaces}
-use Rattle.demo_image.specs.Image.{demo_words}
+use Rattle.demo_image.specs.Image.{demo_program}
 use Rattle.device_hooks.specs.declared.devices.DevicesFault.{DevicesFault}
 use Rattle.device_hooks.specs.Spelling.{Setup}
 use Rattle.device_hooks.specs.Reading.{setup_in}
@@ -42,7 +42,7 @@ use Rattle.cert_check.specs.declared.verdict.Verdict.TheVariants.{Accepted, Reje
 use Rattle.commands.specs.Commands.{Command, Analyse, Run, Report, Explain, Clear, Premises, Attain, Simulate, Demo, Firmware, Second, Assumptions, device_for, name_of}
 use Rattle.replies.specs.declared.status.Status.{Status}
 use Rattle.replies.specs.declared.status.Status.TheVariants as exit
-use Rattle.replies.specs.Firmware.{firmware_words, firmware_fault, firmware_names, firmware_end}
+use Rattle.replies.specs.Firmware.{firmware_image, firmware_fault, firmware_names, firmware_end}
 use Rattle.replies.specs.Texts.{too_long, assumptions_refused, certificate_refused, schedule_malformed, schedule_illegal, devices_refused, accepted, rejected, witness_rejected, run_text, why_not_text, why_not_status, demo_text}
 use Rattle.replies.specs.Places.{clear_text, unclear_text, premises_text, why_text}
 use Rattle.replies.specs.Reading.{Seen, Unread, Whole, Long, Contents}
@@ -73,9 +73,9 @@ abbrev pub ImageBy : Option (List ℕ) → Reply → Reply
 ImageBy (Some refusal) reply status text = Says exit.BadFirmware refusal status text
 ImageBy None reply status text = reply status text
 
--- the words of a firmware on a device, and what follows with them
-abbrev pub WithImage : Device → List ℕ → (List ℕ → Reply) → Reply
-WithImage device bytes next = ImageBy (firmware_fault device bytes) (next (firmware_words device bytes))
+-- continues with the words of a firmware on a device
+abbrev pub WithImage : Device → List ℕ → (Program → Reply) → Reply
+WithImage device bytes next = ImageBy (firmware_fault device bytes) (next (firmware_image device bytes))
 
 abbrev pub ListBy : Result (List Entry) AssumeText → (List Entry → Reply) → Reply
 ListBy (Ok entries) next status text = next entries status text
@@ -110,7 +110,7 @@ abbrev pub VerdictReply : Program → List Entry → (Claim → Reply) → Claim
 VerdictReply words A next c (Rejected reason) status text = Says exit.Rejected (rejected reason) status text
 VerdictReply words A next c (Accepted bound) status text = WitnessReply words A (next c) bound c.witness status text
 
--- by the verdict on a certificate
+-- the answer by the verdict on a certificate
 pub record JudgedReply (words : Program) (A : List Entry) (next : Claim → Reply) (c : Claim) (status : Status) (text : List ℕ) : Type 0 where
   pub verdict : Verdict
   pub is : IsVerdict words A c verdict
@@ -130,7 +130,7 @@ abbrev pub told_of : Command → List ℕ → Claim → List ℕ
 told_of (Report device firmware certificate assume json) bytes c = report_by json device (firmware_names bytes) (firmware_end bytes) c
 told_of command bytes c = accepted c.bound (is_some c.witness)
 
--- the explanation of a certificate is told, with these names of words
+-- the answer is the explanation of a certificate, with these names of words
 pub record ExplainReply (names : List Named) (words : Program) (A : List Entry) (c : Claim) (status : Status) (text : List ℕ) : Type 0 where
   pub explanation : Explanation
   pub is : IsExplanation words A c explanation
@@ -146,8 +146,8 @@ pub record ClearReply (words : Program) (c : Claim) (status : Status) (text : Li
   pub is : IsClearVerdict words c verdict
   pub says : ClearSays words c verdict status text
 
--- All words at which some node of a certificate isn't clear are told, with these names of words, and those of vectors that may be taken
--- though they have `never` lines.
+-- The answer lists all words at which some node of a certificate isn't clear, with these names, and those of vectors that may be taken
+-- despite `never` lines.
 pub record PremisesReply (names : List Named) (words : Program) (A : List Entry) (c : Claim) (status : Status) (text : List ℕ) : Type 0 where
   pub sites : List ℕ
   pub nevers : List ℕ
@@ -155,7 +155,7 @@ pub record PremisesReply (names : List Named) (words : Program) (A : List Entry)
   pub are_nevers : AreNevers words A c nevers
   pub says : Says exit.Done (premises_text words names c.bound sites nevers) status text
 
--- the same with what may happen there
+-- the answer lists the words of `PremisesReply`, with causes
 pub record WhyReply (names : List Named) (words : Program) (A : List Entry) (c : Claim) (status : Status) (text : List ℕ) : Type 0 where
   pub places : List FlaggedPlace
   pub nevers : List ℕ
@@ -168,8 +168,7 @@ abbrev pub PlacesReply : Bool → List Named → Program → List Entry → Clai
 PlacesReply false names words A c status text = PremisesReply names words A c status text
 PlacesReply true names words A c status text = WhyReply names words A c status text
 
--- The certificate is written, as it is where it has a schedule, and else with the one that so many guided trials find, which attains its
--- bound.
+-- The answer is the certificate with its own schedule, or else with the one that guided trials find, which attains its bound.
 pub record AttainReply (words : Program) (A : List Entry) (trials : ℕ) (c : Claim) (status : Status) (text : List ℕ) : Type 0 where
   pub claim : Claim
   pub completed : IsCompleted words A trials c claim
@@ -208,13 +207,13 @@ SimulateReply words A steps (Ok setup) status text = Says exit.Done (run_text (s
 
 -- ---- analyse and demo
 
--- the certificate of an analysis is written
+-- the answer is the certificate of an analysis
 pub record AnalysedReply (words : Program) (A : List Entry) (steps : Option ℕ) (status : Status) (text : List ℕ) : Type 0 where
   pub claim : Claim
   pub analysis : IsAnalysis words A steps claim
   pub says : Says exit.Done (text_of claim) status text
 
--- it is told why there is none
+-- the answer is the reason for having no certificate
 pub record WhyNotReply (words : Program) (A : List Entry) (steps : Option ℕ) (status : Status) (text : List ℕ) : Type 0 where
   pub refusal : Refusal
   pub why : IsWhyNot words A steps refusal
@@ -223,15 +222,15 @@ pub record WhyNotReply (words : Program) (A : List Entry) (steps : Option ℕ) (
 abbrev pub AnalyseReply : Program → List Entry → Option ℕ → Reply
 AnalyseReply words A steps status text = AnalysedReply words A steps status text ⊎ WhyNotReply words A steps status text
 
--- the numbers of the certificate of an image are told
+-- the answer has the numbers of an image's certificate
 pub record MeasuredReply (size : ℕ) (status : Status) (text : List ℕ) : Type 0 where
   pub claim : Claim
   pub fits : IsClaim claim
-  pub answer : IsAnswer (demo_words size) [] None claim
+  pub answer : IsAnswer (demo_program size) [] None claim
   pub says : Says exit.Done (demo_text size claim) status text
 
 abbrev pub DemoReply : ℕ → Reply
-DemoReply size status text = MeasuredReply size status text ⊎ WhyNotReply (demo_words size) [] None status text
+DemoReply size status text = MeasuredReply size status text ⊎ WhyNotReply (demo_program size) [] None status text
 
 -- ---- all
 

@@ -6,7 +6,7 @@ ghost use Rattle.sb_base.specs.Writing.{with_words};
 ghost use Rattle.replies.specs.Texts.{AreWritten, instruction_told, limit_word, why_not_words, why_not_text, demo_text};
 
 use crate::texts::{ended, limit_word, put_address, put_number, put_two, put_two_and_number};
-use avr_decode::{instruction, text as instruction_text};
+use avr_decode::text as instruction_text;
 use certificate::Certificate;
 use flash_image::Flash;
 use round_rules::Refusal;
@@ -22,7 +22,7 @@ pub(crate) fn put_instruction(
 ) -> Result<(), AllocError>
     ensures { OnOk result (line.new ≡ with_words line.old (instruction_told flash.now at)) }
 {
-    match instruction(flash.words(), usize::from(at)) {
+    match flash.instruction(at) {
         Some(instr) => {
             let text = instruction_text(alloc, &instr, at)?;
             line.word(&text)

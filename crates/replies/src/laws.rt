@@ -23,7 +23,8 @@ use witness_search::laws::trials_are_due;
 /// - An explanation accounts for the bytes of the bound.
 /// - If all nodes are clear, no run is flagged; otherwise runs are flagged only at the printed words, for the printed causes.
 /// - A simulated run keeps each accepted bound.
-/// - If the files parse, a certificate is accepted exactly when it is valid, and the status of an analysis says how the rounds end.
+/// - If the files are well-formed, a certificate is accepted exactly if it is valid, and the status of an analysis says how the rounds
+/// end.
 /// - No two statuses have one number.
 pub fn replies_are_claims()
     ensures one { RepliesAreOne }

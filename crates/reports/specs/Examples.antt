@@ -5,7 +5,7 @@ use Rattle.sb_base.specs.Digits.{hex_digits}
 use Rattle.serde_json.proofs.OnLiterals.{serde_json_on_literals}
 use Rattle.serde_json.specs.Data.{string}
 use Rattle.serde_json.specs.Written.{compact_text}
-use Rattle.avr_model.specs.declared.device.Device.TheVariants.{M48, M328}
+use Rattle.avr_model.specs.Devices.{M48, M328, device_row}
 use Rattle.mask_states.specs.declared.keys.Kind.TheVariants.{Root, Call, Vector}
 use Rattle.witness_replay.specs.Spelling.{Plan}
 use Rattle.certificate.specs.declared.instance.Inst.{Inst}
@@ -37,22 +37,28 @@ three_instances = refl
 
 -- static data that ends at 0x0104 leaves 2,044 bytes
 room_behind : room M328 0x0104 ≡ 2044
+unfolding device_row
 room_behind = refl
 
 just_fits : fits_word M328 2044 0x0104 ≡ codes "yes"
+unfolding device_row
 just_fits = refl
 
 one_too_many : fits_word M328 2045 0x0104 ≡ codes "no"
+unfolding device_row
 one_too_many = refl
 
 -- on a small device static data may end behind SRAM; then nothing fits
 small_room : room M48 0x0104 ≡ 508
+unfolding device_row
 small_room = refl
 
 no_room : room M48 0x0301 ≡ 0
+unfolding device_row
 no_room = refl
 
 nothing_fits : fits_word M48 0 0x0301 ≡ codes "no"
+unfolding device_row
 nothing_fits = refl
 
 -- ---- JSON
@@ -81,5 +87,5 @@ escaped = refl
 -- static data that ends at 0x0104
 with_static_data : json_text M328 (record loop { instances = [] }) [] (Some 0x0104)
     ≡ codes "{\"bound\":0,\"fits\":\"yes\",\"instances\":[],\"room\":2044,\"static\":260,\"witness\":\"attained\"}\n"
-unfolding digits serde_json_on_literals
+unfolding device_row digits serde_json_on_literals
 with_static_data = refl

@@ -1,16 +1,15 @@
--- The instances of a solved family are ones that may stand in a certificate.
-use Rattle.std.proofs.Common.{◌≡◌, refl, sym, ap, ◌∙◌, subst, ℕ, ◌^◌, ◌<◌, Bool, true, false, cond, ◌==◌, ◌&&◌, ◌-◌, ◌*◌, not, nat_lt, List, Some, None, arith}
+-- The instances of a solved family are valid in a certificate.
+use Rattle.std.proofs.Common.{◌≡◌, refl, sym, ap, ◌∙◌, subst, eq-eqb, ⊎_elim, ℕ, ◌^◌, ◌<◌, Bool, true, false, cond, ◌==◌, ◌&&◌, ◌-◌, ◌*◌, not, nat_lt, List, Some, None, arith}
 use Rattle.std.specs.Prelude.{nat_le}
 use Rattle.std.proofs.lemmas.Bool.Decides.{nat_tests}
 use Rattle.std.specs.FinMap.{get, retain_keys, get-retain_keys}
 use Rattle.std.specs.declared.cmp.Ordering.TheVariants.{Equal}
-use Rattle.basics.specs.Numbers.{equals_itself}
 use Rattle.std.proofs.lemmas.Bool.{or_left, or_right}
+use Rattle.avr_model.proofs.AllLaws.{devices_are_alike}
 use Rattle.avr_model.specs.declared.assumption.Entry.{Entry}
 use Rattle.avr_model.specs.Assumptions.{has_pairs}
 use Rattle.avr_model.specs.Image.{WORDS}
 use Rattle.avr_model.specs.declared.device.Device.{Device}
-use Rattle.avr_model.specs.declared.device.Device.TheVariants.{M48, M88, M168, M328}
 use Rattle.avr_model.specs.Devices.{Program, device_of}
 use Rattle.avr_model.specs.Vectors.{is_enabled, vector_word}
 use Rattle.abs_state.specs.declared.state.AbsState.{AbsState}
@@ -43,10 +42,11 @@ call_fits entry masks a b = grind (arith, nat_tests)
 
 -- a vector's word on each device is a valid entry
 vector_is : (device : Device) (v : ℕ) → is_vector_word v (vector_word device v) ≡ true
-vector_is M48 v = or_right (v - 1 == 2 * (v - 1)) (v - 1 == v - 1) (equals_itself (v - 1))
-vector_is M88 v = or_right (v - 1 == 2 * (v - 1)) (v - 1 == v - 1) (equals_itself (v - 1))
-vector_is M168 v = or_left (2 * (v - 1) == 2 * (v - 1)) (2 * (v - 1) == v - 1) (equals_itself (2 * (v - 1)))
-vector_is M328 v = or_left (2 * (v - 1) == 2 * (v - 1)) (2 * (v - 1) == v - 1) (equals_itself (2 * (v - 1)))
+vector_is device v =
+    ⊎_elim
+    (λ (short : vector_word device v ≡ v - 1). or_right (vector_word device v == 2 * (v - 1)) (vector_word device v == v - 1) (eq-eqb (vector_word device v) (v - 1) short))
+    (λ (long : vector_word device v ≡ 2 * (v - 1)). or_left (vector_word device v == 2 * (v - 1)) (vector_word device v == v - 1) (eq-eqb (vector_word device v) (2 * (v - 1)) long))
+    (devices_are_alike.steps device v)
 
 fits_if : (enables v masks : ℕ) (is : Bool) → is_enabled enables v ≡ true → masks < 2 ^ 25 → is ≡ true
     → (nat_le 2 v && nat_le v 26 && is && not false) && nat_lt masks (2 ^ 25) ≡ true

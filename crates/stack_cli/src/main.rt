@@ -25,7 +25,7 @@ fn words_of(rt: &HostRuntime) -> Result<Option<Vec<String>>, AllocError> {
     }
 }
 
-// The status of the top call over real files and the standard output.
+// The status of the top call with real files and the standard output.
 fn answer(rt: &HostRuntime, alloc: Global, owned: &[String]) -> Result<Status, AllocError> {
     let mut words: Vec<&str> = Vec::new(alloc);
     for word in owned {
@@ -36,7 +36,7 @@ fn answer(rt: &HostRuntime, alloc: Global, owned: &[String]) -> Result<Status, A
     Ok(stackbound(alloc, &words, &mut files, &mut out))
 }
 
-// The status of this run. Words of which one isn't UTF-8 are no command, as no words are none.
+// The status of this run. If a word isn't UTF-8, the words are no command; nor is an empty list.
 fn status(rt: &HostRuntime) -> Result<Status, AllocError> {
     match words_of(rt)? {
         Some(words) => answer(rt, rt.alloc(), &words),

@@ -16,7 +16,7 @@ use Rattle.cert_format.specs.declared.fault.CertFault.{CertFault}
 use Rattle.cert_format.specs.Reading.{certificate_in}
 use Rattle.round_rules.specs.declared.refusal.Refusal.{Refusal}
 use Rattle.round_rules.specs.declared.refusal.Refusal.TheVariants as refusal
-use Rattle.demo_image.specs.Image.{demo_words}
+use Rattle.demo_image.specs.Image.{demo_program}
 use Rattle.cert_check.specs.declared.verdict.Verdict.{Verdict}
 use Rattle.cert_check.specs.declared.verdict.Verdict.TheVariants.{Accepted, Rejected}
 use Rattle.clear_laws.specs.declared.verdict.ClearVerdict.{ClearVerdict}
@@ -27,7 +27,7 @@ use Rattle.device_hooks.specs.Reading.{setup_in}
 use Rattle.commands.specs.Commands.{Command, Check, Analyse, Run, Report, Explain, Clear, Premises, Attain, Simulate, Demo, Firmware, Second, Assumptions, device_for, name_of}
 use Rattle.replies.specs.declared.status.Status.{Status}
 use Rattle.replies.specs.declared.status.Status.TheVariants as exit
-use Rattle.replies.specs.Firmware.{firmware_words, firmware_fault}
+use Rattle.replies.specs.Firmware.{firmware_image, firmware_fault}
 use Rattle.replies.specs.Texts.{read_fault, assumptions_refused, certificate_refused, devices_refused, why_not_status, why_not_text}
 use Rattle.replies.specs.Reading as read
 use Rattle.replies.specs.Reading.{Seen, Unread, Whole, Long}
@@ -40,7 +40,7 @@ use Rattle.stack_core.specs.Answer.{IsAnswered, IsReplyWritten, IsReadFault, IsS
 
 -- ---- no reply has a status that isn't the reply's
 
--- not the statuses of usage, of a read fault, of a write fault and of want of memory
+-- not the statuses of usage, of a read fault, of a write fault and of running out of memory
 record IsReplyPlain (status : Status) : Type 0 where
   usage : status ≢ exit.Usage
   read : status ≢ exit.ReadFault
@@ -163,7 +163,7 @@ analyse_apart words A steps s t (inr h) = why_not_apart words A steps s t h
 
 demo_apart : (size : ℕ) → IsPlainApart (DemoReply size)
 demo_apart size s t (inl h) = at exit.Done s done_plain h.says.0
-demo_apart size s t (inr h) = why_not_apart (demo_words size) [] None s t h
+demo_apart size s t (inr h) = why_not_apart (demo_program size) [] None s t h
 
 run_apart : (x : Result Replayed ℕ) → IsPlainApart (RunReply x)
 run_apart (Err step) s t h = at exit.BadSchedule s schedule_plain h.0
@@ -198,8 +198,8 @@ flash_apart (Demo size) firmware bytes words A = demo_apart size
 
 on_image_apart : (c : Command) (firmware second : List ℕ) (list : Option (List ℕ)) → IsPlainApart (WithImage (device_for c) firmware (λ words. WithList list (λ A. FlashReply c firmware second words A)))
 on_image_apart c firmware second list =
-    image_apart (firmware_fault (device_for c) firmware) (WithList list (λ A. FlashReply c firmware second (firmware_words (device_for c) firmware) A))
-    (with_list_apart list (λ A. FlashReply c firmware second (firmware_words (device_for c) firmware) A) (flash_apart c firmware second (firmware_words (device_for c) firmware)))
+    image_apart (firmware_fault (device_for c) firmware) (WithList list (λ A. FlashReply c firmware second (firmware_image (device_for c) firmware) A))
+    (with_list_apart list (λ A. FlashReply c firmware second (firmware_image (device_for c) firmware) A) (flash_apart c firmware second (firmware_image (device_for c) firmware)))
 
 work_apart : (c : Command) (firmware second : List ℕ) (list : Option (List ℕ)) → IsPlainApart (WorkReply c firmware second list)
 work_apart (Check device f k a) firmware second list = on_image_apart (Check device f k a) firmware second list

@@ -21,7 +21,7 @@ held_list holds (Some n) s (Some a) (Some b) agrees e is = ap Some (held_is (hol
 no_longer : (h : Held) (cap : ℕ) (bytes : List ℕ) → MayExceed h cap → h ≡ Bytes bytes → length bytes ≤ cap → ⊥
 no_longer h cap bytes long is fits = let more : cap < length bytes = subst (λ x. MayExceed x cap) is long in omega (arith, more, fits)
 
--- what is held was read, and the reply follows
+-- the held bytes were read, and the reply continues
 file_held : (n : List ℕ) (s : Seen) (h : Held) (cap : ℕ) (bytes : List ℕ) (next : List ℕ → Reply) (status : Status) (text : List ℕ) → WithFile n s next status text → Agrees h cap s → h ≡ Bytes bytes
     → length bytes ≤ cap → (s ≡ Whole bytes) × next bytes status text
 file_held n Unread h cap bytes next status text reply agrees is fits = absurd reply
@@ -36,7 +36,7 @@ optional_held holds (Some n) s None next status text reply agrees held = absurd 
 optional_held holds (Some n) s (Some b) next status text reply agrees held =
     (file_held n s (holds n) assumption_cap b (λ x. next (Some x)) status text reply agrees held.0 held.1).0
 
--- the answer to this command, of which one was due
+-- the answer to this command, if one is due
 due_to : (o : Option Command) (c : Command) (holds : List ℕ → Held) (status : Status) (text : List ℕ) → o ≡ Some c → IsReplyDue o holds status text → IsAnswered c holds status text
 due_to o c holds status text e h = subst (λ x. IsReplyDue x holds status text) e h
 
@@ -89,7 +89,7 @@ written_headline o holds status before after w judge firmware certificate list j
       w.grew,
     )
 
--- bytes that are held were read, where the reply to what was read isn't that a file is too long
+-- held bytes were read, if the reply isn't that a file is too long
 are_read : (c : Command) (holds : List ℕ → Held) (seen : Contents) (fw cert : List ℕ) (assume : Option (List ℕ)) (firmware certificate : List ℕ) (list : Option (List ℕ)) (cap : ℕ) (status : Status) (text : List ℕ)
     → name_of c Firmware ≡ Some fw → name_of c Second ≡ Some cert → name_of c Assumptions ≡ assume → second_cap c ≡ cap → AllAgree c holds seen → IsReply c seen status text
     → holds fw ≡ Bytes firmware → length firmware ≤ firmware_cap → holds cert ≡ Bytes certificate → length certificate ≤ cap → AreHeld holds assume list → AreRead assume seen firmware certificate list

@@ -6,7 +6,7 @@ use Rattle.std.proofs.lemmas.Bool.{false_from_ne_true}
 use denote.Ref.{Bor}
 use Rattle.avr_model.specs.declared.assumption.Entry.{Entry}
 use Rattle.avr_model.specs.declared.device.Device.{Device}
-use Rattle.avr_model.specs.Devices.{Program, words_of}
+use Rattle.avr_model.specs.Devices.{Program}
 use Rattle.indirect_targets.specs.declared.fault.AssumeText.{AssumeText}
 use Rattle.indirect_targets.specs.declared.fault.AssumeText.TheVariants as assume
 use Rattle.indirect_targets.specs.Reading.{entries_in}
@@ -32,7 +32,7 @@ use Rattle.basics.specs.Booleans.{never_both}
 use Rattle.cert_check.specs.declared.verdict.Verdict.TheVariants.{Accepted, Rejected}
 use Rattle.replies.specs.declared.status.Status.{Status}
 use Rattle.replies.specs.declared.status.Status.TheVariants as exit
-use Rattle.replies.specs.Firmware.{words_by, outside_fault, fault_or, firmware_fault, firmware_words, firmware_names, firmware_end}
+use Rattle.replies.specs.Firmware.{words_by, outside_fault, fault_or, firmware_fault, firmware_image, firmware_names, firmware_end}
 use Rattle.replies.specs.Texts.{firmware_outside, witness_rejected, rejected, assumptions_refused, certificate_refused}
 use Rattle.replies.specs.Reply.{Reply, Says, Refuses, ListBy, WithList, attains, AttainedBy, WitnessReply, VerdictReply, JudgedReply, CertificateReply, report_by, ExplainReply, PremisesReply, WhyReply, PlacesReply, AttainReply, AcceptedReply, FlashReply}
 use Rattle.replies.specs.Headline.{HasWords, PlacesSayTheSame, CausesSayTheSame}
@@ -82,11 +82,11 @@ copied_is_some (Some s) (Some p) e = refl
 
 -- ---- a certificate's text
 
--- one that is
+-- a certificate that is read
 pub read_claim : {E : Type 0} (words : Program) (A : List Entry) (x : Result Claim CertFault) (c : Claim) (j : Result Judged E) → x ≡ Ok c → IfOk j (IsJudgedAs words A (Ok c)) → IfOk j (IsJudgedAs words A x)
 read_claim words A x c j e h = subst (λ y. IfOk j (IsJudgedAs words A y)) (sym e) h
 
--- where an accepted certificate is answered alike, so is each text
+-- if an accepted certificate gets one of two replies alike, so does each text
 attained_alike : (next other : Reply) (attained : Bool) (status : Status) (text : List ℕ) → (next status text → other status text) → AttainedBy next attained status text → AttainedBy other attained status text
 attained_alike next other true status text f h = f h
 attained_alike next other false status text f h = h
@@ -106,7 +106,7 @@ told_alike : (words : Program) (A : List Entry) (next other : Claim → Reply) (
 told_alike words A next other (Err e) status text f h = h
 told_alike words A next other (Ok c) status text f h = record { verdict = h.verdict; is = h.is; reply = verdict_alike words A next other c h.verdict status text (f c) h.reply }
 
--- what follows an accepted certificate
+-- the reply to an accepted certificate
 pub accepted_reply : (words : Program) (A : List Entry) (next : Claim → Reply) (x : Result Claim CertFault) (c : Claim) (status : Status) (text : List ℕ) → (x ≡ Ok c) × IsValid words A c → next c status text
     → CertificateReply words A next x status text
 accepted_reply words A next x c status text h k =
@@ -132,7 +132,7 @@ refused_by n o status text s t = subst (λ x. Refuses n x status text) (sym t) (
 
 -- ---- the words of a firmware
 
-has_words : (command : Command) (firmware : List ℕ) → AreWords (firmware_words (device_for command) firmware) → HasWords command firmware
+has_words : (command : Command) (firmware : List ℕ) → AreWords (firmware_image (device_for command) firmware) → HasWords command firmware
 has_words (Check device name cert assume) firmware h = h
 has_words (Analyse device name assume steps) firmware h = h
 has_words (Run device name schedule assume) firmware h = h
@@ -144,7 +144,7 @@ has_words (Attain device name cert assume trials) firmware h = h
 has_words (Simulate device name devices assume steps) firmware h = h
 has_words (Demo size) firmware h = tt
 
-pub result_has_words : {E : Type 0} (x : Result Answered E) (command : Command) (firmware : List ℕ) → IfOk x (λ r. r.status ≡ exit.Done → AreWords (firmware_words (device_for command) firmware))
+pub result_has_words : {E : Type 0} (x : Result Answered E) (command : Command) (firmware : List ℕ) → IfOk x (λ r. r.status ≡ exit.Done → AreWords (firmware_image (device_for command) firmware))
     → IfOk x (λ r. r.status ≡ exit.Done → HasWords command firmware)
 result_has_words (Err e) command firmware h = tt
 result_has_words (Ok r) command firmware h = λ zero. has_words command firmware (h zero)
@@ -226,5 +226,5 @@ pub loaded_reply : (laws : NamesThatSayTheSame) (texts : ExplanationsSayTheSame)
 loaded_reply laws texts places causes command firmware second list loaded status text g h =
     let there : WithList list (λ A. FlashReply command firmware second loaded.flash A) status text =
     next_alike list (λ A. LoadedReply command loaded second A) (λ A. FlashReply command firmware second loaded.flash A) status text (λ A k. flash_alike laws texts places causes command firmware second loaded A status text g.names g.static_end k) h in
-    by_none (firmware_fault (device_for command) firmware) (WithList list (λ A. FlashReply command firmware second (firmware_words (device_for command) firmware) A)) status text g.loads
+    by_none (firmware_fault (device_for command) firmware) (WithList list (λ A. FlashReply command firmware second (firmware_image (device_for command) firmware) A)) status text g.loads
     (subst (λ ws. WithList list (λ A. FlashReply command firmware second ws A) status text) g.words there)

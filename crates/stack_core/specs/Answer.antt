@@ -17,9 +17,9 @@ use Rattle.replies.specs.Headline.{Mean, StandFor, Holds, IsLeastCertificate, Is
 
 -- ---- the answer where no call failed and memory sufficed
 
--- For each file of a command there is one value, by its place, that was read: it agrees with what the files tell, also where one name
--- stands twice. Of these values the answer is the one reply. One that accepts a certificate says that the bound holds, and comes exactly
--- where the certificate is valid. One that writes a certificate says that it is the least, and its status says how the rounds end.
+-- Each file of a command has one value, by its place, which agrees with what the files object reports, also if one name occurs twice. The
+-- answer is the one reply to these values. A reply that accepts a certificate says that the bound holds, and comes exactly if the
+-- certificate is valid. One that writes a certificate says that it is the least, and its status says how the rounds end.
 pub record IsAnswered (command : Command) (holds : List ℕ → Held) (status : Status) (text : List ℕ) : Type 0 where
   pub seen : Contents
   pub agrees : AllAgree command holds seen
@@ -32,7 +32,7 @@ abbrev pub IsReplyDue : Option Command → (List ℕ → Held) → Status → Li
 IsReplyDue None holds status text = (status ≡ exit.Usage) × (text ≡ usage)
 IsReplyDue (Some command) holds status text = IsAnswered command holds status text
 
--- the same, and its text was written
+-- the reply is due, and its text was written
 pub record IsReplyWritten (command : Option Command) (holds : List ℕ → Held) (status : Status) (before after : Option (List ℕ)) : Type 0 where
   pub text : List ℕ
   pub due : IsReplyDue command holds status text
@@ -47,7 +47,7 @@ IsReadFault (Some command) holds before after blamed name = IsFirstFailed comman
 
 -- ---- before anything is written
 
--- an answer that no read fault comes before
+-- an answer before which no read failed
 pub record IsSettledAnswer (command : Option Command) (holds : List ℕ → Held) (before after : ℕ) (status : Status) (text : List ℕ) : Type 0 where
   pub quiet : after ≡ before
   pub due : IsReplyDue command holds status text
@@ -56,7 +56,7 @@ pub record IsSettledAnswer (command : Option Command) (holds : List ℕ → Held
   pub write : status ≢ exit.WriteFault
   pub ample : status ≢ exit.OutOfMemory
 
--- a read fault is told
+-- the answer names the read that failed
 pub record IsFaultTold (command : Option Command) (holds : List ℕ → Held) (before after : ℕ) (blamed : Blamed) (status : Status) (text : List ℕ) : Type 0 where
   pub is_fault : status ≡ exit.ReadFault
   pub name : List ℕ
@@ -107,13 +107,13 @@ pub record IsJudging (command : Option Command) (judge : Command) (holds : List 
   pub certificate_fits : length certificate ≤ certificate_cap
   pub list_held : AreHeld holds assume list
 
--- where a command of held bytes accepts a certificate, the bound holds of them, and is told
+-- if a command on held bytes accepts a certificate, the bound holds of them and is printed
 abbrev pub HeldHeadline : Option Command → (List ℕ → Held) → Status → Option (List ℕ) → Option (List ℕ) → Type 0
 HeldHeadline command holds status before after =
     (judge : Command) (firmware certificate : List ℕ) (list : Option (List ℕ)) → IsJudging command judge holds firmware certificate list → status ≡ exit.Done
     → (text : List ℕ) × Holds judge firmware certificate list text × (after ≡ grown before text)
 
--- where held bytes read as values, it accepts exactly where the certificate is valid, and for `clear` all nodes are clear
+-- if held bytes are well-formed, it accepts exactly if the certificate is valid, and for `clear` all nodes are clear
 abbrev pub IsHeldExact : Option Command → (List ℕ → Held) → Status → Type 0
 IsHeldExact command holds status =
     (judge : Command) (firmware certificate : List ℕ) (list : Option (List ℕ)) (words : Program) (claim : Claim) (A : List Entry)
@@ -128,13 +128,13 @@ pub record IsAnalysing (command : Option Command) (device : Device) (steps : Opt
   pub firmware_fits : length firmware ≤ firmware_cap
   pub list_held : AreHeld holds assume list
 
--- where an analysis of held bytes answers 0, it has written the text of their least certificate, and nothing else
+-- if an analysis of held bytes answers 0, it has written exactly the text of their least certificate
 abbrev pub HeldLeast : Option Command → (List ℕ → Held) → Status → Option (List ℕ) → Option (List ℕ) → Type 0
 HeldLeast command holds status before after =
     (device : Device) (steps : Option ℕ) (firmware : List ℕ) (list : Option (List ℕ)) → IsAnalysing command device steps holds firmware list → status ≡ exit.Done
     → (text : List ℕ) × IsLeastCertificate device firmware list text × (after ≡ grown before text)
 
--- where held bytes read as values, the status says how the rounds end
+-- if held bytes are well-formed, the status says how the rounds end
 abbrev pub IsHeldEnd : Option Command → (List ℕ → Held) → Status → Type 0
 IsHeldEnd command holds status =
     (device : Device) (steps : Option ℕ) (firmware : List ℕ) (list : Option (List ℕ)) (words : Program) (A : List Entry)
@@ -152,13 +152,14 @@ pub record IsSimulating (command : Option Command) (device : Device) (steps : �
   pub devices_fit : length devices ≤ devices_cap
   pub list_held : AreHeld holds assume list
 
--- where a simulation of held bytes answers 0, it has told the run that the devices choose, which keeps each bound that `check` accepts
+-- if a simulation of held bytes answers 0, it has printed the run that the devices choose, which stays within each bound that `check`
+-- accepts
 abbrev pub HeldSimulated : Option Command → (List ℕ → Held) → Status → Option (List ℕ) → Option (List ℕ) → Type 0
 HeldSimulated command holds status before after =
     (device : Device) (steps : ℕ) (firmware devices : List ℕ) (list : Option (List ℕ)) → IsSimulating command device steps holds firmware devices list → status ≡ exit.Done
     → (text : List ℕ) × IsSimulated device steps firmware devices list text × (after ≡ grown before text)
 
--- where held firmware and assumptions read as values, it answers 0 exactly where the devices' text reads as such
+-- if held firmware and assumptions are well-formed, it answers 0 exactly if the devices' text is well-formed
 abbrev pub AreHeldDevices : Option Command → (List ℕ → Held) → Status → Type 0
 AreHeldDevices command holds status =
     (device : Device) (steps : ℕ) (firmware devices : List ℕ) (list : Option (List ℕ)) (words : Program) (A : List Entry)

@@ -21,7 +21,7 @@ use Rattle.cert_format.specs.Reading.{certificate_in}
 use Rattle.commands.specs.Commands.{Command, Report, Explain, Premises, device_for}
 use Rattle.replies.specs.declared.status.Status.TheVariants as exit
 use Rattle.replies.specs.Texts.{assumptions_refused}
-use Rattle.replies.specs.Firmware.{words_by, fault_by, names_by, end_by, outside_fault, firmware_words, firmware_fault, firmware_names, firmware_end}
+use Rattle.replies.specs.Firmware.{words_by, fault_by, names_by, end_by, outside_fault, firmware_image, firmware_fault, firmware_names, firmware_end}
 use Rattle.replies.specs.Analysis.{TrialsFind}
 use Rattle.replies.specs.Reply.{Reply, Says, WithImage, WithList, report_by, ExplainReply, PlacesReply, CertificateReply, FlashReply}
 use Rattle.stack_core.specs.declared.loading.Image.{Image}
@@ -35,8 +35,8 @@ use Rattle.stack_core.specs.declared.judging.Judged.TheVariants as judged
 -- a firmware in the greatest flash has the words, names and static data of the file's bytes
 pub record GivesAs (elf : Bool) (bytes : List ℕ) (loaded : Firmware) : Type 0 where
   pub loads : fault_by elf bytes ≡ None
-  pub size : length loaded.flash ≡ WORDS
-  pub words : loaded.flash ≡ words_by elf bytes
+  pub size : length loaded.flash.words ≡ WORDS
+  pub words : loaded.flash.words ≡ words_by elf bytes
   pub names : SayTheSame loaded.names (names_by elf bytes)
   pub static_end : loaded.static_end ≡ end_by elf bytes
 
@@ -51,13 +51,13 @@ LoadsAs bytes image = LoadsBy (is_elf bytes) bytes image
 -- the same firmware on a device, or its refusal if it has a word behind the device's flash
 abbrev pub NarrowedTo : Device → Firmware → Image → Type 0
 NarrowedTo device before (Loaded after) =
-    IsNarrowed device before.flash after.flash × ((after.names ≡ before.names) × (after.static_end ≡ before.static_end))
-NarrowedTo device before (Refused r) = (r.status ≡ exit.BadFirmware) × (outside_fault device before.flash ≡ Some r.text.items)
+    IsNarrowed device before.flash.words after.flash × ((after.names ≡ before.names) × (after.static_end ≡ before.static_end))
+NarrowedTo device before (Refused r) = (r.status ≡ exit.BadFirmware) × (outside_fault device before.flash.words ≡ Some r.text.items)
 
 -- a firmware on a device has the words, names and static data of the file's bytes there
 pub record GivesOn (device : Device) (bytes : List ℕ) (loaded : Firmware) : Type 0 where
   pub loads : firmware_fault device bytes ≡ None
-  pub words : loaded.flash ≡ firmware_words device bytes
+  pub words : loaded.flash ≡ firmware_image device bytes
   pub names : SayTheSame loaded.names (firmware_names bytes)
   pub static_end : loaded.static_end ≡ firmware_end bytes
 

@@ -84,7 +84,7 @@ fn marked(mut loaded: Loaded) -> Result<Loaded, AllocError>
 
 // The same firmware on a device.
 fn narrowed(alloc: Global, device: Device, loaded: Loaded) -> Result<Image, AllocError>
-    requires { length loaded.flash ≡ WORDS }
+    requires { length loaded.flash.words ≡ WORDS }
     ensures { IfOk result (λ i. NarrowedTo device loaded i) }
 {
     narrowing_is_exact();

@@ -2,7 +2,7 @@
 
 use replies::status::Status;
 
-/// A status, and the text that goes with it.
+/// A status with its text.
 #[derive(Drop)]
 pub struct Reply {
     pub status: Status,

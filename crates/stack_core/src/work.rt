@@ -5,7 +5,7 @@ ghost use Rattle.local_rules.specs.Machine.{AreWords};
 ghost use Rattle.commands.specs.Commands.{device_for};
 ghost use Rattle.commands.specs.Views.{command_seen};
 ghost use Rattle.replies.specs.declared.status.Status.TheVariants as exit;
-ghost use Rattle.replies.specs.Firmware.{firmware_words};
+ghost use Rattle.replies.specs.Firmware.{firmware_image};
 ghost use Rattle.replies.specs.Reply.{WithList, WorkReply};
 ghost use Rattle.replies.specs.Headline.{HasWords};
 ghost use Rattle.command_files.specs.Reading.{bytes_of};
@@ -59,7 +59,7 @@ fn on_flash(
     }
 }
 
-// What is answered for a firmware that was loaded.
+// The answer for a loaded firmware.
 fn under_list(
     alloc: Global,
     command: &Command<'_>,
@@ -84,7 +84,7 @@ fn on_image(
     list: &Option<Vec<u8>>,
 ) -> Result<Reply, AllocError>
     ensures reply { IfOk result (λ r. ImageReply (command_seen command.now) firmware.now second.now (bytes_of list.now) r.status r.text.items) }
-    ensures words { IfOk result (λ r. r.status ≡ exit.Done → AreWords (firmware_words (device_for (command_seen command.now)) firmware.now)) }
+    ensures words { IfOk result (λ r. r.status ≡ exit.Done → AreWords (firmware_image (device_for (command_seen command.now)) firmware.now)) }
 {
     same_names_give_same_reports();
     same_names_give_same_places();

@@ -46,7 +46,7 @@ fn mark_addresses(store: &Store<'_>, marks: &mut [bool])
     }
 }
 
-// Marks such addresses of all nodes there that aren't clear.
+// Marks the addresses of all nodes there that aren't clear.
 fn mark_nodes(task: &Task<'_>, told: &ToldNodes<'_>, site: &WordSite<'_>, marks: &mut [bool])
     requires same { length told.now.asks.now ≡ length told.now.nodes.now }
     requires chain { IsChain told.now.nodes.now told.now.asks.now site.now.pc site.now.first site.now.later.now }
@@ -150,7 +150,7 @@ fn place_at(
     }
 }
 
-// What may happen at each of these words, at each of which some node isn't clear.
+// The causes at each of these words; each has a node that isn't clear.
 fn places_by(
     task: &Task<'_>,
     certificate: &Certificate,

@@ -1,7 +1,7 @@
 use Rattle.std.proofs.Common.{not}
 use Rattle.local_rules.specs.Flow.{going_where}
 use Rattle.abs_step.specs.Adding.{plain}
-use Rattle.abs_step.specs.Tests.{cut_by}
+use Rattle.abs_step.specs.Conditions.{cut_by}
 use Rattle.abs_step.proofs.Cutting.{both_add}
 use Rattle.abs_step.proofs.pairs.both_ways.Goals as goal
 

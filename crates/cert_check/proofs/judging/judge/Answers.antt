@@ -1,5 +1,5 @@
 use Rattle.std.proofs.Common.{subst}
-use Rattle.local_rules.specs.Machine.{AreWords}
+use Rattle.local_rules.specs.Machine.{HaveSixteenBits}
 use Rattle.cert_check.proofs.One.{accepts, rejects, bounds}
 use Rattle.cert_check.proofs.judging.judge.Goals as goal
 
@@ -13,7 +13,7 @@ returns-clause-accepted c =
 
 pub returns-clause-bounded : goal.returns-clause-bounded
 returns-clause-bounded c = λ b e.
-    bounds c.args.flash.now c.args.assumptions.now c.args.certificate.now c.verdict_of.result b (subst AreWords c.words.ensures.value c.words_have_16_bits.ensures)
+    bounds c.args.flash.now c.args.assumptions.now c.args.certificate.now c.verdict_of.result b (subst HaveSixteenBits c.words.ensures.value c.words_have_16_bits.ensures)
     c.nodes-nodes.ensures.kept (c.verdict_of.ensures c.args.flash.now c.args.assumptions.now c.in_ok-judgement.ensures.exact) (cc)
 
 pub returns-clause-rejected : goal.returns-clause-rejected

@@ -2,7 +2,7 @@ use Rattle.std.proofs.Common.{◌≢◌}
 use Rattle.avr_model.specs.Assumptions.{has_pairs}
 use Rattle.round_steps.proofs.Gathers.{formed_own, nodes_own}
 use Rattle.round_rules.specs.declared.refusal.Refusal.TheVariants.{Memory}
-use Rattle.fixpoint.specs.Tests.{AreRoundsStopped}
+use Rattle.fixpoint.specs.Checks.{AreRoundsStopped}
 use Rattle.fixpoint.proofs.Known.{all_known}
 use Rattle.fixpoint.proofs.Ready.{handed_on, too_large, has_fault, looks_fit, few_insts, told_stops, targets_fit, is_ready}
 use Rattle.fixpoint.proofs.rounds.next_nodes.Goals as goal

@@ -6,9 +6,9 @@ use Rattle.guided_trials.proofs.telling.telling.Goals as goal
 pub new-requires-2 : goal.new-requires-2
 new-requires-2 c =
     subst (λ (bytes : List ℕ). 1 ≤ length bytes)
-    (sym (c.new.ensures ∙ c.in_ok-bytes.ensures ∙ telling_is c.args.flash.now c.words.result.now _ _ _ refl c.words.ensures.value c.mark_fills.ensures c.mark_words.ensures))
+    (sym (c.new.ensures ∙ c.in_ok-bytes.ensures ∙ telling_is c.args.flash.now _ _ _ refl c.mark_fills.ensures c.mark_words.ensures))
     (some_told c.args.flash.now)
 
 pub returns : goal.returns
 returns c =
-    c.new-2.ensures ∙ c.new.ensures ∙ c.in_ok-bytes.ensures ∙ telling_is c.args.flash.now c.words.result.now _ _ _ refl c.words.ensures.value c.mark_fills.ensures c.mark_words.ensures
+    c.new-2.ensures ∙ c.new.ensures ∙ c.in_ok-bytes.ensures ∙ telling_is c.args.flash.now _ _ _ refl c.mark_fills.ensures c.mark_words.ensures

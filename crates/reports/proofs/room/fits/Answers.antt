@@ -1,7 +1,11 @@
-use Rattle.std.proofs.Common.{ap, ap₂, ◌∙◌, ◌+◌}
+use Rattle.std.proofs.Common.{ap, ap₂, ◌∙◌, ◌+◌, arith}
+use Rattle.avr_model.proofs.AllLaws.{devices_are_alike}
 use Rattle.std.specs.Prelude.{nat_le}
 use Rattle.reports.specs.Report.{sram_end}
 use Rattle.reports.proofs.room.fits.Goals as goal
+
+pub overflow_add-ramend : goal.overflow_add-ramend
+overflow_add-ramend c = let most = devices_are_alike.most_bytes c.args.device in omega (arith, most, c.ramend.ensures)
 
 pub returns : goal.returns
 returns c =

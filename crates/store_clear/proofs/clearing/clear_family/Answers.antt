@@ -1,7 +1,7 @@
 use Rattle.std.proofs.Common.{List, subst}
 use Rattle.avr_model.specs.declared.assumption.Entry.{Entry}
 use Rattle.certificate.specs.Valid.{IsSound}
-use Rattle.local_rules.specs.Machine.{AreWords}
+use Rattle.local_rules.specs.Machine.{HaveSixteenBits}
 use Rattle.clear_laws.specs.declared.verdict.ClearVerdict.TheVariants.{Clear, Unclear}
 use Rattle.clear_laws.proofs.AllLaws.{clear_firmwares_are_never_flagged}
 use Rattle.store_clear.proofs.Sites.{clear_told, unclear_told, clear_both, unclear_both}
@@ -26,7 +26,7 @@ returns-in-None-clause-unclear c =
 
 pub returns-in-None-clause-never_flagged : goal.returns-in-None-clause-never_flagged
 returns-in-None-clause-never_flagged c = λ e.
-    clear_firmwares_are_never_flagged c.args.task.now.flash.now c.args.certificate.now (subst AreWords c.words.ensures.value c.words_have_16_bits.ensures) c.nodes-nodes.ensures.kept
+    clear_firmwares_are_never_flagged c.args.task.now.flash.now c.args.certificate.now (subst HaveSixteenBits c.words.ensures.value c.words_have_16_bits.ensures) c.nodes-nodes.ensures.kept
     (subst (λ (A : List Entry). IsSound c.args.task.now.flash.now A c.args.certificate.now) c.requires.none
     (record { nodes = c.args.family.now.nodes; expanded = c.requires.filled; meets = c.requires.meets }))
     (clear_told c.args.task.now.flash.now c.args.task.now.assumptions.now c.args.certificate.now c.args.family.now.nodes c.in_ok-asks.asks.items c.deref.result.now

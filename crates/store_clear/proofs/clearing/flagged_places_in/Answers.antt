@@ -1,7 +1,7 @@
 use Rattle.std.proofs.Common.{◌∙◌, List, ℕ, Contains, ap, length, subst, sym}
 use Rattle.std.proofs.lemmas.Result.{IfOk-weaker}
 use Rattle.certificate.specs.Valid.{family_of}
-use Rattle.local_rules.specs.Machine.{AreWords}
+use Rattle.local_rules.specs.Machine.{HaveSixteenBits}
 use Rattle.clear_laws.proofs.AllLaws.{flagged_runs_end_at_places}
 use Rattle.store_clear.specs.Settling.{AreTold, IsTold}
 use Rattle.store_clear.specs.Causing.{ArePlacesOf}
@@ -56,7 +56,7 @@ returns-clause-told c =
     let sites = (c.in_ok-sites.ensures words A claim told).0 in
     IfOk-weaker c.places_at.result _ _
     (λ list so nevers all.
-    flagged_runs_end_at_places.ends words A claim list nevers (subst AreWords c.words.ensures.value c.words_have_16_bits.ensures) c.nodes-nodes.ensures.kept
+    flagged_runs_end_at_places.ends words A claim list nevers (subst HaveSixteenBits c.words.ensures.value c.words_have_16_bits.ensures) c.nodes-nodes.ensures.kept
     (record { nodes = nodes; expanded = c.requires.filled; meets = c.requires.meets })
     (are_places words A claim nodes c.as_slice.result.now told c.in_ok-sites.sites sites list
     (subst (λ (xs : List ℕ). ArePlacesOf words A (family_of claim nodes) xs list) c.as_slice-2.ensures so))

@@ -1,6 +1,6 @@
 use Rattle.std.proofs.Common.{[], ◌∙◌, ap, length, subst, sym}
 use Rattle.std.proofs.lemmas.Result.{IfOk-weaker}
-use Rattle.local_rules.specs.Machine.{AreWords}
+use Rattle.local_rules.specs.Machine.{HaveSixteenBits}
 use Rattle.clear_laws.proofs.AllLaws.{flagged_runs_end_at_sites}
 use Rattle.store_clear.specs.Settling.{AreTold, IsTold}
 use Rattle.store_clear.proofs.Sites.{never_flagged}
@@ -29,7 +29,7 @@ returns-clause-told c =
     record { filled = c.requires.filled; told = subst (AreTold words A claim nodes) (sym c.as_slice.ensures.value) c.in_ok-asks.ensures } in
     IfOk-weaker c.sites_of.result _ _
     (λ sites so nevers all.
-    flagged_runs_end_at_sites words A claim sites nevers (subst AreWords c.words.ensures.value c.words_have_16_bits.ensures) c.nodes-nodes.ensures.kept
+    flagged_runs_end_at_sites words A claim sites nevers (subst HaveSixteenBits c.words.ensures.value c.words_have_16_bits.ensures) c.nodes-nodes.ensures.kept
     (record { nodes = nodes; expanded = c.requires.filled; meets = c.requires.meets }) (so words A claim told).0 all)
     c.sites_of.ensures
 
@@ -54,7 +54,7 @@ returns-clause-never_flagged c =
     IfOk-weaker c.sites_of.result _ _
     (λ sites so e all.
     never_flagged words A sites
-    (flagged_runs_end_at_sites words A claim sites [] (subst AreWords c.words.ensures.value c.words_have_16_bits.ensures) c.nodes-nodes.ensures.kept
+    (flagged_runs_end_at_sites words A claim sites [] (subst HaveSixteenBits c.words.ensures.value c.words_have_16_bits.ensures) c.nodes-nodes.ensures.kept
     (record { nodes = nodes; expanded = c.requires.filled; meets = c.requires.meets }) (so words A claim told).0 all)
     e)
     c.sites_of.ensures

@@ -1,9 +1,17 @@
 use Rattle.std.proofs.Common.{◌∙◌, ◌+◌, ℕ, List, Bool, true, set, ap, subst, sym, arith}
+use Rattle.avr_model.proofs.AllLaws.{devices_are_alike}
 use Rattle.avr_model.specs.Vectors.{vector_word}
 use Rattle.store_clear.specs.Takes.{AreMarkedBeside, IsTakenBelow}
 use Rattle.store_clear.proofs.Taken.{vectors_none, vectors_more, vectors_same}
 use Rattle.store_clear.proofs.takes.mark_vectors.Goals.{then-is_take, else-is_take}
 use Rattle.store_clear.proofs.takes.mark_vectors.Goals as goal
+
+-- a vector's word is one of flash
+pub bounds-marks-from : goal.bounds-marks-from
+bounds-marks-from c =
+    let inside = devices_are_alike.vectors c.device.result (c.loop-n.n + 2) (omega (arith, c.loop-n-test.true)) in
+    let most = devices_are_alike.most_words c.device.result in
+    omega (arith, inside, most, c.vector_word.ensures, c.from.ensures, c.loop-n.invariant.same, c.requires)
 
 pub loop-n-init : goal.loop-n-init
 loop-n-init c = vectors_none c.args.task.now.flash.now c.args.task.now.assumptions.now c.args.key.now c.args.marks.now

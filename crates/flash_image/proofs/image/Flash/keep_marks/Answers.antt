@@ -1,6 +1,6 @@
 use Rattle.std.proofs.Common.{ℕ, List, false, replicate, ap, sym, ◌∙◌, subst}
 use Rattle.avr_model.specs.Marks.{marks}
-use Rattle.avr_model.specs.Devices.{Program}
+use Rattle.avr_model.specs.Devices.{Program, image}
 use Rattle.flash_image.specs.Marked.{marked, AreListed}
 use Rattle.flash_image.proofs.Marked.{table_of}
 use Rattle.flash_image.proofs.image.Flash.keep_marks.Goals as goal
@@ -9,11 +9,10 @@ pub invariant_of-self : goal.invariant_of-self
 invariant_of-self c = (
   c.self.invariant.0,
   c.self.invariant.1,
-  c.self.invariant.2,
   λ some. record {
     table = c.mark_all.new.table;
     tells =
-        table_of (marks c.self.inside.words.items) c.mark_all.new.table
+        table_of (marks (image c.self.inside.device c.self.inside.words.items)) c.mark_all.new.table
         (c.mark_all.ensures ∙ ap (λ (words : Program). marked (replicate 65536 false) (marks words)) (sym c.self.view_is));
     listed = c.in_ok-self-inside.ensures;
   },

@@ -1,4 +1,4 @@
--- Tests that cut a state, if pairs are followed.
+-- Conditions of branches and skips, which cut a state if pairs are followed.
 use Rattle.std.specs.Prelude.{◌<◌, ⊤, Bool, Option}
 use Rattle.abs_state.specs.declared.state.AbsState.{AbsState}
 use Rattle.pair_cuts.specs.Cuts.{flag_cut, bit_cut, equal_cut}

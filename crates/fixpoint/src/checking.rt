@@ -13,7 +13,7 @@ ghost use Rattle.round_rules.specs.Families.{cells, FitsLimits};
 ghost use Rattle.round_rules.specs.Refusals.{fault_refusal};
 ghost use Rattle.round_steps.specs.declared.looking.Look as look_type;
 ghost use Rattle.round_steps.specs.Notings.{AreNoted};
-ghost use Rattle.fixpoint.specs.Tests.{IsTooLarge, IsFaulty, IsVerdictTold};
+ghost use Rattle.fixpoint.specs.Checks.{IsTooLarge, IsFaulty, IsVerdictTold};
 
 use certificate::Limit;
 use flash_image::Flash;

@@ -1,7 +1,7 @@
 use Rattle.std.proofs.Common.{List, Contains, subst}
 use Rattle.round_steps.specs.declared.looking.Look.{Look}
 use Rattle.round_steps.specs.Notings.{AreNoted}
-use Rattle.fixpoint.proofs.testing.note_seen.Goals as goal
+use Rattle.fixpoint.proofs.checking.note_seen.Goals as goal
 
 pub returns-in-Some-clause-fault : goal.returns-in-Some-clause-fault
 returns-in-Some-clause-fault c = λ real. record { fault = c.in-Some.fault; found = c.in-Some.is; is = c.refusal_of.ensures }

@@ -1,0 +1,5 @@
+use Rattle.avr_model.proofs.Facts.{row_none}
+use Rattle.avr_model.proofs.device.Device.row.Goals as goal
+
+pub returns-in-None : goal.returns-in-None
+returns-in-None c = row_none c.args.self c.from.result c.get.result c.from.ensures c.get.ensures.lookup c.in-None.is
