@@ -8,11 +8,12 @@ use Rattle.std.proofs.lemmas.Bool.{and_from}
 use Rattle.std.proofs.lemmas.Option.{none-some}
 use Rattle.clap.specs.declared.parser.matches.ValueSource.TheVariants.{CommandLine}
 use Rattle.clap.specs.declared.builder.value_parser.Reading.{Reading}
-use Rattle.clap.specs.Words.{Shape, Text, Rule}
+use Rattle.clap.specs.Words.{Shape, Text, Rule, read_as}
+use Rattle.std.specs.Prelude.{option_map, slice_get}
+use Rattle.clap.specs.Faults.{use_fault}
 use Rattle.clap.specs.Walk.{Held, Row, has_row, without, with_values, used, used_by_id, settled, reacted, pushed, pending_count, most_values, takes_values, takes_several, is_multiple, is_pending, positional_held, next_position, arg_by_id, arg_by_index, arg_by_long, finished}
 use Rattle.clap.specs.Takes.{use_passes, settle_passes, react_passes, positional_passes, default_passes, is_valid, is_given}
-use Rattle.commands.specs.declared.line.Valued.{Valued}
-use Rattle.commands.specs.declared.line.Valued.TheVariants.{Assume, Steps, Device, Trials}
+use Rattle.commands.specs.Options.{Valued, Assume, Steps, Device, Trials}
 use Rattle.commands.specs.Commands.{Line, named, waiting, with_value}
 use Rattle.clap_words.proofs.Pieces.{Piece, Named, Given, Marked, Mark, Json, Why, option_name, mark_name, all_added, value_of, valued, is_marked, marked, with_mark, gets, marks, same_value, same_mark, same_marks, StaysGiven, stays, some_is}
 use Rattle.clap_words.proofs.Steps.{goes, final, begun, name_goes, value_goes, option_goes, flag_goes}
@@ -36,6 +37,7 @@ pub record IsUsable (s : Shape) (a : Rule) (id : Text) : Type 0 where
   pub found : arg_by_id s.rules a.id ≡ Some a
   pub passes : (word : Text) (rows : List Row) → has_row id rows ≡ false → use_passes s.args_override_self a (word ∷ []) rows ≡ true
   pub adds : (word : Text) (rows : List Row) → used a (word ∷ []) rows ≡ with_values id how CommandLine (word ∷ []) (without id rows)
+  pub repeats : (word : Text) (rows : List Row) → use_fault s.args_override_self a (word ∷ []) rows ≡ [] → has_row id rows ≡ false
 
 -- the name at a position
 pub record IsPositional (s : Shape) (i : ℕ) (id : Text) : Type 0 where
@@ -53,6 +55,7 @@ pub record IsOption (s : Shape) (name : Text) : Type 0 where
   pub found : arg_by_long s.rules name ≡ Some rule
   pub usable : IsUsable s rule name
   pub takes : takes_values rule ≡ true
+  pub hungry : (rows : List Row) → use_fault s.args_override_self rule [] rows ≡ [] → ⊥
   pub one : (word : Text) → not (nat_lt (pending_count rule (Some (rule.id, word ∷ []))) (most_values rule)) ≡ true
 
 -- an option without a value
@@ -64,6 +67,8 @@ pub record IsFlag (s : Shape) (name : Text) : Type 0 where
   pub takes : takes_values rule ≡ false
   pub passes : (rows : List Row) → has_row name rows ≡ false → use_passes s.args_override_self rule [] rows ≡ true
   pub adds : (rows : List Row) → used rule [] rows ≡ with_values name how CommandLine values (without name rows)
+  pub repeats : (rows : List Row) → use_fault s.args_override_self rule [] rows ≡ [] → has_row name rows ≡ false
+  pub told : option_map (read_as how) (slice_get values 0) ≡ Some (codes "true")
 
 -- the options of a command, and whether it has a second name
 pub record AllowsWords : Type 0 where
@@ -83,6 +88,13 @@ pub record IsWordLevel (s : Shape) (w : AllowsWords) (id : Text) : Type 0 where
   pub of_second : (bytes_eq id (codes "second") ≡ false) × (bytes_eq (codes "second") id ≡ false)
   pub of_given : (v : Valued) → (bytes_eq id (option_name v) ≡ false) × (bytes_eq (option_name v) id ≡ false)
   pub of_marked : (m : Mark) → (bytes_eq id (mark_name m) ≡ false) × (bytes_eq (mark_name m) id ≡ false)
+
+-- and nothing else
+pub record IsStrict (s : Shape) (w : AllowsWords) : Type 0 where
+  pub second : is_some (arg_by_index s.rules 2) ≡ w.second
+  pub third : is_some (arg_by_index s.rules 3) ≡ false
+  pub given : (v : Valued) → is_some (arg_by_long s.rules (option_name v)) ≡ w.given v
+  pub marked : (m : Mark) → is_some (arg_by_long s.rules (mark_name m)) ≡ w.marked m
 
 -- the line has what the command wants, and nothing else
 pub record IsWanted (w : AllowsWords) (l : Line) : Type 0 where

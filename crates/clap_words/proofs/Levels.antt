@@ -3,8 +3,13 @@ use Rattle.std.proofs.Common.{◌≡◌, ◌&&◌, List, [], ◌∷◌, ◌++◌
 use Rattle.std.specs.Prelude.{find, fold}
 use Rattle.std.specs.List.{list_all}
 use Rattle.std.proofs.lemmas.Bool.{and_from}
-use Rattle.clap.specs.Words.{App, Shape, Text, Rule, takes}
-use Rattle.clap.specs.Walk.{Names, Walk, idle, walked, walk, walk_from, nothing_held, finished, answers_to}
+use Rattle.std.specs.Prelude.{Option, option_map}
+use Rattle.std.specs.Option.{option_map_or}
+use Rattle.clap.specs.Words.{App, Shape, Text, Rule, Kinds}
+use Rattle.clap.specs.Kinds.{or_else}
+use Rattle.clap.specs.Faults.{walk_fault, settle_fault, level_fault, entered_fault, built_fault}
+use Rattle.clap.specs.declared.error.kind.ErrorKind.{ErrorKind}
+use Rattle.clap.specs.Walk.{Names, Walk, idle, walked, walk, walk_from, nothing_held, finished, answers_to, stop_after, rows_after}
 use Rattle.clap.specs.Simple.{built, built_leaf, inherited, label_of, names_of, entered}
 use Rattle.clap.specs.Takes.{turn_passes, walk_passes, settle_passes, default_passes, is_valid, level_passes, entered_passes, built_takes}
 use Rattle.clap.proofs.OnLiterals.{clap_on_literals}
@@ -40,19 +45,24 @@ after a words w =
     && (settle_passes a.top.rules a.top.args_override_self w.held
     && (list_all default_passes a.top.rules && is_valid a.top (finished a.top.rules w.held) (is_some (entered a w.stopped)))))
 
-record IsLevelNamed (a : App) (name : Text) (s : Shape) : Type 0 where
-  stops : walked a.top.rules (names_of a) (walk_from nothing_held) name ≡ stopped_at name []
-  found : find (λ s. answers_to name (label_of s)) a.subs ≡ Some s
-  passes : turn_passes a.top (names_of a) (walk_from nothing_held) name ≡ true
-  settles : settle_passes a.top.rules a.top.args_override_self nothing_held ≡ true
-  defaults : list_all default_passes a.top.rules ≡ true
-  valid : is_valid a.top (finished a.top.rules nothing_held) true ≡ true
+-- a name at which the program's own level stops, and the level of that command
+pub record IsLevelNamed (a : App) (name : Text) (s : Shape) : Type 0 where
+  pub stops : walked a.top.rules (names_of a) (walk_from nothing_held) name ≡ stopped_at name []
+  pub found : find (λ s. answers_to name (label_of s)) a.subs ≡ Some s
+  pub named : s.name ≡ name
+  pub passes : turn_passes a.top (names_of a) (walk_from nothing_held) name ≡ true
+  pub settles : settle_passes a.top.rules a.top.args_override_self nothing_held ≡ true
+  pub defaults : list_all default_passes a.top.rules ≡ true
+  pub valid : is_valid a.top (finished a.top.rules nothing_held) true ≡ true
 
-built_takes_named : (a : App) (name : Text) (s : Shape) (ws : List Text) → IsLevelNamed a name s → level_takes s ws ≡ true → built_takes a nothing_held (name ∷ ws) ≡ true
+-- the program's walk ends there
+walk_ends : (a : App) (name : Text) (s : Shape) (ws : List Text) → IsLevelNamed a name s → walk a.top.rules (names_of a) nothing_held (name ∷ ws) ≡ stopped_at name ws
+walk_ends a name s ws k = ap (λ (w : Walk). fold (walked a.top.rules (names_of a)) w ws) k.stops ∙ stopped_walk a.top.rules (names_of a) name [] ws
+
+pub built_takes_named : (a : App) (name : Text) (s : Shape) (ws : List Text) → IsLevelNamed a name s → level_takes s ws ≡ true → built_takes a nothing_held (name ∷ ws) ≡ true
 unfolding walk_passes
 built_takes_named a name s ws k h =
-    let ends : walk a.top.rules (names_of a) nothing_held (name ∷ ws) ≡ stopped_at name ws =
-    ap (λ (w : Walk). fold (walked a.top.rules (names_of a)) w ws) k.stops ∙ stopped_walk a.top.rules (names_of a) name [] ws in
+    let ends : walk a.top.rules (names_of a) nothing_held (name ∷ ws) ≡ stopped_at name ws = walk_ends a name s ws k in
     let walks : walk_passes a.top (names_of a) (walk_from nothing_held) (name ∷ ws) ≡ true =
     and_from (turn_passes a.top (names_of a) (walk_from nothing_held) name) _ k.passes
     (ap (λ (w : Walk). walk_passes a.top (names_of a) w ws) k.stops ∙ stopped_passes a.top (names_of a) name [] ws) in
@@ -64,72 +74,77 @@ built_takes_named a name s ws k h =
     (and_from (settle_passes a.top.rules a.top.args_override_self nothing_held) _ k.settles
     (and_from (list_all default_passes a.top.rules) _ k.defaults valid)))
 
-named_check : IsLevelNamed (built line_app) (codes "check") (below check_app)
+-- ---- what fails
+
+pub none_of : (k : ErrorKind) (ks : Kinds) → ◌≡◌ {A = Kinds} (k ∷ ks) [] → ⊥
+none_of k ks e = cc
+
+pub both_none : (a b : Kinds) → or_else a b ≡ [] → (a ≡ []) × (b ≡ [])
+both_none [] b e = (refl, e)
+both_none (k ∷ ks) b e = absurd (none_of k ks e)
+
+-- where nothing fails, nothing fails at the level
+pub record LevelPasses (s : Shape) (ws : List Text) : Type 0 where
+  pub walks : walk_fault s [] (walk_from nothing_held) ws ≡ []
+  pub settles : settle_fault s.rules s.args_override_self (walk s.rules [] nothing_held ws).held ≡ []
+
+pub level_fails : (a : App) (name : Text) (s : Shape) (ws : List Text) → IsLevelNamed a name s → built_fault a nothing_held (name ∷ ws) ≡ [] → LevelPasses s ws
+level_fails a name s ws k e =
+    let stop : Option (Text × List Text) = (walk a.top.rules (names_of a) nothing_held (name ∷ ws)).stopped in
+    let below : entered_fault a stop ≡ [] = (both_none (entered_fault a stop) _ (both_none (walk_fault a.top (names_of a) (walk_from nothing_held) (name ∷ ws)) _ e).1).0 in
+    let enters : entered_fault a (Some (name, ws)) ≡ [] = ap (λ (w : Walk). entered_fault a w.stopped) (sym (walk_ends a name s ws k)) ∙ below in
+    let level : level_fault s [] nothing_held ws false [] ≡ [] =
+    ap (λ (o : Option Shape). option_map_or (λ s. level_fault s [] nothing_held ws false []) o []) (sym k.found) ∙ enters in
+    let walks : (walk_fault s [] (walk_from nothing_held) ws ≡ []) × _ = both_none (walk_fault s [] (walk_from nothing_held) ws) _ level in
+    record {
+      walks = walks.0;
+      settles = (both_none (settle_fault s.rules s.args_override_self (walk s.rules [] nothing_held ws).held) _ walks.1).0;
+    }
+
+-- and what was found is found there
+pub level_found : (a : App) (name : Text) (s : Shape) (ws : List Text) → IsLevelNamed a name s → entered a (stop_after a.top.rules (names_of a) (name ∷ ws)) ≡ Some (name, rows_after s.rules [] ws)
+level_found a name s ws k =
+    ap (λ (w : Walk). entered a w.stopped) (walk_ends a name s ws k) ∙ ap (option_map (λ (s : Shape). Rattle.clap.specs.Simple.rows_at s ws)) k.found
+    ∙ ap (λ (n : Text). Some (n, rows_after s.rules [] ws)) k.named
+
+-- ---- the ten commands
+
+pub named_check : IsLevelNamed (built line_app) (codes "check") (below check_app)
 unfolding clap_on_literals
-named_check = record { stops = refl; found = refl; passes = refl; settles = refl; defaults = refl; valid = refl }
+named_check = record { stops = refl; found = refl; named = refl; passes = refl; settles = refl; defaults = refl; valid = refl }
 
-pub check_level : (ws : List Text) → level_takes (below check_app) ws ≡ true → takes line_app (codes "check" ∷ ws) ≡ true
-check_level ws h = built_takes_named (built line_app) (codes "check") (below check_app) ws named_check h
-
-named_analyse : IsLevelNamed (built line_app) (codes "analyse") (below analyse_app)
+pub named_analyse : IsLevelNamed (built line_app) (codes "analyse") (below analyse_app)
 unfolding clap_on_literals
-named_analyse = record { stops = refl; found = refl; passes = refl; settles = refl; defaults = refl; valid = refl }
+named_analyse = record { stops = refl; found = refl; named = refl; passes = refl; settles = refl; defaults = refl; valid = refl }
 
-pub analyse_level : (ws : List Text) → level_takes (below analyse_app) ws ≡ true → takes line_app (codes "analyse" ∷ ws) ≡ true
-analyse_level ws h = built_takes_named (built line_app) (codes "analyse") (below analyse_app) ws named_analyse h
-
-named_run : IsLevelNamed (built line_app) (codes "run") (below run_app)
+pub named_run : IsLevelNamed (built line_app) (codes "run") (below run_app)
 unfolding clap_on_literals
-named_run = record { stops = refl; found = refl; passes = refl; settles = refl; defaults = refl; valid = refl }
+named_run = record { stops = refl; found = refl; named = refl; passes = refl; settles = refl; defaults = refl; valid = refl }
 
-pub run_level : (ws : List Text) → level_takes (below run_app) ws ≡ true → takes line_app (codes "run" ∷ ws) ≡ true
-run_level ws h = built_takes_named (built line_app) (codes "run") (below run_app) ws named_run h
-
-named_report : IsLevelNamed (built line_app) (codes "report") (below report_app)
+pub named_report : IsLevelNamed (built line_app) (codes "report") (below report_app)
 unfolding clap_on_literals
-named_report = record { stops = refl; found = refl; passes = refl; settles = refl; defaults = refl; valid = refl }
+named_report = record { stops = refl; found = refl; named = refl; passes = refl; settles = refl; defaults = refl; valid = refl }
 
-pub report_level : (ws : List Text) → level_takes (below report_app) ws ≡ true → takes line_app (codes "report" ∷ ws) ≡ true
-report_level ws h = built_takes_named (built line_app) (codes "report") (below report_app) ws named_report h
-
-named_explain : IsLevelNamed (built line_app) (codes "explain") (below explain_app)
+pub named_explain : IsLevelNamed (built line_app) (codes "explain") (below explain_app)
 unfolding clap_on_literals
-named_explain = record { stops = refl; found = refl; passes = refl; settles = refl; defaults = refl; valid = refl }
+named_explain = record { stops = refl; found = refl; named = refl; passes = refl; settles = refl; defaults = refl; valid = refl }
 
-pub explain_level : (ws : List Text) → level_takes (below explain_app) ws ≡ true → takes line_app (codes "explain" ∷ ws) ≡ true
-explain_level ws h = built_takes_named (built line_app) (codes "explain") (below explain_app) ws named_explain h
-
-named_clear : IsLevelNamed (built line_app) (codes "clear") (below clear_app)
+pub named_clear : IsLevelNamed (built line_app) (codes "clear") (below clear_app)
 unfolding clap_on_literals
-named_clear = record { stops = refl; found = refl; passes = refl; settles = refl; defaults = refl; valid = refl }
+named_clear = record { stops = refl; found = refl; named = refl; passes = refl; settles = refl; defaults = refl; valid = refl }
 
-pub clear_level : (ws : List Text) → level_takes (below clear_app) ws ≡ true → takes line_app (codes "clear" ∷ ws) ≡ true
-clear_level ws h = built_takes_named (built line_app) (codes "clear") (below clear_app) ws named_clear h
-
-named_premises : IsLevelNamed (built line_app) (codes "premises") (below premises_app)
+pub named_premises : IsLevelNamed (built line_app) (codes "premises") (below premises_app)
 unfolding clap_on_literals
-named_premises = record { stops = refl; found = refl; passes = refl; settles = refl; defaults = refl; valid = refl }
+named_premises = record { stops = refl; found = refl; named = refl; passes = refl; settles = refl; defaults = refl; valid = refl }
 
-pub premises_level : (ws : List Text) → level_takes (below premises_app) ws ≡ true → takes line_app (codes "premises" ∷ ws) ≡ true
-premises_level ws h = built_takes_named (built line_app) (codes "premises") (below premises_app) ws named_premises h
-
-named_attain : IsLevelNamed (built line_app) (codes "attain") (below attain_app)
+pub named_attain : IsLevelNamed (built line_app) (codes "attain") (below attain_app)
 unfolding clap_on_literals
-named_attain = record { stops = refl; found = refl; passes = refl; settles = refl; defaults = refl; valid = refl }
+named_attain = record { stops = refl; found = refl; named = refl; passes = refl; settles = refl; defaults = refl; valid = refl }
 
-pub attain_level : (ws : List Text) → level_takes (below attain_app) ws ≡ true → takes line_app (codes "attain" ∷ ws) ≡ true
-attain_level ws h = built_takes_named (built line_app) (codes "attain") (below attain_app) ws named_attain h
-
-named_simulate : IsLevelNamed (built line_app) (codes "simulate") (below simulate_app)
+pub named_simulate : IsLevelNamed (built line_app) (codes "simulate") (below simulate_app)
 unfolding clap_on_literals
-named_simulate = record { stops = refl; found = refl; passes = refl; settles = refl; defaults = refl; valid = refl }
+named_simulate = record { stops = refl; found = refl; named = refl; passes = refl; settles = refl; defaults = refl; valid = refl }
 
-pub simulate_level : (ws : List Text) → level_takes (below simulate_app) ws ≡ true → takes line_app (codes "simulate" ∷ ws) ≡ true
-simulate_level ws h = built_takes_named (built line_app) (codes "simulate") (below simulate_app) ws named_simulate h
-
-named_demo : IsLevelNamed (built line_app) (codes "demo") (below demo_app)
+pub named_demo : IsLevelNamed (built line_app) (codes "demo") (below demo_app)
 unfolding clap_on_literals
-named_demo = record { stops = refl; found = refl; passes = refl; settles = refl; defaults = refl; valid = refl }
-
-pub demo_level : (ws : List Text) → level_takes (below demo_app) ws ≡ true → takes line_app (codes "demo" ∷ ws) ≡ true
-demo_level ws h = built_takes_named (built line_app) (codes "demo") (below demo_app) ws named_demo h
+named_demo = record { stops = refl; found = refl; named = refl; passes = refl; settles = refl; defaults = refl; valid = refl }

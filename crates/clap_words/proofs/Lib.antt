@@ -1,7 +1,12 @@
+mod Found
 mod Going
+mod Known
 mod Levels
 mod Pieces
 mod Rows
+mod Shown
+mod Sound
 mod Steps
 mod Taken
 mod Table
+mod Wanted

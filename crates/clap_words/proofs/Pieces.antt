@@ -4,8 +4,7 @@ use Rattle.std.specs.Prelude.{⊤}
 use Rattle.std.specs.Str.{bytes_eq}
 use Rattle.std.proofs.lemmas.Slice.Eq.{bytes_eq-Decides}
 use Rattle.std.proofs.lemmas.Option.{none-some}
-use Rattle.commands.specs.declared.line.Valued.{Valued}
-use Rattle.commands.specs.declared.line.Valued.TheVariants.{Assume, Steps, Device, Trials}
+use Rattle.commands.specs.Options.{Valued, Assume, Steps, Device, Trials}
 use Rattle.commands.specs.Commands.{Line, is_name, once, with_assume, with_steps, with_device, with_trials, with_value, with_json, with_why, named, waiting, with_free, placed, then_words}
 
 -- an option without a value

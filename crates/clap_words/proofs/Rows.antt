@@ -18,7 +18,7 @@ use Rattle.clap.specs.Takes.{is_given}
 abbrev pub is_explicit : Row → Bool
 is_explicit r = explicit_source r.source
 
-missing_row : (id : Text) (change : Row → List Row) (missing rows : List Row) → has_row id rows ≡ false → at_row id change missing rows ≡ rows ++ missing
+pub missing_row : (id : Text) (change : Row → List Row) (missing rows : List Row) → has_row id rows ≡ false → at_row id change missing rows ≡ rows ++ missing
 missing_row id change missing [] h = refl
 missing_row id change missing (r ∷ rs) h =
     let k : (bytes_eq r.id id ≡ false) × (has_row id rs ≡ false) = or_parts (bytes_eq r.id id) (has_row id rs) h in

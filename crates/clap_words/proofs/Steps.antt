@@ -10,12 +10,11 @@ use Rattle.clap.specs.Words.{Shape, Text, Rule}
 use Rattle.clap.specs.Walk.{Held, Waiting, Walk, Step, idle, option, positional, trailing, value, walked, walk_from, nothing_held, finished, long_or_other, short_or_plain, long_met, option_met, flag_met, after_flag, after_step, to_positional, positional_held, next_position, is_multiple, arg_by_index, arg_by_long, arg_by_id, takes_values, most_values, Outcome, settled, reacted, pushed, pending_count, option_word}
 use Rattle.clap.specs.Takes.{turn_passes, walk_passes, step_passes, positional_passes, flag_word_passes, bundle_passes, long_passes, option_passes, react_passes, settle_passes, default_passes, is_valid}
 use Rattle.clap_words.proofs.Levels.{level_takes}
-use Rattle.commands.specs.declared.line.Valued.{Valued}
-use Rattle.commands.specs.declared.line.Valued.TheVariants.{Assume, Steps, Device, Trials}
+use Rattle.commands.specs.Options.{Valued, Assume, Steps, Device, Trials}
 use Rattle.clap_words.proofs.Pieces.{Piece, Named, Given, Marked, Mark, Json, Why, option_name, spelled, mark_name, mark_spelled, all_words, AreFit}
 
 -- where the walk stands between two pieces
-abbrev at : Held → Waiting → ℕ → Walk
+abbrev pub at : Held → Waiting → ℕ → Walk
 at h waiting i = record { held = h; waiting = waiting; position = i; is_trailing = false; stopped = None }
 
 -- the test at the end of the walk
@@ -67,7 +66,7 @@ step s w after_word word ws turn e k = record {
   ends = ap (λ (x : Walk). final s (fold (walked s.rules []) x ws).held) e ∙ k.ends;
 }
 
-dashes : List ℕ
+pub dashes : List ℕ
 dashes = 45 ∷ 45 ∷ []
 
 -- the effect of a word by its form
@@ -85,14 +84,14 @@ turned s h i waiting word is_dashes long =
 
 -- ---- words that begin with no hyphen
 
-no_dashes : (b : ℕ) (bs : List ℕ) → (b == 45) ≡ false → bytes_eq (b ∷ bs) dashes ≡ false
+pub no_dashes : (b : ℕ) (bs : List ℕ) → (b == 45) ≡ false → bytes_eq (b ∷ bs) dashes ≡ false
 unfolding dashes
 no_dashes b bs h = simp (h)
 
-no_long : (b : ℕ) (bs : List ℕ) → (b == 45) ≡ false → long_of (b ∷ bs) ≡ None
+pub no_long : (b : ℕ) (bs : List ℕ) → (b == 45) ≡ false → long_of (b ∷ bs) ≡ None
 no_long b bs h = simp (h)
 
-no_short : (b : ℕ) (bs : List ℕ) → (b == 45) ≡ false → short_of (b ∷ bs) ≡ None
+pub no_short : (b : ℕ) (bs : List ℕ) → (b == 45) ≡ false → short_of (b ∷ bs) ≡ None
 no_short b bs h = simp (h)
 
 abbrev plain_turn : Shape → Held → ℕ → Waiting → Text → Option Text → Bool
@@ -110,7 +109,7 @@ name_turn s h i b bs n =
     ap₂ (λ (d : Bool) (l : Option (Text × Option Text)). turn s h i idle (b ∷ bs) d l) (no_dashes b bs n) (no_long b bs n)
     ∙ ap (plain_turn s h i idle (b ∷ bs)) (no_short b bs n)
 
-name_walked : (s : Shape) (h : Held) (i b : ℕ) (bs : List ℕ) → (b == 45) ≡ false
+pub name_walked : (s : Shape) (h : Held) (i b : ℕ) (bs : List ℕ) → (b == 45) ≡ false
     → walked s.rules [] (at h idle i) (b ∷ bs) ≡ to_positional s.rules (arg_by_index s.rules i) (b ∷ bs) (at h idle i) h
 unfolding walked dashes
 name_walked s h i b bs n =
@@ -123,7 +122,7 @@ value_turn s h id i b bs n =
     ap₂ (λ (d : Bool) (l : Option (Text × Option Text)). turn s h i (option id) (b ∷ bs) d l) (no_dashes b bs n) (no_long b bs n)
     ∙ ap (plain_turn s h i (option id) (b ∷ bs)) (no_short b bs n)
 
-value_walked : (s : Shape) (h : Held) (id : Text) (i b : ℕ) (bs : List ℕ) → (b == 45) ≡ false
+pub value_walked : (s : Shape) (h : Held) (id : Text) (i b : ℕ) (bs : List ℕ) → (b == 45) ≡ false
     → walked s.rules [] (at h (option id) i) (b ∷ bs) ≡ at (option_word (arg_by_id s.rules id) id (b ∷ bs) h).0 (option_word (arg_by_id s.rules id) id (b ∷ bs) h).1 i
 unfolding walked dashes
 value_walked s h id i b bs n =
@@ -154,7 +153,7 @@ option_turn s h i word name a d l is v p =
     && step_passes s i (after_flag s.rules idle word (by_values s h a t).0 (by_values s h a t).1).0 (after_flag s.rules idle word (by_values s h a t).0 (by_values s h a t).1).1) v
     ∙ and_from (settle_passes s.rules s.args_override_self h) true p refl
 
-option_walked : (s : Shape) (h : Held) (i : ℕ) (word name : Text) (a : Rule) → bytes_eq word dashes ≡ false → long_of word ≡ Some (name, None) → arg_by_long s.rules name ≡ Some a
+pub option_walked : (s : Shape) (h : Held) (i : ℕ) (word name : Text) (a : Rule) → bytes_eq word dashes ≡ false → long_of word ≡ Some (name, None) → arg_by_long s.rules name ≡ Some a
     → takes_values a ≡ true → walked s.rules [] (at h idle i) word ≡ at (begun s.rules a h) (option a.id) i
 unfolding walked dashes
 option_walked s h i word name a d l is v =
@@ -172,7 +171,7 @@ flag_turn s h i word name a d l is v p =
     && step_passes s i (after_flag s.rules idle word (by_values s h a t).0 (by_values s h a t).1).0 (after_flag s.rules idle word (by_values s h a t).0 (by_values s h a t).1).1) v
     ∙ and_from (react_passes s.rules s.args_override_self a [] h) true p refl
 
-flag_walked : (s : Shape) (h : Held) (i : ℕ) (word name : Text) (a : Rule) → bytes_eq word dashes ≡ false → long_of word ≡ Some (name, None) → arg_by_long s.rules name ≡ Some a
+pub flag_walked : (s : Shape) (h : Held) (i : ℕ) (word name : Text) (a : Rule) → bytes_eq word dashes ≡ false → long_of word ≡ Some (name, None) → arg_by_long s.rules name ≡ Some a
     → takes_values a ≡ false → walked s.rules [] (at h idle i) word ≡ at (reacted s.rules a [] h) idle i
 unfolding walked dashes
 flag_walked s h i word name a d l is v =
@@ -233,25 +232,25 @@ take_flag s h word name i ws go later d l e = by (arg_by_long s.rules name) refl
       (later (reacted s.rules a [] h) q.1)
 
 -- how an option is read
-no_option_dashes : (v : Valued) → bytes_eq (spelled v) dashes ≡ false
+pub no_option_dashes : (v : Valued) → bytes_eq (spelled v) dashes ≡ false
 unfolding dashes
 no_option_dashes Assume = refl
 no_option_dashes Steps = refl
 no_option_dashes Device = refl
 no_option_dashes Trials = refl
 
-option_long : (v : Valued) → long_of (spelled v) ≡ Some (option_name v, None)
+pub option_long : (v : Valued) → long_of (spelled v) ≡ Some (option_name v, None)
 option_long Assume = refl
 option_long Steps = refl
 option_long Device = refl
 option_long Trials = refl
 
-no_mark_dashes : (m : Mark) → bytes_eq (mark_spelled m) dashes ≡ false
+pub no_mark_dashes : (m : Mark) → bytes_eq (mark_spelled m) dashes ≡ false
 unfolding dashes
 no_mark_dashes Json = refl
 no_mark_dashes Why = refl
 
-mark_long : (m : Mark) → long_of (mark_spelled m) ≡ Some (mark_name m, None)
+pub mark_long : (m : Mark) → long_of (mark_spelled m) ≡ Some (mark_name m, None)
 mark_long Json = refl
 mark_long Why = refl
 

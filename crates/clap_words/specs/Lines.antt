@@ -1,11 +1,11 @@
 -- The program's command line as `clap` has it, and the words that are refused before. Source: own.
-use Rattle.std.specs.Prelude.{◌&&◌, ◌||◌, not, Bool, true, List, [], ◌∷◌, Some, codes}
+use Rattle.std.specs.Prelude.{◌≡◌, ◌⊎◌, ◌&&◌, ◌||◌, not, Bool, true, false, List, [], ◌∷◌, Option, Some, None, codes}
 use Rattle.std.specs.Borrow.{Bor}
 use Rattle.std.specs.Str.{bytes_eq}
-use Rattle.clap.specs.Words.{App, Rule, Text, new_app, new_rule, with_rule, with_subcommand}
+use Rattle.clap.specs.Words.{App, Rule, Row, Text, first_of, one_of, new_app, new_rule, with_rule, with_subcommand}
 use Rattle.clap.specs.Simple.{new_shape}
 use Rattle.clap.specs.declared.builder.action.ArgAction.TheVariants.{SetTrue}
-use Rattle.commands.specs.Commands.{is_name}
+use Rattle.commands.specs.Commands.{Line, is_name}
 use Rattle.clap_words.specs.declared.line.ArgumentKind.{ArgumentKind}
 use Rattle.clap_words.specs.declared.line.ArgumentKind.TheVariants.{Name, Value, Flag}
 
@@ -29,7 +29,7 @@ on_device app = with_rule (with_rule app (value_rule (codes "assume"))) (value_r
 
 -- a firmware and a second file
 abbrev pub pair_app : Text → App
-pair_app name = with_rule (with_rule (new_app name) (name_rule (codes "firmware"))) (name_rule (codes "second"))
+pair_app name = with_rule (with_rule (new_app name) (name_rule (codes "first"))) (name_rule (codes "second"))
 
 -- a firmware and a second file, with the options of a firmware
 abbrev pub judging_app : Text → App
@@ -59,7 +59,7 @@ abbrev pub premises_app : App
 premises_app = judging_flagged_app (codes "premises") (codes "why")
 
 abbrev pub analyse_app : App
-analyse_app = with_rule (on_device (with_rule (new_app (codes "analyse")) (name_rule (codes "firmware")))) (value_rule (codes "steps"))
+analyse_app = with_rule (on_device (with_rule (new_app (codes "analyse")) (name_rule (codes "first")))) (value_rule (codes "steps"))
 
 -- with an option that takes the next word
 abbrev pub judging_with_app : Text → Text → App
@@ -72,7 +72,7 @@ abbrev pub simulate_app : App
 simulate_app = judging_with_app (codes "simulate") (codes "steps")
 
 abbrev pub demo_app : App
-demo_app = with_rule (new_app (codes "demo")) (name_rule (codes "size"))
+demo_app = with_rule (new_app (codes "demo")) (name_rule (codes "first"))
 
 -- no help and no version
 abbrev pub bare_app : App
@@ -122,3 +122,22 @@ is_option word =
 -- an empty word, or one that begins with `-` and is no option
 abbrev pub is_refused : Text → Bool
 is_refused word = not (is_name word) && not (is_option word)
+
+-- ---- what is read from what clap found
+
+-- the text of an option that takes none: `false` where it wasn't used
+abbrev pub TellsMark : Bool → Option Text → Type 0
+TellsMark true o = o ≡ Some (codes "true")
+TellsMark false o = (o ≡ None) ⊎ (o ≡ Some (codes "false"))
+
+-- what a command's matches say is this line
+pub record TellsLine (rows : List Row) (l : Line) : Type 0 where
+  pub first : first_of (codes "first") rows ≡ l.first
+  pub second : first_of (codes "second") rows ≡ l.second
+  pub assume : first_of (codes "assume") rows ≡ l.assume
+  pub steps : first_of (codes "steps") rows ≡ l.steps
+  pub device : first_of (codes "device") rows ≡ l.device
+  pub trials : first_of (codes "trials") rows ≡ l.trials
+  pub json : TellsMark l.json (one_of (codes "json") rows)
+  pub why : TellsMark l.why (one_of (codes "why") rows)
+  pub waits : l.waits ≡ None

@@ -18,7 +18,7 @@ pub(crate) enum ArgumentKind {
     Flag,
 }
 
-const FIRMWARE: (&str, ArgumentKind) = ("firmware", ArgumentKind::Name);
+const FIRST: (&str, ArgumentKind) = ("first", ArgumentKind::Name);
 
 const SECOND: (&str, ArgumentKind) = ("second", ArgumentKind::Name);
 
@@ -32,34 +32,22 @@ const TRIALS: (&str, ArgumentKind) = ("trials", ArgumentKind::Value);
 
 // The commands, each with its arguments in order.
 static COMMANDS: [(&str, &[(&str, ArgumentKind)]); 10] = [
-    ("check", &[FIRMWARE, SECOND, ASSUME, DEVICE]),
-    ("analyse", &[FIRMWARE, ASSUME, DEVICE, STEPS]),
-    ("run", &[FIRMWARE, SECOND, ASSUME, DEVICE]),
+    ("check", &[FIRST, SECOND, ASSUME, DEVICE]),
+    ("analyse", &[FIRST, ASSUME, DEVICE, STEPS]),
+    ("run", &[FIRST, SECOND, ASSUME, DEVICE]),
     (
         "report",
-        &[
-            FIRMWARE,
-            SECOND,
-            ASSUME,
-            DEVICE,
-            ("json", ArgumentKind::Flag),
-        ],
+        &[FIRST, SECOND, ASSUME, DEVICE, ("json", ArgumentKind::Flag)],
     ),
-    ("explain", &[FIRMWARE, SECOND, ASSUME, DEVICE]),
-    ("clear", &[FIRMWARE, SECOND, DEVICE]),
+    ("explain", &[FIRST, SECOND, ASSUME, DEVICE]),
+    ("clear", &[FIRST, SECOND, DEVICE]),
     (
         "premises",
-        &[
-            FIRMWARE,
-            SECOND,
-            ASSUME,
-            DEVICE,
-            ("why", ArgumentKind::Flag),
-        ],
+        &[FIRST, SECOND, ASSUME, DEVICE, ("why", ArgumentKind::Flag)],
     ),
-    ("attain", &[FIRMWARE, SECOND, ASSUME, DEVICE, TRIALS]),
-    ("simulate", &[FIRMWARE, SECOND, ASSUME, DEVICE, STEPS]),
-    ("demo", &[("size", ArgumentKind::Name)]),
+    ("attain", &[FIRST, SECOND, ASSUME, DEVICE, TRIALS]),
+    ("simulate", &[FIRST, SECOND, ASSUME, DEVICE, STEPS]),
+    ("demo", &[FIRST]),
 ];
 
 // The argument of this name.

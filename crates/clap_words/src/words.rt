@@ -1,15 +1,17 @@
 //! From words to a command.
 
-ghost use Rattle.std.specs.Prelude.{◌≡◌, IfOk, map};
+ghost use Rattle.std.specs.Prelude.{◌≡◌, IfOk, List, Some, map};
 ghost use Rattle.std.specs.Option.{option_map};
 ghost use Rattle.std.specs.List.{list_any};
-ghost use Rattle.commands.specs.Commands.{command_of};
-ghost use Rattle.commands.specs.Views.{command_seen};
-ghost use Rattle.clap_words.specs.Lines.{is_option, is_refused};
+ghost use Rattle.clap.specs.Words.{Row, Text, found_of, rows_of, subcommand_rows_of};
+ghost use Rattle.commands.specs.Commands.{Line, called, command_of};
+ghost use Rattle.commands.specs.Views.{command_seen, line_of};
+ghost use Rattle.clap_words.specs.Lines.{TellsLine, is_option, is_refused};
 
 use crate::line::line_command;
+use clap::ArgMatches;
 use clap::error::ErrorKind;
-use commands::Command;
+use commands::{Command, CommandLine, called};
 use std::alloc::{AllocError, Global};
 
 // Whether the word is an option.
@@ -44,8 +46,35 @@ fn has_refused(words: &[&str]) -> bool
     }
 }
 
-/// The command that the words are, if any. Words that are empty, or begin with `-` and are no option, are refused first. `clap` decides
-/// over the rest, and numbers are parsed if it accepts the words.
+// What is left of a command's words once `clap` has parsed them.
+fn line_in<'a>(matches: &ArgMatches<'a>) -> CommandLine<'a>
+    ensures { (l : Line) → TellsLine (rows_of (found_of matches.now)) l → line_of result ≡ l }
+{
+    CommandLine {
+        first: matches.get_str("first"),
+        second: matches.get_str("second"),
+        assume: matches.get_str("assume"),
+        steps: matches.get_str("steps"),
+        device: matches.get_str("device"),
+        trials: matches.get_str("trials"),
+        json: matches.get_flag("json"),
+        why: matches.get_flag("why"),
+    }
+}
+
+// The command that `clap` has parsed.
+fn command_in<'a>(matches: &ArgMatches<'a>) -> Option<Command<'a>>
+    ensures { (name : Text) (rows : List Row) (l : Line) → subcommand_rows_of matches.now ≡ Some (name, rows) → TellsLine rows l
+        → option_map command_seen result ≡ called name l }
+{
+    match matches.subcommand() {
+        Some((name, inner)) => called(name, line_in(inner)),
+        None => None,
+    }
+}
+
+/// The command that the words are, if any. Words that are empty, or begin with `-` and are no option, are refused first. `clap` parses
+/// the rest, and numbers and the device are read from what it found.
 pub fn command_of<'a>(
     alloc: Global,
     words: &'a [&'a str],
@@ -56,7 +85,7 @@ pub fn command_of<'a>(
         return Ok(None);
     }
     match line_command(alloc)?.try_get_matches_from(words) {
-        Ok(_) => Ok(commands::command_of(words)),
+        Ok(matches) => Ok(command_in(&matches)),
         Err(error) => {
             if error.kind() == ErrorKind::OutOfMemory {
                 Err(AllocError)

@@ -11,7 +11,7 @@ text_of None = None
 text_of (Some text) = Some text.now
 
 abbrev pub line_of : Words → Line
-line_of l = record { first = text_of l.first; second = text_of l.second; assume = text_of l.assume; steps = text_of l.steps; device = text_of l.device; trials = text_of l.trials; json = l.json; why = l.why; waits = l.waits }
+line_of l = record { first = text_of l.first; second = text_of l.second; assume = text_of l.assume; steps = text_of l.steps; device = text_of l.device; trials = text_of l.trials; json = l.json; why = l.why; waits = None }
 
 abbrev pub command_seen : Owned → Command
 command_seen (owned.Check device firmware certificate assume) = Check device firmware.now certificate.now (text_of assume)

@@ -1,8 +1,8 @@
 //! The commands.
 
-ghost use Rattle.std.specs.Prelude.{◌≡◌, map, None, Some};
+ghost use Rattle.std.specs.Prelude.{◌≡◌, None, Some};
 ghost use Rattle.std.specs.Option.{option_map};
-ghost use Rattle.commands.specs.Commands.{Firmware, Second, Assumptions, device_for, name_of, then_words, steps_in, size_in, device_in, is_stepping, is_plain, check_of, analyse_of, run_of, report_of, explain_of, clear_of, premises_of, attain_of, simulate_of, choices_in, trials_in, demo_of, called, command_of};
+ghost use Rattle.commands.specs.Commands.{Firmware, Second, Assumptions, device_for, name_of, steps_in, size_in, device_in, is_stepping, is_plain, check_of, analyse_of, run_of, report_of, explain_of, clear_of, premises_of, attain_of, simulate_of, choices_in, trials_in, demo_of, called};
 ghost use Rattle.commands.specs.Views.{text_of, line_of, command_seen};
 
 use crate::line::CommandLine;
@@ -454,8 +454,8 @@ fn demo_of<'a>(line: CommandLine<'a>) -> Option<Command<'a>>
     })
 }
 
-// The command of this name.
-fn called<'a>(word: &str, line: CommandLine<'a>) -> Option<Command<'a>>
+/// The command of this name whose further words are this line, if it is one. Each option stands only if the command has it.
+pub fn called<'a>(word: &str, line: CommandLine<'a>) -> Option<Command<'a>>
     ensures { option_map command_seen result ≡ called word.now (line_of line.entry) }
 {
     if word == "check" {
@@ -480,32 +480,5 @@ fn called<'a>(word: &str, line: CommandLine<'a>) -> Option<Command<'a>>
         demo_of(line)
     } else {
         None
-    }
-}
-
-// The line with all these words added, if each can stand where it does. At most twelve can.
-fn line_with<'a>(line: CommandLine<'a>, words: &'a [&'a str]) -> Option<CommandLine<'a>>
-    ensures { option_map line_of result ≡ then_words (Some (line_of line.entry)) (map (λ w. w.now) words.now) }
-{
-    match words {
-        [] => Some(line),
-        [word, rest @ ..] => line_with(line.with_word(word)?, rest),
-    }
-}
-
-/// The command that the words are, if any. The first word is its name. `--assume`, `--steps`, `--device` and `--trials` take the next word.
-/// Each option stands at most once and only if the command has it. The remaining words are the names in order.
-pub fn command_of<'a>(words: &'a [&'a str]) -> Option<Command<'a>>
-    ensures { option_map command_seen result ≡ command_of (map (λ w. w.now) words.now) }
-{
-    match words {
-        [] => None,
-        [word, rest @ ..] => {
-            let line = line_with(CommandLine::empty(), rest)?;
-            match line.waits {
-                None => called(word, line),
-                Some(_) => None,
-            }
-        }
     }
 }

@@ -5,5 +5,6 @@ mod command;
 mod line;
 mod size;
 
-pub use command::{Command, command_of};
+pub use command::{Command, called};
+pub use line::CommandLine;
 pub use size::{ChoiceCount, Size};

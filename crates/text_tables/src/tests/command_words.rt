@@ -2,7 +2,7 @@
 
 use super::Worked;
 use avr_model::device::Device;
-use commands::{Command, command_of};
+use clap_words::{Command, command_of};
 use std::alloc::Global;
 
 // The compared parts of a command: its name, the device, the second file, the assumption file, its number, and whether it answers as
@@ -156,16 +156,16 @@ fn is_told(command: &Command<'_>, told: &Told) -> bool {
 }
 
 impl Worked for Row {
-    fn holds(&self, _alloc: Global) -> bool {
-        match command_of(self.0) {
-            Some(command) => is_told(&command, &self.1),
-            None => false,
+    fn holds(&self, alloc: Global) -> bool {
+        match command_of(alloc, self.0) {
+            Ok(Some(command)) => is_told(&command, &self.1),
+            _ => false,
         }
     }
 }
 
 impl Worked for Refused {
-    fn holds(&self, _alloc: Global) -> bool {
-        command_of(self.0).is_none()
+    fn holds(&self, alloc: Global) -> bool {
+        matches!(command_of(alloc, self.0), Ok(None))
     }
 }
