@@ -1,0 +1,14 @@
+use Rattle.std.proofs.Common.{◌∙◌, ◌++◌, ◌≡◌, ℕ, List, ap, Ok}
+use Rattle.sb_base.specs.Writing.{Written}
+use Rattle.indirect_targets.specs.Spelling.{text_of}
+use Rattle.indirect_targets.specs.Exact.{IsListReading}
+use Rattle.uses.proofs.lists.read_back.Goals as goal
+
+pub returns-in-Ok : goal.returns-in-Ok
+returns-in-Ok c =
+    let list = c.args.list.now in
+    let text : c.deref.result.now ≡ text_of list =
+    c.deref.ensures.value ∙ c.finish-text.ensures ∙ ap (λ (w : Written). w.bytes) c.in_ok-write.ensures.written ∙ ap (λ (w : Written). w.bytes ++ text_of list) c.new-out.ensures in
+    let due : IsListReading c.deref.result.now list = record { fits = c.entries-entries.ensures.kept; bytes = text } in
+    let same = c.in-Ok.ensures.due (Ok list) due in
+    cc

@@ -1,0 +1,23 @@
+//! Shows `nesting_bound`.
+
+ghost use Rattle.std.specs.Prelude.{◌≡◌, ◌≤◌, ℕ, None, IfOk, IfSome};
+ghost use Rattle.nesting_bound.specs.Graph.{IsGraph, ReachesBy};
+ghost use Rattle.nesting_bound.specs.Laws.{Nests};
+
+use nesting_bound::laws::needs_bound_nesting;
+use nesting_bound::{ComposeFault, Graph, compose};
+use std::alloc::{AllocError, Global};
+
+/// A bound on how deep calls and interrupts nest from the root. `None` if an instance reaches itself.
+pub fn nesting_of(alloc: Global, graph: &Graph) -> Result<Option<u32>, AllocError>
+    requires { IsGraph graph.now.instances }
+    ensures bound { IfOk result (λ o. IfSome o (λ need. (depth : ℕ) → Nests graph.now.instances 0 depth → depth ≤ need)) }
+    ensures none { IfOk result (λ o. o ≡ None → (i : ℕ) × ReachesBy graph.now.instances i i) }
+{
+    needs_bound_nesting();
+    match compose(alloc, graph) {
+        Ok(composed) => Ok(Some(composed.need(0))),
+        Err(ComposeFault::Cycle(_)) => Ok(None),
+        Err(ComposeFault::Memory) => Err(AllocError),
+    }
+}
