@@ -83,7 +83,7 @@ pub record ValuesSayLess : Type 0 where
 -- the memory keeps the live bytes above a floor
 pub record Keeps (old new : Memory) (floor : ℕ) : Type 0 where
   pub live : (a : ℕ) → floor < a → is_live old a ≡ true → is_live new a ≡ true
-  pub bytes : (a : ℕ) → floor < a → is_live old a ≡ true → byte_in new.bytes a ≡ byte_in old.bytes a
+  pub bytes : (a : ℕ) → floor < a → is_live old a ≡ true → byte_in new.below new.bytes a ≡ byte_in old.below old.bytes a
 
 -- Slots hold while live bytes above a floor below them are kept, and after one is added, cut or resized.
 pub record SlotsFollow : Type 0 where

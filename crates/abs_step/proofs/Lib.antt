@@ -8,3 +8,4 @@ pub mod Woken
 pub mod Cutting
 pub mod Slots
 pub mod Paired
+pub mod Skipped

@@ -5,9 +5,9 @@ use Rattle.avr_model.specs.Devices.{device_row, Program, M328, image}
 use Rattle.avr_model.specs.Bits.{any_below, all_below}
 use Rattle.avr_model.specs.Sites.{is_scratch, is_fixed, path_behind, is_loaded_behind, table_site, ijmp_from}
 use Rattle.avr_model.specs.Assumptions.{jump_line, store_line, is_proved, is_freed, is_never, is_frame, is_fixed_site, has_masks}
-use Rattle.avr_model.specs.Masks.{admits_enables}
+use Rattle.avr_model.specs.Masks.{reads_masks, admits_enables}
 use Rattle.avr_model.specs.Table.{decoded}
-use Rattle.avr_model.specs.Vectors.{row_of}
+use Rattle.avr_model.specs.Vectors.{is_enabled, has_place, place_at, places}
 use Rattle.bit_domain.specs.Packed.{packed}
 use Rattle.bit_domain.specs.TriByte.{byte_known, permits_below}
 use Rattle.bit_domain.specs.Numbers.{numbers_of}
@@ -24,7 +24,7 @@ use Rattle.mask_states.specs.declared.keys.Kind.TheVariants.{Call}
 use Rattle.mask_states.specs.declared.keys.SpForm.{SpForm}
 use Rattle.mask_states.specs.declared.keys.SpForm.TheVariants.{Closed, Open}
 use Rattle.mask_states.specs.declared.keys.High.TheVariants.{Tag as Tagged}
-use Rattle.mask_states.specs.Splits.{enable_tri}
+use Rattle.mask_states.specs.Splits.{common_tri, enable_tri}
 use Rattle.local_rules.specs.declared.local.CallSite.{CallSite}
 use Rattle.local_rules.specs.declared.local.Exit.{Exit}
 use Rattle.local_rules.specs.declared.local.NodeFault.{NodeFault}
@@ -104,7 +104,7 @@ reads_a_slot = refl
 
 -- `st X, r16` of an unknown byte, with X = 0x003D, and 0x003D and 0x005D listed: nothing changes, or the two enable bits do
 stores_at_listed : enables (raw (firmware 0x930C 0xFFFF) (Store 0 (0x3D ∷ 0x5D ∷ []) ∷ []) (in_call (Closed 0)) (with_pair 26 (known 0x3D) (known 0))) ≡ 0 ∷ 0 ∷ 1 ∷ 2 ∷ 3 ∷ []
-unfolding raw table_site ijmp_from is_scratch is_fixed path_behind is_loaded_behind is_proved is_freed is_fixed_site store_line any_below all_below decoded device_row written_at numbers_of enable_tri row_of packed permits_below may_wake admits_enables has_masks
+unfolding raw table_site ijmp_from is_scratch is_fixed path_behind is_loaded_behind is_proved is_freed is_fixed_site store_line any_below all_below decoded device_row written_at numbers_of enable_tri place_at places common_tri packed permits_below may_wake admits_enables reads_masks has_masks
 stores_at_listed = refl
 
 -- `ijmp` with Z = 5 goes to the one listed word that Z permits
@@ -127,7 +127,7 @@ returns_from_interrupt = refl
 
 -- an interrupt may come while the stack pointer is half written
 hangs : faults (raw (firmware 0x0000 0xFFFF) [] (record (in_call (Open 0 (Tagged 2))) { masks = 32768 }) root) ≡ UntrackedSp 0 ∷ []
-unfolding raw table_site ijmp_from is_scratch any_below all_below decoded device_row may_come is_never
+unfolding raw table_site ijmp_from is_scratch any_below all_below decoded device_row may_come is_never is_enabled has_place places
 hangs = refl
 
 -- of two depths the smaller one is the fault

@@ -1,6 +1,5 @@
 //! Bits of I/O, and single flags.
 
-ghost use Rattle.avr_model.specs.Assumptions.{has_masks};
 ghost use Rattle.avr_model.specs.Effects as effects;
 ghost use Rattle.local_rules.specs.Registers as registers;
 ghost use Rattle.local_rules.specs.Local as rows;
@@ -12,10 +11,9 @@ use crate::stores::{ByteWrite, written_at};
 use crate::successors::{add_copy, next, setting};
 use abs_state::AbsByte;
 use avr_model::instruction::{Bit, LowPort};
-use bit_domain::Tri;
 use local_reads::flow::port;
-use local_reads::reads::read_at;
-use local_rows::bits::flag;
+use local_reads::reads::kept_bits;
+use local_rows::bits::{flag, tri_of};
 use local_rules::local::NodeFault;
 use mask_states::NodeKey;
 
@@ -30,9 +28,7 @@ pub fn bit_row(
     ensures { Adds nodes.old nodes.new result (rows.bit_row site.now.device site.now.key.now site.now.state.now (effects.port i) bit on) }
 {
     let address = port(i.widened());
-    let bits = read_at(site.device, false, site.key, site.state, address)
-        .bits
-        .with(bit.get() as u8, if on { Tri::One } else { Tri::Zero });
+    let bits = kept_bits(site.device, site.key.masks, address).with(bit.get() as u8, tri_of(on));
     let write = ByteWrite {
         device: site.device,
         pc: site.key.pc,

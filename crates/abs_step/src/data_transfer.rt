@@ -1,7 +1,7 @@
 //! Data transfer: loads, stores, bytes of flash, and I/O.
 
 ghost use Rattle.std.specs.Prelude.{slice_set, if◌then◌else◌};
-ghost use Rattle.avr_model.specs.Assumptions.{has_masks};
+ghost use Rattle.avr_model.specs.Masks.{reads_masks};
 ghost use Rattle.local_rules.specs.Writes.{written_at};
 ghost use Rattle.local_rules.specs.Registers as registers;
 ghost use Rattle.local_rules.specs.Raw as raw;
@@ -31,10 +31,10 @@ pub fn load_row(
     d: Register,
     from: Indirect,
 ) -> Result<(), NodeFault>
-    ensures { Adds nodes.old nodes.new result (rows.loading site.now.device site.now.key.now site.now.state.now registers.now d (reads.read_pointed site.now.device (has_masks site.now.assumptions.now) site.now.key.now site.now.state.now (reads.pointed site.now.state.now from.r from.up))) }
+    ensures { Adds nodes.old nodes.new result (rows.loading site.now.device site.now.key.now site.now.state.now registers.now d (reads.read_pointed site.now.device (reads_masks site.now.device site.now.assumptions.now) site.now.key.now site.now.state.now (reads.pointed site.now.state.now from.r from.up))) }
 {
     let pointed = point(site.state, from.r, from.up);
-    let may = site.assumptions.has_masks();
+    let may = site.assumptions.reads_masks(site.device);
     match read_pointed(site.device, may, site.key, site.state, pointed) {
         Some(value) => {
             let registers = set(registers, d, value);
@@ -52,9 +52,9 @@ pub fn read_row(
     d: Register,
     address: u16,
 ) -> Result<(), NodeFault>
-    ensures { Adds nodes.old nodes.new result (raw.going_to site.now.key.now (record site.now.state.now { registers = registers.set site.now.state.now d (reads.read_at site.now.device (has_masks site.now.assumptions.now) site.now.key.now site.now.state.now address) }) (raw.further site.now.device site.now.key.now words)) }
+    ensures { Adds nodes.old nodes.new result (raw.going_to site.now.key.now (record site.now.state.now { registers = registers.set site.now.state.now d (reads.read_at site.now.device (reads_masks site.now.device site.now.assumptions.now) site.now.key.now site.now.state.now address) }) (raw.further site.now.device site.now.key.now words)) }
 {
-    let may = site.assumptions.has_masks();
+    let may = site.assumptions.reads_masks(site.device);
     let read = read_at(site.device, may, site.key, site.state, address);
     let registers = set(&site.state.registers, d, read);
     let after = changed(site.alloc, site.state, &registers, site.state.flags)?;
@@ -72,7 +72,20 @@ pub fn lpm_row(
     ensures { Adds nodes.old nodes.new result (raw.setting site.now.device site.now.key.now site.now.state.now (slice_set registers.now d (reads.flash_value site.now.flash.now (reads.pair_constant site.now.state.now 30))) site.now.state.now.flags) }
 {
     let z = pair_constant(site.state, base_register(Base::Z));
-    let registers = set(registers, d, flash_value(site.flash, z));
+    set_row(nodes, site, registers, d, flash_value(site.flash, z))
+}
+
+/// `elpm`: register `d` gets this value.
+pub fn set_row(
+    nodes: &mut Moves<'_>,
+    site: &Site<'_>,
+    registers: &[AbsByte; 32],
+    d: Register,
+    value: AbsByte,
+) -> Result<(), NodeFault>
+    ensures { Adds nodes.old nodes.new result (raw.setting site.now.device site.now.key.now site.now.state.now (slice_set registers.now d value) site.now.state.now.flags) }
+{
+    let registers = set(registers, d, value);
     setting(nodes, site, &registers, site.state.flags)
 }
 

@@ -1,8 +1,9 @@
 //! Control flow: jumps, skips, calls and returns.
 
 ghost use Rattle.std.specs.Prelude.{◌≡◌, ◌<◌, ◌+◌, map, filter, None, IfOk, IfErr, if◌then◌else◌};
-ghost use Rattle.avr_model.specs.Image.{WORDS, word_at};
-ghost use Rattle.avr_model.specs.Assumptions.{lists, has_masks};
+ghost use Rattle.avr_model.specs.Image.{word_at};
+ghost use Rattle.avr_model.specs.Assumptions.{lists};
+ghost use Rattle.avr_model.specs.Masks.{reads_masks};
 ghost use Rattle.avr_model.specs.Effects as effects;
 ghost use Rattle.avr_model.specs.Table.{length_of};
 ghost use Rattle.bit_domain.specs.Tri.{tri_not};
@@ -59,12 +60,11 @@ pub(crate) fn flag_branch(
 }
 
 // The word after the next instruction, and that of the next instruction.
-fn skip_words(site: &Site<'_>) -> (u16, u16)
-    requires { site.now.key.now.pc < WORDS }
+pub(crate) fn skip_words(site: &Site<'_>) -> (u16, u16)
     ensures past { result.0 ≡ raw.further site.now.device site.now.key.now (1 + length_of (word_at site.now.flash.now (site.now.key.now.pc + 1))) }
     ensures next { result.1 ≡ raw.further site.now.device site.now.key.now 1 }
 {
-    let length = avr_decode::length(site.flash.word(site.key.pc + 1));
+    let length = avr_decode::length(site.flash.word(site.key.pc.wrapping_add(1)));
     (
         further(site.device, site.key, 1 + length),
         further(site.device, site.key, 1),
@@ -77,7 +77,6 @@ pub(crate) fn skipping(
     site: &Site<'_>,
     condition: Tri,
 ) -> Result<(), NodeFault>
-    requires word { site.now.key.now.pc < WORDS }
     ensures { Adds nodes.old nodes.new result (flow.skipping site.now.device site.now.flash.now site.now.key.now site.now.key.now site.now.state.now condition) }
 {
     branch(nodes, site, condition, skip_words(site))
@@ -91,12 +90,11 @@ pub(crate) fn port_skip(
     bit: Bit,
     on: bool,
 ) -> Result<(), NodeFault>
-    requires word { site.now.key.now.pc < WORDS }
-    ensures { Adds nodes.old nodes.new result (if on then flow.skipping site.now.device site.now.flash.now site.now.key.now (flow.reading_zero (has_masks site.now.assumptions.now) site.now.key.now (effects.port port) bit) site.now.state.now (tri_at (reads.read_at site.now.device (has_masks site.now.assumptions.now) site.now.key.now site.now.state.now (effects.port port)).bits bit) else flow.skipping site.now.device site.now.flash.now (flow.reading_zero (has_masks site.now.assumptions.now) site.now.key.now (effects.port port) bit) site.now.key.now site.now.state.now (tri_not (tri_at (reads.read_at site.now.device (has_masks site.now.assumptions.now) site.now.key.now site.now.state.now (effects.port port)).bits bit))) }
+    ensures { Adds nodes.old nodes.new result (if on then flow.skipping site.now.device site.now.flash.now site.now.key.now (flow.reading_zero site.now.device (reads_masks site.now.device site.now.assumptions.now) site.now.key.now (effects.port port) bit) site.now.state.now (tri_at (reads.read_at site.now.device (reads_masks site.now.device site.now.assumptions.now) site.now.key.now site.now.state.now (effects.port port)).bits bit) else flow.skipping site.now.device site.now.flash.now (flow.reading_zero site.now.device (reads_masks site.now.device site.now.assumptions.now) site.now.key.now (effects.port port) bit) site.now.key.now site.now.state.now (tri_not (tri_at (reads.read_at site.now.device (reads_masks site.now.device site.now.assumptions.now) site.now.key.now site.now.state.now (effects.port port)).bits bit))) }
 {
-    let may = site.assumptions.has_masks();
+    let may = site.assumptions.reads_masks(site.device);
     let is_one = port_bit(site.device, may, site.key, site.state, port, bit);
-    let zero = reading_zero(may, site.key, port, bit);
+    let zero = reading_zero(site.device, may, site.key, port, bit);
     let words = skip_words(site);
     if on {
         branch_by(nodes, site, is_one, site.key, &zero, words)
@@ -136,7 +134,7 @@ fn unlisted_targets(
     ensures { FindsWords result (flow.targets_by device None (registers.bits state.now 30) (registers.bits state.now 31)) pc }
 {
     let (low, high) = pair(state, base_register(Base::Z));
-    match targets_on(&low.bits, &high.bits, device.width()) {
+    match targets_on(device, &low.bits, &high.bits) {
         Ok(all) => match all.as_slice().to_vec(alloc) {
             Ok(words) => Ok(words),
             Err(_) => Err(NodeFault::Memory),

@@ -2,7 +2,6 @@
 
 ghost use Rattle.std.specs.Prelude.{◌≡◌, ◌<◌, false, if◌then◌else◌, IfOk, IfErr};
 ghost use Rattle.local_rules.specs.declared.local.NodeFault.TheVariants.{Memory};
-ghost use Rattle.avr_model.specs.Image.{WORDS};
 ghost use Rattle.avr_model.specs.Written.{written};
 ghost use Rattle.sp_domain.specs.declared.tags.CarryTag.TheVariants as tag;
 ghost use Rattle.local_rules.specs.Registers as registers;
@@ -72,7 +71,6 @@ pub(crate) fn row_forgetting(
     scratch: bool,
     instr: &Instr,
 ) -> Result<Outgoing, NodeFault>
-    requires word { site.now.key.now.pc < WORDS }
     ensures { LeadsOn nodes.old nodes.new result (rows.row_of site.now.device site.now.flash.now site.now.assumptions.now scratch site.now.key.now (registers.before instr.now site.now.state.now) instr.now) }
 {
     let state = site.state;
@@ -96,11 +94,10 @@ pub(crate) fn row_forgetting(
 
 // The successors by the node's instruction; its word may lie behind the device's flash.
 pub(crate) fn at_instruction(nodes: &mut Nodes, site: &Site<'_>) -> Result<Outgoing, NodeFault>
-    requires word { site.now.key.now.pc < WORDS }
     ensures { LeadsOn (plain nodes.old) (plain nodes.new) result (rows.row_in site.now.device site.now.flash.now site.now.assumptions.now site.now.key.now site.now.state.now) }
 {
     let pc = site.key.pc;
-    if pc >= site.device.words() {
+    if u32::from(pc) >= site.device.words() {
         return Err(NodeFault::Unsupported(pc));
     }
     let scratch = site.flash.is_scratch(pc);

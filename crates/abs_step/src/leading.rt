@@ -2,7 +2,6 @@
 
 ghost use Rattle.std.specs.Prelude.{◌≡◌, ◌<◌, ◌∷◌, nat_lt, length, Err};
 ghost use Rattle.avr_model.specs.Devices.{size_of};
-ghost use Rattle.avr_model.specs.Image.{WORDS};
 ghost use Rattle.mask_states.specs.Keys.{offset_of};
 ghost use Rattle.local_rules.specs.declared.local.NodeFault.TheVariants.{Memory};
 ghost use Rattle.local_rules.specs.Raw.{Raw, too_deep_if};
@@ -22,7 +21,6 @@ use vector_table::Assumptions;
 
 // The local part, also of a node that splits, before its depth is checked.
 fn led(site: &Site<'_>) -> Result<Local, NodeFault>
-    requires word { site.now.key.now.pc < WORDS }
     ensures { Settles result (rows.splitting (rows.split_site site.now.flash.now site.now.assumptions.now site.now.key.now.pc site.now.key.now.pick) (rows.row_in site.now.device site.now.flash.now site.now.assumptions.now) site.now.key.now site.now.state.now) }
 {
     let mut same = Nodes::new(site.alloc);
@@ -52,7 +50,6 @@ fn stopped(found: &Result<Local, NodeFault>, besides: NodeFault) -> NodeFault
 
 // The local part, or a fault if the frame is deeper than the device's SRAM.
 fn in_sram(site: &Site<'_>) -> Result<Local, NodeFault>
-    requires word { site.now.key.now.pc < WORDS }
     ensures { Settles result (too_deep_if (nat_lt (size_of site.now.device) (offset_of site.now.key.now.sp)) site.now.key.now.pc (offset_of site.now.key.now.sp) (rows.splitting (rows.split_site site.now.flash.now site.now.assumptions.now site.now.key.now.pc site.now.key.now.pick) (rows.row_in site.now.device site.now.flash.now site.now.assumptions.now) site.now.key.now site.now.state.now)) }
 {
     let found = led(site);
@@ -74,7 +71,6 @@ pub fn local(
     key: &NodeKey,
     state: &AbsState,
 ) -> Result<Local, NodeFault>
-    requires word { key.now.pc < WORDS }
     requires sized { length state.now.slots ≡ offset_of key.now.sp }
     ensures { Answers (λ l. l) Memory result (rows.local flash.now assumptions.now key.now state.now) }
 {

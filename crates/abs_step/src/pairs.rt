@@ -2,7 +2,6 @@
 
 ghost use Rattle.std.specs.Prelude.{◌≡◌, ◌<◌, ◌∷◌, [], true, not, length};
 ghost use Rattle.mask_states.specs.Keys.{offset_of};
-ghost use Rattle.avr_model.specs.Image.{WORDS};
 ghost use Rattle.abs_state.specs.PairBytes.{left_in};
 ghost use Rattle.local_rules.specs.Raw.{all_of};
 ghost use Rattle.local_rules.specs.Flow as flow;
@@ -11,7 +10,7 @@ ghost use Rattle.abs_step.specs.Adding.{Adds, plain, refined_if};
 ghost use Rattle.abs_step.specs.Leading.{LeadsOn};
 ghost use Rattle.abs_step.specs.Conditions.{IsTest, cut_by};
 
-use crate::flow::{Outgoing, staying};
+use crate::flow::{Outgoing, skip_words, staying};
 use crate::instruction::{before, row_forgetting};
 use crate::moves::{Moves, put};
 use crate::pointer_stores::{Indirect, pointer_write};
@@ -117,14 +116,13 @@ fn both_ways(
 
 // To the next instruction if the test has the outcome, else past it.
 fn skip_unless(nodes: &mut Nodes, site: &Site<'_>, test: Test, on: bool) -> Result<(), NodeFault>
-    requires word { site.now.key.now.pc < WORDS }
     requires test { IsTest test }
     ensures { Adds (plain nodes.old) (plain nodes.new) result (rows.cut_skip site.now.device site.now.flash.now site.now.key.now (cut_by test (not on) site.now.state.now) (cut_by test on site.now.state.now)) }
 {
-    let length = avr_decode::length(site.flash.word(site.key.pc + 1));
+    let (past, next) = skip_words(site);
     let ways = Ways {
-        pc: further(site.device, site.key, 1),
-        other: further(site.device, site.key, 1 + length),
+        pc: next,
+        other: past,
     };
     both_ways(nodes, site, test, on, ways)
 }
@@ -186,7 +184,6 @@ pub(crate) fn row_through(
     instr: &Instr,
     refines: bool,
 ) -> Result<Outgoing, NodeFault>
-    requires word { site.now.key.now.pc < WORDS }
     ensures { LeadsOn (plain nodes.old) (plain nodes.new) result (refined_if refines site.now.flash.now instr.now site.now.state.now (rows.plain_row site.now.device site.now.flash.now site.now.assumptions.now scratch site.now.key.now site.now.state.now instr.now)) }
 {
     let so_far = mem::replace(nodes, Nodes::new(site.alloc));
@@ -204,7 +201,6 @@ fn paired_branch(
     instr: &Instr,
     branch: FlagBranch,
 ) -> Result<Outgoing, NodeFault>
-    requires word { site.now.key.now.pc < WORDS }
     ensures { LeadsOn (plain nodes.old) (plain nodes.new) result (rows.paired_branch branch.n site.now.key.now site.now.state.now branch.set branch.clear (rows.plain_row site.now.device site.now.flash.now site.now.assumptions.now scratch site.now.key.now site.now.state.now instr.now)) }
 {
     if branch.n.get() >= 7 {
@@ -226,7 +222,6 @@ pub(crate) fn paired_row(
     scratch: bool,
     instr: &Instr,
 ) -> Result<Outgoing, NodeFault>
-    requires word { site.now.key.now.pc < WORDS }
     ensures { LeadsOn (plain nodes.old) (plain nodes.new) result (rows.paired_row site.now.device site.now.flash.now site.now.assumptions.now scratch site.now.key.now site.now.state.now instr.now) }
 {
     let (a, device, key) = (site.alloc, site.device, site.key);
@@ -235,14 +230,14 @@ pub(crate) fn paired_row(
             let branch = FlagBranch {
                 n: *n,
                 clear: further(device, key, 1),
-                set: device.wrap(near(key.pc, t.get())),
+                set: device.wrap(u32::from(near(key.pc, t.get()))),
             };
             paired_branch(nodes, site, scratch, instr, branch)
         }
         Instr::Brbc(n, t) => {
             let branch = FlagBranch {
                 n: *n,
-                clear: device.wrap(near(key.pc, t.get())),
+                clear: device.wrap(u32::from(near(key.pc, t.get()))),
                 set: further(device, key, 1),
             };
             paired_branch(nodes, site, scratch, instr, branch)

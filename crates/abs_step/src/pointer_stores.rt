@@ -103,7 +103,7 @@ fn is_own_slot(slot: Option<u16>, offset: u16) -> bool
 fn may_wake(site: &Site<'_>, write: &ByteWrite<'_>, to: &Indirect) -> bool
     ensures { result ≡ writes.may_wake site.now.device site.now.assumptions.now site.now.state.now to.now.r to.now.up (pointed site.now.state.now to.now.r to.now.up) site.now.key.now.pc write.now.key write.now.value }
 {
-    if !site.assumptions.admits_enables(site.key.pc) {
+    if !site.assumptions.admits_enables(site.device, site.key.pc) {
         return false;
     }
     let slot = point(site.state, to.r, to.up).frame;

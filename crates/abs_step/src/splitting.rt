@@ -1,7 +1,6 @@
 //! Jump tables: a node at a table site splits by the possible bytes of r30, so that the paths to the entries stay apart.
 
 ghost use Rattle.std.specs.Prelude.{◌≡◌, ◌<◌, Some, map, IfOk, IfErr};
-ghost use Rattle.avr_model.specs.Image.{WORDS};
 ghost use Rattle.local_rules.specs.declared.local.NodeFault.TheVariants.{Memory};
 ghost use Rattle.local_rules.specs.Raw.{Raw, all_of};
 ghost use Rattle.local_rules.specs.Local as rows;
@@ -26,7 +25,7 @@ const MOST_PICKS: usize = 64;
 fn split_site(site: &Site<'_>) -> Option<u16>
     ensures { result ≡ rows.split_site site.now.flash.now site.now.assumptions.now site.now.key.now.pc site.now.key.now.pick }
 {
-    if site.key.pick.is_some() || site.key.pc >= site.flash.device().words() {
+    if site.key.pick.is_some() || u32::from(site.key.pc) >= site.flash.device().words() {
         return None;
     }
     let jump = site.flash.table_site(site.key.pc)?;
@@ -39,7 +38,6 @@ fn split_site(site: &Site<'_>) -> Option<u16>
 // The successors with this byte picked, if anything is left of the state.
 #[tactic(auto, using(crate::proofs::Slots::pick_slots))]
 fn with_pick(nodes: &mut Nodes, site: &Site<'_>, byte: u8) -> Result<Outgoing, NodeFault>
-    requires word { site.now.key.now.pc < WORDS }
     ensures { LeadsOn (plain nodes.old) (plain nodes.new) result (rows.picked_row (rows.row_in site.now.device site.now.flash.now site.now.assumptions.now) (rows.picking site.now.key.now byte) (pick_cut byte site.now.state.now)) }
 {
     let mut picked = copied(site.alloc, site.state)?;
@@ -72,7 +70,6 @@ fn picked_too(
     byte: u8,
     fault: Option<NodeFault>,
 ) -> Result<Option<NodeFault>, NodeFault>
-    requires word { site.now.key.now.pc < WORDS }
     ensures ok { IfOk result (λ next. (old : Moving) (r : Raw) → AreMovesGathered old (plain nodes.old) fault r → AreMovesGathered old (plain nodes.new) next (with_another r (rows.picked_row (rows.row_in site.now.device site.now.flash.now site.now.assumptions.now) (rows.picking site.now.key.now byte) (pick_cut byte site.now.state.now)))) }
     ensures err { IfErr result (λ e. e ≡ Memory) }
 {
@@ -90,7 +87,6 @@ fn picked_too(
 
 // The successors for each of these bytes picked.
 fn all_picked(nodes: &mut Nodes, site: &Site<'_>, picks: &[u8]) -> Result<(), NodeFault>
-    requires word { site.now.key.now.pc < WORDS }
     ensures { Adds (plain nodes.old) (plain nodes.new) result (all_of (map (λ byte. rows.picked_row (rows.row_in site.now.device site.now.flash.now site.now.assumptions.now) (rows.picking site.now.key.now byte) (pick_cut byte site.now.state.now)) picks.now)) }
 {
     let mut fault: Option<NodeFault> = None;
@@ -105,7 +101,6 @@ fn all_picked(nodes: &mut Nodes, site: &Site<'_>, picks: &[u8]) -> Result<(), No
 
 // Splits the node, if there are few enough bytes. `jump` is the word of its `ijmp`.
 fn split(nodes: &mut Nodes, site: &Site<'_>, jump: u16) -> Result<(), NodeFault>
-    requires word { site.now.key.now.pc < WORDS }
     ensures { Adds (plain nodes.old) (plain nodes.new) result (rows.splitting (Some jump) (rows.row_in site.now.device site.now.flash.now site.now.assumptions.now) site.now.key.now site.now.state.now) }
 {
     let picks = picks(site.alloc, site.state)?;
@@ -119,7 +114,6 @@ fn split(nodes: &mut Nodes, site: &Site<'_>, jump: u16) -> Result<(), NodeFault>
 
 // The successors of the node; if it splits, those with each possible byte of r30.
 pub(crate) fn splitting(nodes: &mut Nodes, site: &Site<'_>) -> Result<Outgoing, NodeFault>
-    requires word { site.now.key.now.pc < WORDS }
     ensures { LeadsOn (plain nodes.old) (plain nodes.new) result (rows.splitting (rows.split_site site.now.flash.now site.now.assumptions.now site.now.key.now.pc site.now.key.now.pick) (rows.row_in site.now.device site.now.flash.now site.now.assumptions.now) site.now.key.now site.now.state.now) }
 {
     match split_site(site) {

@@ -126,6 +126,26 @@ fn add_masks(
     Ok(())
 }
 
+// A write of an address where vectors may be enabled: one successor for each value that the enable bits may have afterwards.
+fn masks_written(
+    nodes: &mut Moves<'_>,
+    alloc: Global,
+    write: &ByteWrite<'_>,
+    address: u16,
+) -> Result<(), NodeFault>
+    ensures { Adds nodes.old nodes.new result (writes.masks_written write.now.device write.now.key write.now.state.now address write.now.value) }
+{
+    let (key, bits) = (&write.key, &write.value.bits);
+    match split(alloc, write.device, key.masks, address, bits) {
+        Ok(all) => {
+            let added = add_masks(nodes, alloc, write, &all);
+            drop(all);
+            added
+        }
+        Err(_) => Err(NodeFault::Memory),
+    }
+}
+
 // The carry tag ends if it names the written register.
 fn forgotten(carry: CarryTag, d: Register) -> CarryTag
     ensures { result ≡ forgotten (d ∷ []) carry }
@@ -214,9 +234,6 @@ pub fn written_at(
         }
         SPH => opening(nodes, alloc, high_part(inst.kind, write.value), write),
         SREG => flags_set(nodes, alloc, write, is_out),
-        _ => {
-            let splits = split(write.key.masks, address, &write.value.bits);
-            add_masks(nodes, alloc, write, splits.as_slice())
-        }
+        _ => masks_written(nodes, alloc, write, address),
     }
 }

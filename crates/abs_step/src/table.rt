@@ -2,13 +2,12 @@
 
 ghost use Rattle.std.specs.Prelude.{◌<◌};
 ghost use Rattle.avr_model.specs.Assumptions.{is_frame};
-ghost use Rattle.avr_model.specs.Image.{WORDS};
 ghost use Rattle.local_rules.specs.Local as rows;
 ghost use Rattle.abs_step.specs.Adding.{Adds};
 ghost use Rattle.abs_step.specs.Leading.{LeadsOn};
 
 use crate::bits::{bit_row, flag_row};
-use crate::data_transfer::{known_write, load_row, lpm_row, read_row, store_row};
+use crate::data_transfer::{known_write, load_row, lpm_row, read_row, set_row, store_row};
 use crate::flow::{
     Outgoing, calling, flag_branch, indirect_call, jumping, port_skip, relative_call, returning,
     skipping, staying,
@@ -18,6 +17,7 @@ use crate::pointer_stores::{Indirect, pointer_write};
 use crate::site::Site;
 use crate::stack::{pop_row, push_row};
 use crate::successors::{going_to, setting};
+use abs_state::AbsByte;
 use avr_decode::{far, near};
 use avr_model::instruction::{BinaryOp, Instr, Pointer, Register};
 use local_reads::flow::{further, port, register_bit};
@@ -34,7 +34,6 @@ fn flow_row(
     scratch: bool,
     instr: &Instr,
 ) -> Result<Outgoing, NodeFault>
-    requires word { site.now.key.now.pc < WORDS }
     ensures { LeadsOn nodes.old nodes.new result (rows.flow_row site.now.device site.now.flash.now site.now.assumptions.now scratch site.now.key.now site.now.state.now instr.now) }
 {
     let (a, device) = (site.alloc, site.device);
@@ -50,22 +49,28 @@ fn flow_row(
             let (masks, i, delay) = (key.masks, true, true);
             return returning(site, Exit { masks, i, delay });
         }
-        Instr::Jmp(t) => going_to(nodes, site, device.wrap(t.get())),
+        Instr::Jmp(t) => going_to(nodes, site, device.wrap(u32::from(t.get()))),
         Instr::Call(t) => {
-            let targets = [device.wrap(t.get())];
+            let targets = [device.wrap(u32::from(t.get()))];
             return calling(a, key, further(device, key, 2), &targets);
         }
-        Instr::Rjmp(t) => going_to(nodes, site, device.wrap(far(key.pc, t.get()))),
+        Instr::Rjmp(t) => going_to(nodes, site, device.wrap(u32::from(far(key.pc, t.get())))),
         Instr::Rcall(t) => {
-            let target = device.wrap(far(key.pc, t.get()));
+            let target = device.wrap(u32::from(far(key.pc, t.get())));
             return relative_call(nodes, site, scratch, target);
         }
         Instr::Brbs(n, t) => {
-            let words = (device.wrap(near(key.pc, t.get())), further(device, key, 1));
+            let words = (
+                device.wrap(u32::from(near(key.pc, t.get()))),
+                further(device, key, 1),
+            );
             flag_branch(nodes, site, *n, true, words)
         }
         Instr::Brbc(n, t) => {
-            let words = (device.wrap(near(key.pc, t.get())), further(device, key, 1));
+            let words = (
+                device.wrap(u32::from(near(key.pc, t.get()))),
+                further(device, key, 1),
+            );
             flag_branch(nodes, site, *n, false, words)
         }
         Instr::Sbic(port, bit) => port_skip(nodes, site, *port, *bit, false),
@@ -87,7 +92,6 @@ fn memory_row(
     scratch: bool,
     instr: &Instr,
 ) -> Result<Outgoing, NodeFault>
-    requires word { site.now.key.now.pc < WORDS }
     ensures { LeadsOn nodes.old nodes.new result (rows.memory_row site.now.device site.now.flash.now site.now.assumptions.now scratch site.now.key.now site.now.state.now instr.now) }
 {
     let state = site.state;
@@ -123,6 +127,18 @@ fn memory_row(
             lpm_row(nodes, site, &moved, *d)
         }
         Instr::Lpm => lpm_row(nodes, site, &state.registers, Register::new(0)),
+        Instr::ElpmZ(d) => set_row(nodes, site, &state.registers, *d, AbsByte::unknown()),
+        Instr::ElpmZPlus(d) => {
+            let moved = pointer_moved(Pointer::ZPlus, state);
+            set_row(nodes, site, &moved, *d, AbsByte::unknown())
+        }
+        Instr::Elpm => set_row(
+            nodes,
+            site,
+            &state.registers,
+            Register::new(0),
+            AbsByte::unknown(),
+        ),
         Instr::Pop(d) => pop_row(nodes, site, *d),
         Instr::Push(r) => push_row(nodes, site, scratch, *r),
         Instr::In(d, i) => read_row(nodes, site, 1, *d, port(*i)),
@@ -142,7 +158,6 @@ fn binary_row(
     d: Register,
     r: Register,
 ) -> Result<(), NodeFault>
-    requires word { site.now.key.now.pc < WORDS }
     ensures { Adds nodes.old nodes.new result (rows.binary_row site.now.device site.now.flash.now (is_frame site.now.assumptions.now site.now.key.now.pc) site.now.key.now site.now.state.now op d r) }
 {
     let line = site.assumptions.frame(site.key.pc);
@@ -162,7 +177,6 @@ pub(crate) fn row(
     scratch: bool,
     instr: &Instr,
 ) -> Result<Outgoing, NodeFault>
-    requires word { site.now.key.now.pc < WORDS }
     ensures { LeadsOn nodes.old nodes.new result (rows.row_of site.now.device site.now.flash.now site.now.assumptions.now scratch site.now.key.now site.now.state.now instr.now) }
 {
     let line = site.assumptions.frame(site.key.pc);

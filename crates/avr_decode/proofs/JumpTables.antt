@@ -1,6 +1,5 @@
 -- Paths to the `ijmp` of a table site, one instruction at a time.
-use Rattle.std.proofs.Common.{◌≡◌, ◌∙◌, refl, sym, ap, ℕ, zero, suc, ◌+◌, ◌-◌, ◌%◌, ◌<◌, Bool, true, false, List, Option, Some, None, if◌then◌else◌, arith}
-use Rattle.avr_model.proofs.AllLaws.{devices_are_alike}
+use Rattle.std.proofs.Common.{◌≡◌, ◌∙◌, refl, ap, ℕ, zero, suc, ◌-◌, ◌<◌, Bool, true, false, Option, Some, None, if◌then◌else◌, arith}
 use Rattle.avr_model.specs.declared.instruction.Instr.{Instr}
 use Rattle.avr_model.specs.Devices.{Program, device_of, wrapped}
 use Rattle.avr_model.specs.Image.{word_at}
@@ -46,10 +45,3 @@ left words n a x lt e isnt on = behind words n a x None lt e isnt on
 pub went_on : (words : Program) (n a : ℕ) (x : Instr) (to : ℕ) → 0 < n → instruction_at words a ≡ Some x → is_ijmp x ≡ false
     → onward a (length_of (word_at words a)) x ≡ Some to → ijmp_from words n a ≡ ijmp_from words (n - 1) (wrapped (device_of words) to)
 went_on words n a x to lt e isnt on = behind words n a x (Some to) lt e isnt on
-
--- the word two further on, for a word address of any number of bits
-pub two_behind : (words : Program) (a : ℕ) → wrapped (device_of words) (a % 16384 + 2) ≡ wrapped (device_of words) (a + 2)
-two_behind words a =
-    let d = device_of words in
-    let same : (a % 16384 + 2) % 16384 ≡ (a + 2) % 16384 = omega arith in
-    sym (devices_are_alike.of_14 d (a % 16384 + 2)) ∙ ap (wrapped d) same ∙ devices_are_alike.of_14 d (a + 2)

@@ -1,5 +1,5 @@
 -- The word at a word address, by its place in the list.
-use Rattle.std.proofs.Common.{◌≡◌, ◌∙◌, sym, ap, subst, ℕ, ◌%◌, ◌<◌, List, length, arith}
+use Rattle.std.proofs.Common.{◌≡◌, ◌∙◌, sym, ap, ℕ, ◌%◌, ◌<◌, List, length, arith}
 use Rattle.std.specs.Prelude.{slice_index}
 use Rattle.avr_model.specs.declared.device.Device.{Device}
 use Rattle.avr_model.specs.Devices.{image, wrapped, IsFlash}
@@ -12,5 +12,5 @@ word_inside d words a flash lt = ap (slice_index words) (sym (devices_are_alike.
 pub place_inside : (d : Device) (words : List ℕ) (a i : ℕ) → IsFlash (image d words) → i ≡ wrapped d a → i < length words
 place_inside d words a i flash is = let lt = devices_are_alike.inside d a in omega (arith, flash, is, lt)
 
-pub word_wrapped : (d : Device) (words : List ℕ) (a i : ℕ) → i ≡ wrapped d (a % 16384) → slice_index words i ≡ word_at (image d words) a
-word_wrapped d words a i is = ap (slice_index words) (is ∙ devices_are_alike.of_14 d a)
+pub word_wrapped : (d : Device) (words : List ℕ) (a i : ℕ) → i ≡ wrapped d (a % 65536) → slice_index words i ≡ word_at (image d words) a
+word_wrapped d words a i is = ap (slice_index words) (is ∙ devices_are_alike.of_16 d a)

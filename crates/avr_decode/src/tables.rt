@@ -2,14 +2,13 @@
 
 ghost use Rattle.std.specs.Prelude.{◌≡◌, ◌<◌, ◌≤◌, ◌+◌, ◌&&◌};
 ghost use Rattle.avr_model.specs.Devices.{IsFlash, image};
-ghost use Rattle.avr_model.specs.Image.{WORDS};
 ghost use Rattle.avr_model.specs.Sites.{adds_low, adds_high, is_some_that, is_ijmp, instruction_at, onward, ijmp_from, table_site};
 
 use crate::decoding::length;
 use crate::fixed::leaves;
 use crate::program::{instruction, word};
 use crate::targets::far;
-use avr_model::device::{Device, WORDS};
+use avr_model::device::Device;
 use avr_model::instruction::{ImmediateOp, Instr};
 
 // The greatest number of instructions from the sum to the `ijmp`, itself counted.
@@ -41,15 +40,20 @@ fn adds(device: Device, words: &[u16], at: usize) -> bool
 }
 
 // The word after the instruction of this size at word `at`; `None` if the path branches off.
-fn onward(at: u16, size: u16, instr: &Instr) -> Option<u16>
-    requires inside { at < WORDS }
+fn onward(at: u16, size: u16, instr: &Instr) -> Option<u32>
     requires size { size ≤ 2 }
     ensures { result ≡ onward at size instr.now }
 {
     match instr {
-        Instr::Jmp(target) => Some(target.get()),
-        Instr::Rjmp(distance) => Some(far(at, distance.get())),
-        other => { if leaves(other) { None } else { Some(at + size) } }
+        Instr::Jmp(target) => Some(u32::from(target.get())),
+        Instr::Rjmp(distance) => Some(u32::from(far(at, distance.get()))),
+        other => {
+            if leaves(other) {
+                None
+            } else {
+                Some(u32::from(at) + u32::from(size))
+            }
+        }
     }
 }
 
@@ -62,8 +66,7 @@ fn is_ijmp(instr: &Instr) -> bool
 // The word of the `ijmp` that at most `most` instructions from word `at` reach, itself counted.
 #[tactic(auto, using(crate::proofs::JumpTables::none_left, crate::proofs::JumpTables::undefined, crate::proofs::JumpTables::ended, crate::proofs::JumpTables::left, crate::proofs::JumpTables::went_on))]
 fn ijmp_from(device: Device, words: &[u16], most: u8, at: u16) -> Option<u16>
-    requires flash { IsFlash (image device words.now) }
-    requires inside { at < WORDS }
+    requires { IsFlash (image device words.now) }
     ensures { result ≡ ijmp_from (image device words.now) most at }
 {
     if most == 0 {
@@ -84,14 +87,14 @@ fn ijmp_from(device: Device, words: &[u16], most: u8, at: u16) -> Option<u16>
 /// The word of the `ijmp` of a table site, if one begins at `a`. Word `a` is a `subi` of r30 and the next one an `sbci` of r31. At most 16
 /// instructions lead from there to the `ijmp`, itself counted, along `jmp` and `rjmp` and without a branch, skip, call, return or undefined
 /// word. `words` are those of the device's flash, modulo whose number addresses count. Source: own.
-#[tactic(auto, using(crate::proofs::JumpTables::two_behind), unfolding(avr_model::specs::Sites::table_site))]
+#[tactic(auto, unfolding(avr_model::specs::Sites::table_site))]
 pub fn table_site(device: Device, words: &[u16], a: u16) -> Option<u16>
     requires { IsFlash (image device words.now) }
     ensures { result ≡ table_site (image device words.now) a }
 {
     let at = usize::from(a);
     if adds(device, words, at) {
-        let from = device.wrap(a % WORDS + 2);
+        let from = device.wrap(u32::from(a) + 2);
         ijmp_from(device, words, MOST, from)
     } else {
         None

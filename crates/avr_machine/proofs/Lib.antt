@@ -1,5 +1,4 @@
 pub mod ByteBits
-pub mod HeldBits
 pub mod Writing
 pub mod Living
 pub mod Remembering
@@ -8,6 +7,7 @@ pub mod Moving
 pub mod Resetting
 pub mod Choosing
 pub mod Unheld
+pub mod Marking
 pub mod Unpushed
 pub mod Quieting
 pub mod Loud

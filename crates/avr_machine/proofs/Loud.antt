@@ -1,5 +1,5 @@
 -- Answers of instructions that store, push or go to a computed word, by rows.
-use Rattle.std.proofs.Common.{◌≡◌, ◌∙◌, sym, ap, ap₂, refl, subst, ℕ, ◌+◌, ◌%◌, true, false, not, List, Option, None}
+use Rattle.std.proofs.Common.{◌≡◌, ◌∙◌, sym, ap, ap₂, refl, subst, ℕ, ◌+◌, true, false, not, List, Option, None}
 use Rattle.avr_model.specs.declared.instruction.Instr.{Instr}
 use Rattle.avr_model.specs.declared.instruction.Instr.TheVariants as i
 use Rattle.avr_model.specs.declared.instruction.Base.{Base}
@@ -7,7 +7,6 @@ use Rattle.avr_model.specs.declared.instruction.Pointer.{Pointer}
 use Rattle.avr_model.specs.declared.assumption.Entry.{Entry}
 use Rattle.avr_model.specs.Assumptions.{jump_line}
 use Rattle.avr_model.specs.Devices.{Program, wrapped}
-use Rattle.avr_model.specs.Image.{WORDS}
 use Rattle.avr_model.specs.Sites.{base_register, is_scratch, pointer_register}
 use Rattle.avr_model.specs.State.{State, register, pair, plus16, minus16}
 use Rattle.avr_model.specs.Text.{far}
@@ -72,16 +71,16 @@ rcall_row words entries m instr b1 b2 k is =
     (pushed_answer words entries m (i.Rcall k) (way_back m.sp (further m 1)) (minus16 m.sp 2) (far m.pc k) None refl (none_unlisted entries m.pc (i.Rcall k) (push_effect_to m (way_back m.sp (further m 1)) (minus16 m.sp 2) (far m.pc k)) refl))
 
 pub icall_row : (words : Program) (entries : List Entry) (m : State) (instr : Instr) (b1 b2 : ℕ) → instr ≡ i.Icall
-    → push_answer (not (is_scratch words m.pc)) m (unless_listed (jump_line entries m.pc) (wrapped m.device (pair m 30 % WORDS))) (way_back m.sp (further m 1)) (minus16 m.sp 2) (pair m 30 % WORDS) ≡ answer_to words entries m instr (effect_of words m instr b1 b2)
+    → push_answer (not (is_scratch words m.pc)) m (unless_listed (jump_line entries m.pc) (wrapped m.device (pair m 30))) (way_back m.sp (further m 1)) (minus16 m.sp 2) (pair m 30) ≡ answer_to words entries m instr (effect_of words m instr b1 b2)
 icall_row words entries m instr b1 b2 is =
-    subst (λ x. push_answer (not (is_scratch words m.pc)) m (unless_listed (jump_line entries m.pc) (wrapped m.device (pair m 30 % WORDS))) (way_back m.sp (further m 1)) (minus16 m.sp 2) (pair m 30 % WORDS) ≡ answer_to words entries m x (effect_of words m x b1 b2)) (sym is)
-    (pushed_answer words entries m i.Icall (way_back m.sp (further m 1)) (minus16 m.sp 2) (pair m 30 % WORDS) (unless_listed (jump_line entries m.pc) (wrapped m.device (pair m 30 % WORDS))) refl (indirect_unlisted entries m.pc i.Icall (push_effect_to m (way_back m.sp (further m 1)) (minus16 m.sp 2) (pair m 30 % WORDS)) refl))
+    subst (λ x. push_answer (not (is_scratch words m.pc)) m (unless_listed (jump_line entries m.pc) (wrapped m.device (pair m 30))) (way_back m.sp (further m 1)) (minus16 m.sp 2) (pair m 30) ≡ answer_to words entries m x (effect_of words m x b1 b2)) (sym is)
+    (pushed_answer words entries m i.Icall (way_back m.sp (further m 1)) (minus16 m.sp 2) (pair m 30) (unless_listed (jump_line entries m.pc) (wrapped m.device (pair m 30))) refl (indirect_unlisted entries m.pc i.Icall (push_effect_to m (way_back m.sp (further m 1)) (minus16 m.sp 2) (pair m 30)) refl))
 
 pub ijmp_row : (words : Program) (entries : List Entry) (m : State) (instr : Instr) (b1 b2 : ℕ) → instr ≡ i.Ijmp
-    → jump_answer m (unless_listed (jump_line entries m.pc) (wrapped m.device (pair m 30 % WORDS))) (pair m 30 % WORDS) ≡ answer_to words entries m instr (effect_of words m instr b1 b2)
+    → jump_answer m (unless_listed (jump_line entries m.pc) (wrapped m.device (pair m 30))) (pair m 30) ≡ answer_to words entries m instr (effect_of words m instr b1 b2)
 ijmp_row words entries m instr b1 b2 is =
-    subst (λ x. jump_answer m (unless_listed (jump_line entries m.pc) (wrapped m.device (pair m 30 % WORDS))) (pair m 30 % WORDS) ≡ answer_to words entries m x (effect_of words m x b1 b2)) (sym is)
-    (jumped_answer words entries m i.Ijmp (pair m 30 % WORDS) (unless_listed (jump_line entries m.pc) (wrapped m.device (pair m 30 % WORDS))) refl (indirect_unlisted entries m.pc i.Ijmp (going_to m (pair m 30 % WORDS)) refl))
+    subst (λ x. jump_answer m (unless_listed (jump_line entries m.pc) (wrapped m.device (pair m 30))) (pair m 30) ≡ answer_to words entries m x (effect_of words m x b1 b2)) (sym is)
+    (jumped_answer words entries m i.Ijmp (pair m 30) (unless_listed (jump_line entries m.pc) (wrapped m.device (pair m 30))) refl (indirect_unlisted entries m.pc i.Ijmp (going_to m (pair m 30)) refl))
 
 -- stores, with given parts
 pub std_row : (words : Program) (entries : List Entry) (m : State) (instr : Instr) (b1 b2 : ℕ) (b : Base) (n r address byte next : ℕ) (protected : Option ℕ) → instr ≡ i.Std b n r → address ≡ plus16 (pair m (base_register b)) n → byte ≡ register m r → next ≡ further m 1 → protected ≡ protected_at words entries m.pc (record { address = address; byte = byte })
@@ -107,11 +106,11 @@ pub rcall_answer : (words : Program) (entries : List Entry) (m : State) (instr :
 rcall_answer words entries m instr b1 b2 k back target is there to =
     ap₂ (λ (back target : ℕ). push_answer (not (is_scratch words m.pc)) m None (way_back m.sp back) (minus16 m.sp 2) target) there to ∙ rcall_row words entries m instr b1 b2 k is
 
-pub icall_answer : (words : Program) (entries : List Entry) (m : State) (instr : Instr) (b1 b2 : ℕ) (unlisted : Option ℕ) (back target : ℕ) → instr ≡ i.Icall → unlisted ≡ unless_listed (jump_line entries m.pc) (wrapped m.device (pair m 30 % WORDS)) → back ≡ further m 1 → target ≡ pair m 30 % WORDS
+pub icall_answer : (words : Program) (entries : List Entry) (m : State) (instr : Instr) (b1 b2 : ℕ) (unlisted : Option ℕ) (back target : ℕ) → instr ≡ i.Icall → unlisted ≡ unless_listed (jump_line entries m.pc) (wrapped m.device (pair m 30)) → back ≡ further m 1 → target ≡ pair m 30
     → push_answer (not (is_scratch words m.pc)) m unlisted (way_back m.sp back) (minus16 m.sp 2) target ≡ answer_to words entries m instr (effect_of words m instr b1 b2)
 icall_answer words entries m instr b1 b2 unlisted back target is other there to =
     ap (λ (o : Option ℕ). push_answer (not (is_scratch words m.pc)) m o (way_back m.sp back) (minus16 m.sp 2) target) other
-    ∙ ap₂ (λ (back target : ℕ). push_answer (not (is_scratch words m.pc)) m (unless_listed (jump_line entries m.pc) (wrapped m.device (pair m 30 % WORDS))) (way_back m.sp back) (minus16 m.sp 2) target) there to
+    ∙ ap₂ (λ (back target : ℕ). push_answer (not (is_scratch words m.pc)) m (unless_listed (jump_line entries m.pc) (wrapped m.device (pair m 30))) (way_back m.sp back) (minus16 m.sp 2) target) there to
     ∙ icall_row words entries m instr b1 b2 is
 
 -- there is no further instruction
@@ -146,8 +145,11 @@ none_left (i.Ldd d b n) loud no_std no_sts no_st no_out no_cbi no_sbi no_push no
 none_left (i.Lds d k) loud no_std no_sts no_st no_out no_cbi no_sbi no_push no_call no_rcall no_icall no_ijmp = absurd (cc)
 none_left (i.Ld d p) loud no_std no_sts no_st no_out no_cbi no_sbi no_push no_call no_rcall no_icall no_ijmp = absurd (cc)
 none_left (i.LpmZ d) loud no_std no_sts no_st no_out no_cbi no_sbi no_push no_call no_rcall no_icall no_ijmp = absurd (cc)
+none_left (i.ElpmZ d) loud no_std no_sts no_st no_out no_cbi no_sbi no_push no_call no_rcall no_icall no_ijmp = absurd (cc)
 none_left (i.LpmZPlus d) loud no_std no_sts no_st no_out no_cbi no_sbi no_push no_call no_rcall no_icall no_ijmp = absurd (cc)
+none_left (i.ElpmZPlus d) loud no_std no_sts no_st no_out no_cbi no_sbi no_push no_call no_rcall no_icall no_ijmp = absurd (cc)
 none_left i.Lpm loud no_std no_sts no_st no_out no_cbi no_sbi no_push no_call no_rcall no_icall no_ijmp = absurd (cc)
+none_left i.Elpm loud no_std no_sts no_st no_out no_cbi no_sbi no_push no_call no_rcall no_icall no_ijmp = absurd (cc)
 none_left (i.Pop d) loud no_std no_sts no_st no_out no_cbi no_sbi no_push no_call no_rcall no_icall no_ijmp = absurd (cc)
 none_left (i.In d a) loud no_std no_sts no_st no_out no_cbi no_sbi no_push no_call no_rcall no_icall no_ijmp = absurd (cc)
 none_left i.Ret loud no_std no_sts no_st no_out no_cbi no_sbi no_push no_call no_rcall no_icall no_ijmp = absurd (cc)

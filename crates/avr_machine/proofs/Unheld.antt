@@ -1,43 +1,62 @@
--- Addresses without enable bits.
-use Rattle.std.proofs.Common.{◌≡◌, ◌∙◌, sym, ap, subst, refl, ℕ, ◌+◌, ◌<◌, ◌^◌, ◌==◌, not, Bool, true, false, if◌then◌else◌, List, [], ◌∷◌, Option, Some}
-use Rattle.std.proofs.lemmas.Nat.Bits.{bit_at-lt, same_from_bits_below}
+-- Addresses at which no vector is enabled.
+use Rattle.std.proofs.Common.{◌≡◌, ◌∙◌, sym, ap, subst, refl, ℕ, ◌+◌, ◌<◌, ◌≤◌, ◌^◌, ◌==◌, ◌||◌, Bool, true, false, List, [], ◌∷◌, Option, arith}
+use Rattle.std.proofs.lemmas.Bool.{ne_eqb}
+use Rattle.std.proofs.lemmas.List.Elements.{All-head, All-tail}
+use Rattle.std.proofs.lemmas.Bool.Decides.{nat_tests}
 use Rattle.std.specs.Int.{bit_at}
-use Rattle.std.specs.List.{find, list_any}
-use Rattle.std.proofs.lemmas.Bool.{or_parts}
-use Rattle.vector_table.specs.Laws.{AreBits}
-use Rattle.vector_table.proofs.AllLaws.{none_enabled}
-use Rattle.avr_model.specs.Vectors.{Vector, vectors, row_of, has_enables, written_enable, written_enables}
-use Rattle.avr_model.specs.State.{io_bit, io_byte}
-use Rattle.avr_machine.proofs.ByteBits.{number_below, bit_of_number}
-use Rattle.avr_machine.proofs.HeldBits.{io_byte_by_bits}
+use Rattle.std.specs.List.{All, list_any}
+use Rattle.vector_table.proofs.AllLaws.{numbers_are_their_bits, enables_are_vectors}
+use Rattle.avr_model.specs.declared.device.Device.{Device}
+use Rattle.avr_model.specs.declared.rows.Place.{Place}
+use Rattle.avr_model.specs.Bits.{number_of}
+use Rattle.avr_model.specs.Devices.{io_end}
+use Rattle.avr_model.specs.Vectors.{places, enable_count, has_enables, place_at, written_enable, written_enables, with_enable, held_of, io_bit, io_byte, kept_byte, is_vector, is_core, is_protected}
+use Rattle.avr_model.proofs.AllLaws.{devices_are_alike, places_are_apart}
 
--- a test of enable bits by a mask
-pub by_mask : (zero has : Bool) → zero ≡ not has → not zero ≡ has
-by_mask true true e = cc
-by_mask true false e = refl
-by_mask false true e = refl
-by_mask false false e = cc
+-- places are in I/O
+none_above : (io : ℕ) (P : Place → Type 0) → ((p : Place) → P p → p.address ≤ io) → (ps : List Place) (a : ℕ) → io < a → All P ps → list_any (λ (p : Place). p.address == a) ps ≡ false
+none_above io P in_io [] a above all = refl
+none_above io P in_io (p ∷ ps) a above all =
+    rw (ne_eqb p.address a (λ same. let le = in_io p (All-head P p ps all) in absurd (omega arith))) (none_above io P in_io ps a above (All-tail P p ps all))
 
--- all bits of the byte there are free
-pub free_byte : (enables address input : ℕ) → input < 256 → has_enables address ≡ false → input ≡ io_byte enables address input
-free_byte enables address input small none =
-    io_byte_by_bits input address enables input small (λ k lt. ap (λ (o : Option ℕ). io_bit o enables (bit_at input k)) (sym (none_enabled address k none)))
+abbrev pub IsSound : Device → Place → Type 0
+IsSound device p = (is_vector device p.vector ≡ true) × ((is_core p.address ≡ false) × ((p.address ≤ io_end device) × (p.mask < 256)))
 
-kept_or : (b : Bool) (r : Vector) (rest : Option Vector) (address byte old : ℕ) → (r.address == address) ≡ false → written_enable rest address byte old ≡ old → written_enable (if b then Some r else rest) address byte old ≡ old
-kept_or true r rest address byte old other e = ap (λ (t : Bool). if t then bit_at byte r.bit else old) other
-kept_or false r rest address byte old other e = e
+pub none_in_sram : (device : Device) (a : ℕ) → io_end device < a → has_enables device a ≡ false
+unfolding has_enables
+none_in_sram device a above = none_above (io_end device) (IsSound device) (λ p h. h.1.1.0) (places device) a above (places_are_apart.each device)
 
-kept : (p : Vector → Bool) (rs : List Vector) (address byte old : ℕ) → list_any (λ r. r.address == address) rs ≡ false → written_enable (find p rs) address byte old ≡ old
-kept p [] address byte old e = refl
-kept p (r ∷ rs) address byte old e =
-    let both = or_parts (r.address == address) (list_any (λ x. x.address == address) rs) e in
-    kept_or (p r) r (find p rs) address byte old both.0 (kept p rs address byte old both.1)
+-- every bit of the byte there is the input's
+pub free_byte : (device : Device) (enables address input : ℕ) → input < 256 → has_enables device address ≡ false → input ≡ io_byte device enables address input
+unfolding io_byte
+free_byte device enables address input small none =
+    numbers_are_their_bits.same 8 input (λ b. io_bit (held_of device address b) enables (bit_at input b)) small
+    (λ b lt. ap (λ (o : Option ℕ). io_bit o enables (bit_at input b)) (sym (enables_are_vectors.no_held device address b none)))
+
+-- all bits of the byte there are 0
+pub no_byte : (device : Device) (enables address : ℕ) → has_enables device address ≡ false → 0 ≡ kept_byte device enables address
+unfolding kept_byte number_of
+no_byte device enables address none = λ i. number_of 8 (λ b. io_bit (sym (enables_are_vectors.no_enable device address b none) i) enables 0)
 
 -- a byte stored there keeps the enable bits
-pub enables_stay : (enables address byte : ℕ) → enables < 2 ^ 25 → has_enables address ≡ false → enables ≡ written_enables enables address byte
-unfolding has_enables row_of written_enables
-enables_stay enables address byte small none =
-    let f : ℕ → ℕ = λ k. written_enable (row_of (k + 2)) address byte (bit_at enables k) in
-    let same : (k : ℕ) → f k ≡ bit_at enables k = λ k. kept (λ r. r.number == (k + 2)) vectors address byte (bit_at enables k) none in
-    let are : AreBits 25 f = λ k lt. subst (λ (x : ℕ). x < 2) (sym (same k)) (bit_at-lt enables k) in
-    same_from_bits_below 25 _ _ small (number_below 25 f are) (λ k lt. sym (same k) ∙ sym (bit_of_number 25 f are k lt))
+pub enables_stay : (device : Device) (enables address byte : ℕ) → enables < 2 ^ enable_count device → has_enables device address ≡ false → enables ≡ written_enables device enables address byte
+unfolding written_enables
+enables_stay device enables address byte small none =
+    let f : ℕ → ℕ = λ k. written_enable (place_at device (k + 2) address) byte (bit_at enables k) in
+    let same : (k : ℕ) → bit_at enables k ≡ f k = λ k i. written_enable (sym (enables_are_vectors.none device (k + 2) address none) i) byte (bit_at enables k) in
+    numbers_are_their_bits.same (enable_count device) enables f small (λ k lt. same k)
+
+core_below : (a : ℕ) → 0x5F < a → is_core a ≡ false
+core_below a above = grind (arith, nat_tests)
+
+pub none_protected : (device : Device) (a : ℕ) → io_end device < a → is_protected device a ≡ false
+none_protected device a above =
+    let least = devices_are_alike.least_io device in
+    ap (λ (b : Bool). b || has_enables device a) (core_below a (omega arith)) ∙ none_in_sram device a above
+
+-- enable bits stay few
+pub written_small : (device : Device) (x enables address byte : ℕ) → x ≡ written_enables device enables address byte → x < 2 ^ enable_count device
+written_small device x enables address byte is = subst (λ (n : ℕ). n < 2 ^ enable_count device) (sym is) (enables_are_vectors.written device enables address byte)
+
+pub turned_small : (device : Device) (x enables v : ℕ) (on : Bool) → x ≡ with_enable device enables v on → x < 2 ^ enable_count device
+turned_small device x enables v on is = subst (λ (n : ℕ). n < 2 ^ enable_count device) (sym is) (enables_are_vectors.turned device enables v on)

@@ -6,6 +6,7 @@ mod bits;
 mod effects;
 mod flags;
 mod machine;
+mod marked_device;
 mod memory;
 mod menu;
 mod pieces;

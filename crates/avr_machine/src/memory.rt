@@ -1,23 +1,16 @@
 //! SRAM: its bytes and live marks.
 
-ghost use Rattle.std.specs.Prelude.{◌≡◌, ◌↔◌, ◌<◌, ◌≤◌, ◌+◌, ◌-◌, false, true, length, take, replicate, IsTrue, if◌then◌else◌};
-ghost use Rattle.avr_model.specs.Devices.{size_of};
-ghost use Rattle.avr_model.specs.State.{BELOW, is_sram, set_at, byte_in, is_live};
+ghost use Rattle.std.specs.Prelude.{◌≡◌, ◌↔◌, ◌<◌, ◌≤◌, ◌+◌, ◌-◌, ◌&&◌, nat_lt, nat_le, false, true, length, take, replicate, IsTrue, if◌then◌else◌};
+ghost use Rattle.avr_model.specs.Devices.{io_end, size_of};
+ghost use Rattle.avr_model.specs.State.{set_at, byte_in, is_live};
 ghost use Rattle.avr_model.specs.Step.{with_live, written, pruned, live_write};
 
-use avr_model::device::{self, BELOW, Device};
+use avr_model::device::{self, Device};
 use avr_model::effect::Write;
 use std::marker::Model;
 
 /// The number of bytes of the greatest SRAM.
 pub const SIZE: usize = device::SIZE as usize;
-
-/// Whether a data address is in the device's SRAM.
-pub fn is_sram(device: Device, address: u16) -> bool
-    ensures { result ≡ is_sram device address }
-{
-    BELOW < address && address <= device.ramend()
-}
 
 // Clears all live marks.
 fn clear_all(live: &mut [bool])
@@ -30,6 +23,8 @@ fn clear_all(live: &mut [bool])
 /// are used.
 #[derive(Drop)]
 pub struct Memory {
+    // The address before the first.
+    below: u16,
     size: usize,
     bytes: [u8; SIZE],
     live: [bool; SIZE],
@@ -43,17 +38,18 @@ impl Model for Memory {
 
     ghost Value = { Memory };
 
-    ghost view = { λ m. record { bytes = take m.size m.bytes; live = take m.size m.live } };
+    ghost view = { λ m. record { below = m.below; bytes = take m.size m.bytes; live = take m.size m.live } };
 
-    ghost invariant = { λ m. (m.size ≤ 2048) × (take m.floor m.live ≡ replicate m.floor false) };
+    ghost invariant = { λ m. (m.below ≤ 0x1FF) × (m.size ≤ 16384) × (take m.floor m.live ≡ replicate m.floor false) };
 }
 
 impl Memory {
     /// The memory of a device with the first of these bytes, none of them live.
     pub fn new(device: Device, bytes: &[u8; SIZE]) -> Memory
-        ensures { result ≡ record { bytes = take (size_of device) bytes.now; live = replicate (size_of device) false } }
+        ensures { result ≡ record { below = io_end device; bytes = take (size_of device) bytes.now; live = replicate (size_of device) false } }
     {
         Memory {
+            below: device.io_end(),
             size: usize::from(device.size()),
             bytes: *bytes,
             live: [false; SIZE],
@@ -66,6 +62,7 @@ impl Memory {
         ensures { result ≡ self.now }
     {
         Memory {
+            below: self.below,
             size: self.size,
             bytes: self.bytes,
             live: self.live,
@@ -73,23 +70,48 @@ impl Memory {
         }
     }
 
-    /// Whether another memory has the same bytes and live marks.
+    /// The address before the first.
+    #[inline(always)]
+    pub fn below(&self) -> u16
+        ensures { result ≡ self.now.below }
+    {
+        self.below
+    }
+
+    /// The last address.
+    #[inline(always)]
+    pub fn last(&self) -> u16
+        ensures { result ≡ self.now.below + length self.now.bytes }
+    {
+        self.below + self.size as u16
+    }
+
+    /// Whether a data address is in SRAM.
+    #[inline(always)]
+    pub fn has(&self, address: u16) -> bool
+        ensures { result ≡ (nat_lt self.now.below address && nat_le address (self.now.below + length self.now.bytes)) }
+    {
+        self.below < address && address <= self.last()
+    }
+
+    /// Whether another memory has the same place, bytes and live marks.
     #[tactic(auto, using(crate::proofs::Alike::memory_is))]
     pub fn is_same(&self, other: &Memory) -> bool
         ensures { IsTrue result ↔ (self.now ≡ other.now) }
     {
-        &self.bytes[..self.size] == &other.bytes[..other.size]
+        self.below == other.below
+            && &self.bytes[..self.size] == &other.bytes[..other.size]
             && &self.live[..self.size] == &other.live[..other.size]
     }
 
     /// The byte at an address of SRAM.
     #[tactic(auto, using(crate::proofs::Remembering::taken), unfolding(avr_model::specs::State::byte_in))]
     pub fn byte(&self, address: u16) -> u8
-        requires above { BELOW < address }
-        requires inside { address - (BELOW + 1) < length self.now.bytes }
-        ensures { result ≡ byte_in self.now.bytes address }
+        requires above { self.now.below < address }
+        requires inside { address - (self.now.below + 1) < length self.now.bytes }
+        ensures { result ≡ byte_in self.now.below self.now.bytes address }
     {
-        self.bytes[(address - 1 - BELOW) as usize]
+        self.bytes[(address - 1 - self.below) as usize]
     }
 
     /// Whether the byte at an address is live; false outside SRAM.
@@ -98,29 +120,30 @@ impl Memory {
     pub fn is_live(&self, address: u16) -> bool
         ensures { result ≡ is_live self.now address }
     {
-        BELOW < address
-            && usize::from(address - 1 - BELOW) < self.size
-            && self.live[usize::from(address - 1 - BELOW)]
+        self.below < address
+            && usize::from(address - 1 - self.below) < self.size
+            && self.live[usize::from(address - 1 - self.below)]
     }
 
     /// Writes a byte; no effect outside SRAM.
     #[tactic(auto, using(crate::proofs::Remembering::set_taken, crate::proofs::Remembering::set_missed), unfolding(avr_model::specs::State::set_at))]
     pub fn set_byte(&mut self, address: u16, byte: u8)
-        ensures value { self.new ≡ record self.old { bytes = set_at self.old.bytes address byte } }
+        ensures value { self.new ≡ record self.old { bytes = set_at self.old.below self.old.bytes address byte } }
         ensures size { length self.new.bytes ≡ length self.old.bytes }
+        ensures place { self.new.below ≡ self.old.below }
     {
-        if BELOW < address && usize::from(address - 1 - BELOW) < self.size {
-            self.bytes[usize::from(address - 1 - BELOW)] = byte;
+        if self.below < address && usize::from(address - 1 - self.below) < self.size {
+            self.bytes[usize::from(address - 1 - self.below)] = byte;
         }
     }
 
     // Makes a byte live; no effect outside SRAM.
     #[tactic(auto, using(crate::proofs::Living::clear_set, crate::proofs::Living::set_part, crate::proofs::Remembering::set_missed), unfolding(avr_model::specs::State::set_at))]
     fn set_live(&mut self, address: u16)
-        ensures { self.new ≡ record self.old { live = set_at self.old.live address true } }
+        ensures { self.new ≡ record self.old { live = set_at self.old.below self.old.live address true } }
     {
-        if BELOW < address && usize::from(address - 1 - BELOW) < self.size {
-            let place = usize::from(address - 1 - BELOW);
+        if self.below < address && usize::from(address - 1 - self.below) < self.size {
+            let place = usize::from(address - 1 - self.below);
             self.live[place] = true;
             self.floor = self.floor.min(place);
         }
@@ -128,7 +151,7 @@ impl Memory {
 
     /// Writes the bytes in order. If `guarded`, they become live.
     pub fn push(&mut self, writes: &[Write], guarded: bool)
-        ensures value { self.new ≡ record { bytes = written self.old.bytes writes.now; live = if guarded then with_live self.old.live writes.now else self.old.live } }
+        ensures value { self.new ≡ record { below = self.old.below; bytes = written self.old.below self.old.bytes writes.now; live = if guarded then with_live self.old.below self.old.live writes.now else self.old.live } }
         ensures size { length self.new.bytes ≡ length self.old.bytes }
     {
         for write in writes {
@@ -142,9 +165,9 @@ impl Memory {
     /// Addresses up to the stack pointer are no longer live.
     #[inline(always)]
     pub fn prune(&mut self, sp: u16)
-        ensures { self.new ≡ record self.old { live = pruned sp self.old.live } }
+        ensures { self.new ≡ record self.old { live = pruned self.old.below sp self.old.live } }
     {
-        let end = usize::from(sp.saturating_sub(BELOW)).min(self.size);
+        let end = usize::from(sp.saturating_sub(self.below)).min(self.size);
         if self.floor < end {
             clear_all(&mut self.live[self.floor..end]);
             self.floor = end;

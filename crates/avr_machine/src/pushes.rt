@@ -1,8 +1,8 @@
 //! The rows that push or go to a computed word, and interrupt entry.
 
-ghost use Rattle.std.specs.Prelude.{◌≡◌, ◌<◌, ◌≤◌, ◌%◌, None, not};
+ghost use Rattle.std.specs.Prelude.{◌≡◌, ◌<◌, None, not, true};
 ghost use Rattle.avr_model.specs.Devices.{wrapped};
-ghost use Rattle.avr_model.specs.Image.{WORDS};
+ghost use Rattle.avr_model.specs.Vectors.{is_vector, watchdog};
 ghost use Rattle.avr_model.specs.Assumptions.{jump_line};
 ghost use Rattle.avr_model.specs.Sites.{is_scratch};
 ghost use Rattle.avr_model.specs.State.{pair, register, minus16};
@@ -11,32 +11,29 @@ ghost use Rattle.avr_model.specs.Step.{all_inside, unless_listed, entering, take
 ghost use Rattle.avr_machine.specs.Quiet.{push_answer, jump_answer};
 
 use crate::flags::{flag_by, lists};
-use crate::memory::is_sram;
 use crate::pieces::way_back;
 use crate::processor::Processor;
-use crate::stepping::WATCHDOG;
 use crate::transfers::Z;
 use avr_alu::Sreg;
 use avr_model::choice::StepResult;
-use avr_model::device::{Device, WORDS};
 use avr_model::effect::{Write, Writes};
 use flash_image::Flash;
 use vector_table::Assumptions;
 
-// Whether all writes go to the device's SRAM.
-#[inline(always)]
-fn all_inside(device: Device, writes: &[Write]) -> bool
-    ensures { result ≡ all_inside device writes.now }
-{
-    for write in writes {
-        if !is_sram(device, write.address) {
-            return false;
-        }
-    }
-    true
-}
-
 impl Processor {
+    // Whether all writes go to SRAM.
+    #[inline(always)]
+    fn all_inside(&self, writes: &[Write]) -> bool
+        ensures { result ≡ all_inside self.now.device writes.now }
+    {
+        for write in writes {
+            if !self.is_sram(write.address) {
+                return false;
+            }
+        }
+        true
+    }
+
     // The answer to a push and transfer: overflow, unless it is an unlisted indirect call; then the flags; then done. If `guarded`, the
     // pushed bytes become live.
     #[tactic(auto, unfolding(avr_model::specs::Step::memory_after))]
@@ -52,7 +49,7 @@ impl Processor {
         ensures answer { result ≡ result_of (push_answer guarded self.old transfer pushes.now sp target) }
         ensures state { self.new ≡ state_after self.old (push_answer guarded self.old transfer pushes.now sp target) }
     {
-        if !all_inside(self.device, pushes) && transfer.is_none() {
+        if !self.all_inside(pushes) && transfer.is_none() {
             return StepResult::Overflow(self.pc);
         }
         let live = self.memory.live_write(pushes);
@@ -101,13 +98,13 @@ impl Processor {
         self.push_step(!is_scratch, transfer, pushes.as_slice(), sp, target)
     }
 
-    /// The word in Z, modulo the words of the greatest flash, and the word on this device if the site does not list it.
+    /// The word in Z, and the word of flash that it stands for if the site does not list it.
     pub fn computed(&self, assumptions: &Assumptions) -> (u16, Option<u16>)
-        ensures target { result.0 ≡ pair self.now 30 % WORDS }
-        ensures unlisted { result.1 ≡ unless_listed (jump_line assumptions.now self.now.pc) (wrapped self.now.device (pair self.now 30 % WORDS)) }
+        ensures target { result.0 ≡ pair self.now 30 }
+        ensures unlisted { result.1 ≡ unless_listed (jump_line assumptions.now self.now.pc) (wrapped self.now.device (pair self.now 30)) }
     {
-        let target = self.pair(Z) % WORDS;
-        let word = self.device.wrap(target);
+        let target = self.pair(Z);
+        let word = self.wrap(target);
         match assumptions.jumps(self.pc) {
             Some(words) if !lists(words, word) => (target, Some(word)),
             _ => (target, None),
@@ -116,8 +113,8 @@ impl Processor {
 
     /// `ijmp`.
     pub fn jump_computed(&mut self, assumptions: &Assumptions) -> StepResult
-        ensures answer { result ≡ result_of (jump_answer self.old (unless_listed (jump_line assumptions.now self.old.pc) (wrapped self.old.device (pair self.old 30 % WORDS))) (pair self.old 30 % WORDS)) }
-        ensures state { self.new ≡ state_after self.old (jump_answer self.old (unless_listed (jump_line assumptions.now self.old.pc) (wrapped self.old.device (pair self.old 30 % WORDS))) (pair self.old 30 % WORDS)) }
+        ensures answer { result ≡ result_of (jump_answer self.old (unless_listed (jump_line assumptions.now self.old.pc) (wrapped self.old.device (pair self.old 30))) (pair self.old 30)) }
+        ensures state { self.new ≡ state_after self.old (jump_answer self.old (unless_listed (jump_line assumptions.now self.old.pc) (wrapped self.old.device (pair self.old 30))) (pair self.old 30)) }
     {
         let (target, unlisted) = self.computed(assumptions);
         match flag_by(self.pc, None, None, unlisted) {
@@ -131,13 +128,13 @@ impl Processor {
 
     /// Enters an interrupt that may be entered, unless the vector's word has a `never` line: pushes the return address and clears I.
     pub fn take(&mut self, assumptions: &Assumptions, vector: u8, clears: bool) -> StepResult
-        requires least { 2 ≤ vector }
-        requires most { vector ≤ 26 }
+        requires vector { is_vector self.old.device vector ≡ true }
+        requires dog { clears ≡ true → vector ≡ watchdog self.old.device }
         ensures answer { result ≡ result_of (take assumptions.now self.old (entering self.old vector clears)) }
         ensures state { self.new ≡ state_after self.old (take assumptions.now self.old (entering self.old vector clears)) }
     {
-        let target = self.device.vector_word(vector);
-        let word = self.device.wrap(target);
+        let target = self.device.get().vector_word(vector);
+        let word = self.wrap(target);
         let never = if assumptions.never(word) {
             Some(word)
         } else {
@@ -149,7 +146,7 @@ impl Processor {
         if let StepResult::Done = answer {
             self.sreg = Sreg::from_bits_retain(self.sreg.bits() % 128);
             if clears {
-                self.enables = self.enables.with(WATCHDOG, false);
+                self.enables = self.enables.with(self.device.get(), vector, false);
             }
         }
         answer

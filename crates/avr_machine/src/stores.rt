@@ -99,7 +99,7 @@ impl Processor {
         self.store_step(None, Write { address, byte }, next, delay)
     }
 
-    /// `sbi` if `on`, else `cbi`: changes this bit alone, if it is held.
+    /// `sbi` if `on`, else `cbi`: changes this bit, and leaves all other enable bits.
     pub fn change_bit(&mut self, address: u16, index: u16, on: bool) -> StepResult
         requires address { address < 64 }
         requires index { index < 8 }
@@ -107,7 +107,7 @@ impl Processor {
         ensures state { self.new ≡ state_after self.old (store_answer self.old None (bit_effect self.old (port address) index on)) }
     {
         let address = IO + address;
-        let byte = with_bit(self.read(address, 0), index, on);
+        let byte = with_bit(self.kept_byte(address), index, on);
         let next = self.further(1);
         self.store_step(None, Write { address, byte }, next, false)
     }

@@ -6,12 +6,12 @@ use Rattle.avr_model.specs.declared.instruction.Base.TheVariants as base
 use Rattle.avr_model.specs.declared.device.TheConstants as device
 use Rattle.avr_model.specs.Devices.{Program, M328, device_row}
 use Rattle.avr_model.specs.Image.{WORDS}
-use Rattle.avr_model.specs.State.{SIZE, BELOW, SPL, SPH, SREG}
+use Rattle.avr_model.specs.State.{SIZE, SPL, SPH, SREG}
 use Rattle.avr_model.specs.Table.{decoded, length_of}
 use Rattle.avr_model.specs.Text.{text_of}
 use Rattle.avr_model.specs.Sites.{is_scratch, is_fixed, path_behind, is_loaded_behind, ijmp_from, table_site}
 use Rattle.avr_model.specs.Bits.{any_below, all_below, number_of}
-use Rattle.avr_model.specs.Vectors.{row_of, enable_of, held_bits, written_enables}
+use Rattle.avr_model.specs.Vectors.{places, has_common, place_at, enable_of, held_of, held_bits, written_enables}
 
 -- the device's numbers are those of the code
 pub code_has_words : WORDS ≡ device.WORDS
@@ -19,9 +19,6 @@ code_has_words = refl
 
 pub code_has_size : SIZE ≡ device.SIZE
 code_has_size = refl
-
-pub code_has_below : BELOW ≡ device.BELOW
-code_has_below = refl
 
 pub code_has_spl : SPL ≡ device.SPL
 code_has_spl = refl
@@ -41,7 +38,7 @@ pub store_decodes : decoded 0x8300 0xFFFF ≡ Some (i.Std base.Z 0 16)
 unfolding decoded
 store_decodes = refl
 
-pub store_text : text_of (i.Std base.Z 0 16) 3 ≡ codes "std Z+0x00, r16"
+pub store_text : text_of M328 (i.Std base.Z 0 16) 3 ≡ codes "std Z+0x00, r16"
 unfolding digits
 store_text = refl
 
@@ -104,14 +101,14 @@ pub seventeen_are_too_many : table_site (firmware (0x5FE9 ∷ 0x4FFF ∷ replica
 unfolding device_row table_site ijmp_from decoded length_of
 seventeen_are_too_many = refl
 
-pub watchdog_enable : enable_of 0x60 6 ≡ Some 7
-unfolding enable_of
+pub watchdog_enable : enable_of M328 0x60 6 ≡ Some 7
+unfolding device_row enable_of places
 watchdog_enable = refl
 
-pub usart_held : held_bits 0xC1 ≡ 0xE0
-unfolding enable_of number_of
+pub usart_held : held_bits M328 0xC1 ≡ 0xE0
+unfolding device_row held_of places number_of
 usart_held = refl
 
-pub write_of_usart : written_enables 0 0xC1 0xA0 ≡ 0x60000
-unfolding written_enables number_of row_of
+pub write_of_usart : written_enables M328 0 0xC1 0xA0 ≡ 0x60000
+unfolding device_row written_enables number_of place_at places has_common any_below
 write_of_usart = refl

@@ -2,7 +2,7 @@
 use Rattle.std.specs.Prelude.{ℕ, ◌≡◌, refl, List, [], ◌∷◌, ◌++◌, map, replicate}
 use Rattle.avr_model.specs.Devices.{Program, M48, M328, device_row}
 use Rattle.avr_model.specs.Table.{decoded}
-use Rattle.avr_model.specs.Marks.{joined_below, usual_marks, marks_at, loaded_bytes, marks}
+use Rattle.avr_model.specs.Marks.{joined_below, usual_marks, device_marks, marks_at, loaded_bytes, marks}
 
 -- the ATmega328P's flash that begins with these words
 abbrev of : List ℕ → Program
@@ -91,6 +91,6 @@ not_compared = refl
 
 -- ---- a whole program
 
-loads_and_compares : marks (of (0xE384 ∷ 0xE192 ∷ 0x3081 ∷ 0x0591 ∷ [])) ≡ usual_marks ++ 0x1234 ∷ 0x0001 ∷ []
+loads_and_compares : marks (of (0xE384 ∷ 0xE192 ∷ 0x3081 ∷ 0x0591 ∷ [])) ≡ usual_marks ++ device_marks M328 ++ 0x1234 ∷ 0x0001 ∷ []
 unfolding device_row decoded joined_below marks
 loads_and_compares = refl

@@ -11,7 +11,8 @@ use Rattle.avr_model.specs.declared.instruction.ImmediateOp.TheVariants as immed
 use Rattle.avr_model.specs.declared.instruction.ImmediateInstr.{ImmediateInstr}
 use Rattle.avr_model.specs.Sites.{instruction_at, loads, subtracts, borrows}
 use Rattle.avr_model.specs.Wide.{word_difference_of}
-use Rattle.avr_model.specs.Devices.{Program}
+use Rattle.avr_model.specs.declared.device.Device.{Device}
+use Rattle.avr_model.specs.Devices.{Program, device_of, io_end, ramend}
 
 -- the lists f 0 to f (n - 1), joined
 unfoldable pub joined_below : ℕ → (ℕ → List ℕ) → List ℕ
@@ -27,6 +28,10 @@ page_marks n = (256 * n + 255) ∷ (256 * n + 256) ∷ []
 -- the ends of unsigned and of signed numbers, and of the first nine pages
 abbrev pub usual_marks : List ℕ
 usual_marks = 0 ∷ 0x7FFF ∷ 0x8000 ∷ 0xFFFF ∷ joined_below 9 page_marks
+
+-- the ends of the device's SRAM
+abbrev pub device_marks : Device → List ℕ
+device_marks device = io_end device ∷ (io_end device + 1) ∷ ramend device ∷ (ramend device + 1) ∷ []
 
 -- ---- numbers of two instructions that stand close together
 
@@ -110,4 +115,4 @@ marks_at words a = marks_from words a (immediate_at words a)
 
 -- The marks of a program, by the words of a device's flash; word addresses count modulo their number.
 unfoldable pub marks : Program → List ℕ
-marks words = usual_marks ++ joined_below (length words.words) (marks_at words)
+marks words = usual_marks ++ device_marks (device_of words) ++ joined_below (length words.words) (marks_at words)

@@ -13,11 +13,15 @@ use Rattle.avr_model.specs.declared.instruction.Base.TheVariants as base
 use Rattle.avr_model.specs.declared.instruction.Pointer.{Pointer}
 use Rattle.avr_model.specs.declared.instruction.Pointer.TheVariants as pointer
 use Rattle.avr_model.specs.Bits.{any_below, all_below}
-use Rattle.avr_model.specs.Devices.{Program, has_jmp, wrapped, device_of}
+use Rattle.avr_model.specs.Devices.{Program, has_jmp, has_mul, has_elpm, has_break, wrapped, device_of}
 use Rattle.avr_model.specs.Image.{WORDS, word_at}
 use Rattle.avr_model.specs.Table.{decoded, length_of}
 use Rattle.avr_model.specs.Text.{far}
 use Rattle.avr_model.specs.Written.{written}
+
+abbrev pub is_mul : BinaryOp → Bool
+is_mul binary.Mul = true
+is_mul _ = false
 
 -- `jmp` and `call`
 abbrev pub is_long_transfer : Instr → Bool
@@ -25,10 +29,34 @@ is_long_transfer (i.Jmp k) = true
 is_long_transfer (i.Call k) = true
 is_long_transfer _ = false
 
--- `jmp` and `call` are no instructions on a device without them
+-- the instructions that multiply
+abbrev pub is_product : Instr → Bool
+is_product (i.Binary op d r) = is_mul op
+is_product (i.Muls d r) = true
+is_product (i.Mulsu d r) = true
+is_product (i.Fmul d r) = true
+is_product (i.Fmuls d r) = true
+is_product (i.Fmulsu d r) = true
+is_product _ = false
+
+abbrev pub is_break : Instr → Bool
+is_break i.Break = true
+is_break _ = false
+
+abbrev pub is_elpm : Instr → Bool
+is_elpm i.Elpm = true
+is_elpm (i.ElpmZ d) = true
+is_elpm (i.ElpmZPlus d) = true
+is_elpm _ = false
+
+-- the device lacks the instruction's group
+abbrev pub is_lacking : Device → Instr → Bool
+is_lacking device x = (is_long_transfer x && not (has_jmp device)) || ((is_product x && not (has_mul device)) || ((is_elpm x && not (has_elpm device)) || (is_break x && not (has_break device))))
+
+-- what the device lacks is no instruction on it
 abbrev pub on_device : Device → Option Instr → Option Instr
 on_device device None = None
-on_device device (Some x) = if is_long_transfer x && not (has_jmp device) then None else Some x
+on_device device (Some x) = if is_lacking device x then None else Some x
 
 -- the instruction at a word address
 abbrev pub instruction_at : Program → ℕ → Option Instr

@@ -9,8 +9,10 @@ use Rattle.basics.specs.Items.{only_one_in, none_in, first_in, further_in, first
 use Rattle.basics.specs.Booleans.{and_not}
 use Rattle.edge_laws.proofs.AllLaws.{part_of as whole}
 use Rattle.avr_model.specs.declared.assumption.Entry.{Entry}
-use Rattle.avr_model.specs.Vectors.{is_enabled, WATCHDOG}
-use Rattle.avr_model.specs.Devices.{Program}
+use Rattle.avr_model.specs.Vectors.{is_enabled, enable_count, watchdog}
+use Rattle.avr_model.specs.declared.device.Device.{Device}
+use Rattle.avr_model.specs.Devices.{Program, device_of}
+use Rattle.avr_model.proofs.AllLaws.{devices_are_alike}
 use Rattle.abs_state.specs.declared.state.AbsState.{AbsState}
 use Rattle.abs_state.specs.PairsBack.{returned}
 use Rattle.mask_states.specs.declared.keys.NodeKey.{NodeKey}
@@ -78,25 +80,26 @@ exit_there words A n x f e = subst (λ fs. exit_in (settled (raw_of words A n) f
 
 -- ---- ways
 
-enabled_bounds : (m v : ℕ) → is_enabled m v ≡ true → (2 ≤ v) × (v < 27)
-enabled_bounds m v e = (grind (arith, nat_tests), grind (arith, nat_tests))
+enabled_bounds : (device : Device) (m v : ℕ) → is_enabled device m v ≡ true → (2 ≤ v) × (v < enable_count device + 2)
+unfolding is_enabled
+enabled_bounds device m v e = let some = devices_are_alike.some_vector device in (grind (arith, nat_tests), grind (arith, nat_tests))
 
 parts_of : (i d : Bool) → (i && not d) ≡ true → (i ≡ true) × (d ≡ false)
 parts_of true false e = (refl, refl)
 parts_of true true e = absurd cc
 parts_of false d e = absurd cc
 
-at_vector_in : (words : Program) (A : List Entry) (k : NodeKey) (v : ℕ) (clears : Bool) → may_enter words A k v ≡ true → (not clears || (v == WATCHDOG)) ≡ true
+at_vector_in : (words : Program) (A : List Entry) (k : NodeKey) (v : ℕ) (clears : Bool) → may_enter words A k v ≡ true → (not clears || (v == watchdog (device_of words))) ≡ true
     → Contains (at_vector words A k v) (vector_way words k v clears)
 at_vector_in words A k v false on c =
-    let rest = (if v == WATCHDOG then vector_way words k v true ∷ [] else []) in
+    let rest = (if v == watchdog (device_of words) then vector_way words k v true ∷ [] else []) in
     subst (λ b. Contains (if b then (vector_way words k v false ∷ rest) else []) (vector_way words k v false)) (sym on) (first_in (vector_way words k v false) rest)
 at_vector_in words A k v true on c =
-    subst (λ b. Contains (if b then (vector_way words k v false ∷ (if v == WATCHDOG then vector_way words k v true ∷ [] else [])) else []) (vector_way words k v true)) (sym on)
+    subst (λ b. Contains (if b then (vector_way words k v false ∷ (if v == watchdog (device_of words) then vector_way words k v true ∷ [] else [])) else []) (vector_way words k v true)) (sym on)
     (subst (λ b. Contains (vector_way words k v false ∷ (if b then vector_way words k v true ∷ [] else [])) (vector_way words k v true)) (sym c)
     (further_in (vector_way words k v false) (vector_way words k v true) (vector_way words k v true ∷ []) (first_in (vector_way words k v true) [])))
 
-vectors_in : (words : Program) (A : List Entry) (k : NodeKey) (n v : ℕ) (clears : Bool) → 2 ≤ v → v < n + 2 → may_enter words A k v ≡ true → (not clears || (v == WATCHDOG)) ≡ true
+vectors_in : (words : Program) (A : List Entry) (k : NodeKey) (n v : ℕ) (clears : Bool) → 2 ≤ v → v < n + 2 → may_enter words A k v ≡ true → (not clears || (v == watchdog (device_of words))) ≡ true
     → Contains (vectors_below words A k n) (vector_way words k v clears)
 unfolding vectors_below
 vectors_in words A k zero v clears low high on c = absurd (omega (arith, low, high))
@@ -114,14 +117,14 @@ module _ (words : Program) (A : List Entry) (n : Node) (clean : IsFaultless word
   IsWay w = Enters words A n w.kind w.inst w.back
 
   module _ (offset : ℕ) (sp : n.key.sp ≡ Closed offset) (i : n.key.i ≡ true) (delay : n.key.delay ≡ false) where
-    at_by : (v : ℕ) (b c : Bool) → may_enter words A n.key v ≡ b → (v == WATCHDOG) ≡ c → (w : Way)
+    at_by : (v : ℕ) (b c : Bool) → may_enter words A n.key v ≡ b → (v == watchdog (device_of words)) ≡ c → (w : Way)
         → Contains (if b then (vector_way words n.key v false ∷ (if c then vector_way words n.key v true ∷ [] else [])) else []) w → IsWay w
     at_by v false c on is w h = absurd (none_in w h)
     at_by v true false on is w h =
-        let come = parts_of (is_enabled n.key.masks v) _ on in
+        let come = parts_of (is_enabled (device_of words) n.key.masks v) _ on in
         subst IsWay (sym (only_one_in (vector_way words n.key v false) w h)) (by_interrupt offset v false clean sp i delay come.0 come.1 refl)
     at_by v true true on is w h =
-        let come = parts_of (is_enabled n.key.masks v) _ on in
+        let come = parts_of (is_enabled (device_of words) n.key.masks v) _ on in
         ⊎_elim (λ e. subst IsWay (sym e) (by_interrupt offset v false clean sp i delay come.0 come.1 refl))
         (λ j. subst IsWay (sym (only_one_in (vector_way words n.key v true) w j)) (by_interrupt offset v true clean sp i delay come.0 come.1 is))
         (first_or_further (vector_way words n.key v false) w (vector_way words n.key v true ∷ []) h)
@@ -130,14 +133,14 @@ module _ (words : Program) (A : List Entry) (n : Node) (clean : IsFaultless word
     unfolding vectors_below
     vectors_from zero w h = absurd (none_in w h)
     vectors_from (suc m) w h =
-        ⊎_elim (λ j. vectors_from m w j) (λ j. at_by (m + 2) (may_enter words A n.key (m + 2)) ((m + 2) == WATCHDOG) refl refl w j)
+        ⊎_elim (λ j. vectors_from m w j) (λ j. at_by (m + 2) (may_enter words A n.key (m + 2)) ((m + 2) == watchdog (device_of words)) refl refl w j)
         (Contains-append_cases (vectors_below words A n.key m) (at_vector words A n.key (m + 2)) w h)
 
   interrupts_from : (offset : ℕ) → n.key.sp ≡ Closed offset → (i d : Bool) → n.key.i ≡ i → n.key.delay ≡ d → (w : Way)
       → Contains (interrupts_if (i && not d) words A n.key) w → IsWay w
   interrupts_from offset sp false d ei ed w h = absurd (none_in w h)
   interrupts_from offset sp true true ei ed w h = absurd (none_in w h)
-  interrupts_from offset sp true false ei ed w h = vectors_from offset sp ei ed 25 w h
+  interrupts_from offset sp true false ei ed w h = vectors_from offset sp ei ed (enable_count (device_of words)) w h
 
   ways_from : (sp : SpForm) → n.key.sp ≡ sp → (w : Way) → Contains (ways_by sp words A n.key (raw_of words A n).calls) w → IsWay w
   ways_from (Closed offset) e w h =
@@ -154,12 +157,12 @@ way_in words A n _ _ _ (by_call offset site clean sp has) =
     (Contains-append_left (map (call_way n.key) calls) (interrupts_if (n.key.i && not n.key.delay) words A n.key) (call_way n.key site) (in_map (call_way n.key) calls site has))
 way_in words A n _ _ _ (by_interrupt offset v clears clean sp i delay on allowed c) =
     let calls = (raw_of words A n).calls in
-    let bounds = enabled_bounds n.key.masks v on in
+    let bounds = enabled_bounds (device_of words) n.key.masks v on in
     let w = vector_way words n.key v clears in
     subst (λ p. Contains (ways_by p words A n.key calls) w) (sym sp)
     (Contains-append_right (map (call_way n.key) calls) (interrupts_if (n.key.i && not n.key.delay) words A n.key) w
     (subst (λ b. Contains (interrupts_if b words A n.key) w) (sym (and_not n.key.i n.key.delay i delay))
-    (vectors_in words A n.key 25 v clears bounds.0 bounds.1 (and_not (is_enabled n.key.masks v) _ on allowed) c)))
+    (vectors_in words A n.key (enable_count (device_of words)) v clears bounds.0 bounds.1 (and_not (is_enabled (device_of words) n.key.masks v) _ on allowed) c)))
 
 -- ---- returns
 

@@ -15,7 +15,8 @@ use Rattle.mask_states.specs.declared.keys.NodeKey.{NodeKey}
 use Rattle.mask_states.specs.Order.{inst_cmp, node_cmp, same_node}
 use Rattle.mask_states.proofs.AllLaws.{keys_are_ordered, nodes_go_by_instance}
 use Rattle.local_rules.specs.declared.local.Node.{Node}
-use Rattle.edge_rules.specs.Views.{AreShown, IsSpan, place_of}
+use Rattle.edge_rules.specs.Views.{IsSpan, place_of}
+use Rattle.call_graph.specs.Shown.{AreOfSomeDevice}
 
 -- ---- orderings
 
@@ -49,12 +50,12 @@ none_at t [] s h = refl
 none_at t (y ∷ ys) s h = rw (h 0 y refl) (none_at t ys (s + 1) (λ j z g. h (suc j) z g))
 
 -- a test that holds up to some place and not after it splits the list
-parted_by : (p : Node → Bool) (nodes : List Node) → AreShown nodes → ((a b : Node) → node_cmp a.key b.key ≡ Less → p b ≡ true → p a ≡ true)
+parted_by : (p : Node → Bool) (nodes : List Node) → AreOfSomeDevice nodes → ((a b : Node) → node_cmp a.key b.key ≡ Less → p b ≡ true → p a ≡ true)
     → IsPartitionedBy p nodes
 parted_by p nodes shown falls = λ i j d le lt up.
     ⊎_elim (λ e. subst (λ k. p (get_or nodes k d) ≡ true) (sym e.1) up)
     (λ ne. falls (get_or nodes i d) (get_or nodes j d)
-    (pair nodes i j (get_or nodes i d) (get_or nodes j d) shown.ascending (slice_get-get_or nodes i d (omega (arith, le, lt))) (slice_get-get_or nodes j d lt)
+    (pair nodes i j (get_or nodes i d) (get_or nodes j d) shown.1.ascending (slice_get-get_or nodes i d (omega (arith, le, lt))) (slice_get-get_or nodes j d lt)
     (let d = ne.1 in omega (arith, le, d))) up)
     (eqb_tells i j)
 
@@ -71,7 +72,7 @@ module _ (p : Node → Bool) (nodes : List Node) (point : ℕ) (h : IsPartitionP
 abbrev pub is_below_key : NodeKey → Node → Bool
 is_below_key k n = is_lt (node_cmp n.key k)
 
-pub parted_by_key : (nodes : List Node) (k : NodeKey) → AreShown nodes → IsPartitionedBy (is_below_key k) nodes
+pub parted_by_key : (nodes : List Node) (k : NodeKey) → AreOfSomeDevice nodes → IsPartitionedBy (is_below_key k) nodes
 parted_by_key nodes k shown =
     parted_by (is_below_key k) nodes shown
     (λ a b lt up. ap is_lt (keys_are_ordered.nodes.trans a.key b.key k lt (less_by_test (node_cmp b.key k) up)))
@@ -86,7 +87,7 @@ not_same k n h = not_same_by k n (same_node k n.key) refl h
 itself : (k : NodeKey) → is_lt (node_cmp k k) ≡ false
 itself k = ap is_lt ((keys_are_ordered.equal_nodes k k).1 refl)
 
-module _ (nodes : List Node) (k : NodeKey) (at : ℕ) (shown : AreShown nodes)
+module _ (nodes : List Node) (k : NodeKey) (at : ℕ) (shown : AreOfSomeDevice nodes)
     (point : IsPartitionPoint (λ n. is_below_key k n ≡ true) (λ n. is_below_key k n ≡ false) nodes at) where
   lower : (j : ℕ) (y : Node) → j < at → slice_get nodes j ≡ Some y → same_node k y.key ≡ false
   lower j y lt e =
@@ -108,7 +109,7 @@ module _ (nodes : List Node) (k : NodeKey) (at : ℕ) (shown : AreShown nodes)
       (λ same. ⊎_elim
       (λ q. other (ap (λ (m : Node). m.key) (same_Some n y (sym e ∙ (ap (slice_get nodes) q.1 ∙ g))) ∙ sym same))
       (λ q. never_both (is_below_key k n)
-      (ap is_lt (subst (λ x. node_cmp n.key x ≡ Less) (sym same) (pair nodes at j n y shown.ascending e g (let d = q.1 in omega (arith, le, d)))))
+      (ap is_lt (subst (λ x. node_cmp n.key x ≡ Less) (sym same) (pair nodes at j n y shown.1.ascending e g (let d = q.1 in omega (arith, le, d)))))
       (from_on (is_below_key k) nodes at point at n e (omega arith)))
       (eqb_tells at j))
 
@@ -129,13 +130,13 @@ le_by a b c Less lt e up = ap is_le (keys_are_ordered.insts.trans a b c lt e)
 le_by a b c Equal lt e up = ap is_le (subst (λ x. inst_cmp a x ≡ Less) ((keys_are_ordered.equal_insts b c).0 e) lt)
 le_by a b c Greater lt e up = absurd (cc)
 
-pub parted_below : (nodes : List Node) (inst : InstKey) → AreShown nodes → IsPartitionedBy (is_below_inst inst) nodes
+pub parted_below : (nodes : List Node) (inst : InstKey) → AreOfSomeDevice nodes → IsPartitionedBy (is_below_inst inst) nodes
 parted_below nodes inst shown =
     parted_by (is_below_inst inst) nodes shown
     (λ a b lt up. ⊎_elim (λ h. ap is_lt (keys_are_ordered.insts.trans a.key.inst b.key.inst inst h (less_by_test (inst_cmp b.key.inst inst) up)))
     (λ same. subst (λ x. is_lt (inst_cmp x inst) ≡ true) (sym same) up) (nodes_go_by_instance.rises a.key b.key lt))
 
-pub parted_through : (nodes : List Node) (inst : InstKey) → AreShown nodes → IsPartitionedBy (is_through_inst inst) nodes
+pub parted_through : (nodes : List Node) (inst : InstKey) → AreOfSomeDevice nodes → IsPartitionedBy (is_through_inst inst) nodes
 parted_through nodes inst shown =
     parted_by (is_through_inst inst) nodes shown
     (λ a b lt up. ⊎_elim (λ h. le_by a.key.inst b.key.inst inst (inst_cmp b.key.inst inst) h refl up)
@@ -168,7 +169,7 @@ module _ (nodes : List Node) (inst : InstKey) (low high : ℕ) (low_bound : low 
   }
 
 -- a node's key is found at its number
-pub place_is : (nodes : List Node) (k : NodeKey) (at : ℕ) (n : Node) → AreShown nodes → slice_get nodes at ≡ Some n → n.key ≡ k → Some at ≡ place_of k nodes
+pub place_is : (nodes : List Node) (k : NodeKey) (at : ℕ) (n : Node) → AreOfSomeDevice nodes → slice_get nodes at ≡ Some n → n.key ≡ k → Some at ≡ place_of k nodes
 place_is nodes k at n shown e same =
     let zero_more : at ≡ 0 + at = omega arith in
     ap (λ m. Some m) zero_more ∙ sym (found_at (λ m. same_node k m.key) nodes 0 at n e ((keys_are_ordered.same_nodes k n.key).1 (sym same)) others)
@@ -177,4 +178,4 @@ place_is nodes k at n shown e same =
     others j y lt g =
         not_same k y
         (λ q. never_both (is_below_key y.key y)
-        (ap is_lt (subst (λ x. node_cmp y.key x ≡ Less) (same ∙ q) (pair nodes j at y n shown.ascending g e lt))) (itself y.key))
+        (ap is_lt (subst (λ x. node_cmp y.key x ≡ Less) (same ∙ q) (pair nodes j at y n shown.1.ascending g e lt))) (itself y.key))

@@ -15,29 +15,30 @@ use Rattle.local_rules.specs.declared.local.Node.{Node}
 use Rattle.local_rules.specs.Cover.{IsNodeIn}
 use Rattle.edge_rules.specs.declared.edge.Edge.{Edge}
 use Rattle.call_graph.specs.declared.ways.Way.{Way}
-use Rattle.edge_rules.specs.Views.{AreShown, IsSpan, key_of, state_of}
+use Rattle.edge_rules.specs.Views.{IsSpan, key_of, state_of}
+use Rattle.call_graph.specs.Shown.{AreOfSomeDevice}
 use Rattle.call_graph.specs.Next.{gathered, return_edges, return_if, returns_in}
 use Rattle.call_graph.proofs.Gathered.{one_more, none_before, none_after}
 
-node_by : (nodes : List Node) (at : ℕ) (k : NodeKey) (s : AbsState) (o : Option Node) (shown : AreShown nodes) → slice_get nodes at ≡ o
-    → option_map key_of o ≡ Some k → option_map state_of o ≡ Some s → IsNodeIn shown.followed k s
+node_by : (nodes : List Node) (at : ℕ) (k : NodeKey) (s : AbsState) (o : Option Node) (shown : AreOfSomeDevice nodes) → slice_get nodes at ≡ o
+    → option_map key_of o ≡ Some k → option_map state_of o ≡ Some s → IsNodeIn shown.0 shown.1.followed k s
 node_by nodes at k s None shown e ek es = absurd (none-some k ek)
 node_by nodes at k s (Some n) shown e ek es =
-    subst (λ l. IsNodeIn shown.followed l s) (same_Some n.key k ek)
-    (subst (λ t. IsNodeIn shown.followed n.key t) (same_Some n.state s es) (shown.all n (contained_at nodes at n e)))
+    subst (λ l. IsNodeIn shown.0 shown.1.followed l s) (same_Some n.key k ek)
+    (subst (λ t. IsNodeIn shown.0 shown.1.followed n.key t) (same_Some n.state s es) (shown.1.all n (contained_at nodes at n e)))
 
-pub node_there : (nodes : List Node) (at : ℕ) (k : NodeKey) (s : AbsState) (shown : AreShown nodes)
-    → option_map key_of (slice_get nodes at) ≡ Some k → option_map state_of (slice_get nodes at) ≡ Some s → IsNodeIn shown.followed k s
+pub node_there : (nodes : List Node) (at : ℕ) (k : NodeKey) (s : AbsState) (shown : AreOfSomeDevice nodes)
+    → option_map key_of (slice_get nodes at) ≡ Some k → option_map state_of (slice_get nodes at) ≡ Some s → IsNodeIn shown.0 shown.1.followed k s
 node_there nodes at k s shown ek es = node_by nodes at k s (slice_get nodes at) shown refl ek es
 
-state_by : (nodes : List Node) (at : ℕ) (s : AbsState) (o : Option Node) (shown : AreShown nodes) → slice_get nodes at ≡ o → option_map state_of o ≡ Some s
-    → (k : NodeKey) × IsNodeIn shown.followed k s
+state_by : (nodes : List Node) (at : ℕ) (s : AbsState) (o : Option Node) (shown : AreOfSomeDevice nodes) → slice_get nodes at ≡ o → option_map state_of o ≡ Some s
+    → (k : NodeKey) × IsNodeIn shown.0 shown.1.followed k s
 state_by nodes at s None shown e es = absurd (none-some s es)
 state_by nodes at s (Some n) shown e es =
-    (n.key, subst (IsNodeIn shown.followed n.key) (same_Some n.state s es) (shown.all n (contained_at nodes at n e)))
+    (n.key, subst (IsNodeIn shown.0 shown.1.followed n.key) (same_Some n.state s es) (shown.1.all n (contained_at nodes at n e)))
 
-pub state_there : (nodes : List Node) (at : ℕ) (s : AbsState) (shown : AreShown nodes) → option_map state_of (slice_get nodes at) ≡ Some s
-    → (k : NodeKey) × IsNodeIn shown.followed k s
+pub state_there : (nodes : List Node) (at : ℕ) (s : AbsState) (shown : AreOfSomeDevice nodes) → option_map state_of (slice_get nodes at) ≡ Some s
+    → (k : NodeKey) × IsNodeIn shown.0 shown.1.followed k s
 state_there nodes at s shown es = state_by nodes at s (slice_get nodes at) shown refl es
 
 -- ---- the nodes of an instance

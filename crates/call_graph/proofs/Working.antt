@@ -4,7 +4,7 @@ use Rattle.std.specs.List.{slice_get}
 use Rattle.std.proofs.lemmas.Option.{none-some, slice_get_read}
 use Rattle.avr_model.specs.declared.assumption.Entry.{Entry}
 use Rattle.avr_model.specs.Assumptions.{has_pairs}
-use Rattle.avr_model.specs.Devices.{Program}
+use Rattle.avr_model.specs.Devices.{Program, device_of}
 use Rattle.abs_state.specs.declared.state.AbsState.{AbsState}
 use Rattle.mask_states.specs.declared.keys.NodeKey.{NodeKey}
 use Rattle.mask_states.specs.Order.{same_node}
@@ -30,15 +30,15 @@ seed_is : (nodes : Seeds) (at : ℕ) (k : NodeKey) (f : NodeForm) → HasKeyAt n
 seed_is nodes at k f a b = a.1 ∙ (λ i. Some (k, (same_seed (slice_get nodes at) k b.0 a.0 f a.1 b.1).1 i))
 
 module _ (words : Program) (A : List Entry) (nodes : Seeds) (at : ℕ) (done : List Node) (so : AreExpandedSoFar words A nodes at done) where
-  pub numbered : (list : List Node) → list ≡ done → AreNumbered (has_pairs A) list
-  numbered list e = subst (AreNumbered (has_pairs A)) (sym e) (λ i n g. (so.each i n g).node)
+  pub numbered : (list : List Node) → list ≡ done → AreNumbered (device_of words) (has_pairs A) list
+  numbered list e = subst (AreNumbered (device_of words) (has_pairs A)) (sym e) (λ i n g. (so.each i n g).node)
 
   module _ (list : List Node) (e : list ≡ done) (k : NodeKey) (f : NodeForm) (a : HasKeyAt nodes at k) (b : HasFormAt nodes at f)
       (found : Option AbsState) (is : found ≡ worked words A list k f) where
     pub gives_missing : found ≡ None → IsMissing words A nodes at
     gives_missing none = missing words A nodes at done so k f (seed_is nodes at k f a b) (ap (λ l. worked words A l k f) (sym e) ∙ (sym is ∙ none))
 
-    pub gives_more : AreSeeds (has_pairs A) nodes → (s : AbsState) (new : List Node) → found ≡ Some s → new ≡ done ++ record { key = k; state = s } ∷ []
+    pub gives_more : AreSeeds (device_of words) (has_pairs A) nodes → (s : AbsState) (new : List Node) → found ≡ Some s → new ≡ done ++ record { key = k; state = s } ∷ []
         → AreExpandedSoFar words A nodes (at + 1) new
     gives_more seeds s new some items =
         subst (AreExpandedSoFar words A nodes (at + 1)) (sym items)

@@ -2,6 +2,7 @@
 use Rattle.std.specs.Prelude.{ℕ, Bool, ◌≡◌, ◌<◌, ⊤, List, Some}
 use Rattle.std.specs.List.{slice_get}
 use Rattle.avr_model.specs.declared.assumption.Entry.{Entry}
+use Rattle.avr_model.specs.declared.device.Device.{Device}
 use Rattle.avr_model.specs.Devices.{Program}
 use Rattle.local_rules.specs.declared.local.Node.{Node}
 use Rattle.local_rules.specs.Cover.{IsNodeIn}
@@ -16,9 +17,9 @@ abbrev pub IsExpanded : Program → List Entry → Seeds → Expanded → Type 0
 IsExpanded words A nodes (Whole filled) = IsFilled words A nodes filled
 IsExpanded words A nodes (Missing at) = IsMissing words A nodes at
 
--- each is a node of the analysis, which follows pairs as `followed` says
-abbrev pub AreNumbered : Bool → List Node → Type 0
-AreNumbered followed nodes = (i : ℕ) (n : Node) → slice_get nodes i ≡ Some n → IsNodeIn followed n.key n.state
+-- each is a node of the device's analysis, which follows pairs as `followed` says
+abbrev pub AreNumbered : Device → Bool → List Node → Type 0
+AreNumbered device followed nodes = (i : ℕ) (n : Node) → slice_get nodes i ≡ Some n → IsNodeIn device followed n.key n.state
 
 -- a node that comes from another comes from one of these first ones
 abbrev pub ComesFromBelow : NodeForm → ℕ → Type 0

@@ -4,3 +4,4 @@ pub mod Exits
 pub mod Expanding
 pub mod Landings
 pub mod Laws
+pub mod Shown

@@ -3,7 +3,7 @@ use Rattle.std.specs.Prelude.{ℕ, suc, zero, ◌+◌, ◌==◌, ◌&&◌, Bool,
 use Rattle.avr_model.specs.declared.assumption.Entry.{Entry}
 use Rattle.avr_model.specs.Devices.{Program, device_of}
 use Rattle.avr_model.specs.Assumptions.{is_never}
-use Rattle.avr_model.specs.Vectors.{is_enabled, vector_word, WATCHDOG}
+use Rattle.avr_model.specs.Vectors.{is_enabled, enable_count, vector_word, watchdog}
 use Rattle.mask_states.specs.declared.keys.NodeKey.{NodeKey}
 use Rattle.mask_states.specs.declared.keys.SpForm.{SpForm}
 use Rattle.mask_states.specs.declared.keys.SpForm.TheVariants.{Closed, Open}
@@ -20,12 +20,12 @@ vector_way words k v clears = record { kind = kind.Interrupt v clears; inst = ve
 
 -- an interrupt is enabled, and its word has no `never` line
 abbrev pub may_enter : Program → List Entry → NodeKey → ℕ → Bool
-may_enter words A k v = is_enabled k.masks v && not (is_never A (vector_word (device_of words) v))
+may_enter words A k v = is_enabled (device_of words) k.masks v && not (is_never A (vector_word (device_of words) v))
 
 -- the entries by an interrupt that may be taken; the watchdog's has two
 abbrev pub at_vector : Program → List Entry → NodeKey → ℕ → List Way
 at_vector words A k v =
-    if may_enter words A k v then (vector_way words k v false ∷ (if v == WATCHDOG then vector_way words k v true ∷ [] else [])) else []
+    if may_enter words A k v then (vector_way words k v false ∷ (if v == watchdog (device_of words) then vector_way words k v true ∷ [] else [])) else []
 
 -- the entries by this many vectors, from 2 on
 unfoldable pub vectors_below : Program → List Entry → NodeKey → ℕ → List Way
@@ -33,7 +33,7 @@ vectors_below words A k zero = []
 vectors_below words A k (suc n) = vectors_below words A k n ++ at_vector words A k (n + 2)
 
 abbrev pub interrupts_if : Bool → Program → List Entry → NodeKey → List Way
-interrupts_if true words A k = vectors_below words A k 25
+interrupts_if true words A k = vectors_below words A k (enable_count (device_of words))
 interrupts_if false words A k = []
 
 abbrev pub ways_by : SpForm → Program → List Entry → NodeKey → List CallSite → List Way

@@ -2,6 +2,7 @@
 
 ghost use Rattle.std.specs.Prelude.{◌≡◌, length, Some, IfOk};
 ghost use Rattle.avr_model.specs.Assumptions.{has_pairs};
+ghost use Rattle.avr_model.specs.Devices.{device_of};
 ghost use Rattle.local_rules.specs.Cover.{IsNodeIn};
 ghost use Rattle.edge_rules.specs.Expansion.{AreSeeds};
 ghost use Rattle.edge_laws.specs.Carrying.{first_at, carried, worked};
@@ -32,7 +33,7 @@ fn state_in(nodes: Vec<Node>, key: &NodeKey) -> Option<AbsState>
 
 // The state of a node of this key that comes from this one.
 fn carry(task: &Task<'_>, from: &Node, key: &NodeKey) -> Result<Option<AbsState>, AllocError>
-    requires { IsNodeIn (has_pairs task.now.assumptions.now) from.now.key from.now.state }
+    requires { IsNodeIn (device_of task.now.flash.now) (has_pairs task.now.assumptions.now) from.now.key from.now.state }
     ensures { IfOk result (λ found. found ≡ carried task.now.flash.now task.now.assumptions.now key.now (Some from.now)) }
 {
     match local(
@@ -55,7 +56,7 @@ fn work(
     key: &NodeKey,
     seed: Seed<'_>,
 ) -> Result<Option<AbsState>, AllocError>
-    requires nodes { AreNumbered (has_pairs task.now.assumptions.now) done.now }
+    requires nodes { AreNumbered (device_of task.now.flash.now) (has_pairs task.now.assumptions.now) done.now }
     requires below { ComesFromBelow (form_of seed) (length done.now) }
     ensures { IfOk result (λ found. found ≡ worked task.now.flash.now task.now.assumptions.now done.now key.now (form_of seed.entry)) }
 {
@@ -68,7 +69,7 @@ fn work(
 /// The expansion of each node, or the first node that has none. The local part of a node is computed once for each node that comes from
 /// it.
 pub fn expand<S: Seeded>(task: &Task<'_>, nodes: &S) -> Result<Expanded, AllocError>
-    requires seeds { AreSeeds (has_pairs task.now.assumptions.now) (S.nodes nodes.now) }
+    requires seeds { AreSeeds (device_of task.now.flash.now) (has_pairs task.now.assumptions.now) (S.nodes nodes.now) }
     requires ascending { AreSeedsAscending (S.nodes nodes.now) }
     ensures { IfOk result (λ answer. IsExpanded task.now.flash.now task.now.assumptions.now (S.nodes nodes.now) answer) }
 {

@@ -2,7 +2,8 @@
 
 ghost use Rattle.std.specs.Prelude.{◌≡◌, ◌<◌, length, Some, slice_get};
 ghost use Rattle.std.specs.Option.{option_map};
-ghost use Rattle.edge_rules.specs.Views.{AreShown, IsSpan, key_of, state_of, place_of};
+ghost use Rattle.edge_rules.specs.Views.{IsSpan, key_of, state_of, place_of};
+ghost use Rattle.call_graph.specs.Shown.{AreOfSomeDevice};
 
 use abs_state::AbsState;
 use local_rules::Node;
@@ -18,19 +19,19 @@ pub struct Filled {
 impl Model for Filled {
     ghost use Rattle.std.specs.Prelude.{List};
     ghost use Rattle.local_rules.specs.declared.local.Node.{Node};
-    ghost use Rattle.edge_rules.specs.Views.{AreShown};
+    ghost use Rattle.call_graph.specs.Shown.{AreOfSomeDevice};
 
     ghost Value = { List Node };
 
     ghost view = { λ s. s.items.items };
 
-    ghost invariant = { λ s. AreShown s.items.items };
+    ghost invariant = { λ s. AreOfSomeDevice s.items.items };
 }
 
 impl Filled {
     /// These nodes; they must ascend strictly by key.
     pub fn new(items: Vec<Node>) -> Filled
-        requires { AreShown items.items }
+        requires { AreOfSomeDevice items.items }
         ensures { result ≡ items.items }
     {
         Filled { items }
@@ -39,7 +40,7 @@ impl Filled {
     /// The number of nodes.
     pub fn count(&self) -> usize
         ensures count { result ≡ length self.now }
-        ensures shown { AreShown self.now }
+        ensures shown { AreOfSomeDevice self.now }
     {
         self.items.len()
     }

@@ -6,7 +6,7 @@ ghost use Rattle.local_rules.specs.Local as rows;
 ghost use Rattle.local_rules.specs.declared.local.NodeFault.TheVariants.{Memory};
 ghost use Rattle.local_rules.specs.declared.local.Node.{Node};
 ghost use Rattle.edge_rules.specs.Families.{AreFaultless};
-ghost use Rattle.edge_rules.specs.Views.{AreShown};
+ghost use Rattle.call_graph.specs.Shown.{AreOfSomeDevice};
 ghost use Rattle.call_graph.specs.Next.{exit_in};
 ghost use Rattle.call_graph.specs.Exits.{exit_or, AreExits, AreExitsKnown, GivesExits};
 
@@ -21,7 +21,7 @@ use std::alloc::AllocError;
 // The exit of the node of this number, or its fault.
 fn exit_at(task: &Task<'_>, nodes: &Filled, at: usize) -> Result<Option<Exit>, NodeFault>
     requires place { at < length nodes.now }
-    requires shown { AreShown nodes.now }
+    requires shown { AreOfSomeDevice nodes.now }
     ensures { (n : Node) → slice_get nodes.now at ≡ Some n → Answers (λ x. x) Memory result (exit_or (rows.local task.now.flash.now task.now.assumptions.now n.key n.state)) }
 {
     let key = nodes.key(at);
@@ -38,7 +38,7 @@ pub(crate) fn exit_of(
     known: &[Option<Exit>],
 ) -> Result<Option<Exit>, AllocError>
     requires place { at < length nodes.now }
-    requires shown { AreShown nodes.now }
+    requires shown { AreOfSomeDevice nodes.now }
     requires given { AreExitsKnown task.now.flash.now task.now.assumptions.now nodes.now known.now }
     ensures { (n : Node) → slice_get nodes.now at ≡ Some n → IfOk result (λ x. x ≡ exit_in (rows.local task.now.flash.now task.now.assumptions.now n.key n.state)) }
 {

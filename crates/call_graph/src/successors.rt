@@ -9,7 +9,7 @@ ghost use Rattle.local_rules.specs.declared.local.NodeFault.TheVariants.{Memory}
 ghost use Rattle.local_rules.specs.declared.local.NodeFault as fault_type;
 ghost use Rattle.local_rules.specs.declared.local.Node.{Node};
 ghost use Rattle.edge_rules.specs.Edges.{IsFaultless, AreEdges};
-ghost use Rattle.edge_rules.specs.Views.{AreShown};
+ghost use Rattle.call_graph.specs.Shown.{AreOfSomeDevice};
 ghost use Rattle.call_graph.specs.Ways.{ways_of};
 ghost use Rattle.call_graph.specs.Exits.{AreExits, AreExitsKnown};
 ghost use Rattle.call_graph.specs.Next.{local_edge, entry_edge, returned_by, return_edges, returns_in, all_returns, edges_with, next_of};
@@ -107,7 +107,7 @@ fn add_leaver(
     at: usize,
 ) -> Result<(), AllocError>
     requires place { at < length known.now.nodes.now }
-    requires shown { AreShown known.now.nodes.now }
+    requires shown { AreOfSomeDevice known.now.nodes.now }
     requires given { AreExitsKnown task.now.flash.now task.now.assumptions.now known.now.nodes.now known.now.exits.now }
     ensures { (n : Node) → slice_get known.now.nodes.now at ≡ Some n → OnOk result (edges.new ≡ edges.old ++ return_edges task.now.flash.now task.now.assumptions.now caller.now.key.now caller.now.state.now caller.now.way n) }
 {
@@ -127,7 +127,7 @@ fn add_returns(
     caller: &Caller<'_>,
     known: &Known<'_>,
 ) -> Result<(), AllocError>
-    requires shown { AreShown known.now.nodes.now }
+    requires shown { AreOfSomeDevice known.now.nodes.now }
     requires given { AreExitsKnown task.now.flash.now task.now.assumptions.now known.now.nodes.now known.now.exits.now }
     ensures { OnOk result (edges.new ≡ edges.old ++ returns_in task.now.flash.now task.now.assumptions.now caller.now.key.now caller.now.state.now known.now.nodes.now caller.now.way) }
 {
@@ -146,7 +146,7 @@ fn add_all_returns(
     ways: &[Way],
     known: &Known<'_>,
 ) -> Result<(), AllocError>
-    requires shown { AreShown known.now.nodes.now }
+    requires shown { AreOfSomeDevice known.now.nodes.now }
     requires given { AreExitsKnown task.now.flash.now task.now.assumptions.now known.now.nodes.now known.now.exits.now }
     ensures { OnOk result (edges.new ≡ edges.old ++ all_returns task.now.flash.now task.now.assumptions.now start.now.key.now start.now.state.now known.now.nodes.now ways.now) }
 {
@@ -168,7 +168,7 @@ fn edges_of(
     found: Local,
     known: &Known<'_>,
 ) -> Result<Listed<Edge>, AllocError>
-    requires shown { AreShown known.now.nodes.now }
+    requires shown { AreOfSomeDevice known.now.nodes.now }
     requires given { AreExitsKnown task.now.flash.now task.now.assumptions.now known.now.nodes.now known.now.exits.now }
     ensures { IfOk result (λ edges. edges ≡ edges_with task.now.flash.now task.now.assumptions.now known.now.nodes.now start.now.key.now start.now.state.now (ways_of task.now.flash.now task.now.assumptions.now start.now.key.now found.calls) found) }
 {

@@ -1,6 +1,8 @@
 //! Entries of other instances from a node.
 
 ghost use Rattle.std.specs.Prelude.{◌≡◌, ◌≤◌, ◌++◌, map, true, IfOk, OnOk};
+ghost use Rattle.avr_model.specs.Devices.{device_of};
+ghost use Rattle.avr_model.specs.Vectors.{last_vector, enable_count, watchdog};
 ghost use Rattle.call_graph.specs.Ways.{call_way, vector_way, at_vector, vectors_below, ways_of};
 
 use crate::task::Task;
@@ -38,11 +40,13 @@ fn call_way(key: &NodeKey, site: CallSite) -> Way
 // The entry by an interrupt.
 fn vector_way(task: &Task<'_>, key: &NodeKey, v: u8, clears: bool) -> Way
     requires low { 2 ≤ v }
-    requires high { v ≤ 26 }
+    requires high { v ≤ last_vector (device_of task.now.flash.now) }
+    requires cleared { clears ≡ true → v ≡ watchdog (device_of task.now.flash.now) }
     ensures { result ≡ vector_way task.now.flash.now key.now v clears }
 {
+    let device = task.flash.device();
     let masks = if clears {
-        key.masks.with(7, false)
+        key.masks.with(device, v, false)
     } else {
         key.masks
     };
@@ -50,7 +54,7 @@ fn vector_way(task: &Task<'_>, key: &NodeKey, v: u8, clears: bool) -> Way
         kind: EdgeKind::Interrupt(v, clears),
         inst: InstKey {
             kind: Kind::Vector(v),
-            entry: task.flash.device().vector_word(v),
+            entry: device.vector_word(v),
             masks,
             i: false,
         },
@@ -71,12 +75,13 @@ fn add_calls(ways: &mut Vec<Way>, key: &NodeKey, calls: &[CallSite]) -> Result<(
 // The entries by a vector's interrupt, if it is enabled and its word has no `never` line.
 fn add_vector(ways: &mut Vec<Way>, task: &Task<'_>, key: &NodeKey, v: u8) -> Result<(), AllocError>
     requires low { 2 ≤ v }
-    requires high { v ≤ 26 }
+    requires high { v ≤ last_vector (device_of task.now.flash.now) }
     ensures { OnOk result (ways.new.items ≡ ways.old.items ++ at_vector task.now.flash.now task.now.assumptions.now key.now v) }
 {
-    if key.masks.has(v) && !task.assumptions.never(task.flash.device().vector_word(v)) {
+    let device = task.flash.device();
+    if key.masks.has(device, v) && !task.assumptions.never(device.vector_word(v)) {
         ways.push(vector_way(task, key, v, false))?;
-        if v == 7 {
+        if v == device.watchdog() {
             ways.push(vector_way(task, key, v, true))?;
         }
     }
@@ -85,9 +90,9 @@ fn add_vector(ways: &mut Vec<Way>, task: &Task<'_>, key: &NodeKey, v: u8) -> Res
 
 // The entries by all interrupts.
 fn add_vectors(ways: &mut Vec<Way>, task: &Task<'_>, key: &NodeKey) -> Result<(), AllocError>
-    ensures { OnOk result (ways.new.items ≡ ways.old.items ++ vectors_below task.now.flash.now task.now.assumptions.now key.now 25) }
+    ensures { OnOk result (ways.new.items ≡ ways.old.items ++ vectors_below task.now.flash.now task.now.assumptions.now key.now (enable_count (device_of task.now.flash.now))) }
 {
-    for n in 0..25u8 {
+    for n in 0..task.flash.device().last_vector() - 1 {
         add_vector(ways, task, key, n + 2)?;
     }
     Ok(())

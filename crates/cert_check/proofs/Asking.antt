@@ -8,7 +8,7 @@ use Rattle.std.proofs.lemmas.Option.{same_Some}
 use Rattle.basics.specs.Lists.{one_at}
 use Rattle.basics.specs.Items.{only_one_in, first_in}
 use Rattle.avr_model.specs.declared.assumption.Entry.{Entry}
-use Rattle.avr_model.specs.Devices.{Program}
+use Rattle.avr_model.specs.Devices.{Program, device_of}
 use Rattle.mask_states.specs.declared.keys.EdgeKind.{EdgeKind}
 use Rattle.mask_states.specs.declared.keys.InstKey.{InstKey}
 use Rattle.mask_states.specs.declared.keys.SpForm.TheVariants.{Closed}
@@ -328,9 +328,10 @@ module _ (words : Program) (A : List Entry) (c : Claim) (nodes : List Node) (are
           need_at_place j need h.0.0 a.node.key.inst h.0.1.0 h.0.1.1.0 h.0.1.1.1 most h.1
           (own_place a.node j a.present (sym (own_number a.node h.0.0 a.asks) ∙ h.0.1.1.0))
 
-  pub decided : HasReset A c nodes → AreFaultless words A nodes → (v : Verdict) → IsWeighed words c A demands v → Decides words A c nodes v
-  decided reset clean (Accepted bound) h = (
+  pub decided : c.device ≡ device_of words → HasReset A c nodes → AreFaultless words A nodes → (v : Verdict) → IsWeighed words c A demands v → Decides words A c nodes v
+  decided device reset clean (Accepted bound) h = (
     record {
+      device = device;
       reset = reset.0;
       faultless = clean;
       edges = λ n e h i. (land n e h i).0;
@@ -341,11 +342,11 @@ module _ (words : Program) (A : List Entry) (c : Claim) (nodes : List Node) (are
     },
     h.4,
   )
-  decided reset clean (Rejected (reason.Rank j l)) h = (reset, clean, land, first_rank j l h)
-  decided reset clean (Rejected (reason.Need j need)) h = (reset, clean, land, ranked h.0, first_need j need h.1 h.2)
-  decided reset clean (Rejected (reason.Bound need)) h = (reset, clean, land, ranked h.0, sufficient h.1, h.2, h.3)
-  decided reset clean (Rejected reason.Assumptions) h = (reset, clean, land, ranked h.0, sufficient h.1, h.2, h.3)
-  decided reset clean (Rejected reason.Root) h = absurd h
-  decided reset clean (Rejected (reason.Node j cause)) h = absurd h
-  decided reset clean (Rejected (reason.Edge j to)) h = absurd h
-  decided reset clean (Rejected (reason.Expansion at)) h = absurd h
+  decided device reset clean (Rejected (reason.Rank j l)) h = (reset, clean, land, first_rank j l h)
+  decided device reset clean (Rejected (reason.Need j need)) h = (reset, clean, land, ranked h.0, first_need j need h.1 h.2)
+  decided device reset clean (Rejected (reason.Bound need)) h = (reset, clean, land, ranked h.0, sufficient h.1, h.2, h.3)
+  decided device reset clean (Rejected reason.Assumptions) h = (reset, clean, land, ranked h.0, sufficient h.1, h.2, h.3)
+  decided device reset clean (Rejected reason.Root) h = absurd h
+  decided device reset clean (Rejected (reason.Node j cause)) h = absurd h
+  decided device reset clean (Rejected (reason.Edge j to)) h = absurd h
+  decided device reset clean (Rejected (reason.Expansion at)) h = absurd h

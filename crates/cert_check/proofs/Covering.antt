@@ -7,6 +7,7 @@ use Rattle.std.specs.declared.cmp.Ordering.{Ordering}
 use Rattle.std.specs.declared.cmp.Ordering.TheVariants.{Less, Equal, Greater}
 use Rattle.std.proofs.lemmas.Option.{same_Some}
 use Rattle.basics.specs.Items.{contained_at}
+use Rattle.avr_model.specs.declared.device.Device.{Device}
 use Rattle.edge_rules.specs.Places.{found_at, none_from, one_in}
 use Rattle.abs_state.specs.declared.state.AbsState.{AbsState}
 use Rattle.abs_state.specs.Order.{IsStateWithin}
@@ -14,11 +15,10 @@ use Rattle.mask_states.specs.declared.keys.NodeKey.{NodeKey}
 use Rattle.mask_states.specs.Order.{node_cmp}
 use Rattle.mask_states.proofs.AllLaws.{keys_are_ordered}
 use Rattle.local_rules.specs.declared.local.Node.{Node}
-use Rattle.local_rules.specs.Cover.{IsNodeIn}
 use Rattle.edge_rules.specs.Expansion.{Seeds}
 use Rattle.edge_rules.specs.Families.{IsCovered}
 use Rattle.edge_rules.specs.Views.{AreShown, state_of, place_of}
-use Rattle.cert_check.specs.Demands.{GapAt, LeadsToNode, KeyBelow, lesser_key}
+use Rattle.cert_check.specs.Demands.{HasSlots, GapAt, LeadsToNode, KeyBelow, lesser_key}
 use Rattle.cert_check.proofs.Lists.{IsLesser}
 
 -- ---- by key
@@ -26,7 +26,7 @@ use Rattle.cert_check.proofs.Lists.{IsLesser}
 state_is : (nodes : List Node) (at : ℕ) (n : Node) (t : AbsState) → slice_get nodes at ≡ Some n → option_map state_of (slice_get nodes at) ≡ Some t → n.state ≡ t
 state_is nodes at n t is e = same_Some n.state t (sym (ap (option_map state_of) is) ∙ e)
 
-module _ (nodes : List Node) (k : NodeKey) (s : AbsState) (at : ℕ) (t : AbsState) (shown : AreShown nodes) (found : place_of k nodes ≡ Some at)
+module _ (nodes : List Node) (k : NodeKey) (s : AbsState) (at : ℕ) (t : AbsState) {device : Device} (shown : AreShown device nodes) (found : place_of k nodes ≡ Some at)
     (is : option_map state_of (slice_get nodes at) ≡ Some t) where
   held : Contains nodes (record { key = k; state = t })
   held =
@@ -41,8 +41,8 @@ module _ (nodes : List Node) (k : NodeKey) (s : AbsState) (at : ℕ) (t : AbsSta
         (ap state_of (one_in nodes shown.ascending (record { key = k; state = h.state }) (record { key = k; state = t }) h.present held refl)) h.above,
   )
 
-  pub same_slots : {followed : Bool} → IsNodeIn followed k s → length s.slots ≡ length t.slots
-  same_slots node = node.formed.count_slots ∙ sym (shown.all (record { key = k; state = t }) held).formed.count_slots
+  pub same_slots : HasSlots k s → length s.slots ≡ length t.slots
+  same_slots slots = slots ∙ sym (shown.all (record { key = k; state = t }) held).formed.count_slots
 
 pub not_covered : (nodes : List Node) (k : NodeKey) (s : AbsState) → place_of k nodes ≡ None → IsCovered nodes (record { key = k; state = s }) → ⊥
 not_covered nodes k s none h = none_from k nodes 0 none (record { key = k; state = h.state }) h.present refl

@@ -1,10 +1,13 @@
 -- The verdict on a certificate is unique.
 use Rattle.std.proofs.Common.{◌≡◌, refl, sym, ap, ◌∙◌, subst, ℕ, ◌<◌, ◌≤◌, ◌⊎◌, inl, inr, ⊎_elim, List, [], ◌∷◌, length, Some, Result, Err, slice_get, arith}
 use Rattle.std.specs.Prelude.{◌↔◌}
+use Rattle.std.specs.List.{AllByRecursion}
 use Rattle.basics.specs.Numbers.{same_if_neither}
 use Rattle.basics.specs.Items.{contained_at}
 use Rattle.basics.specs.Lists.{one_at}
 use Rattle.edge_rules.specs.Families.{AreFaultless}
+use Rattle.avr_model.specs.declared.device.Device.{Device}
+use Rattle.avr_model.proofs.AllLaws.{devices_are_alike}
 use Rattle.avr_model.specs.declared.assumption.Entry.{Entry}
 use Rattle.avr_model.specs.Assumptions.{has_pairs}
 use Rattle.avr_model.specs.Run.{Bounded}
@@ -26,7 +29,7 @@ use Rattle.call_graph.specs.declared.worked.Worked.{Worked}
 use Rattle.call_graph.specs.Landings.{AreLandings}
 use Rattle.frame_laws.proofs.AllLaws.{sound_families_bound_every_run}
 use Rattle.certificate.specs.declared.instance.Inst.{Inst}
-use Rattle.certificate.specs.Insts.{rank_in, need_in}
+use Rattle.certificate.specs.Insts.{IsInst, rank_in, need_in}
 use Rattle.certificate.specs.Claims.{Claim, IsClaim}
 use Rattle.certificate.specs.Valid.{AreRanked, Suffices, NeedsSuffice, MeetsConditions, IsSound, reset_node, family_of}
 use Rattle.certificate.proofs.AllLaws.{conditions_make_families_sound, claims_are_seeds}
@@ -39,13 +42,17 @@ use Rattle.cert_check.specs.declared.verdict.Judgement.TheVariants as judgement
 use Rattle.cert_check.specs.Reading.{read_seeds, IsOpen}
 use Rattle.cert_check.specs.Verdict.{AllLanded, InstEnters, IsFirstFaultOfCause, IsFirstGap, IsFirstRank, IsFirstNeed, HasReset, IsLeastReason, IsRejected, IsReason, IsVerdict, IsFamilyOf, IsJudgement}
 use Rattle.cert_check.specs.Laws.{VerdictsAreOne, SoundCertificatesBoundEveryRun}
-use Rattle.cert_check.specs.Demands.{AreInstances, Decides, need_at, rank_at, rank_of, need_of}
+use Rattle.cert_check.specs.Demands.{HasSmallNeed, AreInstances, Decides, need_at, rank_at, rank_of, need_of}
 use Rattle.cert_check.proofs.ReadAs.{own_is_read, own_is_open}
 use Rattle.cert_check.proofs.Insts.{place_is, rank_there, need_there}
 use Rattle.cert_check.proofs.Covering.{key_antisymmetric}
 
+needs_small : (device : Device) (xs : List Inst) → AllByRecursion (IsInst device) xs → AllByRecursion HasSmallNeed xs
+needs_small device [] h = tt
+needs_small device (x ∷ xs) h = (omega (arith, h.0.need, devices_are_alike.most_depth device), needs_small device xs h.1)
+
 pub are_instances : (c : Claim) → IsClaim c → AreInstances c.instances
-are_instances c h = record { fit = h.insts_fit; ascend = h.insts_ascend; few = h.few_insts }
+are_instances c h = record { fit = needs_small c.device c.instances h.insts_fit; ascend = h.insts_ascend; few = h.few_insts }
 
 -- ---- faults
 

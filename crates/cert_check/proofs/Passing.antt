@@ -1,5 +1,5 @@
 -- One pass over all edges.
-use Rattle.std.proofs.Common.{Bool, ◌≡◌, refl, sym, ap, ◌∙◌, subst, ℕ, ◌+◌, ◌<◌, ◌≤◌, ⊎_elim, List, [], ◌++◌, length, Option, Some, None, slice_get, Contains, arith}
+use Rattle.std.proofs.Common.{◌≡◌, refl, sym, ap, ◌∙◌, subst, ℕ, ◌+◌, ◌<◌, ◌≤◌, ⊎_elim, List, [], ◌++◌, length, Option, Some, None, slice_get, Contains, arith}
 use Rattle.std.specs.Option.{option_map}
 use Rattle.std.proofs.lemmas.Bool.{cases_lt}
 use Rattle.std.proofs.lemmas.List.Elements.{Contains-append_left, Contains-append_right, Contains-append_cases}
@@ -8,15 +8,13 @@ use Rattle.basics.specs.Items.{place_of_contained, contained_at, none_in}
 use Rattle.basics.specs.Lists.{one_at}
 use Rattle.avr_model.specs.declared.assumption.Entry.{Entry}
 use Rattle.avr_model.specs.Assumptions.{has_pairs}
-use Rattle.avr_model.specs.Devices.{Program}
-use Rattle.abs_state.specs.declared.state.AbsState.{AbsState}
+use Rattle.avr_model.specs.Devices.{Program, device_of}
 use Rattle.mask_states.specs.declared.keys.NodeKey.{NodeKey}
 use Rattle.local_rules.specs.declared.local.Node.{Node}
-use Rattle.local_rules.specs.Cover.{IsNodeIn}
 use Rattle.edge_rules.specs.declared.edge.Edge.{Edge}
 use Rattle.edge_rules.specs.Edges.{IsEdge, AreEdges, target}
 use Rattle.edge_rules.specs.Expansion.{Seeds}
-use Rattle.edge_rules.specs.Views.{AreShown, IsOwnNode, key_of}
+use Rattle.edge_rules.specs.Views.{AreShown, key_of}
 use Rattle.edge_laws.proofs.AllLaws.{edges_lead_to_nodes}
 use Rattle.certificate.specs.declared.instance.Inst.{Inst}
 use Rattle.certificate.specs.Insts.{inst_keys}
@@ -29,9 +27,6 @@ use Rattle.cert_check.proofs.Demands.{listed_asks, asked_listed, landed_belongs}
 key_is : (nodes : List Node) (at : ℕ) (n : Node) (k : NodeKey) → slice_get nodes at ≡ Some n → option_map key_of (slice_get nodes at) ≡ Some k → n.key ≡ k
 key_is nodes at n k is e = same_Some n.key k (sym (ap (option_map key_of) is) ∙ e)
 
-pub own_node : {followed : Bool} (k : NodeKey) (s : AbsState) → IsNodeIn followed k s → IsOwnNode k s
-own_node k s h = subst (λ b. IsNodeIn b k s) (sym h.mode) h
-
 module _ (words : Program) (A : List Entry) (own : Seeds) (insts : List Inst) (nodes : List Node) where
   pub begins : IsMidway words A own insts nodes 0 []
   begins = record {
@@ -42,8 +37,8 @@ module _ (words : Program) (A : List Entry) (own : Seeds) (insts : List Inst) (n
 
   module _ (at : ℕ) (demands : List Demand) (mid : IsMidway words A own insts nodes at demands) (n : Node) (is : slice_get nodes at ≡ Some n) (edges : List Edge)
       (are : AreEdges words A nodes n edges) where
-    pub targets : AreShown nodes → AreTargets edges
-    targets shown = λ e h. own_node e.to e.state (edges_lead_to_nodes.edges words A nodes n e shown.all (contained_at nodes at n is) ((are e).0 h))
+    pub targets : AreShown (device_of words) nodes → AreTargets edges
+    targets shown = λ e h. (edges_lead_to_nodes.edges words A nodes n e shown.all (contained_at nodes at n is) ((are e).0 h)).formed.count_slots
 
     pub gap_first : (to : NodeKey) → IsLeastOffered (LeadsToNode (has_pairs A) own nodes) (GapAt (has_pairs A) own nodes) KeyBelow edges (Some to) → IsFirstGap words A own nodes at to
     gap_first to h = record {

@@ -9,6 +9,7 @@ use Rattle.std.specs.declared.cmp.Ordering.TheVariants.{Less}
 use Rattle.std.proofs.lemmas.List.{take_more, get_or_default, map-append}
 use Rattle.std.proofs.lemmas.Option.{none-some, same_Some, slice_get-map}
 use Rattle.basics.specs.Items.{contained_at, place_of_contained, none_in, first_or_further}
+use Rattle.avr_model.specs.declared.device.Device.{Device}
 use Rattle.avr_model.specs.declared.assumption.Entry.{Entry}
 use Rattle.avr_model.specs.Assumptions.{has_pairs}
 use Rattle.avr_model.specs.Devices.{Program}
@@ -64,7 +65,7 @@ read_in_hulls true registers None h = λ n lt. subst (IsIntervalWithin _) (hull_
 read_in_hulls true registers (Some f) h = h
 
 -- a node of the analysis, as read
-pub read_node : {other : Bool} (followed : Bool) (k : NodeKey) (s : AbsState) → IsNodeIn other k s → IsNodeIn followed k (read_state followed s)
+pub read_node : {device : Device} {other : Bool} (followed : Bool) (k : NodeKey) (s : AbsState) → IsNodeIn device other k s → IsNodeIn device followed k (read_state followed s)
 read_node followed k s h = record {
   word = h.word;
   small = h.small;
@@ -123,7 +124,7 @@ from_form followed (State s) m e = absurd (cc)
 from_form followed (From l) m e = e
 
 module _ (c : Claim) (claim : IsClaim c) where
-  pub seeds_read : (followed : Bool) → AreSeeds followed (read_seeds followed c.nodes)
+  pub seeds_read : (followed : Bool) → AreSeeds c.device followed (read_seeds followed c.nodes)
   seeds_read followed =
       let seeds = claims_are_seeds c claim in
       record {
@@ -131,7 +132,7 @@ module _ (c : Claim) (claim : IsClaim c) where
         own = λ at k t e.
             let r = read_at followed c.nodes at k (State t) e in
             let f = own_form followed r.before t r.after in
-            subst (IsNodeIn followed k) f.1.1
+            subst (IsNodeIn c.device followed k) f.1.1
             (read_node followed k f.0 (seeds.own at k f.0 (r.is ∙ ap (λ (g : NodeForm). Some (k, g)) f.1.0)));
         earlier = λ at m k e.
             let r = read_at followed c.nodes at k (From m) e in

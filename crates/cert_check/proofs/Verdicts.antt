@@ -1,11 +1,11 @@
 -- The parts of a verdict.
-use Rattle.std.proofs.Common.{◌≡◌, sym, ap, ◌∙◌, subst, ℕ, zero, suc, ◌<◌, ◌≤◌, List, [], ◌∷◌, length, Some, Result, Ok, Err, slice_get, IfOk, arith}
+use Rattle.std.proofs.Common.{◌≡◌, Bool, true, false, refl, sym, ap, ◌∙◌, subst, ℕ, zero, suc, ◌<◌, ◌≤◌, List, [], ◌∷◌, length, Some, Result, Ok, Err, slice_get, IfOk, arith}
 use Rattle.std.specs.List.{AllByRecursion}
 use Rattle.std.proofs.lemmas.Option.{none-some, same_Some, slice_get_within}
 use Rattle.basics.specs.Items.{place_of_contained}
 use Rattle.avr_model.specs.declared.assumption.Entry.{Entry}
 use Rattle.avr_model.specs.Assumptions.{has_pairs}
-use Rattle.avr_model.specs.Devices.{Program}
+use Rattle.avr_model.specs.Devices.{Program, device_of}
 use Rattle.abs_state.specs.declared.state.AbsState.{AbsState}
 use Rattle.mask_states.specs.declared.keys.InstKey.{InstKey}
 use Rattle.mask_states.specs.declared.keys.NodeKey.{NodeKey}
@@ -15,9 +15,9 @@ use Rattle.local_rules.specs.declared.local.NodeFault.{NodeFault}
 use Rattle.local_rules.specs.Faults.{cause_of}
 use Rattle.edge_rules.specs.declared.seeded.NodeForm.{NodeForm}
 use Rattle.edge_rules.specs.Expansion.{Seeds, IsFilled}
-use Rattle.edge_rules.specs.Roots.{root_of}
-use Rattle.edge_rules.specs.Views.{IsOwnNode}
-use Rattle.edge_laws.proofs.AllLaws.{edges_lead_to_nodes}
+use Rattle.edge_rules.specs.Roots.{root_by, root_of}
+use Rattle.edge_rules.specs.Views.{AreShown}
+use Rattle.edge_laws.proofs.ExpansionLaws.{filled_lists_are_shown}
 use Rattle.call_graph.specs.Exits.{IsFirstFault as HasFirstFault}
 use Rattle.certificate.specs.declared.instance.Inst.{Inst}
 use Rattle.certificate.specs.Claims.{Claim, IsClaim, Belongs, node_keys}
@@ -25,9 +25,8 @@ use Rattle.certificate.specs.Valid.{reset_node}
 use Rattle.cert_check.specs.declared.demand.Demand.{Demand}
 use Rattle.cert_check.specs.Reading.{read_seeds}
 use Rattle.cert_check.specs.Verdict.{IsFirstFaultOfCause}
-use Rattle.cert_check.specs.Demands.{AreBeside, AllBelong, AreDemandsInside, IsLeastOffered, MeetsRank, LowRank, PairBelow, MeetsNeed, LowNeed, NumberBelow}
-use Rattle.cert_check.proofs.Passing.{own_node}
-use Rattle.cert_check.proofs.ReadAs.{seeds_read, beside_read, key_beside}
+use Rattle.cert_check.specs.Demands.{AreBeside, HasSlots, AllBelong, AreDemandsInside, IsLeastOffered, MeetsRank, LowRank, PairBelow, MeetsNeed, LowNeed, NumberBelow}
+use Rattle.cert_check.proofs.ReadAs.{seeds_read, ascending_read, beside_read, key_beside}
 
 pub if_ok : {X E : Type 0} (P Q : X → Type 0) (r : Result X E) → ((x : X) → P x → Q x) → IfOk r P → IfOk r Q
 if_ok P Q (Ok x) f h = f x h
@@ -64,6 +63,9 @@ module _ (words : Program) (A : List Entry) (c : Claim) (nodes : List Node) (cla
   pub beside : AreBeside c.nodes nodes
   beside = beside_read c claim (has_pairs A) words A nodes filled
 
+  pub shown : AreShown (device_of words) nodes
+  shown = filled_lists_are_shown.shown words A (read_seeds (has_pairs A) c.nodes) nodes filled (ascending_read c claim (has_pairs A))
+
   pub nodes_belong : AllBelong c.instances nodes
   nodes_belong n h =
       let w = place_of_contained nodes n h in
@@ -72,9 +74,12 @@ module _ (words : Program) (A : List Entry) (c : Claim) (nodes : List Node) (cla
 
 -- ---- the node at reset
 
-pub reset_is_node : (A : List Entry) (i : InstKey) (k : NodeKey) (s : AbsState) → i ≡ root_inst → k ≡ entry_key i → s ≡ root_of A → IsOwnNode k s
-reset_is_node A i k s ei ek es =
-    subst (IsOwnNode k) (sym es) (subst (λ x. IsOwnNode x (root_of A)) (sym (ek ∙ ap entry_key ei)) (own_node (entry_key root_inst) (root_of A) (edges_lead_to_nodes.reset (has_pairs A))))
+root_slots : (followed : Bool) → HasSlots (entry_key root_inst) (root_by followed)
+root_slots false = refl
+root_slots true = refl
+
+pub reset_slots : (A : List Entry) (i : InstKey) (k : NodeKey) (s : AbsState) → i ≡ root_inst → k ≡ entry_key i → s ≡ root_of A → HasSlots k s
+reset_slots A i k s ei ek es = subst (HasSlots k) (sym es) (subst (λ x. HasSlots x (root_of A)) (sym (ek ∙ ap entry_key ei)) (root_slots (has_pairs A)))
 
 pub reset_is : (A : List Entry) (i : InstKey) (k : NodeKey) (s : AbsState) → i ≡ root_inst → k ≡ entry_key i → s ≡ root_of A → record { key = k; state = s } ≡ reset_node A
 reset_is A i k s ei ek es = λ j. record { key = (ek ∙ ap entry_key ei) j; state = es j }

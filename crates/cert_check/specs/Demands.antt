@@ -7,6 +7,8 @@ use Rattle.std.specs.declared.cmp.Ordering.TheVariants.{Greater}
 use Rattle.avr_model.specs.declared.assumption.Entry.{Entry}
 use Rattle.avr_model.specs.Assumptions.{has_pairs}
 use Rattle.avr_model.specs.Devices.{Program}
+use Rattle.avr_model.specs.State.{SIZE}
+use Rattle.abs_state.specs.declared.state.AbsState.{AbsState}
 use Rattle.mask_states.specs.declared.keys.EdgeKind.{EdgeKind}
 use Rattle.mask_states.specs.declared.keys.InstKey.{InstKey}
 use Rattle.mask_states.specs.declared.keys.NodeKey.{NodeKey}
@@ -18,10 +20,10 @@ use Rattle.local_rules.specs.declared.local.Node.{Node}
 use Rattle.edge_rules.specs.declared.edge.Edge.{Edge}
 use Rattle.edge_rules.specs.Edges.{is_entry, Enters, IsEdge, target}
 use Rattle.edge_rules.specs.Expansion.{Seeds}
-use Rattle.edge_rules.specs.Views.{IsOwnNode, key_of}
+use Rattle.edge_rules.specs.Views.{key_of}
 use Rattle.call_graph.specs.Landings.{AreLandings, AreLandingsTo}
 use Rattle.certificate.specs.declared.instance.Inst.{Inst}
-use Rattle.certificate.specs.Insts.{IsInst, inst_keys, need_in}
+use Rattle.certificate.specs.Insts.{inst_keys, need_in}
 use Rattle.certificate.specs.Claims.{Claim, most_instances, node_keys}
 use Rattle.certificate.specs.Valid.{IsBounded, MeetsConditions}
 use Rattle.cert_check.specs.declared.demand.Demand.{Demand}
@@ -68,14 +70,22 @@ abbrev pub lesser_key : Option NodeKey → NodeKey → NodeKey
 lesser_key None k = k
 lesser_key (Some b) k = if is_le (node_cmp b k) then b else k
 
--- edges lead to nodes of the analysis
+-- the state has as many slots as the key's offset
+abbrev pub HasSlots : NodeKey → AbsState → Type 0
+HasSlots k s = length s.slots ≡ offset_of k.sp
+
+-- edges lead to nodes with as many slots as their offsets
 abbrev pub AreTargets : List Edge → Type 0
-AreTargets edges = (e : Edge) → Contains edges e → IsOwnNode e.to e.state
+AreTargets edges = (e : Edge) → Contains edges e → HasSlots e.to e.state
 
 -- ---- instances
 
+-- the need is at most the size of the greatest SRAM
+abbrev pub HasSmallNeed : Inst → Type 0
+HasSmallNeed x = x.need ≤ SIZE
+
 pub record AreInstances (insts : List Inst) : Type 0 where
-  pub fit : AllByRecursion IsInst insts
+  pub fit : AllByRecursion HasSmallNeed insts
   pub ascend : IsStrictlySortedBy inst_cmp (inst_keys insts)
   pub few : length insts ≤ most_instances
 

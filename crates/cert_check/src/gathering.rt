@@ -2,6 +2,7 @@
 
 ghost use Rattle.std.specs.Prelude.{◌≡◌, ◌<◌, ◌≤◌, IfOk, length};
 ghost use Rattle.avr_model.specs.Assumptions.{has_pairs};
+ghost use Rattle.avr_model.specs.Devices.{device_of};
 ghost use Rattle.edge_rules.specs.Views.{AreShown};
 ghost use Rattle.call_graph.specs.Exits.{AreExits};
 ghost use Rattle.cert_check.specs.Demands.{AreInstances, AreBeside, AllBelong, IsGathering, AreGathered, IsNodeGathered};
@@ -42,7 +43,7 @@ fn gather_node(
     gathered: &mut LandedNodes,
 ) -> Result<Option<NodeKey>, AllocError>
     requires inside { at < length site.now.nodes.now }
-    requires shown { AreShown site.now.nodes.now }
+    requires shown { AreShown (device_of task.now.flash.now) site.now.nodes.now }
     requires few { length site.now.nodes.now ≤ 65536 }
     requires followed { site.now.followed ≡ has_pairs task.now.assumptions.now }
     requires instances { AreInstances site.now.certificate.now.instances }
@@ -76,6 +77,7 @@ pub(crate) fn gather(
     exits: &Listed<Option<Exit>>,
 ) -> Result<Gathering, AllocError>
     requires few { length nodes.now ≤ 65536 }
+    requires shown { AreShown (device_of task.now.flash.now) nodes.now }
     requires instances { AreInstances certificate.now.instances }
     requires belong { AllBelong certificate.now.instances nodes.now }
     requires beside { AreBeside certificate.now.nodes nodes.now }

@@ -4,7 +4,7 @@ ghost use Rattle.std.specs.Prelude.{ℕ, ◌≡◌, ◌≤◌, ◌↔◌, List, 
 ghost use Rattle.avr_model.specs.declared.assumption.Entry.{Entry};
 ghost use Rattle.avr_model.specs.Assumptions.{has_pairs};
 ghost use Rattle.avr_model.specs.Run.{Bounded};
-ghost use Rattle.avr_model.specs.Devices.{Program};
+ghost use Rattle.avr_model.specs.Devices.{Program, device_of};
 ghost use Rattle.edge_rules.specs.Expansion.{IsFilled};
 ghost use Rattle.call_graph.specs.declared.worked.Worked as worked_type;
 ghost use Rattle.call_graph.specs.Exits.{AreExits};
@@ -48,6 +48,7 @@ fn settle_edges(
     exits: &Listed<Option<Exit>>,
 ) -> Result<Settled, AllocError>
     requires claim { IsClaim certificate.now }
+    requires device { certificate.now.device ≡ device_of task.now.flash.now }
     requires filled { IsFilled task.now.flash.now task.now.assumptions.now (read_seeds (has_pairs task.now.assumptions.now) certificate.now.nodes) nodes.now }
     requires reset { HasReset task.now.assumptions.now certificate.now nodes.now }
     requires taken { AreExits task.now.flash.now task.now.assumptions.now nodes.now exits.now }
@@ -87,6 +88,7 @@ fn has_reset(task: &Task<'_>, certificate: &Certificate, nodes: &Filled) -> Resu
 // The result for the expanded nodes, by the conditions in order.
 fn settle(task: &Task<'_>, certificate: &Certificate, nodes: &Filled) -> Result<Settled, AllocError>
     requires claim { IsClaim certificate.now }
+    requires device { certificate.now.device ≡ device_of task.now.flash.now }
     requires filled { IsFilled task.now.flash.now task.now.assumptions.now (read_seeds (has_pairs task.now.assumptions.now) certificate.now.nodes) nodes.now }
     ensures { IfOk result (λ settled. SettlesClaim task.now.flash.now task.now.assumptions.now certificate.now nodes.now settled) }
 {
@@ -106,6 +108,7 @@ fn judge_nodes(
     nodes: Filled,
 ) -> Result<Judgement, AllocError>
     requires claim { IsClaim certificate.now }
+    requires device { certificate.now.device ≡ device_of task.now.flash.now }
     requires filled { IsFilled task.now.flash.now task.now.assumptions.now (read_seeds (has_pairs task.now.assumptions.now) certificate.now.nodes) nodes }
     ensures { IfOk result (λ judgement. IsJudgement task.now.flash.now task.now.assumptions.now certificate.now judgement) }
 {
@@ -124,7 +127,8 @@ fn judge_nodes(
 
 // The expanded nodes, read by the list of the call, or the first node without an expansion.
 fn expanded(task: &Task<'_>, certificate: &Certificate) -> Result<Expanded, AllocError>
-    requires { IsClaim certificate.now }
+    requires claim { IsClaim certificate.now }
+    requires device { certificate.now.device ≡ device_of task.now.flash.now }
     ensures { IfOk result (λ answer. IsExpanded task.now.flash.now task.now.assumptions.now (read_seeds (has_pairs task.now.assumptions.now) certificate.now.nodes) answer) }
 {
     let followed = task.assumptions.has_pairs();
@@ -135,12 +139,13 @@ fn expanded(task: &Task<'_>, certificate: &Certificate) -> Result<Expanded, Allo
     expand(task, &reading)
 }
 
-/// Judges a certificate for a firmware under assumptions, by the conditions in order. If all conditions but that on the schedule hold,
-/// the result is its family of at most 65,536 nodes: the expanded nodes, which meet the conditions, and the landings of their edges. Else
-/// it is the first reason, with its least numbers. Fails if memory runs out. Each edge is visited once. The local part of each node is
-/// computed twice, and once more for each node that comes from it. The nodes are copied if exactly one of the list of the call and the
-/// certificate's own has the line `pairs`.
+/// Judges a certificate, which must be for the firmware's device, under assumptions, by the conditions in order. If all conditions but that
+/// on the schedule hold, the result is its family of at most 65,536 nodes: the expanded nodes, which meet the conditions, and the landings
+/// of their edges. Else it is the first reason, with its least numbers. Fails if memory runs out. Each edge is visited once. The local part
+/// of each node is computed twice, and once more for each node that comes from it. The nodes are copied if exactly one of the list of the
+/// call and the certificate's own has the line `pairs`.
 pub fn judge_family(task: &Task<'_>, certificate: &Certificate) -> Result<Judgement, AllocError>
+    requires { certificate.now.device ≡ device_of task.now.flash.now }
     ensures exact { IfOk result (λ judgement. IsJudgement task.now.flash.now task.now.assumptions.now certificate.now judgement) }
     ensures few { IfOk result (λ judgement. (family : worked_type.Worked) → judgement ≡ Judgement.Accepted family → length family.nodes ≤ 65536) }
 {
@@ -164,17 +169,18 @@ fn verdict_of(certificate: &Certificate, judgement: Judgement) -> Verdict
     }
 }
 
-/// The verdict on a certificate for a firmware under assumptions. It accepts exactly if all conditions but that on the schedule hold.
-/// Then every run from reset stays within the certificate's bound, and meets neither an undefined word nor a push outside SRAM. Else the
-/// verdict is the first reason, with its least numbers. Fails if memory runs out. Each edge is visited once. The local part of each node
-/// is computed twice, and once more for each node that comes from it. The nodes are copied if exactly one of the list of the call and the
-/// certificate's own has the line `pairs`.
+/// The verdict on a certificate, which must be for the firmware's device, under assumptions. It accepts exactly if all conditions but that
+/// on the schedule hold. Then every run from reset stays within the certificate's bound, and meets neither an undefined word nor a push
+/// outside SRAM. Else the verdict is the first reason, with its least numbers. Fails if memory runs out. Each edge is visited once. The
+/// local part of each node is computed twice, and once more for each node that comes from it. The nodes are copied if exactly one of the
+/// list of the call and the certificate's own has the line `pairs`.
 pub fn judge(
     alloc: Global,
     flash: &Flash,
     assumptions: &Assumptions,
     certificate: &Certificate,
 ) -> Result<Verdict, AllocError>
+    requires { certificate.now.device ≡ device_of flash.now }
     ensures exact { IfOk result (λ verdict. IsVerdict flash.now assumptions.now certificate.now verdict) }
     ensures accepted { IfOk result (λ verdict. (b : ℕ) → (verdict ≡ Verdict.Accepted b) ↔ (IsSound flash.now assumptions.now certificate.now × (b ≡ certificate.now.bound))) }
     ensures bounded { (b : ℕ) → result ≡ Ok (Verdict.Accepted b) → Bounded flash.now assumptions.now b }

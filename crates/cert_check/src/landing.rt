@@ -1,13 +1,13 @@
 //! Landings of edges.
 
 ghost use Rattle.std.specs.Prelude.{◌≡◌, ◌≤◌, ◌<◌, ◌↔◌, ◌++◌, length, IsTrue, IfOk, OnOk};
-ghost use Rattle.edge_rules.specs.Views.{IsOwnNode, place_of};
+ghost use Rattle.edge_rules.specs.Views.{place_of};
 ghost use Rattle.edge_rules.specs.Expansion.{HasKeyAt};
 ghost use Rattle.mask_states.specs.declared.keys.NodeKey as key_type;
 ghost use Rattle.edge_laws.specs.Expansions.{AreSeedsAscending};
 ghost use Rattle.call_graph.specs.Landings.{landing_of, landings_by};
 ghost use Rattle.cert_check.specs.Reading.{IsOpen, LandsOpen};
-ghost use Rattle.cert_check.specs.Demands.{IsLeastOffered, IsOfferNoted, AreBeside, LeadsToNode, GapAt, KeyBelow, lesser_key, AreTargets};
+ghost use Rattle.cert_check.specs.Demands.{IsLeastOffered, IsOfferNoted, AreBeside, HasSlots, LeadsToNode, GapAt, KeyBelow, lesser_key, AreTargets};
 
 use crate::reading::tells_nothing;
 use abs_state::AbsState;
@@ -55,7 +55,7 @@ pub(crate) fn lands(
     state: &AbsState,
 ) -> bool
     requires place { place ≡ place_of key.now site.now.nodes.now }
-    requires node { IsOwnNode key.now state.now }
+    requires slots { HasSlots key.now state.now }
     requires beside { AreBeside site.now.certificate.now.nodes site.now.nodes.now }
     ensures { IsTrue result ↔ LandsOpen site.now.followed site.now.certificate.now.nodes site.now.nodes.now (record { key = key.now; state = state.now }) }
 {
@@ -87,7 +87,7 @@ fn note(
     edge: &Edge,
 ) -> Result<(), AllocError>
     requires few { length site.now.nodes.now ≤ 65536 }
-    requires node { IsOwnNode edge.now.to edge.now.state }
+    requires slots { HasSlots edge.now.to edge.now.state }
     requires beside { AreBeside site.now.certificate.now.nodes site.now.nodes.now }
     ensures gap { OnOk result (IsOfferNoted (LeadsToNode site.now.followed site.now.certificate.now.nodes site.now.nodes.now) (GapAt site.now.followed site.now.certificate.now.nodes site.now.nodes.now) lesser_key landed.old.gap edge.now landed.new.gap) }
     ensures landings { OnOk result (landed.new.landings ≡ landed.old.landings ++ landing_of site.now.nodes.now edge.now) }

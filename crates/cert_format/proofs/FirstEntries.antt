@@ -1,12 +1,14 @@
 -- The line `pairs` in lists of entries: it is the first in a list of the third version, and in no other list.
 use Rattle.std.proofs.Common.{◌≡◌, ◌||◌, List, [], ◌∷◌, ◌++◌, length, Bool, true, false, refl, ap, sym, ◌∙◌, arith}
 use Rattle.std.specs.List.{AllByRecursion}
-use Rattle.std.proofs.lemmas.Bool.{false≢true, and_parts}
+use Rattle.std.proofs.lemmas.Bool.{false≢true, and_parts, and_from}
 use Rattle.std.proofs.lemmas.Bool.Decides.{nat_tests}
 use Rattle.avr_model.specs.declared.assumption.Entry.{Entry}
 use Rattle.avr_model.specs.declared.assumption.Entry.TheVariants.{Pairs, Masks, Jump, Store, Prove, Free, Never, Frame}
 use Rattle.avr_model.specs.Assumptions.{is_before, is_line, has_line, has_pairs}
-use Rattle.vector_table.specs.Entries.{AreEntries, is_before_first, are_in_order}
+use Rattle.avr_model.specs.declared.device.Device.{Device}
+use Rattle.vector_table.specs.Entries.{AreEntries, is_entry, fits_device, is_before_first, are_in_order}
+use Rattle.indirect_targets.specs.Exact.{AreEntriesOf}
 use Rattle.indirect_targets.proofs.AllLaws.{pushed, none_are_entries}
 use Rattle.certificate.specs.declared.version.Version.{Version}
 use Rattle.certificate.specs.declared.version.Version.TheVariants.{One, Two, Three}
@@ -104,10 +106,14 @@ firsts_mode One = refl
 firsts_mode Two = refl
 firsts_mode Three = refl
 
-pub firsts_are : (version : Version) → AreEntries (firsts version)
-firsts_are One = none_are_entries
-firsts_are Two = none_are_entries
-firsts_are Three = pushed [] Pairs none_are_entries (record { room = omega arith; formed = refl; above = refl })
+pairs_fit : (device : Device) → fits_device device Pairs ≡ true
+unfolding fits_device
+pairs_fit device = refl
+
+pub firsts_are : (device : Device) (version : Version) → AreEntriesOf device (firsts version)
+firsts_are device One = none_are_entries device
+firsts_are device Two = none_are_entries device
+firsts_are device Three = pushed device [] Pairs (none_are_entries device) (record { room = omega arith; formed = and_from (is_entry Pairs) (fits_device device Pairs) refl (pairs_fit device); above = refl })
 
 pub record BeginsWith (version : Version) (es : List Entry) : Type 0 where
   pub rest : List Entry

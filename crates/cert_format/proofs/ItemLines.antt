@@ -5,7 +5,8 @@ use Rattle.std.specs.Fmt.{decimal}
 use Rattle.std.proofs.lemmas.List.{append-nil}
 use Rattle.std.proofs.lemmas.Option.{cond_some}
 use Rattle.local_rules.specs.Cover.{IsKey}
-use Rattle.avr_model.specs.State.{SIZE}
+use Rattle.avr_model.specs.declared.device.Device.{Device}
+use Rattle.avr_model.specs.Devices.{depth_of}
 use Rattle.line_reading.specs.Reading.{dec_at, word_at, is_over}
 use Rattle.line_reading.specs.Words.{IsWord, WordLaws}
 use Rattle.line_reading.proofs.AllLaws.{map_some, bind_some, no_words}
@@ -23,7 +24,7 @@ use Rattle.cert_words.specs.KeySpelling.{inst_key_words, place_words, form_words
 use Rattle.cert_words.specs.Text.{inst_words, node_words_at}
 use Rattle.cert_words.specs.KeyReading.{is_root, inst_key_at, form_at}
 use Rattle.cert_words.specs.KeyLaws.{KeyWords}
-use Rattle.cert_words.proofs.AllLaws.{word_take, dec_take, joined_words, cons}
+use Rattle.cert_words.proofs.AllLaws.{depth_room, word_take, dec_take, joined_words, cons}
 use Rattle.cert_format.specs.LineReading.{inst_in, place_at, whole_key_at, node_in}
 use Rattle.cert_format.specs.LineLaws.{InstLines, IsInstanceOf, IsNodeLine, NodeLines}
 
@@ -32,51 +33,51 @@ over_end x y ws e = let t = cond_some (is_over ws) x y e in (no_words ws t.0, t.
 
 -- ---- instances
 
-inst_take : WordLaws → KeyWords → (ws : List (List ℕ)) (x : Inst) → inst_in ws ≡ Some x → (ws ≡ inst_words x) × IsInst x
+inst_take : (device : Device) → WordLaws → KeyWords → (ws : List (List ℕ)) (x : Inst) → inst_in device ws ≡ Some x → (ws ≡ inst_words device x) × IsInst device x
 unfolding inst_in
-inst_take k v ws x e =
+inst_take device k v ws x e =
     let h = bind_some (word_at (codes "inst") ws) _ x e in
-    let key = bind_some (inst_key_at h.0.1) _ x h.2 in
+    let key = bind_some (inst_key_at device h.0.1) _ x h.2 in
     let r = bind_some (word_at (codes "rank") key.0.1) _ x key.2 in
     let rank = bind_some (dec_at 65535 r.0.1) _ x r.2 in
     let n = bind_some (word_at (codes "need") rank.0.1) _ x rank.2 in
-    let need = bind_some (dec_at SIZE n.0.1) _ x n.2 in
+    let need = bind_some (dec_at (depth_of device) n.0.1) _ x n.2 in
     let last = over_end {A = Inst} (record { key = key.0.0; rank = rank.0.0; need = need.0.0 }) x need.0.1 need.2 in
-    let front = v.insts.spelled h.0.1 key.0.1 key.0.0 key.1 in
+    let front = v.insts.spelled device h.0.1 key.0.1 key.0.0 key.1 in
     let d = dec_take k 65535 r.0.1 rank.0 (lit< tt) rank.1 in
-    let m = dec_take k SIZE n.0.1 need.0 (lit< tt) need.1 in
-    let P : Inst → Type 0 = λ y. (ws ≡ inst_words y) × IsInst y in
+    let m = dec_take k (depth_of device) n.0.1 need.0 (depth_room device) need.1 in
+    let P : Inst → Type 0 = λ y. (ws ≡ inst_words device y) × IsInst device y in
     let behind = word_take (codes "rank") key.0.1 r.0 r.1 ∙ ap (cons (codes "rank")) (d.0 ∙ ap (cons (decimal rank.0.0)) (word_take (codes "need") rank.0.1 n.0 n.1 ∙ ap (cons (codes "need")) (m.0 ∙ ap (cons (decimal need.0.0)) last.0))) in
     subst P last.1 (
-      word_take (codes "inst") ws h.0 h.1 ∙ ap (cons (codes "inst")) (front.0 ∙ ap (λ (xs : List (List ℕ)). inst_key_words key.0.0 ++ xs) behind),
+      word_take (codes "inst") ws h.0 h.1 ∙ ap (cons (codes "inst")) (front.0 ∙ ap (λ (xs : List (List ℕ)). inst_key_words device key.0.0 ++ xs) behind),
       record { kind = front.1.kind; masks = front.1.masks; rank = omega (arith, d.1); need = m.1 },
     )
 
-inst_again : WordLaws → KeyWords → (x : Inst) → IsInst x → inst_in (inst_words x) ≡ Some x
+inst_again : (device : Device) → WordLaws → KeyWords → (x : Inst) → IsInst device x → inst_in device (inst_words device x) ≡ Some x
 unfolding inst_in
-inst_again k v x h =
-    let key = v.insts.read x.key (codes "rank" ∷ decimal x.rank ∷ codes "need" ∷ decimal x.need ∷ []) (record { kind = h.kind; masks = h.masks }) in
+inst_again device k v x h =
+    let key = v.insts.read device x.key (codes "rank" ∷ decimal x.rank ∷ codes "need" ∷ decimal x.need ∷ []) (record { kind = h.kind; masks = h.masks }) in
     let d = k.dec_taken 65535 x.rank (codes "need" ∷ decimal x.need ∷ []) (lit< tt) (omega (arith, h.rank)) in
-    let m = k.dec_taken SIZE x.need [] (lit< tt) h.need in
+    let m = k.dec_taken (depth_of device) x.need [] (depth_room device) h.need in
     rw (key, d, m) refl
 
-inst_plain : WordLaws → KeyWords → (x : Inst) → IsInst x → AllByRecursion IsWord (inst_words x)
-inst_plain k v x h = (
+inst_plain : (device : Device) → WordLaws → KeyWords → (x : Inst) → IsInst device x → AllByRecursion IsWord (inst_words device x)
+inst_plain device k v x h = (
   ((refl, (refl, (refl, (refl, tt)))), (refl, (refl, (refl, (refl, tt))))),
-  joined_words (inst_key_words x.key) (codes "rank" ∷ decimal x.rank ∷ codes "need" ∷ decimal x.need ∷ []) (v.insts.words x.key (record { kind = h.kind; masks = h.masks })) (
+  joined_words (inst_key_words device x.key) (codes "rank" ∷ decimal x.rank ∷ codes "need" ∷ decimal x.need ∷ []) (v.insts.words device x.key (record { kind = h.kind; masks = h.masks })) (
     ((refl, (refl, (refl, (refl, tt)))), (refl, (refl, (refl, (refl, tt))))),
     (
       k.dec_word x.rank (omega (arith, h.rank)),
       (
         ((refl, (refl, (refl, (refl, tt)))), (refl, (refl, (refl, (refl, tt))))),
-        (k.dec_word x.need (omega (arith, h.need)), tt),
+        (k.dec_word x.need (omega (arith, h.need, depth_room device)), tt),
       ),
     ),
   ),
 )
 
 pub inst_lines : WordLaws → KeyWords → InstLines
-inst_lines k v = record { spelled = inst_take k v; read = inst_again k v; words = inst_plain k v }
+inst_lines k v = record { spelled = λ d. inst_take d k v; read = λ d. inst_again d k v; words = λ d. inst_plain d k v }
 
 -- ---- nodes
 
@@ -108,48 +109,48 @@ place_again k insts place x rest small there =
     let d = k.dec_taken 65535 place rest (lit< tt) (omega (arith, small)) in
     rw (d, there) refl
 
-node_take : WordLaws → KeyWords → (version : Version) (insts : List Inst) (at : ℕ) (ws : List (List ℕ)) (n : NodeKey × NodeForm) → node_in version insts at ws ≡ Some n → IsNodeLine version insts at ws n
+node_take : (device : Device) → WordLaws → KeyWords → (version : Version) (insts : List Inst) (at : ℕ) (ws : List (List ℕ)) (n : NodeKey × NodeForm) → node_in device version insts at ws ≡ Some n → IsNodeLine device version insts at ws n
 unfolding node_in whole_key_at
-node_take k v version insts at ws n e =
-    let key = bind_some (whole_key_at version insts ws) _ n e in
+node_take device k v version insts at ws n e =
+    let key = bind_some (whole_key_at device version insts ws) _ n e in
     let x = bind_some (place_at insts ws) _ key.0 key.1 in
     let s = bind_some (form_at version (is_root key.0.0.inst.kind) (offset_of key.0.0.sp) at key.0.1) _ n key.2 in
     let last = over_end {A = NodeKey × NodeForm} (key.0.0, s.0.0) n s.0.1 s.2 in
     let place = place_take k insts ws x.0 x.1 in
-    let front = v.places.spelled version x.0.0 x.0.1 key.0.1 key.0.0 x.2 in
-    let form = v.forms.spelled version at key.0.0 key.0.1 s.0.1 s.0.0 front.key_fits s.1 in
+    let front = v.places.spelled device version x.0.0 x.0.1 key.0.1 key.0.0 x.2 in
+    let form = v.forms.spelled device version at key.0.0 key.0.1 s.0.1 s.0.0 front.key_fits s.1 in
     let behind : key.0.1 ≡ form_words version s.0.0 = form.0 ∙ ap (λ (xs : List (List ℕ)). form_words version s.0.0 ++ xs) last.0 ∙ append-nil (form_words version s.0.0) in
-    let P : NodeKey × NodeForm → Type 0 = λ y. IsNodeLine version insts at ws y in
+    let P : NodeKey × NodeForm → Type 0 = λ y. IsNodeLine device version insts at ws y in
     subst P last.1 (record {
       place = place.place;
-      words = place.words ∙ ap (λ (xs : List (List ℕ)). codes "node" ∷ decimal place.place ∷ xs) (front.words ∙ ap (λ (xs : List (List ℕ)). place_words version key.0.0 ++ xs) behind);
+      words = place.words ∙ ap (λ (xs : List (List ℕ)). codes "node" ∷ decimal place.place ∷ xs) (front.words ∙ ap (λ (xs : List (List ℕ)). place_words device version key.0.0 ++ xs) behind);
       inst = record { inst = place.inst; there = place.there; same = place.same ∙ front.same };
       fits = form.1;
       of_version = record { key = front.of_version; form = form.2 };
     })
 
-key_of : (followed : Bool) (at : ℕ) (key : NodeKey) (form : NodeForm) → FitsAt followed at key form → IsKey key
-key_of followed at key (State s) h = record { word = h.word; small = h.small; masks = h.masks; fits = h.fits; pick = h.pick }
-key_of followed at key (From m) h = h.0
+key_of : (device : Device) (followed : Bool) (at : ℕ) (key : NodeKey) (form : NodeForm) → FitsAt device followed at key form → IsKey device key
+key_of device followed at key (State s) h = record { word = h.word; small = h.small; masks = h.masks; fits = h.fits; pick = h.pick }
+key_of device followed at key (From m) h = h.0
 
-node_again : WordLaws → KeyWords → (version : Version) (insts : List Inst) (at place : ℕ) (n : NodeKey × NodeForm) → at ≤ 65536 → place < 65536 → IsInstanceOf insts place n.0 → FitsAt (is_third version) at n.0 n.1 → NodeIsOf version n
-    → node_in version insts at (node_words_at version place n) ≡ Some n
+node_again : (device : Device) → WordLaws → KeyWords → (version : Version) (insts : List Inst) (at place : ℕ) (n : NodeKey × NodeForm) → at ≤ 65536 → place < 65536 → IsInstanceOf insts place n.0 → FitsAt device (is_third version) at n.0 n.1 → NodeIsOf version n
+    → node_in device version insts at (node_words_at device version place n) ≡ Some n
 unfolding node_in whole_key_at
-node_again k v version insts at place n few small i h o =
-    let rest : List (List ℕ) = place_words version n.0 ++ form_words version n.1 in
-    let first : place_at insts (node_words_at version place n) ≡ Some (n.0.inst, rest) = place_again k insts place i.inst rest small i.there ∙ ap (λ (x : InstKey). Some (x, rest)) i.same in
-    let key = v.places.read version n.0 (form_words version n.1) (key_of (is_third version) at n.0 n.1 h) o.key in
-    let form = v.forms.read version at n.0 n.1 few h o.form in
+node_again device k v version insts at place n few small i h o =
+    let rest : List (List ℕ) = place_words device version n.0 ++ form_words version n.1 in
+    let first : place_at insts (node_words_at device version place n) ≡ Some (n.0.inst, rest) = place_again k insts place i.inst rest small i.there ∙ ap (λ (x : InstKey). Some (x, rest)) i.same in
+    let key = v.places.read device version n.0 (form_words version n.1) (key_of device (is_third version) at n.0 n.1 h) o.key in
+    let form = v.forms.read device version at n.0 n.1 few h o.form in
     rw (first, key, form) refl
 
-node_plain : WordLaws → KeyWords → (version : Version) (at place : ℕ) (n : NodeKey × NodeForm) → at ≤ 65536 → place < 65536 → FitsAt (is_third version) at n.0 n.1 → NodeIsOf version n → AllByRecursion IsWord (node_words_at version place n)
-node_plain k v version at place n few small h o = (
+node_plain : (device : Device) → WordLaws → KeyWords → (version : Version) (at place : ℕ) (n : NodeKey × NodeForm) → at ≤ 65536 → place < 65536 → FitsAt device (is_third version) at n.0 n.1 → NodeIsOf version n → AllByRecursion IsWord (node_words_at device version place n)
+node_plain device k v version at place n few small h o = (
   ((refl, (refl, (refl, (refl, tt)))), (refl, (refl, (refl, (refl, tt))))),
   (
     k.dec_word place (omega (arith, small)),
-    joined_words (place_words version n.0) (form_words version n.1) (v.places.words version n.0 (key_of (is_third version) at n.0 n.1 h)) (v.forms.words version at n.0 n.1 few h o.form),
+    joined_words (place_words device version n.0) (form_words version n.1) (v.places.words device version n.0 (key_of device (is_third version) at n.0 n.1 h)) (v.forms.words device version at n.0 n.1 few h o.form),
   ),
 )
 
 pub node_lines : WordLaws → KeyWords → NodeLines
-node_lines k v = record { spelled = node_take k v; read = node_again k v; words = node_plain k v }
+node_lines k v = record { spelled = λ d. node_take d k v; read = λ d. node_again d k v; words = λ d. node_plain d k v }

@@ -2,18 +2,20 @@
 use Rattle.std.proofs.Common.{ℕ, suc, ◌+◌, ◌-◌, ◌<◌, ◌≤◌, ◌≡◌, List, [], ◌∷◌, ◌++◌, length, length-append, Bool, true, false, refl, ap, sym, ◌∙◌, arith, Some, None, cond, subst, slice_get, nat_le}
 use Rattle.std.specs.List.{AllByRecursion}
 use Rattle.std.specs.List.Sorted.{IsStrictlySortedBy}
+use Rattle.std.proofs.lemmas.Bool.{and_parts}
 use Rattle.std.proofs.lemmas.Bool.Decides.{nat_tests}
 use Rattle.std.proofs.lemmas.List.{map-append}
 use Rattle.std.specs.Prelude.{Contains, ◌≢◌, codes}
 use Rattle.avr_model.specs.declared.assumption.Entry.{Entry}
 use Rattle.avr_model.specs.declared.assumption.Entry.TheVariants.{Pairs, Masks, Jump, Store, Prove, Free, Never, Frame}
-use Rattle.indirect_targets.specs.Reading.{entry_in}
+use Rattle.indirect_targets.specs.Reading.{is_entry_of, entry_in}
 use Rattle.cert_format.specs.LineReading.{inst_in, node_in}
 use Rattle.sb_base.specs.Lines.{words_of, spaced}
 use Rattle.line_reading.specs.Words.{IsWord, WordLaws}
-use Rattle.vector_table.specs.Entries.{AreEntries, is_entry, is_above_last, most_entries}
+use Rattle.avr_model.specs.declared.device.Device.{Device}
+use Rattle.vector_table.specs.Entries.{is_entry, fits_device, is_above_last, most_entries}
 use Rattle.indirect_targets.specs.Spelling.{entry_words}
-use Rattle.indirect_targets.specs.Exact.{EntryWords}
+use Rattle.indirect_targets.specs.Exact.{EntryWords, AreEntriesOf}
 use Rattle.indirect_targets.proofs.AllLaws.{pushed, follows, entry_is_words}
 use Rattle.mask_states.specs.declared.keys.InstKey.{InstKey}
 use Rattle.mask_states.specs.declared.keys.NodeKey.{NodeKey}
@@ -53,53 +55,53 @@ if_none b f e = rw e refl
 
 -- ---- assumptions
 
-abbrev pub FitsEntry : Entry → Type 0
-FitsEntry e = is_entry e ≡ true
+abbrev pub FitsEntry : Device → Entry → Type 0
+FitsEntry device e = is_entry_of device e ≡ true
 
 -- one of the third version, or of another
-abbrev pub EntryOf : Bool → ℕ → Entry → Type 0
-EntryOf third at e = FitsEntry e × (is_admitted third e ≡ true)
+abbrev pub EntryOf : Device → Bool → ℕ → Entry → Type 0
+EntryOf device third at e = FitsEntry device e × (is_admitted third e ≡ true)
 
 pub entry_steady : Steady refused_entry
 entry_steady es e a b h = if_none (is_above_last es e) (fault.Order b) (none_if (is_above_last es e) (fault.Order a) h)
 
-abbrev AreFew : List Entry → Type 0
-AreFew es = length es ≤ most_entries → AreEntries es
+abbrev AreFew : Device → List Entry → Type 0
+AreFew device es = length es ≤ most_entries → AreEntriesOf device es
 
-pub record EntriesKeep (third : Bool) (es : List Entry) : Type 0 where
-  pub are : AreFew es
+pub record EntriesKeep (device : Device) (third : Bool) (es : List Entry) : Type 0 where
+  pub are : AreFew device es
   pub mode : has_pairs es ≡ third
 
-entry_pushed : (third : Bool) (es : List Entry) (e : Entry) → EntriesKeep third es → EntryOf third (length es) e → ((at : ℕ) → refused_entry es e at ≡ None) → EntriesKeep third (es ++ e ∷ [])
-entry_pushed third es e h f none =
+entry_pushed : (device : Device) (third : Bool) (es : List Entry) (e : Entry) → EntriesKeep device third es → EntryOf device third (length es) e → ((at : ℕ) → refused_entry es e at ≡ None) → EntriesKeep device third (es ++ e ∷ [])
+entry_pushed device third es e h f none =
     let P : Bool → Type 0 = λ b. is_admitted b e ≡ true in
     record {
       are = λ few.
           let n = length-append es (e ∷ []) in
-          pushed es e (h.are (omega arith)) (record { room = omega arith; formed = f.0; above = none_if (is_above_last es e) (fault.Order 0) (none 0) });
+          pushed device es e (h.are (omega arith)) (record { room = omega arith; formed = f.0; above = none_if (is_above_last es e) (fault.Order 0) (none 0) });
       mode = mode_kept es e (subst P (sym h.mode) f.1) ∙ h.mode;
     }
 
-pub entries_kept : (third : Bool) (front es : List Entry) → EntriesKeep third front → Admitted (EntryOf third) refused_entry front es → EntriesKeep third (front ++ es)
-entries_kept third front es q h = kept_by (EntryOf third) refused_entry (EntriesKeep third) (entry_pushed third) front es q h
+pub entries_kept : (device : Device) (third : Bool) (front es : List Entry) → EntriesKeep device third front → Admitted (EntryOf device third) refused_entry front es → EntriesKeep device third (front ++ es)
+entries_kept device third front es q h = kept_by (EntryOf device third) refused_entry (EntriesKeep device third) (entry_pushed device third) front es q h
 
-entry_follows : (es : List Entry) (e : Entry) (more : List Entry) → AreEntries (es ++ e ∷ more) → (at : ℕ) → refused_entry es e at ≡ None
-entry_follows es e more h at = if_none (is_above_last es e) (fault.Order at) (follows es e more h).above
+entry_follows : (device : Device) (es : List Entry) (e : Entry) (more : List Entry) → AreEntriesOf device (es ++ e ∷ more) → (at : ℕ) → refused_entry es e at ≡ None
+entry_follows device es e more h at = if_none (is_above_last es e) (fault.Order at) (follows device es e more h).above
 
-both_of : (third : Bool) (at : ℕ) (es : List Entry) → AllByRecursion FitsEntry es → AllByRecursion (λ e. is_admitted third e ≡ true) es → AllFrom (EntryOf third) at es
-both_of third at [] h g = tt
-both_of third at (e ∷ es) h g = ((h.0, g.0), both_of third (at + 1) es h.1 g.1)
+both_of : (device : Device) (third : Bool) (at : ℕ) (es : List Entry) → AllByRecursion (FitsEntry device) es → AllByRecursion (λ e. is_admitted third e ≡ true) es → AllFrom (EntryOf device third) at es
+both_of device third at [] h g = tt
+both_of device third at (e ∷ es) h g = ((h.0, g.0), both_of device third (at + 1) es h.1 g.1)
 
-pub entries_admitted : (third : Bool) (front es : List Entry) → AreEntries (front ++ es) → AllByRecursion FitsEntry es → AllByRecursion (λ e. is_admitted third e ≡ true) es
-    → Admitted (EntryOf third) refused_entry front es
-entries_admitted third front es h all placed = admitted_by (EntryOf third) refused_entry AreEntries entry_follows front es h (both_of third (length front) es all placed)
+pub entries_admitted : (device : Device) (third : Bool) (front es : List Entry) → AreEntriesOf device (front ++ es) → AllByRecursion (FitsEntry device) es → AllByRecursion (λ e. is_admitted third e ≡ true) es
+    → Admitted (EntryOf device third) refused_entry front es
+entries_admitted device third front es h all placed = admitted_by (EntryOf device third) refused_entry (AreEntriesOf device) (entry_follows device) front es h (both_of device third (length front) es all placed)
 
-pub entry_spells : WordLaws → EntryWords → (third : Bool) → Spells (λ at. entry_by third) entry_words (EntryOf third)
-entry_spells k w third at text e h =
-    let x = bind_some (entry_in (words_of text)) _ e h in
+pub entry_spells : (device : Device) → WordLaws → EntryWords → (third : Bool) → Spells (λ at. entry_by device third) entry_words (EntryOf device third)
+entry_spells device k w third at text e h =
+    let x = bind_some (entry_in device (words_of text)) _ e h in
     let last = cond_some {A = Entry} (is_admitted third x.0) x.0 e x.2 in
-    let t = w.spelled (words_of text) x.0 x.1 in
-    let P : Entry → Type 0 = λ y. (text ≡ spaced (entry_words y)) × EntryOf third at y in
+    let t = w.spelled device (words_of text) x.0 x.1 in
+    let P : Entry → Type 0 = λ y. (text ≡ spaced (entry_words y)) × EntryOf device third at y in
     subst P last.1 (sym (k.line_words text) ∙ ap spaced t.0, (t.1, last.0))
 
 stand_words : WordLaws → (ws : List (List ℕ)) → ws ≢ [] → AllByRecursion IsWord ws → words_of (spaced ws) ≡ ws
@@ -116,9 +118,9 @@ entry_some (Free site) h = cc
 entry_some (Never site) h = cc
 entry_some (Frame site) h = cc
 
-pub entry_reads : WordLaws → EntryWords → (third : Bool) → Reads (λ at. entry_by third) entry_words (EntryOf third)
-entry_reads k w third at e few h =
-    let read : entry_in (words_of (spaced (entry_words e))) ≡ Some e = ap entry_in (stand_words k (entry_words e) (entry_some e) (entry_is_words k e h.0)) ∙ w.read e h.0 in
+pub entry_reads : (device : Device) → WordLaws → EntryWords → (third : Bool) → Reads (λ at. entry_by device third) entry_words (EntryOf device third)
+entry_reads device k w third at e few h =
+    let read : entry_in device (words_of (spaced (entry_words e))) ≡ Some e = ap (entry_in device) (stand_words k (entry_words e) (entry_some e) (entry_is_words k e (and_parts (is_entry e) (fits_device device e) h.0).0)) ∙ w.read device e h.0 in
     rw (read, h.1) refl
 
 -- ---- instances
@@ -134,21 +136,21 @@ inst_above_is (y ∷ z ∷ zs) x =
 pub inst_steady : Steady refused_inst
 inst_steady xs x a b h = if_none (is_inst_above (last_in xs) x) (fault.Order b) (none_if (is_inst_above (last_in xs) x) (fault.Order a) h)
 
-abbrev pub AnyInst : ℕ → Inst → Type 0
-AnyInst at x = IsInst x
+abbrev pub AnyInst : Device → ℕ → Inst → Type 0
+AnyInst device at x = IsInst device x
 
 abbrev InstsAscend : List Inst → Type 0
 InstsAscend xs = IsStrictlySortedBy inst_cmp (inst_keys xs)
 
-inst_pushed : KeysAreOrdered → (xs : List Inst) (x : Inst) → InstsAscend xs → IsInst x → ((at : ℕ) → refused_inst xs x at ≡ None) → InstsAscend (xs ++ x ∷ [])
-inst_pushed o xs x h f none =
+inst_pushed : (device : Device) → KeysAreOrdered → (xs : List Inst) (x : Inst) → InstsAscend xs → IsInst device x → ((at : ℕ) → refused_inst xs x at ≡ None) → InstsAscend (xs ++ x ∷ [])
+inst_pushed device o xs x h f none =
     let up = sym (inst_above_is xs x) ∙ none_if (is_inst_above (last_in xs) x) (fault.Order 0) (none 0) in
     let P : List InstKey → Type 0 = λ ks. IsStrictlySortedBy inst_cmp ks in
     subst P (sym (map-append (λ (y : Inst). y.key) xs (x ∷ []))) (sorted_push inst_cmp o.insts (inst_keys xs) x.key h up)
 
-pub insts_kept : KeysAreOrdered → (xs : List Inst) → Admitted AnyInst refused_inst [] xs → IsStrictlySortedBy inst_cmp (inst_keys xs)
+pub insts_kept : (device : Device) → KeysAreOrdered → (xs : List Inst) → Admitted (AnyInst device) refused_inst [] xs → IsStrictlySortedBy inst_cmp (inst_keys xs)
 unfolding IsStrictlySortedBy
-insts_kept o xs h = kept_by AnyInst refused_inst InstsAscend (inst_pushed o) [] xs tt h
+insts_kept device o xs h = kept_by (AnyInst device) refused_inst InstsAscend (inst_pushed device o) [] xs tt h
 
 inst_follows : (xs : List Inst) (x : Inst) (ys : List Inst) → InstsAscend (xs ++ x ∷ ys) → (at : ℕ) → refused_inst xs x at ≡ None
 inst_follows xs x ys h at =
@@ -156,19 +158,19 @@ inst_follows xs x ys h at =
     let up = sorted_at inst_cmp (inst_keys xs) x.key (inst_keys ys) (subst P (map-append (λ (y : Inst). y.key) xs (x ∷ ys)) h) in
     if_none (is_inst_above (last_in xs) x) (fault.Order at) (inst_above_is xs x ∙ up)
 
-pub insts_admitted : (xs : List Inst) → IsStrictlySortedBy inst_cmp (inst_keys xs) → AllByRecursion IsInst xs → Admitted AnyInst refused_inst [] xs
-insts_admitted xs h all = admitted_by AnyInst refused_inst InstsAscend inst_follows [] xs h (any_of_all IsInst 0 xs all)
+pub insts_admitted : (device : Device) (xs : List Inst) → IsStrictlySortedBy inst_cmp (inst_keys xs) → AllByRecursion (IsInst device) xs → Admitted (AnyInst device) refused_inst [] xs
+insts_admitted device xs h all = admitted_by (AnyInst device) refused_inst InstsAscend inst_follows [] xs h (any_of_all (IsInst device) 0 xs all)
 
-pub inst_spells : WordLaws → InstLines → Spells (λ at. inst_by) inst_words AnyInst
-inst_spells k l at text x e = let t = l.spelled (words_of text) x e in (sym (k.line_words text) ∙ ap spaced t.0, t.1)
+pub inst_spells : (device : Device) → WordLaws → InstLines → Spells (λ at. inst_by device) (inst_words device) (AnyInst device)
+inst_spells device k l at text x e = let t = l.spelled device (words_of text) x e in (sym (k.line_words text) ∙ ap spaced t.0, t.1)
 
-pub inst_reads : WordLaws → InstLines → Reads (λ at. inst_by) inst_words AnyInst
-inst_reads k l at x few h = ap inst_in (k.words_stand (codes "inst") _ (l.words x h)) ∙ l.read x h
+pub inst_reads : (device : Device) → WordLaws → InstLines → Reads (λ at. inst_by device) (inst_words device) (AnyInst device)
+inst_reads device k l at x few h = ap (inst_in device) (k.words_stand (codes "inst") _ (l.words device x h)) ∙ l.read device x h
 
 -- ---- nodes
 
-abbrev pub FitsNode : Version → List Inst → ℕ → NodeKey × NodeForm → Type 0
-FitsNode version insts at n = FitsAt (is_third version) at n.0 n.1 × Belongs insts n.0 × NodeIsOf version n
+abbrev pub FitsNode : Device → Version → List Inst → ℕ → NodeKey × NodeForm → Type 0
+FitsNode device version insts at n = FitsAt device (is_third version) at n.0 n.1 × Belongs insts n.0 × NodeIsOf version n
 
 pub node_above_is : (ns : Seeds) (key : NodeKey) → is_node_above (last_in ns) key ≡ is_after node_cmp (node_keys ns) key
 node_above_is [] key = refl
@@ -201,8 +203,8 @@ pub record NodesKeep (ns : Seeds) : Type 0 where
 pub keys_append : (ns ms : Seeds) → node_keys (ns ++ ms) ≡ node_keys ns ++ node_keys ms
 keys_append ns ms = map-append (λ (e : NodeKey × NodeForm). e.0) ns ms
 
-node_pushed : KeysAreOrdered → (version : Version) (insts : List Inst) (ns : Seeds) (n : NodeKey × NodeForm) → NodesKeep ns → FitsNode version insts (length ns) n → ((at : ℕ) → refused_node ns n at ≡ None) → NodesKeep (ns ++ n ∷ [])
-node_pushed o version insts ns n h f none =
+node_pushed : (device : Device) → KeysAreOrdered → (version : Version) (insts : List Inst) (ns : Seeds) (n : NodeKey × NodeForm) → NodesKeep ns → FitsNode device version insts (length ns) n → ((at : ℕ) → refused_node ns n at ≡ None) → NodesKeep (ns ++ n ∷ [])
+node_pushed device o version insts ns n h f none =
     let t = none_both (is_node_above (last_in ns) n.0) (has_room ns n.0) (fault.Limit limit.Cells) (fault.Order 0) (none 0) in
     let up = sym (node_above_is ns n.0) ∙ t.0 in
     let room : cells_of (node_keys ns) + (1 + offset_of n.0.sp) ≤ most_cells = grind (arith, nat_tests, t.1) in
@@ -212,9 +214,9 @@ node_pushed o version insts ns n h f none =
       few = omega (arith, cells_more ns n, room);
     }
 
-pub nodes_kept : KeysAreOrdered → (version : Version) (insts : List Inst) (ns : Seeds) → Admitted (FitsNode version insts) refused_node [] ns → NodesKeep ns
+pub nodes_kept : (device : Device) → KeysAreOrdered → (version : Version) (insts : List Inst) (ns : Seeds) → Admitted (FitsNode device version insts) refused_node [] ns → NodesKeep ns
 unfolding IsStrictlySortedBy cells_of
-nodes_kept o version insts ns h = kept_by (FitsNode version insts) refused_node NodesKeep (node_pushed o version insts) [] ns (record { ascend = tt; few = omega arith }) h
+nodes_kept device o version insts ns h = kept_by (FitsNode device version insts) refused_node NodesKeep (node_pushed device o version insts) [] ns (record { ascend = tt; few = omega arith }) h
 
 cells_append : (ks js : List NodeKey) → cells_of (ks ++ js) ≡ cells_of ks + cells_of js
 unfolding cells_of
@@ -235,45 +237,45 @@ node_follows ns n ms h at =
     let room : has_room ns n.0 ≡ true = grind (arith, nat_tests, few) in
     both_none (is_node_above (last_in ns) n.0) (has_room ns n.0) (fault.Limit limit.Cells) (fault.Order at) (node_above_is ns n.0 ∙ up) room
 
-pub nodes_admitted : (version : Version) (insts : List Inst) (ns : Seeds) → NodesKeep ns → AllFrom (FitsNode version insts) 0 ns → Admitted (FitsNode version insts) refused_node [] ns
-nodes_admitted version insts ns h all = admitted_by (FitsNode version insts) refused_node NodesKeep node_follows [] ns h all
+pub nodes_admitted : (device : Device) (version : Version) (insts : List Inst) (ns : Seeds) → NodesKeep ns → AllFrom (FitsNode device version insts) 0 ns → Admitted (FitsNode device version insts) refused_node [] ns
+nodes_admitted device version insts ns h all = admitted_by (FitsNode device version insts) refused_node NodesKeep node_follows [] ns h all
 
-pub node_spells : WordLaws → NodeLines → KeysAreOrdered → (version : Version) (insts : List Inst) → IsStrictlySortedBy inst_cmp (inst_keys insts) → Spells (node_by version insts) (node_words version insts) (FitsNode version insts)
-node_spells k l o version insts ascend at text n e =
-    let t = l.spelled version insts at (words_of text) n e in
+pub node_spells : (device : Device) → WordLaws → NodeLines → KeysAreOrdered → (version : Version) (insts : List Inst) → IsStrictlySortedBy inst_cmp (inst_keys insts) → Spells (node_by device version insts) (node_words device version insts) (FitsNode device version insts)
+node_spells device k l o version insts ascend at text n e =
+    let t = l.spelled device version insts at (words_of text) n e in
     let own = place_unique o insts t.place t.inst.inst ascend t.inst.there in
     let place : inst_number n.0.inst insts ≡ t.place = ap (λ (key : InstKey). inst_number key insts) (sym t.inst.same) ∙ own in
     let P : InstKey → Type 0 = λ key. Contains (inst_keys insts) key in (
-      sym (k.line_words text) ∙ ap spaced (t.words ∙ ap (λ (i : ℕ). node_words_at version i n) (sym place)),
+      sym (k.line_words text) ∙ ap spaced (t.words ∙ ap (λ (i : ℕ). node_words_at device version i n) (sym place)),
       (t.fits, subst P t.inst.same (key_at insts t.place t.inst.inst t.inst.there), t.of_version),
     )
 
-pub node_reads : WordLaws → NodeLines → KeysAreOrdered → (version : Version) (insts : List Inst) → length insts ≤ most_instances → Reads (node_by version insts) (node_words version insts) (FitsNode version insts)
-node_reads k l o version insts few at n most h =
+pub node_reads : (device : Device) → WordLaws → NodeLines → KeysAreOrdered → (version : Version) (insts : List Inst) → length insts ≤ most_instances → Reads (node_by device version insts) (node_words device version insts) (FitsNode device version insts)
+node_reads device k l o version insts few at n most h =
     let t = has_place o insts n.0.inst h.1 in
     let within = slice_get_within insts (inst_number n.0.inst insts) t.inst t.there in
     let small : inst_number n.0.inst insts < 65536 = omega (arith, within, few) in
     let inst : IsInstanceOf insts (inst_number n.0.inst insts) n.0 = record { inst = t.inst; there = t.there; same = t.same } in
-    ap (node_in version insts at) (k.words_stand (codes "node") _ (l.words version at (inst_number n.0.inst insts) n most small h.0 h.2)) ∙ l.read version insts at (inst_number n.0.inst insts) n most small inst h.0 h.2
+    ap (node_in device version insts at) (k.words_stand (codes "node") _ (l.words device version at (inst_number n.0.inst insts) n most small h.0 h.2)) ∙ l.read device version insts at (inst_number n.0.inst insts) n most small inst h.0 h.2
 
-pub node_is_plain : NodeLines → KeysAreOrdered → (version : Version) (insts : List Inst) → length insts ≤ most_instances → (at : ℕ) (n : NodeKey × NodeForm) → at ≤ 65536 → FitsNode version insts at n → AllByRecursion IsWord (node_words version insts n)
-node_is_plain l o version insts few at n most h =
+pub node_is_plain : (device : Device) → NodeLines → KeysAreOrdered → (version : Version) (insts : List Inst) → length insts ≤ most_instances → (at : ℕ) (n : NodeKey × NodeForm) → at ≤ 65536 → FitsNode device version insts at n → AllByRecursion IsWord (node_words device version insts n)
+node_is_plain device l o version insts few at n most h =
     let t = has_place o insts n.0.inst h.1 in
     let within = slice_get_within insts (inst_number n.0.inst insts) t.inst t.there in
-    l.words version at (inst_number n.0.inst insts) n most (omega (arith, within, few)) h.0 h.2
+    l.words device version at (inst_number n.0.inst insts) n most (omega (arith, within, few)) h.0 h.2
 
-pub all_from : (version : Version) (insts : List Inst) (at : ℕ) (ns : Seeds) → AllFrom (FitsNode version insts) at ns → AreFrom (is_third version) at ns
-all_from version insts at [] h = tt
-all_from version insts at (n ∷ ns) h = (h.0.0, all_from version insts (at + 1) ns h.1)
+pub all_from : (device : Device) (version : Version) (insts : List Inst) (at : ℕ) (ns : Seeds) → AllFrom (FitsNode device version insts) at ns → AreFrom device (is_third version) at ns
+all_from device version insts at [] h = tt
+all_from device version insts at (n ∷ ns) h = (h.0.0, all_from device version insts (at + 1) ns h.1)
 
-pub all_belong : (version : Version) (insts : List Inst) (at : ℕ) (ns : Seeds) → AllFrom (FitsNode version insts) at ns → AllByRecursion (Belongs insts) (node_keys ns)
-all_belong version insts at [] h = tt
-all_belong version insts at (n ∷ ns) h = (h.0.1, all_belong version insts (at + 1) ns h.1)
+pub all_belong : (device : Device) (version : Version) (insts : List Inst) (at : ℕ) (ns : Seeds) → AllFrom (FitsNode device version insts) at ns → AllByRecursion (Belongs insts) (node_keys ns)
+all_belong device version insts at [] h = tt
+all_belong device version insts at (n ∷ ns) h = (h.0.1, all_belong device version insts (at + 1) ns h.1)
 
-pub all_of_version : (version : Version) (insts : List Inst) (at : ℕ) (ns : Seeds) → AllFrom (FitsNode version insts) at ns → AllByRecursion (λ n. NodeIsOf version n) ns
-all_of_version version insts at [] h = tt
-all_of_version version insts at (n ∷ ns) h = (h.0.2, all_of_version version insts (at + 1) ns h.1)
+pub all_of_version : (device : Device) (version : Version) (insts : List Inst) (at : ℕ) (ns : Seeds) → AllFrom (FitsNode device version insts) at ns → AllByRecursion (λ n. NodeIsOf version n) ns
+all_of_version device version insts at [] h = tt
+all_of_version device version insts at (n ∷ ns) h = (h.0.2, all_of_version device version insts (at + 1) ns h.1)
 
-pub all_fit : (version : Version) (insts : List Inst) (at : ℕ) (ns : Seeds) → AreFrom (is_third version) at ns → AllByRecursion (Belongs insts) (node_keys ns) → AllByRecursion (λ n. NodeIsOf version n) ns → AllFrom (FitsNode version insts) at ns
-all_fit version insts at [] h g o = tt
-all_fit version insts at (n ∷ ns) h g o = ((h.0, g.0, o.0), all_fit version insts (at + 1) ns h.1 g.1 o.1)
+pub all_fit : (device : Device) (version : Version) (insts : List Inst) (at : ℕ) (ns : Seeds) → AreFrom device (is_third version) at ns → AllByRecursion (Belongs insts) (node_keys ns) → AllByRecursion (λ n. NodeIsOf version n) ns → AllFrom (FitsNode device version insts) at ns
+all_fit device version insts at [] h g o = tt
+all_fit device version insts at (n ∷ ns) h g o = ((h.0, g.0, o.0), all_fit device version insts (at + 1) ns h.1 g.1 o.1)

@@ -11,7 +11,8 @@ use Rattle.basics.specs.Lists.{chosen}
 use Rattle.basics.specs.Numbers.{at_most_from_test, test_from_at_most}
 use Rattle.std.proofs.lemmas.Option.{same_Some, none-some, cond_some}
 use Rattle.witness_replay.proofs.Exact.{as_words}
-use Rattle.avr_model.specs.State.{SIZE}
+use Rattle.avr_model.specs.declared.device.Device.{Device}
+use Rattle.avr_model.specs.Devices.{depth_of}
 use Rattle.sb_base.specs.Digits.{dec_answer}
 use Rattle.sb_base.specs.declared.digits.DigitFault.{DigitFault}
 use Rattle.sb_base.specs.declared.digits.DigitFault.TheVariants.{WrongLength, BadDigit, TooGreat}
@@ -29,7 +30,7 @@ use Rattle.certificate.specs.declared.version.Version.{Version}
 use Rattle.certificate.specs.declared.version.Version.TheVariants.{One, Two, Three}
 use Rattle.cert_words.specs.Text.{numbered, version_line, heading, open_line, attained_line, witness_lines, end_line}
 use Rattle.cert_format.specs.Reading.{formed, numbered_in, numbered_by, counted, count_at, count_in, count_by, limited, version_by, ending_by, items_from, heading_at, plan_if, witness_at, if_last, end_at}
-use Rattle.cert_words.proofs.AllLaws.{same_text, word_take, dec_take}
+use Rattle.cert_words.proofs.AllLaws.{depth_room, same_text, word_take, dec_take}
 use Rattle.cert_format.proofs.Lists.{ok_is, err_ok, then_ok, formed_ok, Admitted, Steady, Spells, Reads, items_take, items_again}
 
 -- ---- places
@@ -226,22 +227,22 @@ version_plain One = plain (version_line One) refl
 version_plain Two = plain (version_line Two) refl
 version_plain Three = plain (version_line Three) refl
 
-pub heading_take : WordLaws → (p : Place) (z : (Version × ℕ) × Place) → heading_at p ≡ Ok z → Stand p (heading z.0.0 z.0.1) z.1 × (z.0.1 ≤ SIZE)
+pub heading_take : (device : Device) → WordLaws → (p : Place) (z : (Version × ℕ) × Place) → heading_at device p ≡ Ok z → Stand p (heading z.0.0 z.0.1) z.1 × (z.0.1 ≤ depth_of device)
 unfolding heading_at
-heading_take k p z e =
+heading_take device k p z e =
     let v = then_ok (formed (line_by version_by p)) _ z e in
-    let n = then_ok (formed (line_by (numbered_by (codes "bound") 0 SIZE) v.0.1)) _ z v.2 in
-    let b = number_take k (codes "bound") 0 SIZE v.0.1 n.0 (lit< tt) n.1 in
-    let P : (Version × ℕ) × Place → Type 0 = λ y. Stand p (heading y.0.0 y.0.1) y.1 × (y.0.1 ≤ SIZE) in
+    let n = then_ok (formed (line_by (numbered_by (codes "bound") 0 (depth_of device)) v.0.1)) _ z v.2 in
+    let b = number_take k (codes "bound") 0 (depth_of device) v.0.1 n.0 (depth_room device) n.1 in
+    let P : (Version × ℕ) × Place → Type 0 = λ y. Stand p (heading y.0.0 y.0.1) y.1 × (y.0.1 ≤ depth_of device) in
     subst P (ok_is {A = (Version × ℕ) × Place} ((v.0.0, n.0.0), n.0.1) z n.2)
     (passes_more p v.0.1 n.0.1 (whole (version_line v.0.0) ∷ []) (whole (numbered (codes "bound") n.0.0) ∷ []) (version_take p v.0 v.1) b.0, b.2)
 
-pub heading_again : WordLaws → (p : Place) (version : Version) (n : ℕ) (q : Place) → n ≤ SIZE → Stand p (heading version n) q → heading_at p ≡ Ok ((version, n), q)
+pub heading_again : (device : Device) → WordLaws → (p : Place) (version : Version) (n : ℕ) (q : Place) → n ≤ depth_of device → Stand p (heading version n) q → heading_at device p ≡ Ok ((version, n), q)
 unfolding heading_at
-heading_again k p version n q small h =
+heading_again device k p version n q small h =
     let s = passes_split p q (whole (version_line version)) (whole (numbered (codes "bound") n) ∷ []) h in
     let first : formed (line_by version_by p) ≡ Ok (version, s.0) = ap formed (line_again version_by p s.0 (spaced (version_line version)) version (version_again version) s.1) in
-    let second = number_line k (codes "bound") 0 SIZE n s.0 q (plain (codes "bound" ∷ []) refl).0 (lit< tt) (omega arith) small s.2 in
+    let second = number_line k (codes "bound") 0 (depth_of device) n s.0 q (plain (codes "bound" ∷ []) refl).0 (depth_room device) (omega arith) small s.2 in
     rw (first, second) refl
 
 -- ---- the schedule
@@ -264,44 +265,44 @@ unfolding ending_by
 ending_again false = refl
 ending_again true = refl
 
-pub record WitnessPart (p : Place) (z : Option Plan × Place) : Type 0 where
-  pub schedule : IfSome z.0 IsSchedule
+pub record WitnessPart (device : Device) (p : Place) (z : Option Plan × Place) : Type 0 where
+  pub schedule : IfSome z.0 (IsSchedule device)
   pub lines : Stand p (witness_lines z.0) z.1
 
-plan_take : ScheduleIsSpelled → (b : Bool) (p m : Place) (z : Option Plan × Place) → Stand p (ending_words b ∷ []) m → plan_if b m ≡ Ok z → WitnessPart p z
-plan_take read false p m z h e =
-    let P : Option Plan × Place → Type 0 = λ y. WitnessPart p y in
+plan_take : (device : Device) → ScheduleIsSpelled → (b : Bool) (p m : Place) (z : Option Plan × Place) → Stand p (ending_words b ∷ []) m → plan_if device b m ≡ Ok z → WitnessPart device p z
+plan_take device read false p m z h e =
+    let P : Option Plan × Place → Type 0 = λ y. WitnessPart device p y in
     subst P (ok_is {A = Option Plan × Place} (None, m) z e) (record { schedule = tt; lines = h })
-plan_take read true p m z h e =
-    let s = then_ok (formed (schedule_at m)) _ z e in
-    let r = read m s.0.0 s.0.1 (formed_ok (schedule_at m) s.0 s.1) in
-    let P : Option Plan × Place → Type 0 = λ y. WitnessPart p y in
+plan_take device read true p m z h e =
+    let s = then_ok (formed (schedule_at device m)) _ z e in
+    let r = read device m s.0.0 s.0.1 (formed_ok (schedule_at device m) s.0 s.1) in
+    let P : Option Plan × Place → Type 0 = λ y. WitnessPart device p y in
     subst P (ok_is {A = Option Plan × Place} (Some s.0.0, s.0.1) z s.2) (record { schedule = r.fits; lines = passes_more p m s.0.1 (whole attained_line ∷ []) (map whole (schedule_lines s.0.0)) h r.lines })
 
-pub witness_part : ScheduleIsSpelled → (p : Place) (z : Option Plan × Place) → witness_at p ≡ Ok z → WitnessPart p z
+pub witness_part : (device : Device) → ScheduleIsSpelled → (p : Place) (z : Option Plan × Place) → witness_at device p ≡ Ok z → WitnessPart device p z
 unfolding witness_at
-witness_part read p z e =
+witness_part device read p z e =
     let b = then_ok (formed (line_by ending_by p)) _ z e in
     let l = line_takes ending_by p b.0.0 b.0.1 (formed_ok (line_by ending_by p) b.0 b.1) in
-    plan_take read b.0.0 p b.0.1 z (as_words ending_by p b.0.0 b.0.1 l (ending_words b.0.0) (ending_is l.text b.0.0 l.read)) b.2
+    plan_take device read b.0.0 p b.0.1 z (as_words ending_by p b.0.0 b.0.1 l (ending_words b.0.0) (ending_is l.text b.0.0 l.read)) b.2
 
 -- a witness that is read from a text, and the rest of the text
-pub witness_again : WordLaws → TextIsReading → ScheduleIsRead → (w : Option Plan) (at : ℕ) (text : List ℕ) → IfSome w IsSchedule
-    → (behind : ℕ) × (witness_at (before at (flat_map line (witness_lines w) ++ text)) ≡ Ok (w, before behind text))
+pub witness_again : (device : Device) → WordLaws → TextIsReading → ScheduleIsRead → (w : Option Plan) (at : ℕ) (text : List ℕ) → IfSome w (IsSchedule device)
+    → (behind : ℕ) × (witness_at device (before at (flat_map line (witness_lines w) ++ text)) ≡ Ok (w, before behind text))
 unfolding witness_at
-witness_again k reads read None at text h =
+witness_again device k reads read None at text h =
     let p = before at (flat_map line (open_line ∷ []) ++ text) in
     let q = before (at + length (flat_map line (open_line ∷ []))) text in
     let e = line_again ending_by p q (spaced open_line) false (ending_again false) (stand k (open_line ∷ []) at text (plain open_line refl, tt)) in
     (q.at, rw e refl)
-witness_again k reads read (Some plan) at text h =
+witness_again device k reads read (Some plan) at text h =
     let all : List ℕ = schedule_text plan ++ text in
     let p = before at (flat_map line (attained_line ∷ []) ++ all) in
     let m = before (at + length (flat_map line (attained_line ∷ []))) all in
     let q = before (m.at + length (schedule_text plan)) text in
     let e = line_again ending_by p m (spaced attained_line) true (ending_again true) (stand k (attained_line ∷ []) at all (plain attained_line refl, tt)) in
-    let r = reads m plan q (k.are_lines all) (k.are_lines text) (record { fits = h; bytes = k.text_joined all ∙ ap (λ (xs : List ℕ). schedule_text plan ++ xs) (sym (k.text_joined text)); offset = refl }) in
-    let s = read m plan q r in
+    let r = reads device m plan q (k.are_lines all) (k.are_lines text) (record { fits = h; bytes = k.text_joined all ∙ ap (λ (xs : List ℕ). schedule_text plan ++ xs) (sym (k.text_joined text)); offset = refl }) in
+    let s = read device m plan q r in
     (q.at, rw (e, s) refl)
 
 -- ---- the end

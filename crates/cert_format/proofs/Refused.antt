@@ -12,13 +12,15 @@ use Rattle.witness_replay.proofs.Exact.{as_words}
 use Rattle.avr_model.specs.declared.assumption.Entry.{Entry}
 use Rattle.avr_model.specs.declared.assumption.Entry.TheVariants.{Pairs}
 use Rattle.avr_model.specs.Assumptions.{has_pairs}
-use Rattle.avr_model.specs.State.{SIZE}
+use Rattle.avr_model.specs.declared.device.Device.{Device}
+use Rattle.avr_model.specs.Devices.{depth_of}
 use Rattle.sb_base.specs.Answers.{Answers}
 use Rattle.sb_base.specs.Lines.{TextLine, Place, words_of, spaced}
 use Rattle.line_reading.specs.Reading.{first_by, this_by, line_by}
 use Rattle.line_reading.specs.Words.{IsWord, whole, Passes, WordLaws}
 use Rattle.line_reading.proofs.AllLaws.{passes_none, passes_more, line_takes}
-use Rattle.vector_table.specs.Entries.{AreEntries, is_above_last, most_entries}
+use Rattle.vector_table.specs.Entries.{is_above_last, most_entries}
+use Rattle.indirect_targets.specs.Exact.{AreEntriesOf}
 use Rattle.indirect_targets.specs.Spelling.{entry_words}
 use Rattle.mask_states.specs.declared.keys.NodeKey.{NodeKey}
 use Rattle.mask_states.specs.declared.keys.InstKey.{InstKey}
@@ -42,6 +44,7 @@ use Rattle.certificate.specs.declared.limit.Limit.{Limit}
 use Rattle.certificate.specs.declared.limit.Limit.TheVariants as limit
 use Rattle.cert_format.specs.Reading.{entry_by, inst_by, node_by, numbered_in, numbered_by, count_in, count_by, version_by, ending_by, formed, limited, last_in, is_inst_above, is_node_above, refused_entry, refused_inst, refused_node, heading_at, least_entries, first_at, entries_at, insts_at, nodes_at, plan_if, witness_at, if_last, end_at, claim_at, claim_alone, certificate_in}
 use Rattle.cert_format.specs.Refusals.{Part, Begin, Bound, Assume, FirstEntry, AnEntry, Instances, AnInst, Nodes, ANode, Ending, End, Nothing, StandsBefore, IsNextLine, IsNumbered, IsNodesLine, IsLow, IsTooMuch, IsStopped, IsCertificateRefused, IsCertificateDue, IsCertificateDueUnlessMemory, ReadCertificateIsDue, start}
+use Rattle.cert_words.proofs.AllLaws.{depth_room}
 use Rattle.cert_format.proofs.Numbers.{decimal_word, nodes_count, too_many}
 use Rattle.cert_format.proofs.Lists.{err_ok, formed_ok, AllFrom, all_of_any, admitted_all, sorted_at, sorted_push, lines}
 use Rattle.cert_format.proofs.Items.{cells_more}
@@ -61,29 +64,29 @@ no_nodes : NodesKeep []
 unfolding IsStrictlySortedBy cells_of
 no_nodes = record { ascend = tt; few = omega arith }
 
-abbrev claim_to : Version → ℕ → List Entry → List Inst → Seeds → Option Plan → Claim
-claim_to version n es xs ns w = record { version = version; bound = n; assumptions = es; instances = xs; nodes = ns; witness = w }
+abbrev claim_to : Device → Version → ℕ → List Entry → List Inst → Seeds → Option Plan → Claim
+claim_to device version n es xs ns w = record { device = device; version = version; bound = n; assumptions = es; instances = xs; nodes = ns; witness = w }
 
-certificate_of : (version : Version) (n : ℕ) (es : List Entry) (xs : List Inst) (ns : Seeds) → n ≤ SIZE → AreEntries es → is_third version ≡ has_pairs es → AllByRecursion IsInst xs → IsStrictlySortedBy inst_cmp (inst_keys xs) → length xs ≤ most_instances
-    → AllFrom (FitsNode version xs) 0 ns → NodesKeep ns → length ns ≤ most_nodes → IsCertificate (claim_to version n es xs ns None)
-certificate_of version n es xs ns small he mode hx ax few hn kn most = record { claim = claim_of version n es xs ns None small he mode hx ax few hn kn most; schedule = tt }
+certificate_of : (device : Device) (version : Version) (n : ℕ) (es : List Entry) (xs : List Inst) (ns : Seeds) → n ≤ depth_of device → AreEntriesOf device es → is_third version ≡ has_pairs es → AllByRecursion (IsInst device) xs → IsStrictlySortedBy inst_cmp (inst_keys xs) → length xs ≤ most_instances
+    → AllFrom (FitsNode device version xs) 0 ns → NodesKeep ns → length ns ≤ most_nodes → IsCertificate (claim_to device version n es xs ns None)
+certificate_of device version n es xs ns small he mode hx ax few hn kn most = record { claim = claim_of device version n es xs ns None small he mode hx ax few hn kn most; schedule = tt }
 
-with_entries : (version : Version) (n : ℕ) (es : List Entry) → n ≤ SIZE → AreEntries es → is_third version ≡ has_pairs es → IsCertificate (claim_to version n es [] [] None)
-with_entries version n es small h mode = certificate_of version n es [] [] small h mode tt no_insts (omega arith) tt no_nodes (omega arith)
+with_entries : (device : Device) (version : Version) (n : ℕ) (es : List Entry) → n ≤ depth_of device → AreEntriesOf device es → is_third version ≡ has_pairs es → IsCertificate (claim_to device version n es [] [] None)
+with_entries device version n es small h mode = certificate_of device version n es [] [] small h mode tt no_insts (omega arith) tt no_nodes (omega arith)
 
 -- the bound, and the first entries of the version
-bound_only : (version : Version) (n : ℕ) → n ≤ SIZE → IsCertificate (claim_to version n (firsts version) [] [] None)
-bound_only version n small = with_entries version n (firsts version) small (firsts_are version) (firsts_mode version)
+bound_only : (device : Device) (version : Version) (n : ℕ) → n ≤ depth_of device → IsCertificate (claim_to device version n (firsts version) [] [] None)
+bound_only device version n small = with_entries device version n (firsts version) small (firsts_are device version) (firsts_mode version)
 
-with_insts : (version : Version) (n : ℕ) (es : List Entry) (xs : List Inst) → n ≤ SIZE → AreEntries es → is_third version ≡ has_pairs es → AllByRecursion IsInst xs → IsStrictlySortedBy inst_cmp (inst_keys xs) → length xs ≤ most_instances
-    → IsCertificate (claim_to version n es xs [] None)
-with_insts version n es xs small h mode hx ax few = certificate_of version n es xs [] small h mode hx ax few tt no_nodes (omega arith)
+with_insts : (device : Device) (version : Version) (n : ℕ) (es : List Entry) (xs : List Inst) → n ≤ depth_of device → AreEntriesOf device es → is_third version ≡ has_pairs es → AllByRecursion (IsInst device) xs → IsStrictlySortedBy inst_cmp (inst_keys xs) → length xs ≤ most_instances
+    → IsCertificate (claim_to device version n es xs [] None)
+with_insts device version n es xs small h mode hx ax few = certificate_of device version n es xs [] small h mode hx ax few tt no_nodes (omega arith)
 
 -- ---- a line that isn't of its form
 
-malformed : (p : Place) (c : Claim) (part : Part) (q : Place) (g : CertFault) → StandsBefore p c part q → IsStopped c part q.rest → g ≡ fault.Malformed q.at → IsCertificateRefused p g
-malformed p c part q g h stop e =
-    let P : CertFault → Type 0 = λ f. IsCertificateRefused p f in
+malformed : (device : Device) (p : Place) (c : Claim) (part : Part) (q : Place) (g : CertFault) → StandsBefore device p c part q → IsStopped c part q.rest → g ≡ fault.Malformed q.at → IsCertificateRefused device p g
+malformed device p c part q g h stop e =
+    let P : CertFault → Type 0 = λ f. IsCertificateRefused device p f in
     subst P (sym e) (q, refl, inl (record { claim = c; part = part; stands = h; stop = stop }))
 
 numbered_reads : WordLaws → (name : List ℕ) (least most : ℕ) (ws : List (List ℕ)) → IsWord name → most < 2 ^ 64 → IsNumbered name least most ws → (n : ℕ) × (numbered_by name least most (spaced ws) ≡ Some n)
@@ -104,17 +107,17 @@ no_this line ls none ws next h = not_next (this_by (spaced line)) ls ws tt none 
 no_version : (ls : List TextLine) → first_by version_by ls ≡ None → (ws : List (List ℕ)) → IsNextLine ls ws → (version : Version) × (ws ≡ version_line version) → ⊥
 no_version ls none ws next h = not_next version_by ls ws h.0 none next (ap (λ (xs : List (List ℕ)). version_by (spaced xs)) h.1 ∙ version_again h.0)
 
-heading_stops : WordLaws → (p : Place) (g : CertFault) → heading_at p ≡ Err g → IsCertificateRefused p g
+heading_stops : (device : Device) → WordLaws → (p : Place) (g : CertFault) → heading_at device p ≡ Err g → IsCertificateRefused device p g
 unfolding heading_at
-heading_stops k p g e = elim (then_stop (formed (line_by version_by p)) _ g e) [
+heading_stops device k p g e = elim (then_stop (formed (line_by version_by p)) _ g e) [
   | inl h ↦
       let t = line_stop version_by p g h in
-      malformed p (claim_to Two 0 [] [] [] None) Begin p g (record { fits = bound_only Two 0 (omega arith); room = tt; lines = passes_none p }) (no_version p.rest t.0) t.1
-  | inr v ↦ elim (then_stop (formed (line_by (numbered_by (codes "bound") 0 SIZE) v.0.1)) _ g v.2) [
+      malformed device p (claim_to device Two 0 [] [] [] None) Begin p g (record { is = refl; fits = bound_only device Two 0 (omega arith); room = tt; lines = passes_none p }) (no_version p.rest t.0) t.1
+  | inr v ↦ elim (then_stop (formed (line_by (numbered_by (codes "bound") 0 (depth_of device)) v.0.1)) _ g v.2) [
     | inl h ↦
-        let t = line_stop (numbered_by (codes "bound") 0 SIZE) v.0.1 g h in
-        malformed p (claim_to v.0.0 0 (firsts v.0.0) [] [] None) Bound v.0.1 g (record { fits = bound_only v.0.0 0 (omega arith); room = tt; lines = version_take p v.0 v.1 })
-        (no_number k (codes "bound") 0 SIZE v.0.1.rest (plain (codes "bound" ∷ []) refl).0 (lit< tt) t.0) t.1
+        let t = line_stop (numbered_by (codes "bound") 0 (depth_of device)) v.0.1 g h in
+        malformed device p (claim_to device v.0.0 0 (firsts v.0.0) [] [] None) Bound v.0.1 g (record { is = refl; fits = bound_only device v.0.0 0 (omega arith); room = tt; lines = version_take p v.0 v.1 })
+        (no_number k (codes "bound") 0 (depth_of device) v.0.1.rest (plain (codes "bound" ∷ []) refl).0 (depth_room device) t.0) t.1
     | inr b ↦ absurd (err_ok {A = (Version × ℕ) × Place} g ((v.0.0, b.0.0), b.0.1) (sym b.2))
   ]
 ]
@@ -138,69 +141,70 @@ entry_low es e at g h = low_by (is_above_last es e) (fault.Order at) g h
 inst_low : (xs : List Inst) (x : Inst) (at : ℕ) (g : CertFault) → refused_inst xs x at ≡ Some g → (is_inst_above (last_in xs) x ≡ false) × (g ≡ fault.Order at)
 inst_low xs x at g h = low_by (is_inst_above (last_in xs) x) (fault.Order at) g h
 
-out_of_order : (p : Place) (c : Claim) (part : Part) (q : Place) (ws : List (List ℕ)) (g : CertFault) → StandsBefore p c part q → IsNextLine q.rest ws → IsLow c part ws → g ≡ fault.Order q.at → IsCertificateRefused p g
-out_of_order p c part q ws g h next low e =
-    let P : CertFault → Type 0 = λ f. IsCertificateRefused p f in
+out_of_order : (device : Device) (p : Place) (c : Claim) (part : Part) (q : Place) (ws : List (List ℕ)) (g : CertFault) → StandsBefore device p c part q → IsNextLine q.rest ws → IsLow c part ws → g ≡ fault.Order q.at → IsCertificateRefused device p g
+out_of_order device p c part q ws g h next low e =
+    let P : CertFault → Type 0 = λ f. IsCertificateRefused device p f in
     subst P (sym e) (record { claim = c; part = part; place = q; words = ws; stands = h; offset = refl; next = next; low = low })
 
 -- ---- assumptions
 
-entry_stops : LowerLaws → (p : Place) (c : Claim) (n : ℕ) (q : Place) (g : CertFault) → StandsBefore p c (AnEntry n) q → Stop (λ at. entry_by (is_third c.version)) entry_words (EntryOf (is_third c.version)) refused_entry c.assumptions q g → IsCertificateRefused p g
-entry_stops b p c n q g h stop = elim stop [
-  | inl f ↦ malformed p c (AnEntry n) q g h
-      (λ ws next form. not_next (entry_by (is_third c.version)) q.rest ws form.0 f.0 next
-      (ap (λ (xs : List (List ℕ)). entry_by (is_third c.version) (spaced xs)) form.3 ∙ entry_reads b.words b.entries (is_third c.version) 0 form.0 (omega arith) (form.1, form.2))) f.1
-  | inr r ↦ let low = entry_low c.assumptions r.item q.at g r.refuses in out_of_order p c (AnEntry n) q (entry_words r.item) g h r.next (r.item, r.fits.0, r.fits.1, refl, low.0) low.1
+entry_stops : (device : Device) → LowerLaws → (p : Place) (c : Claim) (n : ℕ) (q : Place) (g : CertFault) → StandsBefore device p c (AnEntry n) q → Stop (λ at. entry_by c.device (is_third c.version)) entry_words (EntryOf c.device (is_third c.version)) refused_entry c.assumptions q g → IsCertificateRefused device p g
+entry_stops device b p c n q g h stop = elim stop [
+  | inl f ↦ malformed device p c (AnEntry n) q g h
+      (λ ws next form. not_next (entry_by c.device (is_third c.version)) q.rest ws form.0 f.0 next
+      (ap (λ (xs : List (List ℕ)). entry_by c.device (is_third c.version) (spaced xs)) form.3 ∙ entry_reads c.device b.words b.entries (is_third c.version) 0 form.0 (omega arith) (form.1, form.2))) f.1
+  | inr r ↦ let low = entry_low c.assumptions r.item q.at g r.refuses in out_of_order device p c (AnEntry n) q (entry_words r.item) g h r.next (r.item, r.fits.0, r.fits.1, refl, low.0) low.1
 ]
 
 -- the first line of the third version
-first_stops : (version : Version) (p a m : Place) (n count : ℕ) (g : CertFault) → n ≤ SIZE → Stand p (heading version n) a → Stand a (numbered (codes "assume") count ∷ []) m → least_entries version ≤ count → count ≤ most_entries
-    → first_at version m ≡ Err g → IsCertificateRefused p g
+first_stops : (device : Device) (version : Version) (p a m : Place) (n count : ℕ) (g : CertFault) → n ≤ depth_of device → Stand p (heading version n) a → Stand a (numbered (codes "assume") count ∷ []) m → least_entries version ≤ count → count ≤ most_entries
+    → first_at version m ≡ Err g → IsCertificateRefused device p g
 unfolding first_at
-first_stops One p a m n count g small h k least most e = absurd (err_ok {A = List Entry × Place} g ([], m) (sym e))
-first_stops Two p a m n count g small h k least most e = absurd (err_ok {A = List Entry × Place} g ([], m) (sym e))
-first_stops Three p a m n count g small h k least most e = elim (then_stop (formed (line_by (this_by (spaced (entry_words Pairs))) m)) _ g e) [
+first_stops device One p a m n count g small h k least most e = absurd (err_ok {A = List Entry × Place} g ([], m) (sym e))
+first_stops device Two p a m n count g small h k least most e = absurd (err_ok {A = List Entry × Place} g ([], m) (sym e))
+first_stops device Three p a m n count g small h k least most e = elim (then_stop (formed (line_by (this_by (spaced (entry_words Pairs))) m)) _ g e) [
   | inl f ↦
       let t = line_stop (this_by (spaced (entry_words Pairs))) m g f in
-      malformed p (claim_to Three n (firsts Three) [] [] None) (FirstEntry count) m g
-      (record { fits = bound_only Three n small; room = (refl, least, most); lines = stand_more p a m (heading Three n) (numbered (codes "assume") count ∷ []) h k }) (no_this (entry_words Pairs) m.rest t.0) t.1
+      malformed device p (claim_to device Three n (firsts Three) [] [] None) (FirstEntry count) m g
+      (record { is = refl; fits = bound_only device Three n small; room = (refl, least, most); lines = stand_more p a m (heading Three n) (numbered (codes "assume") count ∷ []) h k }) (no_this (entry_words Pairs) m.rest t.0) t.1
   | inr u ↦ absurd (err_ok {A = List Entry × Place} g (Pairs ∷ [], u.0.1) (sym u.2))
 ]
 
-abbrev EntriesStop : Version → List Entry → ℕ → Place → CertFault → Type 0
-EntriesStop version front n p g = ItemsStop (λ at. entry_by (is_third version)) entry_words (EntryOf (is_third version)) refused_entry front n p g
+abbrev EntriesStop : Device → Version → List Entry → ℕ → Place → CertFault → Type 0
+EntriesStop device version front n p g = ItemsStop (λ at. entry_by device (is_third version)) entry_words (EntryOf device (is_third version)) refused_entry front n p g
 
 -- a line after the first ones
-further_stops : LowerLaws → (version : Version) (p a m f : Place) (n count : ℕ) (g : CertFault) → n ≤ SIZE → Stand p (heading version n) a → Stand a (numbered (codes "assume") count ∷ []) m → least_entries version ≤ count → count ≤ most_entries
-    → Stand m (map entry_words (firsts version)) f → EntriesStop version (firsts version) (count - least_entries version) f g → IsCertificateRefused p g
-further_stops b version p a m f n count g small h k least most first s =
+further_stops : (device : Device) → LowerLaws → (version : Version) (p a m f : Place) (n count : ℕ) (g : CertFault) → n ≤ depth_of device → Stand p (heading version n) a → Stand a (numbered (codes "assume") count ∷ []) m → least_entries version ≤ count → count ≤ most_entries
+    → Stand m (map entry_words (firsts version)) f → EntriesStop device version (firsts version) (count - least_entries version) f g → IsCertificateRefused device p g
+further_stops device b version p a m f n count g small h k least most first s =
     let all : List Entry = firsts version ++ s.items in
     let number : length all < count = omega (arith, length-append (firsts version) s.items, firsts_count version, s.fewer, least) in
-    let keep = some_keep version s.items s.fit in
+    let keep = some_keep device version s.items s.fit in
     let some = some_stand version m f s.place s.items first s.passes in
-    entry_stops b p (claim_to version n all [] [] None) count s.place g
+    entry_stops device b p (claim_to device version n all [] [] None) count s.place g
     (record {
-      fits = with_entries version n all small (keep.are (omega (arith, number, most))) (sym keep.mode);
+      is = refl;
+      fits = with_entries device version n all small (keep.are (omega (arith, number, most))) (sym keep.mode);
       room = (number, most);
       lines = behind entry_words (codes "assume") (heading version n) p a m s.place count all h k some;
     }) s.stop
 
-entries_stops : LowerLaws → (version : Version) (p a : Place) (n : ℕ) (g : CertFault) → n ≤ SIZE → Stand p (heading version n) a → entries_at version a ≡ Err g → IsCertificateRefused p g
+entries_stops : (device : Device) → LowerLaws → (version : Version) (p a : Place) (n : ℕ) (g : CertFault) → n ≤ depth_of device → Stand p (heading version n) a → entries_at device version a ≡ Err g → IsCertificateRefused device p g
 unfolding entries_at
-entries_stops b version p a n g small h e = elim (then_stop (formed (line_by (numbered_by (codes "assume") (least_entries version) most_entries) a)) _ g e) [
+entries_stops device b version p a n g small h e = elim (then_stop (formed (line_by (numbered_by (codes "assume") (least_entries version) most_entries) a)) _ g e) [
   | inl f ↦
       let t = line_stop (numbered_by (codes "assume") (least_entries version) most_entries) a g f in
-      malformed p (claim_to version n (firsts version) [] [] None) Assume a g (record { fits = bound_only version n small; room = tt; lines = h })
+      malformed device p (claim_to device version n (firsts version) [] [] None) Assume a g (record { is = refl; fits = bound_only device version n small; room = tt; lines = h })
       (no_number b.words (codes "assume") (least_entries version) most_entries a.rest (plain (codes "assume" ∷ []) refl).0 (lit< tt) t.0) t.1
   | inr m ↦
       let count = number_take b.words (codes "assume") (least_entries version) most_entries a m.0 (lit< tt) m.1 in
       elim (then_stop (first_at version m.0.1) _ g m.2) [
-        | inl f ↦ first_stops version p a m.0.1 n m.0.0 g small h count.0 count.1 count.2 f
+        | inl f ↦ first_stops device version p a m.0.1 n m.0.0 g small h count.0 count.1 count.2 f
         | inr f ↦
             let first = first_take version m.0.1 f.0 f.1 in
-            let s = items_stop (λ at. entry_by (is_third version)) entry_words (EntryOf (is_third version)) refused_entry (entry_spells b.words b.entries (is_third version)) entry_steady f.0.0 (m.0.0 - least_entries version) f.0.1 g f.2 in
-            let P : List Entry → Type 0 = λ front. EntriesStop version front (m.0.0 - least_entries version) f.0.1 g in
-            further_stops b version p a m.0.1 f.0.1 n m.0.0 g small h count.0 count.1 count.2 first.lines (subst P first.all s)
+            let s = items_stop (λ at. entry_by device (is_third version)) entry_words (EntryOf device (is_third version)) refused_entry (entry_spells device b.words b.entries (is_third version)) entry_steady f.0.0 (m.0.0 - least_entries version) f.0.1 g f.2 in
+            let P : List Entry → Type 0 = λ front. EntriesStop device version front (m.0.0 - least_entries version) f.0.1 g in
+            further_stops device b version p a m.0.1 f.0.1 n m.0.0 g small h count.0 count.1 count.2 first.lines (subst P first.all s)
       ]
 ]
 
@@ -212,32 +216,33 @@ not_ascending xs x low h =
     let up = sorted_at inst_cmp (inst_keys xs) x.key [] (subst P (map-append (λ (y : Inst). y.key) xs (x ∷ [])) h) in
     false≢true (sym low ∙ inst_above_is xs x ∙ up)
 
-inst_stops : LowerLaws → (p : Place) (c : Claim) (n : ℕ) (q : Place) (g : CertFault) → StandsBefore p c (AnInst n) q → Stop (λ at. inst_by) inst_words AnyInst refused_inst c.instances q g → IsCertificateRefused p g
-inst_stops b p c n q g h stop = elim stop [
-  | inl f ↦ malformed p c (AnInst n) q g h
-      (λ ws next form. not_next inst_by q.rest ws form.0 f.0 next (ap (λ (xs : List (List ℕ)). inst_by (spaced xs)) form.2 ∙ inst_reads b.words b.insts 0 form.0 (omega arith) form.1)) f.1
-  | inr r ↦ let low = inst_low c.instances r.item q.at g r.refuses in out_of_order p c (AnInst n) q (inst_words r.item) g h r.next (r.item, r.fits, refl, not_ascending c.instances r.item low.0) low.1
+inst_stops : (device : Device) → LowerLaws → (p : Place) (c : Claim) (n : ℕ) (q : Place) (g : CertFault) → StandsBefore device p c (AnInst n) q → Stop (λ at. inst_by c.device) (inst_words c.device) (AnyInst c.device) refused_inst c.instances q g → IsCertificateRefused device p g
+inst_stops device b p c n q g h stop = elim stop [
+  | inl f ↦ malformed device p c (AnInst n) q g h
+      (λ ws next form. not_next (inst_by c.device) q.rest ws form.0 f.0 next (ap (λ (xs : List (List ℕ)). inst_by c.device (spaced xs)) form.2 ∙ inst_reads c.device b.words b.insts 0 form.0 (omega arith) form.1)) f.1
+  | inr r ↦ let low = inst_low c.instances r.item q.at g r.refuses in out_of_order device p c (AnInst n) q (inst_words c.device r.item) g h r.next (r.item, r.fits, refl, not_ascending c.instances r.item low.0) low.1
 ]
 
-insts_stops : LowerLaws → (version : Version) (p a d : Place) (n : ℕ) (es : List Entry) (g : CertFault) → n ≤ SIZE → AreEntries es → is_third version ≡ has_pairs es → Stand p (heading version n) a → Stand a (entry_lines es) d → insts_at d ≡ Err g → IsCertificateRefused p g
+insts_stops : (device : Device) → LowerLaws → (version : Version) (p a d : Place) (n : ℕ) (es : List Entry) (g : CertFault) → n ≤ depth_of device → AreEntriesOf device es → is_third version ≡ has_pairs es → Stand p (heading version n) a → Stand a (entry_lines es) d → insts_at device d ≡ Err g → IsCertificateRefused device p g
 unfolding insts_at
-insts_stops b version p a d n es g small he mode h k e =
+insts_stops device b version p a d n es g small he mode h k e =
     let front = stand_more p a d (heading version n) (entry_lines es) h k in
     elim (then_stop (formed (line_by (numbered_by (codes "instances") 0 most_instances) d)) _ g e) [
       | inl f ↦
           let t = line_stop (numbered_by (codes "instances") 0 most_instances) d g f in
-          malformed p (claim_to version n es [] [] None) Instances d g (record { fits = with_entries version n es small he mode; room = tt; lines = front })
+          malformed device p (claim_to device version n es [] [] None) Instances d g (record { is = refl; fits = with_entries device version n es small he mode; room = tt; lines = front })
           (no_number b.words (codes "instances") 0 most_instances d.rest (plain (codes "instances" ∷ []) refl).0 (lit< tt) t.0) t.1
       | inr m ↦
           let count = number_take b.words (codes "instances") 0 most_instances d m.0 (lit< tt) m.1 in
-          let s = items_stop (λ at. inst_by) inst_words AnyInst refused_inst (inst_spells b.words b.insts) inst_steady [] m.0.0 m.0.1 g m.2 in
-          let fit = all_of_any IsInst 0 s.items (admitted_all AnyInst refused_inst [] s.items s.fit) in
-          let some = behind inst_words (codes "instances") (entry_lines es) a d m.0.1 s.place m.0.0 s.items k count.0 s.passes in
-          inst_stops b p (claim_to version n es s.items [] None) m.0.0 s.place g
+          let s = items_stop (λ at. inst_by device) (inst_words device) (AnyInst device) refused_inst (inst_spells device b.words b.insts) inst_steady [] m.0.0 m.0.1 g m.2 in
+          let fit = all_of_any (IsInst device) 0 s.items (admitted_all (AnyInst device) refused_inst [] s.items s.fit) in
+          let some = behind (inst_words device) (codes "instances") (entry_lines es) a d m.0.1 s.place m.0.0 s.items k count.0 s.passes in
+          inst_stops device b p (claim_to device version n es s.items [] None) m.0.0 s.place g
           (record {
-            fits = with_insts version n es s.items small he mode fit (insts_kept b.keys s.items s.fit) (omega (arith, s.fewer, count.2));
+            is = refl;
+            fits = with_insts device version n es s.items small he mode fit (insts_kept device b.keys s.items s.fit) (omega (arith, s.fewer, count.2));
             room = (s.fewer, count.2);
-            lines = stand_more p a s.place (heading version n) (entry_lines es ++ numbered (codes "instances") m.0.0 ∷ map inst_words s.items) h some;
+            lines = stand_more p a s.place (heading version n) (entry_lines es ++ numbered (codes "instances") m.0.0 ∷ map (inst_words device) s.items) h some;
           }) s.stop
     ]
 
@@ -263,29 +268,29 @@ too_much b c n ascend up room =
       omega (arith, full, cells_more c.nodes n),
     )
 
-node_refused : LowerLaws → (p : Place) (c : Claim) (n : ℕ) (q : Place) (g : CertFault) → StandsBefore p c (ANode n) q → ItemRefused (node_words c.version c.instances) (FitsNode c.version c.instances) refused_node c.nodes q g → IsCertificateRefused p g
-node_refused b p c n q g h r =
-    let P : CertFault → Type 0 = λ f. IsCertificateRefused p f in
+node_refused : (device : Device) → LowerLaws → (p : Place) (c : Claim) (n : ℕ) (q : Place) (g : CertFault) → StandsBefore device p c (ANode n) q → ItemRefused (node_words c.device c.version c.instances) (FitsNode c.device c.version c.instances) refused_node c.nodes q g → IsCertificateRefused device p g
+node_refused device b p c n q g h r =
+    let P : CertFault → Type 0 = λ f. IsCertificateRefused device p f in
     elim (node_low_by (is_node_above (last_in c.nodes) r.item.0) (nat_le (cells_of (node_keys c.nodes) + (1 + offset_of r.item.0.sp)) most_cells) (fault.Limit limit.Cells) (fault.Order q.at) g r.refuses) [
-      | inl low ↦ out_of_order p c (ANode n) q (node_words c.version c.instances r.item) g h r.next (r.item, r.fits.0, r.fits.1, r.fits.2, refl, nodes_not_ascending c.nodes r.item low.0) low.1
+      | inl low ↦ out_of_order device p c (ANode n) q (node_words c.device c.version c.instances r.item) g h r.next (r.item, r.fits.0, r.fits.1, r.fits.2, refl, nodes_not_ascending c.nodes r.item low.0) low.1
       | inr full ↦ subst P (sym full.2) (record {
         claim = c;
         part = ANode n;
         place = q;
-        words = node_words c.version c.instances r.item;
+        words = node_words c.device c.version c.instances r.item;
         stands = h;
         next = r.next;
         past = (r.item, r.fits.0, r.fits.1, r.fits.2, refl, too_much b c r.item h.fits.claim.nodes_ascend full.0 full.1);
       })
     ]
 
-node_stops : LowerLaws → (p : Place) (c : Claim) (n : ℕ) (q : Place) (g : CertFault) → StandsBefore p c (ANode n) q → Stop (node_by c.version c.instances) (node_words c.version c.instances) (FitsNode c.version c.instances) refused_node c.nodes q g → IsCertificateRefused p g
-node_stops b p c n q g h stop = elim stop [
-  | inl f ↦ malformed p c (ANode n) q g h
-      (λ ws next form. not_next (node_by c.version c.instances (length c.nodes)) q.rest ws form.0 f.0 next
-      (ap (λ (xs : List (List ℕ)). node_by c.version c.instances (length c.nodes) (spaced xs)) form.4
-      ∙ node_reads b.words b.nodes b.keys c.version c.instances h.fits.claim.few_insts (length c.nodes) form.0 (omega (arith, h.fits.claim.few_nodes)) (form.1, form.2, form.3))) f.1
-  | inr r ↦ node_refused b p c n q g h r
+node_stops : (device : Device) → LowerLaws → (p : Place) (c : Claim) (n : ℕ) (q : Place) (g : CertFault) → StandsBefore device p c (ANode n) q → Stop (node_by c.device c.version c.instances) (node_words c.device c.version c.instances) (FitsNode c.device c.version c.instances) refused_node c.nodes q g → IsCertificateRefused device p g
+node_stops device b p c n q g h stop = elim stop [
+  | inl f ↦ malformed device p c (ANode n) q g h
+      (λ ws next form. not_next (node_by c.device c.version c.instances (length c.nodes)) q.rest ws form.0 f.0 next
+      (ap (λ (xs : List (List ℕ)). node_by c.device c.version c.instances (length c.nodes) (spaced xs)) form.4
+      ∙ node_reads c.device b.words b.nodes b.keys c.version c.instances h.fits.claim.few_insts (length c.nodes) form.0 (omega (arith, h.fits.claim.few_nodes)) (form.1, form.2, form.3))) f.1
+  | inr r ↦ node_refused device b p c n q g h r
 ]
 
 limited_err : (d : Result (Option ℕ × Place) CertFault) (g : CertFault) → limited d ≡ Err g → (d ≡ Err g) ⊎ ((q : Place) × (d ≡ Ok (None, q)) × (g ≡ fault.Limit limit.Nodes))
@@ -300,11 +305,11 @@ no_count k ls none ws next h =
     ∙ ap count_in (k.words_stand (codes "nodes") (h.0 ∷ []) ((plain (codes "nodes" ∷ []) refl).0, (decimal_word h.0 h.1, tt))) ∙ t.1)
 
 -- the line `nodes N`
-count_stops : LowerLaws → (p : Place) (c : Claim) (q : Place) (g : CertFault) → StandsBefore p c Nodes q → limited (formed (line_by count_by q)) ≡ Err g → IsCertificateRefused p g
-count_stops b p c q g h e =
-    let P : CertFault → Type 0 = λ f. IsCertificateRefused p f in
+count_stops : (device : Device) → LowerLaws → (p : Place) (c : Claim) (q : Place) (g : CertFault) → StandsBefore device p c Nodes q → limited (formed (line_by count_by q)) ≡ Err g → IsCertificateRefused device p g
+count_stops device b p c q g h e =
+    let P : CertFault → Type 0 = λ f. IsCertificateRefused device p f in
     elim (limited_err (formed (line_by count_by q)) g e) [
-      | inl f ↦ let t = line_stop count_by q g f in malformed p c Nodes q g h (no_count b.words q.rest t.0) t.1
+      | inl f ↦ let t = line_stop count_by q g f in malformed device p c Nodes q g h (no_count b.words q.rest t.0) t.1
       | inr m ↦
           let l = line_takes count_by q None m.0 (formed_ok (line_by count_by q) (None, m.0) m.1) in
           subst P (sym m.2) (record {
@@ -318,36 +323,37 @@ count_stops b p c q g h e =
           })
     ]
 
-nodes_stops : LowerLaws → (version : Version) (p a d f : Place) (n : ℕ) (es : List Entry) (xs : List Inst) (g : CertFault) → n ≤ SIZE → AreEntries es → is_third version ≡ has_pairs es → AllByRecursion IsInst xs → IsStrictlySortedBy inst_cmp (inst_keys xs) → length xs ≤ most_instances
-    → Stand p (heading version n) a → Stand a (entry_lines es) d → Stand d (inst_lines xs) f → nodes_at version xs f ≡ Err g → IsCertificateRefused p g
+nodes_stops : (device : Device) → LowerLaws → (version : Version) (p a d f : Place) (n : ℕ) (es : List Entry) (xs : List Inst) (g : CertFault) → n ≤ depth_of device → AreEntriesOf device es → is_third version ≡ has_pairs es → AllByRecursion (IsInst device) xs → IsStrictlySortedBy inst_cmp (inst_keys xs) → length xs ≤ most_instances
+    → Stand p (heading version n) a → Stand a (entry_lines es) d → Stand d (inst_lines device xs) f → nodes_at device version xs f ≡ Err g → IsCertificateRefused device p g
 unfolding nodes_at
-nodes_stops b version p a d f n es xs g small he mode hx ax few h k j e =
-    let front = stand_more p a f (heading version n) (entry_lines es ++ inst_lines xs) h (stand_more a d f (entry_lines es) (inst_lines xs) k j) in
+nodes_stops device b version p a d f n es xs g small he mode hx ax few h k j e =
+    let front = stand_more p a f (heading version n) (entry_lines es ++ inst_lines device xs) h (stand_more a d f (entry_lines es) (inst_lines device xs) k j) in
     elim (then_stop (limited (formed (line_by count_by f))) _ g e) [
-      | inl l ↦ count_stops b p (claim_to version n es xs [] None) f g (record { fits = with_insts version n es xs small he mode hx ax few; room = tt; lines = front }) l
+      | inl l ↦ count_stops device b p (claim_to device version n es xs [] None) f g (record { is = refl; fits = with_insts device version n es xs small he mode hx ax few; room = tt; lines = front }) l
       | inr m ↦
           let count = nodes_take b.words f m.0 m.1 in
-          let s = items_stop (node_by version xs) (node_words version xs) (FitsNode version xs) refused_node (node_spells b.words b.nodes b.keys version xs ax) node_steady [] m.0.0 m.0.1 g m.2 in
-          let some = behind (node_words version xs) (codes "nodes") (inst_lines xs) d f m.0.1 s.place m.0.0 s.items j count.0 s.passes in
-          node_stops b p (claim_to version n es xs s.items None) m.0.0 s.place g
+          let s = items_stop (node_by device version xs) (node_words device version xs) (FitsNode device version xs) refused_node (node_spells device b.words b.nodes b.keys version xs ax) node_steady [] m.0.0 m.0.1 g m.2 in
+          let some = behind (node_words device version xs) (codes "nodes") (inst_lines device xs) d f m.0.1 s.place m.0.0 s.items j count.0 s.passes in
+          node_stops device b p (claim_to device version n es xs s.items None) m.0.0 s.place g
           (record {
-            fits = certificate_of version n es xs s.items small he mode hx ax few (admitted_all (FitsNode version xs) refused_node [] s.items s.fit) (nodes_kept b.keys version xs s.items s.fit) (omega (arith, s.fewer, count.1));
+            is = refl;
+            fits = certificate_of device version n es xs s.items small he mode hx ax few (admitted_all (FitsNode device version xs) refused_node [] s.items s.fit) (nodes_kept device b.keys version xs s.items s.fit) (omega (arith, s.fewer, count.1));
             room = (s.fewer, count.1);
-            lines = stand_more p a s.place (heading version n) (entry_lines es ++ (inst_lines xs ++ numbered (codes "nodes") m.0.0 ∷ map (node_words version xs) s.items)) h
-                (stand_more a d s.place (entry_lines es) (inst_lines xs ++ numbered (codes "nodes") m.0.0 ∷ map (node_words version xs) s.items) k some);
+            lines = stand_more p a s.place (heading version n) (entry_lines es ++ (inst_lines device xs ++ numbered (codes "nodes") m.0.0 ∷ map (node_words device version xs) s.items)) h
+                (stand_more a d s.place (entry_lines es) (inst_lines device xs ++ numbered (codes "nodes") m.0.0 ∷ map (node_words device version xs) s.items) k some);
           }) s.stop
     ]
 
 -- ---- the schedule and the end
 
-plan_stops : RefusedScheduleIsStuck → (p : Place) (c : Claim) (bl : Bool) (q m : Place) (g : CertFault) → IsClaim c → Stand p (front_lines c) q → Stand q (ending_words bl ∷ []) m → plan_if bl m ≡ Err g → IsCertificateRefused p g
-plan_stops stuck p c false q m g h front line e = absurd (err_ok {A = Option Plan × Place} g (None, m) (sym e))
-plan_stops stuck p c true q m g h front line e =
-    let P : CertFault → Type 0 = λ f. IsCertificateRefused p f in
-    elim (then_stop (formed (schedule_at m)) _ g e) [
+plan_stops : (device : Device) → RefusedScheduleIsStuck → (p : Place) (c : Claim) (bl : Bool) (q m : Place) (g : CertFault) → c.device ≡ device → IsClaim c → Stand p (front_lines c) q → Stand q (ending_words bl ∷ []) m → plan_if device bl m ≡ Err g → IsCertificateRefused device p g
+plan_stops device stuck p c false q m g is h front line e = absurd (err_ok {A = Option Plan × Place} g (None, m) (sym e))
+plan_stops device stuck p c true q m g is h front line e =
+    let P : CertFault → Type 0 = λ f. IsCertificateRefused device p f in
+    elim (then_stop (formed (schedule_at device m)) _ g e) [
       | inl f ↦
-          let r = formed_err (schedule_at m) g f in
-          subst P (sym r.2) (r.0, refl, inr (record { claim = c; fits = h; begin = m; lines = stand_more p q m (front_lines c) (attained_line ∷ []) front line; stuck = stuck m r.0 r.1 }))
+          let r = formed_err (schedule_at device m) g f in
+          subst P (sym r.2) (r.0, refl, inr (record { claim = c; is = is; fits = h; begin = m; lines = stand_more p q m (front_lines c) (attained_line ∷ []) front line; stuck = stuck device m r.0 r.1 }))
       | inr s ↦ absurd (err_ok {A = Option Plan × Place} g (Some s.0.0, s.0.1) (sym s.2))
     ]
 
@@ -355,13 +361,13 @@ no_ending : (ls : List TextLine) → first_by ending_by ls ≡ None → (ws : Li
 no_ending ls none ws next (inl h) = not_next ending_by ls ws false none next (ap (λ (xs : List (List ℕ)). ending_by (spaced xs)) h ∙ ending_again false)
 no_ending ls none ws next (inr h) = not_next ending_by ls ws true none next (ap (λ (xs : List (List ℕ)). ending_by (spaced xs)) h ∙ ending_again true)
 
-witness_stops : RefusedScheduleIsStuck → (p : Place) (c : Claim) (q : Place) (g : CertFault) → IsCertificate c → Stand p (front_lines c) q → witness_at q ≡ Err g → IsCertificateRefused p g
+witness_stops : (device : Device) → RefusedScheduleIsStuck → (p : Place) (c : Claim) (q : Place) (g : CertFault) → c.device ≡ device → IsCertificate c → Stand p (front_lines c) q → witness_at device q ≡ Err g → IsCertificateRefused device p g
 unfolding witness_at
-witness_stops stuck p c q g h front e = elim (then_stop (formed (line_by ending_by q)) _ g e) [
-  | inl f ↦ let t = line_stop ending_by q g f in malformed p c Ending q g (record { fits = h; room = tt; lines = front }) (no_ending q.rest t.0) t.1
+witness_stops device stuck p c q g is h front e = elim (then_stop (formed (line_by ending_by q)) _ g e) [
+  | inl f ↦ let t = line_stop ending_by q g f in malformed device p c Ending q g (record { is = is; fits = h; room = tt; lines = front }) (no_ending q.rest t.0) t.1
   | inr m ↦
       let l = line_takes ending_by q m.0.0 m.0.1 (formed_ok (line_by ending_by q) m.0 m.1) in
-      plan_stops stuck p c m.0.0 q m.0.1 g h.claim front (as_words ending_by q m.0.0 m.0.1 l (ending_words m.0.0) (ending_is l.text m.0.0 l.read)) m.2
+      plan_stops device stuck p c m.0.0 q m.0.1 g is h.claim front (as_words ending_by q m.0.0 m.0.1 l (ending_words m.0.0) (ending_is l.text m.0.0 l.read)) m.2
 ]
 
 lines_left : (l : TextLine) (ls : List TextLine) → l ∷ ls ≢ []
@@ -371,64 +377,64 @@ last_stop : (ls : List TextLine) (q : Place) (g : CertFault) → if_last ls q �
 last_stop [] q g e = absurd (err_ok {A = Unit {0} × Place} g (tt, q) (sym e))
 last_stop (l ∷ ls) q g e = (lines_left l ls, sym (err_is {A = Unit {0} × Place} (fault.Malformed q.at) g e))
 
-end_stops : (p : Place) (c : Claim) (q r : Place) (g : CertFault) → IsCertificate c → Stand p (front_lines c) q → Stand q (witness_lines c.witness) r → end_at r ≡ Err g → IsCertificateRefused p g
+end_stops : (device : Device) (p : Place) (c : Claim) (q r : Place) (g : CertFault) → c.device ≡ device → IsCertificate c → Stand p (front_lines c) q → Stand q (witness_lines c.witness) r → end_at r ≡ Err g → IsCertificateRefused device p g
 unfolding end_at
-end_stops p c q r g h front witness e = elim (then_stop (formed (line_by (this_by (spaced end_line)) r)) _ g e) [
+end_stops device p c q r g is h front witness e = elim (then_stop (formed (line_by (this_by (spaced end_line)) r)) _ g e) [
   | inl f ↦
       let t = line_stop (this_by (spaced end_line)) r g f in
-      malformed p c End r g (record { fits = h; room = tt; lines = stand_more p q r (front_lines c) (witness_lines c.witness) front witness }) (no_this end_line r.rest t.0) t.1
+      malformed device p c End r g (record { is = is; fits = h; room = tt; lines = stand_more p q r (front_lines c) (witness_lines c.witness) front witness }) (no_this end_line r.rest t.0) t.1
   | inr d ↦
       let last = last_stop d.0.1.rest d.0.1 g d.2 in
       let end = this_take end_line r d.0 d.1 in
-      malformed p c Nothing d.0.1 g
-      (record { fits = h; room = tt; lines = stand_more p q d.0.1 (front_lines c) (witness_lines c.witness ++ end_line ∷ []) front (stand_more q r d.0.1 (witness_lines c.witness) (end_line ∷ []) witness end) }) last.0 last.1
+      malformed device p c Nothing d.0.1 g
+      (record { is = is; fits = h; room = tt; lines = stand_more p q d.0.1 (front_lines c) (witness_lines c.witness ++ end_line ∷ []) front (stand_more q r d.0.1 (witness_lines c.witness) (end_line ∷ []) witness end) }) last.0 last.1
 ]
 
 -- ---- the whole
 
-behind_nodes : LowerLaws → (version : Version) (p : Place) (n : ℕ) (es : List Entry) (xs : List Inst) (ns : Seeds) (q : Place) (g : CertFault) → IsCertificate (claim_to version n es xs ns None)
-    → Stand p (front_lines (claim_to version n es xs ns None)) q → (r : Place × Option Plan) → witness_at q ≡ Ok (r.1, r.0) → end_at r.0 ≡ Err g → IsCertificateRefused p g
-behind_nodes b version p n es xs ns q g h front r e f =
-    let w = witness_part b.schedule_spelled q (r.1, r.0) e in
-    end_stops p (claim_to version n es xs ns r.1) q r.0 g
+behind_nodes : (device : Device) → LowerLaws → (version : Version) (p : Place) (n : ℕ) (es : List Entry) (xs : List Inst) (ns : Seeds) (q : Place) (g : CertFault) → IsCertificate (claim_to device version n es xs ns None)
+    → Stand p (front_lines (claim_to device version n es xs ns None)) q → (r : Place × Option Plan) → witness_at device q ≡ Ok (r.1, r.0) → end_at r.0 ≡ Err g → IsCertificateRefused device p g
+behind_nodes device b version p n es xs ns q g h front r e f =
+    let w = witness_part device b.schedule_spelled q (r.1, r.0) e in
+    end_stops device p (claim_to device version n es xs ns r.1) q r.0 g refl
     (record {
-      claim = claim_of version n es xs ns r.1 h.claim.bound_fits h.claim.entries_fit h.claim.of_list h.claim.insts_fit h.claim.insts_ascend h.claim.few_insts (fitting_nodes (claim_to version n es xs ns None) h.claim)
+      claim = claim_of device version n es xs ns r.1 h.claim.bound_fits (record { are = h.claim.entries_fit; fit = h.claim.entries_of_device }) h.claim.of_list h.claim.insts_fit h.claim.insts_ascend h.claim.few_insts (fitting_nodes (claim_to device version n es xs ns None) h.claim)
           (record { ascend = h.claim.nodes_ascend; few = h.claim.few_cells }) h.claim.few_nodes;
       schedule = w.schedule;
     }) front w.lines f
 
-claim_stops : LowerLaws → RefusedScheduleIsStuck → (p : Place) (g : CertFault) → claim_at p ≡ Err g → IsCertificateRefused p g
+claim_stops : (device : Device) → LowerLaws → RefusedScheduleIsStuck → (p : Place) (g : CertFault) → claim_at device p ≡ Err g → IsCertificateRefused device p g
 unfolding claim_at
-claim_stops k stuck p g e = elim (then_stop (heading_at p) _ g e) [
-  | inl h ↦ heading_stops k.words p g h
+claim_stops device k stuck p g e = elim (then_stop (heading_at device p) _ g e) [
+  | inl h ↦ heading_stops device k.words p g h
   | inr b ↦
-      let top = heading_take k.words p b.0 b.1 in
-      elim (then_stop (entries_at b.0.0.0 b.0.1) _ g b.2) [
-        | inl h ↦ entries_stops k b.0.0.0 p b.0.1 b.0.0.1 g top.1 top.0 h
+      let top = heading_take device k.words p b.0 b.1 in
+      elim (then_stop (entries_at device b.0.0.0 b.0.1) _ g b.2) [
+        | inl h ↦ entries_stops device k b.0.0.0 p b.0.1 b.0.0.1 g top.1 top.0 h
         | inr a ↦
-            let entries = entries_take k b.0.0.0 b.0.1 a.0 a.1 in
+            let entries = entries_take device k b.0.0.0 b.0.1 a.0 a.1 in
             let are = entries.are in
             let mode = entries.mode in
-            elim (then_stop (insts_at a.0.1) _ g a.2) [
-              | inl h ↦ insts_stops k b.0.0.0 p b.0.1 a.0.1 b.0.0.1 a.0.0 g top.1 are mode top.0 entries.lines h
+            elim (then_stop (insts_at device a.0.1) _ g a.2) [
+              | inl h ↦ insts_stops device k b.0.0.0 p b.0.1 a.0.1 b.0.0.1 a.0.0 g top.1 are mode top.0 entries.lines h
               | inr i ↦
-                  let insts = insts_take k a.0.1 i.0 i.1 in
-                  let ascend = insts_kept k.keys i.0.0 insts.fit in
-                  let fit = all_of_any IsInst 0 i.0.0 (admitted_all AnyInst refused_inst [] i.0.0 insts.fit) in
-                  elim (then_stop (nodes_at b.0.0.0 i.0.0 i.0.1) _ g i.2) [
-                    | inl h ↦ nodes_stops k b.0.0.0 p b.0.1 a.0.1 i.0.1 b.0.0.1 a.0.0 i.0.0 g top.1 are mode fit ascend insts.few top.0 entries.lines insts.lines h
+                  let insts = insts_take device k a.0.1 i.0 i.1 in
+                  let ascend = insts_kept device k.keys i.0.0 insts.fit in
+                  let fit = all_of_any (IsInst device) 0 i.0.0 (admitted_all (AnyInst device) refused_inst [] i.0.0 insts.fit) in
+                  elim (then_stop (nodes_at device b.0.0.0 i.0.0 i.0.1) _ g i.2) [
+                    | inl h ↦ nodes_stops device k b.0.0.0 p b.0.1 a.0.1 i.0.1 b.0.0.1 a.0.0 i.0.0 g top.1 are mode fit ascend insts.few top.0 entries.lines insts.lines h
                     | inr n ↦
-                        let nodes = nodes_part k b.0.0.0 i.0.0 ascend i.0.1 n.0 n.1 in
-                        let c = claim_to b.0.0.0 b.0.0.1 a.0.0 i.0.0 n.0.0 None in
+                        let nodes = nodes_part device k b.0.0.0 i.0.0 ascend i.0.1 n.0 n.1 in
+                        let c = claim_to device b.0.0.0 b.0.0.1 a.0.0 i.0.0 n.0.0 None in
                         let whole_claim =
-                        certificate_of b.0.0.0 b.0.0.1 a.0.0 i.0.0 n.0.0 top.1 are mode fit ascend insts.few (admitted_all (FitsNode b.0.0.0 i.0.0) refused_node [] n.0.0 nodes.fit) (nodes_kept k.keys b.0.0.0 i.0.0 n.0.0 nodes.fit) nodes.few in
-                        let front = stand_more p b.0.1 n.0.1 (heading b.0.0.0 b.0.0.1) (entry_lines a.0.0 ++ (inst_lines i.0.0 ++ node_lines b.0.0.0 i.0.0 n.0.0)) top.0
-                        (stand_more b.0.1 a.0.1 n.0.1 (entry_lines a.0.0) (inst_lines i.0.0 ++ node_lines b.0.0.0 i.0.0 n.0.0) entries.lines (stand_more a.0.1 i.0.1 n.0.1 (inst_lines i.0.0) (node_lines b.0.0.0 i.0.0 n.0.0) insts.lines nodes.lines)) in
-                        elim (then_stop (witness_at n.0.1) _ g n.2) [
-                          | inl h ↦ witness_stops stuck p c n.0.1 g whole_claim front h
+                        certificate_of device b.0.0.0 b.0.0.1 a.0.0 i.0.0 n.0.0 top.1 are mode fit ascend insts.few (admitted_all (FitsNode device b.0.0.0 i.0.0) refused_node [] n.0.0 nodes.fit) (nodes_kept device k.keys b.0.0.0 i.0.0 n.0.0 nodes.fit) nodes.few in
+                        let front = stand_more p b.0.1 n.0.1 (heading b.0.0.0 b.0.0.1) (entry_lines a.0.0 ++ (inst_lines device i.0.0 ++ node_lines device b.0.0.0 i.0.0 n.0.0)) top.0
+                        (stand_more b.0.1 a.0.1 n.0.1 (entry_lines a.0.0) (inst_lines device i.0.0 ++ node_lines device b.0.0.0 i.0.0 n.0.0) entries.lines (stand_more a.0.1 i.0.1 n.0.1 (inst_lines device i.0.0) (node_lines device b.0.0.0 i.0.0 n.0.0) insts.lines nodes.lines)) in
+                        elim (then_stop (witness_at device n.0.1) _ g n.2) [
+                          | inl h ↦ witness_stops device stuck p c n.0.1 g refl whole_claim front h
                           | inr w ↦ elim (then_stop (end_at w.0.1) _ g w.2) [
-                            | inl h ↦ behind_nodes k b.0.0.0 p b.0.0.1 a.0.0 i.0.0 n.0.0 n.0.1 g whole_claim front (w.0.1, w.0.0) w.1 h
-                            | inr d ↦ absurd (err_ok {A = Claim × Place} g (claim_to b.0.0.0 b.0.0.1 a.0.0 i.0.0 n.0.0 w.0.0, d.0.1) (sym d.2))
+                            | inl h ↦ behind_nodes device k b.0.0.0 p b.0.0.1 a.0.0 i.0.0 n.0.0 n.0.1 g whole_claim front (w.0.1, w.0.0) w.1 h
+                            | inr d ↦ absurd (err_ok {A = Claim × Place} g (claim_to device b.0.0.0 b.0.0.1 a.0.0 i.0.0 n.0.0 w.0.0, d.0.1) (sym d.2))
                           ]
                         ]
                   ]
@@ -440,13 +446,13 @@ alone_err : (d : Result (Claim × Place) CertFault) (g : CertFault) → claim_al
 alone_err (Ok x) g e = absurd (err_ok {A = Claim} g x.0 (sym e))
 alone_err (Err f) g e = ap (λ (x : CertFault). Err x) (err_is {A = Claim} f g e)
 
-due_by : LowerLaws → RefusedScheduleIsStuck → (text : List ℕ) (r : Result Claim CertFault) → certificate_in text ≡ r → IsCertificateDue text r
+due_by : (device : Device) → LowerLaws → RefusedScheduleIsStuck → (text : List ℕ) (r : Result Claim CertFault) → certificate_in device text ≡ r → IsCertificateDue device text r
 unfolding certificate_in
-due_by k stuck text (Ok c) e = let t = read_is_spelled k text c e in (t.1, t.0)
-due_by k stuck text (Err g) e = claim_stops k stuck (start text) g (alone_err (claim_at (start text)) g e)
+due_by device k stuck text (Ok c) e = let t = read_is_spelled k device text c e in (t.0, t.2, t.1)
+due_by device k stuck text (Err g) e = claim_stops device k stuck (start text) g (alone_err (claim_at device (start text)) g e)
 
 pub read_is_due : LowerLaws → RefusedScheduleIsStuck → ReadCertificateIsDue
-read_is_due k stuck text = due_by k stuck text (certificate_in text) refl
+read_is_due k stuck device text = due_by device k stuck text (certificate_in device text) refl
 
 -- ---- what is answered
 
@@ -459,12 +465,12 @@ not_order at e = cc
 not_limit : (l : Limit) → fault.Limit l ≢ fault.Memory
 not_limit l e = cc
 
-err_due : (text : List ℕ) (f : CertFault) → ReadCertificateIsDue → (f ≢ fault.Memory → certificate_in text ≡ Err f) → IsCertificateDueUnlessMemory text (Err f)
-err_due text fault.Memory due h = tt
-err_due text (fault.Malformed at) due h = let P : Result Claim CertFault → Type 0 = λ r. IsCertificateDue text r in subst P (h (not_malformed at)) (due text)
-err_due text (fault.Order at) due h = let P : Result Claim CertFault → Type 0 = λ r. IsCertificateDue text r in subst P (h (not_order at)) (due text)
-err_due text (fault.Limit l) due h = let P : Result Claim CertFault → Type 0 = λ r. IsCertificateDue text r in subst P (h (not_limit l)) (due text)
+err_due : (device : Device) (text : List ℕ) (f : CertFault) → ReadCertificateIsDue → (f ≢ fault.Memory → certificate_in device text ≡ Err f) → IsCertificateDueUnlessMemory device text (Err f)
+err_due device text fault.Memory due h = tt
+err_due device text (fault.Malformed at) due h = let P : Result Claim CertFault → Type 0 = λ r. IsCertificateDue device text r in subst P (h (not_malformed at)) (due device text)
+err_due device text (fault.Order at) due h = let P : Result Claim CertFault → Type 0 = λ r. IsCertificateDue device text r in subst P (h (not_order at)) (due device text)
+err_due device text (fault.Limit l) due h = let P : Result Claim CertFault → Type 0 = λ r. IsCertificateDue device text r in subst P (h (not_limit l)) (due device text)
 
-pub told : ReadCertificateIsDue → (text : List ℕ) (r : Result Claim CertFault) → Answers (λ c. c) fault.Memory r (certificate_in text) → IsCertificateDueUnlessMemory text r
-told due text (Ok c) h = let P : Result Claim CertFault → Type 0 = λ r. IsCertificateDue text r in subst P h (due text)
-told due text (Err f) h = err_due text f due h
+pub told : (device : Device) → ReadCertificateIsDue → (text : List ℕ) (r : Result Claim CertFault) → Answers (λ c. c) fault.Memory r (certificate_in device text) → IsCertificateDueUnlessMemory device text r
+told device due text (Ok c) h = let P : Result Claim CertFault → Type 0 = λ r. IsCertificateDue device text r in subst P h (due device text)
+told device due text (Err f) h = err_due device text f due h

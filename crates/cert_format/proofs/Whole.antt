@@ -1,5 +1,5 @@
 -- Reading and spelling of certificates are inverse.
-use Rattle.std.proofs.Common.{true, ◌-◌, length-append, ℕ, ◌+◌, ◌≤◌, ◌≡◌, List, [], ◌∷◌, ◌++◌, length, map, codes, refl, ap, sym, ◌∙◌, arith, Option, None, Result, Ok, Err, subst, append-nil, lit<}
+use Rattle.std.proofs.Common.{true, ◌-◌, length-append, ℕ, ◌+◌, ◌≤◌, ◌≡◌, List, [], ◌∷◌, ◌++◌, length, map, codes, refl, ap, ap₂, sym, ◌∙◌, arith, Option, None, Result, Ok, Err, subst, append-nil, lit<}
 use Rattle.std.specs.Prelude.{IfOk}
 use Rattle.std.specs.List.{AllByRecursion, flat_map}
 use Rattle.std.specs.List.Sorted.{IsStrictlySortedBy}
@@ -9,13 +9,14 @@ use Rattle.std.proofs.lemmas.List.{map-append}
 use Rattle.avr_model.specs.declared.assumption.Entry.{Entry}
 use Rattle.avr_model.specs.declared.assumption.Entry.TheVariants.{Pairs}
 use Rattle.avr_model.specs.Assumptions.{has_pairs}
-use Rattle.avr_model.specs.State.{SIZE}
+use Rattle.avr_model.specs.declared.device.Device.{Device}
+use Rattle.avr_model.specs.Devices.{depth_of}
 use Rattle.sb_base.specs.Answers.{Answers}
 use Rattle.sb_base.specs.Lines.{Place, lines_of, spaced, line, joined}
 use Rattle.line_reading.specs.Words.{IsWord, WordLaws}
-use Rattle.vector_table.specs.Entries.{AreEntries, most_entries}
+use Rattle.vector_table.specs.Entries.{is_entry, fits_device, most_entries}
 use Rattle.indirect_targets.specs.Spelling.{entry_words}
-use Rattle.indirect_targets.specs.Exact.{EntryWords}
+use Rattle.indirect_targets.specs.Exact.{EntryWords, AreEntriesOf}
 use Rattle.indirect_targets.proofs.AllLaws.{entry_is_words}
 use Rattle.mask_states.specs.Order.{inst_cmp}
 use Rattle.mask_states.specs.Laws.{KeysAreOrdered}
@@ -34,6 +35,8 @@ use Rattle.cert_format.specs.LineLaws.{InstLines, NodeLines}
 use Rattle.cert_words.specs.Text.{numbered, inst_words, node_words, heading, entry_lines, inst_lines, node_lines, witness_lines, end_line, front_lines, certificate_lines, text_of}
 use Rattle.cert_format.specs.Reading.{entry_by, inst_by, node_by, refused_entry, refused_inst, refused_node, formed, numbered_by, count_by, limited, heading_at, is_admitted, least_entries, first_at, entries_at, insts_at, nodes_at, witness_at, end_at, claim_at, claim_alone, certificate_in}
 use Rattle.cert_format.specs.Exact.{ReadCertificateIsSpelled, SpelledCertificateIsRead, CertificatesHaveOneText, PartsMakeClaims}
+use Rattle.std.proofs.lemmas.Bool.{and_from}
+use Rattle.cert_words.proofs.AllLaws.{depth_room}
 use Rattle.line_reading.specs.Reading.{this_by, line_by}
 use Rattle.line_reading.proofs.AllLaws.{passes_none, passes_end}
 use Rattle.cert_format.proofs.Lists.{ok_is, err_ok, then_ok, AllFrom, all_of_any, Admitted, admitted_all, ItemsRead, items_take, items_again}
@@ -74,14 +77,14 @@ first_again One p q h = ap (λ (r : Place). Ok ([], r)) (passes_end p q h)
 first_again Two p q h = ap (λ (r : Place). Ok ([], r)) (passes_end p q h)
 first_again Three p q h = rw (this_line (entry_words Pairs) p q h) refl
 
-pub record EntriesPart (version : Version) (p : Place) (z : List Entry × Place) : Type 0 where
-  pub are : AreEntries z.0
+pub record EntriesPart (device : Device) (version : Version) (p : Place) (z : List Entry × Place) : Type 0 where
+  pub are : AreEntriesOf device z.0
   pub mode : is_third version ≡ has_pairs z.0
   pub lines : Stand p (entry_lines z.0) z.1
 
 -- the first entries of a version, and some more
-pub some_keep : (version : Version) (items : List Entry) → Admitted (EntryOf (is_third version)) refused_entry (firsts version) items → EntriesKeep (is_third version) (firsts version ++ items)
-some_keep version items h = entries_kept (is_third version) (firsts version) items (record { are = λ _. firsts_are version; mode = sym (firsts_mode version) }) h
+pub some_keep : (device : Device) (version : Version) (items : List Entry) → Admitted (EntryOf device (is_third version)) refused_entry (firsts version) items → EntriesKeep device (is_third version) (firsts version ++ items)
+some_keep device version items h = entries_kept device (is_third version) (firsts version) items (record { are = λ _. firsts_are device version; mode = sym (firsts_mode version) }) h
 
 pub some_stand : (version : Version) (m s q : Place) (items : List Entry) → Stand m (map entry_words (firsts version)) s → Stand s (map entry_words items) q → Stand m (map entry_words (firsts version ++ items)) q
 some_stand version m s q items h g =
@@ -91,145 +94,153 @@ some_stand version m s q items h g =
 some_count : (version : Version) (items : List Entry) (n : ℕ) → least_entries version ≤ n → length items ≡ n - least_entries version → length (firsts version ++ items) ≡ n
 some_count version items n least e = omega (arith, length-append (firsts version) items, firsts_count version, least, e)
 
-entries_part : (version : Version) (p m s : Place) (n : ℕ) (z : List Entry × Place) → Stand p (numbered (codes "assume") n ∷ []) m → least_entries version ≤ n → n ≤ most_entries → Stand m (map entry_words (firsts version)) s
-    → ItemsRead entry_words (EntryOf (is_third version)) refused_entry (firsts version) (n - least_entries version) s z → EntriesPart version p z
-entries_part version p m s n z count least most first r =
+entries_part : (device : Device) (version : Version) (p m s : Place) (n : ℕ) (z : List Entry × Place) → Stand p (numbered (codes "assume") n ∷ []) m → least_entries version ≤ n → n ≤ most_entries → Stand m (map entry_words (firsts version)) s
+    → ItemsRead entry_words (EntryOf device (is_third version)) refused_entry (firsts version) (n - least_entries version) s z → EntriesPart device version p z
+entries_part device version p m s n z count least most first r =
     let all : List Entry = firsts version ++ r.items in
     let number : length all ≡ n = some_count version r.items n least r.number in
-    let keep = some_keep version r.items r.fit in
+    let keep = some_keep device version r.items r.fit in
     let P : ℕ → Type 0 = λ i. Stand p (numbered (codes "assume") i ∷ []) m in
-    let Q : List Entry → Type 0 = λ es. EntriesPart version p (es, z.1) in
+    let Q : List Entry → Type 0 = λ es. EntriesPart device version p (es, z.1) in
     subst Q r.all (record {
       are = keep.are (omega (arith, number, most));
       mode = sym keep.mode;
       lines = stand_more p m z.1 (numbered (codes "assume") (length all) ∷ []) (map entry_words all) (subst P (sym number) count) (some_stand version m s z.1 r.items first r.passes);
     })
 
-pub entries_take : LowerLaws → (version : Version) (p : Place) (z : List Entry × Place) → entries_at version p ≡ Ok z → EntriesPart version p z
+pub entries_take : (device : Device) → LowerLaws → (version : Version) (p : Place) (z : List Entry × Place) → entries_at device version p ≡ Ok z → EntriesPart device version p z
 unfolding entries_at
-entries_take b version p z e =
+entries_take device b version p z e =
     let n = then_ok (formed (line_by (numbered_by (codes "assume") (least_entries version) most_entries) p)) _ z e in
     let count = number_take b.words (codes "assume") (least_entries version) most_entries p n.0 (lit< tt) n.1 in
     let f = then_ok (first_at version n.0.1) _ z n.2 in
     let first = first_take version n.0.1 f.0 f.1 in
-    let r = items_take (λ at. entry_by (is_third version)) entry_words (EntryOf (is_third version)) refused_entry (entry_spells b.words b.entries (is_third version)) entry_steady f.0.0 (n.0.0 - least_entries version) f.0.1 z f.2 in
-    let P : List Entry → Type 0 = λ front. ItemsRead entry_words (EntryOf (is_third version)) refused_entry front (n.0.0 - least_entries version) f.0.1 z in
-    entries_part version p n.0.1 f.0.1 n.0.0 z count.0 count.1 count.2 first.lines (subst P first.all r)
+    let r = items_take (λ at. entry_by device (is_third version)) entry_words (EntryOf device (is_third version)) refused_entry (entry_spells device b.words b.entries (is_third version)) entry_steady f.0.0 (n.0.0 - least_entries version) f.0.1 z f.2 in
+    let P : List Entry → Type 0 = λ front. ItemsRead entry_words (EntryOf device (is_third version)) refused_entry front (n.0.0 - least_entries version) f.0.1 z in
+    entries_part device version p n.0.1 f.0.1 n.0.0 z count.0 count.1 count.2 first.lines (subst P first.all r)
 
 all_behind : {A : Type 0} (P : A → Type 0) (front xs : List A) → AllByRecursion P (front ++ xs) → AllByRecursion P xs
 all_behind P [] xs h = h
 all_behind P (y ∷ ys) xs h = all_behind P ys xs h.1
 
-entries_of : LowerLaws → (version : Version) (p : Place) (rest : List Entry) (q : Place) → AreEntries (firsts version ++ rest) → AllByRecursion (λ e. is_admitted (is_third version) e ≡ true) rest
-    → Stand p (entry_lines (firsts version ++ rest)) q → entries_at version p ≡ Ok (firsts version ++ rest, q)
+-- each entry of the device
+all_fitting : (device : Device) (es : List Entry) → AllByRecursion (λ e. is_entry e ≡ true) es → AllByRecursion (λ e. fits_device device e ≡ true) es → AllByRecursion (FitsEntry device) es
+all_fitting device [] h g = tt
+all_fitting device (e ∷ es) h g = (and_from (is_entry e) (fits_device device e) h.0 g.0, all_fitting device es h.1 g.1)
+
+entries_of : (device : Device) → LowerLaws → (version : Version) (p : Place) (rest : List Entry) (q : Place) → AreEntriesOf device (firsts version ++ rest) → AllByRecursion (λ e. is_admitted (is_third version) e ≡ true) rest
+    → Stand p (entry_lines (firsts version ++ rest)) q → entries_at device version p ≡ Ok (firsts version ++ rest, q)
 unfolding entries_at
-entries_of b version p rest q h admitted s =
+entries_of device b version p rest q h admitted s =
     let all : List Entry = firsts version ++ rest in
     let size : length all ≡ least_entries version + length rest = omega (arith, length-append (firsts version) rest, firsts_count version) in
-    let few = h.few in
+    let few = h.are.few in
     let c = stand_cut p q (numbered (codes "assume") (length all) ∷ []) (map entry_words all) s in
     let P : List (List (List ℕ)) → Type 0 = λ wss. Stand c.0 wss q in
     let d = stand_cut c.0 q (map entry_words (firsts version)) (map entry_words rest) (subst P (map-append entry_words (firsts version) rest) c.2) in
     let number = number_line b.words (codes "assume") (least_entries version) most_entries (length all) p c.0 (plain (codes "assume" ∷ []) refl).0 (lit< tt) (omega (arith, size)) few c.1 in
-    let fits = all_behind FitsEntry (firsts version) rest (recursion_from_All FitsEntry all h.each) in
-    let items = items_again (λ at. entry_by (is_third version)) entry_words (EntryOf (is_third version)) refused_entry (entry_reads b.words b.entries (is_third version)) (firsts version) rest (length all - least_entries version) d.0 q
-    (omega (arith, size, few, firsts_count version)) (entries_admitted (is_third version) (firsts version) rest h fits admitted) (omega (arith, size)) d.2 in
+    let fits = all_behind (FitsEntry device) (firsts version) rest (all_fitting device all (recursion_from_All (λ e. is_entry e ≡ true) all h.are.each) (recursion_from_All (λ e. fits_device device e ≡ true) all h.fit)) in
+    let items = items_again (λ at. entry_by device (is_third version)) entry_words (EntryOf device (is_third version)) refused_entry (entry_reads device b.words b.entries (is_third version)) (firsts version) rest (length all - least_entries version) d.0 q
+    (omega (arith, size, few, firsts_count version)) (entries_admitted device (is_third version) (firsts version) rest h fits admitted) (omega (arith, size)) d.2 in
     rw (number, first_again version c.0 d.0 d.1) items
 
-entries_again : LowerLaws → (version : Version) (p : Place) (es : List Entry) (q : Place) → AreEntries es → is_third version ≡ has_pairs es → Stand p (entry_lines es) q → entries_at version p ≡ Ok (es, q)
-entries_again b version p es q h mode s =
-    let t = begins version es h mode in
+entries_again : (device : Device) → LowerLaws → (version : Version) (p : Place) (es : List Entry) (q : Place) → AreEntriesOf device es → is_third version ≡ has_pairs es → Stand p (entry_lines es) q → entries_at device version p ≡ Ok (es, q)
+entries_again device b version p es q h mode s =
+    let t = begins version es h.are mode in
     let P : List Entry → Type 0 = λ xs. Stand p (entry_lines xs) q in
-    let Q : List Entry → Type 0 = λ xs. entries_at version p ≡ Ok (xs, q) in
-    subst Q (sym t.all) (entries_of b version p t.rest q (subst AreEntries t.all h) t.admitted (subst P t.all s))
+    let Q : List Entry → Type 0 = λ xs. entries_at device version p ≡ Ok (xs, q) in
+    subst Q (sym t.all) (entries_of device b version p t.rest q (subst (AreEntriesOf device) t.all h) t.admitted (subst P t.all s))
 
-pub insts_take : LowerLaws → (p : Place) (z : List Inst × Place) → insts_at p ≡ Ok z → ListPart (codes "instances") most_instances inst_words AnyInst refused_inst p z
+pub insts_take : (device : Device) → LowerLaws → (p : Place) (z : List Inst × Place) → insts_at device p ≡ Ok z → ListPart (codes "instances") most_instances (inst_words device) (AnyInst device) refused_inst p z
 unfolding insts_at
-insts_take b p z e =
+insts_take device b p z e =
     let n = then_ok (formed (line_by (numbered_by (codes "instances") 0 most_instances) p)) _ z e in
     let count = number_take b.words (codes "instances") 0 most_instances p n.0 (lit< tt) n.1 in
-    list_take (λ at. inst_by) inst_words AnyInst refused_inst (inst_spells b.words b.insts) inst_steady (codes "instances") most_instances n.0.0 p n.0.1 z count.0 count.2 n.2
+    list_take (λ at. inst_by device) (inst_words device) (AnyInst device) refused_inst (inst_spells device b.words b.insts) inst_steady (codes "instances") most_instances n.0.0 p n.0.1 z count.0 count.2 n.2
 
-insts_again : LowerLaws → (p : Place) (xs : List Inst) (q : Place) → IsStrictlySortedBy inst_cmp (inst_keys xs) → AllByRecursion IsInst xs → length xs ≤ most_instances → Stand p (inst_lines xs) q → insts_at p ≡ Ok (xs, q)
+insts_again : (device : Device) → LowerLaws → (p : Place) (xs : List Inst) (q : Place) → IsStrictlySortedBy inst_cmp (inst_keys xs) → AllByRecursion (IsInst device) xs → length xs ≤ most_instances → Stand p (inst_lines device xs) q → insts_at device p ≡ Ok (xs, q)
 unfolding insts_at
-insts_again b p xs q ascend all few s =
-    let r = list_again (λ at. inst_by) inst_words AnyInst refused_inst (inst_reads b.words b.insts) (codes "instances") xs p q (omega (arith, few)) (insts_admitted xs ascend all) s in
+insts_again device b p xs q ascend all few s =
+    let r = list_again (λ at. inst_by device) (inst_words device) (AnyInst device) refused_inst (inst_reads device b.words b.insts) (codes "instances") xs p q (omega (arith, few)) (insts_admitted device xs ascend all) s in
     let count = number_line b.words (codes "instances") 0 most_instances (length xs) p r.0 (plain (codes "instances" ∷ []) refl).0 (lit< tt) (omega arith) few r.1 in
     rw count r.2
 
-pub nodes_part : LowerLaws → (version : Version) (insts : List Inst) → IsStrictlySortedBy inst_cmp (inst_keys insts) → (p : Place) (z : Seeds × Place) → nodes_at version insts p ≡ Ok z
-    → ListPart (codes "nodes") most_nodes (node_words version insts) (FitsNode version insts) refused_node p z
+pub nodes_part : (device : Device) → LowerLaws → (version : Version) (insts : List Inst) → IsStrictlySortedBy inst_cmp (inst_keys insts) → (p : Place) (z : Seeds × Place) → nodes_at device version insts p ≡ Ok z
+    → ListPart (codes "nodes") most_nodes (node_words device version insts) (FitsNode device version insts) refused_node p z
 unfolding nodes_at
-nodes_part b version insts ascend p z e =
+nodes_part device b version insts ascend p z e =
     let n = then_ok (limited (formed (line_by count_by p))) _ z e in
     let count = nodes_take b.words p n.0 n.1 in
-    list_take (node_by version insts) (node_words version insts) (FitsNode version insts) refused_node (node_spells b.words b.nodes b.keys version insts ascend) node_steady (codes "nodes") most_nodes n.0.0 p n.0.1 z count.0 count.1 n.2
+    list_take (node_by device version insts) (node_words device version insts) (FitsNode device version insts) refused_node (node_spells device b.words b.nodes b.keys version insts ascend) node_steady (codes "nodes") most_nodes n.0.0 p n.0.1 z count.0 count.1 n.2
 
-nodes_again : LowerLaws → (version : Version) (insts : List Inst) → length insts ≤ most_instances → (p : Place) (ns : Seeds) (q : Place) → NodesKeep ns → AllFrom (FitsNode version insts) 0 ns → length ns ≤ most_nodes
-    → Stand p (node_lines version insts ns) q → nodes_at version insts p ≡ Ok (ns, q)
+nodes_again : (device : Device) → LowerLaws → (version : Version) (insts : List Inst) → length insts ≤ most_instances → (p : Place) (ns : Seeds) (q : Place) → NodesKeep ns → AllFrom (FitsNode device version insts) 0 ns → length ns ≤ most_nodes
+    → Stand p (node_lines device version insts ns) q → nodes_at device version insts p ≡ Ok (ns, q)
 unfolding nodes_at
-nodes_again b version insts few p ns q keep all most s =
-    let r = list_again (node_by version insts) (node_words version insts) (FitsNode version insts) refused_node (node_reads b.words b.nodes b.keys version insts few) (codes "nodes") ns p q (omega (arith, most)) (nodes_admitted version insts ns keep all) s in
+nodes_again device b version insts few p ns q keep all most s =
+    let r = list_again (node_by device version insts) (node_words device version insts) (FitsNode device version insts) refused_node (node_reads device b.words b.nodes b.keys version insts few) (codes "nodes") ns p q (omega (arith, most)) (nodes_admitted device version insts ns keep all) s in
     let count = nodes_line b.words (length ns) p r.0 most r.1 in
     rw count r.2
 
 -- ---- what is read is spelled so
 
-pub claim_of : (version : Version) (n : ℕ) (es : List Entry) (xs : List Inst) (ns : Seeds) (w : Option Plan) → n ≤ SIZE → AreEntries es → is_third version ≡ has_pairs es → AllByRecursion IsInst xs → IsStrictlySortedBy inst_cmp (inst_keys xs) → length xs ≤ most_instances
-    → AllFrom (FitsNode version xs) 0 ns → NodesKeep ns → length ns ≤ most_nodes → IsClaim (record { version = version; bound = n; assumptions = es; instances = xs; nodes = ns; witness = w })
-claim_of version n es xs ns w small he mode hx ax few hn kn most = record {
+pub claim_of : (device : Device) (version : Version) (n : ℕ) (es : List Entry) (xs : List Inst) (ns : Seeds) (w : Option Plan) → n ≤ depth_of device → AreEntriesOf device es → is_third version ≡ has_pairs es → AllByRecursion (IsInst device) xs → IsStrictlySortedBy inst_cmp (inst_keys xs) → length xs ≤ most_instances
+    → AllFrom (FitsNode device version xs) 0 ns → NodesKeep ns → length ns ≤ most_nodes → IsClaim (record { device = device; version = version; bound = n; assumptions = es; instances = xs; nodes = ns; witness = w })
+claim_of device version n es xs ns w small he mode hx ax few hn kn most = record {
   bound_fits = small;
-  entries_fit = he;
+  entries_fit = he.are;
+  entries_of_device = he.fit;
   insts_fit = hx;
   insts_ascend = ax;
   few_insts = few;
-  nodes_fit = subst (λ followed. AreFrom followed 0 ns) mode (all_from version xs 0 ns hn);
-  nodes_belong = all_belong version xs 0 ns hn;
+  nodes_fit = subst (λ followed. AreFrom device followed 0 ns) mode (all_from device version xs 0 ns hn);
+  nodes_belong = all_belong device version xs 0 ns hn;
   nodes_ascend = kn.ascend;
   few_nodes = most;
   few_cells = kn.few;
-  of_version = are_of version ns (all_of_version version xs 0 ns hn);
+  of_version = are_of version ns (all_of_version device version xs 0 ns hn);
   of_list = mode;
 }
 
-claim_by : LowerLaws → (version : Version) (n : ℕ) (a c d : Place) (es : List Entry × Place) (xs : List Inst × Place) (ns : Seeds × Place) (w : Option Plan) → n ≤ SIZE → entries_at version a ≡ Ok es → insts_at c ≡ Ok xs → nodes_at version xs.0 d ≡ Ok ns
-    → IsClaim (record { version = version; bound = n; assumptions = es.0; instances = xs.0; nodes = ns.0; witness = w })
-claim_by b version n a c d es xs ns w small e f g =
-    let entries = entries_take b version a es e in
-    let insts = insts_take b c xs f in
-    let ascend = insts_kept b.keys xs.0 insts.fit in
-    let nodes = nodes_part b version xs.0 ascend d ns g in
-    claim_of version n es.0 xs.0 ns.0 w small entries.are entries.mode (all_of_any IsInst 0 xs.0 (admitted_all AnyInst refused_inst [] xs.0 insts.fit)) ascend insts.few
-    (admitted_all (FitsNode version xs.0) refused_node [] ns.0 nodes.fit) (nodes_kept b.keys version xs.0 ns.0 nodes.fit) nodes.few
+claim_by : (device : Device) → LowerLaws → (version : Version) (n : ℕ) (a c d : Place) (es : List Entry × Place) (xs : List Inst × Place) (ns : Seeds × Place) (w : Option Plan) → n ≤ depth_of device → entries_at device version a ≡ Ok es → insts_at device c ≡ Ok xs → nodes_at device version xs.0 d ≡ Ok ns
+    → IsClaim (record { device = device; version = version; bound = n; assumptions = es.0; instances = xs.0; nodes = ns.0; witness = w })
+claim_by device b version n a c d es xs ns w small e f g =
+    let entries = entries_take device b version a es e in
+    let insts = insts_take device b c xs f in
+    let ascend = insts_kept device b.keys xs.0 insts.fit in
+    let nodes = nodes_part device b version xs.0 ascend d ns g in
+    claim_of device version n es.0 xs.0 ns.0 w small entries.are entries.mode (all_of_any (IsInst device) 0 xs.0 (admitted_all (AnyInst device) refused_inst [] xs.0 insts.fit)) ascend insts.few
+    (admitted_all (FitsNode device version xs.0) refused_node [] ns.0 nodes.fit) (nodes_kept device b.keys version xs.0 ns.0 nodes.fit) nodes.few
 
-record ClaimRead (p : Place) (z : Claim × Place) : Type 0 where
+record ClaimRead (device : Device) (p : Place) (z : Claim × Place) : Type 0 where
+  pub is : z.0.device ≡ device
   pub certificate : IsCertificate z.0
   pub lines : Stand p (certificate_lines z.0) z.1
   pub over : z.1.rest ≡ []
 
-claim_take : LowerLaws → (p : Place) (z : Claim × Place) → claim_at p ≡ Ok z → ClaimRead p z
+claim_take : (device : Device) → LowerLaws → (p : Place) (z : Claim × Place) → claim_at device p ≡ Ok z → ClaimRead device p z
 unfolding claim_at
-claim_take k p z e =
-    let b = then_ok (heading_at p) _ z e in
-    let a = then_ok (entries_at b.0.0.0 b.0.1) _ z b.2 in
-    let i = then_ok (insts_at a.0.1) _ z a.2 in
-    let n = then_ok (nodes_at b.0.0.0 i.0.0 i.0.1) _ z i.2 in
-    let w = then_ok (witness_at n.0.1) _ z n.2 in
+claim_take device k p z e =
+    let b = then_ok (heading_at device p) _ z e in
+    let a = then_ok (entries_at device b.0.0.0 b.0.1) _ z b.2 in
+    let i = then_ok (insts_at device a.0.1) _ z a.2 in
+    let n = then_ok (nodes_at device b.0.0.0 i.0.0 i.0.1) _ z i.2 in
+    let w = then_ok (witness_at device n.0.1) _ z n.2 in
     let d = then_ok (end_at w.0.1) _ z w.2 in
-    let top = heading_take k.words p b.0 b.1 in
-    let entries = entries_take k b.0.0.0 b.0.1 a.0 a.1 in
-    let insts = insts_take k a.0.1 i.0 i.1 in
-    let nodes = nodes_part k b.0.0.0 i.0.0 (insts_kept k.keys i.0.0 insts.fit) i.0.1 n.0 n.1 in
-    let witness = witness_part k.schedule_spelled n.0.1 w.0 w.1 in
+    let top = heading_take device k.words p b.0 b.1 in
+    let entries = entries_take device k b.0.0.0 b.0.1 a.0 a.1 in
+    let insts = insts_take device k a.0.1 i.0 i.1 in
+    let nodes = nodes_part device k b.0.0.0 i.0.0 (insts_kept device k.keys i.0.0 insts.fit) i.0.1 n.0 n.1 in
+    let witness = witness_part device k.schedule_spelled n.0.1 w.0 w.1 in
     let end = end_part w.0.1 d.0 d.1 in
     let last = stand_more n.0.1 w.0.1 d.0.1 (witness_lines w.0.0) (end_line ∷ []) witness.lines end.lines in
-    let third = stand_more a.0.1 i.0.1 n.0.1 (inst_lines i.0.0) (node_lines b.0.0.0 i.0.0 n.0.0) insts.lines nodes.lines in
-    let second = stand_more b.0.1 a.0.1 n.0.1 (entry_lines a.0.0) (inst_lines i.0.0 ++ node_lines b.0.0.0 i.0.0 n.0.0) entries.lines third in
-    let first = stand_more p b.0.1 n.0.1 (heading b.0.0.0 b.0.0.1) (entry_lines a.0.0 ++ (inst_lines i.0.0 ++ node_lines b.0.0.0 i.0.0 n.0.0)) top.0 second in
-    let all = stand_more p n.0.1 d.0.1 (heading b.0.0.0 b.0.0.1 ++ (entry_lines a.0.0 ++ (inst_lines i.0.0 ++ node_lines b.0.0.0 i.0.0 n.0.0))) (witness_lines w.0.0 ++ end_line ∷ []) first last in
-    let P : Claim × Place → Type 0 = λ y. ClaimRead p y in
-    subst P (ok_is {A = Claim × Place} (record { version = b.0.0.0; bound = b.0.0.1; assumptions = a.0.0; instances = i.0.0; nodes = n.0.0; witness = w.0.0 }, d.0.1) z d.2) (record {
-      certificate = record { claim = claim_by k b.0.0.0 b.0.0.1 b.0.1 a.0.1 i.0.1 a.0 i.0 n.0 w.0.0 top.1 a.1 i.1 n.1; schedule = witness.schedule };
+    let third = stand_more a.0.1 i.0.1 n.0.1 (inst_lines device i.0.0) (node_lines device b.0.0.0 i.0.0 n.0.0) insts.lines nodes.lines in
+    let second = stand_more b.0.1 a.0.1 n.0.1 (entry_lines a.0.0) (inst_lines device i.0.0 ++ node_lines device b.0.0.0 i.0.0 n.0.0) entries.lines third in
+    let first = stand_more p b.0.1 n.0.1 (heading b.0.0.0 b.0.0.1) (entry_lines a.0.0 ++ (inst_lines device i.0.0 ++ node_lines device b.0.0.0 i.0.0 n.0.0)) top.0 second in
+    let all = stand_more p n.0.1 d.0.1 (heading b.0.0.0 b.0.0.1 ++ (entry_lines a.0.0 ++ (inst_lines device i.0.0 ++ node_lines device b.0.0.0 i.0.0 n.0.0))) (witness_lines w.0.0 ++ end_line ∷ []) first last in
+    let P : Claim × Place → Type 0 = λ y. ClaimRead device p y in
+    subst P (ok_is {A = Claim × Place} (record { device = device; version = b.0.0.0; bound = b.0.0.1; assumptions = a.0.0; instances = i.0.0; nodes = n.0.0; witness = w.0.0 }, d.0.1) z d.2) (record {
+      is = refl;
+      certificate = record { claim = claim_by device k b.0.0.0 b.0.0.1 b.0.1 a.0.1 i.0.1 a.0 i.0 n.0 w.0.0 top.1 a.1 i.1 n.1; schedule = witness.schedule };
       lines = all;
       over = end.over;
     })
@@ -238,18 +249,18 @@ alone : (d : Result (Claim × Place) CertFault) (c : Claim) → claim_alone d �
 alone (Ok x) c e = (x.1, ap (λ (y : Claim). Ok (y, x.1)) (ok_is x.0 c e))
 alone (Err f) c e = absurd (err_ok f c e)
 
-spelled_text : WordLaws → (text : List ℕ) (c : Claim) (q : Place) → ClaimRead (before 0 text) (c, q) → text ≡ text_of c
-spelled_text k text c q h =
+spelled_text : WordLaws → (device : Device) (text : List ℕ) (c : Claim) (q : Place) → ClaimRead device (before 0 text) (c, q) → text ≡ text_of c
+spelled_text k device text c q h =
     let t = k.lines_text (before 0 text) (certificate_lines c) q h.lines in
     let none : joined q.rest ≡ [] = ap joined h.over in
     sym (k.text_joined text) ∙ t.bytes ∙ ap (λ (xs : List ℕ). text_of c ++ xs) none ∙ append-nil (text_of c)
 
 pub read_is_spelled : LowerLaws → ReadCertificateIsSpelled
 unfolding certificate_in
-read_is_spelled k text c e =
-    let a = alone (claim_at (before 0 text)) c e in
-    let h = claim_take k (before 0 text) (c, a.0) a.1 in
-    (spelled_text k.words text c a.0 h, h.certificate)
+read_is_spelled k device text c e =
+    let a = alone (claim_at device (before 0 text)) c e in
+    let h = claim_take device k (before 0 text) (c, a.0) a.1 in
+    (h.is, spelled_text k.words device text c a.0 h, h.certificate)
 
 -- ---- what is spelled is read
 
@@ -261,42 +272,42 @@ joined_plain : (xs bs : List (List (List ℕ))) → AllByRecursion (AllByRecursi
 joined_plain [] bs h g = g
 joined_plain (a ∷ xs) bs h g = (h.0, joined_plain xs bs h.1 g)
 
-node_plain_all : LowerLaws → (version : Version) (insts : List Inst) → length insts ≤ most_instances → (at : ℕ) (ns : Seeds) → at + length ns ≤ most_nodes → AllFrom (FitsNode version insts) at ns
-    → AllByRecursion (AllByRecursion IsWord) (map (node_words version insts) ns)
-node_plain_all b version insts few at [] most h = tt
-node_plain_all b version insts few at (n ∷ ns) most h = (node_is_plain b.nodes b.keys version insts few at n (omega (arith, most)) h.0, node_plain_all b version insts few (at + 1) ns (omega (arith, most)) h.1)
+node_plain_all : (device : Device) → LowerLaws → (version : Version) (insts : List Inst) → length insts ≤ most_instances → (at : ℕ) (ns : Seeds) → at + length ns ≤ most_nodes → AllFrom (FitsNode device version insts) at ns
+    → AllByRecursion (AllByRecursion IsWord) (map (node_words device version insts) ns)
+node_plain_all device b version insts few at [] most h = tt
+node_plain_all device b version insts few at (n ∷ ns) most h = (node_is_plain device b.nodes b.keys version insts few at n (omega (arith, most)) h.0, node_plain_all device b version insts few (at + 1) ns (omega (arith, most)) h.1)
 
-pub fitting_nodes : (c : Claim) → IsClaim c → AllFrom (FitsNode c.version c.instances) 0 c.nodes
-fitting_nodes c h = all_fit c.version c.instances 0 c.nodes (subst (λ followed. AreFrom followed 0 c.nodes) (sym h.of_list) h.nodes_fit) h.nodes_belong (each_of c.version c.nodes h.of_version)
+pub fitting_nodes : (c : Claim) → IsClaim c → AllFrom (FitsNode c.device c.version c.instances) 0 c.nodes
+fitting_nodes c h = all_fit c.device c.version c.instances 0 c.nodes (subst (λ followed. AreFrom c.device followed 0 c.nodes) (sym h.of_list) h.nodes_fit) h.nodes_belong (each_of c.version c.nodes h.of_version)
 
 front_plain : LowerLaws → (c : Claim) → IsClaim c → AllByRecursion (AllByRecursion IsWord) (front_lines c)
 front_plain b c h =
     let k = b.words in
-    let bound = numbered_plain k (codes "bound") c.bound (plain (codes "bound" ∷ []) refl).0 (omega (arith, h.bound_fits)) in
+    let bound = numbered_plain k (codes "bound") c.bound (plain (codes "bound" ∷ []) refl).0 (omega (arith, h.bound_fits, depth_room c.device)) in
     let entries : AllByRecursion (AllByRecursion IsWord) (entry_lines c.assumptions) = (
       numbered_plain k (codes "assume") (length c.assumptions) (plain (codes "assume" ∷ []) refl).0 (omega (arith, h.entries_fit.few)),
-      all_plain entry_words FitsEntry (entry_is_words k) c.assumptions (recursion_from_All FitsEntry c.assumptions h.entries_fit.each),
+      all_plain entry_words (λ e. is_entry e ≡ true) (entry_is_words k) c.assumptions (recursion_from_All (λ e. is_entry e ≡ true) c.assumptions h.entries_fit.each),
     ) in
-    let insts : AllByRecursion (AllByRecursion IsWord) (inst_lines c.instances) = (numbered_plain k (codes "instances") (length c.instances) (plain (codes "instances" ∷ []) refl).0 (omega (arith, h.few_insts)), all_plain inst_words IsInst b.insts.words c.instances h.insts_fit) in
-    let nodes : AllByRecursion (AllByRecursion IsWord) (node_lines c.version c.instances c.nodes) = (
+    let insts : AllByRecursion (AllByRecursion IsWord) (inst_lines c.device c.instances) = (numbered_plain k (codes "instances") (length c.instances) (plain (codes "instances" ∷ []) refl).0 (omega (arith, h.few_insts)), all_plain (inst_words c.device) (IsInst c.device) (b.insts.words c.device) c.instances h.insts_fit) in
+    let nodes : AllByRecursion (AllByRecursion IsWord) (node_lines c.device c.version c.instances c.nodes) = (
       numbered_plain k (codes "nodes") (length c.nodes) (plain (codes "nodes" ∷ []) refl).0 (omega (arith, h.few_nodes)),
-      node_plain_all b c.version c.instances h.few_insts 0 c.nodes (omega (arith, h.few_nodes)) (fitting_nodes c h),
+      node_plain_all c.device b c.version c.instances h.few_insts 0 c.nodes (omega (arith, h.few_nodes)) (fitting_nodes c h),
     ) in
-    (version_plain c.version, (bound, joined_plain (entry_lines c.assumptions) (inst_lines c.instances ++ node_lines c.version c.instances c.nodes) entries (joined_plain (inst_lines c.instances) (node_lines c.version c.instances c.nodes) insts nodes)))
+    (version_plain c.version, (bound, joined_plain (entry_lines c.assumptions) (inst_lines c.device c.instances ++ node_lines c.device c.version c.instances c.nodes) entries (joined_plain (inst_lines c.device c.instances) (node_lines c.device c.version c.instances c.nodes) insts nodes)))
 
 again_at : LowerLaws → (c : Claim) → IsClaim c → (p q : Place) → Stand p (front_lines c) q
-    → (a : Place) × (d : Place) × (f : Place) × (heading_at p ≡ Ok ((c.version, c.bound), a)) × (entries_at c.version a ≡ Ok (c.assumptions, d)) × (insts_at d ≡ Ok (c.instances, f)) × (nodes_at c.version c.instances f ≡ Ok (c.nodes, q))
+    → (a : Place) × (d : Place) × (f : Place) × (heading_at c.device p ≡ Ok ((c.version, c.bound), a)) × (entries_at c.device c.version a ≡ Ok (c.assumptions, d)) × (insts_at c.device d ≡ Ok (c.instances, f)) × (nodes_at c.device c.version c.instances f ≡ Ok (c.nodes, q))
 again_at b c h p q s =
-    let x = stand_cut p q (heading c.version c.bound) (entry_lines c.assumptions ++ (inst_lines c.instances ++ node_lines c.version c.instances c.nodes)) s in
-    let y = stand_cut x.0 q (entry_lines c.assumptions) (inst_lines c.instances ++ node_lines c.version c.instances c.nodes) x.2 in
-    let z = stand_cut y.0 q (inst_lines c.instances) (node_lines c.version c.instances c.nodes) y.2 in (
+    let x = stand_cut p q (heading c.version c.bound) (entry_lines c.assumptions ++ (inst_lines c.device c.instances ++ node_lines c.device c.version c.instances c.nodes)) s in
+    let y = stand_cut x.0 q (entry_lines c.assumptions) (inst_lines c.device c.instances ++ node_lines c.device c.version c.instances c.nodes) x.2 in
+    let z = stand_cut y.0 q (inst_lines c.device c.instances) (node_lines c.device c.version c.instances c.nodes) y.2 in (
       x.0,
       y.0,
       z.0,
-      heading_again b.words p c.version c.bound x.0 h.bound_fits x.1,
-      entries_again b c.version x.0 c.assumptions y.0 h.entries_fit h.of_list y.1,
-      insts_again b y.0 c.instances z.0 h.insts_ascend h.insts_fit h.few_insts z.1,
-      nodes_again b c.version c.instances h.few_insts z.0 c.nodes q (record { ascend = h.nodes_ascend; few = h.few_cells }) (fitting_nodes c h) h.few_nodes z.2,
+      heading_again c.device b.words p c.version c.bound x.0 h.bound_fits x.1,
+      entries_again c.device b c.version x.0 c.assumptions y.0 (record { are = h.entries_fit; fit = h.entries_of_device }) h.of_list y.1,
+      insts_again c.device b y.0 c.instances z.0 h.insts_ascend h.insts_fit h.few_insts z.1,
+      nodes_again c.device b c.version c.instances h.few_insts z.0 c.nodes q (record { ascend = h.nodes_ascend; few = h.few_cells }) (fitting_nodes c h) h.few_nodes z.2,
     )
 
 text_parts : (c : Claim) → text_of c ≡ flat_map line (front_lines c) ++ (flat_map line (witness_lines c.witness) ++ flat_map line (end_line ∷ []))
@@ -305,14 +316,14 @@ text_parts c =
     ∙ ap (λ (xs : List ℕ). flat_map line (front_lines c) ++ xs) (flat_map-append line (witness_lines c.witness) (end_line ∷ []))
 
 claim_again : LowerLaws → (c : Claim) → IsCertificate c
-    → (q : Place) × (claim_at (before 0 (flat_map line (front_lines c) ++ (flat_map line (witness_lines c.witness) ++ flat_map line (end_line ∷ [])))) ≡ Ok (c, q))
+    → (q : Place) × (claim_at c.device (before 0 (flat_map line (front_lines c) ++ (flat_map line (witness_lines c.witness) ++ flat_map line (end_line ∷ [])))) ≡ Ok (c, q))
 unfolding claim_at
 claim_again b c h =
     let text : List ℕ = flat_map line (witness_lines c.witness) ++ flat_map line (end_line ∷ []) in
     let p = before 0 (flat_map line (front_lines c) ++ text) in
     let m = before (0 + length (flat_map line (front_lines c))) text in
     let r = again_at b c h.claim p m (stand b.words (front_lines c) 0 text (front_plain b c h.claim)) in
-    let witness = witness_again b.words b.schedule_text b.schedule_read c.witness (0 + length (flat_map line (front_lines c))) (flat_map line (end_line ∷ [])) h.schedule in
+    let witness = witness_again c.device b.words b.schedule_text b.schedule_read c.witness (0 + length (flat_map line (front_lines c))) (flat_map line (end_line ∷ [])) h.schedule in
     let end = end_again b.words witness.0 in
     (before end.0 [], rw (r.3, r.4, r.5, r.6, witness.1, end.1) refl)
 
@@ -320,30 +331,35 @@ pub spelled_is_read : LowerLaws → SpelledCertificateIsRead
 unfolding certificate_in
 spelled_is_read b c h =
     let a = claim_again b c h in
-    ap (λ (text : List ℕ). claim_alone (claim_at (before 0 text))) (text_parts c) ∙ ap claim_alone a.1
+    ap (λ (text : List ℕ). claim_alone (claim_at c.device (before 0 text))) (text_parts c) ∙ ap claim_alone a.1
 
 pub one_text : LowerLaws → CertificatesHaveOneText
-one_text k a b h g e = ok_is a b (sym (spelled_is_read k a h) ∙ ap certificate_in e ∙ spelled_is_read k b g)
+one_text k a b h g same e = ok_is a b (sym (spelled_is_read k a h) ∙ ap₂ (λ (d : Device) (text : List ℕ). certificate_in d text) same e ∙ spelled_is_read k b g)
 
 -- ---- what is answered
 
 -- the claim read at the beginning of a text is that of the text
-pub answered : (text : List ℕ) (p q : Place) (r : Result Claim CertFault) → p ≡ record { at = 0; rest = lines_of text } → Answers (λ c. (c, q)) fault.Memory r (claim_at p) → Answers (λ c. c) fault.Memory r (certificate_in text)
+pub answered : (device : Device) (text : List ℕ) (p q : Place) (r : Result Claim CertFault) → p ≡ record { at = 0; rest = lines_of text } → Answers (λ c. (c, q)) fault.Memory r (claim_at device p) → Answers (λ c. c) fault.Memory r (certificate_in device text)
 unfolding certificate_in
-answered text p q (Ok c) e h = ap claim_alone (rw e at h)
-answered text p q (Err f) e h = λ other. ap claim_alone (rw e at (h other))
+answered device text p q (Ok c) e h = ap claim_alone (rw e at h)
+answered device text p q (Err f) e h = λ other. ap claim_alone (rw e at (h other))
 
 pub claims_keep : LowerLaws → PartsMakeClaims
-claims_keep k version a d f q n es xs ns small e g h = claim_by k version n a d f (es, d) (xs, f) (ns, q) None small e g h
+claims_keep k device version a d f q n es xs ns small e g h = claim_by device k version n a d f (es, d) (xs, f) (ns, q) None small e g h
 
-pub found : ReadCertificateIsSpelled → (text : List ℕ) (r : Result Claim CertFault) → Answers (λ c. c) fault.Memory r (certificate_in text) → IfOk r (λ c. text ≡ text_of c)
-found read text (Ok c) h = (read text c h).0
-found read text (Err f) h = tt
+pub found : ReadCertificateIsSpelled → (device : Device) (text : List ℕ) (r : Result Claim CertFault) → Answers (λ c. c) fault.Memory r (certificate_in device text) → IfOk r (λ c. text ≡ text_of c)
+found read device text (Ok c) h = (read device text c h).1
+found read device text (Err f) h = tt
 
-pub kept : ReadCertificateIsSpelled → (text : List ℕ) (r : Result Claim CertFault) → Answers (λ c. c) fault.Memory r (certificate_in text) → IfOk r IsCertificate
-kept read text (Ok c) h = (read text c h).1
-kept read text (Err f) h = tt
+-- the certificate is for the device
+pub for_device : ReadCertificateIsSpelled → (device : Device) (text : List ℕ) (r : Result Claim CertFault) → Answers (λ c. c) fault.Memory r (certificate_in device text) → IfOk r (λ c. c.device ≡ device)
+for_device read device text (Ok c) h = (read device text c h).0
+for_device read device text (Err f) h = tt
 
-pub spelled : SpelledCertificateIsRead → (text : List ℕ) (r : Result Claim CertFault) → Answers (λ c. c) fault.Memory r (certificate_in text) → (c : Claim) → IsCertificate c → text ≡ text_of c → Answers (λ x. x) fault.Memory r (Ok c)
-spelled reads text (Ok x) h c k e = sym (reads c k) ∙ sym (ap certificate_in e) ∙ h
-spelled reads text (Err f) h c k e = λ other. sym (reads c k) ∙ sym (ap certificate_in e) ∙ h other
+pub kept : ReadCertificateIsSpelled → (device : Device) (text : List ℕ) (r : Result Claim CertFault) → Answers (λ c. c) fault.Memory r (certificate_in device text) → IfOk r IsCertificate
+kept read device text (Ok c) h = (read device text c h).2
+kept read device text (Err f) h = tt
+
+pub spelled : SpelledCertificateIsRead → (device : Device) (text : List ℕ) (r : Result Claim CertFault) → Answers (λ c. c) fault.Memory r (certificate_in device text) → (c : Claim) → IsCertificate c → c.device ≡ device → text ≡ text_of c → Answers (λ x. x) fault.Memory r (Ok c)
+spelled reads device text (Ok x) h c k is e = sym (reads c k) ∙ ap₂ (λ (d : Device) (t : List ℕ). certificate_in d t) is (sym e) ∙ h
+spelled reads device text (Err f) h c k is e = λ other. sym (reads c k) ∙ ap₂ (λ (d : Device) (t : List ℕ). certificate_in d t) is (sym e) ∙ h other

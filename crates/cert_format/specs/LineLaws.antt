@@ -2,6 +2,7 @@
 use Rattle.std.specs.Prelude.{ℕ, ◌≡◌, ◌<◌, ◌≤◌, List, slice_get, Some}
 use Rattle.std.specs.List.{AllByRecursion}
 use Rattle.line_reading.specs.Words.{IsWord}
+use Rattle.avr_model.specs.declared.device.Device.{Device}
 use Rattle.mask_states.specs.declared.keys.NodeKey.{NodeKey}
 use Rattle.edge_rules.specs.declared.seeded.NodeForm.{NodeForm}
 use Rattle.certificate.specs.declared.instance.Inst.{Inst}
@@ -13,9 +14,9 @@ use Rattle.cert_words.specs.Text.{inst_words, node_words_at}
 use Rattle.cert_format.specs.LineReading.{inst_in, node_in}
 
 pub record InstLines : Type 0 where
-  pub spelled : (ws : List (List ℕ)) (x : Inst) → inst_in ws ≡ Some x → (ws ≡ inst_words x) × IsInst x
-  pub read : (x : Inst) → IsInst x → inst_in (inst_words x) ≡ Some x
-  pub words : (x : Inst) → IsInst x → AllByRecursion IsWord (inst_words x)
+  pub spelled : (device : Device) (ws : List (List ℕ)) (x : Inst) → inst_in device ws ≡ Some x → (ws ≡ inst_words device x) × IsInst device x
+  pub read : (device : Device) (x : Inst) → IsInst device x → inst_in device (inst_words device x) ≡ Some x
+  pub words : (device : Device) (x : Inst) → IsInst device x → AllByRecursion IsWord (inst_words device x)
 
 -- The instance whose line has this number exists, and is the node's.
 pub record IsInstanceOf (insts : List Inst) (place : ℕ) (key : NodeKey) : Type 0 where
@@ -24,15 +25,15 @@ pub record IsInstanceOf (insts : List Inst) (place : ℕ) (key : NodeKey) : Type
   pub same : inst.key ≡ key.inst
 
 -- The words are those of the line of this node, number `at`, with the number of its instance.
-pub record IsNodeLine (version : Version) (insts : List Inst) (at : ℕ) (ws : List (List ℕ)) (n : NodeKey × NodeForm) : Type 0 where
+pub record IsNodeLine (device : Device) (version : Version) (insts : List Inst) (at : ℕ) (ws : List (List ℕ)) (n : NodeKey × NodeForm) : Type 0 where
   pub place : ℕ
-  pub words : ws ≡ node_words_at version place n
+  pub words : ws ≡ node_words_at device version place n
   pub inst : IsInstanceOf insts place n.0
-  pub fits : FitsAt (is_third version) at n.0 n.1
+  pub fits : FitsAt device (is_third version) at n.0 n.1
   pub of_version : NodeIsOf version n
 
 pub record NodeLines : Type 0 where
-  pub spelled : (version : Version) (insts : List Inst) (at : ℕ) (ws : List (List ℕ)) (n : NodeKey × NodeForm) → node_in version insts at ws ≡ Some n → IsNodeLine version insts at ws n
-  pub read : (version : Version) (insts : List Inst) (at place : ℕ) (n : NodeKey × NodeForm) → at ≤ 65536 → place < 65536 → IsInstanceOf insts place n.0 → FitsAt (is_third version) at n.0 n.1 → NodeIsOf version n
-      → node_in version insts at (node_words_at version place n) ≡ Some n
-  pub words : (version : Version) (at place : ℕ) (n : NodeKey × NodeForm) → at ≤ 65536 → place < 65536 → FitsAt (is_third version) at n.0 n.1 → NodeIsOf version n → AllByRecursion IsWord (node_words_at version place n)
+  pub spelled : (device : Device) (version : Version) (insts : List Inst) (at : ℕ) (ws : List (List ℕ)) (n : NodeKey × NodeForm) → node_in device version insts at ws ≡ Some n → IsNodeLine device version insts at ws n
+  pub read : (device : Device) (version : Version) (insts : List Inst) (at place : ℕ) (n : NodeKey × NodeForm) → at ≤ 65536 → place < 65536 → IsInstanceOf insts place n.0 → FitsAt device (is_third version) at n.0 n.1 → NodeIsOf version n
+      → node_in device version insts at (node_words_at device version place n) ≡ Some n
+  pub words : (device : Device) (version : Version) (at place : ℕ) (n : NodeKey × NodeForm) → at ≤ 65536 → place < 65536 → FitsAt device (is_third version) at n.0 n.1 → NodeIsOf version n → AllByRecursion IsWord (node_words_at device version place n)

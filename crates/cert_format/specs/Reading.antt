@@ -1,11 +1,12 @@
--- Reads a certificate forward, line by line. A refusal has a kind and the offset of the first refused line. Of several kinds at one line,
--- form comes before order and order before limit.
+-- Reads a certificate for a device forward, line by line. A refusal has a kind and the offset of the first refused line. Of several kinds
+-- at one line, form comes before order and order before limit.
 use Rattle.std.specs.Prelude.{ℕ, zero, suc, ◌+◌, ◌-◌, ◌&&◌, nat_le, Bool, true, false, List, [], ◌∷◌, ◌++◌, length, codes, slice_get, Option, Some, None, Result, Ok, Err, if◌then◌else◌}
 use Rattle.std.specs.Ordering.{is_lt}
 use Rattle.std.specs.Str.{bytes_eq}
 use Rattle.avr_model.specs.declared.assumption.Entry.{Entry}
 use Rattle.avr_model.specs.declared.assumption.Entry.TheVariants.{Pairs, Masks, Jump, Store, Prove, Free, Never, Frame}
-use Rattle.avr_model.specs.State.{SIZE}
+use Rattle.avr_model.specs.declared.device.Device.{Device}
+use Rattle.avr_model.specs.Devices.{depth_of}
 use Rattle.sb_base.specs.Digits.{dec_answer}
 use Rattle.sb_base.specs.declared.digits.DigitFault.{DigitFault}
 use Rattle.sb_base.specs.declared.digits.DigitFault.TheVariants.{WrongLength, BadDigit, TooGreat}
@@ -77,15 +78,15 @@ is_admitted third (Never site) = true
 is_admitted third (Frame site) = true
 
 -- an entry of the third version, or of another
-abbrev pub entry_by : Bool → List ℕ → Option Entry
-entry_by third text = entry_in (words_of text) >>= λ e. if is_admitted third e then Some e else None
+abbrev pub entry_by : Device → Bool → List ℕ → Option Entry
+entry_by device third text = entry_in device (words_of text) >>= λ e. if is_admitted third e then Some e else None
 
-abbrev pub inst_by : List ℕ → Option Inst
-inst_by text = inst_in (words_of text)
+abbrev pub inst_by : Device → List ℕ → Option Inst
+inst_by device text = inst_in device (words_of text)
 
 -- the node of this number
-abbrev pub node_by : Version → List Inst → ℕ → List ℕ → Option (NodeKey × NodeForm)
-node_by version insts at text = node_in version insts at (words_of text)
+abbrev pub node_by : Device → Version → List Inst → ℕ → List ℕ → Option (NodeKey × NodeForm)
+node_by device version insts at text = node_in device version insts at (words_of text)
 
 -- the version of a text
 unfoldable pub version_by : List ℕ → Option Version
@@ -158,9 +159,9 @@ items_from by refused xs (suc n) p = then_at (longer_at by refused xs p) (λ x. 
 -- ---- parts of several lines
 
 -- the version and the bound
-unfoldable pub heading_at : Place → Result ((Version × ℕ) × Place) CertFault
-heading_at p =
-    then_at (formed (line_by version_by p)) (λ v. then_at (formed (line_by (numbered_by (codes "bound") 0 SIZE) v.1)) (λ b. Ok ((v.0, b.0), b.1)))
+unfoldable pub heading_at : Device → Place → Result ((Version × ℕ) × Place) CertFault
+heading_at device p =
+    then_at (formed (line_by version_by p)) (λ v. then_at (formed (line_by (numbered_by (codes "bound") 0 (depth_of device)) v.1)) (λ b. Ok ((v.0, b.0), b.1)))
 
 -- the least number of entries: the third version has `pairs`
 abbrev pub least_entries : Version → ℕ
@@ -174,28 +175,28 @@ first_at One p = Ok ([], p)
 first_at Two p = Ok ([], p)
 first_at Three p = then_at (formed (line_by (this_by (codes "pairs")) p)) (λ u. Ok (Pairs ∷ [], u.1))
 
-unfoldable pub entries_at : Version → Place → Result (List Entry × Place) CertFault
-entries_at version p =
+unfoldable pub entries_at : Device → Version → Place → Result (List Entry × Place) CertFault
+entries_at device version p =
     then_at (formed (line_by (numbered_by (codes "assume") (least_entries version) most_entries) p)) (λ n.
-    then_at (first_at version n.1) (λ f. items_from (λ at. entry_by (is_third version)) refused_entry f.0 (n.0 - least_entries version) f.1))
+    then_at (first_at version n.1) (λ f. items_from (λ at. entry_by device (is_third version)) refused_entry f.0 (n.0 - least_entries version) f.1))
 
-unfoldable pub insts_at : Place → Result (List Inst × Place) CertFault
-insts_at p = then_at (formed (line_by (numbered_by (codes "instances") 0 most_instances) p)) (λ n. items_from (λ at. inst_by) refused_inst [] n.0 n.1)
+unfoldable pub insts_at : Device → Place → Result (List Inst × Place) CertFault
+insts_at device p = then_at (formed (line_by (numbered_by (codes "instances") 0 most_instances) p)) (λ n. items_from (λ at. inst_by device) refused_inst [] n.0 n.1)
 
 abbrev pub limited : Result (Option ℕ × Place) CertFault → Result (ℕ × Place) CertFault
 limited (Ok (Some n, q)) = Ok (n, q)
 limited (Ok (None, q)) = Err (fault.Limit limit.Nodes)
 limited (Err f) = Err f
 
-unfoldable pub nodes_at : Version → List Inst → Place → Result (Seeds × Place) CertFault
-nodes_at version insts p = then_at (limited (formed (line_by count_by p))) (λ n. items_from (node_by version insts) refused_node [] n.0 n.1)
+unfoldable pub nodes_at : Device → Version → List Inst → Place → Result (Seeds × Place) CertFault
+nodes_at device version insts p = then_at (limited (formed (line_by count_by p))) (λ n. items_from (node_by device version insts) refused_node [] n.0 n.1)
 
-abbrev pub plan_if : Bool → Place → Result (Option Plan × Place) CertFault
-plan_if false p = Ok (None, p)
-plan_if true p = then_at (formed (schedule_at p)) (λ s. Ok (Some s.0, s.1))
+abbrev pub plan_if : Device → Bool → Place → Result (Option Plan × Place) CertFault
+plan_if device false p = Ok (None, p)
+plan_if device true p = then_at (formed (schedule_at device p)) (λ s. Ok (Some s.0, s.1))
 
-unfoldable pub witness_at : Place → Result (Option Plan × Place) CertFault
-witness_at p = then_at (formed (line_by ending_by p)) (λ e. plan_if e.0 e.1)
+unfoldable pub witness_at : Device → Place → Result (Option Plan × Place) CertFault
+witness_at device p = then_at (formed (line_by ending_by p)) (λ e. plan_if device e.0 e.1)
 
 abbrev pub if_last : List TextLine → Place → Result (Unit {0} × Place) CertFault
 if_last [] p = Ok (tt, p)
@@ -207,19 +208,19 @@ end_at p = then_at (formed (line_by (this_by (codes "end")) p)) (λ e. if_last e
 
 -- ---- the whole
 
-unfoldable pub claim_at : Place → Result (Claim × Place) CertFault
-claim_at p =
-    then_at (heading_at p) (λ b.
-    then_at (entries_at b.0.0 b.1) (λ a.
-    then_at (insts_at a.1) (λ i.
-    then_at (nodes_at b.0.0 i.0 i.1) (λ n.
-    then_at (witness_at n.1) (λ w.
-    then_at (end_at w.1) (λ e. Ok (record { version = b.0.0; bound = b.0.1; assumptions = a.0; instances = i.0; nodes = n.0; witness = w.0 }, e.1)))))))
+unfoldable pub claim_at : Device → Place → Result (Claim × Place) CertFault
+claim_at device p =
+    then_at (heading_at device p) (λ b.
+    then_at (entries_at device b.0.0 b.1) (λ a.
+    then_at (insts_at device a.1) (λ i.
+    then_at (nodes_at device b.0.0 i.0 i.1) (λ n.
+    then_at (witness_at device n.1) (λ w.
+    then_at (end_at w.1) (λ e. Ok (record { device = device; version = b.0.0; bound = b.0.1; assumptions = a.0; instances = i.0; nodes = n.0; witness = w.0 }, e.1)))))))
 
 abbrev pub claim_alone : Result (Claim × Place) CertFault → Result Claim CertFault
 claim_alone (Ok x) = Ok x.0
 claim_alone (Err f) = Err f
 
--- the claim of a text, or the refusal
-unfoldable pub certificate_in : List ℕ → Result Claim CertFault
-certificate_in text = claim_alone (claim_at (record { at = 0; rest = lines_of text }))
+-- the claim of a text for a device, or the refusal
+unfoldable pub certificate_in : Device → List ℕ → Result Claim CertFault
+certificate_in device text = claim_alone (claim_at device (record { at = 0; rest = lines_of text }))

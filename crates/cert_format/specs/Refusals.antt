@@ -1,18 +1,20 @@
--- The refusals of texts that are no certificates, by the spelling alone: the text before the refused line begins a certificate, and the
--- line has the wrong form, is not above the last one, or passes a limit.
+-- The refusals of texts that are no certificates for a device, by the spelling alone: the text before the refused line begins a
+-- certificate, and the line has the wrong form, is not above the last one, or passes a limit.
 use Rattle.std.specs.Prelude.{◌≡◌, ◌≢◌, ◌<◌, ◌≤◌, ◌⊎◌, ℕ, List, [], ◌∷◌, ◌++◌, map, length, codes, None, Result, Ok, Err, ⊤, true, false, not}
 use Rattle.std.specs.List.{position}
 use Rattle.std.specs.List.Sorted.{IsStrictlySortedBy}
 use Rattle.avr_model.specs.declared.assumption.Entry.{Entry}
 use Rattle.avr_model.specs.declared.assumption.Entry.TheVariants.{Pairs}
-use Rattle.avr_model.specs.State.{SIZE}
+use Rattle.avr_model.specs.declared.device.Device.{Device}
+use Rattle.avr_model.specs.Devices.{depth_of}
 use Rattle.sb_base.specs.Digits.{is_dec, number_from, has_extra_zero}
 use Rattle.sb_base.specs.Lines.{TextLine, Place, lines_of}
 use Rattle.line_reading.specs.Words.{whole, Passes}
-use Rattle.vector_table.specs.Entries.{is_entry, is_above_last, most_entries}
+use Rattle.vector_table.specs.Entries.{is_above_last, most_entries}
 use Rattle.mask_states.specs.declared.keys.NodeKey.{NodeKey}
 use Rattle.mask_states.specs.Order.{inst_cmp, node_cmp}
 use Rattle.edge_rules.specs.declared.seeded.NodeForm.{NodeForm}
+use Rattle.indirect_targets.specs.Reading.{is_entry_of}
 use Rattle.indirect_targets.specs.Spelling.{entry_words}
 use Rattle.witness_replay.specs.Exact.{IsScheduleStuck}
 use Rattle.certificate.specs.declared.instance.Inst.{Inst}
@@ -52,9 +54,9 @@ lines_to c Assume = heading c.version c.bound
 lines_to c (FirstEntry n) = heading c.version c.bound ++ numbered (codes "assume") n ∷ []
 lines_to c (AnEntry n) = heading c.version c.bound ++ numbered (codes "assume") n ∷ map entry_words c.assumptions
 lines_to c Instances = heading c.version c.bound ++ entry_lines c.assumptions
-lines_to c (AnInst n) = heading c.version c.bound ++ (entry_lines c.assumptions ++ numbered (codes "instances") n ∷ map inst_words c.instances)
-lines_to c Nodes = heading c.version c.bound ++ (entry_lines c.assumptions ++ inst_lines c.instances)
-lines_to c (ANode n) = heading c.version c.bound ++ (entry_lines c.assumptions ++ (inst_lines c.instances ++ numbered (codes "nodes") n ∷ map (node_words c.version c.instances) c.nodes))
+lines_to c (AnInst n) = heading c.version c.bound ++ (entry_lines c.assumptions ++ numbered (codes "instances") n ∷ map (inst_words c.device) c.instances)
+lines_to c Nodes = heading c.version c.bound ++ (entry_lines c.assumptions ++ inst_lines c.device c.instances)
+lines_to c (ANode n) = heading c.version c.bound ++ (entry_lines c.assumptions ++ (inst_lines c.device c.instances ++ numbered (codes "nodes") n ∷ map (node_words c.device c.version c.instances) c.nodes))
 lines_to c Ending = front_lines c
 lines_to c End = front_lines c ++ witness_lines c.witness
 lines_to c Nothing = certificate_lines c
@@ -67,8 +69,9 @@ HasRoomFor c (AnInst n) = (length c.instances < n) × (n ≤ most_instances)
 HasRoomFor c (ANode n) = (length c.nodes < n) × (n ≤ most_nodes)
 HasRoomFor c part = ⊤
 
--- The lines of this certificate before the part are at the first place, and the second place is after them.
-pub record StandsBefore (p : Place) (c : Claim) (part : Part) (q : Place) : Type 0 where
+-- The certificate is for the device. Its lines before the part are at the first place, and the second place is after them.
+pub record StandsBefore (device : Device) (p : Place) (c : Claim) (part : Part) (q : Place) : Type 0 where
+  pub is : c.device ≡ device
   pub fits : IsCertificate c
   pub room : HasRoomFor c part
   pub lines : Passes p (map whole (lines_to c part)) q
@@ -90,16 +93,16 @@ pub record IsDecimal (w : List ℕ) : Type 0 where
 abbrev pub IsNumbered : List ℕ → ℕ → ℕ → List (List ℕ) → Type 0
 IsNumbered name least most ws = (n : ℕ) × (least ≤ n) × (n ≤ most) × (ws ≡ numbered name n)
 
--- the words of some entry, instance or node of a certificate of this version, with this property
+-- the words of some entry, instance or node of a certificate of this device and version, with this property
 
-abbrev pub IsEntryWith : Version → (Entry → Type 0) → List (List ℕ) → Type 0
-IsEntryWith version P ws = (e : Entry) × (is_entry e ≡ true) × (is_admitted (is_third version) e ≡ true) × (ws ≡ entry_words e) × P e
+abbrev pub IsEntryWith : Device → Version → (Entry → Type 0) → List (List ℕ) → Type 0
+IsEntryWith device version P ws = (e : Entry) × (is_entry_of device e ≡ true) × (is_admitted (is_third version) e ≡ true) × (ws ≡ entry_words e) × P e
 
-abbrev pub IsInstWith : (Inst → Type 0) → List (List ℕ) → Type 0
-IsInstWith P ws = (x : Inst) × IsInst x × (ws ≡ inst_words x) × P x
+abbrev pub IsInstWith : Device → (Inst → Type 0) → List (List ℕ) → Type 0
+IsInstWith device P ws = (x : Inst) × IsInst device x × (ws ≡ inst_words device x) × P x
 
 abbrev pub IsNodeWith : Claim → (NodeKey × NodeForm → Type 0) → List (List ℕ) → Type 0
-IsNodeWith c P ws = (n : NodeKey × NodeForm) × FitsAt (is_third c.version) (length c.nodes) n.0 n.1 × Belongs c.instances n.0 × NodeIsOf c.version n × (ws ≡ node_words c.version c.instances n) × P n
+IsNodeWith c P ws = (n : NodeKey × NodeForm) × FitsAt c.device (is_third c.version) (length c.nodes) n.0 n.1 × Belongs c.instances n.0 × NodeIsOf c.version n × (ws ≡ node_words c.device c.version c.instances n) × P n
 
 abbrev pub IsNodesLine : (List ℕ → Type 0) → List (List ℕ) → Type 0
 IsNodesLine P ws = (w : List ℕ) × IsDecimal w × (ws ≡ codes "nodes" ∷ w ∷ []) × P w
@@ -107,12 +110,12 @@ IsNodesLine P ws = (w : List ℕ) × IsDecimal w × (ws ≡ codes "nodes" ∷ w 
 -- words of the form of this part
 abbrev pub IsOfForm : Claim → Part → List (List ℕ) → Type 0
 IsOfForm c Begin ws = (version : Version) × (ws ≡ version_line version)
-IsOfForm c Bound ws = IsNumbered (codes "bound") 0 SIZE ws
+IsOfForm c Bound ws = IsNumbered (codes "bound") 0 (depth_of c.device) ws
 IsOfForm c Assume ws = IsNumbered (codes "assume") (least_entries c.version) most_entries ws
 IsOfForm c (FirstEntry n) ws = ws ≡ entry_words Pairs
-IsOfForm c (AnEntry n) ws = IsEntryWith c.version (λ e. ⊤) ws
+IsOfForm c (AnEntry n) ws = IsEntryWith c.device c.version (λ e. ⊤) ws
 IsOfForm c Instances ws = IsNumbered (codes "instances") 0 most_instances ws
-IsOfForm c (AnInst n) ws = IsInstWith (λ x. ⊤) ws
+IsOfForm c (AnInst n) ws = IsInstWith c.device (λ x. ⊤) ws
 IsOfForm c Nodes ws = IsNodesLine (λ w. ⊤) ws
 IsOfForm c (ANode n) ws = IsNodeWith c (λ e. ⊤) ws
 IsOfForm c Ending ws = (ws ≡ open_line) ⊎ (ws ≡ attained_line)
@@ -124,8 +127,8 @@ Ascend keys = IsStrictlySortedBy node_cmp keys
 
 -- words of an item that is not above the last
 abbrev pub IsLow : Claim → Part → List (List ℕ) → Type 0
-IsLow c (AnEntry n) ws = IsEntryWith c.version (λ e. is_above_last c.assumptions e ≡ false) ws
-IsLow c (AnInst n) ws = IsInstWith (λ x. IsStrictlySortedBy inst_cmp (inst_keys (c.instances ++ x ∷ [])) → ⊥) ws
+IsLow c (AnEntry n) ws = IsEntryWith c.device c.version (λ e. is_above_last c.assumptions e ≡ false) ws
+IsLow c (AnInst n) ws = IsInstWith c.device (λ x. IsStrictlySortedBy inst_cmp (inst_keys (c.instances ++ x ∷ [])) → ⊥) ws
 IsLow c (ANode n) ws = IsNodeWith c (λ e. Ascend (node_keys (c.nodes ++ e ∷ [])) → ⊥) ws
 IsLow c part ws = ⊥
 
@@ -145,63 +148,64 @@ abbrev pub IsStopped : Claim → Part → List TextLine → Type 0
 IsStopped c Nothing ls = ls ≢ []
 IsStopped c part ls = (ws : List (List ℕ)) → IsNextLine ls ws → IsOfForm c part ws → ⊥
 
-pub record StopsAt (p q : Place) : Type 0 where
+pub record StopsAt (device : Device) (p q : Place) : Type 0 where
   pub claim : Claim
   pub part : Part
-  pub stands : StandsBefore p claim part q
+  pub stands : StandsBefore device p claim part q
   pub stop : IsStopped claim part q.rest
 
--- a schedule must follow, and no schedule continues with the line there
-pub record StopsInSchedule (p q : Place) : Type 0 where
+-- a schedule must follow, and no schedule for the device continues with the line there
+pub record StopsInSchedule (device : Device) (p q : Place) : Type 0 where
   pub claim : Claim
+  pub is : claim.device ≡ device
   pub fits : IsClaim claim
   pub begin : Place
   pub lines : Passes p (map whole (front_lines claim ++ attained_line ∷ [])) begin
-  pub stuck : IsScheduleStuck begin q
+  pub stuck : IsScheduleStuck device begin q
 
-abbrev pub IsCertificateMalformed : Place → ℕ → Type 0
-IsCertificateMalformed p at = (q : Place) × (q.at ≡ at) × (StopsAt p q ⊎ StopsInSchedule p q)
+abbrev pub IsCertificateMalformed : Device → Place → ℕ → Type 0
+IsCertificateMalformed device p at = (q : Place) × (q.at ≡ at) × (StopsAt device p q ⊎ StopsInSchedule device p q)
 
 -- the line at this offset
-pub record IsCertificateOutOfOrder (p : Place) (at : ℕ) : Type 0 where
+pub record IsCertificateOutOfOrder (device : Device) (p : Place) (at : ℕ) : Type 0 where
   pub claim : Claim
   pub part : Part
   pub place : Place
   pub words : List (List ℕ)
-  pub stands : StandsBefore p claim part place
+  pub stands : StandsBefore device p claim part place
   pub offset : place.at ≡ at
   pub next : IsNextLine place.rest words
   pub low : IsLow claim part words
 
-pub record IsOverLimit (p : Place) (l : Limit) : Type 0 where
+pub record IsOverLimit (device : Device) (p : Place) (l : Limit) : Type 0 where
   pub claim : Claim
   pub part : Part
   pub place : Place
   pub words : List (List ℕ)
-  pub stands : StandsBefore p claim part place
+  pub stands : StandsBefore device p claim part place
   pub next : IsNextLine place.rest words
   pub past : IsPast claim part l words
 
 -- the due refusal from this place on
-abbrev pub IsCertificateRefused : Place → CertFault → Type 0
-IsCertificateRefused p (fault.Malformed at) = IsCertificateMalformed p at
-IsCertificateRefused p (fault.Order at) = IsCertificateOutOfOrder p at
-IsCertificateRefused p (fault.Limit l) = IsOverLimit p l
-IsCertificateRefused p fault.Memory = ⊥
+abbrev pub IsCertificateRefused : Device → Place → CertFault → Type 0
+IsCertificateRefused device p (fault.Malformed at) = IsCertificateMalformed device p at
+IsCertificateRefused device p (fault.Order at) = IsCertificateOutOfOrder device p at
+IsCertificateRefused device p (fault.Limit l) = IsOverLimit device p l
+IsCertificateRefused device p fault.Memory = ⊥
 
 abbrev pub start : List ℕ → Place
 start text = record { at = 0; rest = lines_of text }
 
--- the answer that is due for a text
-abbrev pub IsCertificateDue : List ℕ → Result Claim CertFault → Type 0
-IsCertificateDue text (Ok c) = IsCertificate c × (text ≡ text_of c)
-IsCertificateDue text (Err f) = IsCertificateRefused (start text) f
+-- the answer that is due for a text and a device
+abbrev pub IsCertificateDue : Device → List ℕ → Result Claim CertFault → Type 0
+IsCertificateDue device text (Ok c) = (c.device ≡ device) × IsCertificate c × (text ≡ text_of c)
+IsCertificateDue device text (Err f) = IsCertificateRefused device (start text) f
 
 -- the answer is the one that is due, or memory ran out
-abbrev pub IsCertificateDueUnlessMemory : List ℕ → Result Claim CertFault → Type 0
-IsCertificateDueUnlessMemory text (Err fault.Memory) = ⊤
-IsCertificateDueUnlessMemory text answer = IsCertificateDue text answer
+abbrev pub IsCertificateDueUnlessMemory : Device → List ℕ → Result Claim CertFault → Type 0
+IsCertificateDueUnlessMemory device text (Err fault.Memory) = ⊤
+IsCertificateDueUnlessMemory device text answer = IsCertificateDue device text answer
 
--- the result of reading a text is due
+-- the result of reading a text for a device is due
 abbrev pub ReadCertificateIsDue : Type 0
-ReadCertificateIsDue = (text : List ℕ) → IsCertificateDue text (certificate_in text)
+ReadCertificateIsDue = (device : Device) (text : List ℕ) → IsCertificateDue device text (certificate_in device text)

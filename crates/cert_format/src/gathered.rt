@@ -1,9 +1,10 @@
 //! The lists of a certificate: one reader for a given number of lines, and what each list does with a line.
 
 ghost use Rattle.std.specs.Prelude.{◌≡◌, ◌≤◌, ◌<◌, ◌+◌, ℕ, List, [], Option, length};
-ghost use Rattle.avr_model.specs.State as model;
+ghost use Rattle.avr_model.specs.State.{SIZE};
 ghost use Rattle.avr_model.specs.Assumptions.{has_pairs};
 ghost use Rattle.sb_base.specs.Answers.{Answers};
+ghost use Rattle.avr_model.specs.declared.device.Device as device_type;
 ghost use Rattle.mask_states.specs.Keys.{offset_of};
 ghost use Rattle.cert_format.specs.declared.fault.CertFault.{CertFault};
 ghost use Rattle.cert_format.specs.declared.fault.CertFault.TheVariants as fault;
@@ -12,6 +13,7 @@ ghost use Rattle.cert_format.specs.Reading.{is_admitted, last_in, is_node_above,
 use crate::fault::CertFault;
 use crate::lines::{instance_of, node_of};
 use avr_model::assumption::Entry;
+use avr_model::device::Device;
 use certificate::{Inst, Limit, Version};
 use edge_rules::NodeForm;
 use indirect_targets::entry_of;
@@ -34,49 +36,57 @@ pub(crate) trait Gathered {
     /// The greatest number of items.
     ghost most: { ℕ };
 
-    /// The item of a line's text, by the number of items before it.
-    ghost by: { Self → ℕ → List ℕ → Option Self.Item };
+    /// The item of a line's text in a certificate for a device, by the number of items before it.
+    ghost by: { device_type.Device → Self → ℕ → List ℕ → Option Self.Item };
 
     /// The refusal of an item of a line at an offset, after those before it, if it is refused.
     ghost refused: { List Self.Item → Self.Item → ℕ → Option CertFault };
 
     // Appends the item of a line's text at this offset.
-    fn add(&mut self, alloc: Global, text: &[u8], at: usize) -> Result<(), CertFault>
+    fn add(
+        &mut self,
+        alloc: Global,
+        device: Device,
+        text: &[u8],
+        at: usize,
+    ) -> Result<(), CertFault>
         requires { length (items self.old) < most }
-        ensures exact { Answers (λ u. items self.new) fault.Memory result (with_text (by self.old) refused (items self.old) text.now at) }
-        ensures same { by self.new ≡ by self.old };
+        ensures exact { Answers (λ u. items self.new) fault.Memory result (with_text (by device self.old) refused (items self.old) text.now at) }
+        ensures same { by device self.new ≡ by device self.old };
 }
 
 // Reads the item of the next line.
 #[tactic(auto, unfolding(crate::specs::Reading::longer_at, line_reading::specs::Reading::line_by))]
 fn read_next<G: Gathered>(
     alloc: Global,
+    device: Device,
     reader: &mut LineReader<'_>,
     list: &mut G,
 ) -> Result<(), CertFault>
     requires { length (G.items list.old) < G.most }
-    ensures exact { Answers (λ u. (G.items list.new, reader.new)) fault.Memory result (longer_at (G.by list.old) G.refused (G.items list.old) reader.old) }
-    ensures same { G.by list.new ≡ G.by list.old }
+    ensures exact { Answers (λ u. (G.items list.new, reader.new)) fault.Memory result (longer_at (G.by device list.old) G.refused (G.items list.old) reader.old) }
+    ensures same { G.by device list.new ≡ G.by device list.old }
 {
     let at = reader.offset();
     match reader.next() {
-        Some(line) if line.whole => list.add(alloc, line.text, at),
+        Some(line) if line.whole => list.add(alloc, device, line.text, at),
         _ => Err(CertFault::Malformed(at)),
     }
 }
 
-// Reads this many items.
+// Reads this many items of a certificate for the device.
 pub(crate) fn read_each<G: Gathered>(
     alloc: Global,
+    device: Device,
     reader: &mut LineReader<'_>,
     list: &mut G,
     count: u64,
 ) -> Result<(), CertFault>
     requires { length (G.items list.old) + count ≤ G.most }
-    ensures { Answers (λ u. (G.items list.new, reader.new)) fault.Memory result (items_from (G.by list.old) G.refused (G.items list.old) count reader.old) }
+    ensures { Answers (λ u. (G.items list.new, reader.new)) fault.Memory result (items_from (G.by device list.old) G.refused (G.items list.old) count reader.old) }
 {
     for _ in 0..count {
-        if let Err(fault) = read_next(alloc, reader, list) {
+        if let Err(fault) = read_next(alloc, device, reader, list) {
             return Err(fault);
         }
     }
@@ -105,12 +115,18 @@ impl Gathered for Assumptions {
 
     ghost most = { most_entries };
 
-    ghost by = { λ list at. entry_by (has_pairs list) };
+    ghost by = { λ device list at. entry_by device (has_pairs list) };
 
     ghost refused = { refused_entry };
 
-    fn add(&mut self, alloc: Global, text: &[u8], at: usize) -> Result<(), CertFault> {
-        let Some(entry) = entry_of(alloc, text)? else {
+    fn add(
+        &mut self,
+        alloc: Global,
+        device: Device,
+        text: &[u8],
+        at: usize,
+    ) -> Result<(), CertFault> {
+        let Some(entry) = entry_of(alloc, device, text)? else {
             return Err(CertFault::Malformed(at));
         };
         if !is_admitted(self, &entry) {
@@ -135,12 +151,18 @@ impl Gathered for Vec<Inst> {
 
     ghost most = { most_instances };
 
-    ghost by = { λ list at. inst_by };
+    ghost by = { λ device list at. inst_by device };
 
     ghost refused = { refused_inst };
 
-    fn add(&mut self, _alloc: Global, text: &[u8], at: usize) -> Result<(), CertFault> {
-        let Some(instance) = instance_of(text) else {
+    fn add(
+        &mut self,
+        _alloc: Global,
+        device: Device,
+        text: &[u8],
+        at: usize,
+    ) -> Result<(), CertFault> {
+        let Some(instance) = instance_of(device, text) else {
             return Err(CertFault::Malformed(at));
         };
         if let Some(last) = self.last() {
@@ -210,7 +232,7 @@ impl<'a> NodeList<'a> {
     // Appends a node of a line at this offset.
     #[tactic(auto, using(crate::proofs::Items::cells_more))]
     fn append(&mut self, node: (NodeKey, NodeForm), at: usize) -> Result<(), CertFault>
-        requires { offset_of node.0.sp ≤ model.SIZE }
+        requires { offset_of node.0.sp ≤ SIZE }
         ensures exact { Answers (λ u. self.new.nodes) fault.Memory result (with_item refused_node self.old.nodes node at) }
         ensures version { self.new.version ≡ self.old.version }
         ensures same { self.new.instances ≡ self.old.instances }
@@ -244,13 +266,19 @@ impl<'a> Gathered for NodeList<'a> {
 
     ghost most = { most_nodes };
 
-    ghost by = { λ list. node_by list.version list.instances };
+    ghost by = { λ device list. node_by device list.version list.instances };
 
     ghost refused = { refused_node };
 
-    fn add(&mut self, alloc: Global, text: &[u8], at: usize) -> Result<(), CertFault> {
+    fn add(
+        &mut self,
+        alloc: Global,
+        device: Device,
+        text: &[u8],
+        at: usize,
+    ) -> Result<(), CertFault> {
         let number = self.nodes.len();
-        match node_of(alloc, text, self.version, self.instances, number)? {
+        match node_of(alloc, text, device, self.version, self.instances, number)? {
             Some(node) => self.append(node, at),
             None => Err(CertFault::Malformed(at)),
         }

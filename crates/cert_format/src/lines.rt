@@ -2,12 +2,12 @@
 
 ghost use Rattle.std.specs.Prelude.{◌≡◌, ◌≤◌, IfSome, IfOk};
 ghost use Rattle.std.specs.Option.{option_map};
-ghost use Rattle.avr_model.specs.State as model;
+ghost use Rattle.avr_model.specs.Devices.{depth_of};
 ghost use Rattle.sb_base.specs.Lines.{words_of};
 ghost use Rattle.mask_states.specs.Keys.{offset_of};
 ghost use Rattle.cert_format.specs.LineReading.{inst_in, whole_key_at, node_in};
 
-use avr_model::device;
+use avr_model::device::Device;
 use cert_words::{inst_key_of, is_root, node_form_of, node_key_of};
 use certificate::{Inst, Version};
 use edge_rules::NodeForm;
@@ -16,22 +16,19 @@ use mask_states::NodeKey;
 use sb_base::Words;
 use std::alloc::{AllocError, Global};
 
-// The greatest need.
-const SIZE: u64 = device::SIZE as u64;
-
-// The instance of a line.
+// The instance of a line of a certificate for the device.
 #[tactic(auto, unfolding(crate::specs::LineReading::inst_in))]
-pub(crate) fn instance_of(text: &[u8]) -> Option<Inst>
-    ensures { result ≡ inst_in (words_of text.now) }
+pub(crate) fn instance_of(device: Device, text: &[u8]) -> Option<Inst>
+    ensures { result ≡ inst_in device (words_of text.now) }
 {
     let mut words = Words::new(text);
     let (Some(()), Some(key), Some(()), Some(rank), Some(()), Some(need)) = (
         expect_word(&mut words, b"inst"),
-        inst_key_of(&mut words),
+        inst_key_of(device, &mut words),
         expect_word(&mut words, b"rank"),
         dec_word(&mut words, 65_535),
         expect_word(&mut words, b"need"),
-        dec_word(&mut words, SIZE),
+        dec_word(&mut words, u64::from(device.depth())),
     ) else {
         return None;
     };
@@ -48,31 +45,37 @@ pub(crate) fn instance_of(text: &[u8]) -> Option<Inst>
 
 // A node's key: its place, and its instance by number.
 #[tactic(auto, unfolding(crate::specs::LineReading::whole_key_at, crate::specs::LineReading::place_at))]
-fn whole_key_of(words: &mut Words<'_>, version: Version, instances: &[Inst]) -> Option<NodeKey>
-    ensures exact { option_map (λ k. (k, words.new)) result ≡ whole_key_at version instances.now words.old }
-    ensures small { IfSome result (λ k. offset_of k.sp ≤ model.SIZE) }
+fn whole_key_of(
+    words: &mut Words<'_>,
+    device: Device,
+    version: Version,
+    instances: &[Inst],
+) -> Option<NodeKey>
+    ensures exact { option_map (λ k. (k, words.new)) result ≡ whole_key_at device version instances.now words.old }
+    ensures small { IfSome result (λ k. offset_of k.sp ≤ depth_of device) }
 {
     let (Some(()), Some(place)) = (expect_word(words, b"node"), dec_word(words, 65_535)) else {
         return None;
     };
     let instance = instances.get(place as usize)?;
-    node_key_of(words, version, &instance.key)
+    node_key_of(words, device, version, &instance.key)
 }
 
-// The node of the line number `at` in a certificate of this version.
+// The node of the line number `at` in a certificate for the device, of this version.
 #[tactic(auto, unfolding(crate::specs::LineReading::node_in))]
 pub(crate) fn node_of(
     alloc: Global,
     text: &[u8],
+    device: Device,
     version: Version,
     instances: &[Inst],
     at: usize,
 ) -> Result<Option<(NodeKey, NodeForm)>, AllocError>
-    ensures exact { IfOk result (λ o. o ≡ node_in version instances.now at (words_of text.now)) }
-    ensures small { IfOk result (λ o. IfSome o (λ n. offset_of n.0.sp ≤ model.SIZE)) }
+    ensures exact { IfOk result (λ o. o ≡ node_in device version instances.now at (words_of text.now)) }
+    ensures small { IfOk result (λ o. IfSome o (λ n. offset_of n.0.sp ≤ depth_of device)) }
 {
     let mut words = Words::new(text);
-    let Some(key) = whole_key_of(&mut words, version, instances) else {
+    let Some(key) = whole_key_of(&mut words, device, version, instances) else {
         return Ok(None);
     };
     let root = is_root(key.inst.kind);

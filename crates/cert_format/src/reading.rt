@@ -1,7 +1,7 @@
 //! The reader of certificates.
 
 ghost use Rattle.std.specs.Prelude.{◌≡◌, ◌≤◌, ◌<◌, true, Some, None, Ok, IfSome, IfOk, length};
-ghost use Rattle.avr_model.specs.State as model;
+ghost use Rattle.avr_model.specs.Devices.{depth_of};
 ghost use Rattle.avr_model.specs.Assumptions.{has_pairs};
 ghost use Rattle.avr_model.specs.declared.assumption.Entry.TheVariants.{Pairs};
 ghost use Rattle.sb_base.specs.Answers.{Answers};
@@ -9,6 +9,7 @@ ghost use Rattle.line_reading.specs.Reading.{first_by, line_by};
 ghost use Rattle.cert_format.specs.declared.fault.CertFault.TheVariants as fault;
 ghost use Rattle.certificate.specs.Claims.{Claim, IsCertificate, most_nodes};
 ghost use Rattle.certificate.specs.Versions.{is_third};
+ghost use Rattle.witness_replay.specs.Spelling.{IsSchedule};
 ghost use Rattle.cert_words.specs.Text.{text_of};
 ghost use Rattle.cert_format.specs.Reading.{formed, version_by, numbered_in, numbered_by, count_in, count_by, ending_by, heading_at, least_entries, first_at, entries_at, insts_at, limited, nodes_at, witness_at, end_at, claim_at, certificate_in};
 ghost use Rattle.cert_format.specs.Refusals.{IsCertificateDueUnlessMemory};
@@ -16,7 +17,7 @@ ghost use Rattle.cert_format.specs.Refusals.{IsCertificateDueUnlessMemory};
 use crate::fault::CertFault;
 use crate::gathered::{NodeList, read_each};
 use crate::laws::certificate_texts;
-use avr_model::device;
+use avr_model::device::Device;
 use certificate::{Certificate, Inst, Limit, Version};
 use edge_rules::NodeForm;
 use line_reading::{dec_word, expect_word, is_over, peek_text, take_line, take_text};
@@ -25,9 +26,6 @@ use sb_base::{DigitFault, LineReader, Words, read_dec};
 use std::alloc::Global;
 use vector_table::{Assumptions, Entry};
 use witness_replay::{Schedule, ScheduleFault};
-
-// The greatest bound: the size of SRAM.
-const SIZE: u64 = device::SIZE as u64;
 
 // The most assumptions.
 const MOST_ENTRIES: u64 = 4_096;
@@ -146,26 +144,31 @@ fn read_first(
 #[tactic(auto, unfolding(crate::specs::Reading::entries_at))]
 fn read_entries(
     alloc: Global,
+    device: Device,
     reader: &mut LineReader<'_>,
     version: Version,
 ) -> Result<Assumptions, CertFault>
-    ensures { Answers (λ a. (a, reader.new)) fault.Memory result (entries_at version reader.old) }
+    ensures { Answers (λ a. (a, reader.new)) fault.Memory result (entries_at device version reader.old) }
 {
     let least = least_entries(version);
     let count = read_numbered(reader, b"assume", least, MOST_ENTRIES)?;
     let mut list = read_first(alloc, reader, version)?;
-    read_each(alloc, reader, &mut list, count - least)?;
+    read_each(alloc, device, reader, &mut list, count - least)?;
     Ok(list)
 }
 
 // Reads the number of instances and their lines.
 #[tactic(auto, unfolding(crate::specs::Reading::insts_at))]
-fn read_instances(alloc: Global, reader: &mut LineReader<'_>) -> Result<Vec<Inst>, CertFault>
-    ensures { Answers (λ v. (v.items, reader.new)) fault.Memory result (insts_at reader.old) }
+fn read_instances(
+    alloc: Global,
+    device: Device,
+    reader: &mut LineReader<'_>,
+) -> Result<Vec<Inst>, CertFault>
+    ensures { Answers (λ v. (v.items, reader.new)) fault.Memory result (insts_at device reader.old) }
 {
     let count = read_numbered(reader, b"instances", 0, MOST_INSTANCES)?;
     let mut list = Vec::new(alloc);
-    let told = read_each(alloc, reader, &mut list, count);
+    let told = read_each(alloc, device, reader, &mut list, count);
     told.and(Ok(list))
 }
 
@@ -173,15 +176,16 @@ fn read_instances(alloc: Global, reader: &mut LineReader<'_>) -> Result<Vec<Inst
 #[tactic(auto, unfolding(crate::specs::Reading::nodes_at))]
 fn read_nodes(
     alloc: Global,
+    device: Device,
     reader: &mut LineReader<'_>,
     version: Version,
     instances: &[Inst],
 ) -> Result<Vec<(NodeKey, NodeForm)>, CertFault>
-    ensures { Answers (λ v. (v.items, reader.new)) fault.Memory result (nodes_at version instances.now reader.old) }
+    ensures { Answers (λ v. (v.items, reader.new)) fault.Memory result (nodes_at device version instances.now reader.old) }
 {
     let count = read_count(reader)?;
     let mut list = NodeList::empty(alloc, version, instances);
-    let told = read_each(alloc, reader, &mut list, count);
+    let told = read_each(alloc, device, reader, &mut list, count);
     told.and(Ok(list.into_nodes()))
 }
 
@@ -202,14 +206,19 @@ fn ending_of(reader: &LineReader<'_>) -> Option<bool>
 
 // Reads whether there is a schedule, and the schedule.
 #[tactic(auto, unfolding(crate::specs::Reading::witness_at, line_reading::specs::Reading::line_by))]
-fn read_witness(alloc: Global, reader: &mut LineReader<'_>) -> Result<Option<Schedule>, CertFault>
-    ensures { Answers (λ w. (w, reader.new)) fault.Memory result (witness_at reader.old) }
+fn read_witness(
+    alloc: Global,
+    device: Device,
+    reader: &mut LineReader<'_>,
+) -> Result<Option<Schedule>, CertFault>
+    ensures exact { Answers (λ w. (w, reader.new)) fault.Memory result (witness_at device reader.old) }
+    ensures kept { IfOk result (λ w. IfSome w (IsSchedule device)) }
 {
     let found = ending_of(reader);
     if !take_line(reader, found)? {
         return Ok(None);
     }
-    match Schedule::read(alloc, reader) {
+    match Schedule::read(alloc, device, reader) {
         Ok(schedule) => Ok(Some(schedule)),
         Err(ScheduleFault::Malformed(at)) => Err(CertFault::Malformed(at)),
         Err(ScheduleFault::Memory) => Err(CertFault::Memory),
@@ -235,13 +244,13 @@ fn version_of(reader: &LineReader<'_>) -> Option<Version>
 
 // Reads the version and the bound.
 #[tactic(auto, unfolding(crate::specs::Reading::heading_at, line_reading::specs::Reading::line_by))]
-fn read_heading(reader: &mut LineReader<'_>) -> Result<(Version, u64), CertFault>
-    ensures exact { Answers (λ h. (h, reader.new)) fault.Memory result (heading_at reader.old) }
-    ensures small { IfOk result (λ h. h.1 ≤ model.SIZE) }
+fn read_heading(device: Device, reader: &mut LineReader<'_>) -> Result<(Version, u64), CertFault>
+    ensures exact { Answers (λ h. (h, reader.new)) fault.Memory result (heading_at device reader.old) }
+    ensures small { IfOk result (λ h. h.1 ≤ depth_of device) }
 {
     let found = version_of(reader);
     let version = take_line(reader, found)?;
-    let bound = read_numbered(reader, b"bound", 0, SIZE)?;
+    let bound = read_numbered(reader, b"bound", 0, u64::from(device.depth()))?;
     Ok((version, bound))
 }
 
@@ -259,32 +268,44 @@ fn read_end(reader: &mut LineReader<'_>) -> Result<(), CertFault>
 
 // Reads all parts.
 #[tactic(auto, unfolding(crate::specs::Reading::claim_at))]
-fn read_claim(alloc: Global, reader: &mut LineReader<'_>) -> Result<Certificate, CertFault>
-    ensures { Answers (λ c. (c, reader.new)) fault.Memory result (claim_at reader.old) }
+fn read_claim(
+    alloc: Global,
+    device: Device,
+    reader: &mut LineReader<'_>,
+) -> Result<Certificate, CertFault>
+    ensures { Answers (λ c. (c, reader.new)) fault.Memory result (claim_at device reader.old) }
 {
     certificate_texts();
-    let (version, bound) = read_heading(reader)?;
-    let assumptions = read_entries(alloc, reader, version)?;
-    let instances = read_instances(alloc, reader)?;
-    let nodes = read_nodes(alloc, reader, version, &instances)?;
-    let witness = read_witness(alloc, reader)?;
+    let (version, bound) = read_heading(device, reader)?;
+    let assumptions = read_entries(alloc, device, reader, version)?;
+    let instances = read_instances(alloc, device, reader)?;
+    let nodes = read_nodes(alloc, device, reader, version, &instances)?;
+    let witness = read_witness(alloc, device, reader)?;
     read_end(reader)?;
-    let claim = Certificate::of_version(version, bound as u16, assumptions, instances, nodes);
+    let claim = Certificate::of_version(
+        device,
+        version,
+        bound as u16,
+        assumptions,
+        instances,
+        nodes,
+    );
     Ok(claim.with_witness(witness))
 }
 
-/// Reads a certificate. The inverse of `cert_writing::writing::write`.
+/// Reads a certificate for a device, which the text doesn't say. The inverse of `cert_writing::writing::write`.
 ///
 /// A text of no certificate is refused at its first bad line: as `Malformed` if it has the wrong form or is missing, else as `Order` if
 /// it is not above the last one, else as `Limit` if a limit is passed.
-pub fn read(alloc: Global, text: &[u8]) -> Result<Certificate, CertFault>
-    ensures exact { Answers (λ c. c) fault.Memory result (certificate_in text.now) }
+pub fn read(alloc: Global, device: Device, text: &[u8]) -> Result<Certificate, CertFault>
+    ensures exact { Answers (λ c. c) fault.Memory result (certificate_in device text.now) }
+    ensures for_device { IfOk result (λ c. c.device ≡ device) }
     ensures found { IfOk result (λ c. text.now ≡ text_of c) }
     ensures kept { IfOk result IsCertificate }
-    ensures told { IsCertificateDueUnlessMemory text.now result }
-    ensures spelled { (c : Claim) → IsCertificate c → text.now ≡ text_of c → Answers (λ x. x) fault.Memory result (Ok c) }
+    ensures told { IsCertificateDueUnlessMemory device text.now result }
+    ensures spelled { (c : Claim) → IsCertificate c → c.device ≡ device → text.now ≡ text_of c → Answers (λ x. x) fault.Memory result (Ok c) }
 {
     certificate_texts();
     let mut reader = LineReader::new(text);
-    read_claim(alloc, &mut reader)
+    read_claim(alloc, device, &mut reader)
 }

@@ -1,4 +1,5 @@
 -- The lemmas that crates above cite.
 pub use Rattle.cert_words.proofs.Fields.{word_take, dec_take, joined_words, same_text}
 pub use Rattle.cert_words.proofs.InstKeys.{cons}
+pub use Rattle.cert_words.proofs.Limits.{depth_room}
 pub use Rattle.cert_words.proofs.Places.{place_unique, has_place}

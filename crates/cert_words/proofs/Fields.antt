@@ -3,17 +3,21 @@ use Rattle.std.proofs.Common.{ℕ, zero, suc, ◌<◌, ◌≤◌, ◌^◌, ◌�
 use Rattle.std.specs.List.{AllByRecursion}
 use Rattle.std.specs.Str.{bytes_eq}
 use Rattle.std.specs.Fmt.{decimal}
-use Rattle.std.proofs.lemmas.Bool.Decides.{nat_tests}
 use Rattle.std.proofs.lemmas.List.{append-nil}
 use Rattle.std.proofs.lemmas.Slice.Eq.{bytes_eq-Decides}
 use Rattle.std.proofs.lemmas.Option.{cond_some, same_Some as some_is, none-some}
 use Rattle.basics.specs.Lists.{same_head_and_tail}
+use Rattle.basics.specs.Numbers.{less_from_test, test_from_less}
 use Rattle.sb_base.specs.Digits.{hex_digits}
 use Rattle.line_reading.specs.Reading.{hex_at, dec_at, word_at, word_by}
 use Rattle.line_reading.specs.Words.{IsWord, WordLaws}
 use Rattle.line_reading.proofs.AllLaws.{bind_some, map_some}
+use Rattle.avr_model.specs.declared.device.Device.{Device}
+use Rattle.avr_model.specs.Vectors.{enable_count}
 use Rattle.witness_replay.specs.Spelling.{bit}
+use Rattle.cert_words.specs.KeySpelling.{masks_digits}
 use Rattle.cert_words.specs.KeyReading.{words_from, masks_at, flag_at}
+use Rattle.cert_words.proofs.Limits.{masks_fit}
 
 pub same_text : (t : List ℕ) → bytes_eq t t ≡ true
 same_text t = (bytes_eq-Decides t t).1 refl
@@ -34,20 +38,20 @@ hex_take k digits ws z e = k.hex_takes digits z.0 ws z.1 e
 pub dec_take : WordLaws → (most : ℕ) (ws : List (List ℕ)) (z : ℕ × List (List ℕ)) → most < 2 ^ 64 → dec_at most ws ≡ Some z → (ws ≡ decimal z.0 ∷ z.1) × (z.0 ≤ most)
 dec_take k most ws z room e = k.dec_takes most z.0 ws z.1 room e
 
-pub masks_take : WordLaws → (ws : List (List ℕ)) (z : ℕ × List (List ℕ)) → masks_at ws ≡ Some z → (ws ≡ hex_digits z.0 7 ∷ z.1) × (z.0 < 2 ^ 25)
+pub masks_take : WordLaws → (device : Device) (ws : List (List ℕ)) (z : ℕ × List (List ℕ)) → masks_at device ws ≡ Some z → (ws ≡ hex_digits z.0 (masks_digits device) ∷ z.1) × (z.0 < 2 ^ enable_count device)
 unfolding masks_at
-masks_take k ws z e =
-    let m = bind_some (hex_at 7 ws) _ z e in
-    let last = cond_some (nat_lt m.0.0 (2 ^ 25)) m.0 z m.2 in
-    let low : m.0.0 < 2 ^ 25 = grind (arith, nat_tests, last.0) in
-    let P : ℕ × List (List ℕ) → Type 0 = λ y. (ws ≡ hex_digits y.0 7 ∷ y.1) × (y.0 < 2 ^ 25) in
-    subst P last.1 ((hex_take k 7 ws m.0 m.1).0, low)
+masks_take k device ws z e =
+    let m = bind_some (hex_at (masks_digits device) ws) _ z e in
+    let last = cond_some (nat_lt m.0.0 (2 ^ enable_count device)) m.0 z m.2 in
+    let low : m.0.0 < 2 ^ enable_count device = less_from_test m.0.0 (2 ^ enable_count device) last.0 in
+    let P : ℕ × List (List ℕ) → Type 0 = λ y. (ws ≡ hex_digits y.0 (masks_digits device) ∷ y.1) × (y.0 < 2 ^ enable_count device) in
+    subst P last.1 ((hex_take k (masks_digits device) ws m.0 m.1).0, low)
 
-pub masks_again : WordLaws → (m : ℕ) (rest : List (List ℕ)) → m < 2 ^ 25 → masks_at (hex_digits m 7 ∷ rest) ≡ Some (m, rest)
+pub masks_again : WordLaws → (device : Device) (m : ℕ) (rest : List (List ℕ)) → m < 2 ^ enable_count device → masks_at device (hex_digits m (masks_digits device) ∷ rest) ≡ Some (m, rest)
 unfolding masks_at
-masks_again k m rest h =
-    let low : nat_lt m (2 ^ 25) ≡ true = grind (arith, nat_tests, h) in
-    rw (k.hex_taken 7 m rest (omega (arith, h)), low) refl
+masks_again k device m rest h =
+    let low : nat_lt m (2 ^ enable_count device) ≡ true = test_from_less m (2 ^ enable_count device) h in
+    rw (k.hex_taken (masks_digits device) m rest (masks_fit device m h), low) refl
 
 bit_is : WordLaws → (n : ℕ) → n ≤ 1 → decimal n ≡ bit (n == 1)
 bit_is k zero h = sym (same_head_and_tail (codes "0") (decimal 0) [] [] (k.dec_takes 1 0 (codes "0" ∷ []) [] (lit< tt) refl).0).0

@@ -2,13 +2,13 @@
 use Rattle.std.proofs.Common.{ℕ, ◌<◌, ◌≤◌, ◌≡◌, inl, inr, List, [], ◌∷◌, ◌++◌, length, codes, Bool, true, false, refl, ap, ap₂, sym, ◌∙◌, arith, Option, Some, None, nat_lt, subst}
 use Rattle.std.specs.List.{AllByRecursion}
 use Rattle.std.specs.Str.{bytes_eq}
-use Rattle.std.proofs.lemmas.Bool.Decides.{nat_tests}
 use Rattle.std.proofs.lemmas.Slice.Eq.{bytes_eq-Decides}
 use Rattle.std.proofs.lemmas.Option.{cond_some, same_Some as some_is}
 use Rattle.basics.specs.Lists.{chosen, same_head_and_tail}
 use Rattle.witness_replay.proofs.Runs.{bit_word}
-use Rattle.avr_model.specs.Image.{WORDS}
-use Rattle.avr_model.specs.State.{SIZE}
+use Rattle.basics.specs.Numbers.{less_from_test, test_from_less}
+use Rattle.avr_model.specs.declared.device.Device.{Device}
+use Rattle.avr_model.specs.Devices.{limit_of, depth_of}
 use Rattle.sb_base.specs.Digits.{hex_digits}
 use Rattle.line_reading.specs.Reading.{hex_at, word_by}
 use Rattle.line_reading.specs.Words.{IsWord, WordLaws}
@@ -28,18 +28,19 @@ use Rattle.certificate.specs.declared.version.Version.{Version}
 use Rattle.certificate.specs.declared.version.Version.TheVariants.{One, Two, Three}
 use Rattle.certificate.specs.Versions.{PickIsOf}
 use Rattle.cert_words.specs.Spelling.{form_word}
-use Rattle.cert_words.specs.KeySpelling.{pick_word, pick_words, place_words}
+use Rattle.cert_words.specs.KeySpelling.{masks_digits, pick_word, pick_words, place_words}
 use Rattle.cert_words.specs.Reading.{form_in}
 use Rattle.cert_words.specs.KeyReading.{masks_at, flag_at, is_root, pick_in, pick_at, node_key_at}
 use Rattle.cert_words.specs.Fits.{IsHigh, IsSpForm}
 use Rattle.cert_words.specs.Laws.{ValueWords}
 use Rattle.cert_words.specs.KeyLaws.{IsPlaceSpelled, PlaceWords}
+use Rattle.cert_words.proofs.Limits.{word_digits, masks_fit}
 use Rattle.cert_words.proofs.Fields.{hex_take, masks_take, masks_again, flag_take, flag_again, word_by_take}
 use Rattle.cert_words.proofs.InstKeys.{cons}
 
-form_offset : (root : Bool) (f : SpForm) → IsSpForm root f → offset_of f ≤ SIZE
-form_offset root (Closed offset) h = h
-form_offset root (Open offset x) h = h.0
+form_offset : (device : Device) (root : Bool) (f : SpForm) → IsSpForm device root f → offset_of f ≤ depth_of device
+form_offset device root (Closed offset) h = h
+form_offset device root (Open offset x) h = h.0
 
 high_fits : (kd : Kind) (offset : ℕ) (x : High) → IsHigh (is_root kd) x → FormFitsKind kd (Open offset x)
 high_fits Root offset (high.Known byte) h = h
@@ -49,9 +50,9 @@ high_fits Call offset (high.Tag k) h = h
 high_fits (Vector v) offset (high.Known byte) h = h
 high_fits (Vector v) offset (high.Tag k) h = h
 
-form_fits : (kd : Kind) (f : SpForm) → IsSpForm (is_root kd) f → FormFitsKind kd f
-form_fits kd (Closed offset) h = tt
-form_fits kd (Open offset x) h = high_fits kd offset x h.1
+form_fits : (device : Device) (kd : Kind) (f : SpForm) → IsSpForm device (is_root kd) f → FormFitsKind kd f
+form_fits device kd (Closed offset) h = tt
+form_fits device kd (Open offset x) h = high_fits kd offset x h.1
 
 is_high : (kd : Kind) (offset : ℕ) (x : High) → FormFitsKind kd (Open offset x) → IsHigh (is_root kd) x
 is_high Root offset (high.Known byte) h = h
@@ -61,9 +62,9 @@ is_high Call offset (high.Tag k) h = h
 is_high (Vector v) offset (high.Known byte) h = h
 is_high (Vector v) offset (high.Tag k) h = h
 
-is_form : (kd : Kind) (f : SpForm) → offset_of f ≤ SIZE → FormFitsKind kd f → IsSpForm (is_root kd) f
-is_form kd (Closed offset) small h = small
-is_form kd (Open offset x) small h = (small, is_high kd offset x h)
+is_form : (device : Device) (kd : Kind) (f : SpForm) → offset_of f ≤ depth_of device → FormFitsKind kd f → IsSpForm device (is_root kd) f
+is_form device kd (Closed offset) small h = small
+is_form device kd (Open offset x) small h = (small, is_high kd offset x h)
 
 -- ---- the pick
 
@@ -125,54 +126,56 @@ pick_plain k Three pick h = (pick_is_word k pick h, tt)
 
 -- ---- the key
 
-key_take : WordLaws → ValueWords → (version : Version) (inst : InstKey) (ws : List (List ℕ)) (z : NodeKey × List (List ℕ)) → node_key_at version inst ws ≡ Some z → IsPlaceSpelled version inst ws z.1 z.0
+key_take : WordLaws → ValueWords → (device : Device) (version : Version) (inst : InstKey) (ws : List (List ℕ)) (z : NodeKey × List (List ℕ)) → node_key_at device version inst ws ≡ Some z → IsPlaceSpelled device version inst ws z.1 z.0
 unfolding node_key_at
-key_take k v version inst ws z e =
+key_take k v device version inst ws z e =
     let pc = bind_some (hex_at 4 ws) _ z e in
-    let m = bind_some (masks_at pc.0.1) _ z pc.2 in
+    let m = bind_some (masks_at device pc.0.1) _ z pc.2 in
     let i = bind_some (flag_at m.0.1) _ z m.2 in
     let d = bind_some (flag_at i.0.1) _ z i.2 in
-    let f = bind_some (word_by (form_in (is_root inst.kind)) d.0.1) _ z d.2 in
+    let f = bind_some (word_by (form_in device (is_root inst.kind)) d.0.1) _ z d.2 in
     let p = bind_some (pick_at version f.0.1) _ z f.2 in
     let key : NodeKey = record { inst = inst; pc = pc.0.0; masks = m.0.0; i = i.0.0; delay = d.0.0; sp = f.0.0; pick = p.0.0 } in
-    let last = cond_some {A = NodeKey × List (List ℕ)} (nat_lt pc.0.0 WORDS) (key, p.0.1) z p.2 in
-    let w = word_by_take (form_in (is_root inst.kind)) d.0.1 f.0 f.1 in
-    let form = v.spelled.form (is_root inst.kind) w.0 f.0.0 w.2 in
+    let last = cond_some {A = NodeKey × List (List ℕ)} (nat_lt pc.0.0 (limit_of device)) (key, p.0.1) z p.2 in
+    let w = word_by_take (form_in device (is_root inst.kind)) d.0.1 f.0 f.1 in
+    let form = v.spelled.form device (is_root inst.kind) w.0 f.0.0 w.2 in
     let pick = pick_at_take k version f.0.1 p.0 p.1 in
-    let masks = masks_take k pc.0.1 m.0 m.1 in
-    let below : pc.0.0 < WORDS = grind (arith, nat_tests, last.0) in
-    let P : NodeKey × List (List ℕ) → Type 0 = λ y. IsPlaceSpelled version inst ws y.1 y.0 in
+    let masks = masks_take k device pc.0.1 m.0 m.1 in
+    let below : pc.0.0 < limit_of device = less_from_test pc.0.0 (limit_of device) last.0 in
+    let P : NodeKey × List (List ℕ) → Type 0 = λ y. IsPlaceSpelled device version inst ws y.1 y.0 in
     subst P last.1 (record {
-      words = (hex_take k 4 ws pc.0 pc.1).0 ∙ ap (cons (hex_digits pc.0.0 4)) (masks.0 ∙ ap (cons (hex_digits m.0.0 7)) (flag_take k m.0.1 i.0 i.1
+      words = (hex_take k 4 ws pc.0 pc.1).0 ∙ ap (cons (hex_digits pc.0.0 4)) (masks.0 ∙ ap (cons (hex_digits m.0.0 (masks_digits device))) (flag_take k m.0.1 i.0 i.1
           ∙ ap (cons (bit i.0.0)) (flag_take k i.0.1 d.0 d.1 ∙ ap (cons (bit d.0.0)) (w.1 ∙ ap₂ cons form.0 pick.words))));
-      key_fits = record { word = below; small = form_offset (is_root inst.kind) f.0.0 form.1; masks = masks.1; fits = form_fits inst.kind f.0.0 form.1; pick = pick.fits };
+      key_fits = record { word = below; small = form_offset device (is_root inst.kind) f.0.0 form.1; masks = masks.1; fits = form_fits device inst.kind f.0.0 form.1; pick = pick.fits };
       of_version = pick.of_version;
       same = refl;
     })
 
-key_spelled : WordLaws → ValueWords → (version : Version) (inst : InstKey) (ws rest : List (List ℕ)) (key : NodeKey) → node_key_at version inst ws ≡ Some (key, rest) → IsPlaceSpelled version inst ws rest key
-key_spelled k v version inst ws rest key e = key_take k v version inst ws (key, rest) e
+key_spelled : WordLaws → ValueWords → (device : Device) (version : Version) (inst : InstKey) (ws rest : List (List ℕ)) (key : NodeKey) → node_key_at device version inst ws ≡ Some (key, rest) → IsPlaceSpelled device version inst ws rest key
+key_spelled k v device version inst ws rest key e = key_take k v device version inst ws (key, rest) e
 
-key_again : WordLaws → ValueWords → (version : Version) (key : NodeKey) (rest : List (List ℕ)) → IsKey key → PickIsOf version key.pick → node_key_at version key.inst (place_words version key ++ rest) ≡ Some (key, rest)
+key_again : WordLaws → ValueWords → (device : Device) (version : Version) (key : NodeKey) (rest : List (List ℕ)) → IsKey device key → PickIsOf version key.pick → node_key_at device version key.inst (place_words device version key ++ rest) ≡ Some (key, rest)
 unfolding node_key_at
-key_again k v version key rest h g =
+key_again k v device version key rest h g =
     let behind : List (List ℕ) = pick_words version key.pick ++ rest in
-    let pc = k.hex_taken 4 key.pc (hex_digits key.masks 7 ∷ bit key.i ∷ bit key.delay ∷ form_word key.sp ∷ behind) (omega (arith, h.word)) in
-    let m = masks_again k key.masks (bit key.i ∷ bit key.delay ∷ form_word key.sp ∷ behind) h.masks in
+    let pc = k.hex_taken 4 key.pc (hex_digits key.masks (masks_digits device) ∷ bit key.i ∷ bit key.delay ∷ form_word key.sp ∷ behind) (word_digits device key.pc h.word) in
+    let m = masks_again k device key.masks (bit key.i ∷ bit key.delay ∷ form_word key.sp ∷ behind) h.masks in
     let i = flag_again k key.i (bit key.delay ∷ form_word key.sp ∷ behind) in
     let d = flag_again k key.delay (form_word key.sp ∷ behind) in
-    let f = v.read.form (is_root key.inst.kind) key.sp (is_form key.inst.kind key.sp h.small h.fits) in
+    let f = v.read.form device (is_root key.inst.kind) key.sp (is_form device key.inst.kind key.sp h.small h.fits) in
     let p = pick_at_again k version key.pick rest h.pick g in
-    let word : key.pc < WORDS = h.word in
-    let below : nat_lt key.pc WORDS ≡ true = grind (arith, nat_tests, word) in
+    let below : nat_lt key.pc (limit_of device) ≡ true = test_from_less key.pc (limit_of device) h.word in
     rw (pc, m, i, d, f, p, below) refl
 
-key_plain : WordLaws → ValueWords → (version : Version) (key : NodeKey) → IsKey key → AllByRecursion IsWord (place_words version key)
-key_plain k v version key h = (
-  k.hex_word key.pc 4 (omega (arith, h.word)),
+key_plain : WordLaws → ValueWords → (device : Device) (version : Version) (key : NodeKey) → IsKey device key → AllByRecursion IsWord (place_words device version key)
+key_plain k v device version key h = (
+  k.hex_word key.pc 4 (word_digits device key.pc h.word),
   (
-    k.hex_word key.masks 7 (omega (arith, h.masks)),
-    (bit_word key.i, (bit_word key.delay, (v.words.form (is_root key.inst.kind) key.sp (is_form key.inst.kind key.sp h.small h.fits), pick_plain k version key.pick h.pick))),
+    k.hex_word key.masks (masks_digits device) (masks_fit device key.masks h.masks),
+    (
+      bit_word key.i,
+      (bit_word key.delay, (v.words.form device (is_root key.inst.kind) key.sp (is_form device key.inst.kind key.sp h.small h.fits), pick_plain k version key.pick h.pick)),
+    ),
   ),
 )
 

@@ -1,10 +1,11 @@
 -- Reading and spelling of the pieces of a word are inverse.
-use Rattle.std.proofs.Common.{ℕ, ◌<◌, ◌≤◌, ◌^◌, ◌≡◌, ◌==◌, ◌&&◌, List, [], ◌∷◌, ◌++◌, Bool, true, false, refl, ap, ap₂, sym, ◌∙◌, arith, Some, subst, lit<, append_assoc}
+use Rattle.std.proofs.Common.{ℕ, ◌<◌, ◌≤◌, ◌^◌, ◌≡◌, ◌==◌, ◌&&◌, List, [], ◌∷◌, ◌++◌, Bool, true, false, refl, ap, ap₂, sym, ◌∙◌, arith, Some, subst, append_assoc}
 use Rattle.std.proofs.lemmas.Bool.{eqb-true, eq-eqb}
 use Rattle.std.proofs.lemmas.List.{append-nil}
 use Rattle.std.specs.Int.{bit_at}
 use Rattle.std.specs.Int.RustNames.{bit_and}
-use Rattle.avr_model.specs.State.{SIZE}
+use Rattle.avr_model.specs.declared.device.Device.{Device}
+use Rattle.avr_model.specs.Devices.{depth_of}
 use Rattle.sb_base.specs.Digits.{hex_digits}
 use Rattle.line_reading.specs.Letters.{letter_at, digits_at, is_end}
 use Rattle.line_reading.specs.Reading.{dec_at}
@@ -19,6 +20,7 @@ use Rattle.bit_domain.specs.TriByte.{tri_of}
 use Rattle.bit_domain.specs.Laws.{BytesAreTheirBits, BytesAreSets}
 use Rattle.cert_words.specs.Spelling.{bits_text}
 use Rattle.cert_words.specs.Reading.{tri_byte, bits_at, offset_in, marked_in}
+use Rattle.cert_words.proofs.Limits.{depth_room}
 
 pub three : (a b c : Bool) → (a && b && c) ≡ true → (a ≡ true) × (b ≡ true) × (c ≡ true)
 three true true c e = (refl, refl, e)
@@ -65,15 +67,15 @@ bits_again k b s t rest =
 
 -- ---- a decimal, and a number behind a comma and a mark
 
-pub offset_take : WordLaws → (bs : List ℕ) (n : ℕ) → offset_in bs ≡ Some n → (bs ≡ decimal n) × (n ≤ SIZE)
-offset_take k bs n e =
-    let d = map_some (dec_at SIZE (bs ∷ [])) (λ x. x.0) n e in
-    let t = k.dec_takes SIZE d.0.0 (bs ∷ []) d.0.1 (lit< tt) d.1 in
-    let P : ℕ → Type 0 = λ y. (bs ≡ decimal y) × (y ≤ SIZE) in
+pub offset_take : WordLaws → (device : Device) (bs : List ℕ) (n : ℕ) → offset_in device bs ≡ Some n → (bs ≡ decimal n) × (n ≤ depth_of device)
+offset_take k device bs n e =
+    let d = map_some (dec_at (depth_of device) (bs ∷ [])) (λ x. x.0) n e in
+    let t = k.dec_takes (depth_of device) d.0.0 (bs ∷ []) d.0.1 (depth_room device) d.1 in
+    let P : ℕ → Type 0 = λ y. (bs ≡ decimal y) × (y ≤ depth_of device) in
     subst P d.2 ((same_head_and_tail bs (decimal d.0.0) [] d.0.1 t.0).0, t.1)
 
-pub offset_again : WordLaws → (n : ℕ) → n ≤ SIZE → offset_in (decimal n) ≡ Some n
-offset_again k n h = rw (k.dec_taken SIZE n [] (lit< tt) h) refl
+pub offset_again : WordLaws → (device : Device) (n : ℕ) → n ≤ depth_of device → offset_in device (decimal n) ≡ Some n
+offset_again k device n h = rw (k.dec_taken (depth_of device) n [] (depth_room device) h) refl
 
 pub marked_take : WordLaws → (mark digits : ℕ) (bs : List ℕ) (n : ℕ) → marked_in mark digits bs ≡ Some n → (bs ≡ 44 ∷ mark ∷ hex_digits n digits) × (n < 16 ^ digits)
 unfolding marked_in

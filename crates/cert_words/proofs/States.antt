@@ -30,6 +30,7 @@ use Rattle.abs_state.specs.Formed.{SlotNamesRegister, SlotByteFits, SlotIsUntagg
 use Rattle.mask_states.specs.declared.keys.Kind.{Kind}
 use Rattle.mask_states.specs.declared.keys.Kind.TheVariants.{Root, Call, Vector}
 use Rattle.mask_states.specs.declared.keys.NodeKey.{NodeKey}
+use Rattle.avr_model.specs.declared.device.Device.{Device}
 use Rattle.mask_states.specs.Keys.{offset_of}
 use Rattle.local_rules.specs.Cover.{SlotFits, TagsFit, IsNodeIn, IsKey}
 use Rattle.edge_rules.specs.declared.seeded.NodeForm.{NodeForm}
@@ -318,8 +319,8 @@ kind_root Root e = refl
 kind_root Call e = cc
 kind_root (Vector v) e = cc
 
-node_kept : (version : Version) (key : NodeKey) (s : AbsState) → IsKey key → HasParts version (is_root key.inst.kind) (offset_of key.sp) s → IsNodeIn (is_third version) key s
-node_kept version key s h parts = record {
+node_kept : (device : Device) (version : Version) (key : NodeKey) (s : AbsState) → IsKey device key → HasParts version (is_root key.inst.kind) (offset_of key.sp) s → IsNodeIn device (is_third version) key s
+node_kept device version key s h parts = record {
   word = h.word;
   small = h.small;
   masks = h.masks;
@@ -333,8 +334,8 @@ node_kept version key s h parts = record {
   hulls = pairs_inside version s.registers s.facts parts.pairs;
 }
 
-node_parts : (version : Version) (key : NodeKey) (s : AbsState) → IsNodeIn (is_third version) key s → StateIsOf version s → HasParts version (is_root key.inst.kind) (offset_of key.sp) s
-node_parts version key s h o =
+node_parts : (device : Device) (version : Version) (key : NodeKey) (s : AbsState) → IsNodeIn device (is_third version) key s → StateIsOf version s → HasParts version (is_root key.inst.kind) (offset_of key.sp) s
+node_parts device version key s h o =
     let untagged : is_root key.inst.kind ≡ true → IsUntagged s = λ e. h.untagged (kind_root key.inst.kind e) in
     parts_by version (is_root key.inst.kind) (offset_of key.sp) s h.formed h.tags
     (record { bytes = h.carry_bytes; names = h.formed.carry; untagged = λ e. (untagged e).carry; of_version = o.carry_tag }) untagged (pairs_fit version s.registers s.facts h.formed.facts h.mode h.hulls) o
@@ -365,46 +366,46 @@ no_from version v = no_from_by version v (bytes_eq (value_word version v) (codes
 
 -- ---- the form
 
-record FormRead (version : Version) (at : ℕ) (key : NodeKey) (ws : List (List ℕ)) (z : NodeForm × List (List ℕ)) : Type 0 where
+record FormRead (device : Device) (version : Version) (at : ℕ) (key : NodeKey) (ws : List (List ℕ)) (z : NodeForm × List (List ℕ)) : Type 0 where
   pub words : ws ≡ form_words version z.0 ++ z.1
-  pub fits : FitsAt (is_third version) at key z.0
+  pub fits : FitsAt device (is_third version) at key z.0
   pub of_version : FormIsOf version z.0
 
-from_take : WordLaws → (version : Version) (at : ℕ) (key : NodeKey) (w : List ℕ) (ws : List (List ℕ)) (z : NodeForm × List (List ℕ)) → IsKey key → w ≡ codes "from" → from_behind at ws ≡ Some z → FormRead version at key (w ∷ ws) z
+from_take : WordLaws → (device : Device) (version : Version) (at : ℕ) (key : NodeKey) (w : List ℕ) (ws : List (List ℕ)) (z : NodeForm × List (List ℕ)) → IsKey device key → w ≡ codes "from" → from_behind at ws ≡ Some z → FormRead device version at key (w ∷ ws) z
 unfolding from_behind
-from_take k version at key w ws z h is e =
+from_take k device version at key w ws z h is e =
     let m = bind_some (dec_at 65535 ws) _ z e in
     let last = cond_some {A = NodeForm × List (List ℕ)} (nat_lt m.0.0 at) (From m.0.0, m.0.1) z m.2 in
     let t = dec_take k 65535 ws m.0 (lit< tt) m.1 in
     let low : m.0.0 < at = grind (arith, nat_tests, last.0) in
-    let P : NodeForm × List (List ℕ) → Type 0 = λ y. FormRead version at key (w ∷ ws) y in
+    let P : NodeForm × List (List ℕ) → Type 0 = λ y. FormRead device version at key (w ∷ ws) y in
     subst P last.1 (record { words = ap₂ cons is t.0; fits = (h, low); of_version = tt })
 
-form_state : RangesFit → FactsWords → ValueWords → (version : Version) (at : ℕ) (key : NodeKey) (w : List ℕ) (ws : List (List ℕ)) (z : NodeForm × List (List ℕ)) → IsKey key
-    → (value_in version (is_root key.inst.kind) w >>= λ v. by_state (state_behind version (is_root key.inst.kind) (offset_of key.sp) v ws)) ≡ Some z → FormRead version at key (w ∷ ws) z
-form_state g p v version at key w ws z h e =
+form_state : RangesFit → FactsWords → ValueWords → (device : Device) (version : Version) (at : ℕ) (key : NodeKey) (w : List ℕ) (ws : List (List ℕ)) (z : NodeForm × List (List ℕ)) → IsKey device key
+    → (value_in version (is_root key.inst.kind) w >>= λ v. by_state (state_behind version (is_root key.inst.kind) (offset_of key.sp) v ws)) ≡ Some z → FormRead device version at key (w ∷ ws) z
+form_state g p v device version at key w ws z h e =
     let first = bind_some (value_in version (is_root key.inst.kind) w) _ z e in
     let s = map_some (state_behind version (is_root key.inst.kind) (offset_of key.sp) first.0 ws) (λ s. (State s.0, s.1)) z first.2 in
     let word = v.spelled.value version (is_root key.inst.kind) w first.0 first.1 in
     let t = state_take g p v version (is_root key.inst.kind) (offset_of key.sp) first.0 ws s.0 word.1 s.1 in
-    let P : NodeForm × List (List ℕ) → Type 0 = λ y. FormRead version at key (w ∷ ws) y in
+    let P : NodeForm × List (List ℕ) → Type 0 = λ y. FormRead device version at key (w ∷ ws) y in
     subst P s.2 (record {
       words = ap (λ (x : List ℕ). x ∷ ws) word.0 ∙ t.words;
-      fits = node_kept version key s.0.0 h t.parts;
+      fits = node_kept device version key s.0.0 h t.parts;
       of_version = of_version_by version (is_root key.inst.kind) (offset_of key.sp) s.0.0 t.parts;
     })
 
-form_take : WordLaws → RangesFit → FactsWords → ValueWords → (version : Version) (at : ℕ) (key : NodeKey) (ws : List (List ℕ)) (z : NodeForm × List (List ℕ)) → IsKey key → form_at version (is_root key.inst.kind) (offset_of key.sp) at ws ≡ Some z → FormRead version at key ws z
+form_take : WordLaws → RangesFit → FactsWords → ValueWords → (device : Device) (version : Version) (at : ℕ) (key : NodeKey) (ws : List (List ℕ)) (z : NodeForm × List (List ℕ)) → IsKey device key → form_at version (is_root key.inst.kind) (offset_of key.sp) at ws ≡ Some z → FormRead device version at key ws z
 unfolding form_at
-form_take k r p v version at key [] z h e = absurd (none-some z e)
-form_take k r p v version at key (w ∷ ws) z h e = elim (chosen (bytes_eq w (codes "from")) _ _ (Some z) e) [
-  | inl g ↦ from_take k version at key w ws z h ((bytes_eq-Decides w (codes "from")).0 g.0) g.1
-  | inr g ↦ form_state r p v version at key w ws z h g.1
+form_take k r p v device version at key [] z h e = absurd (none-some z e)
+form_take k r p v device version at key (w ∷ ws) z h e = elim (chosen (bytes_eq w (codes "from")) _ _ (Some z) e) [
+  | inl g ↦ from_take k device version at key w ws z h ((bytes_eq-Decides w (codes "from")).0 g.0) g.1
+  | inr g ↦ form_state r p v device version at key w ws z h g.1
 ]
 
-form_spelled : WordLaws → RangesFit → FactsWords → ValueWords → (version : Version) (at : ℕ) (key : NodeKey) (ws rest : List (List ℕ)) (form : NodeForm) → IsKey key
-    → form_at version (is_root key.inst.kind) (offset_of key.sp) at ws ≡ Some (form, rest) → (ws ≡ form_words version form ++ rest) × FitsAt (is_third version) at key form × FormIsOf version form
-form_spelled k r p v version at key ws rest form h e = let t = form_take k r p v version at key ws (form, rest) h e in (t.words, t.fits, t.of_version)
+form_spelled : WordLaws → RangesFit → FactsWords → ValueWords → (device : Device) (version : Version) (at : ℕ) (key : NodeKey) (ws rest : List (List ℕ)) (form : NodeForm) → IsKey device key
+    → form_at version (is_root key.inst.kind) (offset_of key.sp) at ws ≡ Some (form, rest) → (ws ≡ form_words version form ++ rest) × FitsAt device (is_third version) at key form × FormIsOf version form
+form_spelled k r p v device version at key ws rest form h e = let t = form_take k r p v device version at key ws (form, rest) h e in (t.words, t.fits, t.of_version)
 
 state_form : RangesFit → FactsWords → ValueWords → (version : Version) (root : Bool) (offset at : ℕ) (registers : List AbsByte) (f : AbsFlags) (slots : List (Slot AbsByte)) (x : Option PairFacts)
     → HasParts version root offset (record { registers = registers; flags = f; slots = slots; facts = x })
@@ -416,19 +417,19 @@ state_form g p v version root offset at (first ∷ more) f slots x h =
     let s = state_again g p v version root offset first more f slots x h in
     rw (no_from version first, word, s) refl
 
-form_again : WordLaws → RangesFit → FactsWords → ValueWords → (version : Version) (at : ℕ) (key : NodeKey) (form : NodeForm) → at ≤ 65536 → FitsAt (is_third version) at key form → FormIsOf version form
+form_again : WordLaws → RangesFit → FactsWords → ValueWords → (device : Device) (version : Version) (at : ℕ) (key : NodeKey) (form : NodeForm) → at ≤ 65536 → FitsAt device (is_third version) at key form → FormIsOf version form
     → form_at version (is_root key.inst.kind) (offset_of key.sp) at (form_words version form) ≡ Some (form, [])
 unfolding form_at from_behind
-form_again k r p v version at key (State s) few h o =
-    state_form r p v version (is_root key.inst.kind) (offset_of key.sp) at s.registers s.flags s.slots s.facts (node_parts version key s h o)
-form_again k r p v version at key (From m) few h o =
+form_again k r p v device version at key (State s) few h o =
+    state_form r p v version (is_root key.inst.kind) (offset_of key.sp) at s.registers s.flags s.slots s.facts (node_parts device version key s h o)
+form_again k r p v device version at key (From m) few h o =
     let d = k.dec_taken 65535 m [] (lit< tt) (omega (arith, few, h.1)) in
     let low : nat_lt m at ≡ true = grind (arith, nat_tests, h.1) in
     rw (d, low) refl
 
-form_plain : WordLaws → RangesFit → FactsWords → ValueWords → (version : Version) (at : ℕ) (key : NodeKey) (form : NodeForm) → at ≤ 65536 → FitsAt (is_third version) at key form → FormIsOf version form → AllByRecursion IsWord (form_words version form)
-form_plain k r p v version at key (State s) few h o = state_plain r p v version (is_root key.inst.kind) (offset_of key.sp) s (node_parts version key s h o)
-form_plain k r p v version at key (From m) few h o = (((refl, (refl, (refl, (refl, tt)))), (refl, (refl, (refl, (refl, tt))))), (k.dec_word m (omega (arith, few, h.1)), tt))
+form_plain : WordLaws → RangesFit → FactsWords → ValueWords → (device : Device) (version : Version) (at : ℕ) (key : NodeKey) (form : NodeForm) → at ≤ 65536 → FitsAt device (is_third version) at key form → FormIsOf version form → AllByRecursion IsWord (form_words version form)
+form_plain k r p v device version at key (State s) few h o = state_plain r p v version (is_root key.inst.kind) (offset_of key.sp) s (node_parts device version key s h o)
+form_plain k r p v device version at key (From m) few h o = (((refl, (refl, (refl, (refl, tt)))), (refl, (refl, (refl, (refl, tt))))), (k.dec_word m (omega (arith, few, h.1)), tt))
 
 pub forms : WordLaws → RangesFit → FactsWords → ValueWords → FormWords
 forms k r p v = record { spelled = form_spelled k r p v; read = form_again k r p v; words = form_plain k r p v }

@@ -11,7 +11,8 @@ use Rattle.std.specs.Fmt.{decimal}
 use Rattle.std.proofs.lemmas.Option.{cond_some, same_Some as some_is, none-some}
 use Rattle.basics.specs.Lists.{chosen}
 use Rattle.basics.specs.Numbers.{at_most_from_test, test_from_at_most}
-use Rattle.avr_model.specs.State.{SIZE}
+use Rattle.avr_model.specs.declared.device.Device.{Device}
+use Rattle.avr_model.specs.Devices.{depth_of}
 use Rattle.sb_base.specs.Digits.{hex_digits}
 use Rattle.line_reading.specs.Letters.{letter_at, digits_at, is_end}
 use Rattle.line_reading.specs.Words.{WordLaws, IsWord}
@@ -43,6 +44,7 @@ use Rattle.pair_words.specs.Reading.{register_at}
 use Rattle.pair_words.proofs.AllLaws.{register_take, register_again}
 use Rattle.cert_words.specs.Fits.{IsTag, IsValue, AreFlags, IsCarry, IsSlot, IsHigh, IsSpForm}
 use Rattle.cert_words.specs.Laws.{ValueWords}
+use Rattle.cert_words.proofs.Limits.{depth_room}
 use Rattle.cert_words.proofs.Pieces.{three, bits_take, bits_again, offset_take, offset_again, marked_take, marked_again}
 
 abbrev front : ℕ → List ℕ → List ℕ
@@ -449,23 +451,23 @@ high_length true (high.Tag j) h = absurd h
 high_length false (high.Known byte) h = absurd h
 high_length false (high.Tag j) h = omega (arith, length_hex j 4)
 
-open_take : WordLaws → (root : Bool) (bs : List ℕ) (f : SpForm) → open_in root bs ≡ Some f → (111 ∷ bs ≡ form_word f) × IsSpForm root f
+open_take : WordLaws → (device : Device) (root : Bool) (bs : List ℕ) (f : SpForm) → open_in device root bs ≡ Some f → (111 ∷ bs ≡ form_word f) × IsSpForm device root f
 unfolding open_in
-open_take k root bs f e = elim (chosen (nat_lt (length bs) (high_size root)) _ _ (Some f) e) [
+open_take k device root bs f e = elim (chosen (nat_lt (length bs) (high_size root)) _ _ (Some f) e) [
   | inl h ↦ absurd (none-some f h.1)
   | inr h ↦
       let i = length bs - high_size root in
-      let n = bind_some (offset_in (take i bs)) _ f h.1 in
+      let n = bind_some (offset_in device (take i bs)) _ f h.1 in
       let g = bind_some (high_in root (drop i bs)) _ f n.2 in
-      let number = offset_take k (take i bs) n.0 n.1 in
+      let number = offset_take k device (take i bs) n.0 n.1 in
       let byte = high_take k root (drop i bs) g.0 g.1 in
-      let P : SpForm → Type 0 = λ y. (111 ∷ bs ≡ form_word y) × IsSpForm root y in
+      let P : SpForm → Type 0 = λ y. (111 ∷ bs ≡ form_word y) × IsSpForm device root y in
       subst P (some_is (Open n.0 g.0) f g.2) (ap (front 111) (sym (take-append-drop i bs) ∙ ap₂ (λ (xs ys : List ℕ). xs ++ ys) number.0 byte.0), (number.1, byte.1))
 ]
 
-open_again : WordLaws → (root : Bool) (n : ℕ) (h : High) → n ≤ SIZE → IsHigh root h → open_in root (decimal n ++ high_text h) ≡ Some (Open n h)
+open_again : WordLaws → (device : Device) (root : Bool) (n : ℕ) (h : High) → n ≤ depth_of device → IsHigh root h → open_in device root (decimal n ++ high_text h) ≡ Some (Open n h)
 unfolding open_in
-open_again k root n h small fits =
+open_again k device root n h small fits =
     let ds = decimal n in
     let hs = high_text h in
     let size = high_length root h fits in
@@ -474,29 +476,29 @@ open_again k root n h small fits =
     let place : length (ds ++ hs) - high_size root ≡ length ds = omega (arith, size, all) in
     let first : take (length ds) (ds ++ hs) ≡ ds = take-append_seam ds hs in
     let back : drop (length ds) (ds ++ hs) ≡ hs = drop-append_seam ds hs in
-    rw (long, place, first, back, offset_again k n small, high_again k root h fits) refl
+    rw (long, place, first, back, offset_again k device n small, high_again k root h fits) refl
 
-form_take : WordLaws → (root : Bool) (w : List ℕ) (f : SpForm) → form_in root w ≡ Some f → (w ≡ form_word f) × IsSpForm root f
+form_take : WordLaws → (device : Device) (root : Bool) (w : List ℕ) (f : SpForm) → form_in device root w ≡ Some f → (w ≡ form_word f) × IsSpForm device root f
 unfolding form_in
-form_take k root w f e =
+form_take k device root w f e =
     let l = bind_some (letter_at w) _ f e in
     let first = letter_take w l.0 l.1 in
-    let P : SpForm → Type 0 = λ y. (w ≡ form_word y) × IsSpForm root y in
+    let P : SpForm → Type 0 = λ y. (w ≡ form_word y) × IsSpForm device root y in
     elim (chosen (l.0.0 == 99) _ _ (Some f) l.2) [
       | inl h ↦
-          let n = map_some (offset_in l.0.1) (λ x. Closed x) f h.1 in
-          let number = offset_take k l.0.1 n.0 n.1 in
+          let n = map_some (offset_in device l.0.1) (λ x. Closed x) f h.1 in
+          let number = offset_take k device l.0.1 n.0 n.1 in
           subst P n.2 (first ∙ ap₂ front (eqb-true l.0.0 99 h.0) number.0, number.1)
       | inr h ↦ elim (chosen (l.0.0 == 111) _ _ (Some f) h.1) [
-        | inl g ↦ let t = open_take k root l.0.1 f g.1 in (first ∙ ap (λ (x : ℕ). x ∷ l.0.1) (eqb-true l.0.0 111 g.0) ∙ t.0, t.1)
+        | inl g ↦ let t = open_take k device root l.0.1 f g.1 in (first ∙ ap (λ (x : ℕ). x ∷ l.0.1) (eqb-true l.0.0 111 g.0) ∙ t.0, t.1)
         | inr g ↦ absurd (none-some f g.1)
       ]
     ]
 
-form_again : WordLaws → (root : Bool) (f : SpForm) → IsSpForm root f → form_in root (form_word f) ≡ Some f
+form_again : WordLaws → (device : Device) (root : Bool) (f : SpForm) → IsSpForm device root f → form_in device root (form_word f) ≡ Some f
 unfolding form_in
-form_again k root (Closed offset) h = rw (offset_again k offset h) refl
-form_again k root (Open offset h) g = rw (open_again k root offset h g.0 g.1) refl
+form_again k device root (Closed offset) h = rw (offset_again k device offset h) refl
+form_again k device root (Open offset h) g = rw (open_again k device root offset h g.0 g.1) refl
 
 -- ---- no space and no line feed
 
@@ -556,11 +558,11 @@ high_is_word k true (high.Tag j) h = absurd h
 high_is_word k false (high.Known byte) h = absurd h
 high_is_word k false (high.Tag j) h = joined_word (codes ",t") (hex_digits j 4) ((refl, (refl, tt)), (refl, (refl, tt))) (k.hex_word j 4 (omega (arith, h)))
 
-form_is_word : WordLaws → (root : Bool) (f : SpForm) → IsSpForm root f → IsWord (form_word f)
-form_is_word k root (Closed offset) h = joined_word (codes "c") (decimal offset) ((refl, tt), (refl, tt)) (k.dec_word offset (omega (arith, h)))
-form_is_word k root (Open offset h) g =
+form_is_word : WordLaws → (device : Device) (root : Bool) (f : SpForm) → IsSpForm device root f → IsWord (form_word f)
+form_is_word k device root (Closed offset) h = joined_word (codes "c") (decimal offset) ((refl, tt), (refl, tt)) (k.dec_word offset (omega (arith, h, depth_room device)))
+form_is_word k device root (Open offset h) g =
     joined_word (codes "o") (decimal offset ++ high_text h) ((refl, tt), (refl, tt))
-    (joined_word (decimal offset) (high_text h) (k.dec_word offset (omega (arith, g.0))) (high_is_word k root h g.1))
+    (joined_word (decimal offset) (high_text h) (k.dec_word offset (omega (arith, g.0, depth_room device))) (high_is_word k root h g.1))
 
 -- ---- all of them
 

@@ -1,6 +1,7 @@
 -- The values, flags, slots and forms that a node may have in the root's frame, and in other frames.
 use Rattle.std.specs.Prelude.{◌≡◌, ◌<◌, ◌≤◌, ⊤, Bool, true, false}
-use Rattle.avr_model.specs.State.{SIZE}
+use Rattle.avr_model.specs.declared.device.Device.{Device}
+use Rattle.avr_model.specs.Devices.{depth_of}
 use Rattle.bit_domain.specs.declared.bits.Tri.TheVariants.{Any}
 use Rattle.bit_domain.specs.declared.bytes.TriByte.{TriByte}
 use Rattle.bit_domain.specs.TriByte.{tri_at}
@@ -54,6 +55,6 @@ IsHigh true (high.Tag k) = ⊥
 IsHigh false (high.Known byte) = ⊥
 IsHigh false (high.Tag k) = k < 65536
 
-abbrev pub IsSpForm : Bool → SpForm → Type 0
-IsSpForm root (Closed offset) = offset ≤ SIZE
-IsSpForm root (Open offset h) = (offset ≤ SIZE) × IsHigh root h
+abbrev pub IsSpForm : Device → Bool → SpForm → Type 0
+IsSpForm device root (Closed offset) = offset ≤ depth_of device
+IsSpForm device root (Open offset h) = (offset ≤ depth_of device) × IsHigh root h

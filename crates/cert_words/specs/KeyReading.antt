@@ -2,7 +2,9 @@
 use Rattle.std.specs.Prelude.{ℕ, zero, suc, ◌==◌, ◌^◌, nat_lt, Bool, true, false, List, [], ◌∷◌, ◌++◌, codes, Option, Some, None, if◌then◌else◌}
 use Rattle.std.specs.Option.{option_map}
 use Rattle.std.specs.Str.{bytes_eq}
-use Rattle.avr_model.specs.Image.{WORDS}
+use Rattle.avr_model.specs.declared.device.Device.{Device}
+use Rattle.avr_model.specs.Devices.{limit_of}
+use Rattle.avr_model.specs.Vectors.{last_vector, enable_count}
 use Rattle.line_reading.specs.Reading.{◌>>=◌, hex_at, dec_at, word_by}
 use Rattle.line_reading.specs.Letters.{letter_at}
 use Rattle.mask_states.specs.declared.keys.Kind.{Kind}
@@ -20,6 +22,7 @@ use Rattle.certificate.specs.declared.version.Version.{Version}
 use Rattle.certificate.specs.declared.version.Version.TheVariants.{One, Two, Three}
 use Rattle.pair_words.specs.Reading.{facts_at}
 use Rattle.certificate.specs.Hulls.{hulls_of}
+use Rattle.cert_words.specs.KeySpelling.{masks_digits}
 use Rattle.cert_words.specs.Reading.{value_in, slot_in, flags_in, carry_in, form_in}
 
 -- ---- words
@@ -29,9 +32,9 @@ unfoldable pub words_from : {A : Type 0} → (List ℕ → Option A) → List A 
 words_from f front zero ws = Some (front, ws)
 words_from f front (suc n) ws = word_by f ws >>= λ x. words_from f (front ++ x.0 ∷ []) n x.1
 
--- enable bits in seven digits
-unfoldable pub masks_at : List (List ℕ) → Option (ℕ × List (List ℕ))
-masks_at ws = hex_at 7 ws >>= λ m. if nat_lt m.0 (2 ^ 25) then Some m else None
+-- the enable bits of a device
+unfoldable pub masks_at : Device → List (List ℕ) → Option (ℕ × List (List ℕ))
+masks_at device ws = hex_at (masks_digits device) ws >>= λ m. if nat_lt m.0 (2 ^ enable_count device) then Some m else None
 
 -- 0 or 1
 abbrev pub flag_at : List (List ℕ) → Option (Bool × List (List ℕ))
@@ -40,19 +43,19 @@ flag_at ws = option_map (λ n. (n.0 == 1, n.1)) (dec_at 1 ws)
 -- ---- instances
 
 -- the number of a vector after its letter
-unfoldable pub vector_in : List ℕ → Option Kind
-vector_in w = letter_at w >>= λ l. if l.0 == 118 then option_map (λ n. Vector n.0) (dec_at 26 (l.1 ∷ [])) else None
+unfoldable pub vector_in : Device → List ℕ → Option Kind
+vector_in device w = letter_at w >>= λ l. if l.0 == 118 then option_map (λ n. Vector n.0) (dec_at (last_vector device) (l.1 ∷ [])) else None
 
-unfoldable pub kind_in : List ℕ → Option Kind
-kind_in w = if bytes_eq w (codes "root") then Some Root else (if bytes_eq w (codes "call") then Some Call else vector_in w)
+unfoldable pub kind_in : Device → List ℕ → Option Kind
+kind_in device w = if bytes_eq w (codes "root") then Some Root else (if bytes_eq w (codes "call") then Some Call else vector_in device w)
 
-unfoldable pub inst_key_at : List (List ℕ) → Option (InstKey × List (List ℕ))
-inst_key_at ws = do
-  k ← word_by kind_in ws
+unfoldable pub inst_key_at : Device → List (List ℕ) → Option (InstKey × List (List ℕ))
+inst_key_at device ws = do
+  k ← word_by (kind_in device) ws
   e ← hex_at 4 k.1
-  m ← masks_at e.1
+  m ← masks_at device e.1
   i ← flag_at m.1
-  if fits_kind k.0 e.0 m.0 i.0 then Some (record { kind = k.0; entry = e.0; masks = m.0; i = i.0 }, i.1) else None
+  if fits_kind device k.0 e.0 m.0 i.0 then Some (record { kind = k.0; entry = e.0; masks = m.0; i = i.0 }, i.1) else None
 
 -- ---- nodes
 
@@ -71,15 +74,15 @@ pick_at One ws = Some (None, ws)
 pick_at Two ws = word_by pick_in ws
 pick_at Three ws = word_by pick_in ws
 
-unfoldable pub node_key_at : Version → InstKey → List (List ℕ) → Option (NodeKey × List (List ℕ))
-node_key_at version inst ws = do
+unfoldable pub node_key_at : Device → Version → InstKey → List (List ℕ) → Option (NodeKey × List (List ℕ))
+node_key_at device version inst ws = do
   pc ← hex_at 4 ws
-  m ← masks_at pc.1
+  m ← masks_at device pc.1
   i ← flag_at m.1
   d ← flag_at i.1
-  f ← word_by (form_in (is_root inst.kind)) d.1
+  f ← word_by (form_in device (is_root inst.kind)) d.1
   p ← pick_at version f.1
-  if nat_lt pc.0 WORDS then Some (record { inst = inst; pc = pc.0; masks = m.0; i = i.0; delay = d.0; sp = f.0; pick = p.0 }, p.1) else None
+  if nat_lt pc.0 (limit_of device) then Some (record { inst = inst; pc = pc.0; masks = m.0; i = i.0; delay = d.0; sp = f.0; pick = p.0 }, p.1) else None
 
 unfoldable pub flags_at : Version → Bool → List (List ℕ) → Option (AbsFlags × List (List ℕ))
 flags_at version root ws = do

@@ -1,7 +1,9 @@
 -- The words of keys, states and forms of nodes. Source: own.
-use Rattle.std.specs.Prelude.{ℕ, List, [], ◌∷◌, ◌++◌, map, codes, Option, Some, None}
+use Rattle.std.specs.Prelude.{ℕ, ◌+◌, ◌/◌, List, [], ◌∷◌, ◌++◌, map, codes, Option, Some, None}
 use Rattle.std.specs.Fmt.{decimal}
 use Rattle.sb_base.specs.Digits.{hex_digits}
+use Rattle.avr_model.specs.declared.device.Device.{Device}
+use Rattle.avr_model.specs.Vectors.{enable_count}
 use Rattle.mask_states.specs.declared.keys.Kind.{Kind}
 use Rattle.mask_states.specs.declared.keys.Kind.TheVariants.{Root, Call, Vector}
 use Rattle.mask_states.specs.declared.keys.InstKey.{InstKey}
@@ -25,9 +27,13 @@ kind_word Root = codes "root"
 kind_word Call = codes "call"
 kind_word (Vector v) = codes "v" ++ decimal v
 
+-- the number of hexadecimal digits of a device's enable bits
+abbrev pub masks_digits : Device → ℕ
+masks_digits device = (enable_count device + 3) / 4
+
 -- an instance: kind, entry, enable bits and I
-abbrev pub inst_key_words : InstKey → List (List ℕ)
-inst_key_words key = kind_word key.kind ∷ hex_digits key.entry 4 ∷ hex_digits key.masks 7 ∷ bit key.i ∷ []
+abbrev pub inst_key_words : Device → InstKey → List (List ℕ)
+inst_key_words device key = kind_word key.kind ∷ hex_digits key.entry 4 ∷ hex_digits key.masks (masks_digits device) ∷ bit key.i ∷ []
 
 -- no pick, or the picked byte
 abbrev pub pick_word : Option ℕ → List ℕ
@@ -41,13 +47,13 @@ pick_words Two pick = pick_word pick ∷ []
 pick_words Three pick = pick_word pick ∷ []
 
 -- a node within its instance: word, enable bits, I, delay, form of the stack pointer and pick
-abbrev pub place_words : Version → NodeKey → List (List ℕ)
-place_words version key =
-    hex_digits key.pc 4 ∷ hex_digits key.masks 7 ∷ bit key.i ∷ bit key.delay ∷ form_word key.sp ∷ pick_words version key.pick
+abbrev pub place_words : Device → Version → NodeKey → List (List ℕ)
+place_words device version key =
+    hex_digits key.pc 4 ∷ hex_digits key.masks (masks_digits device) ∷ bit key.i ∷ bit key.delay ∷ form_word key.sp ∷ pick_words version key.pick
 
 -- a node with its instance; it ends with the pick in every version
-abbrev pub node_key_words : NodeKey → List (List ℕ)
-node_key_words key = inst_key_words key.inst ++ place_words Two key
+abbrev pub node_key_words : Device → NodeKey → List (List ℕ)
+node_key_words device key = inst_key_words device key.inst ++ place_words device Two key
 
 -- ---- what is known at a node
 

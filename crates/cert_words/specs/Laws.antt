@@ -1,5 +1,6 @@
 -- Reading and spelling of words are inverse.
 use Rattle.std.specs.Prelude.{ℕ, ◌≡◌, Bool, List, Some}
+use Rattle.avr_model.specs.declared.device.Device.{Device}
 use Rattle.bit_domain.specs.declared.bytes.TriByte.{TriByte}
 use Rattle.sp_domain.specs.declared.tags.CarryTag.{CarryTag}
 use Rattle.sp_domain.specs.declared.slots.Slot.{Slot}
@@ -17,7 +18,7 @@ pub record WordsAreSpelled : Type 0 where
   pub slot : (version : Version) (root : Bool) (w : List ℕ) (s : Slot AbsByte) → slot_in version root w ≡ Some s → (w ≡ slot_word version s) × IsSlot version root s
   pub flags : (root : Bool) (w : List ℕ) (entry : Bool) (bits : TriByte) → flags_in root w ≡ Some (entry, bits) → (w ≡ flags_word entry bits) × AreFlags root entry bits
   pub carry : (version : Version) (root : Bool) (w : List ℕ) (c : CarryTag) → carry_in version root w ≡ Some c → (w ≡ carry_word c) × IsCarry version root c
-  pub form : (root : Bool) (w : List ℕ) (f : SpForm) → form_in root w ≡ Some f → (w ≡ form_word f) × IsSpForm root f
+  pub form : (device : Device) (root : Bool) (w : List ℕ) (f : SpForm) → form_in device root w ≡ Some f → (w ≡ form_word f) × IsSpForm device root f
 
 -- the word of a fitting value is read as the value
 pub record ValueWordsAreRead : Type 0 where
@@ -25,7 +26,7 @@ pub record ValueWordsAreRead : Type 0 where
   pub slot : (version : Version) (root : Bool) (s : Slot AbsByte) → IsSlot version root s → slot_in version root (slot_word version s) ≡ Some s
   pub flags : (root entry : Bool) (bits : TriByte) → AreFlags root entry bits → flags_in root (flags_word entry bits) ≡ Some (entry, bits)
   pub carry : (version : Version) (root : Bool) (c : CarryTag) → IsCarry version root c → carry_in version root (carry_word c) ≡ Some c
-  pub form : (root : Bool) (f : SpForm) → IsSpForm root f → form_in root (form_word f) ≡ Some f
+  pub form : (device : Device) (root : Bool) (f : SpForm) → IsSpForm device root f → form_in device root (form_word f) ≡ Some f
 
 -- words have no space and no line feed
 pub record WordsAreWords : Type 0 where
@@ -33,7 +34,7 @@ pub record WordsAreWords : Type 0 where
   pub slot : (version : Version) (root : Bool) (s : Slot AbsByte) → IsSlot version root s → IsWord (slot_word version s)
   pub flags : (entry : Bool) (bits : TriByte) → IsWord (flags_word entry bits)
   pub carry : (version : Version) (root : Bool) (c : CarryTag) → IsCarry version root c → IsWord (carry_word c)
-  pub form : (root : Bool) (f : SpForm) → IsSpForm root f → IsWord (form_word f)
+  pub form : (device : Device) (root : Bool) (f : SpForm) → IsSpForm device root f → IsWord (form_word f)
 
 pub record ValueWords : Type 0 where
   pub spelled : WordsAreSpelled

@@ -4,7 +4,8 @@ use Rattle.std.specs.Option.{option_map}
 use Rattle.std.specs.Int.{bit_at}
 use Rattle.std.specs.Int.RustNames.{bit_and}
 use Rattle.std.specs.Str.{bytes_eq}
-use Rattle.avr_model.specs.State.{SIZE}
+use Rattle.avr_model.specs.declared.device.Device.{Device}
+use Rattle.avr_model.specs.Devices.{depth_of}
 use Rattle.line_reading.specs.Reading.{◌>>=◌, dec_at}
 use Rattle.line_reading.specs.Letters.{letter_at, digits_at, is_end}
 use Rattle.bit_domain.specs.declared.bytes.TriByte.{TriByte}
@@ -126,8 +127,9 @@ carry_in version root w = if bytes_eq w (codes "-") then Some carry.None else (l
 
 -- ---- forms of the stack pointer
 
-abbrev pub offset_in : List ℕ → Option ℕ
-offset_in bs = option_map (λ n. n.0) (dec_at SIZE (bs ∷ []))
+-- an offset that the device's texts admit
+abbrev pub offset_in : Device → List ℕ → Option ℕ
+offset_in device bs = option_map (λ n. n.0) (dec_at (depth_of device) (bs ∷ []))
 
 -- a comma, a letter, and a number in this many digits
 unfoldable pub marked_in : ℕ → ℕ → List ℕ → Option ℕ
@@ -147,13 +149,14 @@ abbrev pub high_size : Bool → ℕ
 high_size true = 4
 high_size false = 6
 
-unfoldable pub open_in : Bool → List ℕ → Option SpForm
-open_in root bs =
+unfoldable pub open_in : Device → Bool → List ℕ → Option SpForm
+open_in device root bs =
     if nat_lt (length bs) (high_size root) then None
     else (do
-      n ← offset_in (take (length bs - high_size root) bs)
+      n ← offset_in device (take (length bs - high_size root) bs)
       h ← high_in root (drop (length bs - high_size root) bs)
       Some (Open n h))
 
-unfoldable pub form_in : Bool → List ℕ → Option SpForm
-form_in root w = letter_at w >>= λ l. if l.0 == 99 then option_map (λ n. Closed n) (offset_in l.1) else (if l.0 == 111 then open_in root l.1 else None)
+unfoldable pub form_in : Device → Bool → List ℕ → Option SpForm
+form_in device root w =
+    letter_at w >>= λ l. if l.0 == 99 then option_map (λ n. Closed n) (offset_in device l.1) else (if l.0 == 111 then open_in device root l.1 else None)

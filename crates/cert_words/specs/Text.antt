@@ -1,8 +1,9 @@
--- The one text of a certificate. Source: own.
+-- The one text of a certificate. It does not say the device, which its reader has to know. Source: own.
 use Rattle.std.specs.Prelude.{ℕ, ◌+◌, List, [], ◌∷◌, ◌++◌, map, length, codes, Option, Some, None, if◌then◌else◌}
 use Rattle.std.specs.List.{flat_map}
 use Rattle.std.specs.Fmt.{decimal}
 use Rattle.avr_model.specs.declared.assumption.Entry.{Entry}
+use Rattle.avr_model.specs.declared.device.Device.{Device}
 use Rattle.sb_base.specs.Lines.{line}
 use Rattle.mask_states.specs.declared.keys.InstKey.{InstKey}
 use Rattle.mask_states.specs.declared.keys.NodeKey.{NodeKey}
@@ -24,8 +25,8 @@ abbrev pub numbered : List ℕ → ℕ → List (List ℕ)
 numbered name n = name ∷ decimal n ∷ []
 
 -- the words of an instance's line
-abbrev pub inst_words : Inst → List (List ℕ)
-inst_words x = codes "inst" ∷ inst_key_words x.key ++ codes "rank" ∷ decimal x.rank ∷ codes "need" ∷ decimal x.need ∷ []
+abbrev pub inst_words : Device → Inst → List (List ℕ)
+inst_words device x = codes "inst" ∷ inst_key_words device x.key ++ codes "rank" ∷ decimal x.rank ∷ codes "need" ∷ decimal x.need ∷ []
 
 -- the number of an instance's line, from 0
 abbrev pub inst_number : InstKey → List Inst → ℕ
@@ -33,11 +34,11 @@ inst_number key [] = 0
 inst_number key (x ∷ xs) = if same_inst x.key key then 0 else inst_number key xs + 1
 
 -- the words of the line of a node whose instance has this number
-abbrev pub node_words_at : Version → ℕ → NodeKey × NodeForm → List (List ℕ)
-node_words_at version place n = codes "node" ∷ decimal place ∷ place_words version n.0 ++ form_words version n.1
+abbrev pub node_words_at : Device → Version → ℕ → NodeKey × NodeForm → List (List ℕ)
+node_words_at device version place n = codes "node" ∷ decimal place ∷ place_words device version n.0 ++ form_words version n.1
 
-abbrev pub node_words : Version → List Inst → NodeKey × NodeForm → List (List ℕ)
-node_words version insts n = node_words_at version (inst_number n.0.inst insts) n
+abbrev pub node_words : Device → Version → List Inst → NodeKey × NodeForm → List (List ℕ)
+node_words device version insts n = node_words_at device version (inst_number n.0.inst insts) n
 
 -- ---- parts
 
@@ -52,11 +53,11 @@ heading version bound = version_line version ∷ numbered (codes "bound") bound 
 abbrev pub entry_lines : List Entry → List (List (List ℕ))
 entry_lines entries = numbered (codes "assume") (length entries) ∷ map entry_words entries
 
-abbrev pub inst_lines : List Inst → List (List (List ℕ))
-inst_lines insts = numbered (codes "instances") (length insts) ∷ map inst_words insts
+abbrev pub inst_lines : Device → List Inst → List (List (List ℕ))
+inst_lines device insts = numbered (codes "instances") (length insts) ∷ map (inst_words device) insts
 
-abbrev pub node_lines : Version → List Inst → Seeds → List (List (List ℕ))
-node_lines version insts nodes = numbered (codes "nodes") (length nodes) ∷ map (node_words version insts) nodes
+abbrev pub node_lines : Device → Version → List Inst → Seeds → List (List (List ℕ))
+node_lines device version insts nodes = numbered (codes "nodes") (length nodes) ∷ map (node_words device version insts) nodes
 
 abbrev pub open_line : List (List ℕ)
 open_line = codes "witness" ∷ codes "open" ∷ []
@@ -77,7 +78,7 @@ end_line = codes "end" ∷ []
 -- the lines before the schedule
 abbrev pub front_lines : Claim → List (List (List ℕ))
 front_lines c =
-    heading c.version c.bound ++ (entry_lines c.assumptions ++ (inst_lines c.instances ++ node_lines c.version c.instances c.nodes))
+    heading c.version c.bound ++ (entry_lines c.assumptions ++ (inst_lines c.device c.instances ++ node_lines c.device c.version c.instances c.nodes))
 
 -- the lines of a certificate, each by its words
 abbrev pub certificate_lines : Claim → List (List (List ℕ))

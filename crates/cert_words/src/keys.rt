@@ -2,26 +2,41 @@
 
 ghost use Rattle.std.specs.Prelude.{◌≡◌, ◌≤◌, IfSome};
 ghost use Rattle.std.specs.Option.{option_map};
-ghost use Rattle.avr_model.specs.State as model;
+ghost use Rattle.avr_model.specs.Devices.{depth_of};
+ghost use Rattle.avr_model.specs.Vectors.{is_vector};
 ghost use Rattle.mask_states.specs.Keys.{offset_of};
 ghost use Rattle.certificate.specs.Insts.{is_vector_word, fits_kind};
+ghost use Rattle.cert_words.specs.KeySpelling.{masks_digits};
 ghost use Rattle.cert_words.specs.KeyReading.{masks_at, flag_at, kind_in, inst_key_at, is_root, pick_at, node_key_at};
 
 use crate::values::sp_form_of;
-use avr_model::device::WORDS;
+use avr_model::device::Device;
 use certificate::Version;
 use line_reading::{Letters, dec_word, hex_word};
 use mask_states::{InstKey, Kind, NodeKey};
 use sb_base::{Words, read_dec, read_hex};
 use vector_table::Masks;
 
-// Enable bits.
-#[tactic(auto, unfolding(crate::specs::KeyReading::masks_at))]
-fn masks_of(words: &mut Words<'_>) -> Option<Masks>
-    ensures { option_map (λ m. (m, words.new)) result ≡ masks_at words.old }
+/// The number of hexadecimal digits of the device's enable bits, 1 to 16.
+pub fn masks_digits(device: Device) -> usize
+    ensures value { result ≡ masks_digits device }
+    ensures least { 1 ≤ result }
+    ensures most { result ≤ 16 }
 {
-    let bits = hex_word(words, 7)?;
-    Masks::from_bits(bits)
+    (usize::from(device.last_vector()) + 2) / 4
+}
+
+// Enable bits of the device.
+#[tactic(auto, unfolding(crate::specs::KeyReading::masks_at))]
+fn masks_of(device: Device, words: &mut Words<'_>) -> Option<Masks>
+    ensures { option_map (λ m. (m, words.new)) result ≡ masks_at device words.old }
+{
+    let bits = hex_word(words, masks_digits(device))?;
+    if bits < 1 << (device.last_vector() - 1) {
+        Some(Masks::from_bits(bits))
+    } else {
+        None
+    }
 }
 
 // 0 or 1.
@@ -34,8 +49,8 @@ fn flag_of(words: &mut Words<'_>) -> Option<bool>
 
 // The kind of a word.
 #[tactic(auto, unfolding(crate::specs::KeyReading::kind_in, crate::specs::KeyReading::vector_in))]
-fn kind_of(word: &[u8]) -> Option<Kind>
-    ensures { result ≡ kind_in word.now }
+fn kind_of(device: Device, word: &[u8]) -> Option<Kind>
+    ensures { result ≡ kind_in device word.now }
 {
     if word == b"root".as_slice() {
         return Some(Kind::Root);
@@ -47,7 +62,7 @@ fn kind_of(word: &[u8]) -> Option<Kind>
     if letters.next()? != b'v' {
         return None;
     }
-    match read_dec(letters.rest(), 26) {
+    match read_dec(letters.rest(), u64::from(device.last_vector())) {
         Ok(number) => Some(Kind::Vector(number as u8)),
         Err(_) => None,
     }
@@ -63,28 +78,32 @@ fn is_vector_word(vector: u8, entry: u16) -> bool
 }
 
 // Whether an instance of this kind may have this entry, these enable bits and this I.
-fn fits_kind(kind: Kind, entry: u16, masks: Masks, i: bool) -> bool
-    ensures { result ≡ fits_kind kind entry masks i }
+fn fits_kind(device: Device, kind: Kind, entry: u16, masks: Masks, i: bool) -> bool
+    ensures { result ≡ fits_kind device kind entry masks i }
 {
     match kind {
         Kind::Root => entry == 0 && masks.bits() == 0 && !i,
-        Kind::Call => entry < WORDS,
-        Kind::Vector(v) => v >= 2 && v <= 26 && is_vector_word(v, entry) && !i,
+        Kind::Call => u32::from(entry) < device.limit(),
+        Kind::Vector(v) => v >= 2 && v <= device.last_vector() && is_vector_word(v, entry) && !i,
     }
 }
 
-/// An instance by its next words: kind, entry, enable bits and I. None exactly if they are those of no valid instance.
+/// An instance by its next words in a certificate for the device: kind, entry, enable bits and I. None exactly if they are those of no
+/// valid instance.
 #[tactic(auto, unfolding(crate::specs::KeyReading::inst_key_at))]
-pub fn inst_key_of(words: &mut Words<'_>) -> Option<InstKey>
-    ensures { option_map (λ k. (k, words.new)) result ≡ inst_key_at words.old }
+pub fn inst_key_of(device: Device, words: &mut Words<'_>) -> Option<InstKey>
+    ensures { option_map (λ k. (k, words.new)) result ≡ inst_key_at device words.old }
 {
-    let kind = kind_of(words.next()?)?;
-    let (Some(entry), Some(masks), Some(i)) = (hex_word(words, 4), masks_of(words), flag_of(words))
-    else {
+    let kind = kind_of(device, words.next()?)?;
+    let (Some(entry), Some(masks), Some(i)) = (
+        hex_word(words, 4),
+        masks_of(device, words),
+        flag_of(words),
+    ) else {
         return None;
     };
     let entry = entry as u16;
-    if fits_kind(kind, entry, masks, i) {
+    if fits_kind(device, kind, entry, masks, i) {
         Some(InstKey {
             kind,
             entry,
@@ -127,16 +146,21 @@ fn pick_of(words: &mut Words<'_>, version: Version) -> Option<Option<u8>>
     }
 }
 
-/// A node of this instance by its next words in a certificate of this version: word, enable bits, I, delay, form of the stack pointer
-/// and, except in the first version, pick. None exactly if they are those of no valid node.
+/// A node of this instance by its next words in a certificate for the device, of this version: word, enable bits, I, delay, form of the
+/// stack pointer and, except in the first version, pick. None exactly if they are those of no valid node.
 #[tactic(auto, unfolding(crate::specs::KeyReading::node_key_at))]
-pub fn node_key_of(words: &mut Words<'_>, version: Version, inst: &InstKey) -> Option<NodeKey>
-    ensures exact { option_map (λ k. (k, words.new)) result ≡ node_key_at version inst.now words.old }
-    ensures small { IfSome result (λ k. offset_of k.sp ≤ model.SIZE) }
+pub fn node_key_of(
+    words: &mut Words<'_>,
+    device: Device,
+    version: Version,
+    inst: &InstKey,
+) -> Option<NodeKey>
+    ensures exact { option_map (λ k. (k, words.new)) result ≡ node_key_at device version inst.now words.old }
+    ensures small { IfSome result (λ k. offset_of k.sp ≤ depth_of device) }
 {
     let (Some(pc), Some(masks), Some(i), Some(delay), Some(form)) = (
         hex_word(words, 4),
-        masks_of(words),
+        masks_of(device, words),
         flag_of(words),
         flag_of(words),
         words.next(),
@@ -144,11 +168,11 @@ pub fn node_key_of(words: &mut Words<'_>, version: Version, inst: &InstKey) -> O
         return None;
     };
     let root = is_root(inst.kind);
-    let (Some(sp), Some(pick)) = (sp_form_of(form, root), pick_of(words, version)) else {
+    let (Some(sp), Some(pick)) = (sp_form_of(device, form, root), pick_of(words, version)) else {
         return None;
     };
     let pc = pc as u16;
-    if pc < WORDS {
+    if u32::from(pc) < device.limit() {
         Some(NodeKey {
             inst: *inst,
             pc,

@@ -7,5 +7,5 @@ pub mod laws;
 mod state;
 mod values;
 
-pub use keys::{inst_key_of, is_root, node_key_of};
+pub use keys::{inst_key_of, is_root, masks_digits, node_key_of};
 pub use state::node_form_of;

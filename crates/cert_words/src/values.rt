@@ -2,7 +2,7 @@
 
 ghost use Rattle.std.specs.Prelude.{◌≡◌, ◌≤◌, ◌<◌, ◌^◌, Some, IfSome, IsTrue};
 ghost use Rattle.std.specs.Option.{option_map};
-ghost use Rattle.avr_model.specs.State.{SIZE};
+ghost use Rattle.avr_model.specs.Devices.{depth_of};
 ghost use Rattle.abs_state.specs.Values.{with_bits};
 ghost use Rattle.sp_domain.specs.declared.tags.Tag.{Tag};
 ghost use Rattle.sp_domain.specs.declared.tags.Tag.TheVariants as tag;
@@ -11,7 +11,7 @@ ghost use Rattle.line_reading.specs.Reading.{word_by};
 ghost use Rattle.cert_words.specs.Reading.{tri_byte, bits_at, tag_at, range_at, value_behind, value_in, slot_in, flags_in, bytes_in, tagged_by, carry_in, offset_in, marked_in, open_in, form_in};
 
 use abs_state::AbsByte;
-use avr_model::device;
+use avr_model::device::Device;
 use bit_domain::{Range, TriByte};
 use certificate::Version;
 use line_reading::Letters;
@@ -19,9 +19,6 @@ use mask_states::{High, SpForm};
 use pair_words::register_of;
 use sb_base::{Words, read_dec};
 use sp_domain::{CarryTag, Slot, Tag};
-
-// The greatest offset.
-const SIZE: u64 = device::SIZE as u64;
 
 // Known bits and their values.
 #[tactic(auto, unfolding(crate::specs::Reading::bits_at))]
@@ -209,11 +206,11 @@ pub(crate) fn carry_of(word: &[u8], version: Version, root: bool) -> Option<Carr
 }
 
 // The offset that decimal digits stand for.
-fn offset_of(digits: &[u8]) -> Option<u16>
-    ensures exact { result ≡ offset_in digits.now }
-    ensures small { IfSome result (λ n. n ≤ SIZE) }
+fn offset_of(device: Device, digits: &[u8]) -> Option<u16>
+    ensures exact { result ≡ offset_in device digits.now }
+    ensures small { IfSome result (λ n. n ≤ depth_of device) }
 {
-    match read_dec(digits, SIZE) {
+    match read_dec(digits, u64::from(device.depth())) {
         Ok(number) => Some(number as u16),
         Err(_) => None,
     }
@@ -244,16 +241,16 @@ fn marked_of(text: &[u8], mark: u8, digits: usize) -> Option<u32>
 
 // The form of a half-written stack pointer.
 #[tactic(auto, unfolding(crate::specs::Reading::open_in))]
-fn open_of(text: &[u8], root: bool) -> Option<SpForm>
-    ensures exact { result ≡ open_in root text.now }
-    ensures small { IfSome result (λ f. offset_of f ≤ SIZE) }
+fn open_of(device: Device, text: &[u8], root: bool) -> Option<SpForm>
+    ensures exact { result ≡ open_in device root text.now }
+    ensures small { IfSome result (λ f. offset_of f ≤ depth_of device) }
 {
     let size = if root { 4 } else { 6 };
     if text.len() < size {
         return None;
     }
     let (digits, high) = text.split_at(text.len() - size);
-    let offset = offset_of(digits)?;
+    let offset = offset_of(device, digits)?;
     let high = if root {
         High::Known(marked_of(high, b'k', 2)? as u8)
     } else {
@@ -264,16 +261,16 @@ fn open_of(text: &[u8], root: bool) -> Option<SpForm>
 
 // The form of the stack pointer of a word.
 #[tactic(auto, unfolding(crate::specs::Reading::form_in))]
-pub(crate) fn sp_form_of(word: &[u8], root: bool) -> Option<SpForm>
-    ensures exact { result ≡ form_in root word.now }
-    ensures small { IfSome result (λ f. offset_of f ≤ SIZE) }
+pub(crate) fn sp_form_of(device: Device, word: &[u8], root: bool) -> Option<SpForm>
+    ensures exact { result ≡ form_in device root word.now }
+    ensures small { IfSome result (λ f. offset_of f ≤ depth_of device) }
 {
     let mut letters = Letters::new(word);
     let letter = letters.next()?;
     if letter == b'c' {
-        Some(SpForm::Closed(offset_of(letters.rest())?))
+        Some(SpForm::Closed(offset_of(device, letters.rest())?))
     } else if letter == b'o' {
-        open_of(letters.rest(), root)
+        open_of(device, letters.rest(), root)
     } else {
         None
     }

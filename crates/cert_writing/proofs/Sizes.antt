@@ -13,7 +13,10 @@ use Rattle.sb_base.specs.Digits.{hex_digits}
 use Rattle.sb_base.specs.Lines.{spaced, line}
 use Rattle.avr_model.specs.declared.assumption.Entry.{Entry}
 use Rattle.avr_model.specs.declared.assumption.Entry.TheVariants as entry
-use Rattle.vector_table.specs.Entries.{are_items, is_entry, ascends, is_word}
+use Rattle.avr_model.specs.declared.device.Device.{Device}
+use Rattle.avr_model.specs.Vectors.{last_vector, is_vector}
+use Rattle.avr_model.proofs.AllLaws.{devices_are_alike}
+use Rattle.vector_table.specs.Entries.{are_items, is_entry, is_io, ascends, is_word}
 use Rattle.avr_model.specs.Assumptions.{has_pairs}
 use Rattle.sp_domain.specs.declared.tags.Tag.{Tag}
 use Rattle.sp_domain.specs.declared.tags.Tag.TheVariants as tag
@@ -40,7 +43,6 @@ use Rattle.mask_states.specs.Order.{same_inst}
 use Rattle.edge_rules.specs.declared.seeded.NodeForm.{NodeForm}
 use Rattle.edge_rules.specs.declared.seeded.NodeForm.TheVariants.{State, From}
 use Rattle.edge_rules.specs.Expansion.{Seeds}
-use Rattle.avr_model.specs.Vectors.{is_protected}
 use Rattle.avr_model.specs.declared.choice.Choice.TheVariants as choice
 use Rattle.witness_replay.specs.declared.schedule.Run.{Run}
 use Rattle.witness_replay.specs.declared.schedule.Run.TheVariants.{Go, Take}
@@ -53,7 +55,7 @@ use Rattle.certificate.specs.Insts.{is_vector_word, fits_kind, IsInst}
 use Rattle.certificate.specs.Claims.{Claim, IsClaim, FitsAt, AreFrom, cells_of, node_keys}
 use Rattle.cert_words.specs.Spelling.{bits_text, tag_text, range_text, value_word, flags_word, carry_word, slot_word, high_text, form_word}
 use Rattle.certificate.specs.Hulls.{hulls_of}
-use Rattle.cert_words.specs.KeySpelling.{kind_word, pick_word, pick_words, place_words, pairs_words, state_words, form_words}
+use Rattle.cert_words.specs.KeySpelling.{masks_digits, kind_word, pick_word, pick_words, place_words, pairs_words, state_words, form_words}
 use Rattle.cert_words.specs.Text.{numbered, version_line, heading, entry_lines, inst_words, inst_lines, inst_number, node_words, node_lines, attained_line, witness_lines, end_line, front_lines}
 use Rattle.line_reading.proofs.AllLaws.{length_hex}
 use Rattle.cert_writing.specs.Sizes.{HasFewChoices, TextsFit}
@@ -157,7 +159,7 @@ high_short : (h : High) → length (high_text h) ≤ 6
 high_short (high.Known byte) = omega (arith, length_hex byte 2)
 high_short (high.Tag k) = omega (arith, length_hex k 4)
 
-form_short : (f : SpForm) → offset_of f ≤ 2048 → length (form_word f) ≤ 17
+form_short : (f : SpForm) → offset_of f ≤ 16384 → length (form_word f) ≤ 17
 form_short (Closed offset) h = omega (arith, number_short offset (omega (arith, h)))
 form_short (Open offset x) h = omega (arith, length-append (decimal offset) (high_text x), number_short offset (omega (arith, h)), high_short x)
 
@@ -170,19 +172,22 @@ picks_short One pick = omega arith
 picks_short Two pick = omega (arith, pick_short pick)
 picks_short Three pick = omega (arith, pick_short pick)
 
-place_short : (version : Version) (key : NodeKey) → offset_of key.sp ≤ 2048 → taken (place_words version key) ≤ 38
-place_short version key h =
-    omega (arith, length_hex key.pc 4, length_hex key.masks 7, bit_short key.i, bit_short key.delay, form_short key.sp h, picks_short version key.pick)
+masks_short : (device : Device) (masks : ℕ) → length (hex_digits masks (masks_digits device)) ≤ 16
+masks_short device masks = omega (arith, length_hex masks (masks_digits device), devices_are_alike.most_vectors device)
+
+place_short : (device : Device) (version : Version) (key : NodeKey) → offset_of key.sp ≤ 16384 → taken (place_words device version key) ≤ 47
+place_short device version key h =
+    omega (arith, length_hex key.pc 4, masks_short device key.masks, bit_short key.i, bit_short key.delay, form_short key.sp h, picks_short version key.pick)
 
 -- ---- nodes
 
-key_small : (followed : Bool) (at : ℕ) (key : NodeKey) (form : NodeForm) → FitsAt followed at key form → offset_of key.sp ≤ 2048
-key_small followed at key (State s) h = omega (arith, h.small)
-key_small followed at key (From m) h = omega (arith, h.0.small)
+key_small : (device : Device) (followed : Bool) (at : ℕ) (key : NodeKey) (form : NodeForm) → FitsAt device followed at key form → offset_of key.sp ≤ 16384
+key_small device followed at key (State s) h = omega (arith, h.small, devices_are_alike.most_depth device)
+key_small device followed at key (From m) h = omega (arith, h.0.small, devices_are_alike.most_depth device)
 
-body_short : (followed : Bool) (version : Version) (at : ℕ) (key : NodeKey) (form : NodeForm) → at ≤ 65536 → FitsAt followed at key form → taken (form_words version form) ≤ 647 + 14 * offset_of key.sp
-body_short followed version at key (State s) few h = omega (arith, state_short version s h.formed.facts, h.formed.count_registers, h.formed.count_slots)
-body_short followed version at key (From m) few h = omega (arith, number_short m (omega (arith, few, h.1)))
+body_short : (device : Device) (followed : Bool) (version : Version) (at : ℕ) (key : NodeKey) (form : NodeForm) → at ≤ 65536 → FitsAt device followed at key form → taken (form_words version form) ≤ 647 + 14 * offset_of key.sp
+body_short device followed version at key (State s) few h = omega (arith, state_short version s h.formed.facts, h.formed.count_registers, h.formed.count_slots)
+body_short device followed version at key (From m) few h = omega (arith, number_short m (omega (arith, few, h.1)))
 
 place_by : (b : Bool) (p n : ℕ) → p ≤ n → cond b 0 (p + 1) ≤ n + 1
 place_by true p n h = omega arith
@@ -192,39 +197,41 @@ place_few : (key : InstKey) (insts : List Inst) → inst_number key insts ≤ le
 place_few key [] = omega arith
 place_few key (x ∷ xs) = omega (arith, place_by (same_inst x.key key) (inst_number key xs) (length xs) (place_few key xs))
 
-nodes_short : (followed : Bool) (version : Version) (insts : List Inst) (at : ℕ) (ns : Seeds) → length insts ≤ 65536 → at + length ns ≤ 65536 → AreFrom followed at ns
-    → text (node_words version insts) ns ≤ 700 * length ns + 14 * cells_of (node_keys ns)
+nodes_short : (device : Device) (followed : Bool) (version : Version) (insts : List Inst) (at : ℕ) (ns : Seeds) → length insts ≤ 65536 → at + length ns ≤ 65536 → AreFrom device followed at ns
+    → text (node_words device version insts) ns ≤ 700 * length ns + 14 * cells_of (node_keys ns)
 unfolding cells_of
-nodes_short followed version insts at [] few most h = omega arith
-nodes_short followed version insts at (n ∷ ns) few most h =
-    let front = place_short version n.0 (key_small followed at n.0 n.1 h.0) in
-    let body = body_short followed version at n.0 n.1 (omega (arith, most)) h.0 in
-    let behind = nodes_short followed version insts (at + 1) ns few (omega (arith, most)) h.1 in
+nodes_short device followed version insts at [] few most h = omega arith
+nodes_short device followed version insts at (n ∷ ns) few most h =
+    let front = place_short device version n.0 (key_small device followed at n.0 n.1 h.0) in
+    let body = body_short device followed version at n.0 n.1 (omega (arith, most)) h.0 in
+    let behind = nodes_short device followed version insts (at + 1) ns few (omega (arith, most)) h.1 in
     let own = number_short (inst_number n.0.inst insts) (omega (arith, place_few n.0.inst insts, few)) in
-    omega (arith, text_more (node_words version insts) n ns, taken_both (place_words version n.0) (form_words version n.1), front, body, own, behind)
+    omega (arith, text_more (node_words device version insts) n ns, taken_both (place_words device version n.0) (form_words version n.1), front, body, own, behind)
 
 -- ---- instances
 
-kind_short : (kind : Kind) (entry masks : ℕ) (i : Bool) → fits_kind kind entry masks i ≡ true → length (kind_word kind) ≤ 11
-kind_short Root entry masks i e = omega arith
-kind_short Call entry masks i e = omega arith
-kind_short (Vector v) entry masks i e =
-    let a = and_parts (nat_le 2 v && nat_le v 26 && is_vector_word v entry) (not i) e in
-    let b = and_parts (nat_le 2 v && nat_le v 26) (is_vector_word v entry) a.0 in
-    let c = and_parts (nat_le 2 v) (nat_le v 26) b.0 in
-    let most : v ≤ 26 = grind (arith, nat_tests, c.1) in
-    omega (arith, number_short v (omega (arith, most)))
+at_most : (a b : ℕ) → nat_le a b ≡ true → a ≤ b
+at_most a b h = grind (arith, nat_tests)
 
-inst_short : (x : Inst) → IsInst x → taken (inst_words x) + 1 ≤ 100
-inst_short x h =
-    let kind = kind_short x.key.kind x.key.entry x.key.masks x.key.i h.kind in
+kind_short : (device : Device) (kind : Kind) (entry masks : ℕ) (i : Bool) → fits_kind device kind entry masks i ≡ true → length (kind_word kind) ≤ 11
+kind_short device Root entry masks i e = omega arith
+kind_short device Call entry masks i e = omega arith
+kind_short device (Vector v) entry masks i e =
+    let a = and_parts (is_vector device v && is_vector_word v entry) (not i) e in
+    let b = and_parts (is_vector device v) (is_vector_word v entry) a.0 in
+    let most = at_most v (last_vector device) (and_parts (nat_le 2 v) (nat_le v (last_vector device)) b.0).1 in
+    omega (arith, number_short v (omega (arith, most, devices_are_alike.most_vectors device)))
+
+inst_short : (device : Device) (x : Inst) → IsInst device x → taken (inst_words device x) + 1 ≤ 100
+inst_short device x h =
+    let kind = kind_short device x.key.kind x.key.entry x.key.masks x.key.i h.kind in
     let rank = number_short x.rank (omega (arith, h.rank)) in
-    let need = number_short x.need (omega (arith, h.need)) in
-    omega (arith, kind, length_hex x.key.entry 4, length_hex x.key.masks 7, bit_short x.key.i, rank, need)
+    let need = number_short x.need (omega (arith, h.need, devices_are_alike.most_depth device)) in
+    omega (arith, kind, length_hex x.key.entry 4, masks_short device x.key.masks, bit_short x.key.i, rank, need)
 
-insts_short : (xs : List Inst) → AllByRecursion IsInst xs → text inst_words xs ≤ 100 * length xs
-insts_short [] h = omega arith
-insts_short (x ∷ xs) h = omega (arith, text_more inst_words x xs, inst_short x h.0, insts_short xs h.1)
+insts_short : (device : Device) (xs : List Inst) → AllByRecursion (IsInst device) xs → text (inst_words device) xs ≤ 100 * length xs
+insts_short device [] h = omega arith
+insts_short device (x ∷ xs) h = omega (arith, text_more (inst_words device) x xs, inst_short device x h.0, insts_short device xs h.1)
 
 -- ---- assumptions
 
@@ -246,7 +253,7 @@ entry_short (entry.Jump site words) e =
     let few = items_few is_word words (and_parts (is_word site) (are_items is_word words) e).1 in
     omega (arith, numbers_long (site ∷ words), few)
 entry_short (entry.Store site addresses) e =
-    let few = items_few is_protected addresses (and_parts (is_word site) (are_items is_protected addresses) e).1 in
+    let few = items_few is_io addresses (and_parts (is_word site) (are_items is_io addresses) e).1 in
     omega (arith, numbers_long (site ∷ addresses), few)
 entry_short (entry.Prove site) e = omega (arith, numbers_long (site ∷ []))
 entry_short (entry.Free site) e = omega (arith, numbers_long (site ∷ []))
@@ -259,20 +266,20 @@ entries_short (e ∷ es) h = omega (arith, text_more entry_words e es, entry_sho
 
 -- ---- the schedule
 
-run_some : (r : Run) → IsCounted r → 1 ≤ length (choices_of_run r)
-run_some (Go n b1 b2) h = omega (arith, length-replicate n (choice.Go b1 b2), h.0)
-run_some (Take v clears) h = omega arith
+run_some : (device : Device) (r : Run) → IsCounted device r → 1 ≤ length (choices_of_run r)
+run_some device (Go n b1 b2) h = omega (arith, length-replicate n (choice.Go b1 b2), h.0)
+run_some device (Take v clears) h = omega arith
 
-run_short : (r : Run) → IsCounted r → weight r ≤ most_choices → taken (run_words r) + 1 ≤ 40
-run_short (Go n b1 b2) h few = omega (arith, number_short n (omega (arith, few)), length_hex b1 2, length_hex b2 2)
-run_short (Take v clears) h few = omega (arith, number_short v (omega (arith, h.1)), bit_short clears)
+run_short : (device : Device) (r : Run) → IsCounted device r → weight r ≤ most_choices → taken (run_words r) + 1 ≤ 40
+run_short device (Go n b1 b2) h few = omega (arith, number_short n (omega (arith, few)), length_hex b1 2, length_hex b2 2)
+run_short device (Take v clears) h few = omega (arith, number_short v (omega (arith, h.1, devices_are_alike.most_vectors device)), bit_short clears)
 
-runs_short : (before : Option Run) (left : ℕ) (rs : List Run) → left ≤ most_choices → AreRuns before left rs → text run_words rs ≤ 40 * length (choices_of rs)
-runs_short before left [] few h = omega arith
-runs_short before left (r ∷ rs) few h =
-    let one = run_short r h.0 (omega (arith, few, h.2)) in
-    let more = runs_short (Some r) (left - weight r) rs (omega (arith, few)) h.3 in
-    omega (arith, text_more run_words r rs, one, run_some r h.0, length-append (choices_of_run r) (choices_of rs), more)
+runs_short : (device : Device) (before : Option Run) (left : ℕ) (rs : List Run) → left ≤ most_choices → AreRuns device before left rs → text run_words rs ≤ 40 * length (choices_of rs)
+runs_short device before left [] few h = omega arith
+runs_short device before left (r ∷ rs) few h =
+    let one = run_short device r h.0 (omega (arith, few, h.2)) in
+    let more = runs_short device (Some r) (left - weight r) rs (omega (arith, few)) h.3 in
+    omega (arith, text_more run_words r rs, one, run_some device r h.0, length-append (choices_of_run r) (choices_of rs), more)
 
 -- ---- the whole
 
@@ -290,7 +297,7 @@ version_short Three = omega arith
 abbrev size : List (List (List ℕ)) → ℕ
 size ls = length (flat_map line ls)
 
-heading_short : (version : Version) (bound : ℕ) → bound ≤ 2048 → size (heading version bound) ≤ 100
+heading_short : (version : Version) (bound : ℕ) → bound ≤ 16384 → size (heading version bound) ≤ 100
 heading_short version bound h =
     let number = line_more (numbered (codes "bound") bound) [] in
     omega (arith, line_more (version_line version) (numbered (codes "bound") bound ∷ []), version_short version, number, number_short bound (omega (arith, h)))
@@ -299,10 +306,10 @@ heading_short version bound h =
 list_short : (name : List ℕ) (n most : ℕ) (ls : List (List (List ℕ))) → length name ≤ 9 → n ≤ 65536 → size ls ≤ most → size (numbered name n ∷ ls) ≤ most + 100
 list_short name n most ls short few h = omega (arith, line_more (numbered name n) ls, short, number_short n (omega (arith, few)), h)
 
-witness_short : (w : Option Plan) → IfSome w IsSchedule → IfSome w HasFewChoices → size (witness_lines w) ≤ 8000200
-witness_short None h few = omega arith
-witness_short (Some plan) h few =
-    let runs = runs_short None most_choices plan.runs (omega arith) h.runs_fit in
+witness_short : (device : Device) (w : Option Plan) → IfSome w (IsSchedule device) → IfSome w HasFewChoices → size (witness_lines w) ≤ 8000200
+witness_short device None h few = omega arith
+witness_short device (Some plan) h few =
+    let runs = runs_short device None most_choices plan.runs (omega arith) h.runs_fit in
     let fill : List (List ℕ) = codes "fill" ∷ hex_digits plan.fill 2 ∷ [] in
     let first : List (List ℕ) = codes "schedule" ∷ codes "1" ∷ [] in
     let end : List (List (List ℕ)) = (codes "end" ∷ []) ∷ [] in
@@ -314,17 +321,17 @@ front_short : (c : Claim) → IsClaim c → size (front_lines c) ≤ 172000000
 front_short c h =
     let entries = list_short (codes "assume") (length c.assumptions) (400 * length c.assumptions) (map entry_words c.assumptions) (omega arith) (omega (arith, h.entries_fit.few))
     (entries_short c.assumptions (recursion_from_All (λ e. is_entry e ≡ true) c.assumptions h.entries_fit.each)) in
-    let insts = list_short (codes "instances") (length c.instances) (100 * length c.instances) (map inst_words c.instances) (omega arith) (omega (arith, h.few_insts)) (insts_short c.instances h.insts_fit) in
+    let insts = list_short (codes "instances") (length c.instances) (100 * length c.instances) (map (inst_words c.device) c.instances) (omega arith) (omega (arith, h.few_insts)) (insts_short c.device c.instances h.insts_fit) in
     let most : ℕ = 700 * length c.nodes + 14 * cells_of (node_keys c.nodes) in
-    let nodes = list_short (codes "nodes") (length c.nodes) most (map (node_words c.version c.instances) c.nodes) (omega arith) (omega (arith, h.few_nodes))
-    (nodes_short (has_pairs c.assumptions) c.version c.instances 0 c.nodes h.few_insts (omega (arith, h.few_nodes)) h.nodes_fit) in
-    let third = both_long (inst_lines c.instances) (node_lines c.version c.instances c.nodes) in
-    let second = both_long (entry_lines c.assumptions) (inst_lines c.instances ++ node_lines c.version c.instances c.nodes) in
-    let first = both_long (heading c.version c.bound) (entry_lines c.assumptions ++ (inst_lines c.instances ++ node_lines c.version c.instances c.nodes)) in
-    omega (arith, first, second, third, heading_short c.version c.bound h.bound_fits, entries, insts, nodes, h.entries_fit.few, h.few_insts, h.few_nodes, h.few_cells)
+    let nodes = list_short (codes "nodes") (length c.nodes) most (map (node_words c.device c.version c.instances) c.nodes) (omega arith) (omega (arith, h.few_nodes))
+    (nodes_short c.device (has_pairs c.assumptions) c.version c.instances 0 c.nodes h.few_insts (omega (arith, h.few_nodes)) h.nodes_fit) in
+    let third = both_long (inst_lines c.device c.instances) (node_lines c.device c.version c.instances c.nodes) in
+    let second = both_long (entry_lines c.assumptions) (inst_lines c.device c.instances ++ node_lines c.device c.version c.instances c.nodes) in
+    let first = both_long (heading c.version c.bound) (entry_lines c.assumptions ++ (inst_lines c.device c.instances ++ node_lines c.device c.version c.instances c.nodes)) in
+    omega (arith, first, second, third, heading_short c.version c.bound (omega (arith, h.bound_fits, devices_are_alike.most_depth c.device)), entries, insts, nodes, h.entries_fit.few, h.few_insts, h.few_nodes, h.few_cells)
 
 pub texts_fit : TextsFit
 texts_fit c h few =
     let behind = both_long (witness_lines c.witness) (end_line ∷ []) in
     let all = both_long (front_lines c) (witness_lines c.witness ++ end_line ∷ []) in
-    omega (arith, all, behind, front_short c h.claim, witness_short c.witness h.schedule few)
+    omega (arith, all, behind, front_short c h.claim, witness_short c.device c.witness h.schedule few)

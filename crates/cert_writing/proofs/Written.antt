@@ -9,6 +9,7 @@ use Rattle.sb_base.specs.Lines.{line}
 use Rattle.sb_base.specs.Writing.{Written, with_word, with_words, with_end}
 use Rattle.line_reading.specs.Appending.{with_text, AppendingLaws}
 use Rattle.avr_model.specs.declared.assumption.Entry.{Entry}
+use Rattle.avr_model.specs.declared.device.Device.{Device}
 use Rattle.abs_state.specs.declared.values.AbsByte.{AbsByte}
 use Rattle.abs_state.specs.declared.state.AbsState.{AbsState}
 use Rattle.edge_rules.specs.Expansion.{Seeds}
@@ -85,11 +86,11 @@ entries_written w v u es e f = more_text w v u (line (numbered (codes "assume") 
 pub heading_written : (version : Version) (w v u : Written) (n : ℕ) → v ≡ with_text w (line (version_line version)) → u ≡ with_text v (line (numbered (codes "bound") n)) → u ≡ with_text w (flat_map line (heading version n))
 heading_written version w v u n e f = more_text w v u (line (version_line version)) (flat_map line (numbered (codes "bound") n ∷ [])) e (f ∙ ap (with_text v) (sym (one_line (numbered (codes "bound") n))))
 
-insts_written : (w v u : Written) (xs : List Inst) → v ≡ with_text w (line (numbered (codes "instances") (length xs))) → u ≡ with_text v (flat_map line (map inst_words xs)) → u ≡ with_text w (flat_map line (inst_lines xs))
-insts_written w v u xs e f = more_text w v u (line (numbered (codes "instances") (length xs))) (flat_map line (map inst_words xs)) e f
+insts_written : (device : Device) (w v u : Written) (xs : List Inst) → v ≡ with_text w (line (numbered (codes "instances") (length xs))) → u ≡ with_text v (flat_map line (map (inst_words device) xs)) → u ≡ with_text w (flat_map line (inst_lines device xs))
+insts_written device w v u xs e f = more_text w v u (line (numbered (codes "instances") (length xs))) (flat_map line (map (inst_words device) xs)) e f
 
-nodes_written : (version : Version) (w v u : Written) (xs : List Inst) (ns : Seeds) → v ≡ with_text w (line (numbered (codes "nodes") (length ns))) → u ≡ with_text v (flat_map line (map (node_words version xs) ns)) → u ≡ with_text w (flat_map line (node_lines version xs ns))
-nodes_written version w v u xs ns e f = more_text w v u (line (numbered (codes "nodes") (length ns))) (flat_map line (map (node_words version xs) ns)) e f
+nodes_written : (device : Device) (version : Version) (w v u : Written) (xs : List Inst) (ns : Seeds) → v ≡ with_text w (line (numbered (codes "nodes") (length ns))) → u ≡ with_text v (flat_map line (map (node_words device version xs) ns)) → u ≡ with_text w (flat_map line (node_lines device version xs ns))
+nodes_written device version w v u xs ns e f = more_text w v u (line (numbered (codes "nodes") (length ns))) (flat_map line (map (node_words device version xs) ns)) e f
 
 joined_text : (xs ys : List (List (List ℕ))) → flat_map line (xs ++ ys) ≡ flat_map line xs ++ flat_map line ys
 joined_text xs ys = flat_map-append line xs ys
@@ -97,11 +98,11 @@ joined_text xs ys = flat_map-append line xs ys
 both_written : (w v u : Written) (xs ys : List (List (List ℕ))) → v ≡ with_text w (flat_map line xs) → u ≡ with_text v (flat_map line ys) → u ≡ with_text w (flat_map line (xs ++ ys))
 both_written w v u xs ys e f = more_text w v u (flat_map line xs) (flat_map line ys) e f ∙ ap (with_text w) (sym (joined_text xs ys))
 
-front_written : (w a b d u : Written) (c : Claim) → a ≡ with_text w (flat_map line (heading c.version c.bound)) → b ≡ with_text a (flat_map line (entry_lines c.assumptions)) → d ≡ with_text b (flat_map line (inst_lines c.instances)) → u ≡ with_text d (flat_map line (node_lines c.version c.instances c.nodes))
+front_written : (w a b d u : Written) (c : Claim) → a ≡ with_text w (flat_map line (heading c.version c.bound)) → b ≡ with_text a (flat_map line (entry_lines c.assumptions)) → d ≡ with_text b (flat_map line (inst_lines c.device c.instances)) → u ≡ with_text d (flat_map line (node_lines c.device c.version c.instances c.nodes))
     → u ≡ with_text w (flat_map line (front_lines c))
 front_written w a b d u c e f g h =
-    both_written w a u (heading c.version c.bound) (entry_lines c.assumptions ++ (inst_lines c.instances ++ node_lines c.version c.instances c.nodes)) e
-    (both_written a b u (entry_lines c.assumptions) (inst_lines c.instances ++ node_lines c.version c.instances c.nodes) f (both_written b d u (inst_lines c.instances) (node_lines c.version c.instances c.nodes) g h))
+    both_written w a u (heading c.version c.bound) (entry_lines c.assumptions ++ (inst_lines c.device c.instances ++ node_lines c.device c.version c.instances c.nodes)) e
+    (both_written a b u (entry_lines c.assumptions) (inst_lines c.device c.instances ++ node_lines c.device c.version c.instances c.nodes) f (both_written b d u (inst_lines c.device c.instances) (node_lines c.device c.version c.instances c.nodes) g h))
 
 pub attained_written : (w v u : Written) (plan : Plan) → v ≡ with_text w (line attained_line) → u ≡ with_text v (schedule_text plan) → u ≡ with_text w (flat_map line (witness_lines (Some plan)))
 attained_written w v u plan e f = more_text w v u (line attained_line) (schedule_text plan) e f
@@ -117,11 +118,11 @@ all_written w a b u c e f g =
 -- all parts, one after the other
 pub parts_written : AppendingLaws → (w h a e n i m x t v u : Written) (c : Claim) → h ≡ with_text w (flat_map line (heading c.version c.bound))
     → a ≡ with_text h (line (numbered (codes "assume") (length c.assumptions))) → e ≡ with_text a (entries_text c.assumptions)
-    → n ≡ with_text e (line (numbered (codes "instances") (length c.instances))) → i ≡ with_text n (flat_map line (map inst_words c.instances))
-    → m ≡ with_text i (line (numbered (codes "nodes") (length c.nodes))) → x ≡ with_text m (flat_map line (map (node_words c.version c.instances) c.nodes))
+    → n ≡ with_text e (line (numbered (codes "instances") (length c.instances))) → i ≡ with_text n (flat_map line (map (inst_words c.device) c.instances))
+    → m ≡ with_text i (line (numbered (codes "nodes") (length c.nodes))) → x ≡ with_text m (flat_map line (map (node_words c.device c.version c.instances) c.nodes))
     → t ≡ with_text x (flat_map line (witness_lines c.witness)) → v ≡ with_word t (codes "end") → u ≡ with_end v
     → u ≡ with_text w (text_of c)
 parts_written k w h a e n i m x t v u c to_h to_a to_e to_n to_i to_m to_x to_t to_v to_u =
-    let front = front_written w h e i x c to_h (entries_written h a e c.assumptions to_a to_e) (insts_written e n i c.instances to_n to_i) (nodes_written c.version i m x c.instances c.nodes to_m to_x) in
+    let front = front_written w h e i x c to_h (entries_written h a e c.assumptions to_a to_e) (insts_written c.device e n i c.instances to_n to_i) (nodes_written c.device c.version i m x c.instances c.nodes to_m to_x) in
     let begun = none_begun x t (flat_map line (witness_lines c.witness)) to_t in
     all_written w x t u c front to_t (k.line t u end_line begun (to_u ∙ ap with_end to_v))

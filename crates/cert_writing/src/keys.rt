@@ -1,16 +1,20 @@
 //! The words of keys.
 
 ghost use Rattle.std.specs.Prelude.{◌≡◌, ◌++◌, OnOk, decimal};
+ghost use Rattle.sb_base.specs.Digits.{hex_digits};
 ghost use Rattle.sb_base.specs.Writing.{with_word, with_words};
 ghost use Rattle.witness_replay.specs.Spelling.{bit};
 ghost use Rattle.cert_words.specs.Spelling.{form_word};
-ghost use Rattle.cert_words.specs.KeySpelling.{kind_word, inst_key_words, pick_words, place_words, node_key_words};
+ghost use Rattle.cert_words.specs.KeySpelling.{masks_digits, kind_word, inst_key_words, pick_words, place_words, node_key_words};
 
+use avr_model::device::Device;
+use cert_words::masks_digits;
 use certificate::Version;
 use mask_states::{High, InstKey, Kind, NodeKey, SpForm};
 use pair_words::{four_digits, two_digits};
-use sb_base::LineWriter;
+use sb_base::{LineWriter, hex_glyphs};
 use std::alloc::{AllocError, Global};
+use vector_table::Masks;
 
 // Writes 0 or 1.
 fn write_bit(out: &mut LineWriter, set: bool) -> Result<(), AllocError>
@@ -25,6 +29,15 @@ fn append_decimal(word: &mut Vec<u8>, alloc: Global, number: u64) -> Result<(), 
 {
     let digits = number.to_string(alloc)?;
     word.extend_from_slice(digits.as_bytes())
+}
+
+// Writes enable bits.
+fn write_masks(out: &mut LineWriter, device: Device, masks: Masks) -> Result<(), AllocError>
+    ensures { OnOk result (out.new ≡ with_word out.old (hex_digits masks (masks_digits device))) }
+{
+    let digits = masks_digits(device);
+    let glyphs = hex_glyphs(masks.bits(), digits);
+    out.word(&glyphs[..digits])
 }
 
 // Writes a kind.
@@ -71,13 +84,18 @@ fn write_form(out: &mut LineWriter, alloc: Global, form: &SpForm) -> Result<(), 
     out.word(&word)
 }
 
-/// Writes an instance: kind, entry, enable bits and I. If memory runs out, a prefix of the words was written.
-pub fn write_inst_key(out: &mut LineWriter, alloc: Global, key: &InstKey) -> Result<(), AllocError>
-    ensures { OnOk result (out.new ≡ with_words out.old (inst_key_words key.now)) }
+/// Writes an instance for the device: kind, entry, enable bits and I. If memory runs out, a prefix of the words was written.
+pub fn write_inst_key(
+    out: &mut LineWriter,
+    alloc: Global,
+    device: Device,
+    key: &InstKey,
+) -> Result<(), AllocError>
+    ensures { OnOk result (out.new ≡ with_words out.old (inst_key_words device key.now)) }
 {
     write_kind(out, alloc, key.kind)?;
     out.hex(u32::from(key.entry), 4)?;
-    out.hex(key.masks.bits(), 7)?;
+    write_masks(out, device, key.masks)?;
     write_bit(out, key.i)
 }
 
@@ -98,24 +116,30 @@ fn write_pick(out: &mut LineWriter, version: Version, pick: Option<u8>) -> Resul
 pub(crate) fn write_place(
     out: &mut LineWriter,
     alloc: Global,
+    device: Device,
     version: Version,
     key: &NodeKey,
 ) -> Result<(), AllocError>
-    ensures { OnOk result (out.new ≡ with_words out.old (place_words version key.now)) }
+    ensures { OnOk result (out.new ≡ with_words out.old (place_words device version key.now)) }
 {
     out.hex(u32::from(key.pc), 4)?;
-    out.hex(key.masks.bits(), 7)?;
+    write_masks(out, device, key.masks)?;
     write_bit(out, key.i)?;
     write_bit(out, key.delay)?;
     write_form(out, alloc, &key.sp)?;
     write_pick(out, version, key.pick)
 }
 
-/// Writes a node with its instance: kind, entry, enable bits and I of the instance, then word, enable bits, I, delay, form of the stack
-/// pointer and pick. If memory runs out, a prefix of the words was written.
-pub fn write_key(out: &mut LineWriter, alloc: Global, key: &NodeKey) -> Result<(), AllocError>
-    ensures { OnOk result (out.new ≡ with_words out.old (node_key_words key.now)) }
+/// Writes a node with its instance for the device: kind, entry, enable bits and I of the instance, then word, enable bits, I, delay, form
+/// of the stack pointer and pick. If memory runs out, a prefix of the words was written.
+pub fn write_key(
+    out: &mut LineWriter,
+    alloc: Global,
+    device: Device,
+    key: &NodeKey,
+) -> Result<(), AllocError>
+    ensures { OnOk result (out.new ≡ with_words out.old (node_key_words device key.now)) }
 {
-    write_inst_key(out, alloc, &key.inst)?;
-    write_place(out, alloc, Version::Two, key)
+    write_inst_key(out, alloc, device, &key.inst)?;
+    write_place(out, alloc, device, Version::Two, key)
 }

@@ -16,6 +16,7 @@ ghost use Rattle.cert_writing.specs.Places.{IsAt, IsNowhereFrom};
 
 use crate::keys::{write_inst_key, write_place};
 use crate::state::write_form;
+use avr_model::device::Device;
 use certificate::{Inst, Version};
 use edge_rules::NodeForm;
 use line_reading::laws::appending_laws;
@@ -25,11 +26,16 @@ use sb_base::LineWriter;
 use std::alloc::{AllocError, Global};
 
 // Writes the line of an instance.
-fn write_inst(out: &mut LineWriter, alloc: Global, inst: &Inst) -> Result<(), AllocError>
-    ensures { OnOk result (out.new ≡ with_end (with_words out.old (inst_words inst.now))) }
+fn write_inst(
+    out: &mut LineWriter,
+    alloc: Global,
+    device: Device,
+    inst: &Inst,
+) -> Result<(), AllocError>
+    ensures { OnOk result (out.new ≡ with_end (with_words out.old (inst_words device inst.now))) }
 {
     out.word(b"inst")?;
-    write_inst_key(out, alloc, &inst.key)?;
+    write_inst_key(out, alloc, device, &inst.key)?;
     out.word(b"rank")?;
     out.dec(u64::from(inst.rank))?;
     out.word(b"need")?;
@@ -41,14 +47,15 @@ fn write_inst(out: &mut LineWriter, alloc: Global, inst: &Inst) -> Result<(), Al
 pub(crate) fn write_insts(
     out: &mut LineWriter,
     alloc: Global,
+    device: Device,
     insts: &[Inst],
 ) -> Result<(), AllocError>
     requires { out.old.begun ≡ false }
-    ensures { OnOk result (out.new ≡ with_text out.old (flat_map line (map inst_words insts.now))) }
+    ensures { OnOk result (out.new ≡ with_text out.old (flat_map line (map (inst_words device) insts.now))) }
 {
     appending_laws();
     for inst in insts {
-        write_inst(out, alloc, inst)?;
+        write_inst(out, alloc, device, inst)?;
     }
     Ok(())
 }
@@ -83,15 +90,16 @@ fn place(insts: &[Inst], guess: usize, key: &InstKey) -> usize
 fn write_node(
     out: &mut LineWriter,
     alloc: Global,
+    device: Device,
     version: Version,
     place: usize,
     node: &(NodeKey, NodeForm),
 ) -> Result<(), AllocError>
-    ensures { OnOk result (out.new ≡ with_end (with_words out.old (node_words_at version place node.now))) }
+    ensures { OnOk result (out.new ≡ with_end (with_words out.old (node_words_at device version place node.now))) }
 {
     out.word(b"node")?;
     out.dec(place as u64)?;
-    write_place(out, alloc, version, &node.0)?;
+    write_place(out, alloc, device, version, &node.0)?;
     write_form(out, alloc, version, &node.1)?;
     out.end_line()
 }
@@ -100,6 +108,7 @@ fn write_node(
 pub(crate) fn write_nodes(
     out: &mut LineWriter,
     alloc: Global,
+    device: Device,
     version: Version,
     insts: &[Inst],
     nodes: &[(NodeKey, NodeForm)],
@@ -107,13 +116,13 @@ pub(crate) fn write_nodes(
     requires begun { out.old.begun ≡ false }
     requires sorted { IsStrictlySortedBy inst_cmp (inst_keys insts.now) }
     requires there { AllByRecursion (Belongs insts.now) (node_keys nodes.now) }
-    ensures { OnOk result (out.new ≡ with_text out.old (flat_map line (map (node_words version insts.now) nodes.now))) }
+    ensures { OnOk result (out.new ≡ with_text out.old (flat_map line (map (node_words device version insts.now) nodes.now))) }
 {
     appending_laws();
     let mut guess = 0;
     for node in nodes {
         guess = place(insts, guess, &node.0.inst);
-        write_node(out, alloc, version, guess, node)?;
+        write_node(out, alloc, device, version, guess, node)?;
     }
     Ok(())
 }

@@ -77,6 +77,7 @@ fn write_all(
     ensures { OnOk result (out.new ≡ with_text out.old (text_of certificate.now)) }
 {
     appending_laws();
+    let device = certificate.device();
     let version = certificate.version();
     write_heading(out, version, certificate.bound())?;
     let assumptions = certificate.assumptions();
@@ -84,10 +85,10 @@ fn write_all(
     indirect_targets::write(assumptions, out)?;
     let instances = certificate.instances();
     write_numbered(out, b"instances", instances.len() as u64)?;
-    write_insts(out, alloc, instances)?;
+    write_insts(out, alloc, device, instances)?;
     let nodes = certificate.nodes();
     write_numbered(out, b"nodes", nodes.len() as u64)?;
-    write_nodes(out, alloc, version, instances, nodes)?;
+    write_nodes(out, alloc, device, version, instances, nodes)?;
     write_witness(out, certificate)?;
     out.word(b"end")?;
     out.end_line()?;
@@ -99,13 +100,9 @@ fn keeps(certificate: &Certificate)
     ensures { IsCertificate certificate.now }
 {
     let _nodes = certificate.nodes();
-    if let Some(schedule) = certificate.witness() {
-        let _fill = schedule.fill();
-        let _runs = schedule.runs();
-    }
 }
 
-/// The text of the certificate. The inverse of `cert_format::read`. Fails if memory runs out.
+/// The text of the certificate, which doesn't say the device. The inverse of `cert_format::read`. Fails if memory runs out.
 pub fn write(alloc: Global, certificate: &Certificate) -> Result<Vec<u8>, AllocError>
     ensures text { IfOk result (λ v. v.items ≡ text_of certificate.now) }
     ensures kept { IsCertificate certificate.now }

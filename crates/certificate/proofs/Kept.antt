@@ -1,12 +1,21 @@
--- Changing the schedule keeps the invariants of a certificate.
-use Rattle.std.proofs.Common.{Option}
-use Rattle.witness_replay.specs.Spelling.{Plan}
-use Rattle.certificate.specs.Claims.{Claim, IsClaim}
+-- The schedule and the invariants of a certificate.
+use Rattle.std.proofs.Common.{◌≡◌, Option, None}
+use Rattle.std.specs.Prelude.{IfSome}
+use Rattle.witness_replay.specs.Spelling.{Plan, IsSchedule}
+use Rattle.certificate.specs.Claims.{Claim, IsClaim, IsCertificate}
 
-pub with_witness : (c : Claim) (w : Option Plan) → IsClaim c → IsClaim (record { version = c.version; bound = c.bound; assumptions = c.assumptions; instances = c.instances; nodes = c.nodes; witness = w })
-with_witness c w h = record {
+abbrev pub changed : Claim → Option Plan → Claim
+changed c w = record { device = c.device; version = c.version; bound = c.bound; assumptions = c.assumptions; instances = c.instances; nodes = c.nodes; witness = w }
+
+-- a claim without a schedule is a certificate
+pub without_witness : (c : Claim) → IsClaim c → c.witness ≡ None → IsCertificate c
+without_witness c h none = record { claim = h; schedule = rw none tt }
+
+claim_kept : (c : Claim) (w : Option Plan) → IsClaim c → IsClaim (changed c w)
+claim_kept c w h = record {
   bound_fits = h.bound_fits;
   entries_fit = h.entries_fit;
+  entries_of_device = h.entries_of_device;
   insts_fit = h.insts_fit;
   insts_ascend = h.insts_ascend;
   few_insts = h.few_insts;
@@ -18,3 +27,8 @@ with_witness c w h = record {
   of_version = h.of_version;
   of_list = h.of_list;
 }
+
+-- another schedule keeps the invariants
+pub with_witness : (c : Claim) (w : Option Plan) → IsCertificate c → IfSome w (IsSchedule c.device)
+    → IsCertificate (record { device = c.device; version = c.version; bound = c.bound; assumptions = c.assumptions; instances = c.instances; nodes = c.nodes; witness = w })
+with_witness c w h fits = record { claim = claim_kept c w h.claim; schedule = fits }

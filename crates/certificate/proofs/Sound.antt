@@ -3,6 +3,7 @@ use Rattle.std.proofs.Common.{Bool, ◌≡◌, refl, sym, subst, ℕ, zero, suc,
 use Rattle.std.specs.List.{slice_get}
 use Rattle.std.proofs.lemmas.Option.{none-some, same_Some, slice_get_read}
 use Rattle.avr_model.specs.Assumptions.{has_pairs}
+use Rattle.avr_model.specs.declared.device.Device.{Device}
 use Rattle.mask_states.specs.declared.keys.NodeKey.{NodeKey}
 use Rattle.local_rules.specs.declared.local.Node.{Node}
 use Rattle.edge_rules.specs.declared.seeded.NodeForm.{NodeForm}
@@ -11,13 +12,13 @@ use Rattle.edge_rules.specs.Expansion.{Seeds}
 use Rattle.certificate.specs.Claims.{FitsAt, AreFrom}
 use Rattle.certificate.specs.Laws.{ClaimsAreSeeds, ConditionsMakeFamiliesSound}
 
-fits_at : (followed : Bool) (at i : ℕ) (es : Seeds) (k : NodeKey) (form : NodeForm) → AreFrom followed at es → slice_get es i ≡ Some (k, form) → FitsAt followed (at + i) k form
-fits_at followed at i [] k form h e = absurd (none-some (k, form) e)
-fits_at followed at zero (x ∷ es) k form h e =
+fits_at : (device : Device) (followed : Bool) (at i : ℕ) (es : Seeds) (k : NodeKey) (form : NodeForm) → AreFrom device followed at es → slice_get es i ≡ Some (k, form) → FitsAt device followed (at + i) k form
+fits_at device followed at i [] k form h e = absurd (none-some (k, form) e)
+fits_at device followed at zero (x ∷ es) k form h e =
     let same : x ≡ (k, form) = same_Some x (k, form) e in
-    let here : FitsAt followed (at + 0) x.0 x.1 = subst (λ n. FitsAt followed n x.0 x.1) (omega (arith)) h.0 in
-    subst (λ (y : NodeKey × NodeForm). FitsAt followed (at + 0) y.0 y.1) same here
-fits_at followed at (suc i) (x ∷ es) k form h e = subst (λ n. FitsAt followed n k form) (omega (arith)) (fits_at followed (at + 1) i es k form h.1 e)
+    let here : FitsAt device followed (at + 0) x.0 x.1 = subst (λ n. FitsAt device followed n x.0 x.1) (omega (arith)) h.0 in
+    subst (λ (y : NodeKey × NodeForm). FitsAt device followed (at + 0) y.0 y.1) same here
+fits_at device followed at (suc i) (x ∷ es) k form h e = subst (λ n. FitsAt device followed n k form) (omega (arith)) (fits_at device followed (at + 1) i es k form h.1 e)
 
 pub number_of : (ns : List Node) (n : Node) → Contains ns n → (at : ℕ) × (slice_get ns at ≡ Some n)
 number_of ns n h = (h.0, slice_get_read ns (length ns) h.0 n refl h.1 (sym h.2))
@@ -25,8 +26,8 @@ number_of ns n h = (h.0, slice_get_read ns (length ns) h.0 n refl h.1 (sym h.2))
 pub claims_are_seeds : ClaimsAreSeeds
 claims_are_seeds c h = record {
   few = h.few_nodes;
-  own = λ at k s e. fits_at (has_pairs c.assumptions) 0 at c.nodes k (State s) h.nodes_fit e;
-  earlier = λ at m k e. omega (arith, (fits_at (has_pairs c.assumptions) 0 at c.nodes k (From m) h.nodes_fit e).1);
+  own = λ at k s e. fits_at c.device (has_pairs c.assumptions) 0 at c.nodes k (State s) h.nodes_fit e;
+  earlier = λ at m k e. omega (arith, (fits_at c.device (has_pairs c.assumptions) 0 at c.nodes k (From m) h.nodes_fit e).1);
 }
 
 pub conditions_make_families_sound : ConditionsMakeFamiliesSound

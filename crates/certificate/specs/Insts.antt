@@ -1,29 +1,31 @@
 -- The instances of a certificate. Source: own.
-use Rattle.std.specs.Prelude.{ℕ, ◌*◌, ◌-◌, ◌==◌, ◌&&◌, ◌||◌, ◌≡◌, ◌<◌, ◌≤◌, ◌^◌, not, nat_lt, nat_le, Bool, true, List, [], ◌∷◌, map, if◌then◌else◌}
-use Rattle.avr_model.specs.Image.{WORDS}
-use Rattle.avr_model.specs.State.{SIZE}
+use Rattle.std.specs.Prelude.{ℕ, ◌*◌, ◌-◌, ◌==◌, ◌&&◌, ◌||◌, ◌≡◌, ◌<◌, ◌≤◌, ◌^◌, not, nat_lt, Bool, true, List, [], ◌∷◌, map, if◌then◌else◌}
+use Rattle.avr_model.specs.declared.device.Device.{Device}
+use Rattle.avr_model.specs.Devices.{limit_of, depth_of}
+use Rattle.avr_model.specs.Vectors.{is_vector, enable_count}
 use Rattle.mask_states.specs.declared.keys.Kind.{Kind}
 use Rattle.mask_states.specs.declared.keys.Kind.TheVariants.{Root, Call, Vector}
 use Rattle.mask_states.specs.declared.keys.InstKey.{InstKey}
 use Rattle.mask_states.specs.Order.{same_inst}
 use Rattle.certificate.specs.declared.instance.Inst.{Inst}
 
--- a vector's word, from vector 2 on; vectors are two words long, or one on smaller devices
+-- a vector's word, from vector 2 on; vectors are two words long, or one, as the device's row says
 abbrev pub is_vector_word : ℕ → ℕ → Bool
 is_vector_word v entry = (entry == 2 * (v - 1)) || (entry == v - 1)
 
--- The root begins at word 0 with no vector enabled and I clear. A call begins at any word, a vector at its own word with I clear.
-abbrev pub fits_kind : Kind → ℕ → ℕ → Bool → Bool
-fits_kind Root entry masks i = (entry == 0) && (masks == 0) && not i
-fits_kind Call entry masks i = nat_lt entry WORDS
-fits_kind (Vector v) entry masks i = nat_le 2 v && nat_le v 26 && is_vector_word v entry && not i
+-- The root begins at word 0 with no vector enabled and I clear. A call begins at any word that the device's texts admit, one of its
+-- vectors at its own word with I clear.
+abbrev pub fits_kind : Device → Kind → ℕ → ℕ → Bool → Bool
+fits_kind device Root entry masks i = (entry == 0) && (masks == 0) && not i
+fits_kind device Call entry masks i = nat_lt entry (limit_of device)
+fits_kind device (Vector v) entry masks i = is_vector device v && is_vector_word v entry && not i
 
--- the numbers are in range
-pub record IsInst (x : Inst) : Type 0 where
-  pub kind : fits_kind x.key.kind x.key.entry x.key.masks x.key.i ≡ true
-  pub masks : x.key.masks < 2 ^ 25
+-- the numbers are in range for the device
+pub record IsInst (device : Device) (x : Inst) : Type 0 where
+  pub kind : fits_kind device x.key.kind x.key.entry x.key.masks x.key.i ≡ true
+  pub masks : x.key.masks < 2 ^ enable_count device
   pub rank : x.rank < 65536
-  pub need : x.need ≤ SIZE
+  pub need : x.need ≤ depth_of device
 
 abbrev pub inst_keys : List Inst → List InstKey
 inst_keys insts = map (λ x. x.key) insts

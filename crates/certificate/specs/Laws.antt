@@ -11,7 +11,7 @@ use Rattle.certificate.specs.Valid.{MeetsConditions, family_of}
 
 -- the invariants of the type are the premises of an expansion
 abbrev pub ClaimsAreSeeds : Type 0
-ClaimsAreSeeds = (c : Claim) → IsClaim c → AreSeeds (has_pairs c.assumptions) c.nodes
+ClaimsAreSeeds = (c : Claim) → IsClaim c → AreSeeds c.device (has_pairs c.assumptions) c.nodes
 
 -- if the conditions hold of the expanded nodes, these are a sound family with the certificate's ranks and needs
 abbrev pub ConditionsMakeFamiliesSound : Type 0

@@ -52,6 +52,8 @@ pub record IsBounded (words : Program) (c : Claim) : Type 0 where
   pub small : c.bound ≤ size_of (device_of words)
 
 pub record MeetsConditions (words : Program) (A : List Entry) (c : Claim) (nodes : List Node) : Type 0 where
+  -- a certificate is judged for its device alone
+  pub device : c.device ≡ device_of words
   -- 1: the node at reset is in the certificate, with a state above the reset state
   pub reset : IsCovered nodes (reset_node A)
   pub faultless : AreFaultless words A nodes

@@ -9,6 +9,6 @@ pub struct Inst {
     pub key: InstKey,
     /// Above the ranks of all instances that it enters, at most 65,535.
     pub rank: u32,
-    /// The bytes that it needs below its base with all that it enters, at most 2,048.
+    /// The bytes that it needs below its base with all that it enters, at most the depth of the device.
     pub need: u32,
 }

@@ -1,5 +1,5 @@
 -- The reached nodes of a family that meets the conditions meet them too.
-use Rattle.std.proofs.Common.{refl, ℕ, List, Contains}
+use Rattle.std.proofs.Common.{refl, List, Contains}
 use Rattle.avr_model.specs.declared.assumption.Entry.{Entry}
 use Rattle.avr_model.specs.Devices.{Program}
 use Rattle.abs_state.specs.Frames.{entered}
@@ -34,6 +34,7 @@ module _ (words : Program) (A : List Entry) (nodes reached : List Node) (are : A
   pub meets_reached : (c : Claim) → MeetsConditions words A c nodes → MeetsConditions words A c reached
   meets_reached c meets =
       record {
+        device = meets.device;
         reset = covered_down (reset_node A) meets.reset at_reset;
         faultless = λ n h. meets.faultless n (of_family n h);
         edges = λ n e h is.

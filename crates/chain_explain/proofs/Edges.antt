@@ -7,7 +7,7 @@ use Rattle.basics.specs.Items.{place_of_contained, contained_at, only_one_in, co
 use Rattle.basics.specs.Lists.{one_at, get_inside}
 use Rattle.edge_rules.specs.Places.{found_at}
 use Rattle.avr_model.specs.declared.assumption.Entry.{Entry}
-use Rattle.avr_model.specs.Devices.{Program}
+use Rattle.avr_model.specs.Devices.{Program, device_of}
 use Rattle.mask_states.specs.declared.keys.InstKey.{InstKey}
 use Rattle.mask_states.specs.declared.keys.NodeKey.{NodeKey}
 use Rattle.mask_states.specs.declared.keys.EdgeKind.{EdgeKind}
@@ -70,7 +70,7 @@ pub record LeadsByNumber (words : Program) (A : List Entry) (nodes : List Node) 
   pub lands : slice_get nodes j ≡ Some to
   pub key : to.key ≡ edge.to
 
-module _ (words : Program) (A : List Entry) (nodes : List Node) (shown : AreShown nodes) where
+module _ (words : Program) (A : List Entry) (nodes : List Node) (shown : AreShown (device_of words) nodes) where
   -- an edge that enters no instance stays in its own
   pub stays : (n : Node) (e : Edge) → Contains nodes n → IsEdge words A nodes n e → is_move e.kind ≡ true → e.to.inst ≡ n.key.inst
   stays n _ has (moving to clean member) moves =

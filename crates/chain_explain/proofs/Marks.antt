@@ -8,8 +8,9 @@ use Rattle.std.proofs.lemmas.List.{append_assoc}
 use Rattle.std.proofs.lemmas.Option.{none-some, same_Some, slice_get_within}
 use Rattle.basics.specs.Items.{place_of_contained, contained_at, none_in, first_in, further_in, first_or_further}
 use Rattle.basics.specs.Lists.{one_at}
+use Rattle.avr_model.specs.declared.device.Device.{Device}
 use Rattle.avr_model.specs.declared.assumption.Entry.{Entry}
-use Rattle.avr_model.specs.Devices.{Program}
+use Rattle.avr_model.specs.Devices.{Program, device_of}
 use Rattle.mask_states.specs.declared.keys.NodeKey.{NodeKey}
 use Rattle.mask_states.specs.Keys.{root_inst, entry_key}
 use Rattle.mask_states.specs.Order.{node_cmp}
@@ -61,9 +62,9 @@ kept_ascend (mark ∷ marks) [] s = tt
 kept_ascend (true ∷ marks) (x ∷ nodes) s = (all_kept (λ k. node_cmp x.key k ≡ Less) marks nodes s.0, kept_ascend marks nodes s.1)
 kept_ascend (false ∷ marks) (x ∷ nodes) s = kept_ascend marks nodes s.1
 
-pub kept_shown : (marks : List Bool) (nodes kept : List Node) → kept ≡ kept_by marks nodes → AreShown nodes → AreShown kept
-kept_shown marks nodes kept e shown =
-    subst AreShown (sym e)
+pub kept_shown : {device : Device} (marks : List Bool) (nodes kept : List Node) → kept ≡ kept_by marks nodes → AreShown device nodes → AreShown device kept
+kept_shown {device = device} marks nodes kept e shown =
+    subst (AreShown device) (sym e)
     record {
       followed = shown.followed;
       ascending = kept_ascend marks nodes shown.ascending;
@@ -120,7 +121,7 @@ kept_whole marks xs kept i le so_far = sym (so_far ∙ (ap (λ ys. kept ++ ys) (
 
 -- ---- what is kept
 
-module _ (words : Program) (A : List Entry) (nodes : List Node) (shown : AreShown nodes) (all : List (List Landing)) (landed : AreLandings words A nodes all) (root : ℕ)
+module _ (words : Program) (A : List Entry) (nodes : List Node) (shown : AreShown (device_of words) nodes) (all : List (List Landing)) (landed : AreLandings words A nodes all) (root : ℕ)
     (reset : Node) (at : slice_get nodes root ≡ Some reset) (is : reset.key ≡ entry_key root_inst) (marks : List Bool) (marked : AreMarks (leads_by all) (root ∷ []) marks) where
   kept_reached : (n : Node) → Contains (kept_by marks nodes) n → Contains nodes n × IsReached words A nodes n.key
   kept_reached n h =

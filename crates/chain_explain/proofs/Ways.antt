@@ -3,7 +3,7 @@ use Rattle.std.proofs.Common.{◌≡◌, refl, sym, ap, ◌∙◌, subst, ℕ, �
 use Rattle.basics.specs.Items.{place_of_contained, only_one_in, first_in}
 use Rattle.edge_rules.specs.Places.{FoundAt, found_at}
 use Rattle.avr_model.specs.declared.assumption.Entry.{Entry}
-use Rattle.avr_model.specs.Devices.{Program}
+use Rattle.avr_model.specs.Devices.{Program, device_of}
 use Rattle.abs_state.specs.Frames.{entered}
 use Rattle.mask_states.specs.declared.keys.InstKey.{InstKey}
 use Rattle.mask_states.specs.declared.keys.NodeKey.{NodeKey}
@@ -26,7 +26,7 @@ use Rattle.chain_explain.proofs.Edges.{stays}
 use Rattle.chain_explain.proofs.Shifted.{lifted, IsApart, first_up, reached_below, ReachedBelow}
 use Rattle.chain_explain.proofs.Shifted as shifted
 
-module _ (words : Program) (A : List Entry) (nodes : List Node) (shown : AreShown nodes) where
+module _ (words : Program) (A : List Entry) (nodes : List Node) (shown : AreShown (device_of words) nodes) where
   -- ---- where walks begin
 
   -- a walk of a reached node's instance begins at the first node of the instance

@@ -1,5 +1,5 @@
 -- The nodes of a family that edges reach from the node at reset. Source: own.
-use Rattle.std.specs.Prelude.{ℕ, ◌↔◌, List, map, Contains}
+use Rattle.std.specs.Prelude.{◌↔◌, List, map, Contains}
 use Rattle.std.specs.List.Sorted.{IsStrictlySortedBy}
 use Rattle.avr_model.specs.declared.assumption.Entry.{Entry}
 use Rattle.avr_model.specs.Devices.{Program}

@@ -41,7 +41,6 @@ pub fn explain_family(
 {
     filled_or_missing();
     rounds_are_reached();
-    let _count = family.nodes.count();
     let marks = marks_of(task, family)?;
     let reached = kept(task.alloc, &family.nodes, &marks)?;
     let ways = kept_ways(task, family, &marks)?;

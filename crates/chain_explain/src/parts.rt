@@ -1,8 +1,10 @@
 //! The parts of an explanation.
 
 ghost use Rattle.std.specs.Prelude.{◌≡◌, ◌<◌, ◌≤◌, length, IfOk};
+ghost use Rattle.avr_model.specs.Devices.{device_of};
 ghost use Rattle.avr_model.specs.State.{SIZE};
 ghost use Rattle.mask_states.specs.Keys.{offset_of};
+ghost use Rattle.edge_rules.specs.Views.{AreShown};
 ghost use Rattle.chain_explain.specs.Explanation.{adds_by, IsPart, AreParts};
 ghost use Rattle.chain_explain.specs.Reached.{AreReached};
 ghost use Rattle.chain_explain.specs.Moves.{AreMoves, AreThere, moves_by};
@@ -28,12 +30,12 @@ fn adds(key: &NodeKey, kind: Option<EdgeKind>) -> u16
 
 // The part for a link of the chain.
 fn part(task: &Task<'_>, family: &Worked, reached: &Filled, link: &Link) -> Result<Part, AllocError>
+    requires shown { AreShown (device_of task.now.flash.now) family.now.nodes }
     requires moves { AreMoves task.now.flash.now task.now.assumptions.now family.now.nodes (moves_by family.now.landings) }
     requires reached { AreReached task.now.flash.now task.now.assumptions.now family.now.nodes reached.now }
     requires there { link.now.node < length reached.now }
     ensures { IfOk result (IsPart task.now.flash.now task.now.assumptions.now family.now.nodes reached.now link.now) }
 {
-    let _count = family.nodes.count();
     let key = reached.key(link.node as usize);
     let walk = way(task, family, key)?;
     Ok(Part {
@@ -51,6 +53,7 @@ pub(crate) fn parts(
     reached: &Filled,
     links: &[Link],
 ) -> Result<Listed<Part>, AllocError>
+    requires shown { AreShown (device_of task.now.flash.now) family.now.nodes }
     requires moves { AreMoves task.now.flash.now task.now.assumptions.now family.now.nodes (moves_by family.now.landings) }
     requires reached { AreReached task.now.flash.now task.now.assumptions.now family.now.nodes reached.now }
     requires there { AreThere reached.now links.now }

@@ -1,7 +1,9 @@
 //! The nodes of a family that edges reach from the node at reset.
 
 ghost use Rattle.std.specs.Prelude.{◌≡◌, ◌≤◌, length, IfOk};
+ghost use Rattle.avr_model.specs.Devices.{device_of};
 ghost use Rattle.edge_rules.specs.Families.{IsCovered};
+ghost use Rattle.edge_rules.specs.Views.{AreShown};
 ghost use Rattle.call_graph.specs.Landings.{AreLandings};
 ghost use Rattle.certificate.specs.Valid.{reset_node};
 ghost use Rattle.family_graph.specs.Graphs.{AreWays, IsPeopled};
@@ -20,13 +22,13 @@ use std::alloc::{AllocError, Global};
 
 // Whether edges reach each node, by its number, from the one at reset, which exists.
 pub(crate) fn marks_of(task: &Task<'_>, family: &Worked) -> Result<Vec<bool>, AllocError>
+    requires shown { AreShown (device_of task.now.flash.now) family.now.nodes }
     requires few { length family.now.nodes ≤ 65536 }
     requires landings { AreLandings task.now.flash.now task.now.assumptions.now family.now.nodes family.now.landings }
     requires reset { IsCovered family.now.nodes (reset_node task.now.assumptions.now) }
     ensures count { IfOk result (λ marks. length marks.items ≡ length family.now.nodes) }
     ensures reached { IfOk result (λ marks. AreReached task.now.flash.now task.now.assumptions.now family.now.nodes (kept_by marks.items family.now.nodes)) }
 {
-    let _count = family.nodes.count();
     let root = number_of(&family.nodes, &NodeKey::entry(&InstKey::root()));
     let graph = leads(task.alloc, family.landings.as_slice())?;
     reached(task.alloc, &graph, &[root as u32])

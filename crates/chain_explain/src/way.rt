@@ -1,8 +1,10 @@
 //! The path to a place within its instance.
 
 ghost use Rattle.std.specs.Prelude.{ℕ, [], ◌≡◌, ◌+◌, ◌-◌, ◌<◌, ◌≤◌, Contains, length, map, slice_get, slice_index_or, Some, IfOk};
+ghost use Rattle.avr_model.specs.Devices.{device_of};
 ghost use Rattle.local_rules.specs.declared.local.Node.{Node};
 ghost use Rattle.local_laws.specs.Laws.{HasKey};
+ghost use Rattle.edge_rules.specs.Views.{AreShown};
 ghost use Rattle.chain_explain.specs.Reached.{IsReached};
 ghost use Rattle.chain_explain.specs.Walks.{pc_at, IsWay};
 ghost use Rattle.chain_explain.specs.Moves.{AreMoves, IsPortion, moves_of, moves_by};
@@ -75,13 +77,13 @@ pub(crate) fn way(
     family: &Worked,
     key: &NodeKey,
 ) -> Result<Listed<u16>, AllocError>
+    requires shown { AreShown (device_of task.now.flash.now) family.now.nodes }
     requires moves { AreMoves task.now.flash.now task.now.assumptions.now family.now.nodes (moves_by family.now.landings) }
     requires there { HasKey family.now.nodes key.now }
     requires reached { IsReached task.now.flash.now task.now.assumptions.now family.now.nodes key.now }
     ensures { IfOk result (λ walk. (target : ℕ) (n : Node) → slice_get family.now.nodes target ≡ Some n → n.key ≡ key.now → IsWay task.now.flash.now task.now.assumptions.now family.now.nodes key.now.inst target walk) }
 {
     let nodes = &family.nodes;
-    let _count = nodes.count();
     let (low, high) = nodes.span(&key.inst);
     let start = number_of(nodes, &NodeKey::entry(&key.inst));
     let target = number_of(nodes, key);

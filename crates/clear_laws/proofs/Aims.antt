@@ -157,7 +157,7 @@ fold : (r base a d x : ℕ) → r < 65536 → base ≡ r → x ≤ r → r - x �
 fold r base a d x small top fits slot same = omega arith
 
 top_small : (device : Device) → ramend device < 65536
-top_small device = omega (arith, devices_are_alike.most_bytes device)
+top_small device = omega (arith, devices_are_alike.most_bytes device, devices_are_alike.most_io device)
 
 number_slot : (device : Device) (c : Option ℕ) (base a d : ℕ) → base ≡ ramend device → ((x : ℕ) → c ≡ Some x → a ≡ x) → slot_at_number device c ≡ Some d
     → a ≡ minus16 base d

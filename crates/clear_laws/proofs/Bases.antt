@@ -1,5 +1,5 @@
 -- The needs of suspended frames bound the base of the frame above them.
-use Rattle.std.proofs.Common.{ℕ, ◌+◌, ◌≤◌, List, [], ◌∷◌, ap, arith}
+use Rattle.std.proofs.Common.{◌+◌, ◌≤◌, List, [], ◌∷◌, ap, arith}
 use Rattle.avr_model.specs.Devices.{Program, ramend, device_of}
 use Rattle.avr_model.specs.declared.assumption.Entry.{Entry}
 use Rattle.avr_model.specs.State.{Memory}

@@ -15,9 +15,9 @@ use Rattle.avr_model.specs.declared.instruction.Instr.{Instr}
 use Rattle.avr_model.specs.declared.instruction.Instr.TheVariants as i
 use Rattle.avr_model.specs.Assumptions.{is_never, is_fixed_site}
 use Rattle.avr_model.specs.Masks.{is_flagged_write}
-use Rattle.avr_model.specs.Devices.{Program, ramend, device_of}
+use Rattle.avr_model.specs.Devices.{Program, io_end, ramend, device_of}
 use Rattle.avr_model.specs.Sites.{instruction_at, is_scratch}
-use Rattle.avr_model.specs.State.{BELOW, State, is_live}
+use Rattle.avr_model.specs.State.{State, is_live}
 use Rattle.avr_model.specs.Vectors.{vector_word}
 use Rattle.avr_model.specs.Effects.{effect_of}
 use Rattle.avr_model.specs.Step.{Overflow, Flagged, after, all_inside, live_write, flagged_write, protected_write, unlisted_transfer, is_pointer_store, is_indirect, is_unlisted, flag_by, flagged_or, may_take, go, step}
@@ -95,6 +95,9 @@ module _ (words : Program) (A : List Entry) (f : RankedFamily) (n : Node) where
   -- With pairs, a store that may reach neither the stack nor an address that is flagged as protected goes to harmless addresses only.
   module _ (instr : Instr) (is : instruction_at words n.key.pc ≡ Some instr) (followed : is_followed n.state.facts ≡ true) (direct : is_indirect instr ≡ false)
       (dead : may_write_stack (device_of words) f.bound n.state instr ≡ false) (free : may_write_some_protected words A n.key.pc n.state instr ≡ false) where
+    abbrev below : ℕ
+    below = io_end (device_of words)
+
     abbrev last : ℕ
     last = ramend (device_of words)
 
@@ -103,10 +106,10 @@ module _ (words : Program) (A : List Entry) (f : RankedFamily) (n : Node) where
         let same : last - (last - a) ≡ a = omega (arith, le) in
         never_both _ (any_found (λ d. may_write n.state instr (last - d)) (last - a) f.bound (omega (arith, le, lt)) (ap (may_write n.state instr) same ∙ may)) dead
 
-    unflagged : (a : ℕ) → may_write n.state instr a ≡ true → a ≤ BELOW → is_flagged_address words A n.key.pc n.state instr a ≡ false
+    unflagged : (a : ℕ) → may_write n.state instr a ≡ true → a ≤ below → is_flagged_address words A n.key.pc n.state instr a ≡ false
     unflagged a may low =
         never (is_flagged_address words A n.key.pc n.state instr a)
-        (λ flagged. never_both _ (any_found (may_write_protected words A n.key.pc n.state instr) a 256 (omega (arith, low)) (and_from _ _ flagged may)) free)
+        (λ flagged. never_both _ (any_found (may_write_protected words A n.key.pc n.state instr) a (below + 1) (omega (arith, low)) (and_from _ _ flagged may)) free)
 
     harmless_address : (a : ℕ) → a < 65536 → may_write n.state instr a ≡ true → is_address_harmless words A f.bound n.key.pc n.state instr a ≡ true
     harmless_address a small may =
@@ -114,9 +117,9 @@ module _ (words : Program) (A : List Entry) (f : RankedFamily) (n : Node) where
         (λ above.
         ⊎_elim (λ over. or_left _ _ (or_right _ _ (test_from_less last a over)))
         (λ inside.
-        or_left _ _ (or_left _ _ (and_from (nat_lt BELOW a) (nat_le (a + f.bound) last) (test_from_less BELOW a above)
+        or_left _ _ (or_left _ _ (and_from (nat_lt below a) (nat_le (a + f.bound) last) (test_from_less below a above)
         (test_from_at_most (a + f.bound) last (⊎_elim (λ no. absurd (unreached a may inside no)) (λ within. within) (cases_lt last (a + f.bound))))))) (cases_lt last a))
-        (λ low. or_right _ _ (and_from (nat_le a BELOW) _ (test_from_at_most a BELOW low) (ap not (unflagged a may low)))) (cases_lt BELOW a)
+        (λ low. or_right _ _ (and_from (nat_le a below) _ (test_from_at_most a below low) (ap not (unflagged a may low)))) (cases_lt below a)
 
     pub clear_store : IsClear words A f n
     clear_store =
@@ -252,7 +255,7 @@ module _ (words : Program) (A : List Entry) (f : RankedFamily) where
         inr (inr (caused (λ s y. not (is_transfer_listed words A pc s y)) instr is
         (subst (λ q. not (is_transfer_listed words A q may.node.state instr) ≡ true) may.is (not_listed words A f may.node instr is indirect may.unclear))))
     by_tests instr is false true indirect some =
-        let found = found_below (may_write_protected words A pc may.node.state instr) 256 some in
+        let found = found_below (may_write_protected words A pc may.node.state instr) (io_end (device_of words) + 1) some in
         inl (found.0, caused (λ s y. may_write_protected words A pc s y found.0) instr is found.1.1)
     by_tests instr is false false indirect some =
         inr (inl (caused (may_write_live words A f.bound pc) instr is

@@ -1,5 +1,6 @@
 -- The stores and pushes of each instruction.
 use Rattle.std.proofs.Common.{◌≡◌, refl, subst, ℕ, ◌<◌, ◌≤◌, Bool, true, false, List, [], Option, Some, None, arith}
+use Rattle.avr_model.proofs.AllLaws.{devices_are_alike}
 use Rattle.avr_model.specs.declared.assumption.Entry.{Entry}
 use Rattle.avr_model.specs.declared.device.Device.{Device}
 use Rattle.avr_model.specs.declared.instruction.Instr.{Instr}
@@ -11,9 +12,9 @@ use Rattle.avr_model.specs.declared.instruction.ImmediateOp.TheVariants as immed
 use Rattle.avr_model.specs.declared.instruction.UnaryOp.{UnaryOp}
 use Rattle.avr_model.specs.declared.instruction.UnaryOp.TheVariants as unary
 use Rattle.avr_model.specs.declared.effect.Effect.{Effect}
-use Rattle.avr_model.specs.Devices.{Program, wrapped}
+use Rattle.avr_model.specs.Devices.{Program, io_end, wrapped}
 use Rattle.avr_model.specs.Text.{far}
-use Rattle.avr_model.specs.State.{State, BELOW, register}
+use Rattle.avr_model.specs.State.{State, register}
 use Rattle.avr_model.specs.Effects.{set, port, way_back, binary_effect, immediate_effect, unary_effect, effect_of}
 use Rattle.avr_model.specs.Step.{is_pointer_store}
 use Rattle.bit_domain.specs.declared.bits.Tri.TheVariants.{Any}
@@ -49,7 +50,7 @@ IsSpWhole sp = (offset : ℕ) × (sp ≡ Closed offset)
 -- frame.
 pub data Does (device : Device) (m : State) (base : ℕ) (k : NodeKey) (s : AbsState) (instr : Instr) (e : Effect) (row guarded_row : Raw) : Type 0 where
   nothing : e.stores ≡ [] → e.pushes ≡ [] → Does device m base k s instr e row guarded_row
-  to_port : (a byte : ℕ) → a ≤ BELOW → is_pointer_store instr ≡ false → e.stores ≡ set a byte → e.pushes ≡ [] → Does device m base k s instr e row guarded_row
+  to_port : (a byte : ℕ) → a ≤ io_end device → is_pointer_store instr ≡ false → e.stores ≡ set a byte → e.pushes ≡ [] → Does device m base k s instr e row guarded_row
   by_aim : (a byte : ℕ) (aim : Aim) → aim_of device k s instr ≡ Some aim → IsAimed base aim a → may_write s instr a ≡ true → Has (stored_bits s instr) byte → e.stores ≡ set a byte → e.pushes ≡ []
       → Does device m base k s instr e row guarded_row
   pushing : (byte : ℕ) → is_push instr ≡ true → pushes instr ≡ true → (row.faults ≡ [] → IsSpWhole k.sp) → e.is_open ≡ false → e.stores ≡ []
@@ -88,8 +89,8 @@ module _ (device : Device) (k : NodeKey) where
   whole_relative true s target h = whole_at k.sp k.pc _ h
   whole_relative false s target h = whole_by k.sp k.pc _ h
 
-port_low : (a : ℕ) → a < 64 → port a ≤ BELOW
-port_low a h = omega arith
+port_low : (device : Device) (a : ℕ) → a < 64 → port a ≤ io_end device
+port_low device a h = omega (arith, devices_are_alike.least_io device)
 
 -- ---- operations on registers
 
@@ -162,14 +163,17 @@ module _ {followed may : Bool} (words : Program) (A : List Entry) (m : State) (o
   does_by (i.Ld d p) fits = nothing refl refl
   does_by (i.St p r) fits = by_aim _ _ _ refl (by_pointer m o k s at p) (pointer_permitted m o k s at p) (holds r) refl refl
   does_by (i.LpmZ d) fits = nothing refl refl
+  does_by (i.ElpmZ d) fits = nothing refl refl
   does_by (i.LpmZPlus d) fits = nothing refl refl
+  does_by (i.ElpmZPlus d) fits = nothing refl refl
   does_by i.Lpm fits = nothing refl refl
+  does_by i.Elpm fits = nothing refl refl
   does_by (i.Pop d) fits = nothing refl refl
   does_by (i.Push r) fits = pushing _ refl refl (whole_at k.sp k.pc _) refl refl refl
   does_by (i.In d a) fits = nothing refl refl
-  does_by (i.Out a r) fits = to_port (port a) _ (port_low a fits) refl refl refl
-  does_by (i.Cbi a b) fits = to_port (port a) _ (port_low a fits) refl refl refl
-  does_by (i.Sbi a b) fits = to_port (port a) _ (port_low a fits) refl refl refl
+  does_by (i.Out a r) fits = to_port (port a) _ (port_low m.device a fits) refl refl refl
+  does_by (i.Cbi a b) fits = to_port (port a) _ (port_low m.device a fits) refl refl refl
+  does_by (i.Sbi a b) fits = to_port (port a) _ (port_low m.device a fits) refl refl refl
   does_by i.Ijmp fits = nothing refl refl
   does_by i.Icall fits =
       entering _ (no_indirect_moves m.device k (targets_at m.device A k t)) refl (whole_indirect m.device k (targets_at m.device A k t)) refl refl refl

@@ -10,6 +10,7 @@ use Rattle.basics.specs.Lists.{get_inside}
 use Rattle.edge_rules.specs.Places.{found_at}
 use Rattle.certificate.proofs.AllLaws.{number_of}
 use Rattle.avr_model.specs.declared.assumption.Entry.{Entry}
+use Rattle.avr_model.specs.declared.device.Device.{Device}
 use Rattle.avr_model.specs.Devices.{Program}
 use Rattle.mask_states.specs.declared.keys.NodeKey.{NodeKey}
 use Rattle.mask_states.specs.Keys.{offset_of}
@@ -27,7 +28,8 @@ offset_there [] at n e = absurd (none-some n e)
 offset_there (x ∷ nodes) zero n e = ap (λ (m : Node). offset_of m.key.sp) (same_Some x n e)
 offset_there (x ∷ nodes) (suc at) n e = offset_there nodes at n e
 
-module _ (words : Program) (A : List Entry) (nodes : List Node) (links : List (List ℕ)) (offsets : List ℕ) (seeds : List SlotSeed) (are : AreLinks words A nodes links offsets seeds) (shown : AreShown nodes) where
+module _ (words : Program) (A : List Entry) (nodes : List Node) (links : List (List ℕ)) (offsets : List ℕ) (seeds : List SlotSeed) (are : AreLinks words A nodes links offsets seeds)
+    {device : Device} (shown : AreShown device nodes) where
   abbrev Reaching : ℕ → ℕ → Type 0
   Reaching d k = SlotReaches links offsets seeds d k
 
@@ -74,4 +76,4 @@ module _ (words : Program) (A : List Entry) (nodes : List Node) (links : List (L
   held_there k d n is = (λ r. reaches_holds d k r n is, λ h. holds_reaches n.key d h k (own_number nodes k n shown is))
 
 pub slots_spread_along_links : SlotsSpreadAlongLinks
-slots_spread_along_links words A nodes links offsets seeds are shown at d n is = held_there words A nodes links offsets seeds are shown at d n is
+slots_spread_along_links device words A nodes links offsets seeds are shown at d n is = held_there words A nodes links offsets seeds are shown at d n is

@@ -63,8 +63,8 @@ fits base sp a offset is_open form e is h = let at = subst (SpIs base is_open sp
 open_is : (base : ℕ) (is_open : Bool) (sp offset : ℕ) (h : High) (form : SpForm) → form ≡ Open offset h → SpIs base is_open sp form → is_open ≡ true
 open_is base is_open sp offset h form e is = (subst (SpIs base is_open sp) e is).0
 
-few_live : (n : State) → IsMachine n → length n.memory.live ≤ 2048
-few_live n machine = omega (arith, machine.count_live, devices_are_alike.most_bytes n.device)
+few_live : (n : State) → IsMachine n → n.memory.below + length n.memory.live < 16896
+few_live n machine = omega (arith, machine.below, machine.count_live, devices_are_alike.most_bytes n.device, devices_are_alike.most_io n.device)
 
 module _ (words : Program) (A : List Entry) (f : RankedFamily) (sound : IsSoundFamily words A f) where
   -- if the running frame's stack pointer is whole
@@ -97,7 +97,7 @@ module _ (words : Program) (A : List Entry) (f : RankedFamily) (sound : IsSoundF
 
     -- a slot that was live is one of the running frame's
     slot_below : (d : ℕ) → is_live m.memory (g.origin.base - d) ≡ true → d < offset_of g.node.key.sp
-    slot_below d live = omega (arith, holds.above (g.origin.base - d) live, above_if_live m.memory.live (g.origin.base - d) live)
+    slot_below d live = omega (arith, holds.above (g.origin.base - d) live, above_if_live m.memory.below m.memory.live (g.origin.base - d) live)
 
     module _ (b1 b2 : ℕ) (to : Node) (state : AbsState) (faultless : IsFaultless words A g.node) (member : Contains (joined_onto [] (raw_of words A g.node).moves) to) where
       abbrev h : Frame
@@ -118,7 +118,7 @@ module _ (words : Program) (A : List Entry) (f : RankedFamily) (sound : IsSoundF
       -- a pushed byte is in the slot that this move adds
       new_slot : (d : ℕ) → Fresh words A g n (Go b1 b2) (g.origin.base - d) → is_live n.memory (g.origin.base - d) ≡ true → MayHold words A f.nodes to.key d
       new_slot d new live =
-          let inside = above_if_live n.memory.live (g.origin.base - d) live in
+          let inside = above_if_live n.memory.below n.memory.live (g.origin.base - d) live in
           ⊎_elim
           (λ p.
           let same : offset_of g.node.key.sp ≡ d = omega (arith, p.1, inside, ap offset_of new.closed) in
@@ -207,7 +207,7 @@ module _ (words : Program) (A : List Entry) (f : RankedFamily) (sound : IsSoundF
     whole_at_take : (v : ℕ) (clears : Bool) (h : Frame) (hs : List Frame) → Change words A g gs (Take v clears) h hs → IsSpWhole g.node.key.sp
     whole_at_take _ _ _ _ (interrupted v clears state o enters over) = whole_where_entered enters
 
-    comes : (few : length n.memory.live ≤ 2048) (c : Choice) (h : Frame) (hs : List Frame) → Change words A g gs c h hs → step words A m c ≡ Done n → ComesFrom words A g m n c
+    comes : (few : n.memory.below + length n.memory.live < 16896) (c : Choice) (h : Frame) (hs : List Frame) → Change words A g gs c h hs → step words A m c ≡ Done n → ComesFrom words A g m n c
     comes few (Go b1 b2) h hs change e = comes_by_go words A f sound m n few g gs runs b1 b2 e
     comes few (Take v clears) h hs change e = comes_by_take words A f sound m n few g gs runs v clears e (whole_at_take v clears h hs change)
 

@@ -4,6 +4,7 @@ use Rattle.std.proofs.lemmas.Bool.{cases_lt}
 use Rattle.std.proofs.lemmas.Option.{same_Some, slice_get_within, get_or_from_slice_get}
 use Rattle.edge_rules.specs.Places.{found_at, none_from, pair}
 use Rattle.local_laws.proofs.AllLaws.{never_before}
+use Rattle.avr_model.specs.declared.device.Device.{Device}
 use Rattle.mask_states.specs.declared.keys.NodeKey.{NodeKey}
 use Rattle.local_rules.specs.declared.local.Node.{Node}
 use Rattle.edge_rules.specs.Views.{AreShown, place_of}
@@ -28,13 +29,13 @@ there_is k nodes n h same = by (place_of k nodes) refl
 
 -- ---- a node's own number is that of its key
 
-pub one_number : (nodes : List Node) (i j : ℕ) (a b : Node) → AreShown nodes → slice_get nodes i ≡ Some a → slice_get nodes j ≡ Some b → a.key ≡ b.key → i ≡ j
+pub one_number : {device : Device} (nodes : List Node) (i j : ℕ) (a b : Node) → AreShown device nodes → slice_get nodes i ≡ Some a → slice_get nodes j ≡ Some b → a.key ≡ b.key → i ≡ j
 one_number nodes i j a b shown ea eb same =
     ⊎_elim (λ lt. absurd (never_before a.key b.key same (pair nodes i j a b shown.ascending ea eb lt)))
     (λ le. ⊎_elim (λ lt. absurd (never_before b.key a.key (sym same) (pair nodes j i b a shown.ascending eb ea lt))) (λ ge. omega (arith, le, ge)) (cases_lt j i))
     (cases_lt i j)
 
-pub own_number : (nodes : List Node) (j : ℕ) (n : Node) → AreShown nodes → slice_get nodes j ≡ Some n → place_of n.key nodes ≡ Some j
+pub own_number : {device : Device} (nodes : List Node) (j : ℕ) (n : Node) → AreShown device nodes → slice_get nodes j ≡ Some n → place_of n.key nodes ≡ Some j
 own_number nodes j n shown e =
     let there = there_is n.key nodes n (contains_at nodes j n e) refl in
     let found = found_at n.key nodes there.0 there.1 in

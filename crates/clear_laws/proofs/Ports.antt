@@ -1,14 +1,14 @@
 -- I/O register numbers in instructions are below 64.
-use Rattle.std.proofs.Common.{◌≡◌, refl, subst, ℕ, ◌+◌, ◌<◌, ◌&&◌, not, Bool, true, false, List, [], ◌∷◌, Option, Some, None, if◌then◌else◌, arith}
+use Rattle.std.proofs.Common.{◌≡◌, refl, subst, ℕ, ◌+◌, ◌<◌, Bool, true, false, List, [], ◌∷◌, Option, Some, None, if◌then◌else◌, arith}
 use Rattle.std.specs.Prelude.{⊤}
 use Rattle.local_laws.proofs.AllLaws.{bound_of, letter_below}
 use Rattle.avr_model.specs.declared.device.Device.{Device}
 use Rattle.avr_model.specs.declared.instruction.Instr.{Instr}
 use Rattle.avr_model.specs.declared.instruction.Instr.TheVariants as i
-use Rattle.avr_model.specs.Devices.{Program, has_jmp, device_of}
+use Rattle.avr_model.specs.Devices.{Program, device_of}
 use Rattle.avr_model.specs.Image.{word_at}
 use Rattle.avr_model.specs.Pattern.{places, letter}
-use Rattle.avr_model.specs.Sites.{instruction_at, on_device, is_long_transfer}
+use Rattle.avr_model.specs.Sites.{instruction_at, on_device, is_lacking}
 use Rattle.avr_model.specs.Table.{Row, fields, matches, table, decoded, decoded_by}
 
 abbrev pub PortFits : Instr → Type 0
@@ -51,7 +51,7 @@ decoded_fits w next instr e = rows_fit table w next instr (table_fits w next) e
 -- a device either lacks an instruction or has it unchanged
 device_fits : (device : Device) (x : Option Instr) (instr : Instr) → ((y : Instr) → x ≡ Some y → PortFits y) → on_device device x ≡ Some instr → PortFits instr
 device_fits device None instr h e = absurd (cc)
-device_fits device (Some y) instr h e = by (is_long_transfer y && not (has_jmp device)) e
+device_fits device (Some y) instr h e = by (is_lacking device y) e
   where
     by : (b : Bool) → (if b then None else Some y) ≡ Some instr → PortFits instr
     by true e = absurd (cc)

@@ -5,7 +5,7 @@ use Rattle.avr_model.specs.declared.assumption.Entry.{Entry}
 use Rattle.avr_model.specs.declared.choice.Choice.{Choice}
 use Rattle.avr_model.specs.declared.choice.Flag.{Flag}
 use Rattle.avr_model.specs.declared.choice.Stop.TheVariants as stop
-use Rattle.avr_model.specs.State.{State, IsReset, BELOW, live_in}
+use Rattle.avr_model.specs.State.{State, IsReset, live_in}
 use Rattle.avr_model.specs.Step.{Answer, Illegal, Undefined, Overflow, Flagged, Done, step}
 use Rattle.avr_model.specs.Run.{IsRun, RunsOn, stop_of, stop_on}
 use Rattle.local_rules.specs.Machine.{AreWords}
@@ -28,11 +28,11 @@ none_at (suc n) (suc i) = none_at n i
 and_second : (a b : Bool) → b ≡ false → (a && b) ≡ true → ⊥
 and_second a b h e = grind arith
 
-none_live : (n : ℕ) (live : List Bool) (a : ℕ) → live ≡ replicate n false → live_in live a ≡ true → ⊥
+none_live : (n below : ℕ) (live : List Bool) (a : ℕ) → live ≡ replicate n false → live_in below live a ≡ true → ⊥
 unfolding live_in
-none_live n live a e h =
-    and_second (nat_lt BELOW a) (slice_index_or live (a - (BELOW + 1)) false)
-    (ap (λ (l : List Bool). slice_index_or l (a - (BELOW + 1)) false) e ∙ none_at n (a - (BELOW + 1))) h
+none_live n below live a e h =
+    and_second (nat_lt below a) (slice_index_or live (a - (below + 1)) false)
+    (ap (λ (l : List Bool). slice_index_or l (a - (below + 1)) false) e ∙ none_at n (a - (below + 1))) h
 
 flag_same : (p q : Flag) → stop.Flag p ≡ stop.Flag q → p ≡ q
 flag_same p q e = cc
@@ -95,7 +95,7 @@ module _ (words : Program) (A : List Entry) (f : RankedFamily) (sized : AreWords
       let start = frames_start.starts words A f m sound.formed sound.reset reset in
       told_from choices m _ [] start.runs
       record {
-        above = λ a live. absurd (none_live (size_of (device_of words)) m.memory.live a reset.none_live live);
+        above = λ a live. absurd (none_live (size_of (device_of words)) m.memory.below m.memory.live a reset.none_live live);
         depth = omega arith;
         running = λ d lt live. absurd (omega (arith, lt));
         left = tt;

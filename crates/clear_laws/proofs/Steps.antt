@@ -96,7 +96,7 @@ above_after : (m : State) (guarded : Bool) (e : Effect) → IsLiveAbove (after m
 above_after m guarded e whole a h = above_by m.memory _ e.stores e.pushes a guarded _ whole h
 
 -- a byte of the return address lies at the stack pointer or below
-way_low : (sp back base offset a : ℕ) → sp + offset ≡ base → a < 2304 → IsPushedAt (way_back sp back) a → a + offset ≤ base
+way_low : (sp back base offset a : ℕ) → sp + offset ≡ base → a < 16896 → IsPushedAt (way_back sp back) a → a + offset ≤ base
 way_low sp back base offset a at inside (inl e) = omega arith
 way_low sp back base offset a at inside (inr (inl e)) = omega arith
 way_low sp back base offset a at inside (inr (inr e)) = absurd e
@@ -109,13 +109,13 @@ guarded_by words pc pc' instr same is push guarded =
 pub whole_sp : (base : ℕ) (is_open : Bool) (sp offset : ℕ) (form : SpForm) → form ≡ Closed offset → SpIs base is_open sp form → sp + offset ≡ base
 whole_sp base is_open sp offset form e h = (subst (SpIs base is_open sp) e h).1
 
-module _ (words : Program) (A : List Entry) (f : RankedFamily) (sound : IsSoundFamily words A f) (m n : State) (few : length n.memory.live ≤ 2048) (g : Frame) (gs : List Frame)
+module _ (words : Program) (A : List Entry) (f : RankedFamily) (sound : IsSoundFamily words A f) (m n : State) (few : n.memory.below + length n.memory.live < 16896) (g : Frame) (gs : List Frame)
     (runs : Runs words A f m g gs) where
   at_sp : (offset : ℕ) → g.node.key.sp ≡ Closed offset → m.sp + offset ≡ g.origin.base
   at_sp offset e = whole_sp g.origin.base m.is_open m.sp offset g.node.key.sp e runs.running.place.sp
 
-  low_live : (a : ℕ) → is_live n.memory a ≡ true → a < 2304
-  low_live a live = omega (arith, inside_if_live n.memory.live a live, few)
+  low_live : (a : ℕ) → is_live n.memory a ≡ true → a < 16896
+  low_live a live = omega (arith, inside_if_live n.memory.below n.memory.live a live, few)
 
   module _ (b1 b2 : ℕ) (w : Went words m n b1 b2) where
     abbrev k : NodeKey
@@ -149,7 +149,7 @@ module _ (words : Program) (A : List Entry) (f : RankedFamily) (sound : IsSoundF
     whole : effect.is_open ≡ false → effect.stores ≡ [] → n.is_open ≡ false
     whole closed none = sym open_is ∙ ap₂ open_after closed none
 
-    fresh : (a : ℕ) → a < 2304 → not (is_scratch words m.pc) ≡ true → IsPushedAt effect.pushes a
+    fresh : (a : ℕ) → a < 16896 → not (is_scratch words m.pc) ≡ true → IsPushedAt effect.pushes a
         → Does (device_of words) m g.origin.base k g.node.state w.instr effect (row_of (device_of words) words A scratch k state w.instr) (row_of (device_of words) words A false k state w.instr)
         → Fresh words A g n (Go b1 b2) a
     fresh a inside guarded at (nothing stores pushes) = absurd (subst (λ ws. IsPushedAt ws a) pushes at)

@@ -9,9 +9,8 @@ use Rattle.avr_model.specs.declared.device.Device.{Device}
 use Rattle.avr_model.specs.declared.instruction.Instr.{Instr}
 use Rattle.avr_model.specs.Assumptions.{jump_line, lists}
 use Rattle.avr_model.specs.Bits.{all_below}
-use Rattle.avr_model.specs.Devices.{Program, ramend, wrapped, device_of}
+use Rattle.avr_model.specs.Devices.{Program, io_end, ramend, wrapped, device_of}
 use Rattle.avr_model.specs.Sites.{instruction_at}
-use Rattle.avr_model.specs.State.{BELOW}
 use Rattle.avr_model.specs.Step.{is_indirect}
 use Rattle.pair_domain.specs.Facts.{is_followed}
 use Rattle.abs_state.specs.declared.state.AbsState.{AbsState}
@@ -85,38 +84,41 @@ module _ (words : Program) (A : List Entry) (f : RankedFamily) (n : Node) (held 
   abbrev Holds : Type 0
   Holds = (d : ℕ) → d < offset_of n.key.sp → held d ≡ true → MayHold words A f.nodes n.key d
 
+  abbrev below : ℕ
+  below = io_end (device_of words)
+
   abbrev top : ℕ
   top = ramend (device_of words)
 
   module _ (instr : Instr) (aim : Aim) where
     module _ (span : Span) where
       abbrev under : Bool
-      under = nat_lt BELOW span.first && nat_le (span.last + f.bound) top
+      under = nat_lt below span.first && nat_le (span.last + f.bound) top
 
       abbrev over : Bool
       over = nat_lt top span.first
 
       abbrev single : Bool
-      single = (span.first == span.last) && nat_le span.first BELOW && not (is_flagged_address words A n.key.pc n.state instr span.first)
+      single = (span.first == span.last) && nat_le span.first below && not (is_flagged_address words A n.key.pc n.state instr span.first)
 
       by_span : aim.reach ≡ reach.Within span → is_span_harmless words A f.bound n.key.pc n.state instr span ≡ true → IsHarmless words A f n instr aim
       by_span is h = ⊎_elim (λ first. ⊎_elim by_under by_over (or_cases under over first)) by_single (or_cases (under || over) single h)
         where
           by_under : under ≡ true → IsHarmless words A f n instr aim
           by_under t =
-              let parts = and_parts (nat_lt BELOW span.first) (nat_le (span.last + f.bound) top) t in
-              under_stack span is (less_from_test BELOW span.first parts.0) (at_most_from_test (span.last + f.bound) top parts.1)
+              let parts = and_parts (nat_lt below span.first) (nat_le (span.last + f.bound) top) t in
+              under_stack span is (less_from_test below span.first parts.0) (at_most_from_test (span.last + f.bound) top parts.1)
 
           by_over : over ≡ true → IsHarmless words A f n instr aim
           by_over t = above_memory span is (less_from_test top span.first t)
 
           by_single : single ≡ true → IsHarmless words A f n instr aim
           by_single t =
-              let outer = and_parts ((span.first == span.last) && nat_le span.first BELOW) (not (is_flagged_address words A n.key.pc n.state instr span.first)) t in
-              let inner = and_parts (span.first == span.last) (nat_le span.first BELOW) outer.0 in
+              let outer = and_parts ((span.first == span.last) && nat_le span.first below) (not (is_flagged_address words A n.key.pc n.state instr span.first)) t in
+              let inner = and_parts (span.first == span.last) (nat_le span.first below) outer.0 in
               let same : span.first ≡ span.last = eqb-true span.first span.last inner.0 in
               one_register span.first (is ∙ ap reach.Within (one_span span same))
-              (at_most_from_test span.first BELOW inner.1) (not-true (is_flagged_address words A n.key.pc n.state instr span.first) outer.1)
+              (at_most_from_test span.first below inner.1) (not-true (is_flagged_address words A n.key.pc n.state instr span.first) outer.1)
 
     by_reach : (r : Reach) → aim.reach ≡ r → is_reach_harmless words A f.bound n.key.pc n.state instr r ≡ true → IsHarmless words A f n instr aim
     by_reach reach.Nothing is h = no_address is
@@ -161,12 +163,12 @@ module _ (words : Program) (A : List Entry) (f : RankedFamily) (n : Node) (held 
     told holds (no_address is) = reach_told reach.Nothing is refl
     told holds (under_stack span is low high) =
         reach_told (reach.Within span) is
-        (first_of (under span) (over span) (single span) (and_from (nat_lt BELOW span.first) (nat_le (span.last + f.bound) top) (test_from_less BELOW span.first low) (test_from_at_most (span.last + f.bound) top high)))
+        (first_of (under span) (over span) (single span) (and_from (nat_lt below span.first) (nat_le (span.last + f.bound) top) (test_from_less below span.first low) (test_from_at_most (span.last + f.bound) top high)))
     told holds (above_memory span is above) = reach_told (reach.Within span) is (second_of (under span) (over span) (single span) (test_from_less top span.first above))
     told holds (one_register a is low free) =
         let span : Span = record { first = a; last = a } in
         reach_told (reach.Within span) is
-        (third_of (under span) (over span) (single span) (all_three (a == a) (nat_le a BELOW) (is_flagged_address words A n.key.pc n.state instr a) (equals_itself a) (test_from_at_most a BELOW low) free))
+        (third_of (under span) (over span) (single span) (all_three (a == a) (nat_le a below) (is_flagged_address words A n.key.pc n.state instr a) (equals_itself a) (test_from_at_most a below low) free))
     told holds (each_address followed h) =
         second_of by_span_test by_each_test by_slot_test
         (and_from (is_followed n.state.facts) (all_below 65536 is_fine) followed

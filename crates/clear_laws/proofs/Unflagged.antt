@@ -1,5 +1,5 @@
 -- No step at a clear node is flagged. What each step writes.
-use Rattle.std.proofs.Common.{◌≡◌, ◌≢◌, refl, sym, ap, ap₂, ◌∙◌, subst, ℕ, ◌+◌, ◌-◌, ◌%◌, ◌<◌, ◌≤◌, ◌==◌, Bool, true, false, not, ◌&&◌, ◌||◌, nat_le, nat_lt, ◌⊎◌, inl, inr, ⊎_elim, if◌then◌else◌, List, [], ◌∷◌, ◌++◌, Option, Some, None, arith}
+use Rattle.std.proofs.Common.{◌≡◌, ◌≢◌, refl, sym, ap, ap₂, ◌∙◌, subst, ℕ, ◌+◌, ◌-◌, ◌<◌, ◌≤◌, ◌==◌, Bool, true, false, not, ◌&&◌, ◌||◌, nat_le, nat_lt, ◌⊎◌, inl, inr, ⊎_elim, if◌then◌else◌, List, [], ◌∷◌, ◌++◌, Option, Some, None, arith}
 use Rattle.std.specs.List.{list_any}
 use Rattle.std.proofs.lemmas.Bool.Decides.{nat_tests}
 use Rattle.std.proofs.lemmas.Bool.{false_from_ne_true as never, and_from, and_left, and_parts, or_cases, or_from, or_left, or_parts, or_right, not-true, cases_lt}
@@ -9,6 +9,7 @@ use Rattle.frame_laws.proofs.AllLaws.{vector_small}
 use Rattle.avr_model.proofs.AllLaws.{devices_are_alike}
 use Rattle.avr_model.specs.declared.assumption.Entry.{Entry}
 use Rattle.avr_model.specs.declared.device.Device.{Device}
+use Rattle.avr_model.specs.declared.rows.Place.{Place}
 use Rattle.avr_model.specs.declared.instruction.Instr.{Instr}
 use Rattle.avr_model.specs.declared.instruction.Instr.TheVariants as i
 use Rattle.avr_model.specs.declared.choice.Choice.{Choice}
@@ -16,13 +17,12 @@ use Rattle.avr_model.specs.declared.choice.Choice.TheVariants.{Take}
 use Rattle.avr_model.specs.declared.choice.Flag.{Flag}
 use Rattle.avr_model.specs.declared.effect.Effect.{Effect}
 use Rattle.avr_model.specs.declared.effect.Write.{Write}
-use Rattle.avr_model.specs.Assumptions.{jump_line, store_line, is_never, is_fixed_site, lists, has_masks}
-use Rattle.avr_model.specs.Masks.{is_barred, enables_barred, admits_enables, is_flagged_write}
-use Rattle.avr_model.specs.Devices.{Program, ramend, wrapped, device_of}
-use Rattle.avr_model.specs.Image.{WORDS}
+use Rattle.avr_model.specs.Assumptions.{jump_line, store_line, is_never, is_fixed_site, lists}
+use Rattle.avr_model.specs.Masks.{reads_masks, is_barred, enables_barred, admits_enables, is_flagged_write}
+use Rattle.avr_model.specs.Devices.{Program, io_end, ramend, wrapped, device_of}
 use Rattle.avr_model.specs.Sites.{instruction_at, is_scratch}
-use Rattle.avr_model.specs.State.{BELOW, State, Memory, is_live, i_flag, minus16, register, pair, low, high}
-use Rattle.avr_model.specs.Vectors.{Vector, vectors, has_enables, is_core, is_protected, is_enabled, vector_word, WATCHDOG}
+use Rattle.avr_model.specs.State.{State, Memory, is_live, i_flag, minus16, register, pair, low, high}
+use Rattle.avr_model.specs.Vectors.{places, has_enables, is_core, is_protected, is_enabled, vector_word, watchdog}
 use Rattle.avr_model.specs.Effects.{set, effect_of, way_back}
 use Rattle.avr_model.specs.Step.{Illegal, Overflow, Flagged, after, all_inside, live_write, flagged_write, protected_write, unless_listed, unlisted_transfer, is_pointer_store, is_indirect, is_unlisted, flag_by, flagged_or, may_take, entering, never_target, take, go}
 use Rattle.bit_domain.specs.declared.bytes.TriByte.{TriByte}
@@ -74,10 +74,10 @@ counted (Some f) s r p h = h
 
 -- a permitted Z goes to a listed word
 goes_listed : (device : Device) (s : AbsState) (line : Option (List ℕ)) (z : ℕ) → AreTargetsListed device s line → z < 65536 → permits_number s 30 z ≡ true
-    → unless_listed line (wrapped device (z % WORDS)) ≡ None
+    → unless_listed line (wrapped device z) ≡ None
 goes_listed device s None z all small may = refl
 goes_listed device s (Some listed) z all small may =
-    ap (λ b. if b then None else Some (wrapped device (z % WORDS))) (ap (lists listed) (devices_are_alike.of_14 device z) ∙ all z small (counted s.facts s 30 z may))
+    ap (λ b. if b then None else Some (wrapped device z)) (all z small (counted s.facts s 30 z may))
 
 -- ---- protected writes
 
@@ -95,10 +95,10 @@ protected_by true false false a h = refl
 -- writing a byte is flagged only at an address that is guarded against its possible values
 guarded_write : (device : Device) (A : List Entry) (site : ℕ) (value : TriByte) (a byte : ℕ) → Has value byte → is_flagged_write device A site a byte ≡ true
     → is_guarded device A site value a ≡ true
-guarded_write device A site value a byte has = by (admits_enables A site)
+guarded_write device A site value a byte has = by (admits_enables device A site)
   where
-    by : (b : Bool) → (if b then is_core a || enables_barred device A a byte else is_protected a && not (lists (store_line A site) a)) ≡ true
-        → (if b then is_core a || may_enable_barred device A a value else is_protected a && not (lists (store_line A site) a)) ≡ true
+    by : (b : Bool) → (if b then is_core a || enables_barred device A a byte else is_protected device a && not (lists (store_line A site) a)) ≡ true
+        → (if b then is_core a || may_enable_barred device A a value else is_protected device a && not (lists (store_line A site) a)) ≡ true
     by true h =
         ⊎_elim (λ core. or_left (is_core a) _ core) (λ barred. or_right (is_core a) _ (enables_stay_among.barred device A value a byte has barred))
         (or_cases (is_core a) (enables_barred device A a byte) h)
@@ -132,27 +132,27 @@ module _ (words : Program) (A : List Entry) (instr : Instr) (pc : ℕ) where
       (never (is_pointer_store instr && not (is_fixed_site words A pc) && is_flagged_write (device_of words) A pc a byte)
       (λ h. never_both _ (flagged_by_write s a byte has h) free))
 
-no_core : (a : ℕ) → 255 < a → is_core a ≡ false
-no_core a lt = grind (arith, nat_tests)
+no_core : (device : Device) (a : ℕ) → io_end device < a → is_core a ≡ false
+no_core device a lt = let least = devices_are_alike.least_io device in grind (arith, nat_tests)
 
--- an address without enable bits has no barred ones
-none_barred : (rs : List Vector) (a : ℕ) (p q : Vector → Bool) → list_any (λ (r : Vector). r.address == a) rs ≡ false
-    → list_any (λ (r : Vector). (r.address == a) && p r && q r) rs ≡ false
+-- an address that enables no vector enables no barred one
+none_barred : (ps : List Place) (a : ℕ) (p q : Place → Bool) → list_any (λ (x : Place). x.address == a) ps ≡ false
+    → list_any (λ (x : Place). (x.address == a) && p x && q x) ps ≡ false
 none_barred [] a p q none = refl
-none_barred (r ∷ rs) a p q none =
-    let parts = or_parts (r.address == a) (list_any (λ (r : Vector). r.address == a) rs) none in
-    or_from _ _ (and_left ((r.address == a) && p r) (q r) (and_left (r.address == a) (p r) parts.0)) (none_barred rs a p q parts.1)
+none_barred (x ∷ ps) a p q none =
+    let parts = or_parts (x.address == a) (list_any (λ (x : Place). x.address == a) ps) none in
+    or_from _ _ (and_left ((x.address == a) && p x) (q x) (and_left (x.address == a) (p x) parts.0)) (none_barred ps a p q parts.1)
 
-no_barred : (device : Device) (A : List Entry) (a : ℕ) (value : TriByte) → 255 < a → may_enable_barred device A a value ≡ false
+no_barred : (device : Device) (A : List Entry) (a : ℕ) (value : TriByte) → io_end device < a → may_enable_barred device A a value ≡ false
 unfolding may_enable_barred has_enables
-no_barred device A a value lt = none_barred vectors a (λ (r : Vector). may_enable value r) (λ (r : Vector). is_barred device A r.number) (none_above a lt)
+no_barred device A a value lt = none_barred (places device) a (λ (x : Place). may_enable value x) (λ (x : Place). is_barred device A x.vector) (none_above device a lt)
 
-pub unguarded : (device : Device) (A : List Entry) (site : ℕ) (value : TriByte) (a : ℕ) → 255 < a → is_guarded device A site value a ≡ false
-unguarded device A site value a lt = by (admits_enables A site)
+pub unguarded : (device : Device) (A : List Entry) (site : ℕ) (value : TriByte) (a : ℕ) → io_end device < a → is_guarded device A site value a ≡ false
+unguarded device A site value a lt = by (admits_enables device A site)
   where
-    by : (b : Bool) → (if b then is_core a || may_enable_barred device A a value else is_protected a && not (lists (store_line A site) a)) ≡ false
-    by true = or_from _ _ (no_core a lt) (no_barred device A a value lt)
-    by false = and_left _ _ (or_from _ _ (no_core a lt) (none_above a lt))
+    by : (b : Bool) → (if b then is_core a || may_enable_barred device A a value else is_protected device a && not (lists (store_line A site) a)) ≡ false
+    by true = or_from _ _ (no_core device a lt) (no_barred device A a value lt)
+    by false = and_left _ _ (or_from _ _ (no_core device a lt) (none_above device a lt))
 
 and_false : (a b c : Bool) → c ≡ false → (a && b && c) ≡ false
 and_false a b c h = grind arith
@@ -193,7 +193,7 @@ two_writes memory sp back first second = two_by (is_live memory sp) (is_live mem
 all_four : (a b c d : Bool) → (a && b && not c && d) ≡ true → (a ≡ true) × (b ≡ true) × (c ≡ false)
 all_four a b c d h = (grind arith, grind arith, grind arith)
 
-whole_where_taken : (device : Device) (A : List Entry) (k : NodeKey) (v : ℕ) (form : SpForm) → k.sp ≡ form → k.i ≡ true → k.delay ≡ false → is_enabled k.masks v ≡ true
+whole_where_taken : (device : Device) (A : List Entry) (k : NodeKey) (v : ℕ) (form : SpForm) → k.sp ≡ form → k.i ≡ true → k.delay ≡ false → is_enabled device k.masks v ≡ true
     → is_never A (vector_word device v) ≡ false → is_hung device A k form ≡ false → IsSpWhole k.sp
 whole_where_taken device A k v (Closed offset) is i delay enabled allowed hung = (offset, is)
 whole_where_taken device A k v (Open offset high) is i delay enabled allowed hung =
@@ -204,13 +204,24 @@ module _ (words : Program) (A : List Entry) (f : RankedFamily) (sound : IsSoundF
   abbrev k : NodeKey
   k = g.node.key
 
+  abbrev below : ℕ
+  below = io_end (device_of words)
+
   abbrev top : ℕ
   top = ramend (device_of words)
+
+  -- what holds of the machine's device holds of the image's
+  on_words : (P : Device → Type 0) → P m.device → P (device_of words)
+  on_words P h = subst P runs.device h
+
+  -- a live byte is in SRAM
+  above : (a : ℕ) → is_live m.memory a ≡ true → below < a
+  above a live = subst (λ x. x < a) (runs.running.machine.below ∙ ap io_end runs.device) (above_if_live m.memory.below m.memory.live a live)
 
   pub inside : (a : ℕ) → is_live m.memory a ≡ true → a ≤ top
   inside a live =
       let same : ramend m.device ≡ top = ap ramend runs.device in
-      omega (arith, inside_if_live m.memory.live a live, runs.running.machine.count_live, same)
+      omega (arith, inside_if_live m.memory.below m.memory.live a live, runs.running.machine.below, runs.running.machine.count_live, same)
 
   sp_at : (offset : ℕ) → k.sp ≡ Closed offset → m.sp + offset ≡ g.origin.base
   sp_at offset e = whole_sp g.origin.base m.is_open m.sp offset k.sp e runs.running.place.sp
@@ -218,8 +229,8 @@ module _ (words : Program) (A : List Entry) (f : RankedFamily) (sound : IsSoundF
   low_base : g.origin.base ≤ top
   low_base = base_inside words A f m.memory gs k.inst g.origin runs.left
 
-  top_small : top ≤ 2303
-  top_small = omega (arith, devices_are_alike.most_bytes (device_of words))
+  top_small : top < 16896
+  top_small = omega (arith, devices_are_alike.most_bytes (device_of words), devices_are_alike.most_io (device_of words))
 
   -- bytes at a whole stack pointer and below it aren't live
   sp_dead : IsSpWhole k.sp → is_live m.memory m.sp ≡ false
@@ -229,50 +240,50 @@ module _ (words : Program) (A : List Entry) (f : RankedFamily) (sound : IsSoundF
   below_dead form =
       never (is_live m.memory (minus16 m.sp 1))
       (λ live.
-      omega (arith, holds.above (minus16 m.sp 1) live, sp_at form.0 form.1, ap offset_of form.1, above_if_live m.memory.live (minus16 m.sp 1) live, inside (minus16 m.sp 1) live, low_base, top_small))
+      omega (arith, holds.above (minus16 m.sp 1) live, sp_at form.0 form.1, ap offset_of form.1, above (minus16 m.sp 1) live, inside (minus16 m.sp 1) live, low_base, top_small))
 
   -- the word of a vector
-  vector_is : (v : ℕ) → is_enabled m.enables v ≡ true → wrapped m.device (vector_word m.device v) ≡ vector_word (device_of words) v
+  vector_is : (v : ℕ) → is_enabled m.device m.enables v ≡ true → wrapped m.device (vector_word m.device v) ≡ vector_word (device_of words) v
   vector_is v enabled =
-      devices_are_alike.same m.device (vector_word m.device v) (devices_are_alike.vectors m.device v (vector_small m.enables v enabled))
+      devices_are_alike.same m.device (vector_word m.device v) (devices_are_alike.vectors m.device v (vector_small m.device m.enables v enabled))
       ∙ ap (λ device. vector_word device v) runs.device
 
-  -- nothing is protected above the first addresses of data space
-  high_free : (instr : Instr) (a : ℕ) → 255 < a → is_flagged_address words A k.pc g.node.state instr a ≡ false
+  -- nothing is protected above I/O
+  high_free : (instr : Instr) (a : ℕ) → below < a → is_flagged_address words A k.pc g.node.state instr a ≡ false
   high_free instr a lt = and_false (is_pointer_store instr) (not (is_fixed_site words A k.pc)) _ (unguarded (device_of words) A k.pc (stored_bits g.node.state instr) a lt)
 
   -- a harmless address
   abbrev under : ℕ → Bool
-  under a = nat_lt BELOW a && nat_le (a + f.bound) top
+  under a = nat_lt below a && nat_le (a + f.bound) top
 
   abbrev outside : Instr → ℕ → Bool
-  outside instr a = nat_le a BELOW && not (is_flagged_address words A k.pc g.node.state instr a)
+  outside instr a = nat_le a below && not (is_flagged_address words A k.pc g.node.state instr a)
 
-  under_free : (instr : Instr) (a : ℕ) → BELOW < a → a + f.bound ≤ top → IsFreeToWrite words A m.memory k.pc g.node.state instr a
+  under_free : (instr : Instr) (a : ℕ) → below < a → a + f.bound ≤ top → IsFreeToWrite words A m.memory k.pc g.node.state instr a
   under_free instr a low high =
       record { dead = never (is_live m.memory a) (λ live. omega (arith, high, holds.above a live, holds.depth)); free = high_free instr a (omega (arith, low)) }
 
   over_free : (instr : Instr) (a : ℕ) → top < a → IsFreeToWrite words A m.memory k.pc g.node.state instr a
   over_free instr a over = record { dead = never (is_live m.memory a) (λ live. omega (arith, over, inside a live)); free = high_free instr a (omega (arith, over)) }
 
-  below_free : (instr : Instr) (a : ℕ) → a ≤ BELOW → is_flagged_address words A k.pc g.node.state instr a ≡ false → IsFreeToWrite words A m.memory k.pc g.node.state instr a
-  below_free instr a low free = record { dead = never (is_live m.memory a) (λ live. omega (arith, low, above_if_live m.memory.live a live)); free = free }
+  below_free : (instr : Instr) (a : ℕ) → a ≤ below → is_flagged_address words A k.pc g.node.state instr a ≡ false → IsFreeToWrite words A m.memory k.pc g.node.state instr a
+  below_free instr a low free = record { dead = never (is_live m.memory a) (λ live. omega (arith, low, above a live)); free = free }
 
   address_free : (instr : Instr) (a : ℕ) → is_address_harmless words A f.bound k.pc g.node.state instr a ≡ true → IsFreeToWrite words A m.memory k.pc g.node.state instr a
   address_free instr a h = ⊎_elim (λ first. ⊎_elim by_under by_over (or_cases (under a) (nat_lt top a) first)) by_outside (or_cases (under a || nat_lt top a) (outside instr a) h)
     where
       by_under : under a ≡ true → IsFreeToWrite words A m.memory k.pc g.node.state instr a
       by_under t =
-          let parts = and_parts (nat_lt BELOW a) (nat_le (a + f.bound) top) t in
-          under_free instr a (less_from_test BELOW a parts.0) (at_most_from_test (a + f.bound) top parts.1)
+          let parts = and_parts (nat_lt below a) (nat_le (a + f.bound) top) t in
+          under_free instr a (less_from_test below a parts.0) (at_most_from_test (a + f.bound) top parts.1)
 
       by_over : nat_lt top a ≡ true → IsFreeToWrite words A m.memory k.pc g.node.state instr a
       by_over t = over_free instr a (less_from_test top a t)
 
       by_outside : outside instr a ≡ true → IsFreeToWrite words A m.memory k.pc g.node.state instr a
       by_outside t =
-          let parts = and_parts (nat_le a BELOW) (not (is_flagged_address words A k.pc g.node.state instr a)) t in
-          below_free instr a (at_most_from_test a BELOW parts.0) (not-true (is_flagged_address words A k.pc g.node.state instr a) parts.1)
+          let parts = and_parts (nat_le a below) (not (is_flagged_address words A k.pc g.node.state instr a)) t in
+          below_free instr a (at_most_from_test a below parts.0) (not-true (is_flagged_address words A k.pc g.node.state instr a) parts.1)
 
   -- a harmless store
   harmless_free : (instr : Instr) (aim : Aim) (a : ℕ) → IsAimed g.origin.base aim a → may_write g.node.state instr a ≡ true → IsHarmless words A f g.node instr aim
@@ -342,7 +353,7 @@ module _ (words : Program) (A : List Entry) (f : RankedFamily) (sound : IsSoundF
     sorted (to_port a byte low plain stores pushes) =
         inl
         (record {
-          live = ap₂ (λ ss ps. live_write m.memory (ss ++ ps)) stores pushes ∙ one_write m.memory a byte (never (is_live m.memory a) (λ live. omega (arith, low, above_if_live m.memory.live a live)));
+          live = ap₂ (λ ss ps. live_write m.memory (ss ++ ps)) stores pushes ∙ one_write m.memory a byte (never (is_live m.memory a) (λ live. omega (arith, low, above a live)));
           protected = store_alone words A instr m.pc effect plain;
         })
     sorted (by_aim a byte aim at aimed may has stores pushes) =
@@ -379,11 +390,11 @@ module _ (words : Program) (A : List Entry) (f : RankedFamily) (sound : IsSoundF
     stands r lt = runs.running.stands.registers r lt
 
     -- an indirect transfer's word is listed
-    z_listed : IsClear words A f g.node → is_indirect instr ≡ true → unless_listed (jump_line A m.pc) (wrapped m.device (pair m 30 % WORDS)) ≡ None
+    z_listed : IsClear words A f g.node → is_indirect instr ≡ true → unless_listed (jump_line A m.pc) (wrapped m.device (pair m 30)) ≡ None
     z_listed clear indirect =
         let all = clear.transfer instr here indirect in
-        subst (λ p. unless_listed (jump_line A p) (wrapped m.device (pair m 30 % WORDS)) ≡ None) (sym runs.running.place.pc)
-        (subst (λ device. unless_listed (jump_line A k.pc) (wrapped device (pair m 30 % WORDS)) ≡ None) (sym runs.device)
+        subst (λ p. unless_listed (jump_line A p) (wrapped m.device (pair m 30)) ≡ None) (sym runs.running.place.pc)
+        (subst (λ device. unless_listed (jump_line A k.pc) (wrapped device (pair m 30)) ≡ None) (sym runs.device)
         (goes_listed (device_of words) g.node.state (jump_line A k.pc) (pair m 30) all
         (omega (arith, (stands 30 (omega arith)).small, (stands 31 (omega arith)).small))
         (pair_permitted m g.origin k g.node.state (bare_frame m g.origin k g.node.state runs.running) 30 (omega arith, refl))))
@@ -413,9 +424,9 @@ module _ (words : Program) (A : List Entry) (f : RankedFamily) (sound : IsSoundF
   by_interrupt flag v clears false allowed legal = λ e. cc
   by_interrupt flag v clears true allowed legal =
       let place = runs.running.place in
-      let all = all_four (is_enabled m.enables v) (i_flag m) m.delay (not clears || (v == WATCHDOG)) legal in
+      let all = all_four (is_enabled m.device m.enables v) (i_flag m) m.delay (not clears || (v == watchdog m.device)) legal in
       let form =
-      whole_where_taken (device_of words) A k v k.sp refl (sym place.i ∙ all.1) (sym place.delay ∙ all.2) (enabled_too (has_masks A) m.enables k.masks v place.enables all.0)
+      whole_where_taken (device_of words) A k v k.sp refl (sym place.i ∙ all.1) (sym place.delay ∙ all.2) (on_words (λ device. is_enabled device k.masks v ≡ true) (enabled_too (reads_masks (device_of words) A) m.device m.enables k.masks v place.enables all.0))
       allowed (not_hung words A k g.node.state (sound.faultless g.node runs.present)) in
       let e = entering m v clears in
       not_flagged (all_inside m.device e.pushes || is_unlisted (never_target A e.pc)) m.pc (live_write m.memory e.pushes) None (never_target A e.pc) (after m true (entering m v clears)) flag
@@ -429,7 +440,7 @@ module _ (words : Program) (A : List Entry) (f : RankedFamily) (sound : IsSoundF
     pub is : c ≡ Take vector clears
     pub i : k.i ≡ true
     pub delay : k.delay ≡ false
-    pub enabled : is_enabled k.masks vector ≡ true
+    pub enabled : is_enabled (device_of words) k.masks vector ≡ true
     pub never : is_never A (vector_word (device_of words) vector) ≡ true
 
   -- a take is flagged only if the vector's word has such a line
@@ -439,13 +450,13 @@ module _ (words : Program) (A : List Entry) (f : RankedFamily) (sound : IsSoundF
   taken_here v clears flag true false legal line e = absurd (by_interrupt flag v clears true line legal e)
   taken_here v clears flag true true legal line e =
       let place = runs.running.place in
-      let all = all_four (is_enabled m.enables v) (i_flag m) m.delay (not clears || (v == WATCHDOG)) legal in
+      let all = all_four (is_enabled m.device m.enables v) (i_flag m) m.delay (not clears || (v == watchdog m.device)) legal in
       record {
         vector = v;
         clears = clears;
         is = refl;
         i = sym place.i ∙ all.1;
         delay = sym place.delay ∙ all.2;
-        enabled = enabled_too (has_masks A) m.enables k.masks v place.enables all.0;
+        enabled = on_words (λ device. is_enabled device k.masks v ≡ true) (enabled_too (reads_masks (device_of words) A) m.device m.enables k.masks v place.enables all.0);
         never = line;
       }

@@ -1,12 +1,12 @@
 -- The possible causes of a flagged step. Source: own.
-use Rattle.std.specs.Prelude.{ℕ, ◌-◌, ◌≡◌, ◌⊎◌, ◌&&◌, ◌||◌, Bool, true, not, List, Some, Contains}
+use Rattle.std.specs.Prelude.{ℕ, ◌+◌, ◌-◌, ◌≡◌, ◌⊎◌, ◌&&◌, ◌||◌, Bool, true, not, List, Some, Contains}
 use Rattle.avr_model.specs.declared.assumption.Entry.{Entry}
 use Rattle.avr_model.specs.declared.choice.Flag.{Flag}
 use Rattle.avr_model.specs.declared.choice.Flag.TheVariants.{Live, Protected, Transfer}
 use Rattle.avr_model.specs.declared.device.Device.{Device}
 use Rattle.avr_model.specs.declared.instruction.Instr.{Instr}
 use Rattle.avr_model.specs.Bits.{any_below}
-use Rattle.avr_model.specs.Devices.{Program, ramend, device_of}
+use Rattle.avr_model.specs.Devices.{Program, io_end, ramend, device_of}
 use Rattle.avr_model.specs.Sites.{instruction_at}
 use Rattle.avr_model.specs.Step.{is_indirect}
 use Rattle.pair_domain.specs.Facts.{is_followed}
@@ -22,9 +22,9 @@ use Rattle.clear_laws.specs.Clear.{IsClear, is_flagged_address, is_transfer_list
 abbrev pub may_write_protected : Program → List Entry → ℕ → AbsState → Instr → ℕ → Bool
 may_write_protected words A pc s instr a = is_flagged_address words A pc s instr a && may_write s instr a
 
--- some address may be flagged as protected; all such are at most 255
+-- some address may be flagged as protected; all such are below SRAM
 abbrev pub may_write_some_protected : Program → List Entry → ℕ → AbsState → Instr → Bool
-may_write_some_protected words A pc s instr = any_below 256 (may_write_protected words A pc s instr)
+may_write_some_protected words A pc s instr = any_below (io_end (device_of words) + 1) (may_write_protected words A pc s instr)
 
 -- the store may reach an address that the stack can have by the bound: one of the last of SRAM
 abbrev pub may_write_stack : Device → ℕ → AbsState → Instr → Bool

@@ -6,6 +6,7 @@ use Rattle.avr_model.specs.declared.choice.Choice.{Choice}
 use Rattle.avr_model.specs.declared.choice.Choice.TheVariants.{Take}
 use Rattle.avr_model.specs.declared.choice.Flag.{Flag}
 use Rattle.avr_model.specs.declared.choice.Stop.TheVariants as stop
+use Rattle.avr_model.specs.declared.device.Device.{Device}
 use Rattle.avr_model.specs.Devices.{Program, device_of}
 use Rattle.avr_model.specs.Vectors.{vector_word}
 use Rattle.avr_model.specs.State.{State, IsReset}
@@ -80,8 +81,8 @@ pub record FlaggedRunsEndAtPlaces : Type 0 where
 
 -- Along such links a slot spreads to exactly the nodes at which it may hold a live byte.
 abbrev pub SlotsSpreadAlongLinks : Type 0
-SlotsSpreadAlongLinks = (words : Program) (A : List Entry) (nodes : List Node) (links : List (List ℕ)) (offsets : List ℕ) (seeds : List SlotSeed)
-    → AreLinks words A nodes links offsets seeds → AreShown nodes → (at d : ℕ) (n : Node) → slice_get nodes at ≡ Some n
+SlotsSpreadAlongLinks = (device : Device) (words : Program) (A : List Entry) (nodes : List Node) (links : List (List ℕ)) (offsets : List ℕ) (seeds : List SlotSeed)
+    → AreLinks words A nodes links offsets seeds → AreShown device nodes → (at d : ℕ) (n : Node) → slice_get nodes at ≡ Some n
     → SlotReaches links offsets seeds d at ↔ MayHold words A nodes n.key d
 
 -- If this is a node's condition on its slots, the node is clear exactly if the condition is met.

@@ -12,9 +12,9 @@ use Rattle.avr_model.specs.declared.instruction.Instr.TheVariants as i
 use Rattle.avr_model.specs.Assumptions.{jump_line, store_line, is_never, is_fixed_site, lists}
 use Rattle.avr_model.specs.Bits.{all_below}
 use Rattle.avr_model.specs.Masks.{admits_enables}
-use Rattle.avr_model.specs.Devices.{Program, ramend, wrapped, device_of}
+use Rattle.avr_model.specs.Devices.{Program, io_end, ramend, wrapped, device_of}
 use Rattle.avr_model.specs.Sites.{instruction_at}
-use Rattle.avr_model.specs.State.{State, IsReset, BELOW, low, high}
+use Rattle.avr_model.specs.State.{State, IsReset, low, high}
 use Rattle.avr_model.specs.Step.{is_pointer_store, is_indirect}
 use Rattle.avr_model.specs.Run.{IsRun, stop_of}
 use Rattle.avr_model.specs.Vectors.{is_core, is_protected, is_enabled, vector_word}
@@ -46,9 +46,9 @@ stored_bits s _ = byte_any
 -- of barred vectors in which the byte may have 1.
 abbrev pub is_guarded : Device → List Entry → ℕ → TriByte → ℕ → Bool
 is_guarded device A site value a =
-    if admits_enables A site
+    if admits_enables device A site
     then is_core a || may_enable_barred device A a value
-    else is_protected a && not (lists (store_line A site) a)
+    else is_protected device a && not (lists (store_line A site) a)
 
 -- The write may be flagged as one of a protected address: the instruction is `st` or `std`, the site isn't fixed, and the address is
 -- protected from its byte.
@@ -59,18 +59,18 @@ is_flagged_address words A pc s instr a =
 -- The address is harmless: in SRAM below the stack's reach, above SRAM, or below SRAM and not flagged.
 abbrev pub is_address_harmless : Program → List Entry → ℕ → ℕ → AbsState → Instr → ℕ → Bool
 is_address_harmless words A bound pc s instr a =
-    (nat_lt BELOW a && nat_le (a + bound) (ramend (device_of words))) || nat_lt (ramend (device_of words)) a
-    || (nat_le a BELOW && not (is_flagged_address words A pc s instr a))
+    (nat_lt (io_end (device_of words)) a && nat_le (a + bound) (ramend (device_of words))) || nat_lt (ramend (device_of words)) a
+    || (nat_le a (io_end (device_of words)) && not (is_flagged_address words A pc s instr a))
 
 -- A store with this aim writes no live byte and no flagged address: it has no address; all its addresses are in SRAM below the stack's
 -- reach; all are above SRAM; its one address is below SRAM and not flagged; or its address is a slot, below the offset, that may not hold
 -- a live byte. If pairs are followed, it is also harmless if each possible address is.
 pub data IsHarmless (words : Program) (A : List Entry) (f : RankedFamily) (n : Node) (instr : Instr) (aim : Aim) : Type 0 where
   no_address : aim.reach ≡ reach.Nothing → IsHarmless words A f n instr aim
-  under_stack : (span : Span) → aim.reach ≡ reach.Within span → BELOW < span.first → span.last + f.bound ≤ ramend (device_of words)
+  under_stack : (span : Span) → aim.reach ≡ reach.Within span → io_end (device_of words) < span.first → span.last + f.bound ≤ ramend (device_of words)
       → IsHarmless words A f n instr aim
   above_memory : (span : Span) → aim.reach ≡ reach.Within span → ramend (device_of words) < span.first → IsHarmless words A f n instr aim
-  one_register : (a : ℕ) → aim.reach ≡ reach.Within (record { first = a; last = a }) → a ≤ BELOW → is_flagged_address words A n.key.pc n.state instr a ≡ false
+  one_register : (a : ℕ) → aim.reach ≡ reach.Within (record { first = a; last = a }) → a ≤ io_end (device_of words) → is_flagged_address words A n.key.pc n.state instr a ≡ false
       → IsHarmless words A f n instr aim
   each_address : is_followed n.state.facts ≡ true
       → ((a : ℕ) → a < 65536 → may_write n.state instr a ≡ true → is_address_harmless words A f.bound n.key.pc n.state instr a ≡ true) → IsHarmless words A f n instr aim
@@ -116,7 +116,7 @@ pub record MayBeTaken (words : Program) (A : List Entry) (nodes : List Node) (wo
   pub i : node.key.i ≡ true
   pub delay : node.key.delay ≡ false
   pub vector : ℕ
-  pub enabled : is_enabled node.key.masks vector ≡ true
+  pub enabled : is_enabled (device_of words) node.key.masks vector ≡ true
   pub is : vector_word (device_of words) vector ≡ word
 
 -- The run stops when it takes a vector that is entered at such a word. If the stack pointer is half written, the entry may write a live
@@ -134,8 +134,8 @@ pub record EndsByTake (words : Program) (A : List Entry) (nodes : List Node) (m 
 
 abbrev pub is_span_harmless : Program → List Entry → ℕ → ℕ → AbsState → Instr → Span → Bool
 is_span_harmless words A bound pc s instr span =
-    (nat_lt BELOW span.first && nat_le (span.last + bound) (ramend (device_of words))) || nat_lt (ramend (device_of words)) span.first
-    || ((span.first == span.last) && nat_le span.first BELOW && not (is_flagged_address words A pc s instr span.first))
+    (nat_lt (io_end (device_of words)) span.first && nat_le (span.last + bound) (ramend (device_of words))) || nat_lt (ramend (device_of words)) span.first
+    || ((span.first == span.last) && nat_le span.first (io_end (device_of words)) && not (is_flagged_address words A pc s instr span.first))
 
 abbrev pub is_reach_harmless : Program → List Entry → ℕ → ℕ → AbsState → Instr → Reach → Bool
 is_reach_harmless words A bound pc s instr reach.Nothing = true

@@ -2,7 +2,7 @@
 //! `tests/disassembly/README.md` says how the expected digests are made.
 #![tactic(auto)]
 
-use avr_decode::{decode, length, text};
+use avr_decode::{Device, decode, length, text};
 use std::alloc::{AllocError, Global};
 use std::io;
 
@@ -23,13 +23,13 @@ fn digest(before: u32, bytes: &[u8]) -> u32 {
     value
 }
 
-// The digest with the line of a first word appended, which is at twice its number: its length in words and its text, or `undefined` if no
-// row of the table matches.
+// The digest with the line of a first word appended, which is at twice its number in the ATmega328P's flash: its length in words and its
+// text, or `undefined` if no row of the table matches.
 fn with_line(alloc: Global, before: u32, word: u16) -> Result<u32, AllocError> {
     let size: &[u8] = if length(word) == 2 { b"2 " } else { b"1 " };
     let sized = digest(before, size);
     let line = match &decode(word, SECOND) {
-        Some(instr) => text(alloc, instr, word % 8192 * 2)?,
+        Some(instr) => text(alloc, Device::M328, instr, word % 8192 * 2)?,
         None => Vec::from_slice(alloc, b"undefined")?,
     };
     Ok(digest(digest(sized, line.as_slice()), b"\n"))

@@ -11,7 +11,8 @@ use Rattle.device_hooks.specs.declared.walk.WalkedRun.{WalkedRun}
 use Rattle.avr_model.specs.declared.choice.Choice.{Choice}
 use Rattle.avr_model.specs.declared.assumption.Entry.{Entry}
 use Rattle.avr_model.specs.Devices.{Program, device_of, ramend}
-use Rattle.avr_model.specs.Vectors.{is_enabled, WATCHDOG}
+use Rattle.avr_model.specs.Vectors.{watchdog}
+use Rattle.avr_machine.specs.Menu.{has_vector}
 use Rattle.avr_model.specs.State.{State, filled}
 use Rattle.avr_model.specs.Step.{Answer, Illegal, Undefined, Overflow, Flagged, Done, step, may_take}
 use Rattle.avr_model.specs.Run.{Machine, IsRun, starting, depth_of, stop_of}
@@ -33,7 +34,7 @@ regrouped true watchdog = refl
 regrouped false watchdog = refl
 
 may_as : (menu : Menu) (m : State) → IsMenuOf menu m → (v : ℕ) → stands_in menu v ≡ may_take m v false
-may_as menu m is v = regrouped (is_enabled menu.takes v) (v == WATCHDOG) ∙ is.takes v
+may_as menu m is v = regrouped (has_vector menu v) (v == watchdog menu.device) ∙ is.takes v
 
 first_as : (setup : Setup) (menu : Menu) (m : State) (timers : Bool) (taken : List ℕ) (now : ℕ) → IsMenuOf menu m → first_ready setup (stands_in menu) timers taken now ≡ first_ready setup (λ v. may_take m v false) timers taken now
 first_as setup menu m timers taken now is =

@@ -5,6 +5,7 @@ use Rattle.basics.specs.Booleans.{last_of_three}
 use Rattle.std.proofs.lemmas.Option.{none-some}
 use Rattle.witness_replay.proofs.Reached.{is_reset}
 use Rattle.avr_machine.proofs.Choosing.{go_is_legal, either_is_legal}
+use Rattle.avr_model.specs.declared.device.Device.{Device}
 use Rattle.avr_model.specs.declared.choice.Choice.{Choice}
 use Rattle.avr_model.specs.declared.choice.StepResult.TheVariants as said
 use Rattle.avr_model.specs.declared.assumption.Entry.{Entry}
@@ -74,18 +75,18 @@ input_small : (kind : SourceKind) (n input : ℕ) → IsKind kind → input < 25
 input_small Timer n input h small = small
 input_small (Bytes bytes) n input h small = index_small bytes n h.2
 
-passed_small : (o : Option Source) (p : Progress) (n : ℕ) → ((s : Source) → o ≡ Some s → IsSource s) → p.input < 256 → (passed_at o p n).input < 256
-passed_small None p n h small = small
-passed_small (Some s) p n h small = input_small s.kind (taken_of p n) p.input (h s refl).kind small
+passed_small : (device : Device) (o : Option Source) (p : Progress) (n : ℕ) → ((s : Source) → o ≡ Some s → IsSource device s) → p.input < 256 → (passed_at o p n).input < 256
+passed_small device None p n h small = small
+passed_small device (Some s) p n h small = input_small s.kind (taken_of p n) p.input (h s refl).kind small
 
-source_there : (sources : List Source) (n : ℕ) (s : Source) → AllByRecursion IsSource sources → slice_get sources n ≡ Some s → IsSource s
-source_there [] n s h e = absurd (none-some s e)
-source_there (x ∷ xs) zero s h e = let same : x ≡ s = cc in subst IsSource same h.0
-source_there (x ∷ xs) (suc n) s h e = source_there xs n s h.1 e
+source_there : (device : Device) (sources : List Source) (n : ℕ) (s : Source) → AllByRecursion (IsSource device) sources → slice_get sources n ≡ Some s → IsSource device s
+source_there device [] n s h e = absurd (none-some s e)
+source_there device (x ∷ xs) zero s h e = let same : x ≡ s = cc in subst (IsSource device) same h.0
+source_there device (x ∷ xs) (suc n) s h e = source_there device xs n s h.1 e
 
-next_small : (setup : Setup) (p : Progress) (a : Option ℕ) → IsSetup setup → p.input < 256 → (next_on setup p a).input < 256
-next_small setup p None h small = small
-next_small setup p (Some n) h small = passed_small (slice_get setup.sources n) p n (λ s e. source_there setup.sources n s h.all e) small
+next_small : (device : Device) (setup : Setup) (p : Progress) (a : Option ℕ) → IsSetup device setup → p.input < 256 → (next_on setup p a).input < 256
+next_small device setup p None h small = small
+next_small device setup p (Some n) h small = passed_small device (slice_get setup.sources n) p n (λ s e. source_there device setup.sources n s h.all e) small
 
 -- ---- the run
 
@@ -96,23 +97,23 @@ runs_on words A (Overflow pc) rest legal on = refl
 runs_on words A (Flagged flag) rest legal on = refl
 runs_on words A (Done s) rest legal on = on s
 
-chosen_runs : (words : Program) (A : List Entry) (setup : Setup) → IsSetup setup → (n : ℕ) (p : Progress) (m : State) → p.input < 256 → IsRun words A (chosen setup words A n p m) m
-chosen_runs words A setup h zero p m small = tt
-chosen_runs words A setup h (suc n) p m small =
+chosen_runs : (device : Device) (words : Program) (A : List Entry) (setup : Setup) → IsSetup device setup → (n : ℕ) (p : Progress) (m : State) → p.input < 256 → IsRun words A (chosen setup words A n p m) m
+chosen_runs device words A setup h zero p m small = tt
+chosen_runs device words A setup h (suc n) p m small =
     let a = picked setup p m in (
       bytes_at (answered setup a) p small,
       runs_on words A (step words A m (choice_on setup p a)) (λ s. chosen setup words A n (next_on setup p a) s)
           (choice_legal words A m (answered setup a) p (picked_may setup p m a refl))
-          (λ s. chosen_runs words A setup h n (next_on setup p a) s (next_small setup p a h small)),
+          (λ s. chosen_runs device words A setup h n (next_on setup p a) s (next_small device setup p a h small)),
     )
 
 pub simulations_are_runs : SimulationsAreRuns
-simulations_are_runs words A setup n h = record {
+simulations_are_runs device words A setup n h = record {
   reset = is_reset (device_of words) setup.fill h.fill_is_byte;
-  run = chosen_runs words A setup h n (begun setup) (initial words setup) (lit< tt);
+  run = chosen_runs device words A setup h n (begun setup) (initial words setup) (lit< tt);
 }
 
 pub simulations_are_bounded : SimulationsAreBounded
-simulations_are_bounded words A setup n bound h bounded =
-    let r = simulations_are_runs words A setup n h in
+simulations_are_bounded device words A setup n bound h bounded =
+    let r = simulations_are_runs device words A setup n h in
     bounded.depth (initial words setup) (simulated words A setup n) r.reset r.run

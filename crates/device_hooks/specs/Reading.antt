@@ -3,6 +3,8 @@
 use Rattle.std.specs.Prelude.{ℕ, ◌+◌, ◌-◌, ◌&&◌, nat_le, List, [], ◌∷◌, ◌++◌, length, Option, Some, None, Result, Ok, Err, codes, if◌then◌else◌}
 use Rattle.std.specs.Option.{option_map}
 use Rattle.std.specs.Str.{bytes_eq}
+use Rattle.avr_model.specs.declared.device.Device.{Device}
+use Rattle.avr_model.specs.Vectors.{last_vector}
 use Rattle.witness_replay.specs.Reading.{fill_by}
 use Rattle.sb_base.specs.Lines.{TextLine, Place, size_of, lines_of, words_of}
 use Rattle.line_reading.specs.Reading.{◌>>=◌, hex_at, dec_at, is_over, then_at, first_by, this_by, line_by}
@@ -16,10 +18,10 @@ use Rattle.device_hooks.specs.Spelling.{Setup, most_sources, most_bytes, most_st
 
 -- ---- the words of a line
 
--- a vector, a first step and a period
-unfoldable pub times_at : List (List ℕ) → Option (Times × List (List ℕ))
-times_at ws = do
-  v ← dec_at 26 ws
+-- a vector of the device, a first step and a period
+unfoldable pub times_at : Device → List (List ℕ) → Option (Times × List (List ℕ))
+times_at device ws = do
+  v ← dec_at (last_vector device) ws
   f ← dec_at most_steps v.1
   p ← dec_at most_steps f.1
   if nat_le 2 v.0 && nat_le 1 p.0 then Some (record { vector = v.0; first = f.0; period = p.0 }, p.1) else None
@@ -33,31 +35,31 @@ abbrev pub source_of : Times → SourceKind → Source
 source_of t kind = record { vector = t.vector; first = t.first; period = t.period; kind = kind }
 
 -- after `timer`
-abbrev pub timer_in : List (List ℕ) → Option Source
-timer_in ws = times_at ws >>= λ t. if is_over t.1 then Some (source_of t.0 Timer) else None
+abbrev pub timer_in : Device → List (List ℕ) → Option Source
+timer_in device ws = times_at device ws >>= λ t. if is_over t.1 then Some (source_of t.0 Timer) else None
 
 abbrev pub receiver_by : Times → List ℕ → Option Source
 receiver_by t bytes = if nat_le 1 (length bytes) && nat_le (length bytes) most_bytes then Some (source_of t (Bytes bytes)) else None
 
 -- after `bytes`
-abbrev pub receiver_in : List (List ℕ) → Option Source
-receiver_in ws = times_at ws >>= λ t. bytes_in t.1 >>= receiver_by t.0
+abbrev pub receiver_in : Device → List (List ℕ) → Option Source
+receiver_in device ws = times_at device ws >>= λ t. bytes_in t.1 >>= receiver_by t.0
 
-unfoldable pub source_in : List (List ℕ) → Option Source
-source_in [] = None
-source_in (w ∷ ws) =
-    if bytes_eq w (codes "timer") then timer_in ws
-    else (if bytes_eq w (codes "bytes") then receiver_in ws else None)
+unfoldable pub source_in : Device → List (List ℕ) → Option Source
+source_in device [] = None
+source_in device (w ∷ ws) =
+    if bytes_eq w (codes "timer") then timer_in device ws
+    else (if bytes_eq w (codes "bytes") then receiver_in device ws else None)
 
 -- ---- lines
 
 -- a source, with this many lines left for sources
-abbrev pub source_by : ℕ → List ℕ → Option Source
-source_by left text = if nat_le 1 left then source_in (words_of text) else None
+abbrev pub source_by : Device → ℕ → List ℕ → Option Source
+source_by device left text = if nat_le 1 left then source_in device (words_of text) else None
 
 -- a source, or none at `end`
-unfoldable pub part_by : ℕ → List ℕ → Option (Option Source)
-part_by left text = if bytes_eq text (codes "end") then Some None else option_map Some (source_by left text)
+unfoldable pub part_by : Device → ℕ → List ℕ → Option (Option Source)
+part_by device left text = if bytes_eq text (codes "end") then Some None else option_map Some (source_by device left text)
 
 abbrev pub with_front : List Source → Result (List Source × Place) Place → Result (List Source × Place) Place
 with_front front due = then_at due (λ x. Ok (front ++ x.0, x.1))
@@ -69,13 +71,13 @@ with_part (Some None) here next following = Ok ([], next)
 with_part (Some (Some s)) here next following = with_front (s ∷ []) (following s)
 
 -- the sources up to `end`, with this many lines left for them
-unfoldable pub sources_from : ℕ → ℕ → List TextLine → Result (List Source × Place) Place
-sources_from left at [] = Err (record { at = at; rest = [] })
-sources_from left at (l ∷ ls) =
-    with_part (first_by (part_by left) (l ∷ ls))
+unfoldable pub sources_from : Device → ℕ → ℕ → List TextLine → Result (List Source × Place) Place
+sources_from device left at [] = Err (record { at = at; rest = [] })
+sources_from device left at (l ∷ ls) =
+    with_part (first_by (part_by device left) (l ∷ ls))
     (record { at = at; rest = l ∷ ls })
     (record { at = at + size_of l; rest = ls })
-    (λ s. sources_from (left - 1) (at + size_of l) ls)
+    (λ s. sources_from device (left - 1) (at + size_of l) ls)
 
 -- ---- the whole
 
@@ -84,16 +86,16 @@ abbrev pub if_last : List TextLine → Setup → Place → Result Setup Place
 if_last [] setup p = Ok setup
 if_last (l ∷ ls) setup p = Err p
 
-unfoldable pub setup_at : Place → Result Setup Place
-setup_at p =
+unfoldable pub setup_at : Device → Place → Result Setup Place
+setup_at device p =
     then_at (line_by (this_by (codes "devices 1")) p) (λ h.
     then_at (line_by fill_by h.1) (λ f.
-    then_at (sources_from most_sources f.1.at f.1.rest) (λ s. if_last s.1.rest (record { fill = f.0; sources = s.0 }) s.1)))
+    then_at (sources_from device most_sources f.1.at f.1.rest) (λ s. if_last s.1.rest (record { fill = f.0; sources = s.0 }) s.1)))
 
 abbrev pub malformed : {A : Type 0} → Result A Place → Result A DevicesFault
 malformed (Ok x) = Ok x
 malformed (Err p) = Err (Malformed p.at)
 
 -- the setup of a text, or the refusal
-unfoldable pub setup_in : List ℕ → Result Setup DevicesFault
-setup_in text = malformed (setup_at (record { at = 0; rest = lines_of text }))
+unfoldable pub setup_in : Device → List ℕ → Result Setup DevicesFault
+setup_in device text = malformed (setup_at device (record { at = 0; rest = lines_of text }))

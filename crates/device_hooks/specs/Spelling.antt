@@ -5,6 +5,8 @@ use Rattle.std.specs.Fmt.{decimal}
 use Rattle.witness_replay.specs.Spelling.{filling}
 use Rattle.sb_base.specs.Digits.{hex_digits}
 use Rattle.sb_base.specs.Lines.{line}
+use Rattle.avr_model.specs.declared.device.Device.{Device}
+use Rattle.avr_model.specs.Vectors.{last_vector}
 use Rattle.device_hooks.specs.declared.devices.SourceKind.{SourceKind}
 use Rattle.device_hooks.specs.declared.devices.SourceKind.TheVariants.{Timer, Bytes}
 use Rattle.device_hooks.specs.declared.devices.Source.{Source}
@@ -31,18 +33,19 @@ abbrev pub IsKind : SourceKind → Type 0
 IsKind Timer = ⊤
 IsKind (Bytes bytes) = (1 ≤ length bytes) × (length bytes ≤ most_bytes) × AllByRecursion (λ b. b < 256) bytes
 
-pub record IsSource (s : Source) : Type 0 where
+-- a source whose vector is one of the device's
+pub record IsSource (device : Device) (s : Source) : Type 0 where
   pub vector_from : 2 ≤ s.vector
-  pub vector_to : s.vector ≤ 26
+  pub vector_to : s.vector ≤ last_vector device
   pub first : s.first ≤ most_steps
   pub period_from : 1 ≤ s.period
   pub period_to : s.period ≤ most_steps
   pub kind : IsKind s.kind
 
-pub record IsSetup (setup : Setup) : Type 0 where
+pub record IsSetup (device : Device) (setup : Setup) : Type 0 where
   pub fill_is_byte : setup.fill < 256
   pub count : length setup.sources ≤ most_sources
-  pub all : AllByRecursion IsSource setup.sources
+  pub all : AllByRecursion (IsSource device) setup.sources
 
 -- ---- the text
 

@@ -11,6 +11,7 @@ ghost use Rattle.device_hooks.specs.Due.{is_timer, is_of, is_left, is_due, input
 
 use crate::laws::reading_is_exact;
 use crate::reading::read_setup;
+use avr_model::device::Device;
 use avr_model::listed::Listed;
 use line_reading::Malformed;
 use std::alloc::{AllocError, Global};
@@ -28,7 +29,7 @@ pub enum SourceKind {
 /// An interrupt source. Its request number n, counted from 0, is pending from step `first` + n × `period` until it is taken.
 #[derive(Drop)]
 pub struct Source {
-    /// The vector, 2 to 26.
+    /// The vector, one of the AVR's.
     pub vector: u8,
     /// The step of the first request, at most 16,777,216.
     pub first: u32,
@@ -142,15 +143,15 @@ impl Devices {
         Devices { fill, sources }
     }
 
-    /// Parses a text of devices. Fails with `Malformed` exactly if the text is none, with the offset of the first line with which none
+    /// Parses a text of devices that are connected to this AVR. Fails with `Malformed` exactly if the text is none, with the offset of the first line with which none
     /// continues, or with the text's length if a line is missing. Source: own.
-    pub fn read(alloc: Global, text: &[u8]) -> Result<Devices, DevicesFault>
-        ensures exact { Answers (λ d. d) fault.Memory result (setup_in text.now) }
-        ensures told { IsSetupDueUnlessMemory text.now result }
-        ensures spelled { (setup : Setup) → IsSetupReading text.now setup → Answers (λ d. d) fault.Memory result (Ok setup) }
+    pub fn read(alloc: Global, device: Device, text: &[u8]) -> Result<Devices, DevicesFault>
+        ensures exact { Answers (λ d. d) fault.Memory result (setup_in device text.now) }
+        ensures told { IsSetupDueUnlessMemory device text.now result }
+        ensures spelled { (setup : Setup) → IsSetupReading device text.now setup → Answers (λ d. d) fault.Memory result (Ok setup) }
     {
         reading_is_exact();
-        read_setup(alloc, text)
+        read_setup(alloc, device, text)
     }
 
     /// The fill byte of registers and SRAM.

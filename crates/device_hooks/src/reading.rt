@@ -10,6 +10,7 @@ ghost use Rattle.device_hooks.specs.Spelling.{most_sources};
 ghost use Rattle.device_hooks.specs.Reading.{times_at, bytes_in, timer_in, receiver_by, receiver_in, source_in, part_by, sources_from, malformed, setup_at, setup_in};
 
 use crate::devices::{Devices, DevicesFault, Source, SourceKind};
+use avr_model::device::Device;
 use avr_model::listed::Listed;
 use line_reading::{dec_word, is_over, peek_text, take_line, take_text};
 use sb_base::{LineReader, Words, read_hex};
@@ -35,10 +36,10 @@ struct Times {
 
 // The three numbers after a source's kind.
 #[tactic(auto, unfolding(crate::specs::Reading::times_at))]
-fn times_of(words: &mut Words<'_>) -> Option<Times>
-    ensures { option_map (λ t. (t, words.new)) result ≡ times_at words.old }
+fn times_of(device: Device, words: &mut Words<'_>) -> Option<Times>
+    ensures { option_map (λ t. (t, words.new)) result ≡ times_at device words.old }
 {
-    let vector = dec_word(words, 26)?;
+    let vector = dec_word(words, u64::from(device.last_vector()))?;
     let first = dec_word(words, MOST_STEPS)?;
     let period = dec_word(words, MOST_STEPS)?;
     if vector >= 2 && period >= 1 {
@@ -68,10 +69,10 @@ fn bytes_of(alloc: Global, words: &mut Words<'_>) -> Result<Option<Vec<u8>>, All
 }
 
 // Parses the words after `timer`.
-fn timer_of(words: &mut Words<'_>) -> Option<Source>
-    ensures { result ≡ timer_in words.old }
+fn timer_of(device: Device, words: &mut Words<'_>) -> Option<Source>
+    ensures { result ≡ timer_in device words.old }
 {
-    let times = times_of(words)?;
+    let times = times_of(device, words)?;
     if is_over(words) {
         Some(source(times, SourceKind::Timer))
     } else {
@@ -102,10 +103,14 @@ fn source(times: Times, kind: SourceKind) -> Source
 }
 
 // Parses the words after `bytes`.
-fn receiver_of(alloc: Global, words: &mut Words<'_>) -> Result<Option<Source>, AllocError>
-    ensures { IfOk result (λ o. o ≡ receiver_in words.old) }
+fn receiver_of(
+    alloc: Global,
+    device: Device,
+    words: &mut Words<'_>,
+) -> Result<Option<Source>, AllocError>
+    ensures { IfOk result (λ o. o ≡ receiver_in device words.old) }
 {
-    let Some(times) = times_of(words) else {
+    let Some(times) = times_of(device, words) else {
         return Ok(None);
     };
     match bytes_of(alloc, words) {
@@ -117,17 +122,17 @@ fn receiver_of(alloc: Global, words: &mut Words<'_>) -> Result<Option<Source>, A
 
 // Parses the source of a line.
 #[tactic(auto, unfolding(crate::specs::Reading::source_in))]
-fn source_of(alloc: Global, text: &[u8]) -> Result<Option<Source>, AllocError>
-    ensures { IfOk result (λ o. o ≡ source_in (words_of text.now)) }
+fn source_of(alloc: Global, device: Device, text: &[u8]) -> Result<Option<Source>, AllocError>
+    ensures { IfOk result (λ o. o ≡ source_in device (words_of text.now)) }
 {
     let mut words = Words::new(text);
     let Some(kind) = words.next() else {
         return Ok(None);
     };
     if kind == b"timer".as_slice() {
-        Ok(timer_of(&mut words))
+        Ok(timer_of(device, &mut words))
     } else if kind == b"bytes".as_slice() {
-        receiver_of(alloc, &mut words)
+        receiver_of(alloc, device, &mut words)
     } else {
         Ok(None)
     }
@@ -135,8 +140,13 @@ fn source_of(alloc: Global, text: &[u8]) -> Result<Option<Source>, AllocError>
 
 // Parses a line: a source, or none for `end`. This many lines are left for sources.
 #[tactic(auto, unfolding(crate::specs::Reading::part_by))]
-fn part_of(alloc: Global, text: &[u8], left: u32) -> Result<Option<Option<Source>>, AllocError>
-    ensures exact { IfOk result (λ o. o ≡ part_by left text.now) }
+fn part_of(
+    alloc: Global,
+    device: Device,
+    text: &[u8],
+    left: u32,
+) -> Result<Option<Option<Source>>, AllocError>
+    ensures exact { IfOk result (λ o. o ≡ part_by device left text.now) }
     ensures room { IfOk result (λ o. IfSome o (λ p. IfSome p (λ s. 1 ≤ left))) }
 {
     if text == b"end".as_slice() {
@@ -145,7 +155,7 @@ fn part_of(alloc: Global, text: &[u8], left: u32) -> Result<Option<Option<Source
     if left == 0 {
         return Ok(None);
     }
-    match source_of(alloc, text) {
+    match source_of(alloc, device, text) {
         Ok(Some(source)) => Ok(Some(Some(source))),
         Ok(None) => Ok(None),
         Err(fault) => Err(fault),
@@ -156,17 +166,18 @@ fn part_of(alloc: Global, text: &[u8], left: u32) -> Result<Option<Option<Source
 #[tactic(auto, unfolding(line_reading::specs::Reading::line_by))]
 fn read_part(
     alloc: Global,
+    device: Device,
     reader: &mut LineReader<'_>,
     left: u32,
 ) -> Result<Option<Source>, DevicesFault>
-    ensures exact { Answers (λ o. (o, reader.new)) fault.Memory result (malformed (line_by (part_by left) reader.old)) }
+    ensures exact { Answers (λ o. (o, reader.new)) fault.Memory result (malformed (line_by (part_by device left) reader.old)) }
     ensures room { IfOk result (λ o. IfSome o (λ s. 1 ≤ left)) }
     ensures shorter { IfOk result (λ _. length reader.new.rest < length reader.old.rest) }
 {
     let Some(text) = peek_text(reader) else {
         return Err(DevicesFault::Malformed(reader.offset()));
     };
-    match part_of(alloc, text, left) {
+    match part_of(alloc, device, text, left) {
         Ok(found) => match take_line(reader, found) {
             Ok(part) => Ok(part),
             Err(fault) => Err(DevicesFault::Malformed(fault.0)),
@@ -179,14 +190,15 @@ fn read_part(
 #[tactic(auto, using(crate::proofs::Loop::front_step, crate::proofs::Loop::front_end, crate::proofs::Loop::front_fault))]
 fn read_sources(
     alloc: Global,
+    device: Device,
     reader: &mut LineReader<'_>,
     sources: &mut Vec<Source>,
 ) -> Result<(), DevicesFault>
     requires { sources.old.items ≡ [] }
-    ensures { Answers (λ _. (sources.new.items, reader.new)) fault.Memory result (malformed (sources_from most_sources reader.old.at reader.old.rest)) }
+    ensures { Answers (λ _. (sources.new.items, reader.new)) fault.Memory result (malformed (sources_from device most_sources reader.old.at reader.old.rest)) }
 {
     let mut left = MOST_SOURCES;
-    while let Some(source) = read_part(alloc, reader, left)? {
+    while let Some(source) = read_part(alloc, device, reader, left)? {
         if sources.push(source).is_err() {
             return Err(DevicesFault::Memory);
         }
@@ -197,13 +209,17 @@ fn read_sources(
 
 // Reads the lines of a setup, after which nothing may follow.
 #[tactic(auto, unfolding(crate::specs::Reading::setup_at))]
-fn read_lines(alloc: Global, reader: &mut LineReader<'_>) -> Result<Devices, DevicesFault>
-    ensures { Answers (λ d. d) fault.Memory result (malformed (setup_at reader.old)) }
+fn read_lines(
+    alloc: Global,
+    device: Device,
+    reader: &mut LineReader<'_>,
+) -> Result<Devices, DevicesFault>
+    ensures { Answers (λ d. d) fault.Memory result (malformed (setup_at device reader.old)) }
 {
     take_text(reader, b"devices 1")?;
     let fill = read_fill(reader)?;
     let mut sources = Vec::new(alloc);
-    let told = match read_sources(alloc, reader, &mut sources) {
+    let told = match read_sources(alloc, device, reader, &mut sources) {
         Ok(()) => match reader.peek() {
             None => Ok(()),
             Some(line) => Err(DevicesFault::Malformed(line.at)),
@@ -215,9 +231,13 @@ fn read_lines(alloc: Global, reader: &mut LineReader<'_>) -> Result<Devices, Dev
 
 // Reads a whole text.
 #[tactic(auto, unfolding(crate::specs::Reading::setup_in))]
-pub(crate) fn read_setup(alloc: Global, text: &[u8]) -> Result<Devices, DevicesFault>
-    ensures { Answers (λ d. d) fault.Memory result (setup_in text.now) }
+pub(crate) fn read_setup(
+    alloc: Global,
+    device: Device,
+    text: &[u8],
+) -> Result<Devices, DevicesFault>
+    ensures { Answers (λ d. d) fault.Memory result (setup_in device text.now) }
 {
     let mut reader = LineReader::new(text);
-    read_lines(alloc, &mut reader)
+    read_lines(alloc, device, &mut reader)
 }

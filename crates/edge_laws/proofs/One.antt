@@ -3,7 +3,7 @@ use Rattle.std.proofs.Common.{◌≡◌, sym, ap, ◌∙◌, subst, ℕ, ◌≤�
 use Rattle.std.specs.List.{slice_get}
 use Rattle.std.proofs.lemmas.Option.{same_Some}
 use Rattle.avr_model.specs.declared.assumption.Entry.{Entry}
-use Rattle.avr_model.specs.Devices.{Program}
+use Rattle.avr_model.specs.Devices.{Program, device_of}
 use Rattle.abs_state.specs.declared.state.AbsState.{AbsState}
 use Rattle.mask_states.specs.declared.keys.NodeKey.{NodeKey}
 use Rattle.local_rules.specs.declared.local.Local.{Local}
@@ -49,12 +49,12 @@ module _ (words : Program) (A : List Entry) (nodes : Seeds) where
   one _ _ t (own at k s e) x = one_own at k s t e x
   one _ _ t (along at m k j form s u l e lt f d is only) x = one_along at m k j form s u t l e f is only (λ r y. one m s r d y) x
 
-  pub expansion_node : {followed : Bool} (seeds : AreSeeds followed nodes) (at : ℕ) (k : NodeKey) (form : NodeForm) (s : AbsState) → slice_get nodes at ≡ Some (k, form)
-      → IsExpansion words A nodes at s → IsNodeIn followed k s
+  pub expansion_node : {followed : Bool} (seeds : AreSeeds (device_of words) followed nodes) (at : ℕ) (k : NodeKey) (form : NodeForm) (s : AbsState) → slice_get nodes at ≡ Some (k, form)
+      → IsExpansion words A nodes at s → IsNodeIn (device_of words) followed k s
   expansion_node {followed = followed} seeds _ k form _ e (own at j s f) =
-      subst (λ x. IsNodeIn followed x s) (sym (same_seed (slice_get nodes at) k j form (State s) e f).0) (seeds.own at j s f)
+      subst (λ x. IsNodeIn (device_of words) followed x s) (sym (same_seed (slice_get nodes at) k j form (State s) e f).0) (seeds.own at j s f)
   expansion_node {followed = followed} seeds _ k form _ e (along at m j i form2 s t l f lt g d is only) =
-      subst (λ x. IsNodeIn followed x t) (sym (same_seed (slice_get nodes at) k j form (From m) e f).0)
+      subst (λ x. IsNodeIn (device_of words) followed x t) (sym (same_seed (slice_get nodes at) k j form (From m) e f).0)
       (successor_node words A i s l is j t (expansion_node seeds m i form2 s g d) only)
 
 short : (o : Option AbsState) → length (as_list o) ≤ 1

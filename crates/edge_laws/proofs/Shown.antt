@@ -1,10 +1,10 @@
 -- A filled list ascends as its seeds do.
-use Rattle.std.proofs.Common.{refl, sym, subst, ℕ, List, length}
+use Rattle.std.proofs.Common.{refl, sym, subst, List, length}
 use Rattle.std.specs.List.Sorted.{IsStrictlySortedBy}
 use Rattle.std.proofs.lemmas.Option.{slice_get_read}
 use Rattle.avr_model.specs.declared.assumption.Entry.{Entry}
 use Rattle.avr_model.specs.Assumptions.{has_pairs}
-use Rattle.avr_model.specs.Devices.{Program}
+use Rattle.avr_model.specs.Devices.{Program, device_of}
 use Rattle.mask_states.specs.Order.{node_cmp}
 use Rattle.local_rules.specs.declared.local.Node.{Node}
 use Rattle.edge_rules.specs.Views.{AreShown}
@@ -12,7 +12,7 @@ use Rattle.edge_rules.specs.Expansion.{Seeds, IsFilled}
 use Rattle.edge_laws.specs.Expansions.{AreSeedsAscending, FilledListsAreShown}
 use Rattle.edge_laws.proofs.Steps.{filled_or_missing}
 
-shown : (words : Program) (A : List Entry) (nodes : Seeds) (filled : List Node) → IsFilled words A nodes filled → AreSeedsAscending nodes → AreShown filled
+shown : (words : Program) (A : List Entry) (nodes : Seeds) (filled : List Node) → IsFilled words A nodes filled → AreSeedsAscending nodes → AreShown (device_of words) filled
 shown words A nodes filled f ascending = record {
   followed = has_pairs A;
   ascending = subst (IsStrictlySortedBy node_cmp) (sym (filled_or_missing.keys words A nodes filled f)) ascending;

@@ -6,7 +6,7 @@ use Rattle.basics.specs.Numbers.{same_if_neither}
 use Rattle.basics.specs.Lists.{get_inside}
 use Rattle.avr_model.specs.declared.assumption.Entry.{Entry}
 use Rattle.avr_model.specs.Assumptions.{has_pairs}
-use Rattle.avr_model.specs.Devices.{Program}
+use Rattle.avr_model.specs.Devices.{Program, device_of}
 use Rattle.abs_state.specs.declared.state.AbsState.{AbsState}
 use Rattle.mask_states.specs.declared.keys.NodeKey.{NodeKey}
 use Rattle.local_rules.specs.declared.local.Local.{Local}
@@ -28,7 +28,7 @@ module _ (words : Program) (A : List Entry) (nodes : Seeds) where
 
   -- ---- what is worked out is the expansion
 
-  module _ (seeds : AreSeeds (has_pairs A) nodes) (at : ℕ) (done : List Node) (so : AreExpandedSoFar words A nodes at done) (k : NodeKey) where
+  module _ (seeds : AreSeeds (device_of words) (has_pairs A) nodes) (at : ℕ) (done : List Node) (so : AreExpandedSoFar words A nodes at done) (k : NodeKey) where
     picked_is : (m : ℕ) (s : AbsState) (n : Node) → slice_get nodes at ≡ Some (k, From m) → slice_get done m ≡ Some n → (r : Result Local NodeFault)
         → local words A n.key n.state ≡ r → picked k r ≡ Some s → IsExpansion words A nodes at s
     picked_is m s n e g (Ok l) is p =
@@ -64,7 +64,7 @@ module _ (words : Program) (A : List Entry) (nodes : Seeds) where
 
   -- ---- one node more
 
-  pub one_more : AreSeeds (has_pairs A) nodes → (at : ℕ) (done : List Node) → AreExpandedSoFar words A nodes at done → (k : NodeKey) (form : NodeForm) (s : AbsState)
+  pub one_more : AreSeeds (device_of words) (has_pairs A) nodes → (at : ℕ) (done : List Node) → AreExpandedSoFar words A nodes at done → (k : NodeKey) (form : NodeForm) (s : AbsState)
       → slice_get nodes at ≡ Some (k, form) → worked words A done k form ≡ Some s → AreExpandedSoFar words A nodes (at + 1) (done ++ record { key = k; state = s } ∷ [])
   one_more seeds at done so k form s e p = record {
     count = omega (arith, length-append done (record { key = k; state = s } ∷ []), so.count);
@@ -99,7 +99,7 @@ module _ (words : Program) (A : List Entry) (nodes : Seeds) where
   abbrev Decided : Type 0
   Decided = ((filled : List Node) × IsFilled words A nodes filled) ⊎ ((at : ℕ) × IsMissing words A nodes at)
 
-  go : AreSeeds (has_pairs A) nodes → (left at : ℕ) (done : List Node) → at + left ≡ length nodes → AreExpandedSoFar words A nodes at done → Decided
+  go : AreSeeds (device_of words) (has_pairs A) nodes → (left at : ℕ) (done : List Node) → at + left ≡ length nodes → AreExpandedSoFar words A nodes at done → Decided
   go seeds zero at done e so = let full : at ≡ length nodes = omega (arith, e) in inl (done, whole done (subst (λ x. AreExpandedSoFar words A nodes x done) full so))
   go seeds (suc left) at done e so =
       by (λ new more. go seeds left (at + 1) new (omega (arith, e)) more) (worked words A done seed.0.0 seed.0.1) refl

@@ -1,11 +1,12 @@
 -- Successors of one key.
-use Rattle.std.proofs.Common.{◌≡◌, refl, sym, ap, ◌∙◌, subst, ℕ, Bool, true, false, if◌then◌else◌, List, [], ◌∷◌, map, Some, Ok}
+use Rattle.std.proofs.Common.{◌≡◌, refl, sym, ap, ◌∙◌, subst, Bool, true, false, if◌then◌else◌, List, [], ◌∷◌, map, Some, Ok}
 use Rattle.std.specs.List.{AllByRecursion}
 use Rattle.std.specs.List.Sorted.{IsStrictlySortedBy}
 use Rattle.std.specs.declared.cmp.Ordering.TheVariants.{Less, Equal}
 use Rattle.basics.specs.Items.{first_in, further_in}
+use Rattle.avr_model.specs.declared.device.Device.{Device}
 use Rattle.avr_model.specs.declared.assumption.Entry.{Entry}
-use Rattle.avr_model.specs.Devices.{Program}
+use Rattle.avr_model.specs.Devices.{Program, device_of}
 use Rattle.abs_state.specs.declared.state.AbsState.{AbsState}
 use Rattle.mask_states.specs.declared.keys.NodeKey.{NodeKey}
 use Rattle.mask_states.specs.Order.{node_cmp, same_node}
@@ -51,15 +52,15 @@ firsts k (n ∷ ns) h = by (firsts k ns h.1) (same_node n.key k) refl
     by rest true e = ap (λ l. n.state ∷ l) (none_before k ns (subst (λ j. IsKeyBefore j ns) ((keys_are_ordered.same_nodes n.key k).0 e) h.0))
     by rest false e = rest
 
-picked_node : {followed : Bool} (k : NodeKey) (ns : List Node) (t : AbsState) → AreNodesIn followed ns → states_at k ns ≡ t ∷ [] → IsNodeIn followed k t
-picked_node {followed = followed} k [] t h e = cc
-picked_node {followed = followed} k (n ∷ ns) t h e = by (picked_node k ns t (λ x i. h x (further_in n x ns i))) (same_node n.key k) refl e
+picked_node : {device : Device} {followed : Bool} (k : NodeKey) (ns : List Node) (t : AbsState) → AreNodesIn device followed ns → states_at k ns ≡ t ∷ [] → IsNodeIn device followed k t
+picked_node {device = device} {followed = followed} k [] t h e = cc
+picked_node {device = device} {followed = followed} k (n ∷ ns) t h e = by (picked_node k ns t (λ x i. h x (further_in n x ns i))) (same_node n.key k) refl e
   where
-    by : (states_at k ns ≡ t ∷ [] → IsNodeIn followed k t) → (b : Bool) → same_node n.key k ≡ b
-        → (if b then n.state ∷ states_at k ns else states_at k ns) ≡ t ∷ [] → IsNodeIn followed k t
+    by : (states_at k ns ≡ t ∷ [] → IsNodeIn device followed k t) → (b : Bool) → same_node n.key k ≡ b
+        → (if b then n.state ∷ states_at k ns else states_at k ns) ≡ t ∷ [] → IsNodeIn device followed k t
     by rest true is e =
         let s : n.state ≡ t = cc in
-        subst (IsNodeIn followed k) s (subst (λ x. IsNodeIn followed x n.state) ((keys_are_ordered.same_nodes n.key k).0 is) (h n (first_in n ns)))
+        subst (IsNodeIn device followed k) s (subst (λ x. IsNodeIn device followed x n.state) ((keys_are_ordered.same_nodes n.key k).0 is) (h n (first_in n ns)))
     by rest false is e = rest e
 
 -- ---- of a node
@@ -79,8 +80,8 @@ module _ (words : Program) (A : List Entry) (j : NodeKey) (s : AbsState) (l : Lo
   pub only_first : (k : NodeKey) → states_at k l.same ≡ as_list (first_at k l.same)
   only_first k = firsts k l.same (subst AscendByKey (sym local_same.1) (joins_are_least.ascending (raw words A j s).moves))
 
-  pub successor_node : {followed : Bool} (k : NodeKey) (t : AbsState) → IsNodeIn followed j s → states_at k l.same ≡ t ∷ [] → IsNodeIn followed k t
+  pub successor_node : {followed : Bool} (k : NodeKey) (t : AbsState) → IsNodeIn (device_of words) followed j s → states_at k l.same ≡ t ∷ [] → IsNodeIn (device_of words) followed k t
   successor_node {followed = followed} k t node =
       picked_node k l.same t
-      (subst (AreNodesIn followed) (sym local_same.1)
+      (subst (AreNodesIn (device_of words) followed) (sym local_same.1)
       (joins_are_least.nodes (raw words A j s).moves (λ to i. (local_parts_are_nodes.nodes words A j s to node local_same.0 i).1)))

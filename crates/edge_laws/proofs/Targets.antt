@@ -1,12 +1,12 @@
 -- Edges between nodes of the analysis lead to such nodes.
 use Rattle.std.proofs.Common.{◌≡◌, ◌≢◌, refl, sym, ◌∙◌, ap, ap₂, subst, ℕ, ◌^◌, ◌<◌, ◌≤◌, ◌&&◌, Bool, true, false, List, Option, Some, Contains, arith}
 use Rattle.std.proofs.lemmas.Bool.Decides.{nat_tests}
+use Rattle.std.proofs.lemmas.Nat.{pow_pos}
 use Rattle.avr_model.proofs.AllLaws.{devices_are_alike}
-use Rattle.avr_model.specs.Devices.{Program, device_of}
+use Rattle.avr_model.specs.Devices.{Program, words_of, limit_of, device_of}
 use Rattle.avr_model.specs.declared.device.Device.{Device}
 use Rattle.avr_model.specs.declared.assumption.Entry.{Entry}
-use Rattle.avr_model.specs.Image.{WORDS}
-use Rattle.avr_model.specs.Vectors.{is_enabled, vector_word}
+use Rattle.avr_model.specs.Vectors.{enable_count, is_enabled, last_vector, vector_word}
 use Rattle.pair_domain.specs.Facts.{is_followed}
 use Rattle.pair_domain.proofs.AllLaws.{facts_rise}
 use Rattle.abs_state.specs.declared.state.AbsState.{AbsState}
@@ -49,11 +49,14 @@ following_root_formed = record {
   facts = facts_rise.nothing_fits;
 }
 
-reset_node : (followed : Bool) → IsNodeIn followed (entry_key root_inst) (root_by followed)
-reset_node true = record {
-  word = omega arith;
+some_word : (device : Device) → 0 < limit_of device
+some_word device = omega (arith, devices_are_alike.inside device 0, devices_are_alike.in_limit device)
+
+reset_node : (device : Device) (followed : Bool) → IsNodeIn device followed (entry_key root_inst) (root_by followed)
+reset_node device true = record {
+  word = some_word device;
   small = omega arith;
-  masks = omega arith;
+  masks = pow_pos (enable_count device);
   fits = tt;
   pick = tt;
   formed = following_root_formed;
@@ -68,10 +71,10 @@ reset_node true = record {
   mode = refl;
   hulls = hulls_hold_intervals.following_root;
 }
-reset_node false = record {
-  word = omega arith;
+reset_node device false = record {
+  word = some_word device;
   small = omega arith;
-  masks = omega arith;
+  masks = pow_pos (enable_count device);
   fits = tt;
   pick = tt;
   formed = reset_stands.formed;
@@ -82,8 +85,8 @@ reset_node false = record {
   hulls = hulls_hold_intervals.root;
 }
 
-entry_node : {followed : Bool} (s : AbsState) (offset : ℕ) (inst : InstKey) → IsFormed s offset → is_followed s.facts ≡ followed → IsInHulls s → inst.kind ≢ Root → inst.entry < WORDS → inst.masks < 2 ^ 25
-    → IsNodeIn followed (entry_key inst) (entered s)
+entry_node : {device : Device} {followed : Bool} (s : AbsState) (offset : ℕ) (inst : InstKey) → IsFormed s offset → is_followed s.facts ≡ followed → IsInHulls s → inst.kind ≢ Root → inst.entry < limit_of device → inst.masks < 2 ^ enable_count device
+    → IsNodeIn device followed (entry_key inst) (entered s)
 entry_node s offset inst formed mode hulls other word masks = record {
   word = word;
   small = omega arith;
@@ -98,27 +101,34 @@ entry_node s offset inst formed mode hulls other word masks = record {
   hulls = hulls_hold_intervals.entered s formed.count_registers hulls;
 }
 
-enabled_small : (enables v : ℕ) → is_enabled enables v ≡ true → v ≤ 26
-enabled_small enables v e = grind (arith, nat_tests)
+enabled_small : (device : Device) (enables v : ℕ) → is_enabled device enables v ≡ true → v ≤ last_vector device
+unfolding is_enabled
+enabled_small device enables v e = grind (arith, nat_tests)
 
-pub vector_small : (device : Device) (v : ℕ) → v ≤ 26 → vector_word device v < WORDS
-vector_small device v h = let inside = devices_are_alike.vectors device v h in let most = devices_are_alike.most_words device in omega arith
+-- a word of the device's flash is one of its texts
+in_texts : (device : Device) (word : ℕ) → word < words_of device → word < limit_of device
+in_texts device word lt = through word (words_of device) (limit_of device) lt (devices_are_alike.in_limit device)
+  where
+    through : (x y z : ℕ) → x < y → y ≤ z → x < z
+    through x y z lt le = omega arith
 
-entered_node : {followed : Bool} (words : Program) (A : List Entry) (n : Node) (way : EdgeKind) (inst : InstKey) (back : ℕ) → IsNodeIn followed n.key n.state → Enters words A n way inst back
-    → IsNodeIn followed (entry_key inst) (entered n.state) × (back < WORDS)
+pub vector_small : (device : Device) (v : ℕ) → v ≤ last_vector device → vector_word device v < limit_of device
+vector_small device v h = in_texts device (vector_word device v) (devices_are_alike.vectors device v h)
+
+entered_node : {followed : Bool} (words : Program) (A : List Entry) (n : Node) (way : EdgeKind) (inst : InstKey) (back : ℕ) → IsNodeIn (device_of words) followed n.key n.state → Enters words A n way inst back
+    → IsNodeIn (device_of words) followed (entry_key inst) (entered n.state) × (back < limit_of (device_of words))
 entered_node words A n _ _ _ node (by_call offset site faultless form member) =
     let lead = (local_parts_fit.fit words A n.key n.state).calls site member in
-    let few = devices_are_alike.most_words (device_of words) in
-    (entry_node n.state (offset_of n.key.sp) (called_inst n.key site.entry) node.formed node.mode node.hulls (λ kind. absurd (cc)) (omega (arith, lead.0, few)) node.masks, omega (arith, lead.1, few))
+    (entry_node n.state (offset_of n.key.sp) (called_inst n.key site.entry) node.formed node.mode node.hulls (λ kind. absurd (cc)) (in_texts (device_of words) site.entry lead.0) node.masks, in_texts (device_of words) site.back lead.1)
 entered_node words A n _ _ _ node (by_interrupt offset v clears faultless form i delay enabled allowed clearable) = (
-  entry_node n.state (offset_of n.key.sp) (vector_inst words n.key v clears) node.formed node.mode node.hulls (λ kind. absurd (cc)) (vector_small (device_of words) v (enabled_small n.key.masks v enabled))
-      (enables_are_vectors.taken n.key.masks clears node.masks),
+  entry_node n.state (offset_of n.key.sp) (vector_inst words n.key v clears) node.formed node.mode node.hulls (λ kind. absurd (cc)) (vector_small (device_of words) v (enabled_small (device_of words) n.key.masks v enabled))
+      (enables_are_vectors.taken (device_of words) n.key.masks clears node.masks),
   node.word,
 )
 
 -- ---- returns
 
-pub at_base : {followed : Bool} (k : NodeKey) (s : AbsState) → IsNodeIn followed k s → k.sp ≡ Closed 0 → IsFormed s 0
+pub at_base : {device : Device} {followed : Bool} (k : NodeKey) (s : AbsState) → IsNodeIn device followed k s → k.sp ≡ Closed 0 → IsFormed s 0
 at_base k s node e = subst (IsFormed s) (ap offset_of e) node.formed
 
 pick_fits : (way : EdgeKind) (pick : Option ℕ) → PickFits pick → PickFits (pick_back way pick)
@@ -131,15 +141,15 @@ both_same : (b : Bool) → (b && b) ≡ b
 both_same true = refl
 both_same false = refl
 
-returned_node : {followed : Bool} (words : Program) (A : List Entry) (way : EdgeKind) (n leaver : Node) (back : ℕ) (x : Exit) (t : AbsState) → IsNodeIn followed n.key n.state → back < WORDS
-    → IsNodeIn followed leaver.key leaver.state → (raw_of words A leaver).exit ≡ Some x → returned n.state leaver.state ≡ Some t → IsNodeIn followed (returned_key way n.key back x) t
+returned_node : {followed : Bool} (words : Program) (A : List Entry) (way : EdgeKind) (n leaver : Node) (back : ℕ) (x : Exit) (t : AbsState) → IsNodeIn (device_of words) followed n.key n.state → back < limit_of (device_of words)
+    → IsNodeIn (device_of words) followed leaver.key leaver.state → (raw_of words A leaver).exit ≡ Some x → returned n.state leaver.state ≡ Some t → IsNodeIn (device_of words) followed (returned_key way n.key back x) t
 returned_node {followed = followed} words A way n leaver back x t node word other exit is =
     let left = (local_parts_fit.fit words A leaver.key leaver.state).exit x exit in
     let base = at_base leaver.key leaver.state other left.0 in
     record {
       word = word;
       small = node.small;
-      masks = subst (λ (m : ℕ). m < 2 ^ 25) (sym left.1) other.masks;
+      masks = subst (λ (m : ℕ). m < 2 ^ enable_count (device_of words)) (sym left.1) other.masks;
       fits = node.fits;
       pick = pick_fits way n.key.pick node.pick;
       formed = returns_are_true.formed n.state leaver.state t (offset_of n.key.sp) node.formed base is;
@@ -152,15 +162,15 @@ returned_node {followed = followed} words A way n leaver back x t node word othe
 
 -- ---- edges
 
-lead_node : {followed : Bool} (words : Program) (A : List Entry) (nodes : List Node) (n to : Node) → AreNodesIn followed nodes → Contains nodes n → Leads words A nodes n to
-    → IsNodeIn followed to.key to.state
+lead_node : {followed : Bool} (words : Program) (A : List Entry) (nodes : List Node) (n to : Node) → AreNodesIn (device_of words) followed nodes → Contains nodes n → Leads words A nodes n to
+    → IsNodeIn (device_of words) followed to.key to.state
 lead_node words A nodes n _ are here (along_move to faultless member) = (local_parts_are_nodes.nodes words A n.key n.state to (are n here) faultless member).1
 lead_node words A nodes n _ are here (along_entry way inst back enters) = (entered_node words A n way inst back (are n here) enters).0
 lead_node words A nodes n _ are here (along_return way inst back leaver x state enters present same faultless exit is) =
     returned_node words A way n leaver back x state (are n here) (entered_node words A n way inst back (are n here) enters).1 (are leaver present) exit is
 
-edge_node : {followed : Bool} (words : Program) (A : List Entry) (nodes : List Node) (n : Node) (e : Edge) → AreNodesIn followed nodes → Contains nodes n → IsEdge words A nodes n e
-    → IsNodeIn followed e.to e.state
+edge_node : {followed : Bool} (words : Program) (A : List Entry) (nodes : List Node) (n : Node) (e : Edge) → AreNodesIn (device_of words) followed nodes → Contains nodes n → IsEdge words A nodes n e
+    → IsNodeIn (device_of words) followed e.to e.state
 edge_node words A nodes n _ are here (moving to faultless member) =
     joins_are_least.nodes (raw_of words A n).moves (λ m i. (local_parts_are_nodes.nodes words A n.key n.state m (are n here) faultless i).1) to member
 edge_node words A nodes n _ are here (entering way inst back enters) = (entered_node words A n way inst back (are n here) enters).0

@@ -3,7 +3,7 @@ use Rattle.std.specs.Prelude.{ℕ, ◌≡◌, List, [], ◌∷◌, length, if◌
 use Rattle.std.specs.List.{slice_get}
 use Rattle.avr_model.specs.declared.assumption.Entry.{Entry}
 use Rattle.avr_model.specs.Assumptions.{has_pairs}
-use Rattle.avr_model.specs.Devices.{Program}
+use Rattle.avr_model.specs.Devices.{Program, device_of}
 use Rattle.abs_state.specs.declared.state.AbsState.{AbsState}
 use Rattle.mask_states.specs.declared.keys.NodeKey.{NodeKey}
 use Rattle.mask_states.specs.Order.{same_node}
@@ -37,7 +37,7 @@ worked words A done k (From m) = carried words A k (slice_get done m)
 pub record IsWorked (words : Program) (A : List Entry) (nodes : Seeds) (at : ℕ) (n : Node) : Type 0 where
   pub key : HasKeyAt nodes at n.key
   pub state : IsExpansion words A nodes at n.state
-  pub node : IsNodeIn (has_pairs A) n.key n.state
+  pub node : IsNodeIn (device_of words) (has_pairs A) n.key n.state
 
 -- the first nodes with their expansions
 pub record AreExpandedSoFar (words : Program) (A : List Entry) (nodes : Seeds) (at : ℕ) (done : List Node) : Type 0 where

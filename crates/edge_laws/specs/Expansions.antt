@@ -4,7 +4,7 @@ use Rattle.std.specs.List.{slice_get}
 use Rattle.std.specs.List.Sorted.{IsStrictlySortedBy}
 use Rattle.avr_model.specs.declared.assumption.Entry.{Entry}
 use Rattle.avr_model.specs.Assumptions.{has_pairs}
-use Rattle.avr_model.specs.Devices.{Program}
+use Rattle.avr_model.specs.Devices.{Program, device_of}
 use Rattle.abs_state.specs.declared.state.AbsState.{AbsState}
 use Rattle.mask_states.specs.declared.keys.NodeKey.{NodeKey}
 use Rattle.mask_states.specs.Order.{node_cmp}
@@ -23,8 +23,8 @@ pub record ExpansionsAreOne : Type 0 where
 
 -- expansions of valid seeds are nodes of the analysis
 pub record ExpansionsAreNodes : Type 0 where
-  pub node : {followed : Bool} (words : Program) (A : List Entry) (nodes : Seeds) (at : ℕ) (k : NodeKey) (form : NodeForm) (s : AbsState) → AreSeeds followed nodes
-      → slice_get nodes at ≡ Some (k, form) → IsExpansion words A nodes at s → IsNodeIn followed k s
+  pub node : {followed : Bool} (words : Program) (A : List Entry) (nodes : Seeds) (at : ℕ) (k : NodeKey) (form : NodeForm) (s : AbsState) → AreSeeds (device_of words) followed nodes
+      → slice_get nodes at ≡ Some (k, form) → IsExpansion words A nodes at s → IsNodeIn (device_of words) followed k s
 
 -- the node j with this state has no fault, and exactly one successor with the key k, whose state is t
 abbrev pub HasSuccessor : Program → List Entry → NodeKey → AbsState → NodeKey → AbsState → Type 0
@@ -45,7 +45,7 @@ pub record SuccessorsAreOne : Type 0 where
 
 -- Either all nodes have expansions, or there is a least one that has none. The filled list and the least number are unique.
 pub record FilledOrMissing : Type 0 where
-  pub decided : (words : Program) (A : List Entry) (nodes : Seeds) → AreSeeds (has_pairs A) nodes → ((filled : List Node) × IsFilled words A nodes filled) ⊎ ((at : ℕ) × IsMissing words A nodes at)
+  pub decided : (words : Program) (A : List Entry) (nodes : Seeds) → AreSeeds (device_of words) (has_pairs A) nodes → ((filled : List Node) × IsFilled words A nodes filled) ⊎ ((at : ℕ) × IsMissing words A nodes at)
   pub apart : (words : Program) (A : List Entry) (nodes : Seeds) (filled : List Node) (at : ℕ) → IsFilled words A nodes filled → IsMissing words A nodes at → ⊥
   pub least : (words : Program) (A : List Entry) (nodes : Seeds) (i j : ℕ) → IsMissing words A nodes i → IsMissing words A nodes j → i ≡ j
   pub keys : (words : Program) (A : List Entry) (nodes : Seeds) (filled : List Node) → IsFilled words A nodes filled
@@ -58,4 +58,4 @@ AreSeedsAscending nodes = IsStrictlySortedBy node_cmp (map (λ e. e.0) nodes)
 
 -- If the keys ascend, so does the filled list, and all its nodes are nodes of the analysis.
 pub record FilledListsAreShown : Type 0 where
-  pub shown : (words : Program) (A : List Entry) (nodes : Seeds) (filled : List Node) → IsFilled words A nodes filled → AreSeedsAscending nodes → AreShown filled
+  pub shown : (words : Program) (A : List Entry) (nodes : Seeds) (filled : List Node) → IsFilled words A nodes filled → AreSeedsAscending nodes → AreShown (device_of words) filled

@@ -2,7 +2,8 @@
 use Rattle.std.specs.Prelude.{ℕ, ◌+◌, ◌-◌, ◌≡◌, ◌<◌, ⊤, Bool, true, List, [], ◌∷◌, length, Some, Contains}
 use Rattle.avr_model.specs.Devices.{Program, ramend, device_of}
 use Rattle.avr_model.specs.declared.assumption.Entry.{Entry}
-use Rattle.avr_model.specs.Assumptions.{has_pairs, has_masks}
+use Rattle.avr_model.specs.Assumptions.{has_pairs}
+use Rattle.avr_model.specs.Masks.{reads_masks}
 use Rattle.avr_model.specs.declared.choice.Choice.{Choice}
 use Rattle.avr_model.specs.declared.choice.Choice.TheVariants.{Go, Take}
 use Rattle.avr_model.specs.Sreg.{flag}
@@ -55,8 +56,8 @@ pub record IsLeft (words : Program) (A : List Entry) (f : RankedFamily) (memory 
   pub back : ℕ
   pub enters : Enters words A g.node way inst back
   pub rank : f.rank_of inst < f.rank_of g.node.key.inst
-  pub low_byte : byte_in memory.bytes (o.base + 2) ≡ low back
-  pub high_byte : byte_in memory.bytes (o.base + 1) ≡ high back
+  pub low_byte : byte_in memory.below memory.bytes (o.base + 2) ≡ low back
+  pub high_byte : byte_in memory.below memory.bytes (o.base + 1) ≡ high back
   pub low_live : is_live memory (o.base + 2) ≡ true
   pub high_live : is_live memory (o.base + 1) ≡ true
 
@@ -69,7 +70,7 @@ AreLeft words A f memory (g ∷ gs) inst o = IsLeft words A f memory g inst o ×
 pub record Runs (words : Program) (A : List Entry) (f : RankedFamily) (m : State) (g : Frame) (gs : List Frame) : Type 0 where
   pub device : m.device ≡ device_of words
   pub present : Contains f.nodes g.node
-  pub running : InFrameIn (has_pairs A) (has_masks A) m g.origin g.node.key g.node.state
+  pub running : InFrameIn (has_pairs A) (reads_masks (device_of words) A) m g.origin g.node.key g.node.state
   pub left : AreLeft words A f m.memory gs g.node.key.inst g.origin
 
 -- the machine has some frames

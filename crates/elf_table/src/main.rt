@@ -1,9 +1,9 @@
-//! Prints the contents of three ELF files of a real toolchain: a digest of the words of flash, the end of static data, and the names. The
-//! gate compares them with those of the toolchain; `tests/elf/README.md` says how the expected text is made.
+//! Prints the contents of three ELF files of a real toolchain, for the ATmega328P: a digest of the words of flash, the end of static data,
+//! and the names. The gate compares them with those of the toolchain; `tests/elf/README.md` says how the expected text is made.
 #![tactic(auto)]
 
 use elf_load::{Loaded, is_elf, load};
-use flash_image::Flash;
+use flash_image::{Device, Flash};
 use std::{fs, io, str};
 
 const FILES: [&str; 3] = ["blink.elf", "ticks.elf", "sorted.elf"];
@@ -41,7 +41,7 @@ fn show(rt: &HostRuntime, name: &str) -> io::Result<()> {
     if !is_elf(&bytes) {
         return println!(rt; "{name} isn't ELF");
     }
-    match load(rt.alloc(), &bytes) {
+    match load(rt.alloc(), Device::M328, &bytes) {
         Ok(loaded) => {
             println!(rt; "{name} words {:08X}", digest_of(&loaded.flash))?;
             match loaded.static_end {

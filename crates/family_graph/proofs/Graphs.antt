@@ -9,12 +9,14 @@ use Rattle.basics.specs.Items.{contained_at, get_contained}
 use Rattle.basics.specs.Numbers.{before_or_last}
 use Rattle.avr_model.specs.declared.assumption.Entry.{Entry}
 use Rattle.avr_model.specs.Devices.{Program}
+use Rattle.avr_model.specs.State.{SIZE}
+use Rattle.avr_model.proofs.AllLaws.{devices_are_alike}
 use Rattle.mask_states.specs.declared.keys.InstKey.{InstKey}
 use Rattle.mask_states.specs.declared.keys.SpForm.TheVariants.{Closed}
 use Rattle.mask_states.specs.Keys.{offset_of}
 use Rattle.mask_states.specs.Order.{inst_cmp}
 use Rattle.local_rules.specs.declared.local.Node.{Node}
-use Rattle.edge_rules.specs.Views.{AreShown}
+use Rattle.call_graph.specs.Shown.{AreOfSomeDevice}
 use Rattle.nesting_bound.specs.declared.graph.Entered.{Entered}
 use Rattle.nesting_bound.specs.declared.graph.GraphInst.{GraphInst}
 use Rattle.nesting_bound.specs.declared.graph.Place.{Place}
@@ -111,9 +113,10 @@ first_of : (nodes : List Node) → 0 < length nodes → (n : Node) × (slice_get
 first_of [] h = absurd (omega (arith, h))
 first_of (n ∷ ns) h = (n, refl)
 
-module _ (words : Program) (A : List Entry) (nodes : List Node) (shown : AreShown nodes) (gs : List GraphInst) (is : IsGraphOf words A nodes gs) where
-  small : (n : Node) (at offset : ℕ) → slice_get nodes at ≡ Some n → n.key.sp ≡ Closed offset → offset ≤ 2048
-  small n at offset here closed = subst (λ (x : ℕ). x ≤ 2048) (ap offset_of closed) (shown.all n (contained_at nodes at n here)).small
+module _ (words : Program) (A : List Entry) (nodes : List Node) (shown : AreOfSomeDevice nodes) (gs : List GraphInst) (is : IsGraphOf words A nodes gs) where
+  small : (n : Node) (at offset : ℕ) → slice_get nodes at ≡ Some n → n.key.sp ≡ Closed offset → offset ≤ SIZE
+  small n at offset here closed =
+      let small = (shown.1.all n (contained_at nodes at n here)).small in omega (arith, small, ap offset_of closed, devices_are_alike.most_depth shown.0)
 
   some_inst : 0 < length nodes → 0 < length (insts_of gs)
   some_inst some =

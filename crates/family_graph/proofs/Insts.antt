@@ -17,7 +17,8 @@ use Rattle.mask_states.specs.declared.keys.NodeKey.{NodeKey}
 use Rattle.mask_states.specs.Order.{inst_cmp, same_inst}
 use Rattle.mask_states.proofs.AllLaws.{keys_are_ordered, nodes_go_by_instance}
 use Rattle.local_rules.specs.declared.local.Node.{Node}
-use Rattle.edge_rules.specs.Views.{AreShown, IsSpan, key_of}
+use Rattle.edge_rules.specs.Views.{IsSpan, key_of}
+use Rattle.call_graph.specs.Shown.{AreOfSomeDevice}
 use Rattle.family_graph.specs.Graphs.{HasInst}
 use Rattle.family_graph.specs.Numbers.{number_in, EndsWith, Grows, stays, adds, AreInstNumbers}
 use Rattle.family_graph.proofs.Lists.{get_left, index_left, index_behind, all_last}
@@ -107,7 +108,7 @@ module _ (nodes : List Node) where
     short [] h = refl
     short (x ∷ xs) h = absurd (omega (arith, h))
 
-    ascends_at : (k : ℕ) → at ≡ k → AreShown nodes → (insts : List InstKey) (numbers : List ℕ) → AreInstNumbers nodes at insts numbers → (EndsWith insts n.key.inst → ⊥)
+    ascends_at : (k : ℕ) → at ≡ k → AreOfSomeDevice nodes → (insts : List InstKey) (numbers : List ℕ) → AreInstNumbers nodes at insts numbers → (EndsWith insts n.key.inst → ⊥)
         → IsStrictlySortedBy inst_cmp (insts ++ n.key.inst ∷ [])
     ascends_at zero is shown insts numbers are new =
         subst (λ (xs : List InstKey). IsStrictlySortedBy inst_cmp (xs ++ n.key.inst ∷ [])) (sym (short insts (omega (arith, are.few, is)))) (sorted_one n.key.inst)
@@ -116,12 +117,12 @@ module _ (nodes : List Node) where
         let p = get_or nodes (at - 1) n in
         let there : slice_get nodes (at - 1) ≡ Some p = slice_get-get_or nodes (at - 1) n inside in
         let ends = are.last p (omega (arith, is)) there in
-        elim (nodes_go_by_instance.rises p.key n.key (pair nodes (at - 1) at p n shown.ascending there here (omega (arith, is)))) [
+        elim (nodes_go_by_instance.rises p.key n.key (pair nodes (at - 1) at p n shown.1.ascending there here (omega (arith, is)))) [
           | inl less ↦ sorted_end insts p.key.inst n.key.inst are.ascending ends less
           | inr same ↦ absurd (new (subst (EndsWith insts) same ends))
         ]
 
-    pub numbered_more : AreShown nodes → (insts : List InstKey) (numbers : List ℕ) (insts' : List InstKey) (number : ℕ) → AreInstNumbers nodes at insts numbers
+    pub numbered_more : AreOfSomeDevice nodes → (insts : List InstKey) (numbers : List ℕ) (insts' : List InstKey) (number : ℕ) → AreInstNumbers nodes at insts numbers
         → Grows insts n.key.inst insts' → number + 1 ≡ length insts' → AreInstNumbers nodes (at + 1) insts' (numbers ++ number ∷ [])
     numbered_more shown insts numbers insts' number are (stays ends) is =
         record {
@@ -183,7 +184,7 @@ pub numbered_none : (nodes : List Node) (insts : List InstKey) (numbers : List �
 numbered_none nodes insts numbers a b =
     subst (λ (xs : List InstKey). AreInstNumbers nodes 0 xs numbers) (sym a) (subst (AreInstNumbers nodes 0 []) (sym b) (none_numbered nodes))
 
-pub numbered_step : (nodes : List Node) (at : ℕ) (k : NodeKey) → option_map key_of (slice_get nodes at) ≡ Some k → AreShown nodes
+pub numbered_step : (nodes : List Node) (at : ℕ) (k : NodeKey) → option_map key_of (slice_get nodes at) ≡ Some k → AreOfSomeDevice nodes
     → (insts : List InstKey) (numbers : List ℕ) (insts' : List InstKey) (number : ℕ) (numbers' : List ℕ) → AreInstNumbers nodes at insts numbers
     → Grows insts k.inst insts' → number + 1 ≡ length insts' → numbers' ≡ numbers ++ number ∷ [] → AreInstNumbers nodes (at + 1) insts' numbers'
 numbered_step nodes at k here shown insts numbers insts' number numbers' are grows is pushed =

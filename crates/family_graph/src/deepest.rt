@@ -18,7 +18,7 @@ use std::alloc::AllocError;
 /// The deepest chain of a family.
 #[derive(Drop)]
 pub struct Deepest {
-    /// The least need of the root, at most 2,048.
+    /// The least need of the root, at most the bound.
     pub need: u32,
     /// The links from the root on.
     pub links: Listed<Link>,

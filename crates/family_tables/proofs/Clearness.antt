@@ -6,10 +6,10 @@ use Rattle.basics.specs.Items.{none_in, first_or_further, first_in}
 use Rattle.avr_model.specs.declared.instruction.Instr.TheVariants as i
 use Rattle.avr_model.specs.Assumptions.{has_pairs}
 use Rattle.avr_model.specs.Bits.{any_below, all_below}
-use Rattle.avr_model.specs.Devices.{size_of, device_of, device_row}
+use Rattle.avr_model.specs.Devices.{M328, size_of, device_of, device_row}
 use Rattle.avr_model.specs.Sites.{instruction_at, is_scratch, table_site, ijmp_from}
 use Rattle.avr_model.specs.Table.{decoded}
-use Rattle.avr_model.specs.Vectors.{row_of}
+use Rattle.avr_model.specs.Vectors.{places, place_at, has_enables}
 use Rattle.bit_domain.specs.declared.bits.Tri.TheVariants.{Any}
 use Rattle.bit_domain.specs.Numbers.{numbers_of}
 use Rattle.bit_domain.specs.TriByte.{IsWithin, byte_any, byte_known}
@@ -58,7 +58,7 @@ unfolding raw table_site ijmp_from is_scratch any_below all_below decoded device
 read_leads = refl
 
 store_leads : raw_of over_room [] (at_depth 2 2) ≡ one (at_depth 4 2).key (with_bytes 2)
-unfolding raw table_site ijmp_from is_scratch any_below all_below decoded device_row written_at numbers_of enable_tri row_of
+unfolding raw table_site ijmp_from is_scratch any_below all_below decoded device_row written_at numbers_of enable_tri place_at places has_enables
 store_leads = refl
 
 loop_leads : raw_of over_room [] (at_depth 4 2) ≡ one (at_depth 4 2).key (with_bytes 2)
@@ -115,7 +115,8 @@ module _ (n : ℕ) where
   itself_above : IsStateWithin (with_bytes n) (with_bytes n)
   itself_above = above (with_bytes n) reset_stands.formed.ranges count
 
-  node_at : (pc : ℕ) → pc < 16384 → n ≤ 2048 → IsNode (at_depth pc n).key (at_depth pc n).state
+  node_at : (pc : ℕ) → pc < 16384 → n ≤ 2048 → IsNode M328 (at_depth pc n).key (at_depth pc n).state
+  unfolding device_row
   node_at pc word small =
       record {
         word = word;
@@ -188,7 +189,7 @@ room_is_sound : IsSoundFamily over_room [] room_family
 unfolding has_pairs
 room_is_sound =
     record {
-      formed = four (λ n. IsNode n.key n.state) (node_at 0 0 (omega arith) (omega arith)) (node_at 2 1 (omega arith) (omega arith)) (node_at 2 2 (omega arith) (omega arith)) (node_at 2 4 (omega arith) (omega arith));
+      formed = four (λ n. IsNode M328 n.key n.state) (node_at 0 0 (omega arith) (omega arith)) (node_at 2 1 (omega arith) (omega arith)) (node_at 2 2 (omega arith) (omega arith)) (node_at 2 4 (omega arith) (omega arith));
       reset = record { state = with_bytes 0; present = (0, omega arith, refl); above = above 0 root reset_stands.formed.ranges refl };
       faultless =
           four (λ n. IsFaultless over_room [] n) (faultless (at_depth 0 0) refl (at_depth 1 2) room_leads) (ap (λ (r : Raw). r.faults) read_leads)

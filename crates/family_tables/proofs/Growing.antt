@@ -6,8 +6,9 @@ use Rattle.std.specs.declared.cmp.Ordering.TheVariants.{Less}
 use Rattle.std.proofs.lemmas.Option.{none-some}
 use Rattle.avr_model.specs.declared.assumption.Entry.{Entry}
 use Rattle.avr_model.specs.Assumptions.{has_pairs}
-use Rattle.avr_model.specs.Image.{WORDS}
-use Rattle.avr_model.specs.State.{SIZE}
+use Rattle.avr_model.specs.declared.device.Device.{Device}
+use Rattle.avr_model.specs.Devices.{limit_of, depth_of}
+use Rattle.avr_model.specs.Vectors.{enable_count}
 use Rattle.abs_state.specs.declared.state.AbsState.{AbsState}
 use Rattle.abs_state.specs.Values.{root}
 use Rattle.abs_state.specs.Formed.{IsFormed}
@@ -23,10 +24,10 @@ use Rattle.edge_rules.specs.Expansion.{Seeds, AreSeeds}
 use Rattle.edge_laws.specs.Expansions.{AreSeedsAscending}
 use Rattle.edge_laws.proofs.ExpansionLaws.{get_push}
 
-pub root_node : (k : NodeKey) → k.pc < WORDS → k.masks < 2 ^ 25 → k.sp ≡ Closed 0 → k.pick ≡ None → IsNode k root
-root_node k word masks closed unpicked = record {
+pub root_node : (device : Device) (k : NodeKey) → k.pc < limit_of device → k.masks < 2 ^ enable_count device → k.sp ≡ Closed 0 → k.pick ≡ None → IsNode device k root
+root_node device k word masks closed unpicked = record {
   word = word;
-  small = subst (λ p. offset_of p ≤ SIZE) (sym closed) (omega arith);
+  small = subst (λ p. offset_of p ≤ depth_of device) (sym closed) (omega arith);
   masks = masks;
   fits = subst (FormFitsKind k.inst.kind) (sym closed) tt;
   pick = subst PickFits (sym unpicked) tt;
@@ -38,13 +39,13 @@ root_node k word masks closed unpicked = record {
   hulls = tt;
 }
 
-module _ (xs : Seeds) (k : NodeKey) (f : NodeForm) where
-  pushed_seeds : AreSeeds false xs → length xs < 65536 → ((s : AbsState) → f ≡ State s → IsNode k s) → ((m : ℕ) → f ≡ From m → m < length xs)
-      → AreSeeds false (xs ++ (k, f) ∷ [])
+module _ (device : Device) (xs : Seeds) (k : NodeKey) (f : NodeForm) where
+  pushed_seeds : AreSeeds device false xs → length xs < 65536 → ((s : AbsState) → f ≡ State s → IsNode device k s) → ((m : ℕ) → f ≡ From m → m < length xs)
+      → AreSeeds device false (xs ++ (k, f) ∷ [])
   pushed_seeds seeds few own below = record {
     few = omega (arith, length-append xs ((k, f) ∷ []), few);
     own = λ at j s e. ⊎_elim (λ h. seeds.own at j s h)
-        (λ last. subst (λ x. IsNode x s) (sym (ap (λ (x : NodeKey × NodeForm). x.0) last.1)) (own s (sym (ap (λ (x : NodeKey × NodeForm). x.1) last.1))))
+        (λ last. subst (λ x. IsNode device x s) (sym (ap (λ (x : NodeKey × NodeForm). x.0) last.1)) (own s (sym (ap (λ (x : NodeKey × NodeForm). x.1) last.1))))
         (get_push xs (k, f) (j, State s) at e);
     earlier = λ at m j e. ⊎_elim (λ h. seeds.earlier at m j h)
         (λ last. subst (λ n. m < n) (sym last.0) (below m (sym (ap (λ (x : NodeKey × NodeForm). x.1) last.1))))
@@ -69,26 +70,26 @@ state_is s t e = cc
 from_is : (m n : ℕ) → From m ≡ From n → m ≡ n
 from_is m n e = cc
 
-pub with_root : (xs : Seeds) (k : NodeKey) → AreSeeds false xs → length xs < 65536 → k.pc < WORDS → k.masks < 2 ^ 25 → k.sp ≡ Closed 0 → k.pick ≡ None
-    → AreSeeds false (xs ++ (k, State root) ∷ [])
-with_root xs k seeds few word masks closed unpicked =
-    pushed_seeds xs k (State root) seeds few (λ s e. subst (IsNode k) (state_is root s e) (root_node k word masks closed unpicked)) (λ m e. absurd (cc))
+pub with_root : (device : Device) (xs : Seeds) (k : NodeKey) → AreSeeds device false xs → length xs < 65536 → k.pc < limit_of device → k.masks < 2 ^ enable_count device → k.sp ≡ Closed 0 → k.pick ≡ None
+    → AreSeeds device false (xs ++ (k, State root) ∷ [])
+with_root device xs k seeds few word masks closed unpicked =
+    pushed_seeds device xs k (State root) seeds few (λ s e. subst (IsNode device k) (state_is root s e) (root_node device k word masks closed unpicked)) (λ m e. absurd (cc))
 
-pub with_from : (xs : Seeds) (k : NodeKey) (m : ℕ) → AreSeeds false xs → length xs < 65536 → m < length xs → AreSeeds false (xs ++ (k, From m) ∷ [])
-with_from xs k m seeds few lt =
-    pushed_seeds xs k (From m) seeds few (λ s e. absurd (cc)) (λ n e. subst (λ x. x < length xs) (from_is m n e) lt)
+pub with_from : (device : Device) (xs : Seeds) (k : NodeKey) (m : ℕ) → AreSeeds device false xs → length xs < 65536 → m < length xs → AreSeeds device false (xs ++ (k, From m) ∷ [])
+with_from device xs k m seeds few lt =
+    pushed_seeds device xs k (From m) seeds few (λ s e. absurd (cc)) (λ n e. subst (λ x. x < length xs) (from_is m n e) lt)
 
-no_seeds : AreSeeds false []
-no_seeds = record { few = omega arith; own = λ at k s e. absurd (none-some (k, State s) e); earlier = λ at m k e. absurd (none-some (k, From m) e) }
+no_seeds : (device : Device) → AreSeeds device false []
+no_seeds device = record { few = omega arith; own = λ at k s e. absurd (none-some (k, State s) e); earlier = λ at m k e. absurd (none-some (k, From m) e) }
 
-pub none_given : AreSeeds false [] × AreSeedsAscending []
+pub none_given : (device : Device) → AreSeeds device false [] × AreSeedsAscending []
 unfolding IsStrictlySortedBy
-none_given = (no_seeds, tt)
+none_given device = (no_seeds device, tt)
 
 -- without an assumption pairs aren't followed
-seeds_of_none : (xs : Seeds) → AreSeeds false xs → AreSeeds (has_pairs []) xs
+seeds_of_none : (device : Device) (xs : Seeds) → AreSeeds device false xs → AreSeeds device (has_pairs []) xs
 unfolding has_pairs
-seeds_of_none xs seeds = seeds
+seeds_of_none device xs seeds = seeds
 
-pub seeds_under : (A : List Entry) (xs : Seeds) → A ≡ [] → AreSeeds false xs → AreSeeds (has_pairs A) xs
-seeds_under A xs is seeds = subst (λ (B : List Entry). AreSeeds (has_pairs B) xs) (sym is) (seeds_of_none xs seeds)
+pub seeds_under : (device : Device) (A : List Entry) (xs : Seeds) → A ≡ [] → AreSeeds device false xs → AreSeeds device (has_pairs A) xs
+seeds_under device A xs is seeds = subst (λ (B : List Entry). AreSeeds device (has_pairs B) xs) (sym is) (seeds_of_none device xs seeds)

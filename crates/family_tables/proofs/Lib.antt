@@ -1,3 +1,4 @@
 pub mod Growing
 pub mod Sampled
+pub mod Listed
 pub mod Clearness

@@ -6,7 +6,7 @@ use Rattle.basics.specs.Items.{only_one_in, none_in, first_in, further_in as the
 use Rattle.call_graph.proofs.AllLaws.{each_gathered, gathered_in}
 use Rattle.avr_model.specs.declared.assumption.Entry.{Entry}
 use Rattle.avr_model.specs.Assumptions.{has_pairs}
-use Rattle.avr_model.specs.Devices.{Program}
+use Rattle.avr_model.specs.Devices.{Program, device_of}
 use Rattle.abs_state.specs.declared.state.AbsState.{AbsState}
 use Rattle.abs_state.specs.Frames.{entered}
 use Rattle.abs_state.specs.PairsBack.{returned}
@@ -214,7 +214,7 @@ module _ (words : Program) (A : List Entry) where
 
   -- ---- the round
 
-  module _ (f : Family) (formed : AreFormed (has_pairs A) f) (work : List NodeKey) (old notes : Notes) (seen : Seen) (turn : Turn words A f work old)
+  module _ (f : Family) (formed : AreFormed (device_of words) (has_pairs A) f) (work : List NodeKey) (old notes : Notes) (seen : Seen) (turn : Turn words A f work old)
       (are : AreSeen words A f work seen) (none : seen.worst ≡ None) (known : AreKnown words A f notes) where
     abbrev xs : List Look
     xs = seen.looks.items
@@ -262,7 +262,7 @@ module _ (words : Program) (A : List Entry) where
     pub round_is : IsRoundOf words A f ns
     round_is = record {
       formed = λ to i. let a = aims to i in
-          subst (λ (t : Node). IsNodeIn (has_pairs A) t.key t.state) a.at
+          subst (λ (t : Node). IsNodeIn (device_of words) (has_pairs A) t.key t.state) a.at
           (edges_lead_to_nodes.edges words A (nodes_of f) a.from a.edge (λ n j. formed n ((families_are_their_nodes.members f n).0 j))
           ((families_are_their_nodes.members f a.from).1 a.has) a.is);
       all = λ n e has edge. ⊎_elim (own_lands n (target e) has) (λ b. back_lands n b.by (target e) has b.has b.comes) (edge_cases f n e edge);

@@ -1,8 +1,9 @@
 -- The nodes of a round that do not yet land in the family are a round.
 use Rattle.std.proofs.Common.{ℕ, Bool, ◌⊎◌, inl, inr, ⊎_elim, List}
+use Rattle.avr_model.specs.declared.device.Device.{Device}
 use Rattle.avr_model.specs.declared.assumption.Entry.{Entry}
 use Rattle.avr_model.specs.Assumptions.{has_pairs}
-use Rattle.avr_model.specs.Devices.{Program}
+use Rattle.avr_model.specs.Devices.{Program, device_of}
 use Rattle.abs_state.proofs.AllLaws.{states_are_ordered}
 use Rattle.local_rules.specs.declared.local.Node.{Node}
 use Rattle.edge_rules.specs.Families.{IsCovered}
@@ -12,16 +13,16 @@ use Rattle.round_rules.specs.Families.{Family, Lands}
 use Rattle.round_laws.specs.Steps.{IsRoundOf}
 use Rattle.round_steps.specs.Gathers.{AreBeyond}
 
-module _ (followed : Bool) (f : Family) (all items : List Node) (beyond : AreBeyond followed f all items) where
+module _ (device : Device) (followed : Bool) (f : Family) (all items : List Node) (beyond : AreBeyond device followed f all items) where
   lands_or : (to : Node) → IsCovered all to → Lands f to ⊎ IsCovered items to
   lands_or to c =
       ⊎_elim (λ l. inl (record { at = l.at; is = l.is; above = states_are_ordered.through to.state c.state l.at c.above l.above }))
       (λ d. inr (record { state = d.state; present = d.present; above = states_are_ordered.through to.state c.state d.state c.above d.above }))
       (beyond.each (with_state to c.state) c.present)
 
-pub round_beyond : (words : Program) (A : List Entry) (f : Family) (all items : List Node) → IsRoundOf words A f all → AreBeyond (has_pairs A) f all items → IsRoundOf words A f items
+pub round_beyond : (words : Program) (A : List Entry) (f : Family) (all items : List Node) → IsRoundOf words A f all → AreBeyond (device_of words) (has_pairs A) f all items → IsRoundOf words A f items
 round_beyond words A f all items round beyond = record {
   formed = beyond.nodes;
-  all = λ n e has edge. ⊎_elim (λ l. inl l) (lands_or (has_pairs A) f all items beyond (target e)) (round.all n e has edge);
+  all = λ n e has edge. ⊎_elim (λ l. inl l) (lands_or (device_of words) (has_pairs A) f all items beyond (target e)) (round.all n e has edge);
   least = λ h up lands. beyond.least h (round.least h up lands);
 }

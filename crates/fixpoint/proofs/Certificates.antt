@@ -1,11 +1,13 @@
 -- The certificate of the computed parts.
-use Rattle.std.proofs.Common.{◌≡◌, refl, sym, ap, ◌∙◌, subst, ℕ, ◌≤◌, List, length, get_or, Some, slice_get, slice_index, arith}
+use Rattle.std.proofs.Common.{◌≡◌, refl, sym, ap, ◌∙◌, subst, ℕ, ◌≤◌, true, List, length, get_or, Some, slice_get, slice_index, arith}
 use Rattle.std.proofs.lemmas.Option.{slice_get_read}
+use Rattle.std.specs.List.{All}
 use Rattle.basics.specs.Lists.{get_inside, one_at}
+use Rattle.avr_model.specs.declared.device.Device.{Device}
 use Rattle.avr_model.specs.declared.assumption.Entry.{Entry}
 use Rattle.avr_model.specs.Devices.{Program, device_of}
 use Rattle.avr_model.proofs.AllLaws.{devices_are_alike}
-use Rattle.vector_table.specs.Entries.{AreEntries}
+use Rattle.vector_table.specs.Entries.{AreEntries, fits_device}
 use Rattle.local_rules.specs.declared.local.Node.{Node}
 use Rattle.edge_rules.specs.Expansion.{Seeds}
 use Rattle.family_graph.specs.Graphs.{IsPeopled, IsGraphOf}
@@ -44,17 +46,17 @@ module _ (words : Program) (A : List Entry) (f : Family) (nodes : List Node) (is
       let g = get_inside h.graph 0 h.is_graph.some in
       ap (λ (x : Inst). x.need) (one_at insts 0 root _ e (h.insts_are.each 0 g.0 g.1))
 
-  pub bound_small : (root : Inst) → slice_get insts 0 ≡ Some root → root.need ≤ 2048
+  pub bound_small : (root : Inst) → slice_get insts 0 ≡ Some root → root.need ≤ 16384
   bound_small root e =
       let le = law.bound words A solved.0 f insts seeds solved.1 parts in
       omega (arith, le, root_need root e, devices_are_alike.most_bytes (device_of words))
 
-  pub claim : (root : Inst) (entries : List Entry) → slice_get insts 0 ≡ Some root → entries ≡ A → AreEntries A → IsClaim (claim_of root.need entries insts seeds)
-  claim root entries e same fit =
+  pub claim : (device : Device) (root : Inst) (entries : List Entry) → device ≡ device_of words → slice_get insts 0 ≡ Some root → entries ≡ A → AreEntries A → All (λ e. fits_device (device_of words) e ≡ true) A → IsClaim (claim_of device root.need entries insts seeds)
+  claim device root entries is_device e same fit of =
       let need = root_need root e in
-      subst IsClaim (λ i. claim_of (sym need i) (sym same i) insts seeds) (law.claim words A solved.0 f insts seeds fit solved.1 parts)
+      subst IsClaim (λ i. claim_of (sym is_device i) (sym need i) (sym same i) insts seeds) (law.claim words A solved.0 f insts seeds fit of solved.1 parts)
 
-  pub solution : (c : Claim) (root : Inst) (entries : List Entry) → slice_get insts 0 ≡ Some root → entries ≡ A → c ≡ claim_of root.need entries insts seeds → IsSolution words A f c
-  solution c root entries e same built =
+  pub solution : (c : Claim) (device : Device) (root : Inst) (entries : List Entry) → device ≡ device_of words → slice_get insts 0 ≡ Some root → entries ≡ A → c ≡ claim_of device root.need entries insts seeds → IsSolution words A f c
+  solution c device root entries is_device e same built =
       let need = root_need root e in
-      subst (IsSolution words A f) ((λ i. claim_of (sym need i) (sym same i) insts seeds) ∙ sym built) (law.solution words A solved.0 f insts seeds solved.1 parts)
+      subst (IsSolution words A f) ((λ i. claim_of (sym is_device i) (sym need i) (sym same i) insts seeds) ∙ sym built) (law.solution words A solved.0 f insts seeds solved.1 parts)

@@ -84,16 +84,16 @@ module _ (words : Program) (A : List Entry) (f : Family) where
 
   -- ---- edges
 
-  module _ (formed : AreFormed (has_pairs A) f) (notes : Notes) (known : AreKnown words A f notes) where
-    pub targets_are_nodes : (xs : List Look) → ((x : Look) → Contains xs x → IsLook words A f x) → AreNodesIn (has_pairs A) (all_targets f notes xs)
+  module _ (formed : AreFormed (device_of words) (has_pairs A) f) (notes : Notes) (known : AreKnown words A f notes) where
+    pub targets_are_nodes : (xs : List Look) → ((x : Look) → Contains xs x → IsLook words A f x) → AreNodesIn (device_of words) (has_pairs A) (all_targets f notes xs)
     targets_are_nodes xs looks =
-        each_gathered (targets_of f notes) (λ (to : Node). IsNodeIn (has_pairs A) to.key to.state) xs
+        each_gathered (targets_of f notes) (λ (to : Node). IsNodeIn (device_of words) (has_pairs A) to.key to.state) xs
         (λ x to i j. let a = look_aims words A f notes known x (looks x i) to j in
-        subst (λ (t : Node). IsNodeIn (has_pairs A) t.key t.state) a.at
+        subst (λ (t : Node). IsNodeIn (device_of words) (has_pairs A) t.key t.state) a.at
         (edges_lead_to_nodes.edges words A (nodes_of f) a.from a.edge (formed_nodes f formed) (member_has f a.from a.has) a.is))
 
     pub edges_land : (k : NodeKey) (seen : Seen) (items : List Node) → AreSeen words A f (k ∷ []) seen
-        → AreBeyond (has_pairs A) f (all_targets f notes seen.looks.items) items → items ≡ [] → LandAt words A f (k ∷ [])
+        → AreBeyond (device_of words) (has_pairs A) f (all_targets f notes seen.looks.items) items → items ≡ [] → LandAt words A f (k ∷ [])
     edges_land k seen items are beyond none n e has i edge =
         ⊎_elim (λ h.
         let is = are.looks h.look h.member in

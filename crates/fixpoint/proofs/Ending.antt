@@ -3,9 +3,10 @@ use Rattle.std.proofs.Common.{◌≡◌, ◌≢◌, refl, sym, ap, ◌∙◌, su
 use Rattle.std.specs.FinMap.{get, insert, empty, entries, get-empty, len-entries, len-empty}
 use Rattle.basics.specs.Numbers.{zero_from_test}
 use Rattle.basics.specs.Items.{none_in}
+use Rattle.avr_model.specs.declared.device.Device.{Device}
 use Rattle.avr_model.specs.declared.assumption.Entry.{Entry}
 use Rattle.avr_model.specs.Assumptions.{has_pairs}
-use Rattle.avr_model.specs.Devices.{Program}
+use Rattle.avr_model.specs.Devices.{Program, device_of}
 use Rattle.abs_state.specs.declared.state.AbsState.{AbsState}
 use Rattle.mask_states.specs.declared.keys.InstKey.{InstKey}
 use Rattle.mask_states.specs.declared.keys.NodeKey.{NodeKey}
@@ -63,13 +64,13 @@ none_if (k ∷ ks) b n is all e = absurd (let z = zero_from_test b n is e in ome
 pub some_if : (l : List NodeKey) (b : Bool) (n : ℕ) → b ≡ (n == 0) → n ≡ length l → b ≡ false → l ≢ []
 some_if l b n is all e none = absurd (let same : n ≡ 0 = all ∙ ap length none in let never : true ≡ false = ap (λ m. m == 0) (sym same) ∙ sym is ∙ e in cc)
 
-pub no_nodes : (followed : Bool) → AreFormed followed empty
-no_nodes followed n has = absurd (let never = sym (get-empty {X = AbsState} node_cmp n.key) ∙ has in cc)
+pub no_nodes : (device : Device) (followed : Bool) → AreFormed device followed empty
+no_nodes device followed n has = absurd (let never = sym (get-empty {X = AbsState} node_cmp n.key) ∙ has in cc)
 
-pub root_nodes : (A : List Entry) (ns : List Node) → ns ≡ root_node A ∷ [] → AreNodesIn (has_pairs A) ns
-root_nodes A ns is =
-    subst (AreNodesIn (has_pairs A)) (sym is)
-    (each_of (λ n. IsNodeIn (has_pairs A) n.key n.state) (root_node A) [] (edges_lead_to_nodes.reset (has_pairs A)) (λ n i. absurd (none_in n i)))
+pub root_nodes : (device : Device) (A : List Entry) (ns : List Node) → ns ≡ root_node A ∷ [] → AreNodesIn device (has_pairs A) ns
+root_nodes device A ns is =
+    subst (AreNodesIn device (has_pairs A)) (sym is)
+    (each_of (λ n. IsNodeIn device (has_pairs A) n.key n.state) (root_node A) [] (edges_lead_to_nodes.reset device (has_pairs A)) (λ n i. absurd (none_in n i)))
 
 pub root_fresh : (f : Family) (ns : List Node) → f ≡ empty → AreNew f ns
 root_fresh f ns is n i l =
@@ -134,7 +135,7 @@ module _ (words : Program) (A : List Entry) where
         (λ real. let s = stopped real in
         record { number = p.number; within = within; refused = record { test = s.test; ends = record { family = f; comes = p.comes; holds = s.holds }; is = s.is } }) stopped
 
-    pub formed : AreFormed (has_pairs A) f
+    pub formed : AreFormed (device_of words) (has_pairs A) f
     formed = rounds_are_least.formed words A p.number f p.comes
 
     pub rooted : FamilyHasInst f root_inst

@@ -8,6 +8,7 @@ use Rattle.basics.specs.Numbers.{equals_itself}
 use Rattle.basics.specs.Items.{none_in, first_in, further_in, first_or_further, contained_at}
 use Rattle.basics.specs.Lists.{one_at}
 use Rattle.avr_model.specs.declared.assumption.Entry.{Entry}
+use Rattle.avr_model.specs.declared.device.Device.{Device}
 use Rattle.avr_model.specs.Devices.{Program}
 use Rattle.mask_states.specs.declared.keys.EdgeKind.{EdgeKind}
 use Rattle.mask_states.specs.declared.keys.EdgeKind.TheVariants.{Local, Call, Interrupt, Return}
@@ -145,7 +146,7 @@ record HasKindOfEdge (words : Program) (A : List Entry) (nodes : List Node) (n :
   to : edge.to ≡ k
   kind : edge.kind ≡ x
 
-module _ (words : Program) (A : List Entry) (nodes : List Node) (shown : AreShown nodes) (at : ℕ) (n : Node) (is_at : slice_get nodes at ≡ Some n) (landings : List Landing)
+module _ {device : Device} (words : Program) (A : List Entry) (nodes : List Node) (shown : AreShown device nodes) (at : ℕ) (n : Node) (is_at : slice_get nodes at ≡ Some n) (landings : List Landing)
     (exact : AreLandingsOf words A nodes n landings) (p : ℕ) (there : Node) (is_there : slice_get nodes p ≡ Some there) where
   abbrev k : NodeKey
   k = there.key
@@ -256,7 +257,7 @@ folded_at at (l ∷ ls) leads p lt =
     by true = refl
     by false = refl
 
-led_more : (words : Program) (A : List Entry) (nodes : List Node) → AreShown nodes → (at : ℕ) (n : Node) → slice_get nodes at ≡ Some n → (landings : List Landing)
+led_more : {device : Device} (words : Program) (A : List Entry) (nodes : List Node) → AreShown device nodes → (at : ℕ) (n : Node) → slice_get nodes at ≡ Some n → (landings : List Landing)
     → AreLandingsOf words A nodes n landings → (leads : List Lead) → AreLeads words A nodes at leads → AreLeads words A nodes (at + 1) (fold (noted at) leads landings)
 led_more words A nodes shown at n is landings exact leads are = record {
   all = folded_long at landings leads ∙ are.all;
@@ -270,7 +271,7 @@ all_written : (xs ys : List Lead) (n : ℕ) → n ≡ length xs → length ys �
 all_written xs ys n size same = grind (arith, common_steps)
 
 -- after writing back
-pub led_written : (words : Program) (A : List Entry) (nodes : List Node) → AreShown nodes → (at : ℕ) (n : Node) → slice_get nodes at ≡ Some n → (landings : List Landing)
+pub led_written : {device : Device} (words : Program) (A : List Entry) (nodes : List Node) → AreShown device nodes → (at : ℕ) (n : Node) → slice_get nodes at ≡ Some n → (landings : List Landing)
     → AreLandingsOf words A nodes n landings → (leads ys zs : List Lead) (size : ℕ) → AreLeads words A nodes at leads → zs ≡ leads
     → ys ≡ fold (noted at) zs landings → size ≡ length leads → AreLeads words A nodes (at + 1) (take size (ys ++ drop (length ys) leads))
 led_written words A nodes shown at n is landings exact leads ys zs size are from whole sized =

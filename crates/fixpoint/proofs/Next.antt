@@ -4,7 +4,7 @@ use Rattle.std.specs.FinMap.{empty, get-empty, same_map}
 use Rattle.basics.specs.Items.{none_in, first_in, further_in as there, first_or_further}
 use Rattle.avr_model.specs.declared.assumption.Entry.{Entry}
 use Rattle.avr_model.specs.Assumptions.{has_pairs}
-use Rattle.avr_model.specs.Devices.{Program}
+use Rattle.avr_model.specs.Devices.{Program, device_of}
 use Rattle.abs_state.specs.declared.state.AbsState.{AbsState}
 use Rattle.abs_state.proofs.AllLaws.{states_are_ordered}
 use Rattle.mask_states.specs.declared.keys.InstKey.{InstKey}
@@ -40,7 +40,7 @@ there_or_not (x ∷ xs) k = by (there_or_not xs k) (same_node k x) refl
 module _ (words : Program) (A : List Entry) where
   -- ---- what is noted stays so in a greater family without faults
 
-  module _ (f g : Family) (low : AreFormed (has_pairs A) f) (high : AreFormed (has_pairs A) g) (below : Below f g) (clean : HasNoFault words A g) where
+  module _ (f g : Family) (low : AreFormed (device_of words) (has_pairs A) f) (high : AreFormed (device_of words) (has_pairs A) g) (below : Below f g) (clean : HasNoFault words A g) where
     abbrev up : (n : Node) → FamilyHas f n → Node
     up n has = with_state n (below n has).at
 
@@ -87,7 +87,7 @@ module _ (words : Program) (A : List Entry) where
 
   -- ---- the next turn
 
-  pub next_turn : (f g : Family) (notes : Notes) (changed : List NodeKey) → AreFormed (has_pairs A) f → IsNext words A f g → AreKnown words A f notes → AreOnce notes.nesting.insts
+  pub next_turn : (f g : Family) (notes : Notes) (changed : List NodeKey) → AreFormed (device_of words) (has_pairs A) f → IsNext words A f g → AreKnown words A f notes → AreOnce notes.nesting.insts
       → KeptBut f g changed → Turn words A g changed notes
   next_turn f g notes changed formed next known once kept = record {
     held = λ n has. ⊎_elim (λ i. inl i)
@@ -136,7 +136,7 @@ module _ (words : Program) (A : List Entry) where
   below_itself f n has = record { at = n.state; is = has; above = states_are_ordered.same n.state }
 
   -- a family that the round raises is not closed
-  pub not_closed : (f g : Family) → AreFormed (has_pairs A) f → IsNext words A f g → weight f < weight g → IsClosed words A f → ⊥
+  pub not_closed : (f g : Family) → AreFormed (device_of words) (has_pairs A) f → IsNext words A f g → weight f < weight g → IsClosed words A f → ⊥
   not_closed f g formed next lt closed =
       let e = families_are_their_nodes.same f g formed next.formed next.above (next.least f (below_itself f) closed) in
       let same : weight f ≡ weight g = ap weight e in

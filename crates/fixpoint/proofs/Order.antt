@@ -5,9 +5,10 @@ use Rattle.std.proofs.lemmas.Option.{same_Some}
 use Rattle.basics.specs.Items.{none_in}
 use Rattle.basics.specs.Numbers.{zero_from_test}
 use Rattle.call_graph.proofs.AllLaws.{each_gathered}
+use Rattle.avr_model.specs.declared.device.Device.{Device}
 use Rattle.avr_model.proofs.AllLaws.{devices_are_alike}
-use Rattle.avr_model.specs.Devices.{Program, device_of}
-use Rattle.avr_model.specs.Image.{WORDS}
+use Rattle.avr_model.specs.Devices.{Program, device_of, limit_of}
+use Rattle.avr_model.specs.Vectors.{enable_count}
 use Rattle.avr_model.specs.declared.assumption.Entry.{Entry}
 use Rattle.avr_model.specs.Assumptions.{has_pairs}
 use Rattle.abs_state.specs.declared.state.AbsState.{AbsState}
@@ -69,14 +70,14 @@ both_same true = refl
 both_same false = refl
 
 -- the target of a return from a node at its base, by an exit that keeps the enable bits
-returned_node : {followed : Bool} (way : EdgeKind) (k l : NodeKey) (s t after : AbsState) (back : ℕ) (x : Exit) → IsNodeIn followed k s → back < WORDS → IsNodeIn followed l t → l.sp ≡ Closed 0 → x.masks ≡ l.masks
-    → returned s t ≡ Some after → IsNodeIn followed (returned_key way k back x) after
-returned_node {followed} way k l s t after back x node word other sp masks is =
+returned_node : {device : Device} {followed : Bool} (way : EdgeKind) (k l : NodeKey) (s t after : AbsState) (back : ℕ) (x : Exit) → IsNodeIn device followed k s → back < limit_of device → IsNodeIn device followed l t → l.sp ≡ Closed 0 → x.masks ≡ l.masks
+    → returned s t ≡ Some after → IsNodeIn device followed (returned_key way k back x) after
+returned_node {device = device} {followed = followed} way k l s t after back x node word other sp masks is =
     let base : IsFormed t 0 = subst (IsFormed t) (ap offset_of sp) other.formed in
     record {
       word = word;
       small = node.small;
-      masks = subst (λ (m : ℕ). m < 2 ^ 25) (sym masks) other.masks;
+      masks = subst (λ (m : ℕ). m < 2 ^ enable_count device) (sym masks) other.masks;
       fits = node.fits;
       pick = pick_fits way k.pick node.pick;
       formed = returns_are_true.formed s t after (offset_of k.sp) node.formed base is;
@@ -88,10 +89,10 @@ returned_node {followed} way k l s t after back x node word other sp masks is =
     }
 
 module _ (words : Program) (A : List Entry) where
-  back_small : (n : Node) (way : EdgeKind) (inst : InstKey) (back : ℕ) → IsNodeIn (has_pairs A) n.key n.state → Enters words A n way inst back → back < WORDS
+  back_small : (n : Node) (way : EdgeKind) (inst : InstKey) (back : ℕ) → IsNodeIn (device_of words) (has_pairs A) n.key n.state → Enters words A n way inst back → back < limit_of (device_of words)
   back_small n _ _ _ node (by_call offset site faultless form member) =
       let lead = (local_parts_fit.fit words A n.key n.state).calls site member in
-      let few = devices_are_alike.most_words (device_of words) in
+      let few = devices_are_alike.in_limit (device_of words) in
       omega (arith, lead.1, few)
   back_small n _ _ _ node (by_interrupt offset v clears faultless form i delay enabled allowed clearable) = node.word
 
@@ -111,7 +112,7 @@ module _ (words : Program) (A : List Entry) where
   there : (f : Family) (n : Node) → FamilyHas f n → Lands f n
   there f n has = record { at = n.state; is = has; above = states_are_ordered.same n.state }
 
-  module _ (f : Family) (formed : AreFormed (has_pairs A) f) (xs : List Look) (looks : (x : Look) → Contains xs x → IsLook words A f x) where
+  module _ (f : Family) (formed : AreFormed (device_of words) (has_pairs A) f) (xs : List Look) (looks : (x : Look) → Contains xs x → IsLook words A f x) where
     calls_were : (y : InstKey × Crossing) → AnyHas xs CallsAt y → HasEntered words A f y.0 y.1
     calls_were y h =
         let is = looks h.one h.member in
@@ -147,16 +148,16 @@ module _ (words : Program) (A : List Entry) where
       abbrev ns : List Node
       ns = all_targets f notes xs
 
-      are_nodes : AreNodesIn (has_pairs A) ns
-      are_nodes = each_gathered (targets_of f notes) (λ (to : Node). IsNodeIn (has_pairs A) to.key to.state) xs (λ x to i j. of_look x (looks x i) to j)
+      are_nodes : AreNodesIn (device_of words) (has_pairs A) ns
+      are_nodes = each_gathered (targets_of f notes) (λ (to : Node). IsNodeIn (device_of words) (has_pairs A) to.key to.state) xs (λ x to i j. of_look x (looks x i) to j)
         where
-          of_look : (x : Look) (is : IsLook words A f x) (to : Node) → Contains (targets_of f notes x) to → IsNodeIn (has_pairs A) to.key to.state
+          of_look : (x : Look) (is : IsLook words A f x) (to : Node) → Contains (targets_of f notes x) to → IsNodeIn (device_of words) (has_pairs A) to.key to.state
           of_look x is =
               let n = seen_node words A f x is in
-              look_cases words A f notes x is (λ (to : Node). IsNodeIn (has_pairs A) to.key to.state)
+              look_cases words A f notes x is (λ (to : Node). IsNodeIn (device_of words) (has_pairs A) to.key to.state)
               (λ to own.
               let a = own_aim words A f n to is.has own in
-              subst (λ (t : Node). IsNodeIn (has_pairs A) t.key t.state) a.at
+              subst (λ (t : Node). IsNodeIn (device_of words) (has_pairs A) t.key t.state) a.at
               (edges_lead_to_nodes.edges words A (nodes_of f) a.from a.edge (formed_nodes f formed) (member_has f a.from a.has) a.is))
               (λ w p t after enters j at r.
               let h = were.leavers w.inst p j in
@@ -198,10 +199,10 @@ module _ (words : Program) (A : List Entry) where
                 (back_aim words A f c n _ l.is is.has
                 (comes_back p.kind x.key.inst p.back e after enters refl (look_clean words A f x is) exit (ap (λ (u : AbsState). returned u is.state) same ∙ r))))
 
-      land : (items : List Node) → AreBeyond (has_pairs A) f ns items → LandWithEdges words A f items
+      land : (items : List Node) → AreBeyond (device_of words) (has_pairs A) f ns items → LandWithEdges words A f items
       land items beyond clean h below lands = beyond.least h (λ to i. let a = aims clean to i in subst (Lands h) a.at (lands a.from a.edge a.has a.is))
 
-      more : (items : List Node) (count : ℕ) → IsMade words A f → AreOnce notes.nesting.insts → AreBeyond (has_pairs A) f ns items → count ≡ cells (raised_all f items)
+      more : (items : List Node) (count : ℕ) → IsMade words A f → AreOnce notes.nesting.insts → AreBeyond (device_of words) (has_pairs A) f ns items → count ≡ cells (raised_all f items)
           → IsUnderWay words A (raised_all f items) count notes
       more items count made once beyond counted = record {
         made = closed_families_end_rounds.goes_on words A f items made beyond.nodes (land items beyond);
@@ -247,7 +248,7 @@ module _ (words : Program) (A : List Entry) where
       (with_state n l.at, l.is, refl)
 
   -- a visit removes an item of the worklist, and each item that is added raised the weight
-  pub falls_again : (f g : Family) (c h less now : ℕ) → AreFormed (has_pairs A) g → FitsLimits g → weight f + c ≤ weight g → less + 1 ≤ h → now ≡ less + c
+  pub falls_again : (f g : Family) (c h less now : ℕ) → AreFormed (device_of words) (has_pairs A) g → FitsLimits g → weight f + c ≤ weight g → less + 1 ≤ h → now ≡ less + c
       → 2 * (9416690630657 - weight g) + now < 2 * (9416690630657 - weight f) + h
   falls_again f g c h less now formed fits more one is =
       let top = rounds_are_joins.high g formed in

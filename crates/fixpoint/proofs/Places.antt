@@ -7,6 +7,7 @@ use Rattle.std.proofs.lemmas.Option.{slice_get-get_or}
 use Rattle.std.specs.declared.cmp.Ordering.TheVariants.{Less}
 use Rattle.basics.specs.Items.{contained_at}
 use Rattle.edge_laws.proofs.AllLaws.{not_below_itself}
+use Rattle.avr_model.specs.declared.device.Device.{Device}
 use Rattle.mask_states.specs.declared.keys.NodeKey.{NodeKey}
 use Rattle.mask_states.specs.Order.{node_cmp}
 use Rattle.local_rules.specs.declared.local.Node.{Node}
@@ -19,7 +20,7 @@ use Rattle.fixpoint.specs.declared.leading.Lead.TheVariants.{Nothing}
 use Rattle.fixpoint.specs.Leads.{led, lead_at, noted}
 
 -- nodes of one key have one number
-one_place : (nodes : List Node) → AreShown nodes → (p q : ℕ) (m n : Node) → slice_get nodes p ≡ Some m → slice_get nodes q ≡ Some n → m.key ≡ n.key → p ≡ q
+one_place : {device : Device} (nodes : List Node) → AreShown device nodes → (p q : ℕ) (m n : Node) → slice_get nodes p ≡ Some m → slice_get nodes q ≡ Some n → m.key ≡ n.key → p ≡ q
 one_place nodes shown p q m n a b e =
     elim (cases_order p q) [
       | inl same ↦ same
@@ -27,7 +28,7 @@ one_place nodes shown p q m n a b e =
       | inr (inr gt) ↦ absurd (not_below_itself n.key (subst (λ (k : NodeKey). node_cmp n.key k ≡ Less) e (node_before nodes q p n m shown.ascending b a gt)))
     ]
 
-pub place_is : (nodes : List Node) → AreShown nodes → (p : ℕ) (n : Node) → slice_get nodes p ≡ Some n → place_of n.key nodes ≡ Some p
+pub place_is : {device : Device} (nodes : List Node) → AreShown device nodes → (p : ℕ) (n : Node) → slice_get nodes p ≡ Some n → place_of n.key nodes ≡ Some p
 place_is nodes shown p n is = by (place_of n.key nodes) refl
   where
     by : (o : Option ℕ) → place_of n.key nodes ≡ o → place_of n.key nodes ≡ Some p

@@ -4,6 +4,8 @@ use Rattle.std.specs.Result.{IsErrAnd, result_and}
 use Rattle.avr_model.specs.declared.assumption.Entry.{Entry}
 use Rattle.avr_model.specs.Assumptions.{has_pairs}
 use Rattle.avr_model.specs.Devices.{Program, device_of, size_of}
+use Rattle.avr_model.specs.State.{SIZE}
+use Rattle.avr_model.proofs.AllLaws.{devices_are_alike}
 use Rattle.mask_states.specs.declared.keys.NodeKey.{NodeKey}
 use Rattle.mask_states.specs.Keys.{root_inst, offset_of}
 use Rattle.local_rules.specs.declared.local.Node.{Node}
@@ -50,11 +52,12 @@ module _ (words : Program) (A : List Entry) where
   has_fault f work notes seen b r fits turn are worst is = record { test = faulty b; holds = (fits, least_fault words A f work notes seen turn are b worst); is = is }
 
   -- all visits are at offsets that nodes have
-  pub looks_fit : (f : Family) (work : List NodeKey) (seen : Seen) → AreFormed (has_pairs A) f → AreSeen words A f work seen → (x : Look) → Contains seen.looks.items x
-      → offset_of x.key.sp ≤ 2048
+  pub looks_fit : (f : Family) (work : List NodeKey) (seen : Seen) → AreFormed (device_of words) (has_pairs A) f → AreSeen words A f work seen → (x : Look) → Contains seen.looks.items x
+      → offset_of x.key.sp ≤ SIZE
   looks_fit f work seen formed are x i =
       let is = are.looks x i in
-      (formed (seen_node words A f x is) is.has).small
+      let small = (formed (seen_node words A f x is) is.has).small in
+      omega (arith, small, devices_are_alike.most_depth (device_of words))
 
   module _ (f : Family) (notes : Notes) (fits : FitsLimits f) (known : AreKnown words A f notes) where
     pub few_insts : AreOnce notes.nesting.insts → length notes.nesting.insts ≤ 65536
@@ -94,18 +97,18 @@ module _ (words : Program) (A : List Entry) where
     }
 
   -- all targets are nodes
-  pub targets_fit : (f : Family) (work : List NodeKey) (old mid : Notes) (nesting : Noted) (seen : Seen) → AreFormed (has_pairs A) f → FitsLimits f → Turn words A f work old
+  pub targets_fit : (f : Family) (work : List NodeKey) (old mid : Notes) (nesting : Noted) (seen : Seen) → AreFormed (device_of words) (has_pairs A) f → FitsLimits f → Turn words A f work old
       → AreSeen words A f work seen → seen.worst ≡ None → AreKnown words A f mid → AreAlike mid.nesting nesting
-      → AreNodesIn (has_pairs A) (all_targets f (record { callers = mid.callers; leavers = mid.leavers; nesting = nesting }) seen.looks.items)
+      → AreNodesIn (device_of words) (has_pairs A) (all_targets f (record { callers = mid.callers; leavers = mid.leavers; nesting = nesting }) seen.looks.items)
   targets_fit f work old mid nesting seen formed fits turn are none known alike =
       let notes : Notes = record { callers = mid.callers; leavers = mid.leavers; nesting = nesting } in
       (round_is words A f formed work old notes seen turn are none (alike_known f mid fits known nesting alike)).formed
 
   -- the next nodes
-  pub is_ready : (f : Family) (work : List NodeKey) (old mid : Notes) (nesting : Noted) (seen : Seen) (nodes : List Node) → AreFormed (has_pairs A) f → FamilyHasInst f root_inst → FitsLimits f
+  pub is_ready : (f : Family) (work : List NodeKey) (old mid : Notes) (nesting : Noted) (seen : Seen) (nodes : List Node) → AreFormed (device_of words) (has_pairs A) f → FamilyHasInst f root_inst → FitsLimits f
       → Turn words A f work old → AreSeen words A f work seen → seen.worst ≡ None → AreKnown words A f mid → TellsAll (size_of (device_of words)) mid.nesting verdicts.Nests
       → AreAlike mid.nesting nesting → AreOnce nesting.insts
-      → AreBeyond (has_pairs A) f (all_targets f (record { callers = mid.callers; leavers = mid.leavers; nesting = nesting }) seen.looks.items) nodes
+      → AreBeyond (device_of words) (has_pairs A) f (all_targets f (record { callers = mid.callers; leavers = mid.leavers; nesting = nesting }) seen.looks.items) nodes
       → IsReady words A f (record { callers = mid.callers; leavers = mid.leavers; nesting = nesting }) nodes
   is_ready f work old mid nesting seen nodes formed root fits turn are none known nests alike once beyond =
       let notes : Notes = record { callers = mid.callers; leavers = mid.leavers; nesting = nesting } in

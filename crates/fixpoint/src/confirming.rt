@@ -2,6 +2,7 @@
 
 ghost use Rattle.std.specs.Prelude.{◌≡◌, ◌∷◌, [], Contains, None, Some, OnOk, IfOk};
 ghost use Rattle.std.specs.FinMap.{get};
+ghost use Rattle.avr_model.specs.Devices.{device_of};
 ghost use Rattle.avr_model.specs.Assumptions.{has_pairs};
 ghost use Rattle.abs_state.specs.declared.state.AbsState as state_type;
 ghost use Rattle.mask_states.specs.declared.keys.NodeKey as key_type;
@@ -25,7 +26,7 @@ use std::alloc::AllocError;
 
 // The result of a visit of one node.
 fn look_at(task: &Task<'_>, table: &Table, key: &NodeKey) -> Result<Seen, AllocError>
-    requires { AreFormed (has_pairs task.now.assumptions.now) table.now }
+    requires { AreFormed (device_of task.now.flash.now) (has_pairs task.now.assumptions.now) table.now }
     ensures { IfOk result (λ seen. AreSeen task.now.flash.now task.now.assumptions.now table.now (key.now ∷ []) seen) }
 {
     let one = [*key];
@@ -39,7 +40,7 @@ fn note_each(
     notes: &mut Notes,
     keys: &[NodeKey],
 ) -> Result<(), Refusal>
-    requires formed { AreFormed (has_pairs task.now.assumptions.now) table.now }
+    requires formed { AreFormed (device_of task.now.flash.now) (has_pairs task.now.assumptions.now) table.now }
     requires no_notes { notes.old ≡ blank }
     ensures known { OnOk result (AreKnownAt task.now.flash.now task.now.assumptions.now table.now keys.now notes.new) }
     ensures once { OnOk result (AreOnce notes.new.nesting.insts) }
@@ -60,7 +61,7 @@ fn check_all_edges(
     notes: &Notes,
     keys: &[NodeKey],
 ) -> Result<(), Unfound>
-    requires formed { AreFormed (has_pairs task.now.assumptions.now) table.now }
+    requires formed { AreFormed (device_of task.now.flash.now) (has_pairs task.now.assumptions.now) table.now }
     requires known { AreKnown task.now.flash.now task.now.assumptions.now table.now notes.now }
     ensures { OnOk result (LandAt task.now.flash.now task.now.assumptions.now table.now keys.now) }
 {

@@ -210,8 +210,9 @@ fn unhurried_family(task: &Task<'_>, steps: Option<u64>) -> Result<Table, Refusa
     }
 }
 
-// How often the other order may look at nodes, in turn, and after it the rounds.
-const TURNS: [usize; 4] = [8_192, 131_072, 2_097_152, 33_554_432];
+// How often the other order may look at nodes, in turn, and after it the rounds: first as often as a certificate may have nodes, then each
+// turn eight times as often.
+const TURNS: [usize; 4] = [65_536, 524_288, 4_194_304, 33_554_432];
 
 /// The family at which the rounds end, or why they end at none within the budget. With a budget the rounds alone tell this. Without one they
 /// begin in a hurry; if they are late, the other order is tried, and if that is late too, the rounds again, each turn with more looks: so

@@ -2,6 +2,7 @@
 
 ghost use Rattle.std.specs.Prelude.{ℕ, ◌+◌, ◌≡◌, ◌≢◌, true, false, None, Some, IsSome, IfSome, IfOk, IfErr, OnOk};
 ghost use Rattle.std.specs.FinMap.{empty};
+ghost use Rattle.avr_model.specs.Devices.{device_of};
 ghost use Rattle.avr_model.specs.Assumptions.{has_pairs};
 ghost use Rattle.mask_states.specs.Keys.{root_inst};
 ghost use Rattle.round_rules.specs.declared.refusal.Refusal.TheVariants.{Memory};
@@ -32,7 +33,7 @@ fn next_nodes(
     notes: &mut Notes,
 ) -> Result<Vec<Node>, Refusal>
     requires count { counted ≡ cells table.now }
-    requires formed { AreFormed (has_pairs task.now.assumptions.now) table.now }
+    requires formed { AreFormed (device_of task.now.flash.now) (has_pairs task.now.assumptions.now) table.now }
     requires root { FamilyHasInst table.now root_inst }
     requires turn { Turn task.now.flash.now task.now.assumptions.now table.now work.now notes.old }
     ensures ready { IfOk result (λ nodes. IsReady task.now.flash.now task.now.assumptions.now table.now notes.new nodes.items) }

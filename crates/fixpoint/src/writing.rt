@@ -1,6 +1,9 @@
 //! The certificate, part by part.
 
-ghost use Rattle.std.specs.Prelude.{ℕ, ◌≡◌, length, IfOk};
+ghost use Rattle.std.specs.Prelude.{ℕ, ◌≡◌, length, true, IfOk};
+ghost use Rattle.std.specs.List.{All};
+ghost use Rattle.avr_model.specs.Devices.{device_of};
+ghost use Rattle.vector_table.specs.Entries.{fits_device};
 ghost use Rattle.call_graph.specs.Landings.{AreLandings};
 ghost use Rattle.round_rules.specs.Refusals.{IsSolved};
 ghost use Rattle.round_rules.specs.Solutions.{IsSolution};
@@ -56,6 +59,7 @@ fn heading(task: &Task<'_>, family: &Worked) -> Result<(Assumptions, Vec<Inst>),
 // The certificate of the family at which the rounds end, without a schedule. Each local part is computed twice.
 pub(crate) fn certificate_of(task: &Task<'_>, table: Table) -> Result<Certificate, AllocError>
     requires solved { (n : ℕ) × IsSolved task.now.flash.now task.now.assumptions.now n table }
+    requires of_device { All (λ e. fits_device (device_of task.now.flash.now) e ≡ true) task.now.assumptions.now }
     ensures { IfOk result (λ c. IsSolution task.now.flash.now task.now.assumptions.now table c) }
 {
     solved_families_are_shown();
@@ -66,7 +70,7 @@ pub(crate) fn certificate_of(task: &Task<'_>, table: Table) -> Result<Certificat
         Ok((listed, insts)) => {
             let seeds = forms(task, family)?;
             let bound = insts[0].need as u16;
-            Ok(Certificate::build(bound, listed, insts, seeds))
+            Ok(Certificate::build(task.flash.device(), bound, listed, insts, seeds))
         }
         Err(error) => {
             drop(family);

@@ -6,8 +6,8 @@ use Rattle.std.proofs.lemmas.List.{get_or-drop, get_or-take, length-drop, length
 use Rattle.std.proofs.lemmas.Grind.{same_number_lists}
 use Rattle.basics.specs.Numbers.{one_step_on}
 use Rattle.avr_model.specs.declared.device.Device.{Device}
-use Rattle.avr_model.specs.Devices.{Program, image, words_of}
-use Rattle.avr_model.specs.Image.{WORDS, IsNarrowed, IsOutside}
+use Rattle.avr_model.specs.Devices.{Program, image, words_of, limit_of}
+use Rattle.avr_model.specs.Image.{IsNarrowed, IsOutside}
 use Rattle.flash_image.specs.Narrowing.{outside_word}
 use Rattle.avr_model.proofs.AllLaws.{devices_are_alike}
 
@@ -48,7 +48,7 @@ none_written (x ∷ xs) at k e lt = by (λ j. none_written xs (at + 1) j) (is_wr
 behind : (device : Device) (all : List ℕ) → List ℕ
 behind device all = drop (words_of device) all
 
-behind_length : (device : Device) (all : List ℕ) → length all ≡ WORDS → length (behind device all) ≡ WORDS - words_of device
+behind_length : (device : Device) (all : List ℕ) → length all ≡ limit_of device → length (behind device all) ≡ limit_of device - words_of device
 unfolding behind
 behind_length device all size = length-drop (words_of device) all ∙ ap (λ (n : ℕ). n - words_of device) size
 
@@ -56,23 +56,23 @@ behind_at : (device : Device) (all : List ℕ) (k : ℕ) → slice_index (behind
 unfolding behind
 behind_at device all k = get_or-drop (words_of device) all k 0
 
-pub narrowed : (device : Device) (all : List ℕ) (words : Program) → length all ≡ WORDS → IsNarrowed device all words → words ≡ image device (take (words_of device) all)
+pub narrowed : (device : Device) (all : List ℕ) (words : Program) → length all ≡ limit_of device → IsNarrowed device all words → words ≡ image device (take (words_of device) all)
 narrowed device all words size n =
-    let most = devices_are_alike.most_words device in
+    let most = devices_are_alike.in_limit device in
     let count : length (take (words_of device) all) ≡ words_of device = length-take-le (words_of device) all (omega (arith, size, most)) in
     let same : words.words ≡ take (words_of device) all =
     same_number_lists words.words (take (words_of device) all) (n.count ∙ sym count)
     (λ a lt. let less : a < words_of device = (let e = n.count in omega (arith, e, lt)) in n.each a less ∙ sym (get_or-take (words_of device) all a 0 less)) in
     λ i. image (n.is i) (same i)
 
-pub none_outside : (device : Device) (all : List ℕ) (words : Program) → length all ≡ WORDS → IsNarrowed device all words → outside_word device all ≡ None
+pub none_outside : (device : Device) (all : List ℕ) (words : Program) → length all ≡ limit_of device → IsNarrowed device all words → outside_word device all ≡ None
 unfolding behind
 none_outside device all words size n =
     let count = behind_length device all size in
     all_erased (behind device all) (words_of device)
     (λ k lt. behind_at device all k ∙ n.erased (words_of device + k) (omega arith) (omega (arith, count, lt)))
 
-pub one_outside : (device : Device) (all : List ℕ) (word : ℕ) → length all ≡ WORDS → IsOutside device all word → outside_word device all ≡ Some word
+pub one_outside : (device : Device) (all : List ℕ) (word : ℕ) → length all ≡ limit_of device → IsOutside device all word → outside_word device all ≡ Some word
 unfolding behind
 one_outside device all word size o =
     let count = behind_length device all size in
@@ -84,10 +84,10 @@ one_outside device all word size o =
     (λ j lt. behind_at device all j ∙ o.least (words_of device + j) (omega arith) (omega (arith, lt, from)))
     ∙ ap Some place
 
-pub narrows : (device : Device) (all : List ℕ) → length all ≡ WORDS → outside_word device all ≡ None → IsNarrowed device all (image device (take (words_of device) all))
+pub narrows : (device : Device) (all : List ℕ) → length all ≡ limit_of device → outside_word device all ≡ None → IsNarrowed device all (image device (take (words_of device) all))
 unfolding behind
 narrows device all size none =
-    let most = devices_are_alike.most_words device in
+    let most = devices_are_alike.in_limit device in
     let count = behind_length device all size in
     record {
       is = refl;

@@ -1,5 +1,5 @@
 -- Marks as an ascending list.
-use Rattle.std.proofs.Common.{◌≡◌, refl, sym, ap, ◌∙◌, subst, ℕ, zero, suc, ◌+◌, ◌-◌, ◌<◌, ◌≤◌, ◌⊎◌, inl, inr, ⊎_elim, leb, ltb, Bool, true, false, List, [], ◌∷◌, ◌++◌, length, get_or, Contains, arith}
+use Rattle.std.proofs.Common.{◌≡◌, refl, sym, ◌∙◌, subst, ℕ, zero, suc, ◌+◌, ◌-◌, ◌<◌, ◌≤◌, ◌⊎◌, inl, inr, ⊎_elim, leb, ltb, Bool, true, false, List, [], ◌∷◌, ◌++◌, length, get_or, Contains, arith}
 use Rattle.std.specs.Prelude.{◌↔◌}
 use Rattle.std.specs.List.Sorted.{IsNonDecreasingBy, IsPartitionPoint}
 use Rattle.std.proofs.lemmas.Bool.{cases_lt, leb-true, leb-false}
@@ -10,7 +10,7 @@ use Rattle.basics.specs.Booleans.{never_both}
 use Rattle.basics.specs.Items.{none_in}
 use Rattle.basics.specs.Numbers.{before_or_last}
 use Rattle.pair_domain.specs.Marks.{mark_below, mark_above}
-use Rattle.flash_image.specs.Marked.{IsTable, AreListed, IsListOf}
+use Rattle.flash_image.specs.Marked.{AreListed, IsListOf}
 use Rattle.flash_image.proofs.Marked.{below_is, above_is}
 
 -- marked numbers are in the table

@@ -8,14 +8,30 @@ use Rattle.std.proofs.lemmas.List.Folds.{list_any-append}
 use Rattle.basics.specs.Booleans.{or_with_false, and_with_false}
 use Rattle.avr_model.specs.declared.instruction.ImmediateInstr.{ImmediateInstr}
 use Rattle.avr_model.specs.declared.instruction.Instr.{Instr}
-use Rattle.avr_model.specs.Devices.{Program, device_of, IsFlash}
+use Rattle.avr_model.specs.declared.device.Device.{Device}
+use Rattle.avr_model.specs.Devices.{Program, device_of, wrapped, IsFlash}
 use Rattle.avr_model.specs.Image.{word_at, AreErased}
-use Rattle.avr_model.specs.Marks.{joined_below, usual_marks, immediate_in, immediate_at, loaded_byte, side_marks, marks_from, marks_at, marks}
+use Rattle.avr_model.specs.Marks.{joined_below, usual_marks, device_marks, immediate_in, immediate_at, loaded_byte, side_marks, marks_from, marks_at, marks}
 use Rattle.avr_model.specs.Sites.{instruction_at, on_device, loads}
 use Rattle.avr_model.specs.Table.{decoded}
 use Rattle.avr_model.proofs.AllLaws.{devices_are_alike}
 use Rattle.flash_image.specs.Marked.{marked, noted, loaded_below, AreLoadsBelow, AreLoads}
 use Rattle.flash_image.proofs.Marked.{marked_length, marked_tells, set_tells, joined_none, joined_more, map_joined}
+
+-- ---- word addresses of 16 bits
+
+-- 16 bits of a word address are enough
+pub of_16_bits : (words : Program) (a : ℕ) → instruction_at words (a % 65536) ≡ instruction_at words a
+of_16_bits words a =
+    ap (λ (n : ℕ). on_device d (decoded (slice_index words.words n) (word_at words (a % 65536 + 1)))) (devices_are_alike.of_16 d a)
+    ∙ ap (λ (n : ℕ). on_device d (decoded (word_at words a) (slice_index words.words n))) next
+  where
+    d : Device
+    d = device_of words
+
+    next : wrapped d (a % 65536 + 1) ≡ wrapped d (a + 1)
+    next = let same : (a % 65536 + 1) % 65536 ≡ (a + 1) % 65536 = omega arith in
+        sym (devices_are_alike.of_16 d (a % 65536 + 1)) ∙ ap (wrapped d) same ∙ devices_are_alike.of_16 d (a + 1)
 
 -- ---- behind the last written word
 
@@ -44,10 +60,10 @@ joined_behind n (suc m) f le none = ⊎_elim (before (joined_behind n m f)) last
 
 -- all marks, if those of the words up to the last written one are marked
 pub all_marked : (words : Program) (start now : List Bool) (n : ℕ) → IsFlash words → n ≤ length words.words → AreErased words.words n (length words.words)
-    → now ≡ marked start (usual_marks ++ joined_below n (marks_at words)) → now ≡ marked start (marks words)
+    → now ≡ marked start (usual_marks ++ device_marks (device_of words) ++ joined_below n (marks_at words)) → now ≡ marked start (marks words)
 unfolding marks
 all_marked words start now n flash le erased is =
-    is ∙ ap (λ (ms : List ℕ). marked start (usual_marks ++ ms)) (joined_behind n (length words.words) (marks_at words) le none)
+    is ∙ ap (λ (ms : List ℕ). marked start (usual_marks ++ device_marks (device_of words) ++ ms)) (joined_behind n (length words.words) (marks_at words) le none)
   where
     none : (a : ℕ) → n ≤ a → a < length words.words → marks_at words a ≡ []
     none a from below = ap (λ (x : Option Instr). marks_from words a (immediate_in x)) (unwritten words a flash below (erased a from below))

@@ -1,12 +1,14 @@
 -- Tables of marks, and widening by them.
-use Rattle.std.proofs.Common.{◌≡◌, ◌≢◌, ◌⊎◌, inl, inr, ⊎_elim, ℕ, zero, suc, ◌+◌, ◌<◌, ◌≤◌, max, min, nat_le, Bool, true, false, eqb, List, [], ◌∷◌, ◌++◌, length, get_or, set, map, replicate, subst, arith, refl, sym, ap, ◌∙◌, append_assoc}
+use Rattle.std.proofs.Common.{◌≡◌, ◌≢◌, ◌⊎◌, inl, inr, ⊎_elim, ℕ, zero, suc, ◌+◌, ◌<◌, ◌≤◌, max, min, nat_le, Bool, true, false, eqb, List, [], ◌∷◌, ◌++◌, length, get_or, set, map, replicate, subst, arith, refl, sym, ap, ap₂, ◌∙◌, append_assoc}
 use Rattle.std.specs.Prelude.{◌||◌, if◌then◌else◌}
 use Rattle.std.specs.List.{list_any}
 use Rattle.std.proofs.lemmas.Bool.{cases_eq, cases_lt, eq-eqb, ne_eqb, eqb-true, or_left, or_right}
 use Rattle.std.proofs.lemmas.List.{length-set, get_or-set_same, get_or-set_other, length-replicate, get_or-replicate, map-append}
 use Rattle.basics.specs.Booleans.{or_with_false, never_both}
 use Rattle.basics.specs.Numbers.{test_from_at_most}
-use Rattle.avr_model.specs.Marks.{joined_below}
+use Rattle.avr_model.specs.declared.device.Device.{Device}
+use Rattle.avr_model.specs.Devices.{io_end, ramend}
+use Rattle.avr_model.specs.Marks.{joined_below, usual_marks, device_marks}
 use Rattle.pair_domain.specs.Marks.{mark_below, mark_above}
 use Rattle.pair_domain.proofs.AllLaws.{marks_widen}
 use Rattle.flash_image.specs.Marked.{marked, IsTable}
@@ -75,6 +77,14 @@ pub marked_more : (start now next : List Bool) (front : List ℕ) (n : ℕ) (f :
 marked_more start now next front n f is more =
     more ∙ ap (λ (t : List Bool). marked t (f n)) is ∙ sym (marked_append start (front ++ joined_below n f) (f n))
     ∙ ap (marked start) (append_assoc front (joined_below n f) (f n) ∙ ap (λ (ms : List ℕ). front ++ ms) (sym (joined_more n f)))
+
+-- the ends of SRAM, after the marks of every program
+pub device_marked : (start now : List Bool) (d : Device) (a b : ℕ) → a ≡ io_end d → b ≡ ramend d → now ≡ marked start usual_marks
+    → set (set (set (set now a true) (a + 1) true) b true) (b + 1) true ≡ marked start (usual_marks ++ device_marks d)
+device_marked start now d a b first last is =
+    ap (λ (t : List Bool). marked t (a ∷ (a + 1) ∷ b ∷ (b + 1) ∷ [])) is
+    ∙ sym (marked_append start usual_marks (a ∷ (a + 1) ∷ b ∷ (b + 1) ∷ []))
+    ∙ ap₂ (λ (x y : ℕ). marked start (usual_marks ++ x ∷ (x + 1) ∷ y ∷ (y + 1) ∷ [])) first last
 
 pub map_joined : (g : ℕ → ℕ) (n : ℕ) (f : ℕ → List ℕ) → map g (joined_below n f) ≡ joined_below n (λ a. map g (f a))
 unfolding joined_below

@@ -1,12 +1,12 @@
 //! The words of a device's flash.
 
 ghost use Rattle.std.specs.Prelude.{◌≡◌, ℕ, ◌+◌, ◌*◌, ◌%◌, ◌<◌, ◌≤◌, ◌↔◌, ◌≢◌, List, length, IfOk, MatchResult, MatchOption, IsTrue, is_ok, replicate};
-ghost use Rattle.avr_model.specs.Devices.{M328, words_of, device_of, image, IsFlash};
-ghost use Rattle.avr_model.specs.Image.{word_at, byte_at, IsRawImage, IsNarrowed, IsOutside, AreErased, FLASH_BYTES};
-ghost use Rattle.flash_image.specs.Placing.{placed};
+ghost use Rattle.avr_model.specs.Devices.{words_of, limit_of, device_of, image, IsFlash};
+ghost use Rattle.avr_model.specs.Image.{word_at, byte_at, IsRawImage, IsNarrowed, IsOutside, AreErased};
+ghost use Rattle.flash_image.specs.Placing.{filled_for, placed};
 
 use avr_decode::Reading;
-use avr_model::device::{Device, WORDS};
+use avr_model::device::Device;
 use std::alloc::{AllocError, Global};
 use std::marker::Model;
 use thiserror::Error;
@@ -51,40 +51,49 @@ pub enum RawFault {
 #[derive(Clone, Copy, Drop)]
 pub struct Outside(pub u16);
 
-// The number of words of the ATmega328P's flash, as a length.
-const COUNT: usize = WORDS as usize;
+// The device whose flash a file for this device fills.
+fn filled_for(device: Device) -> Device
+    ensures value { result ≡ filled_for device }
+    ensures words { words_of result ≡ limit_of device }
+{
+    if device.words() < 16384 {
+        Device::M328
+    } else {
+        device
+    }
+}
 
 impl Flash {
-    /// The ATmega328P's flash with all words FFFF.
-    pub fn erased(alloc: Global) -> Result<Flash, AllocError>
-        ensures words { IfOk result (λ flash. flash ≡ image M328 (replicate WORDS 0xFFFF)) }
-        ensures device { IfOk result (λ flash. device_of flash ≡ M328) }
+    /// The flash that a file for this device fills, with all words FFFF: as many as texts of the device admit.
+    pub fn erased(alloc: Global, device: Device) -> Result<Flash, AllocError>
+        ensures words { IfOk result (λ flash. flash ≡ image (filled_for device) (replicate (limit_of device) 0xFFFF)) }
+        ensures device { IfOk result (λ flash. device_of flash ≡ filled_for device) }
     {
-        let words = vec![in alloc; 0xFFFFu16; COUNT]?;
+        let words = vec![in alloc; 0xFFFFu16; device.limit() as usize]?;
         Ok(Flash {
             alloc,
-            device: Device::M328,
+            device: filled_for(device),
             words,
             readings: Vec::new(alloc),
             mark_list: Vec::new(alloc),
         })
     }
 
-    /// The ATmega328P's flash with the words of a raw image, the low byte of each first; the rest is erased. Refuses files of odd length,
-    /// and then those longer than flash. Source: own, since a raw file has no address.
-    pub fn from_raw(alloc: Global, bytes: &[u8]) -> Result<Flash, RawFault>
-        ensures image { IfOk result (λ flash. IsRawImage bytes.now flash.words) }
-        ensures device { IfOk result (λ flash. device_of flash ≡ M328) }
+    /// The flash that a file for this device fills, with the words of a raw image, the low byte of each first; the rest is erased. Refuses
+    /// files of odd length, and then those longer than flash. Source: own, since a raw file has no address.
+    pub fn from_raw(alloc: Global, device: Device, bytes: &[u8]) -> Result<Flash, RawFault>
+        ensures image { IfOk result (λ flash. IsRawImage device bytes.now flash.words) }
+        ensures device { IfOk result (λ flash. device_of flash ≡ filled_for device) }
         ensures odd { (result ≡ Err RawFault.OddLength) ↔ (length bytes.now % 2 ≡ 1) }
-        ensures long { (result ≡ Err RawFault.TooLong) ↔ ((length bytes.now % 2 ≡ 0) × (32768 < length bytes.now)) }
+        ensures long { (result ≡ Err RawFault.TooLong) ↔ ((length bytes.now % 2 ≡ 0) × (2 * limit_of device < length bytes.now)) }
     {
         if bytes.len() % 2 == 1 {
             return Err(RawFault::OddLength);
         }
-        if bytes.len() > 2 * COUNT {
+        if bytes.len() > 2 * device.limit() as usize {
             return Err(RawFault::TooLong);
         }
-        let Ok(mut flash) = Flash::erased(alloc) else {
+        let Ok(mut flash) = Flash::erased(alloc, device) else {
             return Err(RawFault::Memory);
         };
         flash.place(0, bytes);
@@ -111,22 +120,22 @@ impl Flash {
     pub fn word(&self, a: u16) -> u16
         ensures { result ≡ word_at self.now a }
     {
-        self.words[usize::from(self.device.wrap(a))]
+        self.words[usize::from(self.device.wrap(u32::from(a)))]
     }
 
-    /// The ATmega328P's words on another device, which has at most as many. Refuses with the first word behind that device's last that
+    /// The words of a file in the device's flash, which has at most as many. Refuses with the first word behind that device's last that
     /// isn't FFFF; a refused flash is dropped. Its words are decoded.
     pub fn narrow(mut self, device: Device) -> Result<Flash, Outside>
-        requires { length self.words ≡ WORDS }
+        requires { length self.words ≡ limit_of device }
         ensures answer { MatchResult result (λ flash. IsNarrowed device self.words flash) (λ fault. IsOutside device self.words fault.0) }
-        ensures exact { IsTrue (is_ok result) ↔ AreErased self.words (words_of device) WORDS }
+        ensures exact { IsTrue (is_ok result) ↔ AreErased self.words (words_of device) (limit_of device) }
     {
         if let Some(word) = self.first_outside(device) {
             return Err(Outside(word));
         }
         self.readings.clear();
         self.mark_list.clear();
-        self.words.truncate(usize::from(device.words()));
+        self.words.truncate(device.words() as usize);
         self.device = device;
         self.decode();
         Ok(self)
@@ -134,12 +143,12 @@ impl Flash {
 
     // The first word behind a device's last that isn't FFFF.
     fn first_outside(&self, device: Device) -> Option<u16>
-        requires { length self.now.words ≡ WORDS }
-        ensures { MatchOption result (AreErased self.now.words (words_of device) WORDS) (IsOutside device self.now.words) }
+        requires { length self.now.words ≡ limit_of device }
+        ensures { MatchOption result (AreErased self.now.words (words_of device) (limit_of device)) (IsOutside device self.now.words) }
     {
-        for at in device.words()..WORDS {
-            if self.words[usize::from(at)] != 0xFFFF {
-                return Some(at);
+        for at in device.words()..device.limit() {
+            if self.words[at as usize] != 0xFFFF {
+                return Some(at as u16);
             }
         }
         None
@@ -159,27 +168,25 @@ impl Flash {
         }
     }
 
-    /// Puts bytes at the byte addresses of the ATmega328P's flash from `at` on; every other byte stays.
-    pub fn place(&mut self, at: u16, bytes: &[u8])
-        requires device { length self.old.words ≡ WORDS }
-        requires fits { at + length bytes.now ≤ FLASH_BYTES }
-        ensures count { length self.new.words ≡ WORDS }
+    /// Puts bytes at the byte addresses from `at` on; every other byte stays.
+    pub fn place(&mut self, at: u32, bytes: &[u8])
+        requires fits { at + length bytes.now ≤ 2 * length self.old.words }
+        ensures count { length self.new.words ≡ length self.old.words }
         ensures device { device_of self.new ≡ device_of self.old }
-        ensures bytes { (z : ℕ) → z < FLASH_BYTES → byte_at self.new.words z ≡ placed at bytes.now self.old.words z }
+        ensures bytes { (z : ℕ) → z < 2 * length self.old.words → byte_at self.new.words z ≡ placed at bytes.now self.old.words z }
     {
         self.readings.clear();
         self.mark_list.clear();
         for (i, byte) in bytes.iter().enumerate() {
-            set_byte(&mut self.words, usize::from(at) + i, *byte);
+            set_byte(&mut self.words, at as usize + i, *byte);
         }
     }
 }
 
 // Changes the byte at `z` alone.
 fn set_byte(words: &mut Vec<u16>, z: usize, byte: u8)
-    requires size { length words.old.items ≡ WORDS }
-    requires fits { z < FLASH_BYTES }
-    ensures count { length words.new.items ≡ WORDS }
+    requires { z < 2 * length words.old.items }
+    ensures count { length words.new.items ≡ length words.old.items }
     ensures there { byte_at words.new.items z ≡ byte }
     ensures elsewhere { (k : ℕ) → k ≢ z → byte_at words.new.items k ≡ byte_at words.old.items k }
 {

@@ -1,12 +1,13 @@
 //! Tables of marks, with a truth for each 16-bit number, and ascending lists of marks.
 
-ghost use Rattle.std.specs.Prelude.{◌≡◌, ◌+◌, ◌*◌, ◌<◌, ℕ, List, Some, IfOk, length};
+ghost use Rattle.std.specs.Prelude.{◌≡◌, ◌+◌, ◌*◌, ◌<◌, ◌++◌, ℕ, List, Some, IfOk, length};
 ghost use Rattle.avr_model.specs.Devices.{Program};
-ghost use Rattle.avr_model.specs.Marks.{loaded_number, pair_number, added_number, side_marks, usual_marks};
+ghost use Rattle.avr_model.specs.Marks.{loaded_number, pair_number, added_number, side_marks, usual_marks, device_marks};
 ghost use Rattle.pair_domain.specs.Marks.{mark_below, mark_above, outward};
 ghost use Rattle.flash_image.specs.Marked.{marked, IsTable, AreListed, IsListOf, noted, AreLoads};
 
 use avr_decode::is_pair;
+use avr_model::device::Device;
 use avr_model::instruction::{ImmediateInstr, ImmediateOp};
 use pair_domain::Interval;
 use std::alloc::{AllocError, Global};
@@ -83,9 +84,9 @@ pub(crate) fn mark_side(table: &mut [bool; NUMBERS], loads: &[bool; LOADS], side
     }
 }
 
-// Marks the marks of every program.
-pub(crate) fn mark_usual(table: &mut [bool; NUMBERS])
-    ensures { table.new ≡ marked table.old usual_marks }
+// Marks the marks of every program, and those of the device.
+pub(crate) fn mark_usual(table: &mut [bool; NUMBERS], device: Device)
+    ensures { table.new ≡ marked table.old (usual_marks ++ device_marks device) }
 {
     table[0] = true;
     table[0x7FFF] = true;
@@ -95,6 +96,12 @@ pub(crate) fn mark_usual(table: &mut [bool; NUMBERS])
         table[256 * page + 255] = true;
         table[256 * page + 256] = true;
     }
+    let start = usize::from(device.io_end());
+    table[start] = true;
+    table[start + 1] = true;
+    let end = usize::from(device.ramend());
+    table[end] = true;
+    table[end + 1] = true;
 }
 
 // The greatest mark up to `x`, or 0.

@@ -14,6 +14,7 @@ use crate::mark_table::{
     widened_by,
 };
 use avr_decode::{immediate, other_side, written};
+use avr_model::device::WORDS;
 use avr_model::instruction::ImmediateInstr;
 use pair_domain::Interval;
 use std::alloc::AllocError;
@@ -57,7 +58,7 @@ impl Flash {
     fn mark_all(&self, table: &mut [bool; NUMBERS])
         ensures { table.new ≡ marked table.old (marks self.now) }
     {
-        mark_usual(table);
+        mark_usual(table, self.device);
         let loads = self.loads();
         for a in 0..self.written() {
             self.mark_at(table, &loads, a);
@@ -65,12 +66,12 @@ impl Flash {
     }
 
     // The number of words up to the last that isn't erased: words behind have no marks.
-    fn written(&self) -> u16
+    fn written(&self) -> u32
         ensures within { result ≤ length self.now.words }
         ensures erased { AreErased self.now.words result (length self.now.words) }
         ensures flash { IsFlash self.now }
     {
-        written(&self.words) as u16
+        written(&self.words) as u32
     }
 
     // The bytes that the program loads into each register.
@@ -88,7 +89,7 @@ impl Flash {
 
     // Marks those of the instruction at a word address with the ones after it.
     #[tactic(auto, using(crate::proofs::Marked::marked_append))]
-    fn mark_at(&self, table: &mut [bool; NUMBERS], loads: &[bool; LOADS], a: u16)
+    fn mark_at(&self, table: &mut [bool; NUMBERS], loads: &[bool; LOADS], a: u32)
         requires word { a < WORDS }
         requires loads { AreLoads self.now loads.now }
         ensures { table.new ≡ marked table.old (marks_at self.now a) }
@@ -102,11 +103,12 @@ impl Flash {
     }
 
     // The instruction at a word address, if it has a register and a byte.
-    fn immediate(&self, a: u16) -> Option<ImmediateInstr>
+    #[tactic(auto, using(crate::proofs::Loads::of_16_bits))]
+    fn immediate(&self, a: u32) -> Option<ImmediateInstr>
         ensures value { result ≡ immediate_at self.now a }
         ensures register { IfSome result (λ found. found.register < 32) }
     {
-        match &self.instruction(a) {
+        match &self.instruction((a % WORDS) as u16) {
             Some(instr) => immediate(instr),
             None => None,
         }
@@ -114,7 +116,7 @@ impl Flash {
 
     // Marks those of an instruction with the one at word `a`, which is one to three words after it.
     #[tactic(auto, using(crate::proofs::Marked::marked_append))]
-    fn mark_near(&self, table: &mut [bool; NUMBERS], first: ImmediateInstr, a: u16)
+    fn mark_near(&self, table: &mut [bool; NUMBERS], first: ImmediateInstr, a: u32)
         ensures { table.new ≡ marked table.old (near_marks first (immediate_at self.now a)) }
     {
         if let Some(second) = self.immediate(a) {
@@ -124,17 +126,18 @@ impl Flash {
     }
 
     // Marks those of an instruction with the one in the next word, which is word `a`.
+    #[tactic(auto, using(crate::proofs::Loads::of_16_bits))]
     fn mark_compared(
         &self,
         table: &mut [bool; NUMBERS],
         loads: &[bool; LOADS],
         first: ImmediateInstr,
-        a: u16,
+        a: u32,
     )
         requires { AreLoads self.now loads.now }
         ensures { table.new ≡ marked table.old (compared_marks self.now first (instruction_at self.now a)) }
     {
-        if let Some(next) = &self.instruction(a) {
+        if let Some(next) = &self.instruction((a % WORDS) as u16) {
             if let Some(side) = other_side(first, next) {
                 mark_side(table, loads, side, first.byte);
             }

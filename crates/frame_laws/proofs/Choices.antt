@@ -11,14 +11,16 @@ use Rattle.avr_model.specs.declared.choice.Choice.{Choice}
 use Rattle.avr_model.specs.declared.choice.Choice.TheVariants.{Go, Take}
 use Rattle.avr_model.specs.declared.effect.Effect.{Effect}
 use Rattle.avr_model.specs.Sreg.{flag}
-use Rattle.avr_model.specs.Assumptions.{is_never, has_masks}
-use Rattle.avr_model.specs.Vectors.{is_enabled, vector_word, WATCHDOG}
+use Rattle.avr_model.specs.Assumptions.{is_never}
+use Rattle.avr_model.specs.Masks.{reads_masks}
+use Rattle.avr_model.specs.Vectors.{is_enabled, last_vector, vector_word, watchdog}
 use Rattle.avr_model.specs.Sites.{instruction_at, is_scratch}
 use Rattle.avr_model.specs.State.{State, i_flag}
 use Rattle.avr_model.specs.Effects.{effect_of, way_back}
 use Rattle.avr_model.specs.Step.{Answer, Illegal, Undefined, Overflow, Flagged, Done, after, all_inside, live_write, protected_write, unlisted_transfer, may_take, enables_taken, entering, never_target, take, go, step}
 use Rattle.avr_model.specs.Run.{HasBytes}
 use Rattle.mask_states.specs.declared.keys.NodeKey.{NodeKey}
+use Rattle.mask_states.specs.Place.{EnablesAre}
 use Rattle.mask_states.specs.declared.keys.EdgeKind.TheVariants as kind
 use Rattle.mask_states.specs.declared.keys.SpForm.{SpForm}
 use Rattle.mask_states.specs.declared.keys.SpForm.TheVariants.{Closed, Open}
@@ -50,11 +52,12 @@ faultless_not_hung words A k s h = not_hung (is_hung (device_of words) A k k.sp)
 all_four : (a b c d : Bool) → (a && b && not c && d) ≡ true → (a ≡ true) × (b ≡ true) × (c ≡ false) × (d ≡ true)
 all_four a b c d h = (grind arith, grind arith, grind arith, grind arith)
 
-pub vector_small : (enables v : ℕ) → is_enabled enables v ≡ true → v ≤ 26
-vector_small enables v h = grind (arith, nat_tests)
+pub vector_small : (device : Device) (enables v : ℕ) → is_enabled device enables v ≡ true → v ≤ last_vector device
+unfolding is_enabled
+vector_small device enables v h = grind (arith, nat_tests)
 
 -- if an interrupt may be taken at a node without a fault, its stack pointer is whole
-closed_where_taken : (device : Device) (A : List Entry) (k : NodeKey) (v : ℕ) (form : SpForm) → k.sp ≡ form → k.i ≡ true → k.delay ≡ false → is_enabled k.masks v ≡ true
+closed_where_taken : (device : Device) (A : List Entry) (k : NodeKey) (v : ℕ) (form : SpForm) → k.sp ≡ form → k.i ≡ true → k.delay ≡ false → is_enabled device k.masks v ≡ true
     → is_never A (vector_word device v) ≡ false → is_hung device A k form ≡ false → (offset : ℕ) × (k.sp ≡ Closed offset)
 closed_where_taken device A k v (Closed offset) is i delay enabled allowed hung = (offset, is)
 closed_where_taken device A k v (Open offset high) is i delay enabled allowed hung =
@@ -92,7 +95,7 @@ module _ (cover : LocalPartsCover) (machines : MachinesStay) (live : LiveBytesSt
           devices_are_alike.same m.device site.entry
           (subst (λ device. site.entry < words_of device) (sym runs.device) ((local_parts_fit.fit words A g.node.key g.node.state).calls site member).0)
 
-      follows_on : (guarded : Bool) (e : Effect) → Follows (has_masks A) m g.origin g.node.key guarded b1 b2 e (raw_of words A g.node) → StepGoesOn (Follow words A f (Go b1 b2) g gs) m guarded e
+      follows_on : (guarded : Bool) (e : Effect) → Follows (reads_masks (device_of words) A) m g.origin g.node.key guarded b1 b2 e (raw_of words A g.node) → StepGoesOn (Follow words A f (Go b1 b2) g gs) m guarded e
       follows_on guarded e (stays to member inst lands) = frames_local live words A f sound m g gs runs b1 b2 guarded e to faultless member inst lands
       follows_on guarded e (calls offset site member form on same) =
           let k = g.node.key in
@@ -124,14 +127,18 @@ module _ (cover : LocalPartsCover) (machines : MachinesStay) (live : LiveBytesSt
       goes None covered = absurd (covered faultless)
       goes (Some instr) covered = answers instr covered
 
-    vector_is : (v : ℕ) → is_enabled m.enables v ≡ true → wrapped m.device (vector_word m.device v) ≡ vector_word (device_of words) v
+    -- what holds of the machine's device holds of the image's
+    on_words : (P : Device → Type 0) → P m.device → P (device_of words)
+    on_words P h = subst P runs.device h
+
+    vector_is : (v : ℕ) → is_enabled m.device m.enables v ≡ true → wrapped m.device (vector_word m.device v) ≡ vector_word (device_of words) v
     vector_is v enabled =
-        devices_are_alike.same m.device (vector_word m.device v) (devices_are_alike.vectors m.device v (vector_small m.enables v enabled))
+        devices_are_alike.same m.device (vector_word m.device v) (devices_are_alike.vectors m.device v (vector_small m.device m.enables v enabled))
         ∙ ap (λ device. vector_word device v) runs.device
 
     -- the entry of an interrupt that may be taken
-    entered_by : (v : ℕ) (clears : Bool) → (offset : ℕ) × (g.node.key.sp ≡ Closed offset) → g.node.key.i ≡ true → g.node.key.delay ≡ false → is_enabled g.node.key.masks v ≡ true
-        → is_never A (vector_word (device_of words) v) ≡ false → (not clears || (v == WATCHDOG)) ≡ true → is_enabled m.enables v ≡ true
+    entered_by : (v : ℕ) (clears : Bool) → (offset : ℕ) × (g.node.key.sp ≡ Closed offset) → g.node.key.i ≡ true → g.node.key.delay ≡ false → is_enabled (device_of words) g.node.key.masks v ≡ true
+        → is_never A (vector_word (device_of words) v) ≡ false → (not clears || (v == watchdog (device_of words))) ≡ true → is_enabled m.device m.enables v ≡ true
         → StepGoesOn (Follow words A f (Take v clears) g gs) m true (entering m v clears)
     entered_by v clears closed i delay enabled allowed clearable on =
         let k = g.node.key in
@@ -139,7 +146,8 @@ module _ (cover : LocalPartsCover) (machines : MachinesStay) (live : LiveBytesSt
         let enters : Enters words A g.node (kind.Interrupt v clears) (vector_inst words k v clears) k.pc = by_interrupt closed.0 v clears faultless closed.1 i delay enabled allowed clearable in
         subst (λ pc. StepGoesOn (Follow words A f (Take v clears) g gs) m true (record (entering m v clears) { pushes = way_back m.sp pc })) (sym place.pc)
         (frames_enter live words A f sound m g gs runs (kind.Interrupt v clears) (vector_inst words k v clears) k.pc closed.0 closed.1 enters
-        (vector_word m.device v) (m.sreg % 128) (enables_taken m.enables clears) (vector_is v on) (omega arith) (flag_cleared m.sreg) (taken_both (has_masks A) m.enables k.masks clears place.enables)
+        (vector_word m.device v) (m.sreg % 128) (enables_taken m.device m.enables clears) (vector_is v on) (omega arith) (flag_cleared m.sreg) (on_words (λ device. EnablesAre (reads_masks (device_of words) A) (enables_taken m.device m.enables clears) (enables_taken device k.masks clears))
+        (taken_both (reads_masks (device_of words) A) m.device m.enables k.masks clears place.enables))
         (Take v clears) (λ state above. interrupted v clears state _ enters above))
 
     taken : (v : ℕ) (clears t : Bool) → may_take m v clears ≡ t → IsFineFor (Follow words A f (Take v clears) g gs) (if t then take A m (entering m v clears) else Illegal)
@@ -147,15 +155,15 @@ module _ (cover : LocalPartsCover) (machines : MachinesStay) (live : LiveBytesSt
     taken v clears true legal =
         let k = g.node.key in
         let place = runs.running.place in
-        let all = all_four (is_enabled m.enables v) (i_flag m) m.delay (not clears || (v == WATCHDOG)) legal in
-        let enabled : is_enabled k.masks v ≡ true = enabled_too (has_masks A) m.enables k.masks v place.enables all.0 in
+        let all = all_four (is_enabled m.device m.enables v) (i_flag m) m.delay (not clears || (v == watchdog m.device)) legal in
+        let enabled : is_enabled (device_of words) k.masks v ≡ true = on_words (λ device. is_enabled device k.masks v ≡ true) (enabled_too (reads_masks (device_of words) A) m.device m.enables k.masks v place.enables all.0) in
         let i : k.i ≡ true = sym place.i ∙ all.1 in
         let delay : k.delay ≡ false = sym place.delay ∙ all.2 in
         let e = entering m v clears in
         let unlined : never_target A e.pc ≡ None → is_never A (vector_word (device_of words) v) ≡ false =
         λ none. subst (λ (word : ℕ). is_never A word ≡ false) (vector_is v all.0) (not_never A e.pc none) in
         let on : is_never A (vector_word (device_of words) v) ≡ false → StepGoesOn (Follow words A f (Take v clears) g gs) m true e =
-        λ allowed. entered_by v clears (closed_where_taken (device_of words) A k v k.sp refl i delay enabled allowed (faultless_not_hung words A k g.node.state faultless)) i delay enabled allowed all.3 all.0 in
+        λ allowed. entered_by v clears (closed_where_taken (device_of words) A k v k.sp refl i delay enabled allowed (faultless_not_hung words A k g.node.state faultless)) i delay enabled allowed (on_words (λ device. (not clears || (v == watchdog device)) ≡ true) all.3) all.0 in
         answer_fine (Follow words A f (Take v clears) g gs) m.pc (after m true e) (all_inside m.device e.pushes) (live_write m.memory e.pushes) None (never_target A e.pc)
         (λ none. (on (unlined none)).inside) (λ missed _ none. (on (unlined none)).done missed)
 

@@ -1,10 +1,12 @@
 -- The family of the worked firmware is sound: the definitions are satisfiable with a call.
 use Rattle.std.proofs.Common.{◌≡◌, ℕ, zero, suc, ◌+◌, ◌<◌, ◌≤◌, ◌⊎◌, inl, inr, ⊎_elim, false, List, [], ◌∷◌, Option, Some, None, slice_index_or, refl, sym, ap, ◌∙◌, subst, arith, Contains}
 use Rattle.std.proofs.lemmas.List.{get_or-replicate}
+use Rattle.std.proofs.lemmas.Nat.{pow_pos}
 use Rattle.basics.specs.Items.{none_in, only_one_in}
 use Rattle.std.proofs.lemmas.Option.{same_Some}
 use Rattle.avr_model.specs.Assumptions.{has_pairs}
 use Rattle.avr_model.specs.Devices.{size_of, device_of, device_row}
+use Rattle.avr_model.specs.Vectors.{enable_count}
 use Rattle.bit_domain.specs.declared.bits.Tri.TheVariants.{Any}
 use Rattle.bit_domain.specs.TriByte.{IsWithin, byte_any}
 use Rattle.bit_domain.proofs.AllLaws.{bytes_are_their_bits, bytes_are_sets, ranges_hold}
@@ -169,10 +171,10 @@ sample_small = omega arith
 
 pub the_sample_is_sound : IsSoundFamily sample [] family
 the_sample_is_sound = record {
-  formed = each (λ n. IsNodeIn (has_pairs []) n.key n.state)
-      record { word = omega arith; small = omega arith; masks = omega arith; fits = tt; pick = tt; formed = top_formed; tags = tags_stay_fit.less root top (top_above root reset_stands.formed) tags_stay_fit.at_reset; carry_bytes = tt; untagged = λ k. top_untagged; mode = sym no_pairs; hulls = tt }
-      record { word = omega arith; small = omega arith; masks = omega arith; fits = tt; pick = tt; formed = top_formed; tags = tags_stay_fit.less root top (top_above root reset_stands.formed) tags_stay_fit.at_reset; carry_bytes = tt; untagged = λ k. top_untagged; mode = sym no_pairs; hulls = tt }
-      record { word = omega arith; small = omega arith; masks = omega arith; fits = tt; pick = tt; formed = entries_are_true.formed top 0 top_formed; tags = (tags_stay_fit.at_entry top).0; carry_bytes = tt; untagged = λ k. absurd (cc); mode = sym no_pairs; hulls = tt };
+  formed = each (λ n. IsNodeIn (device_of sample) (has_pairs []) n.key n.state)
+      record { word = omega arith; small = omega arith; masks = pow_pos (enable_count (device_of sample)); fits = tt; pick = tt; formed = top_formed; tags = tags_stay_fit.less root top (top_above root reset_stands.formed) tags_stay_fit.at_reset; carry_bytes = tt; untagged = λ k. top_untagged; mode = sym no_pairs; hulls = tt }
+      record { word = omega arith; small = omega arith; masks = pow_pos (enable_count (device_of sample)); fits = tt; pick = tt; formed = top_formed; tags = tags_stay_fit.less root top (top_above root reset_stands.formed) tags_stay_fit.at_reset; carry_bytes = tt; untagged = λ k. top_untagged; mode = sym no_pairs; hulls = tt }
+      record { word = omega arith; small = omega arith; masks = pow_pos (enable_count (device_of sample)); fits = tt; pick = tt; formed = entries_are_true.formed top 0 top_formed; tags = (tags_stay_fit.at_entry top).0; carry_bytes = tt; untagged = λ k. absurd (cc); mode = sym no_pairs; hulls = tt };
   reset = record { state = top; present = (0, omega arith, refl); above = subst (λ b. IsStateWithin (root_by b) top) (sym no_pairs) (top_above root reset_stands.formed) };
   faultless = each (λ n. IsFaultless sample [] n)
       (ap (λ (r : Raw). r.faults) call_leads) (ap (λ (r : Raw). r.faults) loop_leads) (ap (λ (r : Raw). r.faults) return_leads);

@@ -2,14 +2,15 @@
 use Rattle.std.proofs.Common.{◌≡◌, ◌≢◌, ℕ, ◌+◌, ◌%◌, ◌≤◌, Bool, true, false, List, [], ◌∷◌, ◌++◌, length, Some, None, refl, sym, ap, ap₂, ◌∙◌, subst, subst₂, arith, Contains, ◌<◌}
 use Rattle.avr_model.specs.declared.device.Device.{Device}
 use Rattle.avr_model.proofs.AllLaws.{devices_are_alike}
-use Rattle.avr_model.specs.Devices.{Program, words_of, size_of, ramend, wrapped, device_of}
+use Rattle.avr_model.specs.Devices.{Program, words_of, io_end, size_of, ramend, wrapped, device_of}
 use Rattle.avr_model.specs.declared.assumption.Entry.{Entry}
+use Rattle.avr_model.specs.Assumptions.{has_pairs}
 use Rattle.avr_model.specs.declared.choice.Choice.{Choice}
 use Rattle.avr_model.specs.declared.choice.Choice.TheVariants.{Go}
 use Rattle.avr_model.specs.declared.effect.Effect.{Effect}
 use Rattle.avr_model.specs.Sreg.{flag}
-use Rattle.avr_model.specs.Assumptions.{has_masks}
-use Rattle.avr_model.specs.State.{State, Memory, BELOW, minus16, plus16}
+use Rattle.avr_model.specs.Masks.{reads_masks}
+use Rattle.avr_model.specs.State.{State, Memory, minus16, plus16}
 use Rattle.avr_model.specs.Effects.{way_back, going_to}
 use Rattle.avr_model.specs.Step.{after, all_inside, live_write, registers_after, with_registers, sreg_after, sp_after, open_after, enables_after}
 use Rattle.sp_domain.specs.Tags.{Origin, LessHolds}
@@ -31,7 +32,7 @@ use Rattle.mask_states.specs.Keys.{entry_key, offset_of}
 use Rattle.mask_states.specs.Place.{EnablesAre, SpIs}
 use Rattle.local_rules.specs.declared.local.Node.{Node}
 use Rattle.local_rules.specs.declared.local.Exit.{Exit}
-use Rattle.local_rules.specs.Cover.{IsWithinBase, HasRoom, ArrivesAt, IsReturn}
+use Rattle.local_rules.specs.Cover.{IsNodeIn, IsWithinBase, HasRoom, ArrivesAt, IsReturn}
 use Rattle.local_rules.specs.Machine.{IsMachine, floor_of}
 use Rattle.local_laws.specs.Laws.{LiveBytesStay}
 use Rattle.local_laws.proofs.AllLaws.{joins_are_least, local_parts_are_nodes, local_parts_fit, open_pairs_stay}
@@ -81,8 +82,11 @@ module _ (live : LiveBytesStay) (words : Program) (A : List Entry) (f : RankedFa
     small : f.bound ≤ size_of m.device
     small = on_machine (λ device. f.bound ≤ size_of device) sound.small
 
-    few : size_of m.device ≤ 2048
+    few : size_of m.device ≤ 16384
     few = devices_are_alike.most_bytes m.device
+
+    low_io : io_end m.device ≤ 0x1FF
+    low_io = devices_are_alike.most_io m.device
 
     -- a step that writes no live byte keeps this
     kept_by : (guarded : Bool) (e : Effect) → live_write m.memory (e.stores ++ e.pushes) ≡ None → Keeps m.memory (after m guarded e).memory (floor_of (after m guarded e).is_open (after m guarded e).sp)
@@ -104,16 +108,16 @@ module _ (live : LiveBytesStay) (words : Program) (A : List Entry) (f : RankedFa
 
     -- a successor's slots lie in SRAM or above it: a closed one has room, and an open one keeps the offset
     place_at : (to : Node) → Contains f.nodes to → to.key.inst ≡ g.node.key.inst → (form : SpForm) → to.key.sp ≡ form
-        → ((offset : ℕ) (high : High) → form ≡ Open offset high → offset ≡ offset_of g.node.key.sp) → has_masks A ≡ true → offset_of form + BELOW ≤ g.origin.base
+        → ((offset : ℕ) (high : High) → form ≡ Open offset high → offset ≡ offset_of g.node.key.sp) → reads_masks (device_of words) A ≡ true → offset_of form + io_end m.device ≤ g.origin.base
     place_at to present inst (Closed offset) is stays may = omega (arith, in_bound, small, sound.offsets to offset present is, ap f.need_of inst)
     place_at to present inst (Open offset high) is stays may = omega (arith, runs.running.room may, stays offset high refl)
 
     module _ (b1 b2 : ℕ) (guarded : Bool) (e : Effect) where
-      pub frames_local : (to : Node) → IsFaultless words A g.node → Contains (raw_of words A g.node).moves to → to.key.inst ≡ g.node.key.inst → ArrivesAt (has_masks A) m g.origin guarded e to
+      pub frames_local : (to : Node) → IsFaultless words A g.node → Contains (raw_of words A g.node).moves to → to.key.inst ≡ g.node.key.inst → ArrivesAt (reads_masks (device_of words) A) m g.origin guarded e to
           → StepGoesOn (Follow words A f (Go b1 b2) g gs) m guarded e
       frames_local to faultless member inst lands =
           let moves = (raw_of words A g.node).moves in
-          let joined = joins_are_least.above moves to (λ x i. (local_parts_are_nodes.nodes words A g.node.key g.node.state x runs.running.node faultless i).1) member in
+          let joined = joins_are_least.above moves to (λ x i. (local_parts_are_nodes.nodes words A g.node.key g.node.state x (sound.formed g.node runs.present) faultless i).1) member in
           let edge : Node = record { key = to.key; state = joined.state } in
           let cov = sound.edges g.node _ runs.present (moving edge faultless joined.present) in
           let node : Node = record { key = to.key; state = cov.state } in
@@ -138,7 +142,7 @@ module _ (live : LiveBytesStay) (words : Program) (A : List Entry) (f : RankedFa
                     present = cov.present;
                     running = record {
                       machine = machine;
-                      node = sound.formed node cov.present;
+                      node = on_machine (λ device. IsNodeIn device (has_pairs A) to.key cov.state) (sound.formed node cov.present);
                       place = place;
                       stands = values_say_less.state g.origin to.state cov.state n (states_are_ordered.through to.state joined.state cov.state joined.above cov.above) stands;
                       facts = facts_less to.state cov.state n (states_are_ordered.through to.state joined.state cov.state joined.above cov.above) lands.facts;
@@ -183,10 +187,10 @@ module _ (live : LiveBytesStay) (words : Program) (A : List Entry) (f : RankedFa
               flags = runs.running.stands.flags;
               less = runs.running.stands.less;
               facts = runs.running.facts;
-              slots = slots_follow.kept g.origin m.memory n (minus16 m.sp 2) g.node.state.slots kept (omega (arith, count_slots, ap offset_of form, room, top, few, sp)) runs.running.stands.slots;
+              slots = slots_follow.kept g.origin m.memory n (minus16 m.sp 2) g.node.state.slots kept (omega (arith, count_slots, ap offset_of form, room, top, few, low_io, sp)) runs.running.stands.slots;
               offset = offset;
               closed = form;
-              place = omega (arith, room, top, few, sp);
+              place = omega (arith, room, top, few, low_io, sp);
               way = way;
               back = back;
               enters = enters;
@@ -196,10 +200,10 @@ module _ (live : LiveBytesStay) (words : Program) (A : List Entry) (f : RankedFa
               low_live = pushed.low_live;
               high_live = pushed.high_live;
             },
-            left_kept words A f sound m.memory n (minus16 m.sp 2) kept gs g.node.key.inst g.origin (omega (arith, room, top, few, sp)) runs.left,
+            left_kept words A f sound m.memory n (minus16 m.sp 2) kept gs g.node.key.inst g.origin (omega (arith, room, top, few, low_io, sp)) runs.left,
           )
 
-      module _ (target sreg enables : ℕ) (to : wrapped m.device target ≡ inst.entry) (flags : sreg % 128 ≡ m.sreg % 128) (i : flag sreg 7 ≡ inst.i) (masks : EnablesAre (has_masks A) enables inst.masks) where
+      module _ (target sreg enables : ℕ) (to : wrapped m.device target ≡ inst.entry) (flags : sreg % 128 ≡ m.sreg % 128) (i : flag sreg 7 ≡ inst.i) (masks : EnablesAre (reads_masks (device_of words) A) enables inst.masks) where
         pub frames_enter : (c : Choice)
             → ((state : AbsState) → IsStateWithin (entered g.node.state) state → Change words A g gs c (record { node = record { key = entry_key inst; state = state }; origin = entry_origin }) (g ∷ gs))
             → StepGoesOn (Follow words A f c g gs) m true (entry_effect m target sreg enables back)
@@ -222,7 +226,7 @@ module _ (live : LiveBytesStay) (words : Program) (A : List Entry) (f : RankedFa
                   present = covered.present;
                   running = record {
                     machine = machine;
-                    node = sound.formed _ covered.present;
+                    node = on_machine (λ device. IsNodeIn device (has_pairs A) (entry_key inst) covered.state) (sound.formed _ covered.present);
                     place = record { pc = to; enables = masks; i = i; delay = refl; sp = (refl, omega arith) };
                     stands = values_say_less.state entry_origin (entered g.node.state) covered.state n covered.above stands;
                     facts =
@@ -230,9 +234,9 @@ module _ (live : LiveBytesStay) (words : Program) (A : List Entry) (f : RankedFa
                         (entries_are_true.facts g.node.state m.registers (flag m.sreg 0) (flag m.sreg 1) (flag m.sreg 4) (flag n.sreg 0) (flag n.sreg 1) (flag n.sreg 4) runs.running.facts);
                     root = λ kind. absurd (not_root enters kind);
                     base_word = omega arith;
-                    room = λ may. omega (arith, room, top, few);
+                    room = λ may. omega (arith, room, top, few, low_io);
                   };
-                  left = left_by n.memory (kept_by true (entry_effect m target sreg enables back) miss) (way_pushed m.device m.memory m.sp back runs.running.machine.count_bytes runs.running.machine.count_live top room);
+                  left = left_by n.memory (kept_by true (entry_effect m target sreg enables back) miss) (way_pushed m.device m.memory m.sp back runs.running.machine.below runs.running.machine.count_bytes runs.running.machine.count_live top room);
                 },
                 change covered.state covered.above,
               );
@@ -240,7 +244,7 @@ module _ (live : LiveBytesStay) (words : Program) (A : List Entry) (f : RankedFa
 
     -- ---- a return
 
-    module _ (b1 b2 : ℕ) (guarded : Bool) (e : Effect) (x : Exit) (faultless : IsFaultless words A g.node) (exit : (raw_of words A g.node).exit ≡ Some x) (form : g.node.key.sp ≡ Closed 0) (is : IsReturn (has_masks A) m b1 b2 x e) where
+    module _ (b1 b2 : ℕ) (guarded : Bool) (e : Effect) (x : Exit) (faultless : IsFaultless words A g.node) (exit : (raw_of words A g.node).exit ≡ Some x) (form : g.node.key.sp ≡ Closed 0) (is : IsReturn (reads_masks (device_of words) A) m b1 b2 x e) where
       abbrev returned_state : State
       returned_state = after m guarded e
 
@@ -258,9 +262,10 @@ module _ (live : LiveBytesStay) (words : Program) (A : List Entry) (f : RankedFa
 
       -- the slots of the frame that continues lie in SRAM or above it
       caller_room : (h : Frame) (hs : List Frame) → AreLeft words A f m.memory hs h.node.key.inst h.origin → Contains f.nodes h.node → (offset : ℕ) → h.node.key.sp ≡ Closed offset
-          → offset_of h.node.key.sp + BELOW ≤ h.origin.base
+          → offset_of h.node.key.sp + io_end m.device ≤ h.origin.base
       caller_room h hs left present offset closed =
-          omega (arith, ap offset_of closed, sound.offsets h.node offset present closed, within words A f sound m.memory hs h.node.key.inst h.origin left, sound.small)
+          on_machine (λ device. offset_of h.node.key.sp + io_end device ≤ h.origin.base)
+          (omega (arith, ap offset_of closed, sound.offsets h.node offset present closed, within words A f sound m.memory hs h.node.key.inst h.origin left, sound.small))
 
       pops : (hs : List Frame) → gs ≡ hs → g.node.key.inst.kind ≢ Root → AreLeft words A f m.memory hs g.node.key.inst g.origin
           → live_write m.memory (e.stores ++ e.pushes) ≡ None → Follow words A f (Go b1 b2) g gs returned_state
@@ -271,7 +276,7 @@ module _ (live : LiveBytesStay) (words : Program) (A : List Entry) (f : RankedFa
           let caller = sound.formed h.node was.present in
           let callee = subst (λ sp. IsFormed g.node.state (offset_of sp)) form runs.running.node.formed in
           let sp : m.sp ≡ g.origin.base = omega (arith, closed_sp 0 form) in
-          let floor : floor_of n.is_open n.sp ≡ g.origin.base + 2 = ap₂ floor_of still_closed raised_sp ∙ omega (arith, low_base, few, sp) in
+          let floor : floor_of n.is_open n.sp ≡ g.origin.base + 2 = ap₂ floor_of still_closed raised_sp ∙ omega (arith, low_base, few, low_io, sp) in
           let kept = subst (Keeps m.memory n.memory) floor (kept_by guarded e miss) in
           let slots = slots_follow.kept h.origin m.memory n.memory (g.origin.base + 2) h.node.state.slots kept (omega (arith, was.place, ap offset_of was.closed, caller.formed.count_slots)) was.slots in
           let back = returns_are_true.stands h.origin g.origin h.node.state g.node.state (offset_of h.node.key.sp) g.origin.registers m.registers g.origin.sreg m.sreg e.sreg n.memory
@@ -294,22 +299,22 @@ module _ (live : LiveBytesStay) (words : Program) (A : List Entry) (f : RankedFa
               present = cov.present;
               running = record {
                 machine = machine;
-                node = node;
+                node = on_machine (λ device. IsNodeIn device (has_pairs A) key cov.state) node;
                 place = record {
                   pc = is.pc
                       ∙ ap (wrapped m.device)
-                      (way_read m g.origin.base was.back b1 b2 runs.running.machine.count_live sp low_base node.word
+                      (way_read m g.origin.base was.back b1 b2 runs.running.machine.below runs.running.machine.count_live sp low_base
                       record { low_byte = was.low_byte; high_byte = was.high_byte; low_live = was.low_live; high_live = was.high_live })
                       ∙ devices_are_alike.same m.device was.back (on_machine (λ device. was.back < words_of device) (back_inside was.enters));
-                  enables = subst (λ ws. EnablesAre (has_masks A) (enables_after e.enables ws) x.masks) (sym is.stores) is.enables;
+                  enables = subst (λ ws. EnablesAre (reads_masks (device_of words) A) (enables_after m.device e.enables ws) x.masks) (sym is.stores) is.enables;
                   i = ap (λ s. flag s 7) same_sreg ∙ is.i;
                   delay = is.delay;
-                  sp = subst (SpIs h.origin.base n.is_open n.sp) (sym was.closed) (still_closed, omega (arith, raised_sp, was.place, low_base, few, sp));
+                  sp = subst (SpIs h.origin.base n.is_open n.sp) (sym was.closed) (still_closed, omega (arith, raised_sp, was.place, low_base, few, low_io, sp));
                 };
                 stands = values_say_less.state h.origin back.0 cov.state n cov.above stands;
                 facts = facts_less back.0 cov.state n cov.above (subst₂ (HoldsAt back.0.facts) (sym same_registers) (sym same_sreg) back.6);
                 root = λ kind. root_base words A f n.memory hs h.node.key.inst h.origin (left_kept words A f sound m.memory n.memory (g.origin.base + 2) kept hs h.node.key.inst h.origin (omega (arith, was.place)) left.1) kind ∙ ap ramend (sym runs.device);
-                base_word = omega (arith, base_inside words A f sound m.memory hs h.node.key.inst h.origin left.1, devices_are_alike.most_bytes (device_of words));
+                base_word = omega (arith, base_inside words A f sound m.memory hs h.node.key.inst h.origin left.1, devices_are_alike.most_bytes (device_of words), devices_are_alike.most_io (device_of words));
                 room = λ may. caller_room h hs left.1 was.present was.offset was.closed;
               };
               left = left_kept words A f sound m.memory n.memory (g.origin.base + 2) kept hs h.node.key.inst h.origin (omega (arith, was.place)) left.1;

@@ -3,10 +3,12 @@ use Rattle.std.proofs.Common.{◌≡◌, ◌↔◌, ◌⊎◌, inl, inr, ⊎_eli
 use Rattle.std.specs.Option.{is_some, option_copied}
 use Rattle.avr_model.specs.declared.assumption.Entry.{Entry}
 use Rattle.avr_model.specs.Run.{Bounded}
-use Rattle.avr_model.specs.Devices.{Program}
-use Rattle.witness_replay.specs.Spelling.{Plan}
+use Rattle.avr_model.specs.declared.device.Device.{Device}
+use Rattle.avr_model.specs.Devices.{Program, device_of}
+use Rattle.witness_replay.specs.Spelling.{Plan, IsSchedule}
 use Rattle.certificate.specs.Claims.{Claim, IsClaim}
 use Rattle.certificate.specs.Valid.{IsSound, Attains, IsAttained, IsValid}
+use Rattle.guided_trials.specs.declared.guide.Guide.{Guide}
 use Rattle.guided_trials.specs.Guides.{guide_of}
 use Rattle.guided_trials.specs.Trials.{IsGuidedFound}
 use Rattle.guided_trials.specs.Attaining.{IsScheduled, IsCompleted, SomeSucceeds, AttainedWhere}
@@ -18,6 +20,7 @@ claim_with c found h =
     record {
       bound_fits = h.bound_fits;
       entries_fit = h.entries_fit;
+      entries_of_device = h.entries_of_device;
       insts_fit = h.insts_fit;
       insts_ascend = h.insts_ascend;
       few_insts = h.few_insts;
@@ -36,6 +39,7 @@ sound_with words A c found h =
       nodes = h.nodes;
       expanded = h.expanded;
       meets = record {
+        device = h.meets.device;
         reset = h.meets.reset;
         faultless = h.meets.faultless;
         edges = h.meets.edges;
@@ -47,6 +51,11 @@ sound_with words A c found h =
     }
 
 -- ---- what is answered
+
+-- a schedule that trials find is one for the firmware's device
+pub found_fits : (words : Program) (A : List Entry) (g : Guide) (n : ℕ) (d : Device) (found : Option Plan) → d ≡ device_of words → IsGuidedFound words A g n found → IfSome found (IsSchedule d)
+found_fits words A g n d None is h = tt
+found_fits words A g n d (Some plan) is h = subst (λ (x : Device). IsSchedule x plan) (sym is) h.schedule.fits
 
 pub copied_as : (o : Option (Bor Plan)) (w : Option Plan) → option_copied o ≡ w → is_some o ≡ is_some w
 copied_as None None e = refl

@@ -79,7 +79,7 @@ module _ (words : Program) (A : List Entry) (g : Guide) (t : ℕ) where
   fails depth is low h = omega (arith, is, low, h)
 
   pub tried : (steps : ℕ) (cs : List Choice) (depth : ℕ) (plan : Plan) → steps ≡ most_choices → cs ≡ trial_by steps words A g t → depth ≡ depth_of words A (trial_of words A g t) reset
-      → g.bound ≤ depth → plan.fill ≡ fill_of g t → choices_of plan.runs ≡ cs → IsSchedule plan → IsGuidedTried words A g t (Some plan)
+      → g.bound ≤ depth → plan.fill ≡ fill_of g t → choices_of plan.runs ≡ cs → IsSchedule (device_of words) plan → IsGuidedTried words A g t (Some plan)
   tried steps cs depth plan most is deep high filling choices fits = (
     omega (arith, deep, high),
     record { fits = fits; fill = filling; choices = choices ∙ is ∙ whole steps most },

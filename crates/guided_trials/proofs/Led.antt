@@ -18,7 +18,7 @@ use Rattle.avr_model.specs.Bits.{any_below}
 use Rattle.avr_model.specs.Devices.{Program, device_of, words_of}
 use Rattle.avr_model.specs.Sites.{instruction_at}
 use Rattle.avr_model.specs.State.{State}
-use Rattle.avr_model.specs.Vectors.{WATCHDOG, vector_word}
+use Rattle.avr_model.specs.Vectors.{watchdog, vector_word, enable_count}
 use Rattle.certificate.specs.declared.instance.Inst.{Inst}
 use Rattle.certificate.specs.Claims.{Claim}
 use Rattle.guided_trials.specs.declared.guide.Candidate.{Candidate}
@@ -207,9 +207,9 @@ module _ (words : Program) (A : List Entry) where
   takes_if v need true h = (h, tt)
   takes_if v need false h = tt
 
-  at_if : (v need : ℕ) (b : Bool) → is_never A (vector_word (device_of words) v) ≡ b → Every may_come (if b then [] else takes_of v need)
+  at_if : (v need : ℕ) (b : Bool) → is_never A (vector_word (device_of words) v) ≡ b → Every may_come (if b then [] else takes_of (device_of words) v need)
   at_if v need true is = tt
-  at_if v need false is = let h : not (is_never A (vector_word (device_of words) v)) ≡ true = ap not is in (h, takes_if v need (v == WATCHDOG) h)
+  at_if v need false is = let h : not (is_never A (vector_word (device_of words) v)) ≡ true = ap not is in (h, takes_if v need (v == watchdog (device_of words)) h)
 
   every_take : (insts : List Inst) (n : ℕ) → Every may_come (first_takes words A insts n)
   unfolding first_takes
@@ -238,7 +238,7 @@ never : (words : Program) (A : List Entry) (c : Claim) (t : ℕ) (l : TrialMomen
 never words A c t l m v clears e =
     let g : Guide = guide_of words A c in
     only_taken words A (taken t (next l.number) (filter (may_be m) g.takes) (find (λ k. may_be m k && is_wanted g (fallen words m.sp) k) g.takes)) (left words g t l m).byte v clears
-    (taken_every words A t (next l.number) (fallen words m.sp) g (may_be m) (every_take words A c.instances 25)) e
+    (taken_every words A t (next l.number) (fallen words m.sp) g (may_be m) (every_take words A c.instances (enable_count (device_of words)))) e
 
 -- ---- the law
 

@@ -6,5 +6,6 @@ mod Nothing
 mod Paces
 mod Starts
 mod Takes
+mod Standing
 mod Led
 pub mod Completed

@@ -2,7 +2,9 @@
 use Rattle.std.proofs.Common.{zero, suc, ◌≡◌, refl, ap, ◌∙◌, ℕ, ◌%◌, ◌/◌, ◌==◌, ◌&&◌, ◌||◌, not, Bool, true, false, if◌then◌else◌, IsTrue, List, [], ◌∷◌, length, Option, Some, None, slice_get}
 use Rattle.std.specs.List.{find, filter}
 use Rattle.avr_model.specs.declared.choice.Choice.TheVariants.{Go}
-use Rattle.avr_model.specs.Vectors.{is_enabled, WATCHDOG}
+use Rattle.avr_model.specs.declared.device.Device.{Device}
+use Rattle.avr_model.specs.Vectors.{is_enabled, watchdog}
+use Rattle.avr_model.specs.Step.{may_take}
 use Rattle.avr_model.specs.State.{State, i_flag}
 use Rattle.avr_model.specs.Devices.{Program}
 use Rattle.avr_machine.specs.declared.menu.Menu.{Menu}
@@ -90,7 +92,9 @@ regrouped false i delay clears watchdog = refl
 
 legal_as : (menu : Menu) (m : State) → IsMenuOf menu m → (k : Candidate) → stands menu k ≡ may_be m k
 legal_as menu m is k =
-    ap (λ (b : Bool). b && (not k.clears || (k.vector == WATCHDOG))) (is.takes k.vector) ∙ regrouped (is_enabled m.enables k.vector) (i_flag m) m.delay k.clears (k.vector == WATCHDOG)
+    ap (λ (b : Bool). b && (not k.clears || (k.vector == watchdog menu.device))) (is.takes k.vector)
+    ∙ ap (λ (d : Device). may_take m k.vector false && (not k.clears || (k.vector == watchdog d))) is.device
+    ∙ regrouped (is_enabled m.device m.enables k.vector) (i_flag m) m.delay k.clears (k.vector == watchdog m.device)
 
 pub left_is : (words : Program) (g : Guide) (t : ℕ) (l : TrialMoment) (menu : Menu) (m : State) → IsMenuOf menu m → left_by words g t l menu ≡ left words g t l m
 left_is words g t l menu m is = ap (after words g t l) is.pc

@@ -2,6 +2,7 @@
 use Rattle.std.specs.Prelude.{◌≡◌, refl, true, false, [], ◌∷◌, map}
 use Rattle.avr_model.specs.declared.instruction.Instr.TheVariants as i
 use Rattle.avr_model.specs.declared.instruction.ImmediateOp.TheVariants as immediate
+use Rattle.avr_model.specs.Devices.{M328, device_row}
 use Rattle.guided_trials.specs.Numbers.{first, next, high, middle, low}
 use Rattle.guided_trials.specs.Telling.{told}
 use Rattle.guided_trials.specs.Guides.{takes_of}
@@ -51,10 +52,12 @@ skipped = refl
 
 -- ---- interrupts: the watchdog's that keeps its enable bit comes first, and others have one
 
-watchdog_twice : takes_of 7 3 ≡ record { vector = 7; clears = false; need = 3 } ∷ record { vector = 7; clears = true; need = 3 } ∷ []
+watchdog_twice : takes_of M328 7 3 ≡ record { vector = 7; clears = false; need = 3 } ∷ record { vector = 7; clears = true; need = 3 } ∷ []
+unfolding device_row
 watchdog_twice = refl
 
-another_once : takes_of 8 3 ≡ record { vector = 8; clears = false; need = 3 } ∷ []
+another_once : takes_of M328 8 3 ≡ record { vector = 8; clears = false; need = 3 } ∷ []
+unfolding device_row
 another_once = refl
 
 -- three bytes on the stack, two for the return address and a need of five reach the bound of ten; with a need of four they don't

@@ -1,6 +1,8 @@
 //! The guided trials of a certificate.
 
 ghost use Rattle.std.specs.Prelude.{◌≡◌, ◌≤◌, ◌<◌, ◌+◌, ◌++◌, IfOk, IfSome, OnOk};
+ghost use Rattle.avr_model.specs.Devices.{device_of};
+ghost use Rattle.avr_model.specs.Vectors.{last_vector};
 ghost use Rattle.avr_model.specs.Run.{Bounded};
 ghost use Rattle.certificate.specs.Valid.{Attains, IsValid};
 ghost use Rattle.guided_trials.specs.Attaining.{IsCompleted, AttainedWhere};
@@ -17,9 +19,6 @@ use mask_states::Kind;
 use std::alloc::{AllocError, Global};
 use vector_table::Assumptions;
 use witness_replay::Schedule;
-
-// The watchdog's vector.
-const WATCHDOG: u8 = 7;
 
 // Whether the instance is an entry of the vector.
 fn is_of(instance: &Inst, vector: u8) -> bool
@@ -44,7 +43,7 @@ fn need_of(instances: &[Inst], vector: u8) -> u32
     need
 }
 
-// Appends the interrupts of a vector, 2 to 26.
+// Appends the interrupts of a vector, 2 to the device's last.
 fn add_takes(
     takes: &mut Listed<Candidate>,
     flash: &Flash,
@@ -53,7 +52,7 @@ fn add_takes(
     vector: u8,
 ) -> Result<(), AllocError>
     requires least { 2 ≤ vector }
-    requires most { vector ≤ 26 }
+    requires most { vector ≤ last_vector (device_of flash.now) }
     ensures { OnOk result (takes.new ≡ takes.old ++ guides.takes_at flash.now assumptions.now instances.now vector) }
 {
     if assumptions.never(flash.device().vector_word(vector)) {
@@ -65,7 +64,7 @@ fn add_takes(
         clears: false,
         need,
     })?;
-    if vector == WATCHDOG {
+    if vector == flash.device().watchdog() {
         takes.push(Candidate {
             vector,
             clears: true,
@@ -86,7 +85,7 @@ fn guide_of(
 {
     let bytes = telling(alloc, flash)?;
     let mut takes = Listed::empty(alloc);
-    for n in 0..25u8 {
+    for n in 0..flash.device().last_vector() - 1 {
         add_takes(
             &mut takes,
             flash,
@@ -119,7 +118,7 @@ fn found(
 }
 
 /// The certificate with a schedule whose run is as deep as its bound, if it has none and one of this many guided trials finds one: that
-/// of the first such trial. All else stays. If the bound bounds all runs and the certificate is valid, so is the result: the replay of
+/// of the first such trial. The certificate must be for the firmware's device. All else stays. If the bound bounds all runs and the certificate is valid, so is the result: the replay of
 /// its schedule ends without a stop, at the depth of the bound. Source: own.
 pub fn attain(
     alloc: Global,
@@ -128,6 +127,7 @@ pub fn attain(
     certificate: Certificate,
     trials: u32,
 ) -> Result<Certificate, AllocError>
+    requires { certificate.device ≡ device_of flash.now }
     ensures completed { IfOk result (IsCompleted flash.now assumptions.now trials certificate) }
     ensures attained { IfOk result (AttainedWhere flash.now assumptions.now trials certificate) }
     ensures valid { IfOk result (λ c. Bounded flash.now assumptions.now certificate.bound → IsValid flash.now assumptions.now certificate → IsValid flash.now assumptions.now c) }

@@ -164,7 +164,8 @@ fn by_chance(guide: &Guide, menu: &Menu, t: u32, number: u64) -> Option<Candidat
 fn taken(flash: &Flash, guide: &Guide, t: u32, number: u64, menu: &Menu) -> Option<Candidate>
     ensures { result ≡ choosing.taken t number (filter (choosing.stands menu.now) guide.now.takes) (find (λ k. choosing.stands menu.now k && choosing.is_wanted guide.now (choosing.fallen flash.now menu.now.sp) k) guide.now.takes) }
 {
-    if menu.takes.bits() == 0 {
+    // No vector has the number 0: if it is the open one, none is open.
+    if !menu.takes || (menu.masks.bits() == 0 && menu.device.is_open_vector(0)) {
         return None;
     }
     if high(number) % 4 != 0 {

@@ -44,7 +44,7 @@ impl ToldBytes {
 /// An interrupt that may be taken.
 #[derive(Clone, Copy)]
 pub struct Candidate {
-    /// The vector, 2 to 26.
+    /// The vector, 2 to the device's last.
     pub vector: u8,
     /// Whether the vector's own enable bit is cleared.
     pub clears: bool,

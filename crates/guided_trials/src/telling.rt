@@ -73,7 +73,7 @@ fn mark_words(told: &mut [bool; 256], flash: &Flash)
     ensures { (b : ℕ) → b < 256 → slice_index_or told.new b false ≡ (slice_index_or told.old b false || spec.is_told flash.now (words_of (device_of flash.now)) b) }
 {
     for at in 0..flash.device().words() {
-        mark_at(told, flash, at);
+        mark_at(told, flash, at as u16);
     }
 }
 

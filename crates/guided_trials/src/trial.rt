@@ -112,7 +112,7 @@ fn try_number(
     }
     let trace = attempt(alloc, flash, assumptions, guide, t)?;
     let fill = fill_of(guide, t);
-    let schedule = Schedule::from_trace(alloc, fill, trace.choices.as_slice())?;
+    let schedule = Schedule::from_trace(alloc, flash.device(), fill, trace.choices.as_slice())?;
     Ok(Some(schedule))
 }
 

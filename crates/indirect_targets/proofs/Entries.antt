@@ -1,45 +1,31 @@
 -- Reading and spelling of entries are inverse.
-use Rattle.std.proofs.Common.{◌≡◌, ◌<◌, ◌^◌, ℕ, List, [], ◌∷◌, Bool, true, false, refl, ap, sym, ◌∙◌, arith, Option, Some, None, cond, inl, inr, codes, option_map, ltb-true, eqb, ◌&&◌, ◌||◌}
-use Rattle.std.specs.List.{AllByRecursion, list_all, list_any}
-use Rattle.std.proofs.lemmas.Bool.{and_parts, cases_Bool}
-use Rattle.std.proofs.lemmas.Bool.Decides.{nat_tests}
+use Rattle.std.proofs.Common.{◌≡◌, ◌<◌, ◌^◌, ℕ, List, [], ◌∷◌, Bool, true, refl, ap, sym, ◌∙◌, arith, Option, Some, None, cond, inl, inr, codes, option_map, ltb-true, ◌&&◌}
+use Rattle.std.specs.List.{AllByRecursion, list_all}
+use Rattle.std.proofs.lemmas.Bool.{and_parts}
 use Rattle.std.proofs.lemmas.Slice.Eq.{bytes_eq-Decides}
 use Rattle.std.specs.Str.{bytes_eq}
-use Rattle.std.specs.Prelude.{nat_lt, nat_le, length}
+use Rattle.std.specs.Prelude.{nat_le, length}
 use Rattle.basics.specs.Lists.{chosen, same_tail}
 use Rattle.std.proofs.lemmas.Option.{same_Some, none-some}
 use Rattle.line_reading.proofs.AllLaws.{map_some, bind_some, no_words}
-use Rattle.avr_model.specs.Vectors.{Vector, vectors, has_enables, is_protected}
+use Rattle.avr_model.specs.declared.device.Device.{Device}
 use Rattle.avr_model.specs.declared.assumption.Entry.{Entry}
 use Rattle.avr_model.specs.declared.assumption.Entry.TheVariants.{Pairs, Masks, Jump, Store, Prove, Free, Never, Frame}
 use Rattle.sb_base.specs.Digits.{hex_digits}
 use Rattle.line_reading.specs.Reading.{◌>>=◌, hex_at, is_over}
 use Rattle.line_reading.specs.Words.{IsWord, WordLaws}
-use Rattle.vector_table.specs.Entries.{is_entry, is_word, ascends}
+use Rattle.vector_table.specs.Entries.{is_entry, fits_device, is_word, is_io, ascends}
 use Rattle.indirect_targets.specs.Exact.{EntryWords}
-use Rattle.indirect_targets.specs.Reading.{numbers_in, listed_in, alone_in, bare_in, alone_by, numbered_in, admitted, entry_in}
+use Rattle.indirect_targets.specs.Reading.{numbers_in, listed_in, alone_in, bare_in, alone_by, numbered_in, is_entry_of, admitted, entry_in}
 use Rattle.indirect_targets.specs.Spelling.{number_words, entry_words}
 
 -- ---- the numbers of an entry fit four digits
 
-some_row_small : (rows : List Vector) (a : ℕ) → list_all (λ r. nat_lt r.address 256) rows ≡ true → list_any (λ r. eqb r.address a) rows ≡ true → a < 256
-some_row_small [] a h e = cc
-some_row_small (r ∷ rs) a h e =
-    let b = and_parts (nat_lt r.address 256) (list_all (λ r. nat_lt r.address 256) rs) h in
-    elim (cases_Bool (eqb r.address a)) [
-      | inl same ↦ let low = ltb-true r.address 256 b.0 in grind (arith, nat_tests)
-      | inr other ↦ some_row_small rs a b.1 (rw other at e)
-    ]
-
-protected_small : (a : ℕ) → is_protected a ≡ true → a < 16 ^ 4
-unfolding has_enables
-protected_small a h = elim (cases_Bool (has_enables a)) [
-  | inl held ↦ let small = some_row_small vectors a refl held in omega (arith, small)
-  | inr none ↦ let rest : (nat_lt a 32 || (nat_le 93 a && nat_le a 95) || false) ≡ true = rw none at h in grind (arith, nat_tests)
-]
+io_small : (a : ℕ) → is_io a ≡ true → a < 16 ^ 4
+io_small a h = let small = ltb-true a 0x0200 h in omega (arith, small)
 
 word_small : (a : ℕ) → is_word a ≡ true → a < 16 ^ 4
-word_small a h = let small = ltb-true a 16384 h in omega (arith, small)
+word_small a h = let small = ltb-true a 65536 h in omega (arith, small)
 
 -- numbers of at most four digits
 abbrev AreShort : List ℕ → Type 0
@@ -71,7 +57,7 @@ entry_short : (e : Entry) → is_entry e ≡ true → AreShort (numbers e)
 entry_short Pairs h = tt
 entry_short Masks h = tt
 entry_short (Jump site words) h = items_short is_word word_small site words h
-entry_short (Store site addresses) h = items_short is_protected protected_small site addresses h
+entry_short (Store site addresses) h = items_short is_io io_small site addresses h
 entry_short (Prove site) h = (word_small site h, tt)
 entry_short (Free site) h = (word_small site h, tt)
 entry_short (Never site) h = (word_small site h, tt)
@@ -174,7 +160,7 @@ numbered_takes k (w ∷ ws) e is = elim (chosen (bytes_eq w (codes "pairs")) _ _
   ]
 ]
 
-numbered_taken : WordLaws → (e : Entry) → is_entry e ≡ true → numbered_in (entry_words e) ≡ Some e
+pub numbered_taken : WordLaws → (e : Entry) → is_entry e ≡ true → numbered_in (entry_words e) ≡ Some e
 unfolding numbered_in alone_by
 numbered_taken k Pairs h = refl
 numbered_taken k Masks h = refl
@@ -185,18 +171,23 @@ numbered_taken k (Free site) h = ap (option_map (λ s. Free s)) (alone_taken k s
 numbered_taken k (Never site) h = ap (option_map (λ s. Never s)) (alone_taken k site (word_small site h))
 numbered_taken k (Frame site) h = ap (option_map (λ s. Frame s)) (alone_taken k site (word_small site h))
 
-entry_taken : WordLaws → (e : Entry) → is_entry e ≡ true → entry_in (entry_words e) ≡ Some e
-unfolding entry_in
-entry_taken k e h = ap (λ (o : Option Entry). o >>= admitted) (numbered_taken k e h) ∙ ap (λ (b : Bool). cond b (Some e) None) h
+-- an entry of the device is one of a list
+pub of_list : (device : Device) (e : Entry) → is_entry_of device e ≡ true → is_entry e ≡ true
+of_list device e h = (and_parts (is_entry e) (fits_device device e) h).0
 
-entry_takes : WordLaws → (ws : List (List ℕ)) (e : Entry) → entry_in ws ≡ Some e → (ws ≡ entry_words e) × (is_entry e ≡ true)
+entry_taken : WordLaws → (device : Device) (e : Entry) → is_entry_of device e ≡ true → entry_in device (entry_words e) ≡ Some e
 unfolding entry_in
-entry_takes k ws e is =
-    let n = bind_some (numbered_in ws) admitted e is in
-    elim (chosen (is_entry n.0) _ _ (Some e) n.2) [
+entry_taken k device e h =
+    ap (λ (o : Option Entry). o >>= admitted device) (numbered_taken k e (of_list device e h)) ∙ ap (λ (b : Bool). cond b (Some e) None) h
+
+entry_takes : WordLaws → (device : Device) (ws : List (List ℕ)) (e : Entry) → entry_in device ws ≡ Some e → (ws ≡ entry_words e) × (is_entry_of device e ≡ true)
+unfolding entry_in
+entry_takes k device ws e is =
+    let n = bind_some (numbered_in ws) (admitted device) e is in
+    elim (chosen (is_entry_of device n.0) _ _ (Some e) n.2) [
       | inl h ↦
           let same = same_Some n.0 e h.1 in
-          (numbered_takes k ws n.0 n.1 ∙ ap entry_words same, ap is_entry (sym same) ∙ h.0)
+          (numbered_takes k ws n.0 n.1 ∙ ap entry_words same, ap (is_entry_of device) (sym same) ∙ h.0)
       | inr h ↦ absurd (none-some e h.1)
     ]
 

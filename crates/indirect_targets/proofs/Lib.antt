@@ -2,6 +2,7 @@ pub mod Numbers
 pub mod Parts
 pub mod Loop
 pub mod Entries
+pub mod Fitting
 pub mod Lists
 pub mod Exact
 pub mod Members

@@ -2,6 +2,7 @@
 use Rattle.std.proofs.Common.{◌≡◌, ◌≢◌, List, [], ◌∷◌, refl, sym, ◌∙◌, ap, Result, Ok, Err}
 use Rattle.std.specs.Result.{IsErr, IsErrAnd}
 use Rattle.std.proofs.lemmas.Bool.{false≢true}
+use Rattle.avr_model.specs.declared.device.Device.{Device}
 use Rattle.avr_model.specs.declared.assumption.Entry.{Entry}
 use Rattle.sb_base.specs.Answers.{Answers}
 use Rattle.sb_base.specs.Lines.{TextLine}
@@ -9,24 +10,24 @@ use Rattle.line_reading.specs.Reading.{then_at}
 use Rattle.indirect_targets.specs.declared.fault.AssumeText.{AssumeText}
 use Rattle.indirect_targets.specs.Reading.{with_line, entries_from}
 
-next_of : (es : List Entry) (rest : List TextLine) (l : TextLine) (ls : List TextLine) → rest ≡ l ∷ ls → entries_from es rest ≡ then_at (with_line es l) (λ more. entries_from more ls)
+next_of : (device : Device) (es : List Entry) (rest : List TextLine) (l : TextLine) (ls : List TextLine) → rest ≡ l ∷ ls → entries_from device es rest ≡ then_at (with_line device es l) (λ more. entries_from device more ls)
 unfolding entries_from
-next_of es rest l ls e = rw e refl
+next_of device es rest l ls e = rw e refl
 
 -- a line that is read
-pub lines_more : (es fs : List Entry) (rest : List TextLine) (l : TextLine) (ls : List TextLine) (all : Result (List Entry) AssumeText) → rest ≡ l ∷ ls → with_line es l ≡ Ok fs
-    → entries_from es rest ≡ all → entries_from fs ls ≡ all
-lines_more es fs rest l ls all e read is = sym (next_of es rest l ls e ∙ ap (λ d. then_at d (λ more. entries_from more ls)) read) ∙ is
+pub lines_more : (device : Device) (es fs : List Entry) (rest : List TextLine) (l : TextLine) (ls : List TextLine) (all : Result (List Entry) AssumeText) → rest ≡ l ∷ ls → with_line device es l ≡ Ok fs
+    → entries_from device es rest ≡ all → entries_from device fs ls ≡ all
+lines_more device es fs rest l ls all e read is = sym (next_of device es rest l ls e ∙ ap (λ d. then_at d (λ more. entries_from device more ls)) read) ∙ is
 
 -- a line that is refused
-pub line_refused : (es : List Entry) (rest : List TextLine) (l : TextLine) (ls : List TextLine) (all : Result (List Entry) AssumeText) (f : AssumeText) → rest ≡ l ∷ ls → with_line es l ≡ Err f
-    → entries_from es rest ≡ all → all ≡ Err f
-line_refused es rest l ls all f e read is = sym is ∙ next_of es rest l ls e ∙ ap (λ d. then_at d (λ more. entries_from more ls)) read
+pub line_refused : (device : Device) (es : List Entry) (rest : List TextLine) (l : TextLine) (ls : List TextLine) (all : Result (List Entry) AssumeText) (f : AssumeText) → rest ≡ l ∷ ls → with_line device es l ≡ Err f
+    → entries_from device es rest ≡ all → all ≡ Err f
+line_refused device es rest l ls all f e read is = sym is ∙ next_of device es rest l ls e ∙ ap (λ d. then_at d (λ more. entries_from device more ls)) read
 
 -- no line is left
-pub lines_end : (es : List Entry) (rest : List TextLine) (all : Result (List Entry) AssumeText) → rest ≡ [] → entries_from es rest ≡ all → all ≡ Ok es
+pub lines_end : (device : Device) (es : List Entry) (rest : List TextLine) (all : Result (List Entry) AssumeText) → rest ≡ [] → entries_from device es rest ≡ all → all ≡ Ok es
 unfolding entries_from
-lines_end es rest all e is = sym is ∙ rw e refl
+lines_end device es rest all e is = sym is ∙ rw e refl
 
 -- a fault that is passed on
 pub passed_on : {X Y : Type 0} (view : X → Y) (free f : AssumeText) (r : Result X AssumeText) (due : Result Y AssumeText) → IsErrAnd r (λ e. e ≡ f) → IsErr r → (f ≢ free → due ≡ Err f) → Answers view free r due

@@ -1,7 +1,9 @@
 -- Worked texts and worked targets.
 use Rattle.std.specs.Prelude.{◌≡◌, ℕ, ◌==◌, List, [], ◌∷◌, ◌++◌, length, codes, Ok, Err, refl, if◌then◌else◌}
 use Rattle.std.specs.List.{flat_map}
-use Rattle.avr_model.specs.Vectors.{has_enables}
+use Rattle.avr_model.specs.Devices.{M328, device_row}
+use Rattle.avr_model.specs.Vectors.{places, has_enables}
+use Rattle.vector_table.specs.Entries.{fits_device}
 use Rattle.avr_model.specs.declared.assumption.Entry.{Entry}
 use Rattle.avr_model.specs.declared.assumption.Entry.TheVariants.{Pairs, Masks, Jump, Store, Prove, Free, Never, Frame}
 use Rattle.bit_domain.specs.declared.bits.Tri.TheVariants.{Zero, Any}
@@ -29,95 +31,100 @@ spelled : text_of each_kind ≡ each_text
 unfolding hex_digits
 spelled = refl
 
-read : entries_in each_text ≡ Ok each_kind
-unfolding entries_from with_line next_by entry_in numbered_in alone_by has_enables
+read : entries_in M328 each_text ≡ Ok each_kind
+unfolding entries_from with_line next_by entry_in numbered_in alone_by fits_device has_enables places device_row
 read = refl
 
-empty : entries_in [] ≡ Ok []
+empty : entries_in M328 [] ≡ Ok []
 unfolding entries_from
 empty = refl
 
-twice : entries_in (text (codes "jump 0004 0005" ∷ codes "jump 0004 0005" ∷ [])) ≡ Err (Order 2)
-unfolding entries_from with_line next_by entry_in numbered_in alone_by
+twice : entries_in M328 (text (codes "jump 0004 0005" ∷ codes "jump 0004 0005" ∷ [])) ≡ Err (Order 2)
+unfolding entries_from with_line next_by entry_in numbered_in alone_by fits_device device_row
 twice = refl
 
 -- the kinds at one site must be in order
-kinds_turned : entries_in (text (codes "prove 0003" ∷ codes "store 0004 005D" ∷ codes "jump 0004 0005" ∷ [])) ≡ Err (Order 3)
-unfolding entries_from with_line next_by entry_in numbered_in alone_by has_enables
+kinds_turned : entries_in M328 (text (codes "prove 0003" ∷ codes "store 0004 005D" ∷ codes "jump 0004 0005" ∷ [])) ≡ Err (Order 3)
+unfolding entries_from with_line next_by entry_in numbered_in alone_by fits_device has_enables places device_row
 kinds_turned = refl
 
-frees_turned : entries_in (text (codes "free 0004" ∷ codes "prove 0004" ∷ [])) ≡ Err (Order 2)
-unfolding entries_from with_line next_by entry_in numbered_in alone_by
+frees_turned : entries_in M328 (text (codes "free 0004" ∷ codes "prove 0004" ∷ [])) ≡ Err (Order 2)
+unfolding entries_from with_line next_by entry_in numbered_in alone_by fits_device device_row
 frees_turned = refl
 
-frames_turned : entries_in (text (codes "frame 0004" ∷ codes "never 0004" ∷ [])) ≡ Err (Order 2)
-unfolding entries_from with_line next_by entry_in numbered_in alone_by
+frames_turned : entries_in M328 (text (codes "frame 0004" ∷ codes "never 0004" ∷ [])) ≡ Err (Order 2)
+unfolding entries_from with_line next_by entry_in numbered_in alone_by fits_device device_row
 frames_turned = refl
 
 -- `pairs` comes at most once, first of all lines
-pairs_twice : entries_in (text (codes "pairs" ∷ codes "pairs" ∷ [])) ≡ Err (Order 2)
-unfolding entries_from with_line next_by entry_in numbered_in alone_by
+pairs_twice : entries_in M328 (text (codes "pairs" ∷ codes "pairs" ∷ [])) ≡ Err (Order 2)
+unfolding entries_from with_line next_by entry_in numbered_in alone_by fits_device device_row
 pairs_twice = refl
 
-pairs_behind : entries_in (text (codes "jump 0000 0005" ∷ codes "pairs" ∷ [])) ≡ Err (Order 2)
-unfolding entries_from with_line next_by entry_in numbered_in alone_by
+pairs_behind : entries_in M328 (text (codes "jump 0000 0005" ∷ codes "pairs" ∷ [])) ≡ Err (Order 2)
+unfolding entries_from with_line next_by entry_in numbered_in alone_by fits_device device_row
 pairs_behind = refl
 
 -- `masks` comes at most once, after `pairs` and before all other lines
-masks_twice : entries_in (text (codes "pairs" ∷ codes "masks" ∷ codes "masks" ∷ [])) ≡ Err (Order 3)
-unfolding entries_from with_line next_by entry_in numbered_in alone_by
+masks_twice : entries_in M328 (text (codes "pairs" ∷ codes "masks" ∷ codes "masks" ∷ [])) ≡ Err (Order 3)
+unfolding entries_from with_line next_by entry_in numbered_in alone_by fits_device device_row
 masks_twice = refl
 
-masks_behind : entries_in (text (codes "jump 0000 0005" ∷ codes "masks" ∷ [])) ≡ Err (Order 2)
-unfolding entries_from with_line next_by entry_in numbered_in alone_by
+masks_behind : entries_in M328 (text (codes "jump 0000 0005" ∷ codes "masks" ∷ [])) ≡ Err (Order 2)
+unfolding entries_from with_line next_by entry_in numbered_in alone_by fits_device device_row
 masks_behind = refl
 
-pairs_behind_masks : entries_in (text (codes "masks" ∷ codes "pairs" ∷ [])) ≡ Err (Order 2)
-unfolding entries_from with_line next_by entry_in numbered_in alone_by
+pairs_behind_masks : entries_in M328 (text (codes "masks" ∷ codes "pairs" ∷ [])) ≡ Err (Order 2)
+unfolding entries_from with_line next_by entry_in numbered_in alone_by fits_device device_row
 pairs_behind_masks = refl
 
-more_than_masks : entries_in (text (codes "masks 0000" ∷ [])) ≡ Err (Malformed 1)
-unfolding entries_from with_line next_by entry_in numbered_in alone_by
+more_than_masks : entries_in M328 (text (codes "masks 0000" ∷ [])) ≡ Err (Malformed 1)
+unfolding entries_from with_line next_by entry_in numbered_in alone_by fits_device device_row
 more_than_masks = refl
 
 -- `pairs` has no site
-more_than_pairs : entries_in (text (codes "pairs 0000" ∷ [])) ≡ Err (Malformed 1)
-unfolding entries_from with_line next_by entry_in numbered_in alone_by
+more_than_pairs : entries_in M328 (text (codes "pairs 0000" ∷ [])) ≡ Err (Malformed 1)
+unfolding entries_from with_line next_by entry_in numbered_in alone_by fits_device device_row
 more_than_pairs = refl
 
 -- `free` has a site and nothing else
-more_than_a_site : entries_in (text (codes "free 0004 005D" ∷ [])) ≡ Err (Malformed 1)
-unfolding entries_from with_line next_by entry_in numbered_in alone_by
+more_than_a_site : entries_in M328 (text (codes "free 0004 005D" ∷ [])) ≡ Err (Malformed 1)
+unfolding entries_from with_line next_by entry_in numbered_in alone_by fits_device device_row
 more_than_a_site = refl
 
 -- if a line is malformed and not above the last, it is refused as malformed
-form_first : entries_in (text (codes "prove 0004" ∷ codes "prove 003" ∷ [])) ≡ Err (Malformed 2)
-unfolding entries_from with_line next_by entry_in numbered_in alone_by
+form_first : entries_in M328 (text (codes "prove 0004" ∷ codes "prove 003" ∷ [])) ≡ Err (Malformed 2)
+unfolding entries_from with_line next_by entry_in numbered_in alone_by fits_device device_row
 form_first = refl
 
-unfinished : entries_in (codes "jump 0004 0005") ≡ Err (Malformed 1)
+unfinished : entries_in M328 (codes "jump 0004 0005") ≡ Err (Malformed 1)
 unfolding entries_from with_line next_by
 unfinished = refl
 
-no_item : entries_in (text (codes "jump 0004" ∷ [])) ≡ Err (Malformed 1)
-unfolding entries_from with_line next_by entry_in numbered_in alone_by
+no_item : entries_in M328 (text (codes "jump 0004" ∷ [])) ≡ Err (Malformed 1)
+unfolding entries_from with_line next_by entry_in numbered_in alone_by fits_device device_row
 no_item = refl
 
 -- address 0020 isn't protected
-unprotected : entries_in (text (codes "store 0004 0020" ∷ [])) ≡ Err (Malformed 1)
-unfolding entries_from with_line next_by entry_in numbered_in alone_by has_enables
+unprotected : entries_in M328 (text (codes "store 0004 0020" ∷ [])) ≡ Err (Malformed 1)
+unfolding entries_from with_line next_by entry_in numbered_in alone_by fits_device has_enables places device_row
 unprotected = refl
 
--- the program counter has 14 bits: the upper two bits of the high byte do not count
-one_word : targets_of (byte_known 52) (byte_known 210) ≡ 4660 ∷ []
+-- a program counter of 14 bits: the upper two bits of the high byte do not count
+one_word : targets_of 14 (byte_known 52) (byte_known 210) ≡ 4660 ∷ []
 unfolding numbers_of packed
 one_word = refl
 
+-- with 16 bits they count
+whole_word : targets_of 16 (byte_known 52) (byte_known 210) ≡ 53812 ∷ []
+unfolding numbers_of packed
+whole_word = refl
+
 -- bit 0 of the low byte and bit 1 of the high byte are unknown
-four_words : targets_of (byte_of (λ i. if i == 0 then Any else Zero)) (byte_of (λ i. if i == 1 then Any else Zero)) ≡ 0 ∷ 1 ∷ 512 ∷ 513 ∷ []
+four_words : targets_of 14 (byte_of (λ i. if i == 0 then Any else Zero)) (byte_of (λ i. if i == 1 then Any else Zero)) ≡ 0 ∷ 1 ∷ 512 ∷ 513 ∷ []
 unfolding numbers_of packed
 four_words = refl
 
-any_low_byte : length (targets_of byte_any (byte_known 0)) ≡ 256
+any_low_byte : length (targets_of 14 byte_any (byte_known 0)) ≡ 256
 unfolding numbers_of packed
 any_low_byte = refl

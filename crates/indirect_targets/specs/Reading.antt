@@ -1,12 +1,13 @@
--- Reads an assumption list forward, line by line. A refusal has the number of the first line with which no list continues.
-use Rattle.std.specs.Prelude.{ℕ, ◌+◌, nat_lt, List, [], ◌∷◌, ◌++◌, length, codes, Option, Some, None, Result, Ok, Err, if◌then◌else◌}
+-- Reads an assumption list of a device forward, line by line. A refusal has the number of the first line with which no list continues.
+use Rattle.std.specs.Prelude.{ℕ, ◌+◌, ◌&&◌, nat_lt, Bool, List, [], ◌∷◌, ◌++◌, length, codes, Option, Some, None, Result, Ok, Err, if◌then◌else◌}
 use Rattle.std.specs.Option.{option_map}
 use Rattle.std.specs.Str.{bytes_eq}
+use Rattle.avr_model.specs.declared.device.Device.{Device}
 use Rattle.avr_model.specs.declared.assumption.Entry.{Entry}
 use Rattle.avr_model.specs.declared.assumption.Entry.TheVariants.{Pairs, Masks, Jump, Store, Prove, Free, Never, Frame}
 use Rattle.sb_base.specs.Lines.{TextLine, lines_of, words_of}
 use Rattle.line_reading.specs.Reading.{◌>>=◌, hex_at, is_over, then_at}
-use Rattle.vector_table.specs.Entries.{is_entry, is_above_last, most_entries}
+use Rattle.vector_table.specs.Entries.{is_entry, fits_device, is_above_last, most_entries}
 use Rattle.indirect_targets.specs.declared.fault.AssumeText.{AssumeText}
 use Rattle.indirect_targets.specs.declared.fault.AssumeText.TheVariants.{Malformed, Order}
 
@@ -47,23 +48,27 @@ numbered_in (w ∷ ws) =
     else (if bytes_eq w (codes "store") then option_map (λ l. Store l.0 l.1) (listed_in ws)
     else alone_by w ws)))
 
--- the entry, if a list may have it
-abbrev pub admitted : Entry → Option Entry
-admitted e = if is_entry e then Some e else None
+-- a list of the device may have the entry
+abbrev pub is_entry_of : Device → Entry → Bool
+is_entry_of device e = is_entry e && fits_device device e
+
+-- the entry, if a list of the device may have it
+abbrev pub admitted : Device → Entry → Option Entry
+admitted device e = if is_entry_of device e then Some e else None
 
 -- the entry of these words
-unfoldable pub entry_in : List (List ℕ) → Option Entry
-entry_in ws = numbered_in ws >>= admitted
+unfoldable pub entry_in : Device → List (List ℕ) → Option Entry
+entry_in device ws = numbered_in ws >>= admitted device
 
 -- ---- lines
 
 -- the entry of a line, which must have a line feed
-abbrev pub entry_by : TextLine → Option Entry
-entry_by l = if l.whole then entry_in (words_of l.text) else None
+abbrev pub entry_by : Device → TextLine → Option Entry
+entry_by device l = if l.whole then entry_in device (words_of l.text) else None
 
 -- the entry of a line after this many lines: no list has a line 4,097
-unfoldable pub next_by : ℕ → TextLine → Option Entry
-next_by count l = if nat_lt count most_entries then entry_by l else None
+unfoldable pub next_by : Device → ℕ → TextLine → Option Entry
+next_by device count l = if nat_lt count most_entries then entry_by device l else None
 
 -- these entries with the one of the next line; refused if that is malformed, or not above the last
 abbrev pub placed : List Entry → Option Entry → Result (List Entry) AssumeText
@@ -71,14 +76,14 @@ placed es None = Err (Malformed (length es + 1))
 placed es (Some e) = if is_above_last es e then Ok (es ++ e ∷ []) else Err (Order (length es + 1))
 
 -- these entries with the one of the next line, or the refusal
-unfoldable pub with_line : List Entry → TextLine → Result (List Entry) AssumeText
-with_line es l = placed es (next_by (length es) l)
+unfoldable pub with_line : Device → List Entry → TextLine → Result (List Entry) AssumeText
+with_line device es l = placed es (next_by device (length es) l)
 
 -- these entries with those of all lines, or the refusal
-unfoldable pub entries_from : List Entry → List TextLine → Result (List Entry) AssumeText
-entries_from es [] = Ok es
-entries_from es (l ∷ ls) = then_at (with_line es l) (λ more. entries_from more ls)
+unfoldable pub entries_from : Device → List Entry → List TextLine → Result (List Entry) AssumeText
+entries_from device es [] = Ok es
+entries_from device es (l ∷ ls) = then_at (with_line device es l) (λ more. entries_from device more ls)
 
 -- the entries of a text
-abbrev pub entries_in : List ℕ → Result (List Entry) AssumeText
-entries_in text = entries_from [] (lines_of text)
+abbrev pub entries_in : Device → List ℕ → Result (List Entry) AssumeText
+entries_in device text = entries_from device [] (lines_of text)

@@ -22,7 +22,7 @@ pub fn reading_is_exact()
     word_laws();
 }
 
-/// The targets are exactly the words of members modulo 16,384. They ascend and are monotone.
+/// The targets are exactly the words of members modulo the limit of word addresses in the device's texts. They ascend and are monotone.
 pub fn targets_are_those_of_members()
     ensures { TargetsAreThoseOfMembers }
 {}

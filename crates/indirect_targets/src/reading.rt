@@ -8,17 +8,16 @@ ghost use Rattle.avr_model.specs.declared.assumption.Entry.TheVariants as entry;
 ghost use Rattle.avr_model.specs.Vectors as vectors;
 ghost use Rattle.sb_base.specs.Answers.{Answers};
 ghost use Rattle.sb_base.specs.Lines.{words_of};
-ghost use Rattle.vector_table.specs.Entries as entries;
-ghost use Rattle.vector_table.specs.Entries.{ascends, is_word};
+ghost use Rattle.vector_table.specs.Entries.{ascends, is_word_of};
 ghost use Rattle.indirect_targets.specs.declared.fault.AssumeText.{AssumeText};
 ghost use Rattle.indirect_targets.specs.declared.fault.AssumeText.TheVariants as fault;
 ghost use Rattle.indirect_targets.specs.Exact.{IsListDue, IsListDueUnlessMemory};
-ghost use Rattle.indirect_targets.specs.Reading.{numbers_in, listed_in, bare_in, alone_by, numbered_in, entry_in, with_line, entries_in};
+ghost use Rattle.indirect_targets.specs.Reading.{numbers_in, listed_in, bare_in, alone_by, numbered_in, is_entry_of, entry_in, with_line, entries_in};
 
 use crate::fault::AssumeText;
 use crate::laws::reading_is_exact;
 use avr_model::assumption::Entry;
-use avr_model::device::WORDS;
+use avr_model::device::Device;
 use avr_model::listed::Listed;
 use line_reading::{hex_word, is_over};
 use sb_base::{LineReader, Words, read_hex};
@@ -125,58 +124,65 @@ fn is_listable(items: &[u16]) -> bool
     !items.is_empty() && items.len() <= MOST_ITEMS && ascends(items)
 }
 
-fn are_all_words(items: &[u16]) -> bool
-    ensures { result ≡ list_all is_word items.now }
+// Whether a word address is one of the device's texts.
+fn is_word(device: Device, word: u16) -> bool
+    ensures { result ≡ is_word_of device word }
+{
+    u32::from(word) < device.limit()
+}
+
+fn are_all_words(device: Device, items: &[u16]) -> bool
+    ensures { result ≡ list_all (is_word_of device) items.now }
 {
     for item in items {
-        if *item >= WORDS {
+        if !is_word(device, *item) {
             return false;
         }
     }
     true
 }
 
-fn are_all_protected(items: &[u16]) -> bool
-    ensures { result ≡ list_all vectors.is_protected items.now }
+fn are_all_protected(device: Device, items: &[u16]) -> bool
+    ensures { result ≡ list_all (vectors.is_protected device) items.now }
 {
     for item in items {
-        if !is_protected(*item) {
+        if !is_protected(device, *item) {
             return false;
         }
     }
     true
 }
 
-// Whether an assumption list may have the entry.
-fn is_entry(entry: &Entry) -> bool
-    ensures { result ≡ entries.is_entry entry.now }
+// Whether an assumption list of the device may have the entry.
+fn is_entry(device: Device, entry: &Entry) -> bool
+    ensures { result ≡ is_entry_of device entry.now }
 {
     match entry {
         Entry::Pairs | Entry::Masks => true,
         Entry::Jump(site, words) => {
             let words = words.as_slice();
-            *site < WORDS && is_listable(words) && are_all_words(words)
+            is_word(device, *site) && is_listable(words) && are_all_words(device, words)
         }
         Entry::Store(site, addresses) => {
             let addresses = addresses.as_slice();
-            *site < WORDS && is_listable(addresses) && are_all_protected(addresses)
+            is_word(device, *site) && is_listable(addresses) && are_all_protected(device, addresses)
         }
         Entry::Prove(site) | Entry::Free(site) | Entry::Never(site) | Entry::Frame(site) => {
-            *site < WORDS
+            is_word(device, *site)
         }
     }
 }
 
-/// The entry whose line, without the line feed, is this text. None exactly if no entry has this line.
+/// The entry of the device whose line, without the line feed, is this text. None exactly if no entry has this line.
 #[tactic(auto, unfolding(crate::specs::Reading::entry_in))]
-pub fn entry_of(alloc: Global, text: &[u8]) -> Result<Option<Entry>, AllocError>
-    ensures exact { IfOk result (λ o. o ≡ entry_in (words_of text.now)) }
-    ensures formed { IfOk result (λ o. IfSome o (λ e. entries.is_entry e ≡ true)) }
+pub fn entry_of(alloc: Global, device: Device, text: &[u8]) -> Result<Option<Entry>, AllocError>
+    ensures exact { IfOk result (λ o. o ≡ entry_in device (words_of text.now)) }
+    ensures formed { IfOk result (λ o. IfSome o (λ e. is_entry_of device e ≡ true)) }
 {
     let Some(entry) = numbered_of(alloc, text)? else {
         return Ok(None);
     };
-    if is_entry(&entry) {
+    if is_entry(device, &entry) {
         Ok(Some(entry))
     } else {
         Ok(None)
@@ -187,18 +193,19 @@ pub fn entry_of(alloc: Global, text: &[u8]) -> Result<Option<Entry>, AllocError>
 #[tactic(auto, unfolding(crate::specs::Reading::with_line, crate::specs::Reading::next_by))]
 fn read_line(
     alloc: Global,
+    device: Device,
     list: &mut Assumptions,
     text: &[u8],
     whole: bool,
 ) -> Result<(), AssumeText>
-    ensures { Answers (λ u. list.new) fault.Memory result (with_line list.old (record { text = text.now; whole = whole })) }
+    ensures { Answers (λ u. list.new) fault.Memory result (with_line device list.old (record { text = text.now; whole = whole })) }
 {
     let before = list.entries().len();
     let number = before as u32 + 1;
     if before >= MOST_ENTRIES || !whole {
         return Err(AssumeText::Malformed(number));
     }
-    let Some(entry) = entry_of(alloc, text)? else {
+    let Some(entry) = entry_of(alloc, device, text)? else {
         return Err(AssumeText::Malformed(number));
     };
     match list.push(entry) {
@@ -209,28 +216,28 @@ fn read_line(
 }
 
 // Reads all lines.
-fn read_lines(alloc: Global, text: &[u8]) -> Result<Assumptions, AssumeText>
-    ensures { Answers (λ a. a) fault.Memory result (entries_in text.now) }
+fn read_lines(alloc: Global, device: Device, text: &[u8]) -> Result<Assumptions, AssumeText>
+    ensures { Answers (λ a. a) fault.Memory result (entries_in device text.now) }
 {
     let mut list = Assumptions::empty(alloc);
     let mut reader = LineReader::new(text);
     while let Some(line) = reader.next() {
-        read_line(alloc, &mut list, line.text, line.whole)?;
+        read_line(alloc, device, &mut list, line.text, line.whole)?;
     }
     Ok(list)
 }
 
-/// Reads an assumption list. The inverse of `write`.
+/// Reads an assumption list of a device. The inverse of `write`.
 ///
 /// The text has a line for each entry: `pairs`, `masks`, `jump SITE WORD ...`, `store SITE ADDRESS ...`, `prove SITE`, `free SITE`,
-/// `never SITE` or `frame SITE`, with word addresses and protected addresses in four upper-case hexadecimal digits, single spaces, and a
+/// `never SITE` or `frame SITE`, with word addresses and protected addresses of the device in four upper-case hexadecimal digits, single spaces, and a
 /// line feed after each line. A text of no list is refused at the first line with which no list continues: as `Malformed` if that line
 /// has the wrong form or is line 4,097, else as `Order`. Source: own.
-pub fn read(alloc: Global, text: &[u8]) -> Result<Assumptions, AssumeText>
-    ensures exact { Answers (λ a. a) fault.Memory result (entries_in text.now) }
-    ensures told { IsListDueUnlessMemory text.now result }
-    ensures due { (due : Result (List Entry) AssumeText) → IsListDue text.now due → Answers (λ a. a) fault.Memory result due }
+pub fn read(alloc: Global, device: Device, text: &[u8]) -> Result<Assumptions, AssumeText>
+    ensures exact { Answers (λ a. a) fault.Memory result (entries_in device text.now) }
+    ensures told { IsListDueUnlessMemory device text.now result }
+    ensures due { (due : Result (List Entry) AssumeText) → IsListDue device text.now due → Answers (λ a. a) fault.Memory result due }
 {
     reading_is_exact();
-    read_lines(alloc, text)
+    read_lines(alloc, device, text)
 }

@@ -1,5 +1,6 @@
 -- Two digits, one after the other.
-use Rattle.std.proofs.Common.{ℕ, ◌+◌, ◌*◌, ◌≡◌, ◌&&◌, List, [], ◌∷◌, length, Bool, true, false, cond, refl, ap, sym, ◌∙◌, arith, Option, Some, None, Ok, nat_lt, not}
+use Rattle.std.proofs.Common.{ℕ, ◌+◌, ◌*◌, ◌^◌, ◌<◌, ◌≤◌, ◌≡◌, ◌&&◌, List, [], ◌∷◌, length, Bool, true, false, cond, refl, ap, sym, ◌∙◌, arith, Option, Some, None, Ok, nat_lt, not}
+use Rattle.std.proofs.Math.Nat.{pow-le-pow_right}
 use Rattle.std.specs.Prelude.{if◌then◌else◌}
 use Rattle.std.specs.List.{position}
 use Rattle.std.proofs.lemmas.Iterator.Adapters.{position_from-zero}
@@ -48,3 +49,6 @@ two_letters a b rest =
 
     number : number_from 16 0 (a ∷ b ∷ []) ≡ 16 * digit_of a + digit_of b
     number = let none : 16 * 0 + digit_of a ≡ digit_of a = omega arith in ap (λ n. 16 * n + digit_of b) none
+
+pub eight_fit : (n count : ℕ) → n < 16 ^ count → count ≤ 8 → n < 2 ^ 32
+eight_fit n count h few = omega (arith, h, pow-le-pow_right {n = 16} (omega arith) few)

@@ -78,7 +78,7 @@ impl<'a> Letters<'a> {
         match read_hex(digits, count) {
             Ok(number) => {
                 self.rest = rest;
-                Some(number)
+                Some(number as u32)
             }
             Err(_) => None,
         }

@@ -17,9 +17,9 @@ use sb_base::{LineReader, Words, read_dec, read_hex};
 pub struct Malformed(pub usize);
 
 /// Reads the next word as a number of exactly `digits` upper-case hexadecimal digits.
-pub fn hex_word(words: &mut Words<'_>, digits: usize) -> Option<u32>
+pub fn hex_word(words: &mut Words<'_>, digits: usize) -> Option<u64>
     requires some { 1 ≤ digits }
-    requires few { digits ≤ 8 }
+    requires few { digits ≤ 16 }
     ensures exact { option_map (λ n. (n, words.new)) result ≡ hex_at digits words.old }
     ensures small { IfSome result (λ n. n < 16 ^ digits) }
 {

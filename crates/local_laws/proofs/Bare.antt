@@ -1,8 +1,9 @@
 -- Nodes without their facts on pairs, as rows need and keep them. A row ends some intervals before it writes.
 use Rattle.std.proofs.Common.{◌≡◌, ◌+◌, ◌^◌, ◌<◌, ◌≤◌, Bool, true}
-use Rattle.avr_model.specs.Devices.{ramend}
-use Rattle.avr_model.specs.Image.{WORDS}
-use Rattle.avr_model.specs.State.{State, SIZE, BELOW}
+use Rattle.avr_model.specs.declared.device.Device.{Device}
+use Rattle.avr_model.specs.Devices.{io_end, ramend, limit_of, depth_of}
+use Rattle.avr_model.specs.State.{State}
+use Rattle.avr_model.specs.Vectors.{enable_count}
 use Rattle.sp_domain.specs.Tags.{Origin, HasByteNumbers}
 use Rattle.pair_domain.specs.Facts.{is_followed}
 use Rattle.abs_state.specs.declared.state.AbsState.{AbsState}
@@ -17,10 +18,10 @@ use Rattle.mask_states.specs.Place.{AtNode}
 use Rattle.local_rules.specs.Machine.{IsMachine}
 use Rattle.local_rules.specs.Cover.{FormFits, IsKey, IsNodeIn, InFrameIn}
 
-pub record IsBare (k : NodeKey) (s : AbsState) : Type 0 where
-  pub word : k.pc < WORDS
-  pub small : offset_of k.sp ≤ SIZE
-  pub masks : k.masks < 2 ^ 25
+pub record IsBare (device : Device) (k : NodeKey) (s : AbsState) : Type 0 where
+  pub word : k.pc < limit_of device
+  pub small : offset_of k.sp ≤ depth_of device
+  pub masks : k.masks < 2 ^ enable_count device
   pub fits : FormFits k
   pub pick : PickFits k.pick
   pub formed : IsFormed s (offset_of k.sp)
@@ -30,15 +31,15 @@ pub record IsBare (k : NodeKey) (s : AbsState) : Type 0 where
 
 pub record InBareFrame (may : Bool) (m : State) (o : Origin) (k : NodeKey) (s : AbsState) : Type 0 where
   pub machine : IsMachine m
-  pub node : IsBare k s
+  pub node : IsBare m.device k s
   pub place : AtNode may o.base m k
   pub stands : Stands o s m
   pub facts : HoldsAt s.facts m.registers m.sreg
   pub root : k.inst.kind ≡ Root → o.base ≡ ramend m.device
   pub base_word : o.base < 65536
-  pub room : may ≡ true → offset_of k.sp + BELOW ≤ o.base
+  pub room : may ≡ true → offset_of k.sp + io_end m.device ≤ o.base
 
-pub bare : {followed : Bool} (k : NodeKey) (s : AbsState) → IsNodeIn followed k s → IsBare k s
+pub bare : {device : Device} {followed : Bool} (k : NodeKey) (s : AbsState) → IsNodeIn device followed k s → IsBare device k s
 bare k s h =
     record {
       word = h.word;
@@ -66,7 +67,7 @@ bare_frame m o k s h =
     }
 
 -- with valid facts on pairs it is a node
-pub node_of : {followed : Bool} (k : NodeKey) (s : AbsState) → IsBare k s → is_followed s.facts ≡ followed → IsInHulls s → IsNodeIn followed k s
+pub node_of : {device : Device} {followed : Bool} (k : NodeKey) (s : AbsState) → IsBare device k s → is_followed s.facts ≡ followed → IsInHulls s → IsNodeIn device followed k s
 node_of k s h mode hulls =
     record {
       word = h.word;
@@ -82,5 +83,5 @@ node_of k s h mode hulls =
       hulls = hulls;
     }
 
-pub bare_key : (k : NodeKey) (s : AbsState) → IsBare k s → IsKey k
+pub bare_key : {device : Device} (k : NodeKey) (s : AbsState) → IsBare device k s → IsKey device k
 bare_key k s h = record { word = h.word; small = h.small; masks = h.masks; fits = h.fits; pick = h.pick }

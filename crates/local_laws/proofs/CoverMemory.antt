@@ -10,14 +10,15 @@ use Rattle.avr_model.specs.declared.instruction.Pointer.{Pointer}
 use Rattle.avr_model.specs.declared.instruction.Pointer.TheVariants as pointer
 use Rattle.avr_model.specs.declared.effect.Write.{Write}
 use Rattle.avr_model.specs.declared.effect.Effect.{Effect}
-use Rattle.avr_model.specs.Assumptions.{has_masks, is_fixed_site}
+use Rattle.avr_model.specs.Assumptions.{is_fixed_site}
+use Rattle.avr_model.specs.Masks.{reads_masks}
 use Rattle.avr_model.specs.Bits.{with_bit}
 use Rattle.avr_model.specs.Image.{byte_at}
 use Rattle.avr_model.specs.Sites.{base_register, pointer_register}
 use Rattle.avr_model.specs.Sreg.{flag}
 use Rattle.avr_model.specs.Written.{moved_pair, written as registers_of}
-use Rattle.avr_model.specs.State.{State, register, pair, io_byte, read, plus16, minus16}
-use Rattle.avr_model.specs.Vectors.{enable_of, has_enables, written_enables}
+use Rattle.avr_model.specs.State.{State, register, pair, read, plus16, minus16}
+use Rattle.avr_model.specs.Vectors.{held_of, has_enables, written_enables, kept_byte}
 use Rattle.avr_model.specs.Step.{with_registers, flagged_write, protected_write}
 use Rattle.avr_model.specs.Effects.{set, set_pair, setting, going_to, further, moved, pointed as address_of, port, flash_read, effect_of}
 use Rattle.bit_domain.specs.declared.bits.Tri.TheVariants.{Zero, One}
@@ -33,18 +34,17 @@ use Rattle.abs_state.specs.declared.state.AbsState.{AbsState}
 use Rattle.abs_state.specs.Values.{untagged, known, unknown}
 use Rattle.abs_state.specs.Stands.{ByteStands, RegistersStand}
 use Rattle.mask_states.specs.declared.keys.NodeKey.{NodeKey}
-use Rattle.mask_states.specs.Place.{EnablesAre}
 use Rattle.mask_states.specs.Wakes.{without}
 use Rattle.local_rules.specs.Flow.{reading_zero}
 use Rattle.local_rules.specs.Permitted.{permits_number}
 use Rattle.local_rules.specs.Raw.{Raw, at_word, off_table, next, going_to as node_going_to, setting as node_setting, further as node_further}
 use Rattle.local_rules.specs.Registers.{value, set as node_set, pair_moved}
-use Rattle.local_rules.specs.Reads.{read_at, pair_constant, pointed, read_pointed, flash_value}
+use Rattle.local_rules.specs.Reads.{read_at, kept_bits, pair_constant, pointed, read_pointed, flash_value}
 use Rattle.local_rules.specs.Writes.{written_at, pointer_write}
 use Rattle.local_rules.specs.Local.{step_before, pointer_moved, loading, load_row, bit_row}
 use Rattle.local_rules.specs.Cover.{stays}
 use Rattle.local_laws.proofs.Bare.{InBareFrame}
-use Rattle.local_laws.proofs.Enables.{bit_both, held_in_io, io_known, io_read, zero_read}
+use Rattle.local_laws.proofs.Enables.{bit_both, held_in_io, zero_read}
 use Rattle.local_laws.proofs.Landing.{ArrivesWhere, FollowsWhere}
 use Rattle.local_laws.proofs.Permitted.{IsPairAt, base_pair, pointer_pair, number_permitted}
 use Rattle.local_rules.specs.Machine.{AreWords}
@@ -55,7 +55,7 @@ use Rattle.local_laws.proofs.Bits.{with_bit_small, has_with, permits_flag}
 use Rattle.local_laws.proofs.Frame.{set_stands, register_stands, set_one, same_frame, turns_with, turns_to, only, sets}
 use Rattle.local_laws.proofs.FlowRows.{not_may, further_is, goes_further, skip_keys}
 use Rattle.local_laws.proofs.CoverRows.{NamesAddress, RowIsCovered}
-use Rattle.local_laws.proofs.ReadValues.{io_has, io_reads, known_stands, no_reads, read_stands, read_stands_by}
+use Rattle.local_laws.proofs.ReadValues.{kept_has, none_kept, known_stands, read_stands}
 use Rattle.local_laws.proofs.PointerReads.{IsRead, pair_small, pair_constant_is, pointed_stands, pointer_stands, z_moved}
 use Rattle.local_laws.proofs.SplitMembers.{AreSplitsWritten}
 use Rattle.local_laws.proofs.WriteValues.{stored, ReachesNode, split_written, written}
@@ -137,12 +137,12 @@ st_unflagged : (words : Program) (A : List Entry) (pc : ℕ) (p : Pointer) (r : 
 unfolding protected_write
 st_unflagged words A pc p r e h = h
 
-module _ (words : Program) (A : List Entry) (m : State) (o : Origin) (k : NodeKey) (s : AbsState) (at : InBareFrame (has_masks A) m o k s) (scratch : Bool) (b1 b2 : ℕ) where
+module _ (words : Program) (A : List Entry) (m : State) (o : Origin) (k : NodeKey) (s : AbsState) (at : InBareFrame (reads_masks m.device A) m o k s) (scratch : Bool) (b1 b2 : ℕ) where
   -- ---- reads
 
   setting_covered : (writes : List Write) (registers : List AbsByte) → RegistersStand o registers (with_registers m.registers writes)
       → LessHolds (with_registers m.registers writes) s.flags.carry (flag m.sreg 0)
-      → FollowsWhere (has_masks A) m o s.facts k (not scratch) b1 b2 (setting m writes m.sreg) (node_setting m.device k s registers s.flags)
+      → FollowsWhere (reads_masks m.device A) m o s.facts k (not scratch) b1 b2 (setting m writes m.sreg) (node_setting m.device k s registers s.flags)
   setting_covered writes registers stand less = sets m o k s at (not scratch) b1 b2 writes m.sreg registers s.flags refl stand at.stands.flags less
 
   -- sets a register after others
@@ -155,35 +155,35 @@ module _ (words : Program) (A : List Entry) (m : State) (o : Origin) (k : NodeKe
   loading_covered : (writes : List Write) (registers : List AbsByte) (d x : ℕ) (v : Option AbsByte) → length registers ≡ 32
       → RegistersStand o registers (with_registers m.registers writes) → LessHolds (with_registers m.registers writes) s.flags.carry (flag m.sreg 0)
       → Spares s.flags.carry d → IsRead o v x
-      → FollowsWhere (has_masks A) m o s.facts k (not scratch) b1 b2 (setting m (writes ++ set d x) m.sreg) (loading m.device k s registers d v)
+      → FollowsWhere (reads_masks m.device A) m o s.facts k (not scratch) b1 b2 (setting m (writes ++ set d x) m.sreg) (loading m.device k s registers d v)
   loading_covered writes registers d x None count stand less spare h = absurd h
   loading_covered writes registers d x (Some v) count stand less spare h =
       setting_covered (writes ++ set d x) (slice_set registers d v) (after_set writes registers d x v count stand h)
       (subst (λ (xs : List ℕ). LessHolds xs s.flags.carry (flag m.sreg 0)) (added m.registers writes d x)
       (less_set (with_registers m.registers writes) s.flags.carry (flag m.sreg 0) d x spare less))
 
-  one_covered : (d x : ℕ) (v : AbsByte) → ByteStands o v x → Spares s.flags.carry d → FollowsWhere (has_masks A) m o s.facts k (not scratch) b1 b2 (setting m (set d x) m.sreg) (node_setting m.device k s (node_set s d v) s.flags)
+  one_covered : (d x : ℕ) (v : AbsByte) → ByteStands o v x → Spares s.flags.carry d → FollowsWhere (reads_masks m.device A) m o s.facts k (not scratch) b1 b2 (setting m (set d x) m.sreg) (node_setting m.device k s (node_set s d v) s.flags)
   one_covered d x v h spare =
       setting_covered (set d x) (node_set s d v) (set_one m o k s at d v x h) (less_set m.registers s.flags.carry (flag m.sreg 0) d x spare at.stands.less)
 
-  lds_covered : (d a : ℕ) → b1 < 256 → Spares s.flags.carry d → FollowsWhere (has_masks A) m o s.facts k (not scratch) b1 b2 (record (setting m (set d (read m a b1)) m.sreg) { pc = further m 2 })
-      (node_going_to k (record s { registers = node_set s d (read_at m.device (has_masks A) k s a) }) (node_further m.device k 2))
+  lds_covered : (d a : ℕ) → b1 < 256 → Spares s.flags.carry d → FollowsWhere (reads_masks m.device A) m o s.facts k (not scratch) b1 b2 (record (setting m (set d (read m a b1)) m.sreg) { pc = further m 2 })
+      (node_going_to k (record s { registers = node_set s d (read_at m.device (reads_masks m.device A) k s a) }) (node_further m.device k 2))
   lds_covered d a small spare =
       only m o k s at (not scratch) b1 b2 (record (setting m (set d (read m a b1)) m.sreg) { pc = further m 2 })
-      (record { key = at_word k (node_further m.device k 2); state = record s { registers = node_set s d (read_at m.device (has_masks A) k s a) } }) refl
+      (record { key = at_word k (node_further m.device k 2); state = record s { registers = node_set s d (read_at m.device (reads_masks m.device A) k s a) } }) refl
       (same_frame m o k s at (not scratch) (record (setting m (set d (read m a b1)) m.sreg) { pc = further m 2 })
-      (record { key = at_word k (node_further m.device k 2); state = record s { registers = node_set s d (read_at m.device (has_masks A) k s a) } }) refl refl refl refl refl
-      (further_is m o k s at (not scratch) b1 b2 2) at.place.enables at.place.i refl (set_one m o k s at d (read_at m.device (has_masks A) k s a) (read m a b1) (read_stands m o k s at a b1 small)) at.stands.flags
+      (record { key = at_word k (node_further m.device k 2); state = record s { registers = node_set s d (read_at m.device (reads_masks m.device A) k s a) } }) refl refl refl refl refl
+      (further_is m o k s at (not scratch) b1 b2 2) at.place.enables at.place.i refl (set_one m o k s at d (read_at m.device (reads_masks m.device A) k s a) (read m a b1) (read_stands m o k s at a b1 small)) at.stands.flags
       (less_set m.registers s.flags.carry (flag m.sreg 0) d (read m a b1) spare at.stands.less) (λ held. held))
 
   load_covered : (d : ℕ) (p : Pointer) → b1 < 256 → SparesAll s.flags.carry (d ∷ moved_pair p)
-      → FollowsWhere (has_masks A) m o s.facts k (not scratch) b1 b2
-      (setting m (moved p (pair m (pointer_register p)) ++ set d (read m (address_of p (pair m (pointer_register p))) b1)) m.sreg) (load_row m.device (has_masks A) k s d p)
+      → FollowsWhere (reads_masks m.device A) m o s.facts k (not scratch) b1 b2
+      (setting m (moved p (pair m (pointer_register p)) ++ set d (read m (address_of p (pair m (pointer_register p))) b1)) m.sreg) (load_row m.device (reads_masks m.device A) k s d p)
   load_covered d p small spares =
       loading_covered (moved p (pair m (pointer_register p))) (pointer_moved p s) d (read m (address_of p (pair m (pointer_register p))) b1)
-      (read_pointed m.device (has_masks A) k s (pointed s (pointer_register p) (step_before p))) (count_pointer s p ∙ at.node.formed.count_registers) (pointer_stands m o k s at p)
+      (read_pointed m.device (reads_masks m.device A) k s (pointed s (pointer_register p) (step_before p))) (count_pointer s p ∙ at.node.formed.count_registers) (pointer_stands m o k s at p)
       (less_moved m.registers s.flags.carry (flag m.sreg 0) p (pair m (pointer_register p)) spares.1 at.stands.less) spares.0
-      (subst (λ a. IsRead o (read_pointed m.device (has_masks A) k s (pointed s (pointer_register p) (step_before p))) (read m a b1))
+      (subst (λ a. IsRead o (read_pointed m.device (reads_masks m.device A) k s (pointed s (pointer_register p) (step_before p))) (read m a b1))
       (address_is p (pair m (pointer_register p)) (pair_small m o k s at (pointer_register p)))
       (pointed_stands m o k s at (pointer_register p) (step_before p) b1 small))
 
@@ -196,56 +196,55 @@ module _ (words : Program) (A : List Entry) (m : State) (o : Origin) (k : NodeKe
   abbrev on_next : ℕ
   on_next = wrapped m.device (further m 1)
 
-  follows : (e : Effect) (r : Raw) → ReachesNode (has_masks A) m o s.facts k (not scratch) e r → FollowsWhere (has_masks A) m o s.facts k (not scratch) b1 b2 e r
+  follows : (e : Effect) (r : Raw) → ReachesNode (reads_masks m.device A) m o s.facts k (not scratch) e r → FollowsWhere (reads_masks m.device A) m o s.facts k (not scratch) b1 b2 e r
   follows e r h = record { leads = λ held. stays h.to h.present h.inst (h.at_node.lands held) }
 
   module _ (members : AreSplitsWritten) where
     known_covered : (pc n : ℕ) → pc ≡ node_further m.device k n → (is_out : Bool) (a byte : ℕ) (v : AbsByte) → byte < 256 → ByteStands o v byte
         → (written_at m.device k.pc (at_word k (node_further m.device k n)) s is_out a v).faults ≡ []
-        → FollowsWhere (has_masks A) m o s.facts k (not scratch) b1 b2 (stored m pc [] is_out a byte) (written_at m.device k.pc (at_word k (node_further m.device k n)) s is_out a v)
+        → FollowsWhere (reads_masks m.device A) m o s.facts k (not scratch) b1 b2 (stored m pc [] is_out a byte) (written_at m.device k.pc (at_word k (node_further m.device k n)) s is_out a v)
     known_covered pc n pc_is is_out a byte v small stands clean =
         follows (stored m pc [] is_out a byte) (written_at m.device k.pc (at_word k (node_further m.device k n)) s is_out a v)
         (written m o k s at (not scratch) pc (node_further m.device k n) pc_is [] s.registers at.stands.registers at.stands.less s.facts at.node.formed.facts is_out byte small v stands
         at.node.formed.count_registers at.machine.count_registers members a clean)
 
     register_covered : (pc n : ℕ) → pc ≡ node_further m.device k n → (is_out : Bool) (a r : ℕ) → (written_at m.device k.pc (at_word k (node_further m.device k n)) s is_out a (value s r)).faults ≡ []
-        → FollowsWhere (has_masks A) m o s.facts k (not scratch) b1 b2 (stored m pc [] is_out a (register m r)) (written_at m.device k.pc (at_word k (node_further m.device k n)) s is_out a (value s r))
+        → FollowsWhere (reads_masks m.device A) m o s.facts k (not scratch) b1 b2 (stored m pc [] is_out a (register m r)) (written_at m.device k.pc (at_word k (node_further m.device k n)) s is_out a (value s r))
     register_covered pc n pc_is is_out a r clean = known_covered pc n pc_is is_out a (register m r) (value s r) (register_byte m o k s at r) (register_stands m o k s at r) clean
 
     -- the set of enable bits in the key makes a byte, in which the same bit is written
-    held_covered : (a b : ℕ) (on : Bool) → has_enables a ≡ true
-        → FollowsWhere (has_masks A) m o s.facts k (not scratch) b1 b2 (stored m on_next [] false a (with_bit (read m a 0) b on)) (bit_row m.device k s a b on)
+    held_covered : (a b : ℕ) (on : Bool) → has_enables m.device a ≡ true
+        → FollowsWhere (reads_masks m.device A) m o s.facts k (not scratch) b1 b2 (stored m on_next [] false a (with_bit (kept_byte m.device m.enables a) b on)) (bit_row m.device k s a b on)
     held_covered a b on held =
-        let io = held_in_io a held in
-        let made : ℕ = with_bit (io_byte k.masks a 0) b on in
-        let left : ℕ = written_enables k.masks a made in
-        let v : AbsByte = untagged (byte_with (read_at m.device false k s a).bits b (if on then One else Zero)) in
+        let made : ℕ = with_bit (kept_byte m.device k.masks a) b on in
+        let left : ℕ = written_enables m.device k.masks a made in
+        let v : AbsByte = untagged (byte_with (kept_bits m.device k.masks a) b (if on then One else Zero)) in
         let has : Has v.bits made =
-        has_with (read_at m.device false k s a).bits (io_byte k.masks a 0) b (if on then One else Zero) on
-        (subst (λ (x : AbsByte). Has x.bits (io_byte k.masks a 0)) (sym (io_known m.device false k s a io)) (io_has false k.masks k.masks a 0 (io_reads false k.masks k.masks a refl))) (bit_on on) in
-        let stays : EnablesAre (has_masks A) (written_enables m.enables a (with_bit (read m a 0) b on)) left =
-        subst (λ x. EnablesAre (has_masks A) (written_enables m.enables a (with_bit x b on)) left) (sym (io_read m a 0 io)) (bit_both (has_masks A) m.enables k.masks a b on at.place.enables) in
-        follows (stored m on_next [] false a (with_bit (read m a 0) b on)) (bit_row m.device k s a b on)
+        has_with (kept_bits m.device k.masks a) (kept_byte m.device k.masks a) b (if on then One else Zero) on (kept_has m.device k.masks a) (bit_on on) in
+        let stays = bit_both (reads_masks m.device A) m.device m.enables k.masks a b on at.place.enables in
+        follows (stored m on_next [] false a (with_bit (kept_byte m.device m.enables a) b on)) (bit_row m.device k s a b on)
         (split_written m o k s at (not scratch) on_next (node_further m.device k 1) (goes_further m o k s at (not scratch) b1 b2 1) [] s.registers at.stands.registers at.stands.less s.facts at.node.formed.facts false
-        a (with_bit (read m a 0) b on) left v io (members k.masks a v.bits left record { byte = made; small = with_bit_small (io_byte k.masks a 0) b on; member = has; left = refl }) stays)
+        a (with_bit (kept_byte m.device m.enables a) b on) left v (held_in_io m.device a held)
+        (members m.device k.masks a v.bits left record { byte = made; small = with_bit_small (kept_byte m.device k.masks a) b on; member = has; left = refl }) stays)
 
     bit_covered : (a b : ℕ) (on : Bool) → (bit_row m.device k s a b on).faults ≡ []
-        → FollowsWhere (has_masks A) m o s.facts k (not scratch) b1 b2 (stored m on_next [] false a (with_bit (read m a 0) b on)) (bit_row m.device k s a b on)
-    bit_covered a b on clean = by (has_enables a) refl
+        → FollowsWhere (reads_masks m.device A) m o s.facts k (not scratch) b1 b2 (stored m on_next [] false a (with_bit (kept_byte m.device m.enables a) b on)) (bit_row m.device k s a b on)
+    bit_covered a b on clean = by (has_enables m.device a) refl
       where
-        by : (held : Bool) → has_enables a ≡ held
-            → FollowsWhere (has_masks A) m o s.facts k (not scratch) b1 b2 (stored m on_next [] false a (with_bit (read m a 0) b on)) (bit_row m.device k s a b on)
+        by : (held : Bool) → has_enables m.device a ≡ held
+            → FollowsWhere (reads_masks m.device A) m o s.facts k (not scratch) b1 b2 (stored m on_next [] false a (with_bit (kept_byte m.device m.enables a) b on)) (bit_row m.device k s a b on)
         by true held = held_covered a b on held
         by false none =
-            known_covered on_next 1 (goes_further m o k s at (not scratch) b1 b2 1) false a (with_bit (read m a 0) b on) (untagged (byte_with (read_at m.device false k s a).bits b (if on then One else Zero))) (with_bit_small (read m a 0) b on)
-            (bits_make_values.stands o tag.None (byte_with (read_at m.device false k s a).bits b (if on then One else Zero)) (with_bit (read m a 0) b on) (with_bit_small (read m a 0) b on) tt
-            (has_with (read_at m.device false k s a).bits (read m a 0) b (if on then One else Zero) on
-            (read_stands_by m o k s at false a 0 (omega arith) (no_reads false m.enables k.masks a none)).bits (bit_on on))) clean
+            known_covered on_next 1 (goes_further m o k s at (not scratch) b1 b2 1) false a (with_bit (kept_byte m.device m.enables a) b on)
+            (untagged (byte_with (kept_bits m.device k.masks a) b (if on then One else Zero))) (with_bit_small (kept_byte m.device m.enables a) b on)
+            (bits_make_values.stands o tag.None (byte_with (kept_bits m.device k.masks a) b (if on then One else Zero)) (with_bit (kept_byte m.device m.enables a) b on)
+            (with_bit_small (kept_byte m.device m.enables a) b on) tt
+            (has_with (kept_bits m.device k.masks a) (kept_byte m.device m.enables a) b (if on then One else Zero) on (none_kept m.device m.enables k.masks a none) (bit_on on))) clean
 
     std_covered : m.device ≡ device_of words → (r up t : ℕ) → IsPairAt r
         → (is_fixed_site words A k.pc ≡ false → flagged_write (device_of words) A k.pc (set (plus16 (pair m r) up) (register m t)) ≡ None)
         → (pointer_write m.device words A s r up (pointed s r up) k.pc (next m.device k) s (value s t)).faults ≡ []
-        → FollowsWhere (has_masks A) m o s.facts k (not scratch) b1 b2 (stored m on_next [] false (plus16 (pair m r) up) (register m t))
+        → FollowsWhere (reads_masks m.device A) m o s.facts k (not scratch) b1 b2 (stored m on_next [] false (plus16 (pair m r) up) (register m t))
         (pointer_write m.device words A s r up (pointed s r up) k.pc (next m.device k) s (value s t))
     std_covered told r up t is unflagged clean =
         follows (stored m on_next [] false (plus16 (pair m r) up) (register m t)) (pointer_write m.device words A s r up (pointed s r up) k.pc (next m.device k) s (value s t))
@@ -259,7 +258,7 @@ module _ (words : Program) (A : List Entry) (m : State) (o : Origin) (k : NodeKe
         → protected_write words A m.pc (i.St p t) (effect_of words m (i.St p t) b1 b2) ≡ None
         → (pointer_write m.device words A was (pointer_register p) (step_before p) (pointed s (pointer_register p) (step_before p)) k.pc (next m.device k)
         (record s { registers = registers; facts = told }) (value s t)).faults ≡ []
-        → FollowsWhere (has_masks A) m o told k (not scratch) b1 b2 (effect_of words m (i.St p t) b1 b2)
+        → FollowsWhere (reads_masks m.device A) m o told k (not scratch) b1 b2 (effect_of words m (i.St p t) b1 b2)
         (pointer_write m.device words A was (pointer_register p) (step_before p) (pointed s (pointer_register p) (step_before p)) k.pc (next m.device k)
         (record s { registers = registers; facts = told }) (value s t))
     st_covered is_device p t was registers told spares count fits permitted stand unflagged clean =
@@ -270,24 +269,24 @@ module _ (words : Program) (A : List Entry) (m : State) (o : Origin) (k : NodeKe
         let is = address_is p (pair m (pointer_register p)) (pair_small m o k s at (pointer_register p)) in
         let free = site_unflagged words A (set (address_of p (pair m (pointer_register p))) (register m t)) m.pc k.pc at.place.pc
         (st_unflagged words A m.pc p t (effect_of words m (i.St p t) b1 b2) unflagged) in
-        let reaches : ReachesNode (has_masks A) m o told k (not scratch) (stored m on_next writes false (plus16 (pair m (pointer_register p)) (step_before p)) (register m t)) row =
+        let reaches : ReachesNode (reads_masks m.device A) m o told k (not scratch) (stored m on_next writes false (plus16 (pair m (pointer_register p)) (step_before p)) (register m t)) row =
         pointer_written m o k s at (not scratch) on_next (node_further m.device k 1) (goes_further m o k s at (not scratch) b1 b2 1) writes registers stand
         (less_moved m.registers s.flags.carry (flag m.sreg 0) p (pair m (pointer_register p)) spares at.stands.less) told fits (register m t) (register_byte m o k s at t) (value s t)
         (register_stands m o k s at t) count (count_set m.registers writes ∙ at.machine.count_registers) members words A refl is_device was (pointer_register p) (step_before p) permitted
         (subst (λ a. is_fixed_site words A k.pc ≡ false → flagged_write (device_of words) A k.pc (set a (register m t)) ≡ None) (sym is) free) clean in
-        subst (λ a. FollowsWhere (has_masks A) m o told k (not scratch) b1 b2 (stored m on_next writes false a (register m t)) row) is
+        subst (λ a. FollowsWhere (reads_masks m.device A) m o told k (not scratch) b1 b2 (stored m on_next writes false a (register m t)) row) is
         (record { leads = λ held. stays reaches.to reaches.present reaches.inst (reaches.at_node.lands held) })
 
   -- ---- the rows
 
-  bit_may : b1 < 256 → (a b : ℕ) → Permits (tri_at (read_at m.device (has_masks A) k s a).bits b) (from_bool (flag (read m a b1) b))
-  bit_may small a b = permits_flag (read_at m.device (has_masks A) k s a).bits (read m a b1) b (read_stands m o k s at a b1 small).bits
+  bit_may : b1 < 256 → (a b : ℕ) → Permits (tri_at (read_at m.device (reads_masks m.device A) k s a).bits b) (from_bool (flag (read m a b1) b))
+  bit_may small a b = permits_flag (read_at m.device (reads_masks m.device A) k s a).bits (read m a b1) b (read_stands m o k s at a b1 small).bits
 
   -- the bit of an address reads 0
   turns_zero : (a b pc pc' : ℕ) → wrapped m.device pc ≡ pc' → flag (read m a b1) b ≡ false
-      → ArrivesWhere (has_masks A) m o s.facts (not scratch) (going_to m pc) (record { key = off_table (reading_zero (has_masks A) k a b) pc'; state = s })
+      → ArrivesWhere (reads_masks m.device A) m o s.facts (not scratch) (going_to m pc) (record { key = off_table (reading_zero m.device (reads_masks m.device A) k a b) pc'; state = s })
   turns_zero a b pc pc' here off =
-      turns_with m o k s at (not scratch) (without (has_masks A) (enable_of a b) k.masks) (zero_read (has_masks A) m k.masks a b b1 at.place.enables off) pc pc' here
+      turns_with m o k s at (not scratch) (without m.device (reads_masks m.device A) (held_of m.device a b) k.masks) (zero_read (reads_masks m.device A) m k.masks a b b1 at.node.masks at.place.enables off) pc pc' here
 
   -- each row that names an address is covered
   pub addressed_covered : AreSplitsWritten → AreWords words → b1 < 256 → (instr : Instr) → SparesAll s.flags.carry (registers_of instr) → NamesAddress instr → m.device ≡ device_of words → RowIsCovered A m o k s at b1 b2 words scratch instr
@@ -306,15 +305,20 @@ module _ (words : Program) (A : List Entry) (m : State) (o : Origin) (k : NodeKe
       loading_covered (set_pair 30 (plus16 (pair m 30) 1)) (pair_moved s 30 true 1) d (flash_read words (pair m 30) b1) (Some (flash_value words (pair_constant s 30))) (count_moved s 30 true ∙ at.node.formed.count_registers)
       (z_moved m o k s at) (less_two m.registers s.flags.carry (flag m.sreg 0) 30 31 _ _ spares.1 at.stands.less) spares.0 (lpm_stands are small)
   addressed_covered members are small i.Lpm spares is told clean unflagged = one_covered 0 _ _ (lpm_stands are small) spares.0
+  addressed_covered members are small (i.ElpmZ d) spares is told clean unflagged = one_covered d _ _ (flash_by o false 0 b1 (omega arith) small) spares.0
+  addressed_covered members are small (i.ElpmZPlus d) spares is told clean unflagged =
+      loading_covered (set_pair 30 (plus16 (pair m 30) 1)) (pair_moved s 30 true 1) d b1 (Some unknown) (count_moved s 30 true ∙ at.node.formed.count_registers)
+      (z_moved m o k s at) (less_two m.registers s.flags.carry (flag m.sreg 0) 30 31 _ _ spares.1 at.stands.less) spares.0 (flash_by o false 0 b1 (omega arith) small)
+  addressed_covered members are small i.Elpm spares is told clean unflagged = one_covered 0 _ _ (flash_by o false 0 b1 (omega arith) small) spares.0
   addressed_covered members are small (i.In d a) spares is told clean unflagged = one_covered d _ _ (read_stands m o k s at (port a) b1 small) spares.0
   addressed_covered members are small (i.Out a r) spares is told clean unflagged = register_covered members on_next 1 (goes_further m o k s at (not scratch) b1 b2 1) true (port a) r clean
   addressed_covered members are small (i.Cbi a b) spares is told clean unflagged = bit_covered members (port a) b false clean
   addressed_covered members are small (i.Sbi a b) spares is told clean unflagged = bit_covered members (port a) b true clean
   addressed_covered members are small (i.Sbic a b) spares is told clean unflagged =
-      skip_keys m o k s at (not scratch) b1 b2 words (not (flag (read m (port a) b1) b)) (tri_not (tri_at (read_at m.device (has_masks A) k s (port a)).bits b)) (reading_zero (has_masks A) k (port a) b) k refl refl
+      skip_keys m o k s at (not scratch) b1 b2 words (not (flag (read m (port a) b1) b)) (tri_not (tri_at (read_at m.device (reads_masks m.device A) k s (port a)).bits b)) (reading_zero m.device (reads_masks m.device A) k (port a) b) k refl refl
       (λ pc pc' here off. turns_zero (port a) b pc pc' here (off_by (flag (read m (port a) b1) b) off)) (λ pc pc' here on. turns_to m o k s at (not scratch) pc pc' here)
-      (not_may (tri_at (read_at m.device (has_masks A) k s (port a)).bits b) (flag (read m (port a) b1) b) (bit_may small (port a) b))
+      (not_may (tri_at (read_at m.device (reads_masks m.device A) k s (port a)).bits b) (flag (read m (port a) b1) b) (bit_may small (port a) b))
   addressed_covered members are small (i.Sbis a b) spares is told clean unflagged =
-      skip_keys m o k s at (not scratch) b1 b2 words (flag (read m (port a) b1) b) (tri_at (read_at m.device (has_masks A) k s (port a)).bits b) k (reading_zero (has_masks A) k (port a) b) refl refl
+      skip_keys m o k s at (not scratch) b1 b2 words (flag (read m (port a) b1) b) (tri_at (read_at m.device (reads_masks m.device A) k s (port a)).bits b) k (reading_zero m.device (reads_masks m.device A) k (port a) b) refl refl
       (λ pc pc' here on. turns_to m o k s at (not scratch) pc pc' here) (λ pc pc' here off. turns_zero (port a) b pc pc' here off) (bit_may small (port a) b)
   addressed_covered members are small instr spares is told clean unflagged = absurd is

@@ -21,7 +21,8 @@ use Rattle.avr_model.specs.declared.instruction.UnaryOp.TheVariants as unary
 use Rattle.avr_model.specs.declared.operation.Logic.TheVariants as logic
 use Rattle.avr_model.specs.declared.operation.Shift.TheVariants as shift
 use Rattle.avr_model.specs.declared.operation.Mul.TheVariants as product
-use Rattle.avr_model.specs.Assumptions.{jump_line, is_frame, has_masks}
+use Rattle.avr_model.specs.Assumptions.{jump_line, is_frame}
+use Rattle.avr_model.specs.Masks.{reads_masks}
 use Rattle.avr_model.specs.Sreg.{flag}
 use Rattle.avr_model.specs.Written.{set_by_binary, set_by_immediate, written}
 use Rattle.avr_model.specs.Text.{far}
@@ -69,8 +70,11 @@ NamesAddress (i.Sts a r) = ⊤
 NamesAddress (i.Ld d p) = ⊤
 NamesAddress (i.St p r) = ⊤
 NamesAddress (i.LpmZ d) = ⊤
+NamesAddress (i.ElpmZ d) = ⊤
 NamesAddress (i.LpmZPlus d) = ⊤
+NamesAddress (i.ElpmZPlus d) = ⊤
 NamesAddress i.Lpm = ⊤
+NamesAddress i.Elpm = ⊤
 NamesAddress (i.In d a) = ⊤
 NamesAddress (i.Out a r) = ⊤
 NamesAddress (i.Cbi a b) = ⊤
@@ -190,7 +194,7 @@ listed_call : (A : List Entry) (pc : ℕ) (e : Effect) → unlisted_transfer A p
 unfolding unlisted_transfer
 listed_call A pc e h = h
 
-module _ (A : List Entry) (m : State) (o : Origin) (k : NodeKey) (s : AbsState) (at : InBareFrame (has_masks A) m o k s) (b1 b2 : ℕ) (words : Program) (scratch : Bool) where
+module _ (A : List Entry) (m : State) (o : Origin) (k : NodeKey) (s : AbsState) (at : InBareFrame (reads_masks m.device A) m o k s) (b1 b2 : ℕ) (words : Program) (scratch : Bool) where
   bit_may : (r b : ℕ) → Permits (tri_at (bits s r) b) (from_bool (flag (register m r) b))
   bit_may r b = permits_flag (bits s r) (register m r) b (register_bits m o k s at r)
 
@@ -198,7 +202,7 @@ module _ (A : List Entry) (m : State) (o : Origin) (k : NodeKey) (s : AbsState) 
   abbrev pub RowIsCovered : Instr → Type 0
   RowIsCovered instr =
       (row_of m.device words A scratch k s instr).faults ≡ [] → IsUnflagged words A m instr (effect_of words m instr b1 b2)
-      → FollowsWhere (has_masks A) m o s.facts k (not scratch) b1 b2 (effect_of words m instr b1 b2) (row_of m.device words A scratch k s instr)
+      → FollowsWhere (reads_masks m.device A) m o s.facts k (not scratch) b1 b2 (effect_of words m instr b1 b2) (row_of m.device words A scratch k s instr)
 
   -- Each row is covered, if those that name an address are.
   pub row_covered : b1 < 256 → (instr : Instr) → SparesAll s.flags.carry (written instr) → IsInstrSized instr → (scratch ≡ true → MakesRoom instr) → (NamesAddress instr → RowIsCovered instr) → RowIsCovered instr
@@ -216,7 +220,9 @@ module _ (A : List Entry) (m : State) (o : Origin) (k : NodeKey) (s : AbsState) 
   row_covered small (i.Lds d a) spares sized rooms addressed none unflagged = addressed tt none unflagged
   row_covered small (i.Ld d p) spares sized rooms addressed none unflagged = addressed tt none unflagged
   row_covered small (i.LpmZ d) spares sized rooms addressed none unflagged = addressed tt none unflagged
+  row_covered small (i.ElpmZ d) spares sized rooms addressed none unflagged = addressed tt none unflagged
   row_covered small (i.LpmZPlus d) spares sized rooms addressed none unflagged = addressed tt none unflagged
+  row_covered small (i.ElpmZPlus d) spares sized rooms addressed none unflagged = addressed tt none unflagged
   row_covered small (i.Pop d) spares sized rooms addressed none unflagged = pop_covered m o k s at (not scratch) b1 b2 d small spares.0 none
   row_covered small (i.Sts a r) spares sized rooms addressed none unflagged = addressed tt none unflagged
   row_covered small (i.St p r) spares sized rooms addressed none unflagged = addressed tt none unflagged
@@ -232,6 +238,7 @@ module _ (A : List Entry) (m : State) (o : Origin) (k : NodeKey) (s : AbsState) 
   row_covered small i.Break spares sized rooms addressed none unflagged = going_covered m o k s at (not scratch) b1 b2 _ (further m.device k 1) (goes_further m o k s at (not scratch) b1 b2 1)
   row_covered small i.Wdr spares sized rooms addressed none unflagged = going_covered m o k s at (not scratch) b1 b2 _ (further m.device k 1) (goes_further m o k s at (not scratch) b1 b2 1)
   row_covered small i.Lpm spares sized rooms addressed none unflagged = addressed tt none unflagged
+  row_covered small i.Elpm spares sized rooms addressed none unflagged = addressed tt none unflagged
   row_covered small (i.Jmp t) spares sized rooms addressed none unflagged = going_covered m o k s at (not scratch) b1 b2 t (wrapped m.device t) refl
   row_covered small (i.Call t) spares sized rooms addressed none unflagged = call_covered m o k s at (not scratch) b1 b2 t (wrapped m.device t) _ (further m.device k 2) (wrapped m.device t ∷ []) (not_from_never scratch rooms) refl (further_is m o k s at (not scratch) b1 b2 2) (first_in (wrapped m.device t) []) none
   row_covered small (i.Adiw d n) spares sized rooms addressed none unflagged = wide_covered m o k s at (not scratch) b1 b2 true (2 * d) n sized

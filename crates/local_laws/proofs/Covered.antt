@@ -1,9 +1,10 @@
 -- The local part of a node covers each step of the machine there.
 use Rattle.std.proofs.Common.{◌≡◌, refl, subst, ℕ, ◌<◌, Bool, true, false, List, Option, Some, None, sym, ap, nat_lt, nat_le, length, map, if◌then◌else◌, lt-ltb}
-use Rattle.avr_model.specs.Devices.{Program, words_of, size_of, device_of}
+use Rattle.avr_model.specs.declared.device.Device.{Device}
+use Rattle.avr_model.specs.Devices.{Program, image, words_of, size_of, device_of}
 use Rattle.avr_model.specs.declared.assumption.Entry.{Entry}
 use Rattle.avr_model.specs.declared.instruction.Instr.{Instr}
-use Rattle.avr_model.specs.Assumptions.{has_masks}
+use Rattle.avr_model.specs.Masks.{reads_masks}
 use Rattle.avr_model.specs.Sites.{instruction_at, is_scratch}
 use Rattle.avr_model.specs.Written.{written}
 use Rattle.avr_model.specs.State.{State, register}
@@ -17,7 +18,7 @@ use Rattle.local_rules.specs.Local.{row_at, row_in, row_by, plain_row, is_hung, 
 use Rattle.abs_state.specs.FlagsSet.{sets_flags, sets_carry}
 use Rattle.local_rules.specs.Registers.{before}
 use Rattle.local_rules.specs.Machine.{AreWords}
-use Rattle.local_rules.specs.Cover.{CoversStep}
+use Rattle.local_rules.specs.Cover.{CoversStep, InFrameIn}
 use Rattle.local_laws.proofs.Bare.{InBareFrame, bare_frame}
 use Rattle.local_laws.proofs.PairedStep.{paired_covered}
 use Rattle.pair_domain.specs.declared.facts.PairFacts.{PairFacts}
@@ -33,8 +34,12 @@ use Rattle.local_laws.proofs.Targets.{scratch_makes_room}
 use Rattle.local_laws.proofs.Quiet.{Quiet}
 use Rattle.local_laws.proofs.Picks.{splits_at, at_quiet, in_picks, picked_at, all_covered}
 
-module _ (words : Program) (A : List Entry) (m : State) (o : Origin) (k : NodeKey) (s : AbsState) (at : InBareFrame (has_masks A) m o k s) (b1 b2 : ℕ) (small : b1 < 256)
-    (other : b2 < 256) (are : AreWords words) (told : m.device ≡ device_of words) where
+module _ (ws : List ℕ) (A : List Entry) (m : State) (o : Origin) (k : NodeKey) (s : AbsState) (at : InBareFrame (reads_masks m.device A) m o k s) (b1 b2 : ℕ) (small : b1 < 256)
+    (other : b2 < 256) (are : AreWords (image m.device ws)) where
+  -- the words, on the machine's device
+  abbrev words : Program
+  words = image m.device ws
+
   -- if no interrupt may come with a half-written stack pointer, and the frame fits SRAM, the row decides
   not_hung : (hung : Bool) (instr : Option Instr) (r : Raw) → CoversStep words A m o k b1 b2 instr r → CoversStep words A m o k b1 b2 instr (untracked_if hung k.pc r)
   not_hung true None r h = λ clean. absurd (let e = clean in cc)
@@ -56,7 +61,7 @@ module _ (words : Program) (A : List Entry) (m : State) (o : Origin) (k : NodeKe
       let sized = sized_at words m.pc instr e in
       let row =
       row_covered A m o k t there b1 b2 words (is_scratch words m.pc) small instr spares sized (λ scratch. scratch_makes_room words m.pc instr scratch e)
-      (λ names. addressed_covered words A m o k t there (is_scratch words m.pc) b1 b2 are_written are small instr spares names told) in
+      (λ names. addressed_covered words A m o k t there (is_scratch words m.pc) b1 b2 are_written are small instr spares names refl) in
       λ clean unflagged. (row clean unflagged).leads (held words m o k s b1 b2 instr are small other sized at)
 
   at_instruction : (instr : Option Instr) → instruction_at words m.pc ≡ instr → CoversStep words A m o k b1 b2 instr (row_at m.device words A (is_scratch words m.pc) k s instr)
@@ -65,7 +70,7 @@ module _ (words : Program) (A : List Entry) (m : State) (o : Origin) (k : NodeKe
     where
       by : (f : Option PairFacts) → s.facts ≡ f → CoversStep words A m o k b1 b2 (Some instr) (row_by f m.device words A (is_scratch words m.pc) k s instr)
       by None is = plain_covered instr e
-      by (Some f) is = paired_covered words A m o k s at b1 b2 small other are told f is instr e (plain_covered instr e)
+      by (Some f) is = paired_covered ws A m o k s at b1 b2 small other are f is instr e (plain_covered instr e)
 
   -- the machine's word is in its device's flash
   is_fetched : instruction_at words m.pc ≡ fetched m.device words m.pc
@@ -75,58 +80,71 @@ module _ (words : Program) (A : List Entry) (m : State) (o : Origin) (k : NodeKe
   abbrev Covering : Raw → Type 0
   Covering r = CoversStep words A m o k b1 b2 (instruction_at words m.pc) r
 
-  -- the node's row, for the machine's word and device
-  row_in_covered : Covering (row_in (device_of words) words A k s)
+  -- the node's row, for the machine's word
+  row_in_covered : Covering (row_in m.device words A k s)
   row_in_covered =
       let here = subst (λ x. Covering (row_at m.device words A (is_scratch words m.pc) k s x)) is_fetched (at_instruction (instruction_at words m.pc) refl) in
-      subst (λ pc. Covering (row_at (device_of words) words A (is_scratch words pc) k s (fetched (device_of words) words pc))) at.place.pc
-      (subst (λ device. Covering (row_at device words A (is_scratch words m.pc) k s (fetched device words m.pc))) told here)
+      subst (λ pc. Covering (row_at m.device words A (is_scratch words pc) k s (fetched m.device words pc))) at.place.pc here
 
-module _ (words : Program) (A : List Entry) (m : State) (o : Origin) (k : NodeKey) (s : AbsState) (at : InBareFrame (has_masks A) m o k s) (b1 b2 : ℕ) (small : b1 < 256)
-    (other : b2 < 256) (are : AreWords words) (told : m.device ≡ device_of words) where
+module _ (ws : List ℕ) (A : List Entry) (m : State) (o : Origin) (k : NodeKey) (s : AbsState) (at : InBareFrame (reads_masks m.device A) m o k s) (b1 b2 : ℕ) (small : b1 < 256)
+    (other : b2 < 256) (are : AreWords (image m.device ws)) where
+  -- the words, on the machine's device
+  abbrev flash : Program
+  flash = image m.device ws
+
   abbrev Covers : Raw → Type 0
-  Covers r = CoversStep words A m o k b1 b2 (instruction_at words m.pc) r
+  Covers r = CoversStep flash A m o k b1 b2 (instruction_at flash m.pc) r
 
-  unresolved : (jump : ℕ) (instr : Option Instr) → CoversStep words A m o k b1 b2 instr (fails (UnresolvedJump jump))
+  unresolved : (jump : ℕ) (instr : Option Instr) → CoversStep flash A m o k b1 b2 instr (fails (UnresolvedJump jump))
   unresolved jump None = λ clean. absurd (let e = clean in cc)
   unresolved jump (Some instr) = λ clean. absurd (let e = clean in cc)
 
   -- the row with one byte picked
   abbrev row_picked : ℕ → Raw
-  row_picked x = picked_row (row_in (device_of words) words A) (picking k x) (pick_cut x s)
+  row_picked x = picked_row (row_in m.device flash A) (picking k x) (pick_cut x s)
 
   -- a node that splits is covered by the row with r30's byte picked
-  splitting_covered : (site : Option ℕ) → split_site words A k.pc k.pick ≡ site → Covers (splitting site (row_in (device_of words) words A) k s)
-  splitting_covered None e = row_in_covered words A m o k s at b1 b2 small other are told
+  splitting_covered : (site : Option ℕ) → split_site flash A k.pc k.pick ≡ site → Covers (splitting site (row_in m.device flash A) k s)
+  splitting_covered None e = row_in_covered ws A m o k s at b1 b2 small other are
   splitting_covered (Some jump) e = by (nat_le (length (picks s)) 64)
     where
       x : ℕ
       x = register m 30
 
-      quiet : (cut : Option AbsState) → Quiet (picked_row (row_in (device_of words) words A) (picking k x) cut)
+      quiet : (cut : Option AbsState) → Quiet (picked_row (row_in m.device flash A) (picking k x) cut)
       quiet None = (refl, refl)
       quiet (Some t) =
-          at_quiet (device_of words) words A (is_scratch words k.pc) (picking k x) t (fetched (device_of words) words k.pc) (splits_at words A k.pc k.pick jump e).1
+          at_quiet m.device flash A (is_scratch flash k.pc) (picking k x) t (fetched m.device flash k.pc) (splits_at flash A k.pc k.pick jump e).1
 
-      found : (t : AbsState) × (pick_cut x s ≡ Some t) × InBareFrame (has_masks A) m o (picking k x) t
+      found : (t : AbsState) × (pick_cut x s ≡ Some t) × InBareFrame (reads_masks m.device A) m o (picking k x) t
       found = picked_at m o k s at
 
-      at_pick : CoversStep words A m o (picking k x) b1 b2 (instruction_at words m.pc) (row_picked x)
+      at_pick : CoversStep flash A m o (picking k x) b1 b2 (instruction_at flash m.pc) (row_picked x)
       at_pick =
-          subst (λ (cut : Option AbsState). CoversStep words A m o (picking k x) b1 b2 (instruction_at words m.pc) (picked_row (row_in (device_of words) words A) (picking k x) cut)) (sym found.1)
-          (row_in_covered words A m o (picking k x) found.0 found.2 b1 b2 small other are told)
+          subst (λ (cut : Option AbsState). CoversStep flash A m o (picking k x) b1 b2 (instruction_at flash m.pc) (picked_row (row_in m.device flash A) (picking k x) cut)) (sym found.1)
+          (row_in_covered ws A m o (picking k x) found.0 found.2 b1 b2 small other are)
 
       by : (few : Bool) → Covers (if few then all_of (map row_picked (picks s)) else fails (UnresolvedJump jump))
       by true =
-          all_covered words A m o k b1 b2 row_picked (picks s) x (in_picks m o k s at) (quiet (pick_cut x s)) (instruction_at words m.pc) at_pick
-      by false = unresolved jump (instruction_at words m.pc)
+          all_covered flash A m o k b1 b2 row_picked (picks s) x (in_picks m o k s at) (quiet (pick_cut x s)) (instruction_at flash m.pc) at_pick
+      by false = unresolved jump (instruction_at flash m.pc)
 
-  covered : Covers (raw words A k s)
+  covered : Covers (raw flash A k s)
   unfolding raw
   covered =
-      not_hung words A m o k s at b1 b2 small other are told (is_hung (device_of words) A k k.sp) (instruction_at words m.pc) _
-      (not_deep words A m o k s at b1 b2 small other are told (nat_lt (size_of (device_of words)) (offset_of k.sp)) (offset_of k.sp) (instruction_at words m.pc) _
-      (splitting_covered (split_site words A k.pc k.pick) refl))
+      not_hung ws A m o k s at b1 b2 small other are (is_hung m.device A k k.sp) (instruction_at flash m.pc) _
+      (not_deep ws A m o k s at b1 b2 small other are (nat_lt (size_of m.device) (offset_of k.sp)) (offset_of k.sp) (instruction_at flash m.pc) _
+      (splitting_covered (split_site flash A k.pc k.pick) refl))
+
+-- for words of the machine's device
+covered_on : {followed : Bool} (device : Device) (ws : List ℕ) (A : List Entry) (m : State) (o : Origin) (k : NodeKey) (s : AbsState) (b1 b2 : ℕ) → m.device ≡ device
+    → AreWords (image device ws) → InFrameIn followed (reads_masks device A) m o k s → b1 < 256 → b2 < 256
+    → CoversStep (image device ws) A m o k b1 b2 (instruction_at (image device ws) m.pc) (raw (image device ws) A k s)
+covered_on {followed = followed} device ws A m o k s b1 b2 told =
+    subst
+    (λ (d : Device). AreWords (image d ws) → InFrameIn followed (reads_masks d A) m o k s → b1 < 256 → b2 < 256
+    → CoversStep (image d ws) A m o k b1 b2 (instruction_at (image d ws) m.pc) (raw (image d ws) A k s))
+    told (λ are at small other. covered ws A m o k s (bare_frame m o k s at) b1 b2 small other are)
 
 pub local_parts_cover : LocalPartsCover
-local_parts_cover = record { covered = λ words A m o k s b1 b2 are told at small other. covered words A m o k s (bare_frame m o k s at) b1 b2 small other are told }
+local_parts_cover = record { covered = λ words A m o k s b1 b2 are told at small other. covered_on (device_of words) words.words A m o k s b1 b2 told are at small other }

@@ -178,6 +178,9 @@ module _ (m : State) (h : IsMachine m) where
     row_fits (i.Ld d p) sized = sets _ _ (moved_and_one p _ d _ (read_small m _ b1 h small1)) h.sreg_byte
     row_fits (i.LpmZ d) sized = sets _ _ (one_write d _ (flash_small words (pair m 30) b1 are small1)) h.sreg_byte
     row_fits (i.LpmZPlus d) sized = sets _ _ (and_one 30 (plus16 (pair m 30) 1) d _ (omega arith) (flash_small words (pair m 30) b1 are small1)) h.sreg_byte
+    row_fits (i.ElpmZ d) sized = sets _ _ (one_write d _ small1) h.sreg_byte
+    row_fits (i.ElpmZPlus d) sized = sets _ _ (and_one 30 (plus16 (pair m 30) 1) d _ (omega arith) small1) h.sreg_byte
+    row_fits i.Elpm sized = sets _ _ (one_write 0 _ small1) h.sreg_byte
     row_fits (i.Pop d) sized = record { pc = inside _; registers = (read_small m _ b1 h small1, tt); sreg = h.sreg_byte; sp = omega arith; enables = h.enable_bits; stores = tt; pushes = tt }
     row_fits (i.Sts a r) sized = record { pc = inside _; registers = tt; sreg = h.sreg_byte; sp = h.sp_word; enables = h.enable_bits; stores = (byte r, tt); pushes = tt }
     row_fits (i.St p r) sized = record { pc = inside _; registers = moved_writes p _; sreg = h.sreg_byte; sp = h.sp_word; enables = h.enable_bits; stores = (byte r, tt); pushes = tt }

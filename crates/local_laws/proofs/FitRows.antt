@@ -1,11 +1,11 @@
 -- The instruction table, row by row: calls go to words of flash, and returns are at the frame's base.
-use Rattle.std.proofs.Common.{◌≡◌, refl, sym, subst, ℕ, zero, suc, ◌<◌, ◌==◌, Bool, true, false, List, [], ◌∷◌, map, filter, length, Option, Some, None, if◌then◌else◌, nat_le, Contains, arith, nat_lt, ◌^◌, ◌≤◌, ltb-true, ◌+◌}
+use Rattle.std.proofs.Common.{◌≡◌, refl, sym, subst, ℕ, zero, suc, ◌<◌, ◌==◌, Bool, true, false, List, [], ◌∷◌, map, filter, length, Option, Some, None, if◌then◌else◌, nat_le, Contains, arith, nat_lt, ◌≤◌, ltb-true, ◌+◌}
 use Rattle.std.proofs.lemmas.Bool.Decides.{nat_tests}
 use Rattle.std.proofs.lemmas.Map.Views.{Contains-from_any}
 use Rattle.std.proofs.lemmas.Option.{same_Some}
 use Rattle.basics.specs.Items.{none_in}
 use Rattle.avr_model.proofs.AllLaws.{devices_are_alike}
-use Rattle.avr_model.specs.Devices.{Program, size_of, wrapped, width, device_of, words_of}
+use Rattle.avr_model.specs.Devices.{Program, size_of, wrapped, width, device_of, words_of, limit_width}
 use Rattle.avr_model.specs.declared.device.Device.{Device}
 use Rattle.avr_model.specs.declared.assumption.Entry.{Entry}
 use Rattle.avr_model.specs.declared.instruction.Instr.{Instr}
@@ -14,7 +14,8 @@ use Rattle.avr_model.specs.declared.instruction.BinaryOp.{BinaryOp}
 use Rattle.avr_model.specs.declared.instruction.BinaryOp.TheVariants as binary
 use Rattle.avr_model.specs.declared.instruction.Pointer.{Pointer}
 use Rattle.pair_domain.specs.declared.facts.PairFacts.{PairFacts}
-use Rattle.avr_model.specs.Assumptions.{jump_line, is_frame, has_masks, lists}
+use Rattle.avr_model.specs.Assumptions.{jump_line, is_frame, lists}
+use Rattle.avr_model.specs.Masks.{reads_masks}
 use Rattle.avr_model.specs.Text.{far, near}
 use Rattle.avr_model.specs.Sites.{is_scratch, base_register, pointer_register, instruction_at}
 use Rattle.avr_model.specs.Effects.{port}
@@ -53,7 +54,7 @@ use Rattle.local_laws.proofs.Quiet.{IsFit, none_ascend, quiet_fits, if_quiet, br
 
 targets_small : (device : Device) (line : Option (List ℕ)) (lo hi : TriByte) (targets : List ℕ) → ((z : ℕ) → Contains (words_on device lo hi) z → z < words_of device)
     → targets_by device line lo hi ≡ Some targets → (z : ℕ) → Contains targets z → z < words_of device
-targets_small device None lo hi targets small e z h = by (nat_le (length (targets_of lo hi)) 64) e
+targets_small device None lo hi targets small e z h = by (nat_le (length (targets_of (limit_width device) lo hi)) 64) e
   where
     by : (b : Bool) → (if b then Some (words_on device lo hi) else None) ≡ Some targets → z < words_of device
     by true e = let is : words_on device lo hi ≡ targets = cc in small z (subst (λ (l : List ℕ). Contains l z) (sym is) h)
@@ -145,19 +146,22 @@ module _ (device : Device) (words : Program) (A : List Entry) (k : NodeKey) (s :
   row_fits scratch (i.Bclr n) fits = quiet_fits A k _ (flag_quiet device k s n false)
   row_fits scratch (i.Bld d b) fits = quiet_fits A k _ (refl, refl)
   row_fits scratch (i.Bst d b) fits = quiet_fits A k _ (refl, refl)
-  row_fits scratch (i.Ldd d b q) fits = quiet_fits A k _ (loading_quiet device k s s.registers d (read_pointed device (has_masks A) k s (pointed s (base_register b) q)))
+  row_fits scratch (i.Ldd d b q) fits = quiet_fits A k _ (loading_quiet device k s s.registers d (read_pointed device (reads_masks device A) k s (pointed s (base_register b) q)))
   row_fits scratch (i.Std b q r) fits =
       quiet_fits A k _ (pointer_quiet device words A s (base_register b) q (pointed s (base_register b) q) k.pc (next device k) s (value s r))
   row_fits scratch (i.Lds d a) fits = quiet_fits A k _ (refl, refl)
   row_fits scratch (i.Sts a r) fits = quiet_fits A k _ (written_quiet device k.pc (at_word k (further device k 2)) s false a (value s r))
   row_fits scratch (i.Ld d p) fits =
-      quiet_fits A k _ (loading_quiet device k s (pointer_moved p s) d (read_pointed device (has_masks A) k s (pointed s (pointer_register p) (step_before p))))
+      quiet_fits A k _ (loading_quiet device k s (pointer_moved p s) d (read_pointed device (reads_masks device A) k s (pointed s (pointer_register p) (step_before p))))
   row_fits scratch (i.St p r) fits =
       quiet_fits A k _ (pointer_quiet device words A s (pointer_register p) (step_before p) (pointed s (pointer_register p) (step_before p)) k.pc (next device k)
       (record s { registers = pointer_moved p s }) (value s r))
   row_fits scratch (i.LpmZ d) fits = quiet_fits A k _ (refl, refl)
+  row_fits scratch (i.ElpmZ d) fits = quiet_fits A k _ (refl, refl)
   row_fits scratch (i.LpmZPlus d) fits = quiet_fits A k _ (refl, refl)
+  row_fits scratch (i.ElpmZPlus d) fits = quiet_fits A k _ (refl, refl)
   row_fits scratch i.Lpm fits = quiet_fits A k _ (refl, refl)
+  row_fits scratch i.Elpm fits = quiet_fits A k _ (refl, refl)
   row_fits scratch (i.Pop d) fits = quiet_fits A k _ (closed_quiet k.sp k.pc (popping device k s d) (popping_quiet device k s d))
   row_fits scratch (i.Push r) fits = quiet_fits A k _ (closed_quiet k.sp k.pc (pushing device scratch k s r) (pushing_quiet device scratch k s r))
   row_fits scratch (i.In d a) fits = quiet_fits A k _ (refl, refl)
@@ -176,8 +180,8 @@ module _ (device : Device) (words : Program) (A : List Entry) (k : NodeKey) (s :
       quiet_fits A k _ (flag_branch_quiet n k s (wrapped device (near k.pc target)) (further device k 1) _ (branch_quiet k s (flag_at k s n) (wrapped device (near k.pc target)) (further device k 1)))
   row_fits scratch (i.Brbc n target) fits =
       quiet_fits A k _ (flag_branch_quiet n k s (further device k 1) (wrapped device (near k.pc target)) _ (branch_quiet k s (tri_not (flag_at k s n)) (wrapped device (near k.pc target)) (further device k 1)))
-  row_fits scratch (i.Sbic a b) fits = quiet_fits A k _ (skipping_quiet device words (reading_zero (has_masks A) k (port a) b) k s (tri_not (tri_at (read_at device (has_masks A) k s (port a)).bits b)))
-  row_fits scratch (i.Sbis a b) fits = quiet_fits A k _ (skipping_quiet device words k (reading_zero (has_masks A) k (port a) b) s (tri_at (read_at device (has_masks A) k s (port a)).bits b))
+  row_fits scratch (i.Sbic a b) fits = quiet_fits A k _ (skipping_quiet device words (reading_zero device (reads_masks device A) k (port a) b) k s (tri_not (tri_at (read_at device (reads_masks device A) k s (port a)).bits b)))
+  row_fits scratch (i.Sbis a b) fits = quiet_fits A k _ (skipping_quiet device words k (reading_zero device (reads_masks device A) k (port a) b) s (tri_at (read_at device (reads_masks device A) k s (port a)).bits b))
   row_fits scratch (i.Sbrc r b) fits = quiet_fits A k _ (skipping_quiet device words k k s (tri_not (tri_at (bits s r) b)))
   row_fits scratch (i.Sbrs r b) fits = quiet_fits A k _ (skipping_quiet device words k k s (tri_at (bits s r) b))
   row_fits scratch i.Nop fits = quiet_fits A k _ (refl, refl)

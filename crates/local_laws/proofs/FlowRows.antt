@@ -1,11 +1,11 @@
 -- Branches, skips, jumps, calls and returns.
-use Rattle.std.proofs.Common.{◌≡◌, refl, sym, ◌∙◌, ap, ap₂, subst, ℕ, zero, suc, ◌+◌, ◌%◌, ◌==◌, Bool, true, false, not, if◌then◌else◌, List, [], ◌∷◌, Option, Some, None, slice_index, slice_set, arith, Contains}
+use Rattle.std.proofs.Common.{◌≡◌, refl, sym, ◌∙◌, ap, ap₂, subst, ℕ, zero, suc, ◌+◌, ◌==◌, Bool, true, false, not, if◌then◌else◌, List, [], ◌∷◌, Option, Some, None, slice_index, slice_set, arith, Contains}
 use Rattle.std.specs.Int.{from_bool}
 use Rattle.std.proofs.lemmas.Bool.Decides.{nat_tests}
 use Rattle.avr_model.specs.declared.assumption.Entry.{Entry}
 use Rattle.avr_model.specs.declared.effect.Effect.{Effect}
 use Rattle.avr_model.specs.Assumptions.{jump_line}
-use Rattle.avr_model.specs.Image.{WORDS, word_at}
+use Rattle.avr_model.specs.Image.{word_at}
 use Rattle.avr_model.specs.Sreg.{flag}
 use Rattle.avr_model.specs.Table.{length_of}
 use Rattle.avr_model.specs.Text.{near}
@@ -239,7 +239,7 @@ module _ {may : Bool} (m : State) (o : Origin) (k : NodeKey) (s : AbsState) (at 
 
   -- the target
   abbrev target : ℕ
-  target = wrapped m.device (pair m 30 % WORDS)
+  target = wrapped m.device (pair m 30)
 
   target_has : Contains (words_on m.device (bits s 30) (bits s 31)) target
   target_has =
@@ -247,18 +247,18 @@ module _ {may : Bool} (m : State) (o : Origin) (k : NodeKey) (s : AbsState) (at 
       (register_bits m o k s at 30) (register_bits m o k s at 31)
 
   jump_by : (line : Option (List ℕ)) (found : Option (List ℕ)) → targets_by m.device line (bits s 30) (bits s 31) ≡ found → unless_listed line target ≡ None
-      → (jumping found k s).faults ≡ [] → FollowsWhere may m o s.facts k guarded b1 b2 (going_to m (pair m 30 % WORDS)) (jumping found k s)
+      → (jumping found k s).faults ≡ [] → FollowsWhere may m o s.facts k guarded b1 b2 (going_to m (pair m 30)) (jumping found k s)
   jump_by line None e unflagged none = absurd (cc)
   jump_by line (Some targets) e unflagged none =
       record {
         leads = λ held. stays (record { key = off_table k target; state = s })
             (in_map (λ t. record { key = off_table k t; state = s }) target targets (targets_have m.device line (bits s 30) (bits s 31) targets target e target_has unflagged))
-            refl ((turns_to m o k s at guarded (pair m 30 % WORDS) target refl).lands held);
+            refl ((turns_to m o k s at guarded (pair m 30) target refl).lands held);
       }
 
   pub ijmp_covered : (A : List Entry) → unless_listed (jump_line A m.pc) target ≡ None
       → (jumping (targets_by m.device (jump_line A k.pc) (bits s 30) (bits s 31)) k s).faults ≡ []
-      → FollowsWhere may m o s.facts k guarded b1 b2 (going_to m (pair m 30 % WORDS)) (jumping (targets_by m.device (jump_line A k.pc) (bits s 30) (bits s 31)) k s)
+      → FollowsWhere may m o s.facts k guarded b1 b2 (going_to m (pair m 30)) (jumping (targets_by m.device (jump_line A k.pc) (bits s 30) (bits s 31)) k s)
   ijmp_covered A unflagged none =
       jump_by (jump_line A k.pc) (targets_by m.device (jump_line A k.pc) (bits s 30) (bits s 31)) refl
       (subst (λ pc. unless_listed (jump_line A pc) target ≡ None) at.place.pc unflagged) none
@@ -286,15 +286,15 @@ module _ {may : Bool} (m : State) (o : Origin) (k : NodeKey) (s : AbsState) (at 
 
   icall_by : (line : Option (List ℕ)) (found : Option (List ℕ)) → guarded ≡ true → targets_by m.device line (bits s 30) (bits s 31) ≡ found
       → unless_listed line target ≡ None → (indirect_call m.device found k).faults ≡ []
-      → FollowsWhere may m o s.facts k guarded b1 b2 (calling m (pair m 30 % WORDS) (further m 1)) (indirect_call m.device found k)
+      → FollowsWhere may m o s.facts k guarded b1 b2 (calling m (pair m 30) (further m 1)) (indirect_call m.device found k)
   icall_by line None guards e unflagged none = unless_open k.sp k.pc _ _ none (λ offset form wrong. absurd (cc))
   icall_by line (Some targets) guards e unflagged none =
-      call_covered (pair m 30 % WORDS) target (further m 1) (node_further m.device k 1) targets guards refl (further_is 1)
+      call_covered (pair m 30) target (further m 1) (node_further m.device k 1) targets guards refl (further_is 1)
       (targets_have m.device line (bits s 30) (bits s 31) targets target e target_has unflagged) none
 
   pub icall_covered : (A : List Entry) → guarded ≡ true → unless_listed (jump_line A m.pc) target ≡ None
       → (indirect_call m.device (targets_by m.device (jump_line A k.pc) (bits s 30) (bits s 31)) k).faults ≡ []
-      → FollowsWhere may m o s.facts k guarded b1 b2 (calling m (pair m 30 % WORDS) (further m 1)) (indirect_call m.device (targets_by m.device (jump_line A k.pc) (bits s 30) (bits s 31)) k)
+      → FollowsWhere may m o s.facts k guarded b1 b2 (calling m (pair m 30) (further m 1)) (indirect_call m.device (targets_by m.device (jump_line A k.pc) (bits s 30) (bits s 31)) k)
   icall_covered A guards unflagged none =
       icall_by (jump_line A k.pc) (targets_by m.device (jump_line A k.pc) (bits s 30) (bits s 31)) guards refl
       (subst (λ pc. unless_listed (jump_line A pc) target ≡ None) at.place.pc unflagged) none

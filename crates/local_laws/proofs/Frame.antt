@@ -60,9 +60,9 @@ set_stands o values registers d v x count_values count_registers h old r lt =
 
 -- ---- slots
 
-live_above_none : (live : List Bool) (a : ℕ) → live_in live a ≡ true → 0 < a
+live_above_none : (below : ℕ) (live : List Bool) (a : ℕ) → live_in below live a ≡ true → 0 < a
 unfolding live_in
-live_above_none live a h = grind (arith, nat_tests)
+live_above_none below live a h = grind (arith, nat_tests)
 
 pub slot_kept : (o : Origin) (old new : Memory) (floor a : ℕ) (slot : Slot AbsByte) → Keeps old new floor → (is_live old a ≡ true → floor < a) → SlotStands o old a slot → SlotStands o new a slot
 slot_kept o old new floor a Free keeps lt h = tt
@@ -74,7 +74,7 @@ pub above_floor : (base sp d : ℕ) (memory : Memory) (is_open : Bool) (form : S
 above_floor base sp d memory false (Closed offset) h lt live = omega (arith, h.1)
 above_floor base sp d memory true (Closed offset) h lt live = absurd (let e = h.0 in cc)
 above_floor base sp d memory false (Open offset high) h lt live = absurd (let e = h.0 in cc)
-above_floor base sp d memory true (Open offset high) h lt live = live_above_none memory.live (base - d) live
+above_floor base sp d memory true (Open offset high) h lt live = live_above_none memory.below memory.live (base - d) live
 
 -- ---- a node that the machine is at
 
@@ -107,7 +107,7 @@ module _ {may : Bool} (m : State) (o : Origin) (k : NodeKey) (s : AbsState) (at 
   -- A successor with the same stack pointer and slots, of an effect that pushes nothing.
   pub frame_kept : (told : Option PairFacts) (guarded : Bool) (e : Effect) (to : Node) → e.pushes ≡ [] → to.key.sp ≡ k.sp → to.state.slots ≡ s.slots
       → sp_after e.sp e.stores ≡ m.sp → open_after e.is_open e.stores ≡ m.is_open
-      → e.pc ≡ to.key.pc → EnablesAre may (enables_after e.enables e.stores) to.key.masks → flag (sreg_after e.sreg e.stores) 7 ≡ to.key.i → e.delay ≡ to.key.delay
+      → e.pc ≡ to.key.pc → EnablesAre may (enables_after m.device e.enables e.stores) to.key.masks → flag (sreg_after e.sreg e.stores) 7 ≡ to.key.i → e.delay ≡ to.key.delay
       → RegistersStand o to.state.registers (registers_after (with_registers m.registers e.registers) e.stores)
       → FlagsStand o to.state.flags (sreg_after e.sreg e.stores)
       → LessHolds (registers_after (with_registers m.registers e.registers) e.stores) to.state.flags.carry (flag (sreg_after e.sreg e.stores) 0)
@@ -136,7 +136,7 @@ module _ {may : Bool} (m : State) (o : Origin) (k : NodeKey) (s : AbsState) (at 
 
   pub same_frame : (guarded : Bool) (e : Effect) (to : Node) → e.pushes ≡ [] → to.key.sp ≡ k.sp → to.state.slots ≡ s.slots
       → sp_after e.sp e.stores ≡ m.sp → open_after e.is_open e.stores ≡ m.is_open
-      → e.pc ≡ to.key.pc → EnablesAre may (enables_after e.enables e.stores) to.key.masks → flag (sreg_after e.sreg e.stores) 7 ≡ to.key.i → e.delay ≡ to.key.delay
+      → e.pc ≡ to.key.pc → EnablesAre may (enables_after m.device e.enables e.stores) to.key.masks → flag (sreg_after e.sreg e.stores) 7 ≡ to.key.i → e.delay ≡ to.key.delay
       → RegistersStand o to.state.registers (registers_after (with_registers m.registers e.registers) e.stores)
       → FlagsStand o to.state.flags (sreg_after e.sreg e.stores)
       → LessHolds (registers_after (with_registers m.registers e.registers) e.stores) to.state.flags.carry (flag (sreg_after e.sreg e.stores) 0)

@@ -7,6 +7,7 @@ use Rattle.basics.specs.Items.{none_in, first_in, further_in, first_or_further}
 use Rattle.local_rules.specs.Placing.{AreAscending}
 use Rattle.local_rules.proofs.Placing.{joined, placed_ascend}
 use Rattle.pair_domain.proofs.AllLaws.{known_is_ordered}
+use Rattle.avr_model.specs.declared.device.Device.{Device}
 use Rattle.abs_state.specs.declared.state.AbsState.{AbsState}
 use Rattle.abs_state.specs.Order.{IsStateWithin, IsLeastAbove, state_join}
 use Rattle.abs_state.specs.Formed.{IsFormed}
@@ -28,16 +29,16 @@ and_self : (b : Bool) → b && b ≡ b
 and_self true = refl
 and_self false = refl
 
-formed_at : {followed : Bool} (m n : Node) → n.key ≡ m.key → IsNodeIn followed n.key n.state → IsFormed n.state (offset_of m.key.sp)
+formed_at : {device : Device} {followed : Bool} (m n : Node) → n.key ≡ m.key → IsNodeIn device followed n.key n.state → IsFormed n.state (offset_of m.key.sp)
 formed_at m n e h = subst (λ (k : NodeKey). IsFormed n.state (offset_of k.sp)) e h.formed
 
-joined_least : {followed : Bool} (m n : Node) → n.key ≡ m.key → IsNodeIn followed m.key m.state → IsNodeIn followed n.key n.state → IsLeastAbove m.state n.state (state_join m.state n.state)
+joined_least : {device : Device} {followed : Bool} (m n : Node) → n.key ≡ m.key → IsNodeIn device followed m.key m.state → IsNodeIn device followed n.key n.state → IsLeastAbove m.state n.state (state_join m.state n.state)
 joined_least m n e a b =
     let f = formed_at m n e b in
     states_are_ordered.join m.state n.state (joins_are_formed.whole m.state (offset_of m.key.sp) a.formed) (joins_are_formed.whole n.state (offset_of m.key.sp) f) (a.formed.count_slots ∙ sym f.count_slots)
 
-joined_node : {followed : Bool} (m n : Node) → n.key ≡ m.key → IsNodeIn followed m.key m.state → IsNodeIn followed n.key n.state → IsNodeIn followed (joined m n).key (joined m n).state
-joined_node {followed = followed} m n e a b =
+joined_node : {device : Device} {followed : Bool} (m n : Node) → n.key ≡ m.key → IsNodeIn device followed m.key m.state → IsNodeIn device followed n.key n.state → IsNodeIn device followed (joined m n).key (joined m n).state
+joined_node {device = device} {followed = followed} m n e a b =
     let le = (joined_least m n e a b).first in
     record {
       word = a.word;
@@ -75,8 +76,8 @@ module _ (P : Node → Type 0) (join : (m n : Node) → n.key ≡ m.key → P m 
   joined_each done [] h hs = h
   joined_each done (n ∷ ns) h hs = joined_each (placed n done) ns (placed_each n done (hs n (first_in n ns)) h) (λ x i. hs x (further_in n x ns i))
 
-joined_nodes : {followed : Bool} (done ns : List Node) → AreNodesIn followed done → AreNodesIn followed ns → AreNodesIn followed (joined_onto done ns)
-joined_nodes {followed = followed} = joined_each (λ (n : Node). IsNodeIn followed n.key n.state) (joined_node {followed = followed})
+joined_nodes : {device : Device} {followed : Bool} (done ns : List Node) → AreNodesIn device followed done → AreNodesIn device followed ns → AreNodesIn device followed (joined_onto done ns)
+joined_nodes {device = device} {followed = followed} = joined_each (λ (n : Node). IsNodeIn device followed n.key n.state) (joined_node {device = device} {followed = followed})
 
 -- ---- each is below the one of its key
 
@@ -86,7 +87,7 @@ below_itself x xs i = record { state = x.state; present = i; above = states_are_
 below_more : (m x : Node) (xs : List Node) → IsBelowOne xs x → IsBelowOne (m ∷ xs) x
 below_more m x xs b = record { state = b.state; present = further_in m (record { key = x.key; state = b.state }) xs b.present; above = b.above }
 
-placed_below : {followed : Bool} (n : Node) (ms : List Node) → IsNodeIn followed n.key n.state → AreNodesIn followed ms → (x : Node) → (x ≡ n) ⊎ Contains ms x → IsBelowOne (placed n ms) x
+placed_below : {device : Device} {followed : Bool} (n : Node) (ms : List Node) → IsNodeIn device followed n.key n.state → AreNodesIn device followed ms → (x : Node) → (x ≡ n) ⊎ Contains ms x → IsBelowOne (placed n ms) x
 unfolding placed
 placed_below n [] h hs x = ⊎_elim (λ e. subst (IsBelowOne (n ∷ [])) (sym e) (below_itself n (n ∷ []) (first_in n []))) (λ i. absurd (none_in x i))
 placed_below n (m ∷ ms) h hs x = by (placed_below n ms h (λ x i. hs x (further_in m x ms i))) (node_cmp n.key m.key) refl
@@ -114,11 +115,11 @@ placed_below n (m ∷ ms) h hs x = by (placed_below n ms h (λ x i. hs x (furthe
         ⊎_elim (λ e. below_more m x (placed n ms) (rest x (inl e)))
         (each_of (IsBelowOne (m ∷ placed n ms)) m ms (below_itself m (m ∷ placed n ms) (first_in m (placed n ms))) (λ y i. below_more m y (placed n ms) (rest y (inr i))) x)
 
-joined_below : {followed : Bool} (done ns : List Node) → AreNodesIn followed done → AreNodesIn followed ns → (x : Node) → Contains done x ⊎ Contains ns x → IsBelowOne (joined_onto done ns) x
+joined_below : {device : Device} {followed : Bool} (done ns : List Node) → AreNodesIn device followed done → AreNodesIn device followed ns → (x : Node) → Contains done x ⊎ Contains ns x → IsBelowOne (joined_onto done ns) x
 unfolding joined_onto
 joined_below done [] h hs x = ⊎_elim (below_itself x done) (λ i. absurd (none_in x i))
-joined_below {followed = followed} done (n ∷ ns) h hs x =
-    let done_nodes = placed_each (λ (n : Node). IsNodeIn followed n.key n.state) (joined_node {followed = followed}) n done (hs n (first_in n ns)) h in
+joined_below {device = device} {followed = followed} done (n ∷ ns) h hs x =
+    let done_nodes = placed_each (λ (n : Node). IsNodeIn device followed n.key n.state) (joined_node {device = device} {followed = followed}) n done (hs n (first_in n ns)) h in
     let rest = joined_below (placed n done) ns done_nodes (λ x i. hs x (further_in n x ns i)) in
     ⊎_elim (λ i. later rest (inr i)) (λ i. ⊎_elim (λ e. later rest (inl e)) (λ j. rest x (inr j)) (first_or_further n x ns i))
   where
@@ -142,11 +143,12 @@ joined_keys : (nodes : List Node) (n : Node) → Contains (joined_onto [] nodes)
 joined_keys nodes =
     joined_each (λ (n : Node). HasKey nodes n.key) (λ m n e a b. a) [] nodes (λ n i. absurd (none_in n i)) (λ n i. (n, (i, refl)))
 
-abbrev IsUnder : Bool → Node → AbsState → Node → Type 0
-IsUnder followed n t x = IsNodeIn followed x.key x.state × (x.key ≡ n.key → IsStateWithin x.state t)
+abbrev IsUnder : Device → Bool → Node → AbsState → Node → Type 0
+IsUnder device followed n t x = IsNodeIn device followed x.key x.state × (x.key ≡ n.key → IsStateWithin x.state t)
 
-joined_under : (followed : Bool) (n : Node) (t : AbsState) (x y : Node) → y.key ≡ x.key → IsUnder followed n t x → IsUnder followed n t y → IsUnder followed n t (joined x y)
-joined_under followed n t x y e a b =
+joined_under : (device : Device) (followed : Bool) (n : Node) (t : AbsState) (x y : Node) → y.key ≡ x.key → IsUnder device followed n t x → IsUnder device followed n t y
+    → IsUnder device followed n t (joined x y)
+joined_under device followed n t x y e a b =
     (joined_node x y e a.0 b.0, λ is. (joined_least x y e a.0 b.0).least t (a.1 is) (b.1 (e ∙ is)))
 
 pub all_joins_are_least : JoinsAreLeast
@@ -156,6 +158,6 @@ all_joins_are_least = record {
   nodes = λ nodes h. joined_nodes [] nodes (λ n i. absurd (none_in n i)) h;
   above = λ nodes n h i. joined_below [] nodes (λ n i. absurd (none_in n i)) h n (inr i);
   keys = joined_keys;
-  least = λ {followed} nodes n t h i over.
-      (joined_each (IsUnder followed n t) (joined_under followed n t) [] nodes (λ x i. absurd (none_in x i)) (λ x j. (h x j, over x j)) n i).1 refl;
+  least = λ {device} {followed} nodes n t h i over.
+      (joined_each (IsUnder device followed n t) (joined_under device followed n t) [] nodes (λ x i. absurd (none_in x i)) (λ x j. (h x j, over x j)) n i).1 refl;
 }

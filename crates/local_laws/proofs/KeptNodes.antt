@@ -181,7 +181,7 @@ module _ (followed : Bool) where
       kept_if (a == SPL) _ _ (λ e. kept_closing device (closing_offset device k.inst.kind k.sp v) k s pc h) (λ e.
       kept_if (a == SPH) _ _ (λ e. kept_opening (high_part k.inst.kind v) k s pc h) (λ e.
       kept_if (a == SREG) _ _ (λ e. kept_sreg (tri_at v.bits 7) k (put_flags s (flags_written v)) is_out (flags_kept s (flags_written v) h)) (λ e.
-      each_in_map (λ m. record { key = record k { masks = m }; state = s }) (λ (n : Node). IsModeKept followed n.state) (splits k.masks a v.bits) (λ m j. h)))))
+      each_in_map (λ m. record { key = record k { masks = m }; state = s }) (λ (n : Node). IsModeKept followed n.state) (splits device k.masks a v.bits) (λ m j. h)))))
 
   kept_fixed : (device : Device) (a : Option ℕ) (pc : ℕ) (k : NodeKey) (s : AbsState) (v : AbsByte) → HasSixteen s.facts → IsModeKept followed s → AllKept (fixed_write device a pc k s v)
   kept_fixed device None pc k s v sixteen h = kept_none

@@ -114,14 +114,14 @@ module _ (device : Device) (words : Program) (A : List Entry) (scratch : Bool) (
 
 -- ---- where they are
 
-module _ (device : Device) (words : Program) (A : List Entry) (scratch : Bool) (k : NodeKey) (s : AbsState) (h : IsNodeIn true k s) (f : PairFacts) (known : s.facts ≡ Some f) where
+module _ (device : Device) (words : Program) (A : List Entry) (scratch : Bool) (k : NodeKey) (s : AbsState) (h : IsNodeIn device true k s) (f : PairFacts) (known : s.facts ≡ Some f) where
   abbrev row : Instr → Raw
   row instr = plain_row device words A scratch k s instr
 
   abbrev paired : Instr → Raw
   paired instr = paired_row device words A scratch k s instr
 
-  low : IsBare k s
+  low : IsBare device k s
   low = bare k s h
 
   is_kept : IsModeKept true s
@@ -233,27 +233,28 @@ module _ (device : Device) (words : Program) (A : List Entry) (scratch : Bool) (
 
 -- ---- the node
 
-module _ {followed : Bool} (words : Program) (A : List Entry) (k : NodeKey) (s : AbsState) (h : IsNodeIn followed k s) where
-  by_mode : (device : Device) (scratch : Bool) (instr : Instr) → InstrFits instr → HasRegisters instr → (f : Option PairFacts) → s.facts ≡ f
+module _ {device : Device} {followed : Bool} (words : Program) (A : List Entry) (k : NodeKey) (s : AbsState) (h : IsNodeIn device followed k s) where
+  by_mode : (scratch : Bool) (instr : Instr) → InstrFits instr → HasRegisters instr → (f : Option PairFacts) → s.facts ≡ f
       → (row_by f device words A scratch k s instr).faults ≡ [] → AllKept followed (row_by f device words A scratch k s instr)
-  by_mode device scratch instr fits has None e clean =
+  by_mode scratch instr fits has None e clean =
       let mode : false ≡ followed = ap is_followed (sym e) ∙ h.mode in
       subst (λ (b : Bool). AllKept b (row_by None device words A scratch k s instr)) mode (plain_kept device words A scratch k s e instr)
-  by_mode device scratch instr fits has (Some f) e clean =
+  by_mode scratch instr fits has (Some f) e clean =
       let mode : true ≡ followed = ap is_followed (sym e) ∙ h.mode in
       subst (λ (b : Bool). AllKept b (row_by (Some f) device words A scratch k s instr)) mode
-      (paired_kept device words A scratch k s (subst (λ (b : Bool). IsNodeIn b k s) (sym mode) h) f e instr fits has clean)
+      (paired_kept device words A scratch k s (subst (λ (b : Bool). IsNodeIn device b k s) (sym mode) h) f e instr fits has clean)
 
-  at_kept : (device : Device) (scratch : Bool) (x : Option Instr) → ((instr : Instr) → x ≡ Some instr → InstrFits instr) → ((instr : Instr) → x ≡ Some instr → HasRegisters instr)
+  at_kept : (scratch : Bool) (x : Option Instr) → ((instr : Instr) → x ≡ Some instr → InstrFits instr) → ((instr : Instr) → x ≡ Some instr → HasRegisters instr)
       → (row_at device words A scratch k s x).faults ≡ [] → AllKept followed (row_at device words A scratch k s x)
-  at_kept device scratch None fits has clean = kept_none followed
-  at_kept device scratch (Some instr) fits has clean = by_mode device scratch instr (fits instr refl) (has instr refl) s.facts refl clean
+  at_kept scratch None fits has clean = kept_none followed
+  at_kept scratch (Some instr) fits has clean = by_mode scratch instr (fits instr refl) (has instr refl) s.facts refl clean
 
+module _ {followed : Bool} (words : Program) (A : List Entry) (k : NodeKey) (s : AbsState) (h : IsNodeIn (device_of words) followed k s) where
   in_kept : (row_in (device_of words) words A k s).faults ≡ [] → AllKept followed (row_in (device_of words) words A k s)
   in_kept clean =
-      at_kept (device_of words) (is_scratch words k.pc) (fetched (device_of words) words k.pc) (fetched_fits (device_of words) words k.pc) (fetched_has (device_of words) words k.pc) clean
+      at_kept words A k s h (is_scratch words k.pc) (fetched (device_of words) words k.pc) (fetched_fits (device_of words) words k.pc) (fetched_has (device_of words) words k.pc) clean
 
-module _ {followed : Bool} (words : Program) (A : List Entry) (k : NodeKey) (s : AbsState) (h : IsNodeIn followed k s) where
+module _ {followed : Bool} (words : Program) (A : List Entry) (k : NodeKey) (s : AbsState) (h : IsNodeIn (device_of words) followed k s) where
   abbrev row_picked : ℕ → Raw
   row_picked byte = picked_row (row_in (device_of words) words A) (picking k byte) (pick_cut byte s)
 

@@ -4,12 +4,13 @@ use Rattle.std.specs.Int.{bit_at}
 use Rattle.std.specs.List.{All}
 use Rattle.std.proofs.lemmas.Nat.Bits.{bit_at-lt}
 use Rattle.std.proofs.lemmas.List.Elements.{All-set}
-use Rattle.avr_model.specs.Devices.{words_of, size_of}
+use Rattle.avr_model.specs.Devices.{words_of, io_end, size_of}
 use Rattle.avr_model.specs.declared.device.Device.{Device}
 use Rattle.avr_model.specs.declared.effect.Write.{Write}
 use Rattle.avr_model.specs.declared.effect.Effect.{Effect}
-use Rattle.avr_model.specs.State.{State, BELOW, SPL, SPH, SREG, sram_at, is_sram, byte_in, io_bit, io_byte, read, low, high}
+use Rattle.avr_model.specs.State.{State, SPL, SPH, SREG, sram_at, is_sram, byte_in, read, low, high}
 use Rattle.avr_model.specs.Step.{with_registers, registers_after, sreg_after, sp_after, open_after, enables_after, after}
+use Rattle.avr_model.specs.Vectors.{enable_count, io_bit, io_byte}
 use Rattle.vector_table.proofs.AllLaws.{numbers_are_their_bits, enables_are_vectors}
 use Rattle.local_rules.specs.Machine.{IsMachine}
 use Rattle.local_laws.proofs.Bytes.{byte_in_list}
@@ -21,7 +22,7 @@ pub record IsEffect (device : Device) (e : Effect) : Type 0 where
   pub registers : AreByteWrites e.registers
   pub sreg : e.sreg < 256
   pub sp : e.sp < 65536
-  pub enables : e.enables < 2 ^ 25
+  pub enables : e.enables < 2 ^ enable_count device
   pub stores : AreByteWrites e.stores
   pub pushes : AreByteWrites e.pushes
 
@@ -62,23 +63,24 @@ sp_stays (w ∷ ws) sp small h =
     sp_stays ws _ small.1
     (chosen (w.address == SPL) 65536 (256 * high sp + w.byte) _ (omega arith) (chosen (w.address == SPH) 65536 (256 * w.byte + low sp) sp (omega arith) h))
 
-enables_stay : (ws : List Write) (enables : ℕ) → enables < 2 ^ 25 → enables_after enables ws < 2 ^ 25
-enables_stay [] enables h = h
-enables_stay (w ∷ ws) enables h = enables_stay ws _ (enables_are_vectors.written enables w.address w.byte)
+enables_stay : (device : Device) (ws : List Write) (enables : ℕ) → enables < 2 ^ enable_count device → enables_after device enables ws < 2 ^ enable_count device
+enables_stay device [] enables h = h
+enables_stay device (w ∷ ws) enables h = enables_stay device ws _ (enables_are_vectors.written device enables w.address w.byte)
 
 pub after_stays : (m : State) (guarded : Bool) (e : Effect) → IsMachine m → IsEffect m.device e → IsMachine (after m guarded e)
 after_stays m guarded e h fits =
     let set_first = with_stay e.registers m.registers fits.registers (record { count = h.count_registers; each = h.register_bytes }) in
     let registers = registers_stay e.stores (with_registers m.registers e.registers) fits.stores set_first in
-    let memory = memory_stays (size_of m.device) m.memory guarded (open_after e.is_open e.stores) (sp_after e.sp e.stores) e.stores e.pushes fits.stores fits.pushes
-    (record { count_bytes = h.count_bytes; sram_bytes = h.sram_bytes; count_live = h.count_live }) in
+    let memory = memory_stays (io_end m.device) (size_of m.device) m.memory guarded (open_after e.is_open e.stores) (sp_after e.sp e.stores) e.stores e.pushes fits.stores fits.pushes
+    (record { is = h.below; count_bytes = h.count_bytes; sram_bytes = h.sram_bytes; count_live = h.count_live }) in
     record {
       pc_small = fits.pc;
       count_registers = registers.count;
       register_bytes = registers.each;
       sreg_byte = sreg_stays e.stores e.sreg fits.stores fits.sreg;
       sp_word = sp_stays e.stores e.sp fits.stores fits.sp;
-      enable_bits = enables_stay e.stores e.enables fits.enables;
+      enable_bits = enables_stay m.device e.stores e.enables fits.enables;
+      below = memory.is;
       count_bytes = memory.count_bytes;
       sram_bytes = memory.sram_bytes;
       count_live = memory.count_live;
@@ -90,13 +92,13 @@ pub io_value : (v : Option ℕ) (enables free : ℕ) → free < 2 → io_bit v e
 io_value None enables free h = h
 io_value (Some v) enables free h = bit_at-lt enables (v - 2)
 
-pub io_small : (enables a input : ℕ) → io_byte enables a input < 256
+pub io_small : (device : Device) (enables a input : ℕ) → io_byte device enables a input < 256
 unfolding io_byte
-io_small enables a input = numbers_are_their_bits.below 8 _ (λ b lt. io_value _ enables (bit_at input b) (bit_at-lt input b))
+io_small device enables a input = numbers_are_their_bits.below 8 _ (λ b lt. io_value _ enables (bit_at input b) (bit_at-lt input b))
 
-byte_small : (bytes : List ℕ) (a : ℕ) → All (λ b. b < 256) bytes → byte_in bytes a < 256
+byte_small : (below : ℕ) (bytes : List ℕ) (a : ℕ) → All (λ b. b < 256) bytes → byte_in below bytes a < 256
 unfolding byte_in
-byte_small bytes a h = byte_in_list bytes (a - (BELOW + 1)) h
+byte_small below bytes a h = byte_in_list bytes (a - (below + 1)) h
 
 pub read_small : (m : State) (a input : ℕ) → IsMachine m → input < 256 → read m a input < 256
 unfolding read
@@ -105,5 +107,5 @@ read_small m a input h small =
     (chosen (a == SPL) 256 (low m.sp) _ (omega arith)
     (chosen (a == SPH) 256 (high m.sp) _ (omega (arith, h.sp_word))
     (chosen (a == SREG) 256 m.sreg _ h.sreg_byte
-    (chosen (nat_le a BELOW) 256 (io_byte m.enables a input) _ (io_small m.enables a input)
-    (chosen (is_sram m.device a) 256 (sram_at m a) input (byte_small m.memory.bytes a h.sram_bytes) small)))))
+    (chosen (nat_le a (io_end m.device)) 256 (io_byte m.device m.enables a input) _ (io_small m.device m.enables a input)
+    (chosen (is_sram m.device a) 256 (sram_at m a) input (byte_small m.memory.below m.memory.bytes a h.sram_bytes) small)))))

@@ -1,5 +1,5 @@
--- Numbers in decoded instructions: targets of jumps and calls are words, immediate numbers are bytes, and operands are registers.
-use Rattle.std.proofs.Common.{◌≡◌, refl, subst, ℕ, ◌+◌, ◌*◌, ◌%◌, ◌^◌, ◌<◌, ◌==◌, Bool, true, false, List, [], ◌∷◌, Some, length, if◌then◌else◌, arith, None, nat_lt}
+-- Numbers in decoded instructions: immediate numbers are bytes, and operands are registers.
+use Rattle.std.proofs.Common.{◌≡◌, refl, subst, ℕ, ◌+◌, ◌*◌, ◌<◌, ◌==◌, Bool, true, false, List, [], ◌∷◌, Some, length, if◌then◌else◌, arith, None, nat_lt}
 use Rattle.std.specs.Prelude.{⊤}
 use Rattle.std.specs.Int.{bit_at}
 use Rattle.std.proofs.lemmas.Nat.Bits.{bit_at-lt}
@@ -7,7 +7,7 @@ use Rattle.avr_model.specs.Devices.{Program, words_of}
 use Rattle.avr_model.specs.declared.device.Device.{Device}
 use Rattle.avr_model.specs.declared.instruction.Instr.{Instr}
 use Rattle.avr_model.specs.declared.instruction.Instr.TheVariants as i
-use Rattle.avr_model.specs.Image.{WORDS, word_at}
+use Rattle.avr_model.specs.Image.{word_at}
 use Rattle.avr_model.specs.Pattern.{places, letter}
 use Rattle.avr_model.specs.Table.{Row, fields, table, matches, decoded_by, decoded}
 use Rattle.avr_model.specs.Sites.{instruction_at}
@@ -15,8 +15,6 @@ use Rattle.local_rules.specs.Local.{fetched}
 use Rattle.local_laws.proofs.Sized.{decoded_at}
 
 abbrev pub InstrFits : Instr → Type 0
-InstrFits (i.Jmp t) = t < WORDS
-InstrFits (i.Call t) = t < WORDS
 InstrFits (i.Immediate op d n) = (d < 32) × (n < 256)
 InstrFits (i.Binary op d r) = d < 32
 InstrFits (i.Sbrc r b) = (r < 32) × (b < 8)
@@ -59,9 +57,6 @@ bit_of_register p w r b = (
   subst (λ (n : ℕ). letter 98 0 p w < n) b (letter_below 98 p w 0 1 (omega arith)),
 )
 
-word_small : (n : ℕ) → n % 2 ^ 14 < WORDS
-word_small n = omega arith
-
 -- ---- the table
 
 abbrev RowsFit : List Row → ℕ → ℕ → Type 0
@@ -90,8 +85,7 @@ table_fits w next =
     let of_mul = all_registers (places "1001 11rd dddd rrrr") w refl in
     let of_sbrc = bit_of_register (places "1111 110r rrrr 0bbb") w refl refl in
     let of_sbrs = bit_of_register (places "1111 111r rrrr 0bbb") w refl refl in
-    let jmp = word_small next in
-    assumption (cpi, sbci, subi, ori, andi, ldi, of_cpc, of_sbc, of_add, of_cpse, of_cp, of_sub, of_adc, of_and, of_eor, of_or, of_mov, of_mul, of_sbrc, of_sbrs, jmp)
+    assumption (cpi, sbci, subi, ori, andi, ldi, of_cpc, of_sbc, of_add, of_cpse, of_cp, of_sub, of_adc, of_and, of_eor, of_or, of_mov, of_mul, of_sbrc, of_sbrs)
 
 rows_fit : (rows : List Row) (w next : ℕ) (instr : Instr) → RowsFit rows w next → decoded_by rows w next ≡ Some instr → InstrFits instr
 rows_fit [] w next instr h e = cc

@@ -6,15 +6,14 @@ use Rattle.std.proofs.lemmas.Bool.Decides.{nat_tests}
 use Rattle.std.proofs.lemmas.List.{get_or_past}
 use Rattle.std.proofs.lemmas.Map.Views.{Contains-from_any}
 use Rattle.local_rules.specs.Cover.{IsKey}
-use Rattle.avr_model.specs.State.{SIZE}
 use Rattle.avr_model.proofs.AllLaws.{devices_are_alike}
-use Rattle.avr_model.specs.Devices.{Program, size_of, width}
+use Rattle.avr_model.specs.Devices.{Program, size_of, depth_of, limit_of, limit_width, width}
 use Rattle.avr_model.specs.declared.device.Device.{Device}
 use Rattle.avr_model.specs.declared.assumption.Entry.{Entry}
-use Rattle.avr_model.specs.Image.{WORDS, word_at}
+use Rattle.avr_model.specs.Image.{word_at}
 use Rattle.avr_model.specs.Table.{length_of}
 use Rattle.avr_model.specs.Assumptions.{jump_line, lists}
-use Rattle.avr_model.specs.Vectors.{enable_of}
+use Rattle.avr_model.specs.Vectors.{enable_count, held_of}
 use Rattle.bit_domain.specs.declared.bits.Tri.{Tri}
 use Rattle.bit_domain.specs.declared.bits.Tri.TheVariants.{Zero, One, Any}
 use Rattle.bit_domain.specs.declared.bytes.TriByte.{TriByte}
@@ -85,14 +84,14 @@ module _ (f g : ℕ → Tri) (n : ℕ) (le : (i : ℕ) → i < n → IsTriWithin
       subst₂ (λ (a b : ℕ). a ≤ b) (sym (numbers_are_permitted.count f n)) (sym (numbers_are_permitted.count g n))
       (pow-le-pow_right {n = 2} (omega arith) (count_more f g n le))
 
--- if the second has targets, so has the first; all of them are the second's, and words
-abbrev AreTargetsLess : Option (List ℕ) → Option (List ℕ) → Type 0
-AreTargetsLess x y =
+-- if the second has targets, so has the first; all of them are the second's, and below the limit
+abbrev AreTargetsLess : ℕ → Option (List ℕ) → Option (List ℕ) → Type 0
+AreTargetsLess limit x y =
     (ys : List ℕ) → y ≡ Some ys
-    → (xs : List ℕ) × ((x ≡ Some xs) × (((z : ℕ) → Contains xs z → Contains ys z) × ((z : ℕ) → Contains ys z → z < WORDS)))
+    → (xs : List ℕ) × ((x ≡ Some xs) × (((z : ℕ) → Contains xs z → Contains ys z) × ((z : ℕ) → Contains ys z → z < limit)))
 
-module _ (xs ys : List ℕ) (more : (z : ℕ) → Contains xs z → Contains ys z) (small : (z : ℕ) → Contains ys z → z < WORDS) where
-  all_targets : (a b : Bool) → (b ≡ true → a ≡ true) → AreTargetsLess (if a then Some xs else None) (if b then Some ys else None)
+module _ (limit : ℕ) (xs ys : List ℕ) (more : (z : ℕ) → Contains xs z → Contains ys z) (small : (z : ℕ) → Contains ys z → z < limit) where
+  all_targets : (a b : Bool) → (b ≡ true → a ≡ true) → AreTargetsLess limit (if a then Some xs else None) (if b then Some ys else None)
   all_targets a false h zs e = cc
   all_targets true true h zs e =
       let is : ys ≡ zs = cc in
@@ -102,13 +101,13 @@ module _ (xs ys : List ℕ) (more : (z : ℕ) → Contains xs z → Contains ys 
   listed_more : (x : ℕ) → lists xs x ≡ true → lists ys x ≡ true
   listed_more x e = any_more (λ (item : ℕ). item == x) xs ys more e
 
-  listed_small : (x : ℕ) → lists ys x ≡ true → x < WORDS
+  listed_small : (x : ℕ) → lists ys x ≡ true → x < limit
   listed_small x e = small x (Contains-from_any {eq = λ (a b : ℕ). b == a} (λ a b is. grind (arith, nat_tests)) x ys e)
 
-  few_less : (m n : ℕ) → m ≤ n → AreTargetsLess (if nat_le m 64 then Some xs else None) (if nat_le n 64 then Some ys else None)
+  few_less : (m n : ℕ) → m ≤ n → AreTargetsLess limit (if nat_le m 64 then Some xs else None) (if nat_le n 64 then Some ys else None)
   few_less m n count = all_targets (nat_le m 64) (nat_le n 64) (λ is. grind (arith, nat_tests))
 
-  listed_less : (listed : List ℕ) → AreTargetsLess (Some (filter (lists xs) listed)) (Some (filter (lists ys) listed))
+  listed_less : (listed : List ℕ) → AreTargetsLess limit (Some (filter (lists xs) listed)) (Some (filter (lists ys) listed))
   listed_less listed zs e =
       let is : filter (lists ys) listed ≡ zs = cc in (
         filter (lists xs) listed,
@@ -121,9 +120,9 @@ module _ (xs ys : List ℕ) (more : (z : ℕ) → Contains xs z → Contains ys 
         ),
       )
 
--- a word address of the device is one of the greatest flash
-pub width_small : (device : Device) (z : ℕ) → z < 2 ^ width device → z < WORDS
-width_small device z lt = let most = devices_are_alike.most_words device in omega arith
+-- a word address of the device is one of its texts
+pub width_small : (device : Device) (z : ℕ) → z < 2 ^ width device → z < limit_of device
+width_small device z lt = let most = devices_are_alike.in_limit device in omega arith
 
 module _ (device : Device) (a b a' b' : TriByte) (lo : IsWithin a a') (hi : IsWithin b b') where
   word_bits : (n i : ℕ) → i < n → IsTriWithin (pointer_bit a b i) (pointer_bit a' b' i)
@@ -134,14 +133,14 @@ module _ (device : Device) (a b a' b' : TriByte) (lo : IsWithin a a') (hi : IsWi
   words_more : (z : ℕ) → Contains (words_on device a b) z → Contains (words_on device a' b') z
   words_more = numbers_more (pointer_bit a b) (pointer_bit a' b') (width device) (word_bits (width device))
 
-  words_small : (z : ℕ) → Contains (words_on device a' b') z → z < WORDS
+  words_small : (z : ℕ) → Contains (words_on device a' b') z → z < limit_of device
   words_small z i = width_small device z ((numbers_are_permitted.members (pointer_bit a' b') (width device) z).0 i).small
 
-  pub words_targets : (line : Option (List ℕ)) → AreTargetsLess (targets_by device line a b) (targets_by device line a' b')
+  pub words_targets : (line : Option (List ℕ)) → AreTargetsLess (limit_of device) (targets_by device line a b) (targets_by device line a' b')
   words_targets None =
-      few_less (words_on device a b) (words_on device a' b') words_more words_small (length (targets_of a b)) (length (targets_of a' b'))
-      (numbers_count (pointer_bit a b) (pointer_bit a' b') 14 (word_bits 14))
-  words_targets (Some listed) = listed_less (words_on device a b) (words_on device a' b') words_more words_small listed
+      few_less (limit_of device) (words_on device a b) (words_on device a' b') words_more words_small (length (targets_of (limit_width device) a b)) (length (targets_of (limit_width device) a' b'))
+      (numbers_count (pointer_bit a b) (pointer_bit a' b') (limit_width device) (word_bits (limit_width device)))
+  words_targets (Some listed) = listed_less (limit_of device) (words_on device a b) (words_on device a' b') words_more words_small listed
 
 -- ---- slots that are pushed and popped
 
@@ -202,22 +201,22 @@ if_some true v x e = (refl, cc)
 if_some false v x e = absurd (cc)
 
 -- the successor at a word is below the first or the second of two
-first_less : (inst : InstKey) (o : Option AbsState) (k : NodeKey) (pc : ℕ) (q r : Raw) → LeadsLess inst (going_where k o pc) q → LeadsLess inst (going_where k o pc) (all_of (q ∷ r ∷ []))
+first_less : {device : Device} (inst : InstKey) (o : Option AbsState) (k : NodeKey) (pc : ℕ) (q r : Raw) → LeadsLess device inst (going_where k o pc) q → LeadsLess device inst (going_where k o pc) (all_of (q ∷ r ∷ []))
 first_less inst None k pc q r h = above_first inst [] q (r ∷ []) h
 first_less inst (Some s) k pc q r h = above_first inst _ q (r ∷ []) h
 
-second_less : (inst : InstKey) (o : Option AbsState) (k : NodeKey) (pc : ℕ) (r q : Raw) → LeadsLess inst (going_where k o pc) q → LeadsLess inst (going_where k o pc) (all_of (r ∷ q ∷ []))
+second_less : {device : Device} (inst : InstKey) (o : Option AbsState) (k : NodeKey) (pc : ℕ) (r q : Raw) → LeadsLess device inst (going_where k o pc) q → LeadsLess device inst (going_where k o pc) (all_of (r ∷ q ∷ []))
 second_less inst None k pc r q h = above_rest inst [] r (q ∷ []) (above_first inst [] q [] h)
 second_less inst (Some s) k pc r q h = above_rest inst _ r (q ∷ []) (above_first inst _ q [] h)
 
 -- ---- rows
 
-closed_less : (inst : InstKey) (sp : SpForm) (pc : ℕ) (f g : ℕ → Raw) → ((offset : ℕ) → sp ≡ Closed offset → LeadsLess inst (f offset) (g offset))
-    → LeadsLess inst (at_closed sp pc f) (at_closed sp pc g)
+closed_less : {device : Device} (inst : InstKey) (sp : SpForm) (pc : ℕ) (f g : ℕ → Raw) → ((offset : ℕ) → sp ≡ Closed offset → LeadsLess device inst (f offset) (g offset))
+    → LeadsLess device inst (at_closed sp pc f) (at_closed sp pc g)
 closed_less inst (Closed offset) pc f g h = h offset refl
 closed_less inst (Open offset high) pc f g h = fails_less inst (fails (UntrackedSp pc)) (UntrackedSp pc)
 
-room_by : (inst : InstKey) (b : Bool) (n pc : ℕ) (p q : Raw) → (b ≡ true → LeadsLess inst p q) → LeadsLess inst (if b then p else fails (TooDeep pc n)) (if b then q else fails (TooDeep pc n))
+room_by : {device : Device} (inst : InstKey) (b : Bool) (n pc : ℕ) (p q : Raw) → (b ≡ true → LeadsLess device inst p q) → LeadsLess device inst (if b then p else fails (TooDeep pc n)) (if b then q else fails (TooDeep pc n))
 room_by inst true n pc p q h = h refl
 room_by inst false n pc p q h = fails_less inst (fails (TooDeep pc n)) (TooDeep pc n)
 
@@ -227,64 +226,64 @@ branch_nodes Zero k l s taken other = refl
 branch_nodes One k l s taken other = refl
 branch_nodes Any k l s taken other = refl
 
--- removing a vector leaves 25 enable bits
-without_small : (may : Bool) (v : Option ℕ) (masks : ℕ) → masks < 2 ^ 25 → without may v masks < 2 ^ 25
-without_small false v masks lt = lt
-without_small true None masks lt = lt
-without_small true (Some v) masks lt = enables_are_vectors.turned masks v false
+-- removing a vector leaves enable bits
+without_small : (device : Device) (may : Bool) (v : Option ℕ) (masks : ℕ) → masks < 2 ^ enable_count device → without device may v masks < 2 ^ enable_count device
+without_small device false v masks lt = lt
+without_small device true None masks lt = lt
+without_small device true (Some v) masks lt = enables_are_vectors.turned device masks v false
 
-off_place : (inst : InstKey) (offset : ℕ) (k : NodeKey) (pc : ℕ) → IsKeyPlace inst offset k → pc < WORDS → IsKeyPlace inst offset (off_table k pc)
+off_place : {device : Device} (inst : InstKey) (offset : ℕ) (k : NodeKey) (pc : ℕ) → IsKeyPlace device inst offset k → pc < limit_of device → IsKeyPlace device inst offset (off_table k pc)
 off_place inst offset k pc at lt = record { key = off_table_key k pc at.key lt; same = at.same; at = at.at }
 
 -- calls have the same targets in all states
-sites_less : (inst : InstKey) (k : NodeKey) (back : ℕ) (xs ys : List ℕ) → ((z : ℕ) → Contains xs z → Contains ys z) → LeadsLess inst (calling k back xs) (calling k back ys)
+sites_less : {device : Device} (inst : InstKey) (k : NodeKey) (back : ℕ) (xs ys : List ℕ) → ((z : ℕ) → Contains xs z → Contains ys z) → LeadsLess device inst (calling k back xs) (calling k back ys)
 sites_less inst k back xs ys more =
     untracked_less inst (is_half_written k.sp) k.pc (enters (map (λ t. site t back) xs)) (enters (map (λ t. site t back) ys))
     (enters_less inst (map (λ t. site t back) xs) (map (λ t. site t back) ys)
     (each_in_map (λ (t : ℕ). site t back) (Contains (map (λ (t : ℕ). site t back) ys)) xs (λ x i. in_map (λ (t : ℕ). site t back) ys x (more x i))))
 
-pub calling_less : (inst : InstKey) (k : NodeKey) (back : ℕ) (xs : List ℕ) → LeadsLess inst (calling k back xs) (calling k back xs)
+pub calling_less : {device : Device} (inst : InstKey) (k : NodeKey) (back : ℕ) (xs : List ℕ) → LeadsLess device inst (calling k back xs) (calling k back xs)
 calling_less inst k back xs = sites_less inst k back xs xs (λ z i. i)
 
-pub returning_less : (inst : InstKey) (x : Exit) (pc : ℕ) (kind : Kind) (offset : ℕ) → LeadsLess inst (returning x pc kind offset) (returning x pc kind offset)
+pub returning_less : {device : Device} (inst : InstKey) (x : Exit) (pc : ℕ) (kind : Kind) (offset : ℕ) → LeadsLess device inst (returning x pc kind offset) (returning x pc kind offset)
 returning_less inst x pc kind (suc n) = fails_less inst (fails (UntrackedSp pc)) (UntrackedSp pc)
 returning_less inst x pc Root zero = fails_less inst (fails (UntrackedSp pc)) (UntrackedSp pc)
 returning_less inst x pc Call zero = leaves_less inst x
 returning_less inst x pc (Vector v) zero = leaves_less inst x
 
-module _ (device : Device) (k : NodeKey) (at : IsKey k) (s t : AbsState) (le : IsStateLess k.inst.kind (offset_of k.sp) s t) where
+module _ (device : Device) (k : NodeKey) (at : IsKey device k) (s t : AbsState) (le : IsStateLess k.inst.kind (offset_of k.sp) s t) where
   abbrev kind : Kind
   kind = k.inst.kind
 
-  words_less : (xs ys : List ℕ) → ((z : ℕ) → Contains xs z → Contains ys z) → ((z : ℕ) → Contains ys z → z < WORDS)
-      → LeadsLess k.inst (moves_to (map (λ a. record { key = off_table k a; state = s }) xs)) (moves_to (map (λ a. record { key = off_table k a; state = t }) ys))
+  words_less : (xs ys : List ℕ) → ((z : ℕ) → Contains xs z → Contains ys z) → ((z : ℕ) → Contains ys z → z < limit_of device)
+      → LeadsLess device k.inst (moves_to (map (λ a. record { key = off_table k a; state = s }) xs)) (moves_to (map (λ a. record { key = off_table k a; state = t }) ys))
   words_less xs ys more small =
       several_less k.inst (offset_of k.sp) (off_table k) s t xs ys more (λ z i. record { key = off_table_key k z at (small z i); same = refl; at = refl }) le
 
   abbrev IsPlace : NodeKey → Type 0
-  IsPlace j = IsKeyPlace k.inst (offset_of k.sp) j
+  IsPlace j = IsKeyPlace device k.inst (offset_of k.sp) j
 
   pub here : IsPlace k
   here = record { key = at; same = refl; at = refl }
 
   -- the key after a bit reads 0
-  pub zero_place : (may : Bool) (a b : ℕ) → IsPlace (reading_zero may k a b)
+  pub zero_place : (may : Bool) (a b : ℕ) → IsPlace (reading_zero device may k a b)
   zero_place may a b =
       record {
-        key = record { word = at.word; small = at.small; masks = without_small may (enable_of a b) k.masks at.masks; fits = at.fits; pick = at.pick };
+        key = record { word = at.word; small = at.small; masks = without_small device may (held_of device a b) k.masks at.masks; fits = at.fits; pick = at.pick };
         same = refl;
         at = refl;
       }
 
-  ways_less : (x y : Tri) (j l : NodeKey) (taken other : ℕ) → IsPlace j → IsPlace l → IsTriWithin x y → taken < WORDS → other < WORDS
-      → LeadsLess k.inst (branch_by x j l s taken other) (branch_by y j l t taken other)
+  ways_less : (x y : Tri) (j l : NodeKey) (taken other : ℕ) → IsPlace j → IsPlace l → IsTriWithin x y → taken < limit_of device → other < limit_of device
+      → LeadsLess device k.inst (branch_by x j l s taken other) (branch_by y j l t taken other)
   ways_less x y j l taken other first second within a b =
-      subst₂ (LeadsLess k.inst) (sym (branch_nodes x j l s taken other)) (sym (branch_nodes y j l t taken other))
+      subst₂ (LeadsLess device k.inst) (sym (branch_nodes x j l s taken other)) (sym (branch_nodes y j l t taken other))
       (several_less k.inst (offset_of k.sp) (λ (i : NodeKey). i) s t (choose x (off_table l other) (off_table j taken)) (choose y (off_table l other) (off_table j taken))
       (λ z. choose_more x y (off_table l other) (off_table j taken) z within)
       (choose_each IsPlace y (off_table l other) (off_table j taken) (off_place k.inst (offset_of k.sp) l other second b) (off_place k.inst (offset_of k.sp) j taken first a)) le)
 
-  pub branch_less : (x y : Tri) (taken other : ℕ) → IsTriWithin x y → taken < WORDS → other < WORDS → LeadsLess k.inst (branch x k s taken other) (branch y k t taken other)
+  pub branch_less : (x y : Tri) (taken other : ℕ) → IsTriWithin x y → taken < limit_of device → other < limit_of device → LeadsLess device k.inst (branch x k s taken other) (branch y k t taken other)
   branch_less x y taken other within a b = ways_less x y k k taken other here here within a b
 
   -- ---- branches on C
@@ -345,7 +344,7 @@ module _ (device : Device) (k : NodeKey) (at : IsKey k) (s t : AbsState) (le : I
   set_itself (x ∷ xs) (suc r) lt = ap (λ (ys : List AbsByte). x ∷ ys) (set_itself xs r (omega arith))
 
   -- the greater state isn't cut if its carry tag names no register
-  uncut : (c : CarryTag) → CarryNamesRegister c → (on : Bool) (pc : ℕ) → pc < WORDS → LeadsLess k.inst (going_where k (where_carry c s on) pc) (turning_to k t pc)
+  uncut : (c : CarryTag) → CarryNamesRegister c → (on : Bool) (pc : ℕ) → pc < limit_of device → LeadsLess device k.inst (going_where k (where_carry c s on) pc) (turning_to k t pc)
   uncut carry.None names on pc lt = turning_less device k at s t le pc lt
   uncut (carry.Borrow j l) names on pc lt = turning_less device k at s t le pc lt
   uncut (carry.Sum j l) names on pc lt = turning_less device k at s t le pc lt
@@ -354,7 +353,7 @@ module _ (device : Device) (k : NodeKey) (at : IsKey k) (s t : AbsState) (le : I
       back : record t { registers = set t r (value t r) } ≡ t
       back = ap (λ (xs : List AbsByte). record t { registers = xs }) (set_itself t.registers r (omega (arith, le.registers.others)))
 
-      by : (x : Option AbsByte) → part_of on (value s r) n ≡ x → LeadsLess k.inst (going_where k (with_value s r x) pc) (turning_to k t pc)
+      by : (x : Option AbsByte) → part_of on (value s r) n ≡ x → LeadsLess device k.inst (going_where k (with_value s r x) pc) (turning_to k t pc)
       by None e = nowhere_less k.inst _
       by (Some x) e =
           turning_less device k at (record s { registers = set s r x }) t
@@ -362,36 +361,36 @@ module _ (device : Device) (k : NodeKey) (at : IsKey k) (s t : AbsState) (le : I
           (cut_state r x (value t r) (part_under on (value s r) (value t r) n x (reg device k at s t le r) e))) pc lt
 
   -- both states are cut alike
-  both_cut : (r n : ℕ) (on : Bool) (pc : ℕ) → pc < WORDS
-      → LeadsLess k.inst (going_where k (where_carry (carry.Less r n) s on) pc) (going_where k (where_carry (carry.Less r n) t on) pc)
+  both_cut : (r n : ℕ) (on : Bool) (pc : ℕ) → pc < limit_of device
+      → LeadsLess device k.inst (going_where k (where_carry (carry.Less r n) s on) pc) (going_where k (where_carry (carry.Less r n) t on) pc)
   both_cut r n on pc lt = by (part_of on (value s r) n) (part_of on (value t r) n) (part_less on (value s r) (value t r) n (reg device k at s t le r))
     where
-      by : (x y : Option AbsByte) → IsReadLess kind x y → LeadsLess k.inst (going_where k (with_value s r x) pc) (going_where k (with_value t r y) pc)
+      by : (x y : Option AbsByte) → IsReadLess kind x y → LeadsLess device k.inst (going_where k (with_value s r x) pc) (going_where k (with_value t r y) pc)
       by None None h = nowhere_less k.inst []
       by None (Some w) h = nowhere_less k.inst _
       by (Some x) y h =
           let above = h x refl in
-          subst (λ (z : Option AbsByte). LeadsLess k.inst (going_where k (with_value s r (Some x)) pc) (going_where k (with_value t r z) pc)) (sym above.1.0)
+          subst (λ (z : Option AbsByte). LeadsLess device k.inst (going_where k (with_value s r (Some x)) pc) (going_where k (with_value t r z) pc)) (sym above.1.0)
           (turning_less device k at (record s { registers = set s r x }) (record t { registers = set t r above.0 }) (cut_state r x above.0 above.1.1) pc lt)
 
-  where_less : (c d : CarryTag) → CarryNamesRegister c → IsCarryWithin c d → (on : Bool) (pc : ℕ) → pc < WORDS
-      → LeadsLess k.inst (going_where k (where_carry c s on) pc) (going_where k (where_carry d t on) pc)
+  where_less : (c d : CarryTag) → CarryNamesRegister c → IsCarryWithin c d → (on : Bool) (pc : ℕ) → pc < limit_of device
+      → LeadsLess device k.inst (going_where k (where_carry c s on) pc) (going_where k (where_carry d t on) pc)
   where_less c carry.None names under on pc lt = uncut c names on pc lt
   where_less c (carry.Borrow j l) names under on pc lt = uncut c names on pc lt
   where_less c (carry.Sum j l) names under on pc lt = uncut c names on pc lt
   where_less c (carry.Less r n) names under on pc lt =
-      subst (λ (x : CarryTag). LeadsLess k.inst (going_where k (where_carry x s on) pc) (going_where k (where_carry (carry.Less r n) t on) pc)) (sym under) (both_cut r n on pc lt)
+      subst (λ (x : CarryTag). LeadsLess device k.inst (going_where k (where_carry x s on) pc) (going_where k (where_carry (carry.Less r n) t on) pc)) (sym under) (both_cut r n on pc lt)
 
-  carry_less : (x y : Tri) (set' clear : ℕ) → IsTriWithin x y → set' < WORDS → clear < WORDS → LeadsLess k.inst (carry_branch x k s set' clear) (carry_branch y k t set' clear)
+  carry_less : (x y : Tri) (set' clear : ℕ) → IsTriWithin x y → set' < limit_of device → clear < limit_of device → LeadsLess device k.inst (carry_branch x k s set' clear) (carry_branch y k t set' clear)
   carry_less x y set' clear within lt lt' =
       let when_set = where_less s.flags.carry t.flags.carry le.flags.names le.flags.within.carry true set' lt in
       let when_clear = where_less s.flags.carry t.flags.carry le.flags.names le.flags.within.carry false clear lt' in
       by x y within when_set when_clear
     where
       by : (x y : Tri) → IsTriWithin x y
-          → LeadsLess k.inst (going_where k (where_carry s.flags.carry s true) set') (going_where k (where_carry t.flags.carry t true) set')
-          → LeadsLess k.inst (going_where k (where_carry s.flags.carry s false) clear) (going_where k (where_carry t.flags.carry t false) clear)
-          → LeadsLess k.inst (carry_branch x k s set' clear) (carry_branch y k t set' clear)
+          → LeadsLess device k.inst (going_where k (where_carry s.flags.carry s true) set') (going_where k (where_carry t.flags.carry t true) set')
+          → LeadsLess device k.inst (going_where k (where_carry s.flags.carry s false) clear) (going_where k (where_carry t.flags.carry t false) clear)
+          → LeadsLess device k.inst (carry_branch x k s set' clear) (carry_branch y k t set' clear)
       by Zero Zero within one none = none
       by Zero One within one none = absurd (omega (arith, within 0 refl))
       by Zero Any within one none =
@@ -407,12 +406,12 @@ module _ (device : Device) (k : NodeKey) (at : IsKey k) (s t : AbsState) (le : I
           (going_where k (where_carry s.flags.carry s true) set' ∷ []) (going_where k (where_carry t.flags.carry t true) set' ∷ []) none
           (both_less k.inst (going_where k (where_carry s.flags.carry s true) set') (going_where k (where_carry t.flags.carry t true) set') [] [] one (none_less k.inst))
 
-  pub flag_less : (n set' clear : ℕ) (p q : Raw) → set' < WORDS → clear < WORDS → LeadsLess k.inst p q
-      → LeadsLess k.inst (flag_branch n k s set' clear p) (flag_branch n k t set' clear q)
+  pub flag_less : (n set' clear : ℕ) (p q : Raw) → set' < limit_of device → clear < limit_of device → LeadsLess device k.inst p q
+      → LeadsLess device k.inst (flag_branch n k s set' clear p) (flag_branch n k t set' clear q)
   flag_less n set' clear p q lt lt' other =
       if_leads k.inst (n == 0) _ _ _ _ (carry_less (carry_bit s) (carry_bit t) set' clear (any_bit_within s.flags.bits t.flags.bits 0 (flag_bits device k at s t le)) lt lt') other
 
-  pub skipping_less : (words : Program) (j l : NodeKey) (x y : Tri) → IsPlace j → IsPlace l → IsTriWithin x y → LeadsLess k.inst (skipping device words j l s x) (skipping device words j l t y)
+  pub skipping_less : (words : Program) (j l : NodeKey) (x y : Tri) → IsPlace j → IsPlace l → IsTriWithin x y → LeadsLess device k.inst (skipping device words j l s x) (skipping device words j l t y)
   skipping_less words j l x y first second within =
       ways_less x y j l (further device j (1 + length_of (word_at words (j.pc + 1)))) (further device j 1) first second within (further_small device j (1 + length_of (word_at words (j.pc + 1)))) (further_small device j 1)
 
@@ -421,39 +420,39 @@ module _ (device : Device) (k : NodeKey) (at : IsKey k) (s t : AbsState) (le : I
       if_tri_within (n == 7) (if k.i then One else Zero) (if k.i then One else Zero) (tri_at s.flags.bits n) (tri_at t.flags.bits n)
       (λ e m p. p) (λ e. any_bit_within s.flags.bits t.flags.bits n (flag_bits device k at s t le))
 
-  jumping_by : (x y : Option (List ℕ)) → AreTargetsLess x y → LeadsLess k.inst (jumping x k s) (jumping y k t)
+  jumping_by : (x y : Option (List ℕ)) → AreTargetsLess (limit_of device) x y → LeadsLess device k.inst (jumping x k s) (jumping y k t)
   jumping_by x None h = fails_less k.inst (jumping x k s) (UnresolvedJump k.pc)
   jumping_by x (Some ys) h =
       let xs = h ys refl in
-      subst (λ (z : Option (List ℕ)). LeadsLess k.inst (jumping z k s) (jumping (Some ys) k t)) (sym xs.1.0) (words_less xs.0 ys xs.1.1.0 xs.1.1.1)
+      subst (λ (z : Option (List ℕ)). LeadsLess device k.inst (jumping z k s) (jumping (Some ys) k t)) (sym xs.1.0) (words_less xs.0 ys xs.1.1.0 xs.1.1.1)
 
-  indirect_by : (x y : Option (List ℕ)) → AreTargetsLess x y → LeadsLess k.inst (indirect_call device x k) (indirect_call device y k)
+  indirect_by : (x y : Option (List ℕ)) → AreTargetsLess (limit_of device) x y → LeadsLess device k.inst (indirect_call device x k) (indirect_call device y k)
   indirect_by x None h = indirect_none x (is_half_written k.sp)
     where
-      indirect_none : (x : Option (List ℕ)) (b : Bool) → LeadsLess k.inst (indirect_call device x k) (untracked_if b k.pc (fails (UnresolvedJump k.pc)))
+      indirect_none : (x : Option (List ℕ)) (b : Bool) → LeadsLess device k.inst (indirect_call device x k) (untracked_if b k.pc (fails (UnresolvedJump k.pc)))
       indirect_none x true = λ e. absurd (not_empty (UntrackedSp k.pc) (UnresolvedJump k.pc ∷ []) e)
       indirect_none x false = fails_less k.inst (indirect_call device x k) (UnresolvedJump k.pc)
   indirect_by x (Some ys) h =
       let xs = h ys refl in
-      subst (λ (z : Option (List ℕ)). LeadsLess k.inst (indirect_call device z k) (indirect_call device (Some ys) k)) (sym xs.1.0) (sites_less k.inst k (further device k 1) xs.0 ys xs.1.1.0)
+      subst (λ (z : Option (List ℕ)). LeadsLess device k.inst (indirect_call device z k) (indirect_call device (Some ys) k)) (sym xs.1.0) (sites_less k.inst k (further device k 1) xs.0 ys xs.1.1.0)
 
-  targets : (A : List Entry) → AreTargetsLess (targets_at device A k s) (targets_at device A k t)
+  targets : (A : List Entry) → AreTargetsLess (limit_of device) (targets_at device A k s) (targets_at device A k t)
   targets A = words_targets device (bits s 30) (bits s 31) (bits t 30) (bits t 31) (reg_bits device k at s t le 30) (reg_bits device k at s t le 31) (jump_line A k.pc)
 
-  pub jump_less : (A : List Entry) → LeadsLess k.inst (jumping (targets_at device A k s) k s) (jumping (targets_at device A k t) k t)
+  pub jump_less : (A : List Entry) → LeadsLess device k.inst (jumping (targets_at device A k s) k s) (jumping (targets_at device A k t) k t)
   jump_less A = jumping_by (targets_at device A k s) (targets_at device A k t) (targets A)
 
-  pub indirect_less : (A : List Entry) → LeadsLess k.inst (indirect_call device (targets_at device A k s) k) (indirect_call device (targets_at device A k t) k)
+  pub indirect_less : (A : List Entry) → LeadsLess device k.inst (indirect_call device (targets_at device A k s) k) (indirect_call device (targets_at device A k t) k)
   indirect_less A = indirect_by (targets_at device A k s) (targets_at device A k t) (targets A)
 
   slots_at : (offset : ℕ) → k.sp ≡ Closed offset → AreSlotsLess kind offset s.slots t.slots
   slots_at offset e = subst (λ (n : ℕ). AreSlotsLess kind n s.slots t.slots) (ap offset_of e) le.slots
 
-  -- a size that fits the device fits the greatest one
-  room_small : {n : ℕ} → nat_le n (size_of device) ≡ true → n ≤ SIZE
-  room_small {n = n} e = omega (arith, leb-true n (size_of device) e, devices_are_alike.most_bytes device)
+  -- a size that fits the device is one of its texts
+  room_small : {n : ℕ} → nat_le n (size_of device) ≡ true → n ≤ depth_of device
+  room_small {n = n} e = omega (arith, leb-true n (size_of device) e, devices_are_alike.in_depth device)
 
-  pub push_less : (scratch : Bool) (r : ℕ) → LeadsLess k.inst (at_closed k.sp k.pc (pushing device scratch k s r)) (at_closed k.sp k.pc (pushing device scratch k t r))
+  pub push_less : (scratch : Bool) (r : ℕ) → LeadsLess device k.inst (at_closed k.sp k.pc (pushing device scratch k s r)) (at_closed k.sp k.pc (pushing device scratch k t r))
   push_less scratch r =
       closed_less k.inst k.sp k.pc (pushing device scratch k s r) (pushing device scratch k t r)
       (λ offset e. room_by k.inst (nat_le (offset + 1) (size_of device)) (offset + 1) k.pc _ _ (λ small.
@@ -466,7 +465,7 @@ module _ (device : Device) (k : NodeKey) (at : IsKey k) (s t : AbsState) (le : I
         facts = le.facts;
       })))
 
-  room_row : (target : ℕ) → target < WORDS → LeadsLess k.inst (at_closed k.sp k.pc (making_room device k s target)) (at_closed k.sp k.pc (making_room device k t target))
+  room_row : (target : ℕ) → target < limit_of device → LeadsLess device k.inst (at_closed k.sp k.pc (making_room device k s target)) (at_closed k.sp k.pc (making_room device k t target))
   room_row target lt =
       closed_less k.inst k.sp k.pc (making_room device k s target) (making_room device k t target)
       (λ offset e. room_by k.inst (nat_le (offset + 2) (size_of device)) (offset + 2) k.pc _ _ (λ small.
@@ -474,11 +473,11 @@ module _ (device : Device) (k : NodeKey) (at : IsKey k) (s t : AbsState) (le : I
       (record { word = lt; small = room_small small; masks = at.masks; fits = tt; pick = at.pick })
       (record { registers = le.registers; flags = le.flags; slots = room_less kind offset s.slots t.slots (slots_at offset e); facts = le.facts })))
 
-  pub relative_less : (scratch : Bool) (target : ℕ) → target < WORDS → LeadsLess k.inst (relative_call device scratch k s target) (relative_call device scratch k t target)
+  pub relative_less : (scratch : Bool) (target : ℕ) → target < limit_of device → LeadsLess device k.inst (relative_call device scratch k s target) (relative_call device scratch k t target)
   relative_less true target lt = room_row target lt
   relative_less false target lt = calling_less k.inst k (further device k 1) (target ∷ [])
 
-  pop_by : (d offset : ℕ) → k.sp ≡ Closed offset → LeadsLess k.inst (popping device k s d offset) (popping device k t d offset)
+  pop_by : (d offset : ℕ) → k.sp ≡ Closed offset → LeadsLess device k.inst (popping device k s d offset) (popping device k t d offset)
   pop_by d zero e = fails_less k.inst (fails (UntrackedSp k.pc)) (UntrackedSp k.pc)
   pop_by d (suc n) e =
       one_less (record (next device k) { sp = Closed n })
@@ -491,9 +490,9 @@ module _ (device : Device) (k : NodeKey) (at : IsKey k) (s t : AbsState) (le : I
         facts = le.facts;
       })
 
-  pub pop_less : (d : ℕ) → LeadsLess k.inst (at_closed k.sp k.pc (popping device k s d)) (at_closed k.sp k.pc (popping device k t d))
+  pub pop_less : (d : ℕ) → LeadsLess device k.inst (at_closed k.sp k.pc (popping device k s d)) (at_closed k.sp k.pc (popping device k t d))
   pop_less d = closed_less k.inst k.sp k.pc (popping device k s d) (popping device k t d) (pop_by d)
 
-  pub return_less : (x : Exit) → LeadsLess k.inst (at_closed k.sp k.pc (returning x k.pc k.inst.kind)) (at_closed k.sp k.pc (returning x k.pc k.inst.kind))
+  pub return_less : (x : Exit) → LeadsLess device k.inst (at_closed k.sp k.pc (returning x k.pc k.inst.kind)) (at_closed k.sp k.pc (returning x k.pc k.inst.kind))
   return_less x =
       closed_less k.inst k.sp k.pc (returning x k.pc k.inst.kind) (returning x k.pc k.inst.kind) (λ offset e. returning_less k.inst x k.pc k.inst.kind offset)

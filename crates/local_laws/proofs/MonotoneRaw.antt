@@ -1,11 +1,11 @@
 -- A lesser and a greater node: each successor of the lesser is a node, and below one of the greater.
-use Rattle.std.proofs.Common.{◌≡◌, refl, sym, subst, ℕ, ◌<◌, ⊎_elim, Bool, true, false, cond, List, [], ◌∷◌, ◌++◌, map, filter, None, if◌then◌else◌, Contains, arith, ◌+◌}
+use Rattle.std.proofs.Common.{◌≡◌, refl, sym, subst, ℕ, ◌<◌, ◌≤◌, ⊎_elim, Bool, true, false, cond, List, [], ◌∷◌, ◌++◌, map, filter, None, if◌then◌else◌, Contains, arith, ◌+◌}
 use Rattle.std.proofs.lemmas.List.Elements.{Contains-append_left, Contains-append_right, Contains-append_cases}
 use Rattle.basics.specs.Items.{none_in, first_in, further_in}
 use Rattle.basics.specs.Lists.{both_empty}
 use Rattle.avr_model.proofs.AllLaws.{devices_are_alike}
 use Rattle.avr_model.specs.declared.device.Device.{Device}
-use Rattle.avr_model.specs.Image.{WORDS}
+use Rattle.avr_model.specs.Devices.{words_of, wrapped, limit_of}
 use Rattle.bit_domain.specs.declared.bits.Tri.{Tri}
 use Rattle.bit_domain.specs.declared.bits.Tri.TheVariants.{Zero, One, Any}
 use Rattle.bit_domain.specs.Tri.{IsTriWithin}
@@ -30,35 +30,35 @@ use Rattle.local_laws.proofs.MonotoneValues.{AreFlagsLess, AreRegistersLess, IsS
 -- ---- definitions
 
 -- the node is one of the analysis, in this instance, and below one of these
-pub record IsMetAbove (inst : InstKey) (nodes : List Node) (to : Node) : Type 0 where
+pub record IsMetAbove (device : Device) (inst : InstKey) (nodes : List Node) (to : Node) : Type 0 where
   pub same : to.key.inst ≡ inst
-  pub node : IsBare to.key to.state
+  pub node : IsBare device to.key to.state
   pub below : IsBelowOne nodes to
 
-pub record LeadsUpTo (inst : InstKey) (a b : Raw) : Type 0 where
+pub record LeadsUpTo (device : Device) (inst : InstKey) (a b : Raw) : Type 0 where
   pub faultless : a.faults ≡ []
-  pub moves : (to : Node) → Contains a.moves to → IsMetAbove inst b.moves to
+  pub moves : (to : Node) → Contains a.moves to → IsMetAbove device inst b.moves to
   pub calls : (site : CallSite) → Contains a.calls site → Contains b.calls site
   pub exit : a.exit ≡ b.exit
 
 -- if the greater has no fault, the lesser has none and no more successors
-abbrev pub LeadsLess : InstKey → Raw → Raw → Type 0
-LeadsLess inst a b = b.faults ≡ [] → LeadsUpTo inst a b
+abbrev pub LeadsLess : Device → InstKey → Raw → Raw → Type 0
+LeadsLess device inst a b = b.faults ≡ [] → LeadsUpTo device inst a b
 
 -- ---- faults
 
-pub fails_less : (inst : InstKey) (a : Raw) (f : NodeFault) → LeadsLess inst a (fails f)
+pub fails_less : {device : Device} (inst : InstKey) (a : Raw) (f : NodeFault) → LeadsLess device inst a (fails f)
 fails_less inst a f e = absurd (not_empty f [] e)
 
-pub too_deep_less : (inst : InstKey) (b : Bool) (pc offset : ℕ) (p q : Raw) → LeadsLess inst p q → LeadsLess inst (too_deep_if b pc offset p) (too_deep_if b pc offset q)
+pub too_deep_less : {device : Device} (inst : InstKey) (b : Bool) (pc offset : ℕ) (p q : Raw) → LeadsLess device inst p q → LeadsLess device inst (too_deep_if b pc offset p) (too_deep_if b pc offset q)
 too_deep_less inst true pc offset p q h e = absurd (not_empty (TooDeep pc offset) q.faults e)
 too_deep_less inst false pc offset p q h e = h e
 
-pub untracked_less : (inst : InstKey) (b : Bool) (pc : ℕ) (p q : Raw) → LeadsLess inst p q → LeadsLess inst (untracked_if b pc p) (untracked_if b pc q)
+pub untracked_less : {device : Device} (inst : InstKey) (b : Bool) (pc : ℕ) (p q : Raw) → LeadsLess device inst p q → LeadsLess device inst (untracked_if b pc p) (untracked_if b pc q)
 untracked_less inst true pc p q h e = absurd (not_empty (UntrackedSp pc) q.faults e)
 untracked_less inst false pc p q h e = h e
 
-pub if_leads : (inst : InstKey) (b : Bool) (p p' q q' : Raw) → LeadsLess inst p q → LeadsLess inst p' q' → LeadsLess inst (if b then p else p') (if b then q else q')
+pub if_leads : {device : Device} (inst : InstKey) (b : Bool) (p p' q q' : Raw) → LeadsLess device inst p q → LeadsLess device inst p' q' → LeadsLess device inst (if b then p else p') (if b then q else q')
 if_leads inst true p p' q q' h k = h
 if_leads inst false p p' q q' h k = k
 
@@ -68,23 +68,23 @@ abbrev pub nodes_at : {A : Type 0} → (A → NodeKey) → AbsState → List A �
 nodes_at f s xs = map (λ x. record { key = f x; state = s }) xs
 
 -- a key of this instance, with this offset
-pub record IsKeyPlace (inst : InstKey) (offset : ℕ) (k : NodeKey) : Type 0 where
-  pub key : IsKey k
+pub record IsKeyPlace (device : Device) (inst : InstKey) (offset : ℕ) (k : NodeKey) : Type 0 where
+  pub key : IsKey device k
   pub same : k.inst ≡ inst
   pub at : offset_of k.sp ≡ offset
 
-place_node : (inst : InstKey) (offset : ℕ) (k : NodeKey) (s t : AbsState) → IsKeyPlace inst offset k → IsStateLess inst.kind offset s t → IsBare k s
+place_node : {device : Device} (inst : InstKey) (offset : ℕ) (k : NodeKey) (s t : AbsState) → IsKeyPlace device inst offset k → IsStateLess inst.kind offset s t → IsBare device k s
 place_node inst offset k s t at le =
     let same : IsStateLess k.inst.kind offset s t = subst (λ (i : InstKey). IsStateLess i.kind offset s t) (sym at.same) le in
     less_node k s t at.key.word at.key.small at.key.masks at.key.fits at.key.pick (subst (λ (n : ℕ). IsStateLess k.inst.kind n s t) (sym at.at) same)
 
-pub several_less : {A : Type 0} (inst : InstKey) (offset : ℕ) (f : A → NodeKey) (s t : AbsState) (xs ys : List A)
-    → ((x : A) → Contains xs x → Contains ys x) → ((x : A) → Contains ys x → IsKeyPlace inst offset (f x)) → IsStateLess inst.kind offset s t
-    → LeadsLess inst (moves_to (nodes_at f s xs)) (moves_to (nodes_at f t ys))
-several_less {A = A} inst offset f s t xs ys more places le e =
+pub several_less : {device : Device} {A : Type 0} (inst : InstKey) (offset : ℕ) (f : A → NodeKey) (s t : AbsState) (xs ys : List A)
+    → ((x : A) → Contains xs x → Contains ys x) → ((x : A) → Contains ys x → IsKeyPlace device inst offset (f x)) → IsStateLess inst.kind offset s t
+    → LeadsLess device inst (moves_to (nodes_at f s xs)) (moves_to (nodes_at f t ys))
+several_less {device = device} {A = A} inst offset f s t xs ys more places le e =
     record {
       faultless = refl;
-      moves = each_in_map (λ (x : A). record { key = f x; state = s }) (IsMetAbove inst (nodes_at f t ys)) xs (λ x i. record {
+      moves = each_in_map (λ (x : A). record { key = f x; state = s }) (IsMetAbove device inst (nodes_at f t ys)) xs (λ x i. record {
         same = (places x (more x i)).same;
         node = place_node inst offset (f x) s t (places x (more x i)) le;
         below = record {
@@ -98,10 +98,10 @@ several_less {A = A} inst offset f s t xs ys more places le e =
     }
 
 -- one node of the same instance
-pub one_less : (k : NodeKey) (s t : AbsState) → IsKey k → IsStateLess k.inst.kind (offset_of k.sp) s t → LeadsLess k.inst (one k s) (one k t)
-one_less k s t at le =
+pub one_less : {device : Device} (k : NodeKey) (s t : AbsState) → IsKey device k → IsStateLess k.inst.kind (offset_of k.sp) s t → LeadsLess device k.inst (one k s) (one k t)
+one_less {device = device} k s t at le =
     several_less k.inst (offset_of k.sp) (λ (x : NodeKey). x) s t (k ∷ []) (k ∷ []) (λ x i. i)
-    (each_of (IsKeyPlace k.inst (offset_of k.sp)) k [] (record { key = at; same = refl; at = refl }) (λ x i. absurd (none_in x i))) le
+    (each_of (IsKeyPlace device k.inst (offset_of k.sp)) k [] (record { key = at; same = refl; at = refl }) (λ x i. absurd (none_in x i))) le
 
 -- the second, the first, or both
 abbrev pub choose : {A : Type 0} → Tri → A → A → List A
@@ -126,20 +126,20 @@ choose_each P One x y p q = each_of P y [] q (λ z i. absurd (none_in z i))
 choose_each P Any x y p q = each_of P x (y ∷ []) p (each_of P y [] q (λ z i. absurd (none_in z i)))
 
 -- no successor is below any that only continues
-pub nowhere_less : (inst : InstKey) (nodes : List Node) → LeadsLess inst nowhere (moves_to nodes)
+pub nowhere_less : {device : Device} (inst : InstKey) (nodes : List Node) → LeadsLess device inst nowhere (moves_to nodes)
 nowhere_less inst nodes e = record { faultless = refl; moves = λ to i. absurd (none_in to i); calls = λ site i. i; exit = refl }
 
 -- ---- calls and returns
 
-pub enters_less : (inst : InstKey) (xs ys : List CallSite) → ((x : CallSite) → Contains xs x → Contains ys x) → LeadsLess inst (enters xs) (enters ys)
+pub enters_less : {device : Device} (inst : InstKey) (xs ys : List CallSite) → ((x : CallSite) → Contains xs x → Contains ys x) → LeadsLess device inst (enters xs) (enters ys)
 enters_less inst xs ys more e = record { faultless = refl; moves = λ to i. absurd (none_in to i); calls = more; exit = refl }
 
-pub leaves_less : (inst : InstKey) (x : Exit) → LeadsLess inst (leaves_by x) (leaves_by x)
+pub leaves_less : {device : Device} (inst : InstKey) (x : Exit) → LeadsLess device inst (leaves_by x) (leaves_by x)
 leaves_less inst x e = record { faultless = refl; moves = λ to i. absurd (none_in to i); calls = λ site i. i; exit = refl }
 
 -- ---- the moves and faults of several
 
-pub met_left : (inst : InstKey) (xs ys : List Node) (to : Node) → IsMetAbove inst xs to → IsMetAbove inst (xs ++ ys) to
+pub met_left : {device : Device} (inst : InstKey) (xs ys : List Node) (to : Node) → IsMetAbove device inst xs to → IsMetAbove device inst (xs ++ ys) to
 met_left inst xs ys to h =
     record {
       same = h.same;
@@ -147,7 +147,7 @@ met_left inst xs ys to h =
       below = record { state = h.below.state; present = Contains-append_left xs ys (record { key = to.key; state = h.below.state }) h.below.present; above = h.below.above };
     }
 
-pub met_right : (inst : InstKey) (xs ys : List Node) (to : Node) → IsMetAbove inst ys to → IsMetAbove inst (xs ++ ys) to
+pub met_right : {device : Device} (inst : InstKey) (xs ys : List Node) (to : Node) → IsMetAbove device inst ys to → IsMetAbove device inst (xs ++ ys) to
 met_right inst xs ys to h =
     record {
       same = h.same;
@@ -155,19 +155,19 @@ met_right inst xs ys to h =
       below = record { state = h.below.state; present = Contains-append_right xs ys (record { key = to.key; state = h.below.state }) h.below.present; above = h.below.above };
     }
 
-pub above_first : (inst : InstKey) (nodes : List Node) (q : Raw) (qs : List Raw) → LeadsLess inst (moves_to nodes) q → LeadsLess inst (moves_to nodes) (all_of (q ∷ qs))
+pub above_first : {device : Device} (inst : InstKey) (nodes : List Node) (q : Raw) (qs : List Raw) → LeadsLess device inst (moves_to nodes) q → LeadsLess device inst (moves_to nodes) (all_of (q ∷ qs))
 above_first inst nodes q qs h e =
     let none = both_empty q.faults (all_of qs).faults e in
     let a = h none.0 in
     record { faultless = refl; moves = λ to i. met_left inst q.moves (all_of qs).moves to (a.moves to i); calls = λ site i. i; exit = refl }
 
-pub above_rest : (inst : InstKey) (nodes : List Node) (q : Raw) (qs : List Raw) → LeadsLess inst (moves_to nodes) (all_of qs) → LeadsLess inst (moves_to nodes) (all_of (q ∷ qs))
+pub above_rest : {device : Device} (inst : InstKey) (nodes : List Node) (q : Raw) (qs : List Raw) → LeadsLess device inst (moves_to nodes) (all_of qs) → LeadsLess device inst (moves_to nodes) (all_of (q ∷ qs))
 above_rest inst nodes q qs h e =
     let none = both_empty q.faults (all_of qs).faults e in
     let a = h none.1 in
     record { faultless = refl; moves = λ to i. met_right inst q.moves (all_of qs).moves to (a.moves to i); calls = λ site i. i; exit = refl }
 
-pub none_less : (inst : InstKey) → LeadsLess inst (all_of []) (all_of [])
+pub none_less : {device : Device} (inst : InstKey) → LeadsLess device inst (all_of []) (all_of [])
 none_less inst = nowhere_less inst []
 
 pub no_calls : (rs : List Raw) → (all_of rs).calls ≡ []
@@ -178,7 +178,7 @@ pub no_exit : (rs : List Raw) → (all_of rs).exit ≡ None
 no_exit [] = refl
 no_exit (r ∷ rs) = refl
 
-pub both_less : (inst : InstKey) (p q : Raw) (ps qs : List Raw) → LeadsLess inst p q → LeadsLess inst (all_of ps) (all_of qs) → LeadsLess inst (all_of (p ∷ ps)) (all_of (q ∷ qs))
+pub both_less : {device : Device} (inst : InstKey) (p q : Raw) (ps qs : List Raw) → LeadsLess device inst p q → LeadsLess device inst (all_of ps) (all_of qs) → LeadsLess device inst (all_of (p ∷ ps)) (all_of (q ∷ qs))
 both_less inst p q ps qs first rest e =
     let none = both_empty q.faults (all_of qs).faults e in
     let a = first none.0 in
@@ -194,7 +194,7 @@ both_less inst p q ps qs first rest e =
     }
 
 -- the greater has one more successor
-pub more_less : (inst : InstKey) (q : Raw) (ps qs : List Raw) → LeadsLess inst (all_of ps) (all_of qs) → LeadsLess inst (all_of ps) (all_of (q ∷ qs))
+pub more_less : {device : Device} (inst : InstKey) (q : Raw) (ps qs : List Raw) → LeadsLess device inst (all_of ps) (all_of qs) → LeadsLess device inst (all_of ps) (all_of (q ∷ qs))
 more_less inst q ps qs rest e =
     let none = both_empty q.faults (all_of qs).faults e in
     let b = rest none.1 in
@@ -206,15 +206,15 @@ more_less inst q ps qs rest e =
     }
 
 -- the items that pass a test, if the greater's test is weaker
-pub filtered_less : {A : Type 0} (inst : InstKey) (f g : A → Raw) (p q : A → Bool) (xs : List A)
-    → ((x : A) → Contains xs x → LeadsLess inst (f x) (g x)) → ((x : A) → Contains xs x → p x ≡ true → q x ≡ true)
-    → LeadsLess inst (all_of (map f (filter p xs))) (all_of (map g (filter q xs)))
-filtered_less inst f g p q [] each more = none_less inst
-filtered_less {A = A} inst f g p q (x ∷ xs) each more =
+pub filtered_less : {device : Device} {A : Type 0} (inst : InstKey) (f g : A → Raw) (p q : A → Bool) (xs : List A)
+    → ((x : A) → Contains xs x → LeadsLess device inst (f x) (g x)) → ((x : A) → Contains xs x → p x ≡ true → q x ≡ true)
+    → LeadsLess device inst (all_of (map f (filter p xs))) (all_of (map g (filter q xs)))
+filtered_less {device = device} inst f g p q [] each more = none_less inst
+filtered_less {device = device} {A = A} inst f g p q (x ∷ xs) each more =
     by (filtered_less inst f g p q xs (λ y i. each y (further_in x y xs i)) (λ y i. more y (further_in x y xs i))) (p x) (q x) (more x (first_in x xs))
   where
-    by : LeadsLess inst (all_of (map f (filter p xs))) (all_of (map g (filter q xs))) → (a b : Bool) → (a ≡ true → b ≡ true)
-        → LeadsLess inst (all_of (map f (cond a (x ∷ filter p xs) (filter p xs)))) (all_of (map g (cond b (x ∷ filter q xs) (filter q xs))))
+    by : LeadsLess device inst (all_of (map f (filter p xs))) (all_of (map g (filter q xs))) → (a b : Bool) → (a ≡ true → b ≡ true)
+        → LeadsLess device inst (all_of (map f (cond a (x ∷ filter p xs) (filter p xs)))) (all_of (map g (cond b (x ∷ filter q xs) (filter q xs))))
     by rest true true k = both_less inst (f x) (g x) (map f (filter p xs)) (map g (filter q xs)) (each x (first_in x xs)) rest
     by rest true false k = let e : false ≡ true = k refl in absurd (cc)
     by rest false true k = more_less inst (g x) (map f (filter p xs)) (map g (filter q xs)) rest
@@ -222,32 +222,39 @@ filtered_less {A = A} inst f g p q (x ∷ xs) each more =
 
 -- ---- going on
 
-pub further_small : (device : Device) (k : NodeKey) (n : ℕ) → further device k n < WORDS
-further_small device k n = devices_are_alike.most device (k.pc + n)
+-- a word of the device's flash is one of its texts
+pub wrapped_small : (device : Device) (a : ℕ) → wrapped device a < limit_of device
+wrapped_small device a = through (wrapped device a) (words_of device) (limit_of device) (devices_are_alike.inside device a) (devices_are_alike.in_limit device)
+  where
+    through : (x y z : ℕ) → x < y → y ≤ z → x < z
+    through x y z lt le = omega arith
+
+pub further_small : (device : Device) (k : NodeKey) (n : ℕ) → further device k n < limit_of device
+further_small device k n = wrapped_small device (k.pc + n)
 
 -- at another word
-pub word_key : (k : NodeKey) (pc : ℕ) → IsKey k → pc < WORDS → IsKey (at_word k pc)
+pub word_key : {device : Device} (k : NodeKey) (pc : ℕ) → IsKey device k → pc < limit_of device → IsKey device (at_word k pc)
 word_key k pc at lt = record { word = lt; small = at.small; masks = at.masks; fits = at.fits; pick = at.pick }
 
 -- at another word, without a pick
-pub off_table_key : (k : NodeKey) (pc : ℕ) → IsKey k → pc < WORDS → IsKey (off_table k pc)
+pub off_table_key : {device : Device} (k : NodeKey) (pc : ℕ) → IsKey device k → pc < limit_of device → IsKey device (off_table k pc)
 off_table_key k pc at lt = record { word = lt; small = at.small; masks = at.masks; fits = at.fits; pick = tt }
 
-pub next_key : (device : Device) (k : NodeKey) → IsKey k → IsKey (next device k)
+pub next_key : (device : Device) (k : NodeKey) → IsKey device k → IsKey device (next device k)
 next_key device k at = word_key k (further device k 1) at (further_small device k 1)
 
-module _ (device : Device) (k : NodeKey) (at : IsKey k) (s t : AbsState) (le : IsStateLess k.inst.kind (offset_of k.sp) s t) where
-  pub going_less : (pc : ℕ) → pc < WORDS → LeadsLess k.inst (going_to k s pc) (going_to k t pc)
+module _ (device : Device) (k : NodeKey) (at : IsKey device k) (s t : AbsState) (le : IsStateLess k.inst.kind (offset_of k.sp) s t) where
+  pub going_less : (pc : ℕ) → pc < limit_of device → LeadsLess device k.inst (going_to k s pc) (going_to k t pc)
   going_less pc lt = one_less (at_word k pc) s t (word_key k pc at lt) le
 
-  pub turning_less : (pc : ℕ) → pc < WORDS → LeadsLess k.inst (turning_to k s pc) (turning_to k t pc)
+  pub turning_less : (pc : ℕ) → pc < limit_of device → LeadsLess device k.inst (turning_to k s pc) (turning_to k t pc)
   turning_less pc lt = one_less (off_table k pc) s t (off_table_key k pc at lt) le
 
-  pub on_less : LeadsLess k.inst (going_on device k s) (going_on device k t)
+  pub on_less : LeadsLess device k.inst (going_on device k s) (going_on device k t)
   on_less = going_less (further device k 1) (further_small device k 1)
 
   pub setting_less : (vs ws : List AbsByte) (f g : AbsFlags) → AreRegistersLess k.inst.kind vs ws → AreFlagsLess k.inst.kind f g
-      → LeadsLess k.inst (setting device k s vs f) (setting device k t ws g)
+      → LeadsLess device k.inst (setting device k s vs f) (setting device k t ws g)
   setting_less vs ws f g values flags =
       one_less (next device k) (record s { registers = vs; flags = f }) (record t { registers = ws; flags = g }) (next_key device k at)
       (record { registers = values; flags = flags; slots = le.slots; facts = le.facts })

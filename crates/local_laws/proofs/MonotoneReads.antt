@@ -3,10 +3,10 @@ use Rattle.std.proofs.Common.{◌≡◌, refl, sym, ap, ◌∙◌, subst, subst�
 use Rattle.std.specs.Int.{from_bool}
 use Rattle.local_rules.specs.Cover.{IsKey}
 use Rattle.abs_alu.proofs.AllLaws.{same_within}
-use Rattle.avr_model.specs.Devices.{Program, words_of, ramend, device_of}
+use Rattle.avr_model.specs.Devices.{Program, words_of, io_end, ramend, device_of}
 use Rattle.avr_model.specs.declared.device.Device.{Device}
 use Rattle.avr_model.specs.Image.{byte_at}
-use Rattle.avr_model.specs.State.{BELOW, SPL, SPH, SREG, low, high}
+use Rattle.avr_model.specs.State.{SPL, SPH, SREG, low, high}
 use Rattle.bit_domain.specs.Tri.{tri_bit}
 use Rattle.bit_domain.specs.TriByte.{byte_any, byte_known, byte_constant}
 use Rattle.bit_domain.specs.Ranges.{ByteSet, IsSetWithin, set_meet}
@@ -179,7 +179,7 @@ flash_less kind words f (Some z) h =
     subst (λ (x : Option ℕ). IsLess kind (flash_value words x) (flash_value words (Some z))) (sym (h z refl))
     (value_same kind (flash_value words (Some z)) (none_tag_of kind _ (flash_tag words (Some z))) (flash_fits words (Some z)))
 
-module _ (device : Device) (k : NodeKey) (at : IsKey k) (s t : AbsState) (le : IsStateLess k.inst.kind (offset_of k.sp) s t) where
+module _ (device : Device) (k : NodeKey) (at : IsKey device k) (s t : AbsState) (le : IsStateLess k.inst.kind (offset_of k.sp) s t) where
   abbrev kind : Kind
   kind = k.inst.kind
 
@@ -203,15 +203,15 @@ module _ (device : Device) (k : NodeKey) (at : IsKey k) (s t : AbsState) (le : I
   pointed_frames r up = tells_by (lowered up) refl (frame_of (value s r).tag (value s (r + 1)).tag) (frame_of (value t r).tag (value t (r + 1)).tag) (frames r)
 
   pub loading_less : (vs ws : List AbsByte) (d : ℕ) (x y : Option AbsByte) → AreRegistersLess kind vs ws → IsReadLess kind x y
-      → LeadsLess k.inst (loading device k s vs d x) (loading device k t ws d y)
+      → LeadsLess device k.inst (loading device k s vs d x) (loading device k t ws d y)
   loading_less vs ws d None None registers h = nowhere_less k.inst []
   loading_less vs ws d None (Some w) registers h = nowhere_less k.inst _
   loading_less vs ws d (Some v) y registers h =
       let above = h v refl in
-      subst (λ (z : Option AbsByte). LeadsLess k.inst (loading device k s vs d (Some v)) (loading device k t ws d z)) (sym above.1.0)
+      subst (λ (z : Option AbsByte). LeadsLess device k.inst (loading device k s vs d (Some v)) (loading device k t ws d z)) (sym above.1.0)
       (setting_less device k at s t le (slice_set vs d v) (slice_set ws d above.0) s.flags t.flags (registers_set kind vs ws registers d v above.0 above.1.1) le.flags)
 
-module _ (device : Device) (may : Bool) (k : NodeKey) (at : IsKey k) (s t : AbsState) (le : IsStateLess k.inst.kind (offset_of k.sp) s t) where
+module _ (device : Device) (may : Bool) (k : NodeKey) (at : IsKey device k) (s t : AbsState) (le : IsStateLess k.inst.kind (offset_of k.sp) s t) where
   pub read_less : (a : ℕ) → IsLess k.inst.kind (read_at device may k s a) (read_at device may k t a)
   unfolding read_at
   read_less a =
@@ -219,13 +219,13 @@ module _ (device : Device) (may : Bool) (k : NodeKey) (at : IsKey k) (s t : AbsS
       (if_less k.inst.kind (a == SPL) _ _ _ _ (sp_low_less device k.inst.kind k.sp)
       (if_less k.inst.kind (a == SPH) _ _ _ _ (sp_high_less device k.inst.kind k.sp)
       (if_less k.inst.kind (a == SREG) _ _ _ _ (sreg_less k s t le.flags)
-      (if_less k.inst.kind (nat_le a BELOW) _ _ _ _ (untagged_less k.inst.kind (io_bits may k.masks a) (io_bits may k.masks a) (same_within (io_bits may k.masks a)))
+      (if_less k.inst.kind (nat_le a (io_end device)) _ _ _ _ (untagged_less k.inst.kind (io_bits device may k.masks a) (io_bits device may k.masks a) (same_within (io_bits device may k.masks a)))
       (slot_less device k.inst.kind s t a (slot device k at s t le))))))
 
   -- by the number alone
   number_less : (a : ℕ) → IsLess k.inst.kind (read_number device may k s a) (read_number device may k t a)
   number_less a =
-      if_less k.inst.kind (nat_le a BELOW) _ _ _ _ (untagged_less k.inst.kind (read_at device may k s a).bits (read_at device may k t a).bits (read_less a).within.bits) (range_less k.inst.kind (read_at device may k s a) (read_at device may k t a) (read_less a))
+      if_less k.inst.kind (nat_le a (io_end device)) _ _ _ _ (untagged_less k.inst.kind (read_at device may k s a).bits (read_at device may k t a).bits (read_less a).within.bits) (range_less k.inst.kind (read_at device may k s a) (read_at device may k t a) (read_less a))
 
   constant_less : (f g : Option ℕ) → IsSameWhere f g → IsLess k.inst.kind (read_constant device may k s f) (read_constant device may k t g)
   constant_less None None h = unknown_same k.inst.kind
@@ -242,7 +242,7 @@ module _ (device : Device) (may : Bool) (k : NodeKey) (at : IsKey k) (s t : AbsS
       (meet_both k.inst.kind (read_number device may k s a) (read_number device may k t a) v w le (number_less a))
 
   number_tag : (a : ℕ) → (read_number device may k t a).tag ≡ tag.None
-  number_tag a = by (nat_le a BELOW)
+  number_tag a = by (nat_le a (io_end device))
     where
       by : (b : Bool) → (if b then untagged (read_at device may k t a).bits else valued tag.None (set_of (read_at device may k t a))).tag ≡ tag.None
       by true = refl

@@ -1,7 +1,6 @@
 -- The instruction table, row by row, is monotone.
 use Rattle.std.proofs.Common.{ℕ, ◌+◌, ◌*◌, ◌<◌, ◌==◌, Bool, true, false, List, [], ◌∷◌, if◌then◌else◌, arith}
 use Rattle.local_rules.specs.Cover.{IsKey}
-use Rattle.avr_model.proofs.AllLaws.{devices_are_alike}
 use Rattle.avr_model.specs.Devices.{Program, wrapped}
 use Rattle.avr_model.specs.declared.device.Device.{Device}
 use Rattle.avr_model.specs.declared.assumption.Entry.{Entry}
@@ -15,7 +14,8 @@ use Rattle.avr_model.specs.declared.instruction.Pointer.{Pointer}
 use Rattle.avr_model.specs.declared.instruction.Pointer.TheVariants as pointer
 use Rattle.avr_model.specs.declared.operation.Logic.TheVariants as logic
 use Rattle.avr_model.specs.declared.operation.Mul.TheVariants as product
-use Rattle.avr_model.specs.Assumptions.{is_frame, has_masks}
+use Rattle.avr_model.specs.Assumptions.{is_frame}
+use Rattle.avr_model.specs.Masks.{reads_masks}
 use Rattle.avr_model.specs.Text.{far, near}
 use Rattle.avr_model.specs.Sites.{base_register, pointer_register}
 use Rattle.avr_model.specs.Effects.{port}
@@ -23,6 +23,7 @@ use Rattle.bit_domain.specs.declared.bits.Tri.TheVariants.{Zero, One}
 use Rattle.bit_domain.specs.Tri.{IsTriWithin, tri_not}
 use Rattle.bit_domain.specs.TriByte.{tri_at, byte_constant}
 use Rattle.bit_domain.specs.Logic.{byte_equal}
+use Rattle.abs_alu.proofs.AllLaws.{same_within}
 use Rattle.bit_domain.proofs.AllLaws.{bits_cover, writes_cover, logic_is_monotone}
 use Rattle.abs_state.specs.declared.state.AbsState.{AbsState}
 use Rattle.mask_states.specs.declared.keys.NodeKey.{NodeKey}
@@ -31,11 +32,11 @@ use Rattle.mask_states.specs.Keys.{offset_of}
 use Rattle.local_rules.specs.Raw.{Raw, at_word, next, further}
 use Rattle.local_rules.specs.Registers.{value, bits, carry_bit, set, less_than, less_kept, or_nothing, pair_moved, going_by, binary_after}
 use Rattle.local_rules.specs.FrameLines.{is_followed, framed_binary}
-use Rattle.local_rules.specs.Reads.{read_at, pointed, pair_constant}
+use Rattle.local_rules.specs.Reads.{read_at, pointed, pair_constant, kept_bits}
 use Rattle.local_rules.specs.Flow.{skipping, reading_zero, flag_at, ret_exit, reti_exit}
 use Rattle.local_rules.specs.Local.{binary_row, step_before, pointer_moved, bit_row, row_of}
-use Rattle.local_laws.proofs.MonotoneValues.{AreRegistersLess, IsStateLess, any_bit_within, constant_is, constant_tells, untagged_less, registers_set}
-use Rattle.local_laws.proofs.MonotoneRaw.{LeadsLess, further_small, word_key, next_key, going_less, on_less, setting_less}
+use Rattle.local_laws.proofs.MonotoneValues.{unknown_same, AreRegistersLess, IsStateLess, any_bit_within, constant_is, constant_tells, untagged_less, registers_set}
+use Rattle.local_laws.proofs.MonotoneRaw.{LeadsLess, further_small, wrapped_small, word_key, next_key, going_less, on_less, setting_less}
 use Rattle.local_laws.proofs.MonotoneAlu.{with_7, pair_set, reg, reg_bits, flag_bits, kept_flags, setting_flags, setting_register, sum_less, compare_less, sub_less, sbc_less, or_nothing_within, logic_less, than_of, than_within, kept_of, kept_within, product_less, pair_less, wide_less, flag_less as one_flag_less}
 use Rattle.local_laws.proofs.FrameMonotone.{add_less, adc_less, framed_sub_less, immediate_line_less, unary_line_less}
 use Rattle.local_laws.proofs.MonotonePermits.{IsPairWithin}
@@ -57,7 +58,7 @@ pointer_small pointer.X = omega arith
 pointer_small pointer.XPlus = omega arith
 pointer_small pointer.MinusX = omega arith
 
-module _ (device : Device) (words : Program) (A : List Entry) (k : NodeKey) (at : IsKey k) (s t : AbsState) (le : IsStateLess k.inst.kind (offset_of k.sp) s t) where
+module _ (device : Device) (words : Program) (A : List Entry) (k : NodeKey) (at : IsKey device k) (s t : AbsState) (le : IsStateLess k.inst.kind (offset_of k.sp) s t) where
   abbrev kind : Kind
   kind = k.inst.kind
 
@@ -67,7 +68,7 @@ module _ (device : Device) (words : Program) (A : List Entry) (k : NodeKey) (at 
   register_bit : (r b : ℕ) → IsTriWithin (tri_at (bits s r) b) (tri_at (bits t r) b)
   register_bit r b = any_bit_within (bits s r) (bits t r) b (reg_bits device k at s t le r)
 
-  binary_less : (op : BinaryOp) (d r : ℕ) → d < 32 → LeadsLess k.inst (binary_row device words false k s op d r) (binary_row device words false k t op d r)
+  binary_less : (op : BinaryOp) (d r : ℕ) → d < 32 → LeadsLess device k.inst (binary_row device words false k s op d r) (binary_row device words false k t op d r)
   binary_less binary.Cpc d r low =
       compare_less device k at s t le (bits s d) (bits t d) (bits s r) (bits t r) (carry_bit s) (carry_bit t) true
       (less_kept (byte_constant (bits s d)) (byte_constant (bits s r)) s.flags.carry) (less_kept (byte_constant (bits t d)) (byte_constant (bits t r)) t.flags.carry)
@@ -105,7 +106,7 @@ module _ (device : Device) (words : Program) (A : List Entry) (k : NodeKey) (at 
   abbrev row_by : Bool → AbsState → BinaryOp → ℕ → ℕ → Raw
   row_by framed u op d r = going_by device k u (if framed then framed_binary u op d r else binary_after u op d r) (skipping device words k k u (byte_equal (bits u d) (bits u r)))
 
-  binary_line_less : (framed : Bool) (op : BinaryOp) (d r : ℕ) → d < 32 → LeadsLess k.inst (row_by framed s op d r) (row_by framed t op d r)
+  binary_line_less : (framed : Bool) (op : BinaryOp) (d r : ℕ) → d < 32 → LeadsLess device k.inst (row_by framed s op d r) (row_by framed t op d r)
   binary_line_less false op d r low = binary_less op d r low
   binary_line_less true binary.Cpc d r low = binary_less binary.Cpc d r low
   binary_line_less true binary.Sbc d r low = binary_less binary.Sbc d r low
@@ -134,13 +135,13 @@ module _ (device : Device) (words : Program) (A : List Entry) (k : NodeKey) (at 
   moved_less pointer.MinusX = pair_less device k at s t le 26 false 1
 
   abbrev may : Bool
-  may = has_masks A
+  may = reads_masks device A
 
-  bit_less : (a b : ℕ) (on : Bool) → LeadsLess k.inst (bit_row device k s a b on) (bit_row device k t a b on)
+  bit_less : (a b : ℕ) (on : Bool) → LeadsLess device k.inst (bit_row device k s a b on) (bit_row device k t a b on)
   bit_less a b on =
       write_less device (next device k) (next_key device k at) s t le k.pc false a _ _
-      (untagged_less kind _ _ (writes_cover.more (read_at device false k s a).bits (read_at device false k t a).bits b (if on then One else Zero) (if on then One else Zero)
-      (read_less device false k at s t le a).within.bits (λ n p. p)))
+      (untagged_less kind _ _ (writes_cover.more (kept_bits device k.masks a) (kept_bits device k.masks a) b (if on then One else Zero) (if on then One else Zero)
+      (same_within (kept_bits device k.masks a)) (λ n p. p)))
 
   port_bit : (a b : ℕ) → IsTriWithin (tri_at (read_at device may k s a).bits b) (tri_at (read_at device may k t a).bits b)
   port_bit a b = any_bit_within (read_at device may k s a).bits (read_at device may k t a).bits b (read_less device may k at s t le a).within.bits
@@ -151,7 +152,7 @@ module _ (device : Device) (words : Program) (A : List Entry) (k : NodeKey) (at 
 
   -- ---- the whole table
 
-  pub row_less : (scratch : Bool) (instr : Instr) → InstrFits instr → LeadsLess k.inst (row_of device words A scratch k s instr) (row_of device words A scratch k t instr)
+  pub row_less : (scratch : Bool) (instr : Instr) → InstrFits instr → LeadsLess device k.inst (row_of device words A scratch k s instr) (row_of device words A scratch k t instr)
   row_less scratch (i.Movw d r) fits =
       setting_less device k at s t le _ _ s.flags t.flags
       (pair_set kind s.registers t.registers (2 * d) _ _ _ _ le.registers (reg device k at s t le (2 * r)) (reg device k at s t le (2 * r + 1))) le.flags
@@ -200,6 +201,11 @@ module _ (device : Device) (words : Program) (A : List Entry) (k : NodeKey) (at 
       (registers_set kind (pair_moved s 30 true 1) (pair_moved t 30 true 1) (pair_less device k at s t le 30 true 1) d _ _
       (flash_less kind words (pair_constant s 30) (pair_constant t 30) (constants device k at s t le 30))) le.flags
   row_less scratch i.Lpm fits = setting_register device k at s t le 0 _ _ (flash_less kind words (pair_constant s 30) (pair_constant t 30) (constants device k at s t le 30))
+  row_less scratch (i.ElpmZ d) fits = setting_register device k at s t le d _ _ (unknown_same kind)
+  row_less scratch (i.ElpmZPlus d) fits =
+      setting_less device k at s t le _ _ s.flags t.flags
+      (registers_set kind (pair_moved s 30 true 1) (pair_moved t 30 true 1) (pair_less device k at s t le 30 true 1) d _ _ (unknown_same kind)) le.flags
+  row_less scratch i.Elpm fits = setting_register device k at s t le 0 _ _ (unknown_same kind)
   row_less scratch (i.Pop d) fits = pop_less device k at s t le d
   row_less scratch (i.Push r) fits = push_less device k at s t le scratch r
   row_less scratch (i.In d a) fits = setting_register device k at s t le d _ _ (read_less device may k at s t le (port a))
@@ -210,21 +216,21 @@ module _ (device : Device) (words : Program) (A : List Entry) (k : NodeKey) (at 
   row_less scratch i.Icall fits = indirect_less device k at s t le A
   row_less scratch i.Ret fits = return_less device k at s t le (ret_exit k)
   row_less scratch i.Reti fits = return_less device k at s t le (reti_exit k)
-  row_less scratch (i.Jmp target) fits = going_less device k at s t le (wrapped device target) (devices_are_alike.most device target)
+  row_less scratch (i.Jmp target) fits = going_less device k at s t le (wrapped device target) (wrapped_small device target)
   row_less scratch (i.Call target) fits = calling_less k.inst k (further device k 2) (wrapped device target ∷ [])
-  row_less scratch (i.Rjmp target) fits = going_less device k at s t le (wrapped device (far k.pc target)) (devices_are_alike.most device (far k.pc target))
-  row_less scratch (i.Rcall target) fits = relative_less device k at s t le scratch (wrapped device (far k.pc target)) (devices_are_alike.most device (far k.pc target))
+  row_less scratch (i.Rjmp target) fits = going_less device k at s t le (wrapped device (far k.pc target)) (wrapped_small device (far k.pc target))
+  row_less scratch (i.Rcall target) fits = relative_less device k at s t le scratch (wrapped device (far k.pc target)) (wrapped_small device (far k.pc target))
   row_less scratch (i.Brbs n target) fits =
-      flag_less device k at s t le n (wrapped device (near k.pc target)) (further device k 1) _ _ (devices_are_alike.most device (near k.pc target)) (further_small device k 1)
-      (branch_less device k at s t le (flag_at k s n) (flag_at k t n) (wrapped device (near k.pc target)) (further device k 1) (flag_within device k at s t le n) (devices_are_alike.most device (near k.pc target)) (further_small device k 1))
+      flag_less device k at s t le n (wrapped device (near k.pc target)) (further device k 1) _ _ (wrapped_small device (near k.pc target)) (further_small device k 1)
+      (branch_less device k at s t le (flag_at k s n) (flag_at k t n) (wrapped device (near k.pc target)) (further device k 1) (flag_within device k at s t le n) (wrapped_small device (near k.pc target)) (further_small device k 1))
   row_less scratch (i.Brbc n target) fits =
-      flag_less device k at s t le n (further device k 1) (wrapped device (near k.pc target)) _ _ (further_small device k 1) (devices_are_alike.most device (near k.pc target))
+      flag_less device k at s t le n (further device k 1) (wrapped device (near k.pc target)) _ _ (further_small device k 1) (wrapped_small device (near k.pc target))
       (branch_less device k at s t le (tri_not (flag_at k s n)) (tri_not (flag_at k t n)) (wrapped device (near k.pc target)) (further device k 1)
-      (bits_cover.nots_within (flag_at k s n) (flag_at k t n) (flag_within device k at s t le n)) (devices_are_alike.most device (near k.pc target)) (further_small device k 1))
+      (bits_cover.nots_within (flag_at k s n) (flag_at k t n) (flag_within device k at s t le n)) (wrapped_small device (near k.pc target)) (further_small device k 1))
   row_less scratch (i.Sbic a b) fits =
-      skipping_less device k at s t le words (reading_zero may k (port a) b) k _ _ (zero_place device k at s t le may (port a) b) (here device k at s t le) (bits_cover.nots_within _ _ (port_bit (port a) b))
+      skipping_less device k at s t le words (reading_zero device may k (port a) b) k _ _ (zero_place device k at s t le may (port a) b) (here device k at s t le) (bits_cover.nots_within _ _ (port_bit (port a) b))
   row_less scratch (i.Sbis a b) fits =
-      skipping_less device k at s t le words k (reading_zero may k (port a) b) _ _ (here device k at s t le) (zero_place device k at s t le may (port a) b) (port_bit (port a) b)
+      skipping_less device k at s t le words k (reading_zero device may k (port a) b) _ _ (here device k at s t le) (zero_place device k at s t le may (port a) b) (port_bit (port a) b)
   row_less scratch (i.Sbrc r b) fits = skipping_less device k at s t le words k k _ _ (here device k at s t le) (here device k at s t le) (bits_cover.nots_within _ _ (register_bit r b))
   row_less scratch (i.Sbrs r b) fits = skipping_less device k at s t le words k k _ _ (here device k at s t le) (here device k at s t le) (register_bit r b)
   row_less scratch i.Nop fits = on_less device k at s t le

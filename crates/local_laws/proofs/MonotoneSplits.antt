@@ -51,15 +51,15 @@ fetched_has device words pc instr e = by (nat_lt pc (words_of device)) e
     by true same = operands_fit.fit words pc instr same
     by false same = absurd (cc)
 
-module _ {followed : Bool} (words : Program) (A : List Entry) (k : NodeKey) (s t : AbsState) (a : IsNodeIn followed k s) (b : IsNodeIn followed k t) (within : IsStateWithin s t) where
-  low : IsBare k s
+module _ {followed : Bool} (words : Program) (A : List Entry) (k : NodeKey) (s t : AbsState) (a : IsNodeIn (device_of words) followed k s) (b : IsNodeIn (device_of words) followed k t) (within : IsStateWithin s t) where
+  low : IsBare (device_of words) k s
   low = bare k s a
 
-  high : IsBare k t
+  high : IsBare (device_of words) k t
   high = bare k t b
 
   row_by_less : (scratch : Bool) (instr : Instr) → InstrFits instr → HasRegisters instr → (f g : Option PairFacts) → s.facts ≡ f → t.facts ≡ g
-      → LeadsLess k.inst (row_by f (device_of words) words A scratch k s instr) (row_by g (device_of words) words A scratch k t instr)
+      → LeadsLess (device_of words) k.inst (row_by f (device_of words) words A scratch k s instr) (row_by g (device_of words) words A scratch k t instr)
   row_by_less scratch instr fits has None None e e' =
       row_less (device_of words) words A k (bare_key k s low) (before instr s) (before instr t)
       (forgetting_both k.inst.kind (offset_of k.sp) (written instr) (sets_flags instr) (sets_carry instr) s t (node_less k s t low high within)) scratch instr fits
@@ -70,11 +70,11 @@ module _ {followed : Bool} (words : Program) (A : List Entry) (k : NodeKey) (s t
   row_by_less scratch instr fits has (Some f) (Some g) e e' = paired_less (device_of words) words A k s t low high within a.hulls f g e e' scratch instr fits has
 
   row_at_less : (scratch : Bool) (x : Option Instr) → ((instr : Instr) → x ≡ Some instr → InstrFits instr) → ((instr : Instr) → x ≡ Some instr → HasRegisters instr)
-      → LeadsLess k.inst (row_at (device_of words) words A scratch k s x) (row_at (device_of words) words A scratch k t x)
+      → LeadsLess (device_of words) k.inst (row_at (device_of words) words A scratch k s x) (row_at (device_of words) words A scratch k t x)
   row_at_less scratch None fits has = fails_less k.inst (fails (Unsupported k.pc)) (Unsupported k.pc)
   row_at_less scratch (Some instr) fits has = row_by_less scratch instr (fits instr refl) (has instr refl) s.facts t.facts refl refl
 
-  row_in_less : LeadsLess k.inst (row_in (device_of words) words A k s) (row_in (device_of words) words A k t)
+  row_in_less : LeadsLess (device_of words) k.inst (row_in (device_of words) words A k s) (row_in (device_of words) words A k t)
   row_in_less =
       row_at_less (is_scratch words k.pc) (fetched (device_of words) words k.pc) (fetched_fits (device_of words) words k.pc) (fetched_has (device_of words) words k.pc)
 
@@ -89,8 +89,8 @@ mode_within (Some f) y h e = refl
 mode_within None None h e = e
 mode_within None (Some g) h e = absurd h
 
-module _ {followed : Bool} (k : NodeKey) (byte : ℕ) (small : byte < 256) (s : AbsState) (a : IsNodeIn followed k s) where
-  index_bare : IsBare (picking k byte) (with_index byte s)
+module _ {device : Device} {followed : Bool} (k : NodeKey) (byte : ℕ) (small : byte < 256) (s : AbsState) (a : IsNodeIn device followed k s) where
+  index_bare : IsBare device (picking k byte) (with_index byte s)
   index_bare =
       let h = bare k s a in
       let le : IsStateLess k.inst.kind (offset_of k.sp) (with_index byte s) (with_index byte s) =
@@ -104,12 +104,12 @@ module _ {followed : Bool} (k : NodeKey) (byte : ℕ) (small : byte < 256) (s : 
       ap (λ (v : AbsState). is_followed v.facts) eq ∙ ap is_followed is
   picked_mode u e (Some f) is = mode_within u.facts s.facts (picks_are_cut.leaves byte s u (offset_of k.sp) a.formed e).within.facts (ap is_followed is)
 
-  pub picked_node : (u : AbsState) → pick_cut byte s ≡ Some u → IsNodeIn followed (picking k byte) u
+  pub picked_node : (u : AbsState) → pick_cut byte s ≡ Some u → IsNodeIn device followed (picking k byte) u
   picked_node u e =
       node_of (picking k byte) u (left_bare (picking k byte) (with_index byte s) u index_bare (picks_are_cut.leaves byte s u (offset_of k.sp) a.formed e))
       (picked_mode u e s.facts refl ∙ a.mode) (picks_are_cut.hulls byte s u (offset_of k.sp) a.formed a.hulls e)
 
-module _ {followed : Bool} (words : Program) (A : List Entry) (k : NodeKey) (s t : AbsState) (a : IsNodeIn followed k s) (b : IsNodeIn followed k t) (within : IsStateWithin s t) where
+module _ {followed : Bool} (words : Program) (A : List Entry) (k : NodeKey) (s t : AbsState) (a : IsNodeIn (device_of words) followed k s) (b : IsNodeIn (device_of words) followed k t) (within : IsStateWithin s t) where
   -- the row with one byte picked
   abbrev row_picked : AbsState → ℕ → Raw
   row_picked state byte = picked_row (row_in (device_of words) words A) (picking k byte) (pick_cut byte state)
@@ -135,23 +135,23 @@ module _ {followed : Bool} (words : Program) (A : List Entry) (k : NodeKey) (s t
     row_quiet byte (Some u) =
         at_quiet (device_of words) words A (is_scratch words k.pc) (picking k byte) u (fetched (device_of words) words k.pc) (splits_at words A k.pc k.pick jump site).1
 
-    nowhere_below : (q : Raw) → Quiet q → LeadsLess k.inst nowhere q
+    nowhere_below : (q : Raw) → Quiet q → LeadsLess (device_of words) k.inst nowhere q
     nowhere_below q quiet e = record { faultless = refl; moves = λ to j. absurd (none_in to j); calls = λ at j. absurd (none_in at j); exit = sym quiet.1 }
 
     picked_by : (byte : ℕ) → byte < 256 → (x : Option AbsState) → pick_cut byte s ≡ x
-        → LeadsLess k.inst (picked_row (row_in (device_of words) words A) (picking k byte) x) (row_picked t byte)
+        → LeadsLess (device_of words) k.inst (picked_row (row_in (device_of words) words A) (picking k byte) x) (row_picked t byte)
     picked_by byte small None e = nowhere_below (row_picked t byte) (row_quiet byte (pick_cut byte t))
     picked_by byte small (Some u) e =
         let more = picks_are_cut.more byte s t u (offset_of k.sp) a.formed b.formed within e in
-        subst (λ (y : Option AbsState). LeadsLess k.inst (row_in (device_of words) words A (picking k byte) u) (picked_row (row_in (device_of words) words A) (picking k byte) y)) (sym more.1.0)
+        subst (λ (y : Option AbsState). LeadsLess (device_of words) k.inst (row_in (device_of words) words A (picking k byte) u) (picked_row (row_in (device_of words) words A) (picking k byte) y)) (sym more.1.0)
         (row_in_less words A (picking k byte) u more.0 (picked_node k byte small s a u e) (picked_node k byte small t b more.0 more.1.0) more.1.1)
 
-    picked_row_less : (byte : ℕ) → Contains (below 256) byte → LeadsLess k.inst (row_picked s byte) (row_picked t byte)
+    picked_row_less : (byte : ℕ) → Contains (below 256) byte → LeadsLess (device_of words) k.inst (row_picked s byte) (row_picked t byte)
     picked_row_less byte i = picked_by byte (below_small 256 byte i) (pick_cut byte s) refl
 
   -- if the greater splits, so does the lesser, and in no more parts
   splitting_less : (jump : Option ℕ) → split_site words A k.pc k.pick ≡ jump
-      → LeadsLess k.inst (splitting jump (row_in (device_of words) words A) k s) (splitting jump (row_in (device_of words) words A) k t)
+      → LeadsLess (device_of words) k.inst (splitting jump (row_in (device_of words) words A) k s) (splitting jump (row_in (device_of words) words A) k t)
   splitting_less None site = row_in_less words A k s t a b within
   splitting_less (Some jump) site = by (nat_le (length (picks s)) 64) (nat_le (length (picks t)) 64) (λ is. grind (arith, nat_tests, few))
     where
@@ -159,13 +159,13 @@ module _ {followed : Bool} (words : Program) (A : List Entry) (k : NodeKey) (s t
       few = fewer (may_be (value s 30)) (may_be (value t 30)) (below 256) may_more
 
       by : (c d : Bool) → (d ≡ true → c ≡ true)
-          → LeadsLess k.inst (if c then all_of (map (row_picked s) (picks s)) else fails (UnresolvedJump jump))
+          → LeadsLess (device_of words) k.inst (if c then all_of (map (row_picked s) (picks s)) else fails (UnresolvedJump jump))
           (if d then all_of (map (row_picked t) (picks t)) else fails (UnresolvedJump jump))
       by c false h = fails_less k.inst _ (UnresolvedJump jump)
       by true true h = filtered_less k.inst (row_picked s) (row_picked t) (may_be (value s 30)) (may_be (value t 30)) (below 256) (picked_row_less jump site) may_more
       by false true h = let never : false ≡ true = h refl in absurd (cc)
 
-  pub raw_less : LeadsLess k.inst (raw words A k s) (raw words A k t)
+  pub raw_less : LeadsLess (device_of words) k.inst (raw words A k s) (raw words A k t)
   unfolding raw
   raw_less =
       untracked_less k.inst (is_hung (device_of words) A k k.sp) k.pc _ _

@@ -8,7 +8,6 @@ use Rattle.std.proofs.lemmas.Bool.Decides.{nat_tests}
 use Rattle.std.proofs.lemmas.Grind.{elements}
 use Rattle.std.proofs.lemmas.List.{get_or_past}
 use Rattle.abs_alu.proofs.AllLaws.{same_within}
-use Rattle.avr_model.specs.State.{SIZE}
 use Rattle.bit_domain.specs.declared.bits.Tri.TheVariants.{Any}
 use Rattle.bit_domain.specs.declared.bytes.TriByte.{TriByte}
 use Rattle.bit_domain.specs.Tri.{IsTriWithin}
@@ -37,7 +36,9 @@ use Rattle.mask_states.specs.declared.keys.NodeKey.{NodeKey}
 use Rattle.mask_states.specs.declared.keys.Kind.{Kind}
 use Rattle.mask_states.specs.declared.keys.Kind.TheVariants.{Root}
 use Rattle.mask_states.specs.Keys.{offset_of, PickFits}
-use Rattle.avr_model.specs.Image.{WORDS}
+use Rattle.avr_model.specs.declared.device.Device.{Device}
+use Rattle.avr_model.specs.Devices.{limit_of, depth_of}
+use Rattle.avr_model.specs.Vectors.{enable_count}
 use Rattle.local_rules.specs.Registers.{forgetting}
 use Rattle.local_rules.specs.Cover.{FormFits}
 use Rattle.local_laws.proofs.Bare.{IsBare}
@@ -255,7 +256,7 @@ slot_untagged : (kind : Kind) (x : Slot AbsByte) → IsSlotOf kind x → kind �
 slot_untagged kind Free h root = tt
 slot_untagged kind (Guarded v) h root = h.0.none root
 
-pub node_less : (k : NodeKey) (s t : AbsState) → IsBare k s → IsBare k t → IsStateWithin s t → IsStateLess k.inst.kind (offset_of k.sp) s t
+pub node_less : {device : Device} (k : NodeKey) (s t : AbsState) → IsBare device k s → IsBare device k t → IsStateWithin s t → IsStateLess k.inst.kind (offset_of k.sp) s t
 node_less k s t a b le =
     record {
       registers = record {
@@ -300,8 +301,8 @@ less_within kind offset s t h =
       facts = h.facts.within;
     }
 
-pub less_node : (k : NodeKey) (s t : AbsState) → k.pc < WORDS → offset_of k.sp ≤ SIZE → k.masks < 2 ^ 25 → FormFits k → PickFits k.pick → IsStateLess k.inst.kind (offset_of k.sp) s t
-    → IsBare k s
+pub less_node : {device : Device} (k : NodeKey) (s t : AbsState) → k.pc < limit_of device → offset_of k.sp ≤ depth_of device → k.masks < 2 ^ enable_count device → FormFits k → PickFits k.pick → IsStateLess k.inst.kind (offset_of k.sp) s t
+    → IsBare device k s
 less_node k s t word small masks fits pick h =
     record {
       word = word;

@@ -7,6 +7,7 @@ use Rattle.std.proofs.lemmas.List.Elements.{Contains-append_cases}
 use Rattle.basics.specs.Items.{none_in}
 use Rattle.avr_model.proofs.AllLaws.{devices_are_alike}
 use Rattle.avr_model.specs.Devices.{Program, size_of}
+use Rattle.avr_model.specs.Vectors.{enable_count}
 use Rattle.avr_model.specs.declared.device.Device.{Device}
 use Rattle.avr_model.specs.declared.assumption.Entry.{Entry}
 use Rattle.avr_model.specs.Assumptions.{store_line, is_fixed_site}
@@ -75,11 +76,11 @@ high_fits Root v h good e = known_fits (byte_constant v.bits) h (λ n is. (const
 high_fits Call v h good e = tag_fits Call v.tag h (λ k lt. lt) good.fits e
 high_fits (Vector n) v h good e = tag_fits (Vector n) v.tag h (λ k lt. lt) good.fits e
 
-opening_less : (k : NodeKey) (at : IsKey k) (s t : AbsState) (le : IsStateLess k.inst.kind (offset_of k.sp) s t) (pc : ℕ) (f g : Option High)
-    → IsSameWhere f g → ((h : High) → f ≡ Some h → HighFitsKind k.inst.kind h) → LeadsLess k.inst (opening f k s pc) (opening g k t pc)
+opening_less : {device : Device} (k : NodeKey) (at : IsKey device k) (s t : AbsState) (le : IsStateLess k.inst.kind (offset_of k.sp) s t) (pc : ℕ) (f g : Option High)
+    → IsSameWhere f g → ((h : High) → f ≡ Some h → HighFitsKind k.inst.kind h) → LeadsLess device k.inst (opening f k s pc) (opening g k t pc)
 opening_less k at s t le pc f None tells fits = fails_less k.inst (opening f k s pc) (UntrackedSp pc)
-opening_less k at s t le pc f (Some h) tells fits =
-    subst (λ (x : Option High). LeadsLess k.inst (opening x k s pc) (opening (Some h) k t pc)) (sym (tells h refl))
+opening_less {device = device} k at s t le pc f (Some h) tells fits =
+    subst (λ (x : Option High). LeadsLess device k.inst (opening x k s pc) (opening (Some h) k t pc)) (sym (tells h refl))
     (one_less (record k { sp = Open (offset_of k.sp) h }) s t (record { word = at.word; small = at.small; masks = at.masks; fits = fits h (tells h refl); pick = at.pick }) le)
 
 -- ---- its low byte
@@ -113,20 +114,20 @@ module _ (kind : Kind) (offset : ℕ) (xs ys : List (Slot AbsByte)) (le : AreSlo
             (cases_lt d n);
       }
 
-module _ (device : Device) (k : NodeKey) (at : IsKey k) (s t : AbsState) (le : IsStateLess k.inst.kind (offset_of k.sp) s t) (pc : ℕ) where
+module _ (device : Device) (k : NodeKey) (at : IsKey device k) (s t : AbsState) (le : IsStateLess k.inst.kind (offset_of k.sp) s t) (pc : ℕ) where
   closing_by : (b : Bool) (n : ℕ) → (b ≡ true → n ≤ size_of device)
-      → LeadsLess k.inst (if b then one (record k { sp = Closed n }) (record s { slots = resized n s.slots }) else fails (TooDeep pc n))
+      → LeadsLess device k.inst (if b then one (record k { sp = Closed n }) (record s { slots = resized n s.slots }) else fails (TooDeep pc n))
       (if b then one (record k { sp = Closed n }) (record t { slots = resized n t.slots }) else fails (TooDeep pc n))
   closing_by true n small =
       one_less (record k { sp = Closed n }) (record s { slots = resized n s.slots }) (record t { slots = resized n t.slots })
-      (record { word = at.word; small = omega (arith, small refl, devices_are_alike.most_bytes device); masks = at.masks; fits = tt; pick = at.pick })
+      (record { word = at.word; small = omega (arith, small refl, devices_are_alike.in_depth device); masks = at.masks; fits = tt; pick = at.pick })
       (record { registers = le.registers; flags = le.flags; slots = resized_less k.inst.kind (offset_of k.sp) s.slots t.slots le.slots n; facts = le.facts })
   closing_by false n small = fails_less k.inst (fails (TooDeep pc n)) (TooDeep pc n)
 
-  closing_less : (f g : Option ℕ) → IsSameWhere f g → LeadsLess k.inst (closing device f k s pc) (closing device g k t pc)
+  closing_less : (f g : Option ℕ) → IsSameWhere f g → LeadsLess device k.inst (closing device f k s pc) (closing device g k t pc)
   closing_less f None tells = fails_less k.inst (closing device f k s pc) (UntrackedSp pc)
   closing_less f (Some n) tells =
-      subst (λ (x : Option ℕ). LeadsLess k.inst (closing device x k s pc) (closing device (Some n) k t pc)) (sym (tells n refl))
+      subst (λ (x : Option ℕ). LeadsLess device k.inst (closing device x k s pc) (closing device (Some n) k t pc)) (sym (tells n refl))
       (closing_by (nat_le n (size_of device)) n (λ e. grind (arith, nat_tests)))
 
 -- ---- the status register
@@ -158,13 +159,13 @@ sreg_nodes Zero k s is_out = refl
 sreg_nodes One k s is_out = refl
 sreg_nodes Any k s is_out = refl
 
-i_place : (k : NodeKey) (is_out on : Bool) → IsKey k → IsKeyPlace k.inst (offset_of k.sp) (with_i k is_out on)
+i_place : {device : Device} (k : NodeKey) (is_out on : Bool) → IsKey device k → IsKeyPlace device k.inst (offset_of k.sp) (with_i k is_out on)
 i_place k is_out on at = record { key = record { word = at.word; small = at.small; masks = at.masks; fits = at.fits; pick = at.pick }; same = refl; at = refl }
 
-sreg_less : (k : NodeKey) (at : IsKey k) (s t : AbsState) (le : IsStateLess k.inst.kind (offset_of k.sp) s t) (is_out : Bool) (x y : Tri) → IsTriWithin x y
-    → LeadsLess k.inst (sreg_written x k s is_out) (sreg_written y k t is_out)
-sreg_less k at s t le is_out x y within =
-    subst₂ (LeadsLess k.inst) (sym (sreg_nodes x k s is_out)) (sym (sreg_nodes y k t is_out))
+sreg_less : {device : Device} (k : NodeKey) (at : IsKey device k) (s t : AbsState) (le : IsStateLess k.inst.kind (offset_of k.sp) s t) (is_out : Bool) (x y : Tri) → IsTriWithin x y
+    → LeadsLess device k.inst (sreg_written x k s is_out) (sreg_written y k t is_out)
+sreg_less {device = device} k at s t le is_out x y within =
+    subst₂ (LeadsLess device k.inst) (sym (sreg_nodes x k s is_out)) (sym (sreg_nodes y k t is_out))
     (several_less k.inst (offset_of k.sp) (with_i k is_out) s t (choose x false true) (choose y false true) (λ b. choose_more x y false true b within)
     (λ b i. i_place k is_out b at) le)
 
@@ -185,19 +186,19 @@ hulled_both kind offset a s t h = record {
 
 -- ---- at an address
 
-module _ (device : Device) (k : NodeKey) (at : IsKey k) (s t : AbsState) (le : IsStateLess k.inst.kind (offset_of k.sp) s t) where
-  masks_less : (a : ℕ) (v w : AbsByte) → IsLess k.inst.kind v w → LeadsLess k.inst (masks_written k s a v) (masks_written k t a w)
+module _ (device : Device) (k : NodeKey) (at : IsKey device k) (s t : AbsState) (le : IsStateLess k.inst.kind (offset_of k.sp) s t) where
+  masks_less : (a : ℕ) (v w : AbsByte) → IsLess k.inst.kind v w → LeadsLess device k.inst (masks_written device k s a v) (masks_written device k t a w)
   masks_less a v w h =
-      several_less k.inst (offset_of k.sp) (λ (m : ℕ). record k { masks = m }) s t (splits k.masks a v.bits) (splits k.masks a w.bits)
-      (λ n. splits_are_writes.more k.masks a v.bits w.bits n h.within.bits)
+      several_less k.inst (offset_of k.sp) (λ (m : ℕ). record k { masks = m }) s t (splits device k.masks a v.bits) (splits device k.masks a w.bits)
+      (λ n. splits_are_writes.more device k.masks a v.bits w.bits n h.within.bits)
       (λ n i. record {
-        key = record { word = at.word; small = at.small; masks = ((numbers_are_permitted.members (enable_tri k.masks a w.bits) 25 n).0 i).small; fits = at.fits; pick = at.pick };
+        key = record { word = at.word; small = at.small; masks = ((numbers_are_permitted.members (enable_tri device k.masks a w.bits) (enable_count device) n).0 i).small; fits = at.fits; pick = at.pick };
         same = refl;
         at = refl;
       })
       le
 
-  pub write_less : (pc : ℕ) (is_out : Bool) (a : ℕ) (v w : AbsByte) → IsLess k.inst.kind v w → LeadsLess k.inst (written_at device pc k s is_out a v) (written_at device pc k t is_out a w)
+  pub write_less : (pc : ℕ) (is_out : Bool) (a : ℕ) (v w : AbsByte) → IsLess k.inst.kind v w → LeadsLess device k.inst (written_at device pc k s is_out a v) (written_at device pc k t is_out a w)
   unfolding written_at
   write_less pc is_out a v w h =
       if_leads k.inst (nat_lt a 0x20) _ _ _ _
@@ -235,33 +236,33 @@ wakes_more : (device : Device) (A : List Entry) (s t : AbsState) (r up : ℕ) (p
 unfolding may_wake
 wakes_more device A s t r up p q pc k v w slots within bits =
     and_more _ _ _ _
-    (and_more (admits_enables A pc) _ (admits_enables A pc) _ (λ e. e) (own_more p.frame q.frame (offset_of k.sp) slots))
+    (and_more (admits_enables device A pc) _ (admits_enables device A pc) _ (λ e. e) (own_more p.frame q.frame (offset_of k.sp) slots))
     (enables_stay_among.other device A (λ a. permits_number s r (minus16 a up)) (λ a. permits_number t r (minus16 a up)) v.bits w.bits
     (λ a. permits_more s t r (minus16 a up) within) bits)
 
-module _ (device : Device) (k : NodeKey) (at : IsKey k) (s t : AbsState) (le : IsStateLess k.inst.kind (offset_of k.sp) s t) (pc : ℕ) (v w : AbsByte) (h : IsLess k.inst.kind v w) where
-  fixed_less : (f g : Option ℕ) → IsSameWhere f g → LeadsLess k.inst (fixed_write device f pc k s v) (fixed_write device g pc k t w)
+module _ (device : Device) (k : NodeKey) (at : IsKey device k) (s t : AbsState) (le : IsStateLess k.inst.kind (offset_of k.sp) s t) (pc : ℕ) (v w : AbsByte) (h : IsLess k.inst.kind v w) where
+  fixed_less : (f g : Option ℕ) → IsSameWhere f g → LeadsLess device k.inst (fixed_write device f pc k s v) (fixed_write device g pc k t w)
   fixed_less f None tells = fails_less k.inst (fixed_write device f pc k s v) (UnknownPointer pc)
   fixed_less f (Some a) tells =
-      subst (λ (x : Option ℕ). LeadsLess k.inst (fixed_write device x pc k s v) (fixed_write device (Some a) pc k t w)) (sym (tells a refl)) (write_less device k at s t le pc false a v w h)
+      subst (λ (x : Option ℕ). LeadsLess device k.inst (fixed_write device x pc k s v) (fixed_write device (Some a) pc k t w)) (sym (tells a refl)) (write_less device k at s t le pc false a v w h)
 
   listed_less : (p q : ℕ → Bool) (addresses : List ℕ) → ((a : ℕ) → p a ≡ true → q a ≡ true)
-      → LeadsLess k.inst (listed_writes device pc k s (filter p addresses) v) (listed_writes device pc k t (filter q addresses) w)
+      → LeadsLess device k.inst (listed_writes device pc k s (filter p addresses) v) (listed_writes device pc k t (filter q addresses) w)
   listed_less p q addresses more =
       both_less k.inst (one k s) (one k t) (map (λ a. written_at device pc k s false a v) (filter p addresses)) (map (λ a. written_at device pc k t false a w) (filter q addresses))
       (one_less k s t at le)
       (filtered_less k.inst (λ (a : ℕ). written_at device pc k s false a v) (λ (a : ℕ). written_at device pc k t false a w) p q addresses (λ a i. write_less device k at s t le pc false a v w h) (λ a i. more a))
 
-  woken_place : (A : List Entry) → IsKeyPlace k.inst (offset_of k.sp) (record k { masks = widened device A k.masks })
+  woken_place : (A : List Entry) → IsKeyPlace device k.inst (offset_of k.sp) (record k { masks = widened device A k.masks })
   woken_place A =
       record {
-        key = record { word = at.word; small = at.small; masks = (enables_stay_among.wider device A k.masks).1; fits = at.fits; pick = at.pick };
+        key = record { word = at.word; small = at.small; masks = enables_stay_among.wide device A k.masks; fits = at.fits; pick = at.pick };
         same = refl;
         at = refl;
       }
 
   -- the greater has one more successor, or both have
-  waking_less : (A : List Entry) (b c : Bool) (p q : Raw) → (b ≡ true → c ≡ true) → LeadsLess k.inst p q → LeadsLess k.inst (waking b device A k s p) (waking c device A k t q)
+  waking_less : (A : List Entry) (b c : Bool) (p q : Raw) → (b ≡ true → c ≡ true) → LeadsLess device k.inst p q → LeadsLess device k.inst (waking b device A k s p) (waking c device A k t q)
   waking_less A true false p q more rest e = let no : false ≡ true = more refl in absurd (cc)
   waking_less A false false p q more rest e = rest e
   waking_less A false true p q more rest e =
@@ -271,7 +272,7 @@ module _ (device : Device) (k : NodeKey) (at : IsKey k) (s t : AbsState) (le : I
       let a = rest e in
       let woken : NodeKey = record k { masks = widened device A k.masks } in
       let last = (several_less k.inst (offset_of k.sp) (λ (j : NodeKey). j) s t (woken ∷ []) (woken ∷ []) (λ x i. i)
-      (each_of (IsKeyPlace k.inst (offset_of k.sp)) woken [] (woken_place A) (λ x i. absurd (none_in x i))) le refl).moves in
+      (each_of (IsKeyPlace device k.inst (offset_of k.sp)) woken [] (woken_place A) (λ x i. absurd (none_in x i))) le refl).moves in
       record {
         faultless = a.faultless;
         moves = λ to i. ⊎_elim
@@ -285,7 +286,7 @@ module _ (device : Device) (k : NodeKey) (at : IsKey k) (s t : AbsState) (le : I
   -- the pointer as it was in these states
   pub pointer_less : (words : Program) (A : List Entry) (was_s was_t : AbsState) (r up : ℕ) (p q : Pointed) → IsSameWhere p.constant q.constant → IsSameWhere p.frame q.frame
       → IsPairWithin was_s was_t r
-      → LeadsLess k.inst (pointer_write device words A was_s r up p pc k s v) (pointer_write device words A was_t r up q pc k t w)
+      → LeadsLess device k.inst (pointer_write device words A was_s r up p pc k s v) (pointer_write device words A was_t r up q pc k t w)
   pointer_less words A was_s was_t r up p q tells slots was =
       if_leads k.inst (is_fixed_site words A pc) _ _ _ _ (fixed_less p.constant q.constant tells)
       (waking_less A (may_wake device A was_s r up p pc k v) (may_wake device A was_t r up q pc k w) _ _

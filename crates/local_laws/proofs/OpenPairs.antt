@@ -214,7 +214,7 @@ module _ (k : NodeKey) where
       (stay_if at (a == SPL) _ _ (stay_closing device (closing_offset device k.inst.kind k.sp v) s pc)
       (stay_if at (a == SPH) _ _ (stay_opening (high_part k.inst.kind v) s pc)
       (stay_if at (a == SREG) _ _ (stay_sreg (tri_at v.bits 7) (put_flags s (flags_written v)) is_out)
-      (each_in_map (λ m. record { key = record k { masks = m }; state = s }) (IsStaying at) (splits k.masks a v.bits) (λ m i. itself k.sp)))))
+      (each_in_map (λ m. record { key = record k { masks = m }; state = s }) (IsStaying at) (splits device k.masks a v.bits) (λ m i. itself k.sp)))))
 
   stay_fixed : (device : Device) (a : Option ℕ) (pc : ℕ) (s : AbsState) (v : AbsByte) → FromKey k (fixed_write device a pc k s v)
   stay_fixed device None pc s v = stay_none at
@@ -271,8 +271,11 @@ module _ (device : Device) (words : Program) (A : List Entry) (scratch : Bool) (
   row_stays s (i.Ld d p) = stay_loading place device k s _ d _ held
   row_stays s (i.St p r) = stay_pointer (next device k) device words A s _ _ _ k.pc _ _
   row_stays s (i.LpmZ d) = stay_one place _ _ held
+  row_stays s (i.ElpmZ d) = stay_one place _ _ held
   row_stays s (i.LpmZPlus d) = stay_one place _ _ held
+  row_stays s (i.ElpmZPlus d) = stay_one place _ _ held
   row_stays s i.Lpm = stay_one place _ _ held
+  row_stays s i.Elpm = stay_one place _ _ held
   row_stays s (i.Pop d) = stay_closed place k.sp k.pc _ (stay_popping place device k s d)
   row_stays s (i.Push r) = stay_closed place k.sp k.pc _ (stay_pushing place device scratch k s r)
   row_stays s (i.In d a) = stay_one place _ _ held

@@ -2,6 +2,7 @@
 use Rattle.std.proofs.Common.{◌≡◌, refl, sym, subst, subst₂, ap, ℕ, Bool, true, false, List, [], ◌∷◌, Option, Some, if◌then◌else◌, Contains, ⊎_elim}
 use Rattle.std.proofs.lemmas.List.Elements.{Contains-append_left, Contains-append_right}
 use Rattle.basics.specs.Items.{none_in, first_in, first_or_further}
+use Rattle.avr_model.specs.declared.device.Device.{Device}
 use Rattle.avr_model.specs.Devices.{Program, wrapped}
 use Rattle.avr_model.specs.Marks.{marks}
 use Rattle.avr_model.specs.declared.effect.Effect.{Effect}
@@ -152,7 +153,7 @@ module _ {may : Bool} (words : Program) (are : AreWords words) (m : State) (o : 
           },
         )
 
-    pub refining_follows : (r : Raw) → ((to : Node) → Contains r.moves to → IsBare to.key to.state) → Follows may m o k guarded b1 b2 effect r → Follows may m o k guarded b1 b2 effect (refining words instr s r)
+    pub refining_follows : (r : Raw) → ((to : Node) → Contains r.moves to → IsBare m.device to.key to.state) → Follows may m o k guarded b1 b2 effect r → Follows may m o k guarded b1 b2 effect (refining words instr s r)
     refining_follows r bares (stays to present inst lands) =
         let found = arrives_refined to (offset_of to.key.sp) (bares to present).formed lands in
         stays (record { key = to.key; state = found.0 }) (in_refined words instr s r.moves to found.0 present found.1) inst found.2
@@ -161,7 +162,7 @@ module _ {may : Bool} (words : Program) (are : AreWords words) (m : State) (o : 
 
 -- ---- what is left of a state
 
-pub left_bare : (k : NodeKey) (s t : AbsState) → IsBare k s → IsLeftOf s t (offset_of k.sp) → IsBare k t
+pub left_bare : {device : Device} (k : NodeKey) (s t : AbsState) → IsBare device k s → IsLeftOf s t (offset_of k.sp) → IsBare device k t
 left_bare k s t h left =
     record {
       word = h.word;

@@ -2,9 +2,8 @@
 use Rattle.std.proofs.Common.{◌≡◌, refl, sym, subst, subst₂, ℕ, ◌+◌, ◌<◌, Bool, true, false, List, [], ◌∷◌, Option, Some, None, if◌then◌else◌, Contains, ⊎_elim, nat_lt, ltb-true}
 use Rattle.std.proofs.lemmas.List.Elements.{Contains-append_cases}
 use Rattle.basics.specs.Items.{none_in, first_in, further_in}
-use Rattle.avr_model.proofs.AllLaws.{devices_are_alike}
-use Rattle.avr_model.specs.Devices.{Program, wrapped}
-use Rattle.avr_model.specs.Image.{WORDS, word_at}
+use Rattle.avr_model.specs.Devices.{Program, wrapped, limit_of}
+use Rattle.avr_model.specs.Image.{word_at}
 use Rattle.avr_model.specs.Marks.{marks}
 use Rattle.avr_model.specs.Table.{length_of}
 use Rattle.avr_model.specs.Text.{near}
@@ -42,7 +41,7 @@ use Rattle.local_laws.proofs.Bare.{IsBare, bare_key}
 use Rattle.local_laws.proofs.Members.{each_of}
 use Rattle.local_laws.proofs.MonotoneAlu.{reg}
 use Rattle.local_laws.proofs.MonotoneFields.{InstrFits}
-use Rattle.local_laws.proofs.MonotoneRaw.{IsMetAbove, LeadsLess, nowhere_less, none_less, both_less, further_small, next_key}
+use Rattle.local_laws.proofs.MonotoneRaw.{IsMetAbove, LeadsLess, nowhere_less, none_less, both_less, further_small, wrapped_small, next_key}
 use Rattle.local_laws.proofs.MonotoneReads.{pointed_constants, pointed_frames}
 use Rattle.local_laws.proofs.MonotoneRows.{row_less, moved_less, pair_less_at, pointer_small}
 use Rattle.local_laws.proofs.MonotoneValues.{IsStateLess, AreRegistersLess, node_less, less_node, less_within, forgetting_both}
@@ -77,8 +76,8 @@ from_refined words instr s all (n ∷ ns) within x h =
     (Contains-append_cases (node_where n.key (refined (marks words) words instr s n.state)) (refined_nodes words instr s ns) x h)
 
 -- a refined state is one of a node
-pub refined_bare : (words : Program) (instr : Instr) (n : ℕ) (s : AbsState) (k : NodeKey) (t u : AbsState) → HasRegisters instr → IsFormed s n → IsBare k t
-    → refined (marks words) words instr s t ≡ Some u → IsBare k u
+pub refined_bare : {device : Device} (words : Program) (instr : Instr) (n : ℕ) (s : AbsState) (k : NodeKey) (t u : AbsState) → HasRegisters instr → IsFormed s n → IsBare device k t
+    → refined (marks words) words instr s t ≡ Some u → IsBare device k u
 refined_bare words instr n s k t u has formed h e =
     let like = refined_is_ordered.like (marks words) words instr s t u e in
     record {
@@ -96,10 +95,10 @@ refined_bare words instr n s k t u has formed h e =
 -- ---- where something may be left
 
 -- the refined lesser state is below the refined greater one, if anything is left
-abbrev pub IsLeftLess : NodeKey → Option AbsState → Option AbsState → Type 0
-IsLeftLess k x y = (u : AbsState) → x ≡ Some u → IsBare k u × ((v : AbsState) × ((y ≡ Some v) × IsStateWithin u v))
+abbrev pub IsLeftLess : Device → NodeKey → Option AbsState → Option AbsState → Type 0
+IsLeftLess device k x y = (u : AbsState) → x ≡ Some u → IsBare device k u × ((v : AbsState) × ((y ≡ Some v) × IsStateWithin u v))
 
-turned_bare : (k : NodeKey) (s : AbsState) (pc : ℕ) → pc < WORDS → IsBare k s → IsBare (off_table k pc) s
+turned_bare : {device : Device} (k : NodeKey) (s : AbsState) (pc : ℕ) → pc < limit_of device → IsBare device k s → IsBare device (off_table k pc) s
 turned_bare k s pc lt h =
     record {
       word = lt;
@@ -113,19 +112,19 @@ turned_bare k s pc lt h =
       untagged = h.untagged;
     }
 
-where_less : (k : NodeKey) (x y : Option AbsState) (pc : ℕ) → pc < WORDS → IsLeftLess k x y → LeadsLess k.inst (going_where k x pc) (going_where k y pc)
+where_less : {device : Device} (k : NodeKey) (x y : Option AbsState) (pc : ℕ) → pc < limit_of device → IsLeftLess device k x y → LeadsLess device k.inst (going_where k x pc) (going_where k y pc)
 where_less k None None pc lt h = nowhere_less k.inst []
 where_less k None (Some v) pc lt h = nowhere_less k.inst (record { key = off_table k pc; state = v } ∷ [])
-where_less k (Some u) y pc lt h =
+where_less {device = device} k (Some u) y pc lt h =
     let left = h u refl in
     let v : AbsState = left.1.0 in
     let present : Contains (going_where k y pc).moves (record { key = off_table k pc; state = v }) =
     subst (λ (z : Option AbsState). Contains (going_where k z pc).moves (record { key = off_table k pc; state = v })) (sym left.1.1.0) (first_in (record { key = off_table k pc; state = v }) []) in
-    subst (λ (z : Option AbsState). LeadsLess k.inst (going_where k (Some u) pc) (going_where k z pc)) (sym left.1.1.0)
+    subst (λ (z : Option AbsState). LeadsLess device k.inst (going_where k (Some u) pc) (going_where k z pc)) (sym left.1.1.0)
     (λ e. record {
       faultless = refl;
       moves =
-          each_of (IsMetAbove k.inst (record { key = off_table k pc; state = v } ∷ [])) (record { key = off_table k pc; state = u }) []
+          each_of (IsMetAbove device k.inst (record { key = off_table k pc; state = v } ∷ [])) (record { key = off_table k pc; state = u }) []
           (record {
             same = refl;
             node = turned_bare k u pc lt left.0;
@@ -135,21 +134,21 @@ where_less k (Some u) y pc lt h =
       exit = refl;
     })
 
-two_less : (k : NodeKey) (x x' y y' : Option AbsState) (p q : ℕ) → p < WORDS → q < WORDS → IsLeftLess k x y → IsLeftLess k x' y'
-    → LeadsLess k.inst (all_of (going_where k x p ∷ going_where k x' q ∷ [])) (all_of (going_where k y p ∷ going_where k y' q ∷ []))
+two_less : {device : Device} (k : NodeKey) (x x' y y' : Option AbsState) (p q : ℕ) → p < limit_of device → q < limit_of device → IsLeftLess device k x y → IsLeftLess device k x' y'
+    → LeadsLess device k.inst (all_of (going_where k x p ∷ going_where k x' q ∷ [])) (all_of (going_where k y p ∷ going_where k y' q ∷ []))
 two_less k x x' y y' p q lt lt' h h' =
     both_less k.inst (going_where k x p) (going_where k y p) (going_where k x' q ∷ []) (going_where k y' q ∷ []) (where_less k x y p lt h)
     (both_less k.inst (going_where k x' q) (going_where k y' q) [] [] (where_less k x' y' q lt' h') (none_less k.inst))
 
 -- ---- two states
 
-module _ (device : Device) (words : Program) (A : List Entry) (k : NodeKey) (s t : AbsState) (low : IsBare k s) (high : IsBare k t) (within : IsStateWithin s t)
+module _ (device : Device) (words : Program) (A : List Entry) (k : NodeKey) (s t : AbsState) (low : IsBare device k s) (high : IsBare device k t) (within : IsStateWithin s t)
     (hulls : IsInHulls s) (f g : PairFacts) (known : s.facts ≡ Some f) (known' : t.facts ≡ Some g) where
-  abbrev at : IsKey k
+  abbrev at : IsKey device k
   at = bare_key k s low
 
   abbrev Less : Raw → Raw → Type 0
-  Less a b = LeadsLess k.inst a b
+  Less a b = LeadsLess device k.inst a b
 
   le : IsStateLess k.inst.kind (offset_of k.sp) s t
   le = node_less k s t low high within
@@ -184,7 +183,7 @@ module _ (device : Device) (words : Program) (A : List Entry) (k : NodeKey) (s t
             refined_is_ordered.more (marks words) words instr (offset_of k.sp) (offset_of of.to.key.sp) s t of.to.state met.below.state x.state has low.formed high.formed met.node.formed node.formed
             (row_plain device words A scratch k s low.formed.count_registers instr is has of.to of.member)
             (row_plain device words A scratch k t high.formed.count_registers instr is has top met.below.present) within met.below.above of.left in
-            let is_met : IsMetAbove k.inst (refining words instr t (plain_row device words A scratch k t instr)).moves (record { key = of.to.key; state = x.state }) = record {
+            let is_met : IsMetAbove device k.inst (refining words instr t (plain_row device words A scratch k t instr)).moves (record { key = of.to.key; state = x.state }) = record {
               same = met.same;
               node = refined_bare words instr (offset_of k.sp) s of.to.key of.to.state x.state has low.formed met.node of.left;
               below = record {
@@ -193,32 +192,32 @@ module _ (device : Device) (words : Program) (A : List Entry) (k : NodeKey) (s t
                 above = more.2;
               };
             } in
-            subst (λ (key : NodeKey). IsMetAbove k.inst (refining words instr t (plain_row device words A scratch k t instr)).moves (record { key = key; state = x.state })) (sym of.same) is_met;
+            subst (λ (key : NodeKey). IsMetAbove device k.inst (refining words instr t (plain_row device words A scratch k t instr)).moves (record { key = key; state = x.state })) (sym of.same) is_met;
         calls = below.calls;
         exit = below.exit;
       }
 
   -- ---- cuts
 
-  flag_left_less : (n : ℕ) (b : Bool) → n < 7 → IsLeftLess k (flag_cut n b s) (flag_cut n b t)
+  flag_left_less : (n : ℕ) (b : Bool) → n < 7 → IsLeftLess device k (flag_cut n b s) (flag_cut n b t)
   flag_left_less n b lt u e =
       (left_bare k s u low (flags_are_cut.leaves n b lt s u (offset_of k.sp) low.formed e), flags_are_cut.more n b lt s t u (offset_of k.sp) low.formed high.formed within e)
 
-  bit_left_less : (r bit : ℕ) (on : Bool) → r < 32 → bit < 8 → IsLeftLess k (bit_cut r bit on s) (bit_cut r bit on t)
+  bit_left_less : (r bit : ℕ) (on : Bool) → r < 32 → bit < 8 → IsLeftLess device k (bit_cut r bit on s) (bit_cut r bit on t)
   bit_left_less r bit on lt lt' u e =
       (left_bare k s u low (bits_are_cut.leaves r bit on lt lt' s u (offset_of k.sp) low.formed e), bits_are_cut.more r bit on lt lt' s t u (offset_of k.sp) low.formed high.formed within e)
 
-  equal_left_less : (d r : ℕ) (b : Bool) → d < 32 → r < 32 → IsLeftLess k (equal_cut d r b s) (equal_cut d r b t)
+  equal_left_less : (d r : ℕ) (b : Bool) → d < 32 → r < 32 → IsLeftLess device k (equal_cut d r b s) (equal_cut d r b t)
   equal_left_less d r b lt lt' u e =
       (left_bare k s u low (equals_are_cut.leaves d r b lt lt' s u (offset_of k.sp) low.formed e), equals_are_cut.more d r b s t u (offset_of k.sp) g lt lt' low.formed high.formed known' hulls within e)
 
-  branch_cut_less : (n set clear : ℕ) (small : Bool) (p q : Raw) → nat_lt n 7 ≡ small → set < WORDS → clear < WORDS → Less p q
+  branch_cut_less : (n set clear : ℕ) (small : Bool) (p q : Raw) → nat_lt n 7 ≡ small → set < limit_of device → clear < limit_of device → Less p q
       → Less (if small then cut_branch n k s set clear else p) (if small then cut_branch n k t set clear else q)
   branch_cut_less n set clear true p q e lt lt' h =
       two_less k (flag_cut n false s) (flag_cut n true s) (flag_cut n false t) (flag_cut n true t) clear set lt' lt (flag_left_less n false (ltb-true n 7 e)) (flag_left_less n true (ltb-true n 7 e))
   branch_cut_less n set clear false p q e lt lt' h = h
 
-  skip_less : (x x' y y' : Option AbsState) → IsLeftLess k x y → IsLeftLess k x' y' → Less (cut_skip device words k x x') (cut_skip device words k y y')
+  skip_less : (x x' y y' : Option AbsState) → IsLeftLess device k x y → IsLeftLess device k x' y' → Less (cut_skip device words k x x') (cut_skip device words k y y')
   skip_less x x' y y' h h' =
       two_less k x' x y' y (further device k 1) (further device k (1 + length_of (word_at words (k.pc + 1)))) (further_small device k 1) (further_small device k (1 + length_of (word_at words (k.pc + 1)))) h' h
 
@@ -237,7 +236,7 @@ module _ (device : Device) (words : Program) (A : List Entry) (k : NodeKey) (s t
     abbrev moved : AbsState → AbsState
     moved u = record (before instr u) { registers = pointer_moved p u }
 
-    moved_both : (u v : AbsState) → IsBare k u → IsStateLess k.inst.kind (offset_of k.sp) u v → IsStateLess k.inst.kind (offset_of k.sp) (moved u) (moved v)
+    moved_both : (u v : AbsState) → IsBare device k u → IsStateLess k.inst.kind (offset_of k.sp) u v → IsStateLess k.inst.kind (offset_of k.sp) (moved u) (moved v)
     moved_both u v bare_u h =
         let ends = forgetting_both k.inst.kind (offset_of k.sp) (written instr) (sets_flags instr) (sets_carry instr) u v h in
         record {
@@ -248,7 +247,7 @@ module _ (device : Device) (words : Program) (A : List Entry) (k : NodeKey) (s t
           facts = ends.facts;
         }
 
-    pub moved_bare : (u : AbsState) → IsBare k u → IsBare k (moved u)
+    pub moved_bare : (u : AbsState) → IsBare device k u → IsBare device k (moved u)
     moved_bare u h = less_node k (moved u) (moved u) h.word h.small h.masks h.fits h.pick (moved_both u u h (node_less k u u h h (states_are_ordered.same u)))
 
     moved_plain : (u : AbsState) → IsPlain words instr u (moved u)
@@ -285,9 +284,9 @@ module _ (device : Device) (words : Program) (A : List Entry) (k : NodeKey) (s t
 
   pub paired_less : (scratch : Bool) (instr : Instr) → InstrFits instr → HasRegisters instr → Less (paired_row device words A scratch k s instr) (paired_row device words A scratch k t instr)
   paired_less scratch (i.Brbs n target) fits has =
-      branch_cut_less n (wrapped device (near k.pc target)) (further device k 1) (nat_lt n 7) _ _ refl (devices_are_alike.most device (near k.pc target)) (further_small device k 1) (plain_less scratch (i.Brbs n target) fits)
+      branch_cut_less n (wrapped device (near k.pc target)) (further device k 1) (nat_lt n 7) _ _ refl (wrapped_small device (near k.pc target)) (further_small device k 1) (plain_less scratch (i.Brbs n target) fits)
   paired_less scratch (i.Brbc n target) fits has =
-      branch_cut_less n (further device k 1) (wrapped device (near k.pc target)) (nat_lt n 7) _ _ refl (further_small device k 1) (devices_are_alike.most device (near k.pc target)) (plain_less scratch (i.Brbc n target) fits)
+      branch_cut_less n (further device k 1) (wrapped device (near k.pc target)) (nat_lt n 7) _ _ refl (further_small device k 1) (wrapped_small device (near k.pc target)) (plain_less scratch (i.Brbc n target) fits)
   paired_less scratch (i.Sbrc r b) fits has =
       skip_less (bit_cut r b false s) (bit_cut r b true s) (bit_cut r b false t) (bit_cut r b true t) (bit_left_less r b false fits.0 fits.1) (bit_left_less r b true fits.0 fits.1)
   paired_less scratch (i.Sbrs r b) fits has =

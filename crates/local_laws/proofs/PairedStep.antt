@@ -1,9 +1,9 @@
 -- With pairs the row of each instruction covers the machine's step.
 use Rattle.std.proofs.Common.{◌≡◌, refl, sym, subst, ap, ap₂, ◌∙◌, ℕ, ◌+◌, ◌<◌, ◌==◌, Bool, true, false, not, List, [], ◌∷◌, ◌++◌, Option, Some, None, if◌then◌else◌, nat_lt, ltb-true}
 use Rattle.std.specs.Prelude.{⊤}
-use Rattle.avr_model.specs.Assumptions.{has_masks}
+use Rattle.avr_model.specs.Masks.{reads_masks}
 use Rattle.avr_model.proofs.AllLaws.{devices_are_alike}
-use Rattle.avr_model.specs.Devices.{Program, wrapped, device_of}
+use Rattle.avr_model.specs.Devices.{Program, image, wrapped}
 use Rattle.avr_model.specs.Image.{word_at}
 use Rattle.avr_model.specs.Marks.{marks}
 use Rattle.avr_model.specs.Table.{length_of}
@@ -114,8 +114,12 @@ same_moved pointer.MinusX instr s = refl
 pub like_parts : (u s : AbsState) → u.flags ≡ s.flags → u.slots ≡ s.slots → u ≡ record s { registers = u.registers; facts = u.facts }
 like_parts u s flags slots = ap₂ (λ f l. record u { flags = f; slots = l }) flags slots
 
-module _ (words : Program) (A : List Entry) (m : State) (o : Origin) (k : NodeKey) (s : AbsState) (at : InBareFrame (has_masks A) m o k s) (b1 b2 : ℕ) (small : b1 < 256)
-    (other : b2 < 256) (are : AreWords words) (told : m.device ≡ device_of words) (f : PairFacts) (followed : s.facts ≡ Some f) where
+module _ (ws : List ℕ) (A : List Entry) (m : State) (o : Origin) (k : NodeKey) (s : AbsState) (at : InBareFrame (reads_masks m.device A) m o k s) (b1 b2 : ℕ) (small : b1 < 256)
+    (other : b2 < 256) (are : AreWords (image m.device ws)) (f : PairFacts) (followed : s.facts ≡ Some f) where
+  -- the words, on the machine's device
+  abbrev words : Program
+  words = image m.device ws
+
   abbrev scratch : Bool
   scratch = is_scratch words m.pc
 
@@ -132,7 +136,7 @@ module _ (words : Program) (A : List Entry) (m : State) (o : Origin) (k : NodeKe
   chosen cut false t e = e
 
   by_test : (cut : Bool → Option AbsState) (test : Bool) → Left cut test → (taken taken' past past' : ℕ) → wrapped m.device taken ≡ taken' → wrapped m.device past ≡ past'
-      → Follows (has_masks A) m o k (not scratch) b1 b2 (going_to m (if test then taken else past)) (all_of (going_where k (cut false) past' ∷ going_where k (cut true) taken' ∷ []))
+      → Follows (reads_masks m.device A) m o k (not scratch) b1 b2 (going_to m (if test then taken else past)) (all_of (going_where k (cut false) past' ∷ going_where k (cut true) taken' ∷ []))
   by_test cut test h taken taken' past past' is is' =
       two_ways m o k s at (not scratch) b1 b2 test (cut true) (cut false) taken taken' past past' is is' h.0 (chosen cut test h.0 h.1.0) h.1.1.0 h.1.1.1
 
@@ -154,8 +158,8 @@ module _ (words : Program) (A : List Entry) (m : State) (o : Origin) (k : NodeKe
       (h.0, (h.1.0, (equals_are_cut.leaves d r b one two s h.0 (offset_of k.sp) at.node.formed h.1.0, h.1.1)))
 
   skip_is : (test : Bool) (r : Raw)
-      → Follows (has_masks A) m o k (not scratch) b1 b2 (going_to m (if test then further m (1 + length_of (word_at words (m.pc + 1))) else further m 1)) r
-      → Follows (has_masks A) m o k (not scratch) b1 b2 (skipping words m test) r
+      → Follows (reads_masks m.device A) m o k (not scratch) b1 b2 (going_to m (if test then further m (1 + length_of (word_at words (m.pc + 1))) else further m 1)) r
+      → Follows (reads_masks m.device A) m o k (not scratch) b1 b2 (skipping words m test) r
   skip_is true r h = h
   skip_is false r h = h
 
@@ -168,7 +172,7 @@ module _ (words : Program) (A : List Entry) (m : State) (o : Origin) (k : NodeKe
   near_is : (t : ℕ) → wrapped m.device (near m.pc t) ≡ wrapped m.device (near k.pc t)
   near_is t = goes_near m o k s at (not scratch) b1 b2 t
 
-  skip_by : (cut : Bool → Option AbsState) (test : Bool) → Left cut test → Follows (has_masks A) m o k (not scratch) b1 b2 (skipping words m test) (cut_skip m.device words k (cut true) (cut false))
+  skip_by : (cut : Bool → Option AbsState) (test : Bool) → Left cut test → Follows (reads_masks m.device A) m o k (not scratch) b1 b2 (skipping words m test) (cut_skip m.device words k (cut true) (cut false))
   skip_by cut test h =
       skip_is test (cut_skip m.device words k (cut true) (cut false))
       (by_test cut test h (further m (1 + length_of (word_at words (m.pc + 1)))) (node_further m.device k (1 + length_of (word_at words (k.pc + 1)))) (further m 1) (node_further m.device k 1) past_is next_is)
@@ -185,7 +189,7 @@ module _ (words : Program) (A : List Entry) (m : State) (o : Origin) (k : NodeKe
   branch_not_by : (n t : ℕ) (low : Bool) → nat_lt n 7 ≡ low → (plain : Raw) → Covered (i.Brbc n t) plain
       → Covered (i.Brbc n t) (if low then cut_branch n k s (node_further m.device k 1) (wrapped m.device (near k.pc t)) else plain)
   branch_not_by n t true e plain h = λ clean unflagged.
-      subst (λ (pc : ℕ). Follows (has_masks A) m o k (not scratch) b1 b2 (going_to m pc) (cut_branch n k s (node_further m.device k 1) (wrapped m.device (near k.pc t))))
+      subst (λ (pc : ℕ). Follows (reads_masks m.device A) m o k (not scratch) b1 b2 (going_to m pc) (cut_branch n k s (node_further m.device k 1) (wrapped m.device (near k.pc t))))
       (turned m o k s at (not scratch) b1 b2 (flag m.sreg n) (further m 1) (near m.pc t))
       (by_test (λ b. flag_cut n b s) (flag m.sreg n) (flag_left n (ltb-true n 7 e)) (further m 1) (node_further m.device k 1) (near m.pc t) (wrapped m.device (near k.pc t)) next_is (near_is t))
   branch_not_by n t false e plain h = h
@@ -199,13 +203,13 @@ module _ (words : Program) (A : List Entry) (m : State) (o : Origin) (k : NodeKe
     abbrev ended : AbsState
     ended = before instr s
 
-    there : InBareFrame (has_masks A) m o k ended
+    there : InBareFrame (reads_masks m.device A) m o k ended
     there = forgetting_at m o k s (written instr) (sets_flags instr) (sets_carry instr) at
 
     abbrev moved_state : AbsState
     moved_state = record ended { registers = pointer_moved p s }
 
-    moved_bare : IsBare k moved_state
+    moved_bare : IsBare m.device k moved_state
     moved_bare =
         let le : IsStateLess k.inst.kind (offset_of k.sp) ended ended = node_less k ended ended there.node there.node (states_are_ordered.same ended) in
         less_node k moved_state moved_state at.node.word at.node.small at.node.masks at.node.fits at.node.pick
@@ -230,7 +234,7 @@ module _ (words : Program) (A : List Entry) (m : State) (o : Origin) (k : NodeKe
 
     left_covered : Covered instr (row_with (record ended { registers = left.registers; facts = left.facts }))
     left_covered clean unflagged =
-        (st_covered words A m o k ended there scratch b1 b2 are_written told p r s left.registers left.facts (forgotten_spares (written instr) s.flags.carry) formed.count_registers formed.facts
+        (st_covered words A m o k ended there scratch b1 b2 are_written refl p r s left.registers left.facts (forgotten_spares (written instr) s.flags.carry) formed.count_registers formed.facts
         (number_permitted m o k s at (pointer_register p) (step_before p) (pointer_pair p)) found.2.registers unflagged.protected clean).leads found.2.facts
 
     pub store_covered : Covered instr (paired_store m.device words A k s p r)

@@ -92,8 +92,11 @@ module _ (device : Device) (words : Program) (A : List Entry) (scratch : Bool) (
   adds_quiet s (i.Ld d p) e = absurd (cc)
   adds_quiet s (i.St p r) e = absurd (cc)
   adds_quiet s (i.LpmZ d) e = absurd (cc)
+  adds_quiet s (i.ElpmZ d) e = absurd (cc)
   adds_quiet s (i.LpmZPlus d) e = absurd (cc)
+  adds_quiet s (i.ElpmZPlus d) e = absurd (cc)
   adds_quiet s i.Lpm e = absurd (cc)
+  adds_quiet s i.Elpm e = absurd (cc)
   adds_quiet s (i.Pop d) e = absurd (cc)
   adds_quiet s (i.Push r) e = absurd (cc)
   adds_quiet s (i.In d a) e = absurd (cc)
@@ -188,7 +191,7 @@ module _ {may : Bool} (m : State) (o : Origin) (k : NodeKey) (s : AbsState) (at 
   picked_at =
       let less : IsStateLess k.inst.kind (offset_of k.sp) (with_index byte s) (with_index byte s) =
       picked_less k.inst.kind (offset_of k.sp) byte s s (node_less k s s at.node at.node (states_are_ordered.same s)) in
-      let node : IsBare (picking k byte) (with_index byte s) =
+      let node : IsBare m.device (picking k byte) (with_index byte s) =
       less_node (picking k byte) (with_index byte s) (with_index byte s) at.node.word at.node.small at.node.masks at.node.fits byte_small less in
       let found = picks_are_cut.keeps byte m byte_small refl o s (offset_of k.sp) at.node.formed (record { stands = at.stands; facts = at.facts }) in (
         found.0,

@@ -16,7 +16,8 @@ use Rattle.avr_model.specs.declared.instruction.UnaryOp.{UnaryOp}
 use Rattle.avr_model.specs.declared.instruction.UnaryOp.TheVariants as unary
 use Rattle.avr_model.specs.declared.instruction.Pointer.{Pointer}
 use Rattle.avr_model.specs.declared.instruction.Pointer.TheVariants as pointer
-use Rattle.avr_model.specs.Assumptions.{is_frame, has_masks}
+use Rattle.avr_model.specs.Assumptions.{is_frame}
+use Rattle.avr_model.specs.Masks.{reads_masks}
 use Rattle.avr_model.specs.Sites.{base_register, pointer_register}
 use Rattle.avr_model.specs.Effects.{port}
 use Rattle.avr_model.specs.Text.{far}
@@ -286,13 +287,16 @@ module _ (device : Device) (words : Program) (A : List Entry) (scratch : Bool) (
   row_leaves (i.Bclr n) is = leaves_flag _ s device k n false
   row_leaves (i.Bld d b) is = leaves_set _ s device _ _ refl (one_set s.registers d _)
   row_leaves (i.Bst d b) is = leaves_set _ s device _ _ refl (none_set [] s.registers)
-  row_leaves (i.Ldd d b q) is = leaves_loading _ s device k s.registers d (read_pointed device (has_masks A) k s (pointed s (base_register b) q)) (λ w. one_set s.registers d w)
+  row_leaves (i.Ldd d b q) is = leaves_loading _ s device k s.registers d (read_pointed device (reads_masks device A) k s (pointed s (base_register b) q)) (λ w. one_set s.registers d w)
   row_leaves (i.Lds d a) is = leaves_set _ s device _ _ refl (one_set s.registers d _)
   row_leaves (i.Ld d p) is =
-      leaves_loading _ s device k (pointer_moved p s) d (read_pointed device (has_masks A) k s (pointed s (pointer_register p) (step_before p))) (λ w. more_set (moved_pair p) s.registers (pointer_moved p s) d w (pointer_set p s))
+      leaves_loading _ s device k (pointer_moved p s) d (read_pointed device (reads_masks device A) k s (pointed s (pointer_register p) (step_before p))) (λ w. more_set (moved_pair p) s.registers (pointer_moved p s) d w (pointer_set p s))
   row_leaves (i.LpmZ d) is = leaves_set _ s device _ _ refl (one_set s.registers d _)
+  row_leaves (i.ElpmZ d) is = leaves_set _ s device _ _ refl (one_set s.registers d _)
   row_leaves (i.LpmZPlus d) is = leaves_set _ s device _ _ refl (more_set (30 ∷ 31 ∷ []) s.registers _ d _ (two_set s.registers 30 31 _ _))
+  row_leaves (i.ElpmZPlus d) is = leaves_set _ s device _ _ refl (more_set (30 ∷ 31 ∷ []) s.registers _ d _ (two_set s.registers 30 31 _ _))
   row_leaves i.Lpm is = leaves_set _ s device _ _ refl (one_set s.registers 0 _)
+  row_leaves i.Elpm is = leaves_set _ s device _ _ refl (one_set s.registers 0 _)
   row_leaves (i.Pop d) is = leaves_closed _ s k.sp k.pc _ popped
     where
       popped : (offset : ℕ) → Leaves (d ∷ []) s (popping device k s d offset)
@@ -308,8 +312,8 @@ module _ (device : Device) (words : Program) (A : List Entry) (scratch : Bool) (
   row_leaves (i.Call t) is = leaves_calling _ s (is_half_written k.sp) k.pc _ (leaves_none _ s)
   row_leaves (i.Rjmp t) is = leaves_same _ s _
   row_leaves (i.Rcall t) is = leaves_relative _ s device scratch k (wrapped device (far k.pc t))
-  row_leaves (i.Sbic a b) is = leaves_branch _ s (tri_not (tri_at (read_at device (has_masks A) k s (port a)).bits b)) (reading_zero (has_masks A) k (port a) b) k _ _
-  row_leaves (i.Sbis a b) is = leaves_branch _ s (tri_at (read_at device (has_masks A) k s (port a)).bits b) k (reading_zero (has_masks A) k (port a) b) _ _
+  row_leaves (i.Sbic a b) is = leaves_branch _ s (tri_not (tri_at (read_at device (reads_masks device A) k s (port a)).bits b)) (reading_zero device (reads_masks device A) k (port a) b) k _ _
+  row_leaves (i.Sbis a b) is = leaves_branch _ s (tri_at (read_at device (reads_masks device A) k s (port a)).bits b) k (reading_zero device (reads_masks device A) k (port a) b) _ _
   row_leaves i.Nop is = leaves_same _ s _
   row_leaves i.Sleep is = leaves_same _ s _
   row_leaves i.Break is = leaves_same _ s _

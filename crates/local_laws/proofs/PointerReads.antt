@@ -4,7 +4,8 @@ use Rattle.avr_model.specs.declared.instruction.Pointer.{Pointer}
 use Rattle.avr_model.specs.declared.instruction.Pointer.TheVariants as pointer
 use Rattle.avr_model.specs.Sites.{pointer_register}
 use Rattle.avr_model.specs.Wide.{wide_of}
-use Rattle.avr_model.specs.State.{State, BELOW, register, pair, read, low, high, plus16, minus16}
+use Rattle.avr_model.specs.Devices.{io_end}
+use Rattle.avr_model.specs.State.{State, register, pair, read, low, high, plus16, minus16}
 use Rattle.avr_model.specs.Effects.{set_pair, moved}
 use Rattle.avr_model.specs.Step.{with_registers}
 use Rattle.bit_domain.specs.TriByte.{Has, byte_constant}
@@ -111,7 +112,7 @@ module _ {may : Bool} (m : State) (o : Origin) (k : NodeKey) (s : AbsState) (at 
   module _ (a input : ℕ) (small : input < 256) where
     -- by the number
     number_stands : ByteStands o (read_number m.device may k s a) (read m a input)
-    number_stands = by (nat_le a BELOW)
+    number_stands = by (nat_le a (io_end m.device))
       where
         by : (b : Bool) → ByteStands o (if b then untagged (read_at m.device may k s a).bits else valued tag.None (set_of (read_at m.device may k s a))) (read m a input)
         by true = untagged_stands o (read_at m.device may k s a) (read m a input) (read_stands m o k s at a input small)
@@ -125,7 +126,7 @@ module _ {may : Bool} (m : State) (o : Origin) (k : NodeKey) (s : AbsState) (at 
     slot_read_stands : (d : ℕ) → a ≡ minus16 o.base d → ByteStands o (value_of (slot_at s.slots d)) (read m a input)
     slot_read_stands d is =
         slot_at_stands m o k s at d (read m a input) (read_small m o k s at a input small) (λ live.
-        let inside = inside_numbers m.device (o.base - d) (inside_if_live m.device m.memory.live (o.base - d) at.machine.count_live live) in
+        let inside = inside_numbers m.device (o.base - d) (inside_if_live m.device m.memory.below m.memory.live (o.base - d) at.machine.below at.machine.count_live live) in
         let here : a ≡ o.base - d = is ∙ in_word o.base d at.base_word (omega (arith, inside.0)) in
         ap (λ b. read m b input) here ∙ live_read m o k s at (o.base - d) input live)
 

@@ -9,11 +9,12 @@ use Rattle.basics.specs.Lists.{both_empty}
 use Rattle.avr_model.specs.declared.assumption.Entry.{Entry}
 use Rattle.avr_model.specs.declared.effect.Write.{Write}
 use Rattle.avr_model.specs.declared.effect.Effect.{Effect}
-use Rattle.avr_model.specs.Assumptions.{has_masks, store_line, is_fixed_site, lists}
-use Rattle.avr_model.specs.Devices.{Program, device_of}
-use Rattle.avr_model.specs.Masks.{enables_barred, is_unlisted_site, admits_enables, is_flagged_write}
+use Rattle.avr_model.specs.Assumptions.{store_line, is_fixed_site, lists}
+use Rattle.avr_model.specs.declared.device.Device.{Device}
+use Rattle.avr_model.specs.Devices.{Program, io_end, device_of}
+use Rattle.avr_model.specs.Masks.{reads_masks, enables_barred, is_unlisted_site, admits_enables, is_flagged_write}
 use Rattle.avr_model.specs.Sreg.{flag}
-use Rattle.avr_model.specs.State.{State, BELOW, pair, SPL, SPH, SREG, low, high, plus16, minus16}
+use Rattle.avr_model.specs.State.{State, pair, SPL, SPH, SREG, low, high, plus16, minus16}
 use Rattle.avr_model.specs.Effects.{set}
 use Rattle.avr_model.specs.Step.{with_registers, flagged_write}
 use Rattle.avr_model.specs.Vectors.{has_enables, is_core, is_protected, written_enables}
@@ -81,9 +82,9 @@ is_listed true false is none = absurd (cc)
 is_listed false listed is none = absurd (cc)
 
 -- the line `masks` admits the site
-admitting : (A : List Entry) (site : ℕ) → admits_enables A site ≡ true → has_masks A ≡ true
+admitting : (device : Device) (A : List Entry) (site : ℕ) → admits_enables device A site ≡ true → reads_masks device A ≡ true
 unfolding admits_enables
-admitting A site h = (and_parts (has_masks A) (is_unlisted_site (store_line A site)) h).0
+admitting device A site h = (and_parts (reads_masks device A) (is_unlisted_site (store_line A site)) h).0
 
 -- ---- what may wake a vector
 
@@ -92,8 +93,8 @@ own_slot None offset h = absurd (cc)
 own_slot (Some d) offset h = (d, (refl, ltb-true d offset h))
 
 -- such a slot lies in SRAM or above it
-slot_above : (a base d offset : ℕ) → a ≡ minus16 base d → d < offset → offset + BELOW ≤ base → base < 65536 → BELOW < a
-slot_above a base d offset is lt room word = omega arith
+slot_above : (io a base d offset : ℕ) → a ≡ minus16 base d → d < offset → offset + io ≤ base → base < 65536 → io < a
+slot_above io a base d offset is lt room word = omega arith
 
 rest_false : (a b c : Bool) → a ≡ true → (a && b && c) ≡ false → (b && c) ≡ false
 rest_false true b c is none = none
@@ -154,7 +155,7 @@ module _ {may : Bool} (m : State) (o : Origin) (k : NodeKey) (s : AbsState) (at 
   fixed_written a (Some x) is clean = subst (λ b. ReachesNode may m o told k guarded (effect b) (fixed_write m.device (Some x) k.pc key state v)) (sym (is x refl)) (known_written x clean)
 
   -- an address outside registers, stack pointer and status register
-  elsewhere_written : (a masks : ℕ) → is_core a ≡ false → EnablesAre may (written_enables m.enables a byte) masks
+  elsewhere_written : (a masks : ℕ) → is_core a ≡ false → EnablesAre may (written_enables m.device m.enables a byte) masks
       → ArrivesWhere may m o told guarded (effect a) (record { key = record key { masks = masks }; state = state })
   elsewhere_written a masks free enables =
       let is = elsewhere_is a free in
@@ -163,16 +164,16 @@ module _ {may : Bool} (m : State) (o : Origin) (k : NodeKey) (s : AbsState) (at 
       (less_still m o k s at guarded pc pc' pc_is writes registers stand less told told_fits false a byte is.beyond)
       (facts_still m o k s at guarded pc pc' pc_is writes registers stand less told told_fits false a byte is.beyond is.not_sreg)
 
-  nothing_written : (a : ℕ) → is_core a ≡ false → EnablesAre may (written_enables m.enables a byte) k.masks → ReachesNode may m o told k guarded (effect a) (one key state)
+  nothing_written : (a : ℕ) → is_core a ≡ false → EnablesAre may (written_enables m.device m.enables a byte) k.masks → ReachesNode may m o told k guarded (effect a) (one key state)
   nothing_written a free enables =
       only m o k s at guarded pc pc' pc_is writes registers stand less told told_fits false (effect a) (record { key = key; state = state }) refl (elsewhere_written a k.masks free enables)
 
-  kept_enables : (a : ℕ) → has_enables a ≡ false → EnablesAre may (written_enables m.enables a byte) k.masks
+  kept_enables : (a : ℕ) → has_enables m.device a ≡ false → EnablesAre may (written_enables m.device m.enables a byte) k.masks
   kept_enables a none = enables_stay m o k s at guarded pc pc' pc_is writes registers stand less told told_fits false byte small v stands count_values count a none
 
   -- ---- a store at a site that isn't fixed
 
-  module _ (words : Program) (A : List Entry) (mode : may ≡ has_masks A) (is_device : m.device ≡ device_of words) (was : AbsState) (r up : ℕ)
+  module _ (words : Program) (A : List Entry) (mode : may ≡ reads_masks m.device A) (is_device : m.device ≡ device_of words) (was : AbsState) (r up : ℕ)
       (permitted : permits_number was r (minus16 (plus16 (pair m r) up) up) ≡ true) where
     abbrev a : ℕ
     a = plus16 (pair m r) up
@@ -197,29 +198,29 @@ module _ {may : Bool} (m : State) (o : Origin) (k : NodeKey) (s : AbsState) (at 
     abbrev woken : Node
     woken = record { key = record key { masks = widened m.device A k.masks }; state = state }
 
-    by_none : is_core a ≡ false → EnablesAre may (written_enables m.enables a byte) k.masks → Reaches listed
+    by_none : is_core a ≡ false → EnablesAre may (written_enables m.device m.enables a byte) k.masks → Reaches listed
     by_none free enables = by_first m o told k guarded (effect a) (one key state) listed_ones (nothing_written a free enables)
 
     -- ---- where the line doesn't admit it
 
-    listed_by : (b : Bool) → is_protected a ≡ b → (is_protected a && not (lists (store_line A k.pc) a)) ≡ false → listed.faults ≡ [] → Reaches listed
-    listed_by false is unflagged clean = let parts = or_parts (is_core a) (has_enables a) is in by_none parts.0 (kept_enables a parts.1)
+    listed_by : (b : Bool) → is_protected m.device a ≡ b → (is_protected m.device a && not (lists (store_line A k.pc) a)) ≡ false → listed.faults ≡ [] → Reaches listed
+    listed_by false is unflagged clean = let parts = or_parts (is_core a) (has_enables m.device a) is in by_none parts.0 (kept_enables a parts.1)
     listed_by true is unflagged clean =
         by_rest m o told k guarded (effect a) (one key state) listed_ones
         (by_listed m o told k guarded (effect a) (λ b. written_at m.device k.pc key state false b v) (λ b. reaches was r up b) a (store_line A k.pc)
-        (is_listed (is_protected a) (lists (store_line A k.pc) a) is unflagged) reached (known_written a) clean)
+        (is_listed (is_protected m.device a) (lists (store_line A k.pc) a) is unflagged) reached (known_written a) clean)
 
     -- ---- where it does
 
-    module _ (admitted : admits_enables A k.pc ≡ true) (free : is_core a ≡ false) (unbarred : enables_barred m.device A a byte ≡ false) where
+    module _ (admitted : admits_enables m.device A k.pc ≡ true) (free : is_core a ≡ false) (unbarred : enables_barred m.device A a byte ≡ false) where
       may_is : may ≡ true
-      may_is = mode ∙ admitting A k.pc admitted
+      may_is = mode ∙ admitting m.device A k.pc admitted
 
       among : AreAmong m.enables k.masks
       among = subst (λ x. EnablesAre x m.enables k.masks) may_is at.place.enables
 
-      from_among : (masks : ℕ) → AreAmong (written_enables m.enables a byte) masks → EnablesAre may (written_enables m.enables a byte) masks
-      from_among masks h = subst (λ x. EnablesAre x (written_enables m.enables a byte) masks) (sym may_is) h
+      from_among : (masks : ℕ) → AreAmong (written_enables m.device m.enables a byte) masks → EnablesAre may (written_enables m.device m.enables a byte) masks
+      from_among masks h = subst (λ x. EnablesAre x (written_enables m.device m.enables a byte) masks) (sym may_is) h
 
       wakes : Reaches (waking true m.device A key state listed)
       wakes =
@@ -230,24 +231,24 @@ module _ {may : Bool} (m : State) (o : Origin) (k : NodeKey) (s : AbsState) (at 
             at_node = elsewhere_written a (widened m.device A k.masks) free (from_among (widened m.device A k.masks) (enables_stay_among.woken m.device A m.enables k.masks a byte among unbarred));
           }
 
-      own : is_own_slot (pointed s r up).frame (offset_of k.sp) ≡ true → EnablesAre may (written_enables m.enables a byte) k.masks
+      own : is_own_slot (pointed s r up).frame (offset_of k.sp) ≡ true → EnablesAre may (written_enables m.device m.enables a byte) k.masks
       own is =
           let slot = own_slot (pointed s r up).frame (offset_of k.sp) is in
-          kept_enables a (none_above a (slot_above a o.base slot.0 (offset_of k.sp) (frame_is m o k s at r up slot.0 slot.1.0) slot.1.1 (at.room may_is) at.base_word))
+          kept_enables a (none_above m.device a (slot_above (io_end m.device) a o.base slot.0 (offset_of k.sp) (frame_is m o k s at r up slot.0 slot.1.0) slot.1.1 (at.room may_is) at.base_word))
 
       asleep : (own_slot other : Bool) → is_own_slot (pointed s r up).frame (offset_of k.sp) ≡ own_slot
           → may_enable_other m.device A (λ b. permits_number was r (minus16 b up)) v.bits ≡ other → (not own_slot && other) ≡ false
-          → EnablesAre may (written_enables m.enables a byte) k.masks
+          → EnablesAre may (written_enables m.device m.enables a byte) k.masks
       asleep true other is is' none = own is
       asleep false other is is' none =
           from_among k.masks
           (enables_stay_among.asleep m.device A (λ b. permits_number was r (minus16 b up)) v.bits m.enables k.masks a byte among unbarred (is' ∙ none) permitted stands.bits)
 
-      unless_woken : may_wake m.device A was r up (pointed s r up) k.pc key v ≡ false → EnablesAre may (written_enables m.enables a byte) k.masks
+      unless_woken : may_wake m.device A was r up (pointed s r up) k.pc key v ≡ false → EnablesAre may (written_enables m.device m.enables a byte) k.masks
       unfolding may_wake
       unless_woken is =
           asleep (is_own_slot (pointed s r up).frame (offset_of k.sp)) (may_enable_other m.device A (λ b. permits_number was r (minus16 b up)) v.bits) refl refl
-          (rest_false (admits_enables A k.pc) _ _ admitted is)
+          (rest_false (admits_enables m.device A k.pc) _ _ admitted is)
 
       admitted_by : (b : Bool) → may_wake m.device A was r up (pointed s r up) k.pc key v ≡ b → Reaches (waking b m.device A key state listed)
       admitted_by true is = wakes
@@ -266,13 +267,13 @@ module _ {may : Bool} (m : State) (o : Origin) (k : NodeKey) (s : AbsState) (at 
     abbrev waken : Bool
     waken = may_wake m.device A was r up (pointed s r up) k.pc key v
 
-    unfixed_by : (b : Bool) → admits_enables A k.pc ≡ b → is_flagged_write (device_of words) A k.pc a byte ≡ false → (waking waken m.device A key state listed).faults ≡ []
+    unfixed_by : (b : Bool) → admits_enables m.device A k.pc ≡ b → is_flagged_write m.device A k.pc a byte ≡ false → (waking waken m.device A key state listed).faults ≡ []
         → Reaches (waking waken m.device A key state listed)
     unfixed_by true is unflagged clean =
-        let parts = or_parts (is_core a) (enables_barred (device_of words) A a byte) (first_flag (admits_enables A k.pc) _ _ unflagged is) in
-        admitted_by is parts.0 (subst (λ d. enables_barred d A a byte ≡ false) (sym is_device) parts.1) waken refl
+        let parts = or_parts (is_core a) (enables_barred m.device A a byte) (first_flag (admits_enables m.device A k.pc) _ _ unflagged is) in
+        admitted_by is parts.0 parts.1 waken refl
     unfixed_by false is unflagged clean =
-        still waken (listed_by (is_protected a) refl (second_flag (admits_enables A k.pc) _ _ unflagged is) (listed_clean waken clean))
+        still waken (listed_by (is_protected m.device a) refl (second_flag (admits_enables m.device A k.pc) _ _ unflagged is) (listed_clean waken clean))
 
     -- a byte stored through a pointer, if the store isn't flagged
     pub pointer_written : (is_fixed_site words A k.pc ≡ false → flagged_write (device_of words) A k.pc (set a byte) ≡ None)
@@ -282,4 +283,5 @@ module _ {may : Bool} (m : State) (o : Origin) (k : NodeKey) (s : AbsState) (at 
         chosen m o k s at guarded pc pc' pc_is writes registers stand less told told_fits false (effect a) (is_fixed_site words A k.pc)
         (fixed_write m.device (pointed s r up).constant k.pc key state v) (waking waken m.device A key state listed)
         (λ is rest. fixed_written a (pointed s r up).constant (number_is m o k s at r up) rest)
-        (λ is rest. unfixed_by (admits_enables A k.pc) refl (flag_none (is_flagged_write (device_of words) A k.pc a byte) a (unflagged is)) rest) clean
+        (λ is rest. unfixed_by (admits_enables m.device A k.pc) refl
+        (subst (λ d. is_flagged_write d A k.pc a byte ≡ false) (sym is_device) (flag_none (is_flagged_write (device_of words) A k.pc a byte) a (unflagged is))) rest) clean

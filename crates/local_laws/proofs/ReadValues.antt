@@ -8,12 +8,15 @@ use Rattle.std.proofs.lemmas.List.Elements.{All-get_or}
 use Rattle.std.specs.Int.{bit_at, from_bool}
 use Rattle.abs_alu.proofs.AllLaws.{any_has}
 use Rattle.local_laws.proofs.Machine.{io_value, io_small}
-use Rattle.avr_model.specs.Devices.{ramend}
+use Rattle.avr_model.proofs.AllLaws.{devices_are_alike}
+use Rattle.avr_model.specs.Devices.{io_end, ramend}
 use Rattle.avr_model.specs.declared.device.Device.{Device}
 use Rattle.avr_model.specs.Sreg.{flag}
-use Rattle.avr_model.specs.Vectors.{enable_of, has_enables}
-use Rattle.avr_model.specs.State.{State, register, read, io_byte, io_bit, sram_at, byte_in, is_live, is_sram, BELOW, SPL, SPH, SREG, low, high, minus16}
+use Rattle.avr_model.specs.Vectors.{enable_of, held_of, has_enables, io_bit, io_byte, kept_byte}
+use Rattle.avr_model.specs.State.{State, register, read, sram_at, byte_in, is_live, is_sram, SPL, SPH, SREG, low, high, minus16}
 use Rattle.vector_table.proofs.AllLaws.{enables_are_vectors, numbers_are_their_bits}
+use Rattle.bit_domain.specs.declared.bits.Tri.{Tri}
+use Rattle.bit_domain.specs.declared.bits.Tri.TheVariants.{Zero, Any}
 use Rattle.bit_domain.specs.Tri.{Permits, tri_bit}
 use Rattle.bit_domain.specs.TriByte.{Has, byte_any, byte_known, byte_with}
 use Rattle.bit_domain.proofs.AllLaws.{bytes_are_sets, writes_cover, permits-tri_bit}
@@ -34,9 +37,9 @@ use Rattle.mask_states.specs.declared.keys.SpForm.{SpForm}
 use Rattle.mask_states.specs.declared.keys.SpForm.TheVariants.{Closed, Open}
 use Rattle.mask_states.specs.Place.{EnablesAre, SpIs}
 use Rattle.local_rules.specs.Registers.{with_bits}
-use Rattle.local_rules.specs.Reads.{sp_low, sp_high, flags_tag, sreg_value, enable_read, io_tri, io_bits, value_of, slot_read, read_at}
+use Rattle.local_rules.specs.Reads.{sp_low, sp_high, flags_tag, sreg_value, enable_read, io_tri, io_bits, kept_bits, value_of, slot_read, read_at}
 use Rattle.local_laws.proofs.Bare.{InBareFrame}
-use Rattle.local_laws.proofs.Enables.{bit_permits, held_at}
+use Rattle.local_laws.proofs.Enables.{bit_permits, vector_small}
 use Rattle.local_laws.proofs.Frame.{register_stands}
 use Rattle.local_laws.proofs.Alu.{register_byte}
 use Rattle.local_laws.proofs.Memory.{inside_if_live}
@@ -104,33 +107,43 @@ flag_permits sreg n on e =
 
 -- ---- I/O
 
--- the value of each enable bit of an address permits the bit
-abbrev pub IoReads : Bool → ℕ → ℕ → ℕ → Type 0
-IoReads may enables masks a = (b v : ℕ) → enable_of a b ≡ Some v → Permits (enable_read may (bit_at masks (v - 2))) (bit_at enables (v - 2))
+-- the value of a vector's enable bit permits the bit
+abbrev ReadsBit : Bool → ℕ → ℕ → Option ℕ → Type 0
+ReadsBit may enables masks x = (v : ℕ) → x ≡ Some v → Permits (enable_read may (bit_at masks (v - 2))) (bit_at enables (v - 2))
 
-pub io_reads : (may : Bool) (enables masks a : ℕ) → EnablesAre may enables masks → IoReads may enables masks a
-io_reads may enables masks a h = λ b v e. bit_permits may enables masks (v - 2) (omega (arith, enables_are_vectors.vector a b v e)) h
+io_permits : (free : Tri) (may : Bool) (v : Option ℕ) (enables masks bit : ℕ) → Permits free bit → ReadsBit may enables masks v
+    → Permits (io_tri free may v masks) (io_bit v enables bit)
+io_permits free may None enables masks bit can h = can
+io_permits free may (Some v) enables masks bit can h = h v refl
 
--- at other addresses nothing is claimed
-pub no_reads : (may : Bool) (enables masks a : ℕ) → has_enables a ≡ false → IoReads may enables masks a
-no_reads may enables masks a none = λ b v e. absurd (let no = sym (held_at a b v e).0 ∙ none in cc)
-
-io_permits : (may : Bool) (v : Option ℕ) (enables masks free : ℕ) → ((n : ℕ) → v ≡ Some n → Permits (enable_read may (bit_at masks (n - 2))) (bit_at enables (n - 2)))
-    → Permits (io_tri may v masks) (io_bit v enables free)
-io_permits may None enables masks free h = tt
-io_permits may (Some v) enables masks free h = h v refl
-
-pub io_has : (may : Bool) (enables masks a input : ℕ) → IoReads may enables masks a → Has (io_bits may masks a) (io_byte enables a input)
+io_has : (device : Device) (may : Bool) (enables masks a input : ℕ) → EnablesAre may enables masks → Has (io_bits device may masks a) (io_byte device enables a input)
 unfolding io_byte
-io_has may enables masks a input h =
-    bytes_are_sets.built (λ b. io_tri may (enable_of a b) masks) (io_byte enables a input) (λ b lt.
-    subst (Permits (io_tri may (enable_of a b) masks))
-    (sym (numbers_are_their_bits.bits 8 (λ j. io_bit (enable_of a j) enables (bit_at input j)) (λ j l. io_value (enable_of a j) enables (bit_at input j) (bit_at-lt input j)) b lt))
-    (io_permits may (enable_of a b) enables masks (bit_at input b) (h b)))
+io_has device may enables masks a input h =
+    bytes_are_sets.built (λ b. io_tri Any may (held_of device a b) masks) (io_byte device enables a input) (λ b lt.
+    subst (Permits (io_tri Any may (held_of device a b) masks))
+    (sym (numbers_are_their_bits.bits 8 (λ j. io_bit (held_of device a j) enables (bit_at input j)) (λ j l. io_value (held_of device a j) enables (bit_at input j) (bit_at-lt input j)) b lt))
+    (io_permits Any may (held_of device a b) enables masks (bit_at input b) tt
+    (λ v e. bit_permits may enables masks (v - 2) (vector_small device v (enables_are_vectors.held_vector device a b v e)) h)))
+
+-- the byte of which one bit is changed, by each bit that enables a vector
+kept_has_by : (device : Device) (enables masks a : ℕ) → ((b : ℕ) → ReadsBit false enables masks (enable_of device a b)) → Has (kept_bits device masks a) (kept_byte device enables a)
+unfolding kept_byte
+kept_has_by device enables masks a h =
+    bytes_are_sets.built (λ b. io_tri Zero false (enable_of device a b) masks) (kept_byte device enables a) (λ b lt.
+    subst (Permits (io_tri Zero false (enable_of device a b) masks))
+    (sym (numbers_are_their_bits.bits 8 (λ j. io_bit (enable_of device a j) enables 0) (λ j l. io_value (enable_of device a j) enables 0 (omega arith)) b lt))
+    (io_permits Zero false (enable_of device a b) enables masks 0 refl (h b)))
+
+pub kept_has : (device : Device) (masks a : ℕ) → Has (kept_bits device masks a) (kept_byte device masks a)
+kept_has device masks a = kept_has_by device masks masks a (λ b v e. permits-tri_bit (bit_at masks (v - 2)) (bit_at-lt masks (v - 2)))
+
+-- at an address without enable bits nothing is claimed
+pub none_kept : (device : Device) (enables masks a : ℕ) → has_enables device a ≡ false → Has (kept_bits device masks a) (kept_byte device enables a)
+none_kept device enables masks a none = kept_has_by device enables masks a (λ b v e. absurd (let no = sym (enables_are_vectors.no_enable device a b none) ∙ e in cc))
 
 -- ---- SRAM
 
-pub inside_numbers : (device : Device) (a : ℕ) → is_sram device a ≡ true → (BELOW < a) × (a ≤ ramend device)
+pub inside_numbers : (device : Device) (a : ℕ) → is_sram device a ≡ true → (io_end device < a) × (a ≤ ramend device)
 inside_numbers device a h = (grind (arith, nat_tests), grind (arith, nat_tests))
 
 -- a test that chooses on both sides
@@ -147,13 +160,13 @@ test_only o true v x small h = h refl
 test_only o false v x small h = any_stands o x small
 
 module _ {may : Bool} (m : State) (o : Origin) (k : NodeKey) (s : AbsState) (at : InBareFrame may m o k s) where
-  byte_small : (a : ℕ) → byte_in m.memory.bytes a < 256
+  byte_small : (a : ℕ) → byte_in m.memory.below m.memory.bytes a < 256
   unfolding byte_in
   byte_small a =
       ⊎_elim
-      (λ lt. All-get_or (λ b. b < 256) m.memory.bytes (a - (BELOW + 1)) 0 lt at.machine.sram_bytes)
-      (λ over. let e = get_or_past m.memory.bytes (a - (BELOW + 1)) 0 over in omega arith)
-      (cases_lt (a - (BELOW + 1)) (length m.memory.bytes))
+      (λ lt. All-get_or (λ b. b < 256) m.memory.bytes (a - (m.memory.below + 1)) 0 lt at.machine.sram_bytes)
+      (λ over. let e = get_or_past m.memory.bytes (a - (m.memory.below + 1)) 0 over in omega arith)
+      (cases_lt (a - (m.memory.below + 1)) (length m.memory.bytes))
 
   pub read_small : (a input : ℕ) → input < 256 → read m a input < 256
   unfolding read
@@ -162,7 +175,7 @@ module _ {may : Bool} (m : State) (o : Origin) (k : NodeKey) (s : AbsState) (at 
       (small_by_test _ (low m.sp) _ (omega arith)
       (small_by_test _ (high m.sp) _ (omega (arith, at.machine.sp_word))
       (small_by_test _ m.sreg _ at.machine.sreg_byte
-      (small_by_test _ (io_byte m.enables a input) _ (io_small m.enables a input)
+      (small_by_test _ (io_byte m.device m.enables a input) _ (io_small m.device m.enables a input)
       (small_by_test _ (sram_at m a) input (byte_small a) lt)))))
 
   sreg_stands : ByteStands o (sreg_value k s) m.sreg
@@ -171,16 +184,17 @@ module _ {may : Bool} (m : State) (o : Origin) (k : NodeKey) (s : AbsState) (at 
       (entry_holds o s.flags.entry m.sreg at.stands.flags.entry)
       (writes_cover.members s.flags.bits 7 (tri_bit (from_bool k.i)) m.sreg m.sreg at.stands.flags.bits (flag_permits m.sreg 7 k.i at.place.i) (λ j lt other. refl))
 
-  io_stands : (told : Bool) (a input : ℕ) → IoReads told m.enables k.masks a → ByteStands o (untagged (io_bits told k.masks a)) (io_byte m.enables a input)
-  io_stands told a input h =
-      bits_make_values.stands o tag.None (io_bits told k.masks a) (io_byte m.enables a input) (io_small m.enables a input) tt (io_has told m.enables k.masks a input h)
+  io_stands : (a input : ℕ) → ByteStands o (untagged (io_bits m.device may k.masks a)) (io_byte m.device m.enables a input)
+  io_stands a input =
+      bits_make_values.stands o tag.None (io_bits m.device may k.masks a) (io_byte m.device m.enables a input) (io_small m.device m.enables a input) tt
+      (io_has m.device may m.enables k.masks a input at.place.enables)
 
   -- the byte of a live address is that of SRAM
   pub live_read : (a input : ℕ) → is_live m.memory a ≡ true → read m a input ≡ sram_at m a
   unfolding read
   live_read a input live =
-      let inside : is_sram m.device a ≡ true = inside_if_live m.device m.memory.live a at.machine.count_live live in
-      grind (arith, nat_tests)
+      let inside : is_sram m.device a ≡ true = inside_if_live m.device m.memory.below m.memory.live a at.machine.below at.machine.count_live live in
+      grind (arith, nat_tests, devices_are_alike.least_io m.device)
 
   slot_stands : (a x : ℕ) (slot : Slot AbsByte) → x < 256 → (is_live m.memory a ≡ true → x ≡ sram_at m a) → SlotStands o m.memory a slot → ByteStands o (value_of slot) x
   slot_stands a x Free small is h = any_stands o x small
@@ -195,7 +209,7 @@ module _ {may : Bool} (m : State) (o : Origin) (k : NodeKey) (s : AbsState) (at 
       (cases_lt d (length s.slots))
 
   sram_or_input : (a input : ℕ) → is_live m.memory a ≡ true → (if is_sram m.device a then sram_at m a else input) ≡ sram_at m a
-  sram_or_input a input live = ap (λ b. if b then sram_at m a else input) (inside_if_live m.device m.memory.live a at.machine.count_live live)
+  sram_or_input a input live = ap (λ b. if b then sram_at m a else input) (inside_if_live m.device m.memory.below m.memory.live a at.machine.below at.machine.count_live live)
 
   slot_small : (a input : ℕ) → input < 256 → (if is_sram m.device a then sram_at m a else input) < 256
   slot_small a input lt = small_by_test (is_sram m.device a) (sram_at m a) input (byte_small a) lt
@@ -214,16 +228,12 @@ module _ {may : Bool} (m : State) (o : Origin) (k : NodeKey) (s : AbsState) (at 
   kind_slot Call a input lt root = any_stands o (if is_sram m.device a then sram_at m a else input) (slot_small a input lt)
   kind_slot (Vector v) a input lt root = any_stands o (if is_sram m.device a then sram_at m a else input) (slot_small a input lt)
 
-  -- the value of a known address, if its enable bits are permitted
-  pub read_stands_by : (told : Bool) (a input : ℕ) → input < 256 → IoReads told m.enables k.masks a → ByteStands o (read_at m.device told k s a) (read m a input)
+  -- the value of a known address
+  pub read_stands : (a input : ℕ) → input < 256 → ByteStands o (read_at m.device may k s a) (read m a input)
   unfolding read read_at
-  read_stands_by told a input lt h =
+  read_stands a input lt =
       by_test o _ _ _ _ _ (register_stands m o k s at a)
       (by_test o (a == SPL) _ _ _ _ (low_stands m.device o at.base_word m.is_open m.sp at.machine.sp_word k.inst.kind k.sp at.root at.place.sp)
       (by_test o (a == SPH) _ _ _ _ (high_stands m.device o at.base_word m.is_open m.sp at.machine.sp_word k.inst.kind k.sp at.root at.place.sp)
       (by_test o (a == SREG) _ _ _ _ sreg_stands
-      (by_test o (nat_le a BELOW) _ _ _ _ (io_stands told a input h) (kind_slot k.inst.kind a input lt at.root)))))
-
-  -- the value of a known address
-  pub read_stands : (a input : ℕ) → input < 256 → ByteStands o (read_at m.device may k s a) (read m a input)
-  read_stands a input lt = read_stands_by may a input lt (io_reads may m.enables k.masks a at.place.enables)
+      (by_test o (nat_le a (io_end m.device)) _ _ _ _ (io_stands a input) (kind_slot k.inst.kind a input lt at.root)))))

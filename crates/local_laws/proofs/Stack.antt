@@ -4,11 +4,11 @@ use Rattle.std.proofs.lemmas.Bool.Decides.{nat_tests}
 use Rattle.std.proofs.lemmas.List.{append_assoc}
 use Rattle.basics.specs.Items.{first_in}
 use Rattle.avr_model.proofs.AllLaws.{devices_are_alike}
-use Rattle.avr_model.specs.Devices.{size_of, ramend, wrapped}
+use Rattle.avr_model.specs.Devices.{io_end, size_of, ramend, wrapped}
 use Rattle.avr_model.specs.declared.device.Device.{Device}
 use Rattle.avr_model.specs.declared.effect.Effect.{Effect}
 use Rattle.avr_model.specs.Sreg.{flag}
-use Rattle.avr_model.specs.State.{State, Memory, BELOW, register, sram_at, is_sram, is_live, plus16, minus16, low, read, SPL, SPH, SREG}
+use Rattle.avr_model.specs.State.{State, Memory, register, sram_at, is_sram, is_live, plus16, minus16, low, read, SPL, SPH, SREG}
 use Rattle.avr_model.specs.Effects.{further, calling, way_back, push_effect, pop_effect}
 use Rattle.avr_model.specs.Step.{after, memory_after, all_inside}
 use Rattle.sp_domain.specs.declared.slots.Slot.{Slot}
@@ -51,6 +51,7 @@ inside_two : (device : Device) (sp offset base word : ℕ) → sp + offset ≡ b
     → all_inside device (way_back sp word) ≡ true
 inside_two device sp offset base word e low room =
     let few = devices_are_alike.most_bytes device in
+    let io = devices_are_alike.most_io device in
     let next_one : minus16 sp 1 + 1 ≡ sp = omega (arith, few, e, low, room) in
     let here : is_sram device sp ≡ true = inside_one device sp offset base e low (omega (arith, room)) in
     let there : is_sram device (minus16 sp 1) ≡ true = inside_one device (minus16 sp 1) (offset + 1) base (omega (arith, next_one, e)) low (omega (arith, room)) in
@@ -58,18 +59,18 @@ inside_two device sp offset base word e low room =
 
 -- the byte of an address in SRAM
 in_sram : (device : Device) (a r l h f i b x : ℕ) → is_sram device a ≡ true
-    → (if nat_lt a 0x20 then r else (if a == SPL then l else (if a == SPH then h else (if a == SREG then f else (if nat_le a BELOW then i else (if is_sram device a then b else x)))))) ≡ b
-in_sram device a r l h f i b x inside = grind (arith, nat_tests)
+    → (if nat_lt a 0x20 then r else (if a == SPL then l else (if a == SPH then h else (if a == SREG then f else (if nat_le a (io_end device) then i else (if is_sram device a then b else x)))))) ≡ b
+in_sram device a r l h f i b x inside = grind (arith, nat_tests, devices_are_alike.least_io device)
 
-live_read : (m : State) (a input : ℕ) → length m.memory.live ≡ size_of m.device → is_live m.memory a ≡ true → read m a input ≡ sram_at m a
+live_read : (m : State) (a input : ℕ) → m.memory.below ≡ io_end m.device → length m.memory.live ≡ size_of m.device → is_live m.memory a ≡ true → read m a input ≡ sram_at m a
 unfolding read
-live_read m a input count live = in_sram m.device a _ _ _ _ _ (sram_at m a) input (inside_if_live m.device m.memory.live a count live)
+live_read m a input is count live = in_sram m.device a _ _ _ _ _ (sram_at m a) input (inside_if_live m.device m.memory.below m.memory.live a is count live)
 
 -- the value of a slot holds of its byte
-slot_read : (m : State) (o : Origin) (a input : ℕ) (slot : Slot AbsByte) → length m.memory.live ≡ size_of m.device → read m a input < 256 → SlotStands o m.memory a slot
+slot_read : (m : State) (o : Origin) (a input : ℕ) (slot : Slot AbsByte) → m.memory.below ≡ io_end m.device → length m.memory.live ≡ size_of m.device → read m a input < 256 → SlotStands o m.memory a slot
     → ByteStands o (value_of slot) (read m a input)
-slot_read m o a input Free count small h = any_stands o (read m a input) small
-slot_read m o a input (Guarded v) count small h = subst (ByteStands o v) (sym (live_read m a input count h.0)) h.1
+slot_read m o a input Free is count small h = any_stands o (read m a input) small
+slot_read m o a input (Guarded v) is count small h = subst (ByteStands o v) (sym (live_read m a input is count h.0)) h.1
 
 module _ {may : Bool} (m : State) (o : Origin) (k : NodeKey) (s : AbsState) (at : InBareFrame may m o k s) where
   sp_is : (offset : ℕ) → k.sp ≡ Closed offset → m.sp + offset ≡ o.base
@@ -106,7 +107,7 @@ module _ {may : Bool} (m : State) (o : Origin) (k : NodeKey) (s : AbsState) (at 
             inside = λ room. refl;
             place = λ within. record { pc = next_is m o k s at; enables = at.place.enables; i = at.place.i; delay = refl; sp = (refl, omega (arith, at.base_word)) };
             registers = set_one m o k s at d (value_of (slot_at s.slots n)) (read m (plus16 m.sp 1) b1)
-                (slot_read m o (plus16 m.sp 1) b1 (slot_at s.slots n) at.machine.count_live (read_small m o k s at (plus16 m.sp 1) b1 small)
+                (slot_read m o (plus16 m.sp 1) b1 (slot_at s.slots n) at.machine.below at.machine.count_live (read_small m o k s at (plus16 m.sp 1) b1 small)
                 (subst (λ a. SlotStands o m.memory a (slot_at s.slots n)) address (at.stands.slots n (omega arith))));
             flags = at.stands.flags;
             less = less_set m.registers s.flags.carry (flag m.sreg 0) d (read m (plus16 m.sp 1) b1) spare at.stands.less;
@@ -127,8 +128,8 @@ module _ {may : Bool} (m : State) (o : Origin) (k : NodeKey) (s : AbsState) (at 
         → SlotStands o (memory_after m.memory (not b) false (minus16 m.sp 1) [] (record { address = m.sp; byte = register m r } ∷ [])) m.sp (pushed_slot b (value s r))
     pushed_stands true r inside lt = tt
     pushed_stands false r inside lt = (
-      pushed_live m.device m.memory (minus16 m.sp 1) at.machine.count_bytes at.machine.count_live m.sp (register m r) inside lt,
-      subst (ByteStands o (value s r)) (sym (pushed_byte m.device m.memory (minus16 m.sp 1) at.machine.count_bytes at.machine.count_live true m.sp (register m r) inside)) (register_stands m o k s at r),
+      pushed_live m.device m.memory (minus16 m.sp 1) at.machine.below at.machine.count_bytes at.machine.count_live m.sp (register m r) inside lt,
+      subst (ByteStands o (value s r)) (sym (pushed_byte m.device m.memory (minus16 m.sp 1) at.machine.below at.machine.count_bytes at.machine.count_live true m.sp (register m r) inside)) (register_stands m o k s at r),
     )
 
     pushed : (r offset : ℕ) → k.sp ≡ Closed offset → (pushing m.device scratch k s r offset).faults ≡ [] → FollowsWhere may m o s.facts k (not scratch) b1 b2 (push_effect m r) (pushing m.device scratch k s r offset)

@@ -1,7 +1,7 @@
 -- The local part in terms of a step.
 use Rattle.std.proofs.Common.{◌≡◌, ◌≢◌, refl, sym, ap₂, subst, ℕ, ◌<◌, ◌||◌, Bool, true, false, not, if◌then◌else◌, List, [], ◌∷◌, ◌++◌, Option, Some, None, Ok, Contains}
 use Rattle.local_laws.proofs.Stays.{done_is}
-use Rattle.avr_model.specs.Assumptions.{has_masks}
+use Rattle.avr_model.specs.Masks.{reads_masks}
 use Rattle.avr_model.specs.declared.assumption.Entry.{Entry}
 use Rattle.avr_model.specs.declared.choice.Flag.{Flag}
 use Rattle.avr_model.specs.declared.effect.Effect.{Effect}
@@ -11,7 +11,7 @@ use Rattle.avr_model.specs.Sreg.{flag}
 use Rattle.avr_model.specs.State.{State}
 use Rattle.avr_model.specs.Effects.{effect_of}
 use Rattle.avr_model.specs.Step.{Answer, Undefined, Overflow, Done, after, all_inside, live_write, protected_write, unlisted_transfer, flag_by, flagged_or, is_unlisted, go}
-use Rattle.avr_model.specs.Devices.{Program}
+use Rattle.avr_model.specs.Devices.{Program, device_of}
 use Rattle.sp_domain.specs.Tags.{Origin}
 use Rattle.abs_state.specs.declared.state.AbsState.{AbsState}
 use Rattle.pair_domain.proofs.AllLaws.{known_is_ordered}
@@ -22,7 +22,7 @@ use Rattle.local_rules.specs.declared.local.NodeFault.{NodeFault}
 use Rattle.local_rules.specs.declared.local.Local.{Local}
 use Rattle.local_rules.specs.Raw.{Raw}
 use Rattle.local_rules.specs.Local.{raw, joined_onto, settled, local}
-use Rattle.local_rules.specs.Cover.{InFrameIn, IsWithinBase, CoversStep, ArrivesAt, Follows, stays, calls, leaves, IsStep}
+use Rattle.local_rules.specs.Cover.{InFrameIn, IsNodeIn, IsWithinBase, CoversStep, ArrivesAt, Follows, stays, calls, leaves, IsStep}
 use Rattle.local_laws.specs.Laws.{JoinsAreLeast, LocalPartsAreNodes, AreNodesIn, StepsAreCovered}
 use Rattle.local_laws.proofs.Covered.{local_parts_cover}
 use Rattle.local_laws.proofs.Memory.{live_bytes_stay}
@@ -69,19 +69,19 @@ some_defined : (test : Bool) (flags : Option Flag) (m : State) (at pc : ℕ) →
 some_defined true flags m at pc e = flagged_defined flags m pc e
 some_defined false flags m at pc e = cc
 
-module _ {followed : Bool} (words : Program) (A : List Entry) (m : State) (o : Origin) (k : NodeKey) (s : AbsState) (b1 b2 : ℕ) (at : InFrameIn followed (has_masks A) m o k s) (small1 : b1 < 256) (small2 : b2 < 256) where
+module _ {followed : Bool} (words : Program) (A : List Entry) (m : State) (o : Origin) (k : NodeKey) (s : AbsState) (b1 b2 : ℕ) (told : m.device ≡ device_of words) (at : InFrameIn followed (reads_masks (device_of words) A) m o k s) (small1 : b1 < 256) (small2 : b2 < 256) where
   is_defined : (r : Raw) (found : Option Instr) (pc : ℕ) → CoversStep words A m o k b1 b2 found r → r.faults ≡ [] → go words A m found b1 b2 ≢ Undefined pc
   is_defined r None pc covered none e = covered none
   is_defined r (Some instr) pc covered none e = some_defined _ _ _ m.pc pc e
 
   module _ (joins : JoinsAreLeast) (nodes : LocalPartsAreNodes) (none : (raw words A k s).faults ≡ [])
       (within : (to : Node) → Contains (joined (raw words A k s)).same to → IsWithinBase o.base to.key.sp) where
-    are_nodes : AreNodesIn followed (raw words A k s).moves
-    are_nodes to member = (nodes.nodes words A k s to at.node none member).1
+    are_nodes : AreNodesIn (device_of words) followed (raw words A k s).moves
+    are_nodes to member = (nodes.nodes words A k s to (subst (λ device. IsNodeIn device followed k s) told at.node) none member).1
 
     -- a raw successor is below a joined one, and the machine is there too
-    lands_joined : (guarded : Bool) (e : Effect) (to : Node) → Contains (raw words A k s).moves to → to.key.inst ≡ k.inst → ArrivesAt (has_masks A) m o guarded e to
-        → live_write m.memory (e.stores ++ e.pushes) ≡ None → all_inside m.device e.pushes ≡ true → IsStep (has_masks A) m o k b1 b2 (joined (raw words A k s)) (after m guarded e)
+    lands_joined : (guarded : Bool) (e : Effect) (to : Node) → Contains (raw words A k s).moves to → to.key.inst ≡ k.inst → ArrivesAt (reads_masks (device_of words) A) m o guarded e to
+        → live_write m.memory (e.stores ++ e.pushes) ≡ None → all_inside m.device e.pushes ≡ true → IsStep (reads_masks (device_of words) A) m o k b1 b2 (joined (raw words A k s)) (after m guarded e)
     lands_joined guarded e to member inst lands unhit inside =
         let above = joins.above (raw words A k s).moves to are_nodes member in
         let whole : IsWithinBase o.base to.key.sp = within (record { key = to.key; state = above.state }) above.present in
@@ -92,13 +92,13 @@ module _ {followed : Bool} (words : Program) (A : List Entry) (m : State) (o : O
         (known_is_ordered.less to.state.facts above.state.facts n.registers (flag n.sreg 0) (flag n.sreg 1) (flag n.sreg 4) above.above.facts lands.facts)
 
     follows_steps : (guarded : Bool) (e : Effect) → live_write m.memory (e.stores ++ e.pushes) ≡ None → all_inside m.device e.pushes ≡ true
-        → Follows (has_masks A) m o k guarded b1 b2 e (raw words A k s) → IsStep (has_masks A) m o k b1 b2 (joined (raw words A k s)) (after m guarded e)
+        → Follows (reads_masks (device_of words) A) m o k guarded b1 b2 e (raw words A k s) → IsStep (reads_masks (device_of words) A) m o k b1 b2 (joined (raw words A k s)) (after m guarded e)
     follows_steps guarded e unhit inside (stays to member inst lands) = lands_joined guarded e to member inst lands unhit inside
     follows_steps guarded e unhit inside (calls offset site member form guards is) = calls offset site member form (ap₂ (after m) guards is)
     follows_steps guarded e unhit inside (leaves x exit kind form returns) = leaves x guarded e exit kind form returns refl
 
     go_steps : (n : State) (found : Option Instr) → CoversStep words A m o k b1 b2 found (raw words A k s) → go words A m found b1 b2 ≡ Done n
-        → IsStep (has_masks A) m o k b1 b2 (joined (raw words A k s)) n
+        → IsStep (reads_masks (device_of words) A) m o k b1 b2 (joined (raw words A k s)) n
     go_steps n None covered e = absurd (covered none)
     go_steps n (Some instr) covered e =
         let effect = effect_of words m instr b1 b2 in
@@ -106,7 +106,7 @@ module _ {followed : Bool} (words : Program) (A : List Entry) (m : State) (o : O
         let unflagged = flags_none m.pc (live_write m.memory (effect.stores ++ effect.pushes)) (protected_write words A m.pc instr effect) (unlisted_transfer A m.pc instr effect)
         (after m (not (is_scratch words m.pc)) effect) n passed.1 in
         let inside = inside_if_listed (all_inside m.device effect.pushes) (unlisted_transfer A m.pc instr effect) passed.0 unflagged.1.1.0 in
-        subst (IsStep (has_masks A) m o k b1 b2 (joined (raw words A k s))) unflagged.1.1.1
+        subst (IsStep (reads_masks (device_of words) A) m o k b1 b2 (joined (raw words A k s))) unflagged.1.1.1
         (follows_steps (not (is_scratch words m.pc)) effect unflagged.0 inside
         (covered none (record { protected = unflagged.1.0; listed = unflagged.1.1.0 })))
 
@@ -114,10 +114,10 @@ pub steps_are_covered : JoinsAreLeast → LocalPartsAreNodes → StepsAreCovered
 steps_are_covered joins nodes = record {
   defined = λ words A m o k s l b1 b2 pc are told at small1 small2 there.
       let here = local_is words A k s l there in
-      is_defined words A m o k s b1 b2 at small1 small2 (raw words A k s) (instruction_at words m.pc) pc (local_parts_cover.covered words A m o k s b1 b2 are told at small1 small2) here.0;
+      is_defined words A m o k s b1 b2 told at small1 small2 (raw words A k s) (instruction_at words m.pc) pc (local_parts_cover.covered words A m o k s b1 b2 are told at small1 small2) here.0;
   done = λ words A m n o k s l b1 b2 are told at small1 small2 there within e.
       let here = local_is words A k s l there in
-      subst (λ x. IsStep (has_masks A) m o k b1 b2 x n) here.1
-      (go_steps words A m o k s b1 b2 at small1 small2 joins nodes here.0 (subst (λ x. (to : Node) → Contains x.same to → IsWithinBase o.base to.key.sp) (sym here.1) within)
+      subst (λ x. IsStep (reads_masks (device_of words) A) m o k b1 b2 x n) here.1
+      (go_steps words A m o k s b1 b2 told at small1 small2 joins nodes here.0 (subst (λ x. (to : Node) → Contains x.same to → IsWithinBase o.base to.key.sp) (sym here.1) within)
       n (instruction_at words m.pc) (local_parts_cover.covered words A m o k s b1 b2 are told at small1 small2) e);
 }

@@ -1,23 +1,23 @@
 -- A byte written to a known address: the rows cover the machine's step.
-use Rattle.std.proofs.Common.{◌≡◌, refl, sym, ◌∙◌, ap, ap₂, subst, ℕ, ◌+◌, ◌-◌, ◌*◌, ◌^◌, ◌<◌, ◌≤◌, Bool, true, false, not, ◌&&◌, nat_lt, nat_le, if◌then◌else◌, ◌==◌, List, [], ◌∷◌, length, Option, Some, None, slice_set, slice_index, arith, Contains, eqb-true, eq-eqb, ltb-true, ne_eqb, find, ◌≢◌, subst₂}
+use Rattle.std.proofs.Common.{◌≡◌, refl, sym, ◌∙◌, ap, ap₂, subst, ℕ, ◌+◌, ◌-◌, ◌*◌, ◌^◌, ◌<◌, ◌≤◌, Bool, true, false, not, ◌&&◌, nat_lt, nat_le, if◌then◌else◌, ◌==◌, List, [], ◌∷◌, length, Option, Some, None, slice_set, slice_index, arith, Contains, eqb-true, eq-eqb, ltb-true, ne_eqb, ◌≢◌, subst₂}
 use Rattle.std.proofs.lemmas.Bool.{or_parts}
 use Rattle.std.proofs.lemmas.Grind.{elements}
 use Rattle.std.proofs.lemmas.Bool.Decides.{nat_tests}
 use Rattle.std.proofs.lemmas.Nat.Bits.{bit_at-lt, same_from_bits_below}
 use Rattle.std.specs.Int.{bit_at}
-use Rattle.std.specs.List.{list_any}
 use Rattle.basics.specs.Items.{first_in}
+use Rattle.avr_model.specs.declared.device.Device.{Device}
 use Rattle.avr_model.specs.Devices.{size_of}
 use Rattle.avr_model.specs.declared.effect.Write.{Write}
 use Rattle.avr_model.specs.declared.effect.Effect.{Effect}
 use Rattle.avr_model.specs.Bits.{number_of}
 use Rattle.avr_model.specs.Sreg.{flag}
-use Rattle.avr_model.specs.Vectors.{Vector, vectors, row_of, has_enables, written_enable, written_enables}
+use Rattle.avr_model.specs.Vectors.{enable_count, has_enables, place_at, written_enable, written_enables}
 use Rattle.avr_model.specs.State.{State, SPL, SPH, SREG, low, high, i_flag}
 use Rattle.avr_model.specs.Effects.{set, delay_of_out}
 use Rattle.avr_model.specs.Step.{after, with_registers, registers_after, sreg_after}
 use Rattle.vector_table.specs.Laws.{AreBits}
-use Rattle.vector_table.proofs.AllLaws.{numbers_are_their_bits}
+use Rattle.vector_table.proofs.AllLaws.{numbers_are_their_bits, enables_are_vectors}
 use Rattle.bit_domain.specs.declared.bits.Tri.{Tri}
 use Rattle.bit_domain.specs.declared.bits.Tri.TheVariants.{Zero, One, Any}
 use Rattle.bit_domain.specs.Tri.{Permits}
@@ -88,38 +88,24 @@ by_bits n x f h same =
     let bits : AreBits n f = λ j lt. subst (λ (b : ℕ). b < 2) (same j lt) (bit_at-lt x j) in
     same_from_bits_below n (number_of n f) x (numbers_are_their_bits.below n f bits) h (λ j lt. numbers_are_their_bits.bits n f bits j lt ∙ sym (same j lt))
 
-found_elsewhere : (rs : List Vector) (p : Vector → Bool) (a byte old : ℕ) → list_any (λ r. r.address == a) rs ≡ false → written_enable (find p rs) a byte old ≡ old
-found_elsewhere [] p a byte old h = refl
-found_elsewhere (r ∷ rs) p a byte old h =
-    let parts = or_parts (r.address == a) (list_any (λ r. r.address == a) rs) h in
-    here (p r) parts.0 (found_elsewhere rs p a byte old parts.1)
-  where
-    here : (b : Bool) → (r.address == a) ≡ false → written_enable (find p rs) a byte old ≡ old → written_enable (if b then Some r else find p rs) a byte old ≡ old
-    here true other rest = ap (λ t. if t then bit_at byte r.bit else old) other
-    here false other rest = rest
-
 -- a write of an address without enable bits keeps them
-pub enables_kept : (enables a byte : ℕ) → enables < 2 ^ 25 → has_enables a ≡ false → written_enables enables a byte ≡ enables
-unfolding written_enables has_enables row_of
-enables_kept enables a byte small h =
-    by_bits 25 enables (λ k. written_enable (row_of (k + 2)) a byte (bit_at enables k)) small
-    (λ j lt. sym (found_elsewhere vectors (λ r. r.number == j + 2) a byte (bit_at enables j) h))
+pub enables_kept : (device : Device) (enables a byte : ℕ) → enables < 2 ^ enable_count device → has_enables device a ≡ false → written_enables device enables a byte ≡ enables
+unfolding written_enables
+enables_kept device enables a byte small h =
+    by_bits (enable_count device) enables (λ k. written_enable (place_at device (k + 2) a) byte (bit_at enables k)) small
+    (λ j lt. sym (ap (λ p. written_enable p byte (bit_at enables j)) (enables_are_vectors.none device (j + 2) a h)))
 
-above_registers : (a : ℕ) → a < 0x20 → has_enables a ≡ false
-unfolding has_enables
-above_registers a lt = grind (arith, nat_tests)
+above_registers : (device : Device) (a : ℕ) → a < 0x20 → has_enables device a ≡ false
+above_registers device a lt = enables_are_vectors.core device a (grind (arith, nat_tests))
 
-spl_holds_none : has_enables SPL ≡ false
-unfolding has_enables
-spl_holds_none = refl
+spl_holds_none : (device : Device) → has_enables device SPL ≡ false
+spl_holds_none device = enables_are_vectors.core device SPL refl
 
-sph_holds_none : has_enables SPH ≡ false
-unfolding has_enables
-sph_holds_none = refl
+sph_holds_none : (device : Device) → has_enables device SPH ≡ false
+sph_holds_none device = enables_are_vectors.core device SPH refl
 
-sreg_holds_none : has_enables SREG ≡ false
-unfolding has_enables
-sreg_holds_none = refl
+sreg_holds_none : (device : Device) → has_enables device SREG ≡ false
+sreg_holds_none device = enables_are_vectors.core device SREG refl
 
 -- ---- tests
 
@@ -189,7 +175,7 @@ module _ {may : Bool} (m : State) (o : Origin) (k : NodeKey) (s : AbsState) (at 
 
   -- an address outside the stack pointer and the status register
   pub elsewhere : (a byte masks : ℕ) (values : List AbsByte) (c : CarryTag) (x : Option PairFacts) → IsCarryWithin s.flags.carry c → (a == SPL) ≡ false → (a == SPH) ≡ false → (a == SREG) ≡ false
-      → EnablesAre may (written_enables m.enables a byte) masks
+      → EnablesAre may (written_enables m.device m.enables a byte) masks
       → RegistersStand o values (registers_after (with_registers m.registers writes) (set a byte))
       → LessHolds (registers_after (with_registers m.registers writes) (set a byte)) c (flag m.sreg 0)
       → (HoldsAt told (with_registers m.registers writes) m.sreg → HoldsAt x (registers_after (with_registers m.registers writes) (set a byte)) (sreg_after m.sreg (set a byte)))
@@ -223,19 +209,19 @@ module _ {may : Bool} (m : State) (o : Origin) (k : NodeKey) (s : AbsState) (at 
 
   -- one of the splits, for these enable bits
   split_lands : (a byte left : ℕ) (v : AbsByte) → nat_lt a 0x20 ≡ false → (a == SPL) ≡ false → (a == SPH) ≡ false → (a == SREG) ≡ false
-      → Contains (splits k.masks a v.bits) left → EnablesAre may (written_enables m.enables a byte) left
-      → ReachesNode may m o told k guarded (stored m pc writes is_out a byte) (masks_written key state a v)
+      → Contains (splits m.device k.masks a v.bits) left → EnablesAre may (written_enables m.device m.enables a byte) left
+      → ReachesNode may m o told k guarded (stored m pc writes is_out a byte) (masks_written m.device key state a v)
   split_lands a byte left v beyond not_low not_high not_sreg present enables =
       record {
         to = record { key = record key { masks = left }; state = state };
-        present = in_map (λ masks. record { key = record key { masks = masks }; state = state }) left (splits k.masks a v.bits) present;
+        present = in_map (λ masks. record { key = record key { masks = masks }; state = state }) left (splits m.device k.masks a v.bits) present;
         inst = refl;
         at_node = elsewhere a byte left registers s.flags.carry told (carries_are_ordered.same s.flags.carry) not_low not_high not_sreg enables
             (changes_none a byte beyond) (less_still a byte beyond) (facts_still a byte beyond not_sreg);
       }
 
   -- a byte at an address of enable bits, with one of its splits
-  pub split_written : (a byte left : ℕ) (v : AbsByte) → IsIo a → Contains (splits k.masks a v.bits) left → EnablesAre may (written_enables m.enables a byte) left
+  pub split_written : (a byte left : ℕ) (v : AbsByte) → IsIo m.device a → Contains (splits m.device k.masks a v.bits) left → EnablesAre may (written_enables m.device m.enables a byte) left
       → ReachesNode may m o told k guarded (stored m pc writes is_out a byte) (written_at m.device k.pc key state is_out a v)
   split_written a byte left v io present enables =
       subst (ReachesNode may m o told k guarded (stored m pc writes is_out a byte)) (sym (io_written m.device k.pc key state is_out a v io))
@@ -244,8 +230,8 @@ module _ {may : Bool} (m : State) (o : Origin) (k : NodeKey) (s : AbsState) (at 
   module _ (byte : ℕ) (small : byte < 256) (v : AbsByte) (stands : ByteStands o v byte) (count_values : length registers ≡ 32)
       (count : length (with_registers m.registers writes) ≡ 32) where
     -- a write of an address without enable bits
-    pub enables_stay : (a : ℕ) → has_enables a ≡ false → EnablesAre may (written_enables m.enables a byte) k.masks
-    enables_stay a none = same_enables may (written_enables m.enables a byte) m.enables k.masks (enables_kept m.enables a byte at.machine.enable_bits none) at.place.enables
+    pub enables_stay : (a : ℕ) → has_enables m.device a ≡ false → EnablesAre may (written_enables m.device m.enables a byte) k.masks
+    enables_stay a none = same_enables may (written_enables m.device m.enables a byte) m.enables k.masks (enables_kept m.device m.enables a byte at.machine.enable_bits none) at.place.enables
 
     register_written : (a : ℕ) → nat_lt a 0x20 ≡ true → (a == SPL) ≡ false → (a == SPH) ≡ false → (a == SREG) ≡ false
         → ArrivesWhere may m o told guarded (stored m pc writes is_out a byte) (record { key = key; state = node_written state a v })
@@ -264,7 +250,7 @@ module _ {may : Bool} (m : State) (o : Origin) (k : NodeKey) (s : AbsState) (at 
         (record { kept = λ r other. set_other old a byte r other; bytes = λ r inside. (new_stand r inside).small })
         (record { carry_kept = λ e. refl; others_kept = λ e. (refl, refl, refl) }) held)) in
         elsewhere a byte k.masks (slice_set registers a w) c (written_hull (slice_set registers a w) a left) (forgotten_less (a ∷ []) s.flags.carry) not_low not_high not_sreg
-        (enables_stay a (above_registers a lt))
+        (enables_stay a (above_registers m.device a lt))
         (subst (λ t. RegistersStand o (slice_set registers a w) (if t then slice_set (with_registers m.registers writes) a byte else with_registers m.registers writes)) (sym here)
         new_stand)
         (subst (λ t. LessHolds (if t then slice_set (with_registers m.registers writes) a byte else with_registers m.registers writes) c (flag m.sreg 0)) (sym here)
@@ -283,7 +269,7 @@ module _ {may : Bool} (m : State) (o : Origin) (k : NodeKey) (s : AbsState) (at 
             place = λ within.
                 record {
                   pc = pc_is;
-                  enables = enables_stay SPL spl_holds_none;
+                  enables = enables_stay SPL (spl_holds_none m.device);
                   i = at.place.i;
                   delay = no_delay is_out false (flag byte 7) (not (i_flag m)) refl;
                   sp = (refl, at_base within);
@@ -318,7 +304,7 @@ module _ {may : Bool} (m : State) (o : Origin) (k : NodeKey) (s : AbsState) (at 
             place = λ within.
                 record {
                   pc = pc_is;
-                  enables = enables_stay SPH sph_holds_none;
+                  enables = enables_stay SPH (sph_holds_none m.device);
                   i = at.place.i;
                   delay = no_delay is_out false (flag byte 7) (not (i_flag m)) refl;
                   sp = place;
@@ -346,7 +332,7 @@ module _ {may : Bool} (m : State) (o : Origin) (k : NodeKey) (s : AbsState) (at 
     sreg_lands : (on : Bool) → flag byte 7 ≡ on → ArrivesWhere may m o told guarded (stored m pc writes is_out SREG byte) (record { key = with_i key is_out on; state = flagged })
     sreg_lands on is =
         frame_kept m o k s at told guarded (stored m pc writes is_out SREG byte) (record { key = with_i key is_out on; state = flagged }) refl refl refl refl refl pc_is
-        (enables_stay SREG sreg_holds_none) is
+        (enables_stay SREG (sreg_holds_none m.device)) is
         (delay_is is_out (flag byte 7) (i_flag m) on k.i is at.place.i) stand (flags_stand o v byte stands) tt
         (λ held. writes_end_facts.holds (λ r. false) true true told (with_registers m.registers writes) (with_registers m.registers writes) m.sreg byte
         (record { kept = λ r other. refl; bytes = λ r inside. (stand r inside).small }) (record { carry_kept = λ e. absurd (let no = e in cc); others_kept = λ e. absurd (let no = e in cc) }) held)
@@ -381,11 +367,11 @@ module _ {may : Bool} (m : State) (o : Origin) (k : NodeKey) (s : AbsState) (at 
     -- ---- enable bits, and all other addresses
 
     masks_lands : AreSplitsWritten → (a : ℕ) → nat_lt a 0x20 ≡ false → (a == SPL) ≡ false → (a == SPH) ≡ false → (a == SREG) ≡ false
-        → ReachesNode may m o told k guarded (stored m pc writes is_out a byte) (masks_written key state a v)
+        → ReachesNode may m o told k guarded (stored m pc writes is_out a byte) (masks_written m.device key state a v)
     masks_lands members a beyond not_low not_high not_sreg =
-        let left : ℕ = written_enables k.masks a byte in
-        split_lands a byte left v beyond not_low not_high not_sreg (members k.masks a v.bits left record { byte = byte; small = small; member = stands.bits; left = refl })
-        (written_both may m.enables k.masks a byte at.place.enables)
+        let left : ℕ = written_enables m.device k.masks a byte in
+        split_lands a byte left v beyond not_low not_high not_sreg (members m.device k.masks a v.bits left record { byte = byte; small = small; member = stands.bits; left = refl })
+        (written_both may m.device m.enables k.masks a byte at.place.enables)
 
     at_address : (a b : ℕ) (r : Raw) → (a == b) ≡ true → ReachesNode may m o told k guarded (stored m pc writes is_out b byte) r
         → ReachesNode may m o told k guarded (stored m pc writes is_out a byte) r

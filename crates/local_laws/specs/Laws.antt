@@ -5,7 +5,8 @@ use Rattle.std.specs.Ordering.{nat_cmp}
 use Rattle.avr_model.specs.Devices.{Program, device_of, words_of, size_of}
 use Rattle.avr_model.specs.declared.device.Device.{Device}
 use Rattle.avr_model.specs.declared.assumption.Entry.{Entry}
-use Rattle.avr_model.specs.Assumptions.{is_never, has_masks}
+use Rattle.avr_model.specs.Assumptions.{is_never}
+use Rattle.avr_model.specs.Masks.{reads_masks}
 use Rattle.avr_model.specs.Sites.{instruction_at}
 use Rattle.avr_model.specs.State.{State, IsReset}
 use Rattle.avr_model.specs.Vectors.{is_enabled, vector_word}
@@ -37,7 +38,7 @@ use Rattle.local_rules.specs.Order.{IsBelowOne, IsBelow}
 -- The local part of a node covers each step of the machine at the node, with flash of its device, whose words have 16 bits.
 pub record LocalPartsCover : Type 0 where
   pub covered : {followed : Bool} (words : Program) (A : List Entry) (m : State) (o : Origin) (k : NodeKey) (s : AbsState) (b1 b2 : ℕ) → AreWords words → m.device ≡ device_of words
-      → InFrameIn followed (has_masks A) m o k s → b1 < 256 → b2 < 256 → CoversStep words A m o k b1 b2 (instruction_at words m.pc) (raw words A k s)
+      → InFrameIn followed (reads_masks (device_of words) A) m o k s → b1 < 256 → b2 < 256 → CoversStep words A m o k b1 b2 (instruction_at words m.pc) (raw words A k s)
 
 -- each joined successor is below one of the same key, calls are among the others' calls, and the return is the same
 pub record IsLocalWithin (l m : Local) : Type 0 where
@@ -53,9 +54,11 @@ pub record LeadsWithin (words : Program) (A : List Entry) (k : NodeKey) (s : Abs
 
 -- The local part is monotone in the state, also after successors of one key are joined.
 pub record LocalPartsAreMonotone : Type 0 where
-  pub below : {followed : Bool} (words : Program) (A : List Entry) (k : NodeKey) (s t : AbsState) → IsNodeIn followed k s → IsNodeIn followed k t → IsStateWithin s t
+  pub below : {followed : Bool} (words : Program) (A : List Entry) (k : NodeKey) (s t : AbsState) → IsNodeIn (device_of words) followed k s
+      → IsNodeIn (device_of words) followed k t → IsStateWithin s t
       → IsBelow (raw words A k s) (raw words A k t)
-  pub joined : {followed : Bool} (words : Program) (A : List Entry) (k : NodeKey) (s t : AbsState) (m : Local) → IsNodeIn followed k s → IsNodeIn followed k t → IsStateWithin s t
+  pub joined : {followed : Bool} (words : Program) (A : List Entry) (k : NodeKey) (s t : AbsState) (m : Local) → IsNodeIn (device_of words) followed k s
+      → IsNodeIn (device_of words) followed k t → IsStateWithin s t
       → local words A k t ≡ Ok m → LeadsWithin words A k s m
 
 -- Calls enter words of the device's flash and return to such words. A return is at the frame's base, and keeps the enable bits.
@@ -77,8 +80,8 @@ pub record LocalPartsFit : Type 0 where
 
 -- Successors of a node of the analysis are nodes of the analysis, in the same instance.
 pub record LocalPartsAreNodes : Type 0 where
-  pub nodes : {followed : Bool} (words : Program) (A : List Entry) (k : NodeKey) (s : AbsState) (to : Node) → IsNodeIn followed k s → (raw words A k s).faults ≡ []
-      → Contains (raw words A k s).moves to → (to.key.inst ≡ k.inst) × IsNodeIn followed to.key to.state
+  pub nodes : {followed : Bool} (words : Program) (A : List Entry) (k : NodeKey) (s : AbsState) (to : Node) → IsNodeIn (device_of words) followed k s → (raw words A k s).faults ≡ []
+      → Contains (raw words A k s).moves to → (to.key.inst ≡ k.inst) × IsNodeIn (device_of words) followed to.key to.state
 
 -- If the stack pointer is half written after an instruction, its offset is that before the instruction.
 pub record OpenPairsStay : Type 0 where
@@ -89,17 +92,17 @@ pub record OpenPairsStay : Type 0 where
 abbrev pub HasKey : List Node → NodeKey → Type 0
 HasKey nodes k = (n : Node) × (Contains nodes n × (n.key ≡ k))
 
--- all are nodes of the analysis
-abbrev pub AreNodesIn : Bool → List Node → Type 0
-AreNodesIn followed nodes = (n : Node) → Contains nodes n → IsNodeIn followed n.key n.state
+-- all are nodes of the analysis of the device
+abbrev pub AreNodesIn : Device → Bool → List Node → Type 0
+AreNodesIn device followed nodes = (n : Node) → Contains nodes n → IsNodeIn device followed n.key n.state
 
 -- Joined successors ascend strictly by key. Each raw one is below the one of its key, which is the least upper bound.
 pub record JoinsAreLeast : Type 0 where
   pub ascending : (nodes : List Node) → IsStrictlySortedBy node_cmp (map (λ n. n.key) (joined_onto [] nodes))
-  pub nodes : {followed : Bool} (nodes : List Node) → AreNodesIn followed nodes → AreNodesIn followed (joined_onto [] nodes)
-  pub above : {followed : Bool} (nodes : List Node) (n : Node) → AreNodesIn followed nodes → Contains nodes n → IsBelowOne (joined_onto [] nodes) n
+  pub nodes : {device : Device} {followed : Bool} (nodes : List Node) → AreNodesIn device followed nodes → AreNodesIn device followed (joined_onto [] nodes)
+  pub above : {device : Device} {followed : Bool} (nodes : List Node) (n : Node) → AreNodesIn device followed nodes → Contains nodes n → IsBelowOne (joined_onto [] nodes) n
   pub keys : (nodes : List Node) (n : Node) → Contains (joined_onto [] nodes) n → HasKey nodes n.key
-  pub least : {followed : Bool} (nodes : List Node) (n : Node) (t : AbsState) → AreNodesIn followed nodes → Contains (joined_onto [] nodes) n
+  pub least : {device : Device} {followed : Bool} (nodes : List Node) (n : Node) (t : AbsState) → AreNodesIn device followed nodes → Contains (joined_onto [] nodes) n
       → ((raw : Node) → Contains nodes raw → raw.key ≡ n.key → IsStateWithin raw.state t) → IsStateWithin n.state t
 
 -- A reset state is a machine's state, and so is each state after a step that is done.
@@ -116,15 +119,15 @@ pub record LiveBytesStay : Type 0 where
 -- An open stack pointer is a fault if an interrupt may be taken: I is set, no delay is due, and an enabled vector's word has no `never`
 -- line.
 pub record OpenPairsHang : Type 0 where
-  pub hung : (device : Device) (A : List Entry) (k : NodeKey) (v offset : ℕ) (high : High) → k.i ≡ true → k.delay ≡ false → is_enabled k.masks v ≡ true
+  pub hung : (device : Device) (A : List Entry) (k : NodeKey) (v offset : ℕ) (high : High) → k.i ≡ true → k.delay ≡ false → is_enabled device k.masks v ≡ true
       → is_never A (vector_word device v) ≡ false → is_hung device A k (Open offset high) ≡ true
 
 -- The local part in terms of a step: without a fault no step is undefined, and a step that is done is covered. No closed successor may
 -- lie deeper than the base.
 pub record StepsAreCovered : Type 0 where
   pub defined : {followed : Bool} (words : Program) (A : List Entry) (m : State) (o : Origin) (k : NodeKey) (s : AbsState) (l : Local) (b1 b2 pc : ℕ)
-      → AreWords words → m.device ≡ device_of words → InFrameIn followed (has_masks A) m o k s → b1 < 256 → b2 < 256 → local words A k s ≡ Ok l → step words A m (Go b1 b2) ≢ Undefined pc
+      → AreWords words → m.device ≡ device_of words → InFrameIn followed (reads_masks (device_of words) A) m o k s → b1 < 256 → b2 < 256 → local words A k s ≡ Ok l → step words A m (Go b1 b2) ≢ Undefined pc
   pub done : {followed : Bool} (words : Program) (A : List Entry) (m n : State) (o : Origin) (k : NodeKey) (s : AbsState) (l : Local) (b1 b2 : ℕ)
-      → AreWords words → m.device ≡ device_of words → InFrameIn followed (has_masks A) m o k s → b1 < 256 → b2 < 256 → local words A k s ≡ Ok l
+      → AreWords words → m.device ≡ device_of words → InFrameIn followed (reads_masks (device_of words) A) m o k s → b1 < 256 → b2 < 256 → local words A k s ≡ Ok l
       → ((to : Node) → Contains l.same to → IsWithinBase o.base to.key.sp)
-      → step words A m (Go b1 b2) ≡ Done n → IsStep (has_masks A) m o k b1 b2 l n
+      → step words A m (Go b1 b2) ≡ Done n → IsStep (reads_masks (device_of words) A) m o k b1 b2 l n

@@ -19,7 +19,7 @@ use bit_domain::{Tri, TriByte};
 use local_rows::registers::{bits, pair};
 use local_rows::transfer::base_register;
 use mask_states::{NodeKey, without};
-use vector_table::enable_of;
+use vector_table::held_of;
 
 // The data address of I/O address 0.
 const IO_START: u16 = 0x20;
@@ -29,7 +29,7 @@ const IO_START: u16 = 0x20;
 pub fn further(device: Device, key: &NodeKey, words: u16) -> u16
     ensures { result ≡ raw.further device key.now words }
 {
-    device.wrap(key.pc.wrapping_add(words))
+    device.wrap(u32::from(key.pc) + u32::from(words))
 }
 
 /// The data address of an I/O address.
@@ -55,13 +55,13 @@ pub fn port_bit(
         .bit(bit.get() as u8)
 }
 
-/// The key after this bit of an I/O address reads 0. If `may`, the key has what may be enabled, and the bit's vector is removed.
-pub fn reading_zero(may: bool, key: &NodeKey, address: LowPort, bit: Bit) -> NodeKey
-    ensures { result ≡ reading_zero may key.now (effects.port address) bit }
+/// The key after this bit of an I/O address reads 0. If `may`, the key has what may be enabled, and the vector of a held bit is removed.
+pub fn reading_zero(device: Device, may: bool, key: &NodeKey, address: LowPort, bit: Bit) -> NodeKey
+    ensures { result ≡ reading_zero device may key.now (effects.port address) bit }
 {
-    let vector = enable_of(port(address.widened()), bit.get() as u8);
+    let vector = held_of(device, port(address.widened()), bit.get() as u8);
     NodeKey {
-        masks: without(may, vector, key.masks),
+        masks: without(device, may, vector, key.masks),
         ..*key
     }
 }
@@ -89,7 +89,7 @@ pub fn is_target(device: Device, state: &AbsState, word: u16) -> bool
     ensures { result ≡ lists (words_on device (registers.bits state.now 30) (registers.bits state.now 31)) word }
 {
     let (low, high) = pair(state, base_register(Base::Z));
-    if word >= device.words() {
+    if u32::from(word) >= device.words() {
         return false;
     }
     low.bits.has((word % 256) as u8) && high_byte(device, high.bits).has((word / 256) as u8)

@@ -9,7 +9,7 @@ ghost use Rattle.local_rules.specs.Local as rows;
 
 use crate::reads::{read_at, slot_value};
 use abs_state::{AbsByte, AbsState};
-use avr_model::device::{BELOW, Device};
+use avr_model::device::Device;
 use avr_model::instruction::{LowRegister, Pointer};
 use bit_domain::TriByte;
 use flash_image::Flash;
@@ -60,7 +60,7 @@ fn read_number(device: Device, may: bool, key: &NodeKey, state: &AbsState, addre
     ensures { result ≡ read_number device may key.now state.now address }
 {
     let read = read_at(device, may, key, state, address);
-    if address <= BELOW {
+    if address <= device.io_end() {
         AbsByte::untagged(read.bits)
     } else {
         AbsByte {
@@ -110,7 +110,7 @@ pub fn flash_value(flash: &Flash, z: Option<u16>) -> AbsByte
 {
     let end = 2 * flash.device().words();
     match z {
-        Some(z) if z < end => AbsByte::known(flash.byte(z)),
+        Some(z) if u32::from(z) < end => AbsByte::known(flash.byte(z)),
         _ => AbsByte::unknown(),
     }
 }

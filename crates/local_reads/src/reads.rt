@@ -1,14 +1,14 @@
 //! The value of a byte read from data space at a known address.
 
-ghost use Rattle.std.specs.Prelude.{◌≡◌};
+ghost use Rattle.std.specs.Prelude.{◌≡◌, true, IfSome};
 ghost use Rattle.std.specs.Int.{from_bool};
-ghost use Rattle.avr_model.specs.Vectors.{enable_of};
+ghost use Rattle.avr_model.specs.Vectors.{is_vector};
 ghost use Rattle.sp_domain.specs.Slots.{slot_at};
-ghost use Rattle.local_rules.specs.Reads.{enable_read, io_tri, io_bits, value_of, slot_read, read_at};
+ghost use Rattle.local_rules.specs.Reads.{enable_read, io_tri, io_bits, kept_bits, value_of, slot_read, read_at};
 
 use crate::stack_pointer::sp_bytes;
 use abs_state::{AbsByte, AbsState};
-use avr_model::device::{BELOW, Device, REGISTERS_END, SPH, SPL, SREG};
+use avr_model::device::{Device, REGISTERS_END, SPH, SPL, SREG};
 use avr_model::instruction::Register;
 use bit_domain::{Tri, TriByte};
 use local_rows::bits::tri_of;
@@ -16,7 +16,7 @@ use local_rows::registers::value;
 use local_rows::status::sreg_value;
 use mask_states::{Kind, NodeKey};
 use sp_domain::Slot;
-use vector_table::{Masks, enable_of};
+use vector_table::{Masks, enable_of, held_of};
 
 // An enable bit by the key. If `may`, the key has what may be enabled, and the bit is 0 or unknown.
 fn enable_read(may: bool, on: bool) -> Tri
@@ -28,23 +28,38 @@ fn enable_read(may: bool, on: bool) -> Tri
     if on { Tri::Any } else { Tri::Zero }
 }
 
-// One bit of an I/O address: an enable bit comes from the key, other bits are unknown.
-fn io_tri(may: bool, masks: Masks, address: u16, bit: u8) -> Tri
-    ensures { result ≡ io_tri may (enable_of address bit) masks }
+// One bit of an I/O address, of a vector's enable bit if there is one: an enable bit comes from the key, other bits are as given.
+fn io_tri(free: Tri, may: bool, device: Device, vector: Option<u8>, masks: Masks) -> Tri
+    requires { IfSome vector (λ v. is_vector device v ≡ true) }
+    ensures { result ≡ io_tri free may vector masks }
 {
-    match enable_of(address, bit) {
-        Some(vector) => enable_read(may, masks.has(vector)),
-        None => Tri::Any,
+    match vector {
+        Some(vector) => enable_read(may, masks.is_on(device, vector)),
+        None => free,
     }
 }
 
-// The bits of an I/O address.
-pub(crate) fn io_bits(may: bool, masks: Masks, address: u16) -> TriByte
-    ensures { result ≡ io_bits may masks address }
+// What a read of an I/O address gives.
+fn io_bits(device: Device, may: bool, masks: Masks, address: u16) -> TriByte
+    ensures { result ≡ io_bits device may masks address }
 {
     let mut bits = TriByte::any();
     for bit in 0..8u8 {
-        bits = bits.with(bit, io_tri(may, masks, address, bit));
+        let vector = held_of(device, address, bit);
+        bits = bits.with(bit, io_tri(Tri::Any, may, device, vector, masks));
+    }
+    bits
+}
+
+/// The byte of an I/O address of which `sbi` and `cbi` change one bit: each bit that enables a vector is that of the key, every other bit
+/// is 0.
+pub fn kept_bits(device: Device, masks: Masks, address: u16) -> TriByte
+    ensures { result ≡ kept_bits device masks address }
+{
+    let mut bits = TriByte::any();
+    for bit in 0..8u8 {
+        let vector = enable_of(device, address, bit);
+        bits = bits.with(bit, io_tri(Tri::Zero, false, device, vector, masks));
     }
     bits
 }
@@ -81,7 +96,9 @@ pub fn read_at(device: Device, may: bool, key: &NodeKey, state: &AbsState, addre
         SPL => sp_bytes(device, key.inst.kind, key.sp).0,
         SPH => sp_bytes(device, key.inst.kind, key.sp).1,
         SREG => sreg_value(key, state),
-        0..=BELOW => AbsByte::untagged(io_bits(may, key.masks, address)),
+        _ if address <= device.io_end() => {
+            AbsByte::untagged(io_bits(device, may, key.masks, address))
+        }
         _ => slot_read(device, key.inst.kind, state, address),
     }
 }

@@ -2,7 +2,6 @@
 
 ghost use Rattle.std.specs.Prelude.{◌≡◌};
 ghost use Rattle.avr_model.specs.State.{minus16};
-ghost use Rattle.avr_model.specs.Vectors.{row_of};
 ghost use Rattle.mask_states.specs.Wakes.{may_enable_other};
 ghost use Rattle.local_rules.specs.Permitted as permitted;
 ghost use Rattle.local_reads.specs.Waking.{may_enable_reached};
@@ -11,8 +10,9 @@ use crate::members::permits_number;
 use abs_state::AbsState;
 use avr_model::device::Device;
 use avr_model::instruction::LowRegister;
-use bit_domain::{Tri, TriByte};
-use vector_table::{Assumptions, is_barred, row};
+use bit_domain::TriByte;
+use mask_states::may_enable;
+use vector_table::{Assumptions, Place, is_barred};
 
 /// A byte that is stored through a pointer.
 #[derive(Clone, Copy)]
@@ -31,25 +31,22 @@ pub struct PointerByte<'a> {
     pub bits: TriByte,
 }
 
-// Whether the byte may go to the address of vector `v`'s enable bit, and have 1 there.
-fn may_enable(byte: &PointerByte<'_>, v: u8) -> bool
-    ensures { result ≡ may_enable_reached (row_of v) (λ a. permitted.permits_number byte.now.state.now byte.now.r (minus16 a byte.now.up)) byte.now.bits }
+// Whether the byte may go to the place, and enable its vector.
+fn may_enable_reached(byte: &PointerByte<'_>, place: &Place) -> bool
+    ensures { result ≡ may_enable_reached (λ a. permitted.permits_number byte.now.state.now byte.now.r (minus16 a byte.now.up)) byte.now.bits place.now }
 {
-    match row(v) {
-        Some(row) => {
-            let number = row.address.wrapping_sub(byte.up);
-            permits_number(byte.state, byte.r, number) && byte.bits.bit(row.bit) != Tri::Zero
-        }
-        None => false,
-    }
+    let number = place.address.wrapping_sub(byte.up);
+    permits_number(byte.state, byte.r, number) && may_enable(&byte.bits, place)
 }
 
-/// Whether the byte may have 1 at the enable bit of a vector that isn't barred, at an address that the pointer permits.
+/// Whether the byte may enable a vector that isn't barred, at an address that the pointer permits.
 pub fn may_enable_other(byte: &PointerByte<'_>) -> bool
     ensures { result ≡ may_enable_other byte.now.device byte.now.assumptions.now (λ a. permitted.permits_number byte.now.state.now byte.now.r (minus16 a byte.now.up)) byte.now.bits }
 {
-    for v in 2..27 {
-        if may_enable(byte, v) && !is_barred(byte.device, byte.assumptions, v) {
+    for place in byte.device.places() {
+        if may_enable_reached(byte, place)
+            && !is_barred(byte.device, byte.assumptions, place.vector)
+        {
             return true;
         }
     }

@@ -4,12 +4,12 @@ use Rattle.avr_model.specs.declared.device.Device.{Device}
 use Rattle.avr_model.specs.declared.assumption.Entry.{Entry}
 use Rattle.avr_model.specs.declared.effect.Effect.{Effect}
 use Rattle.avr_model.specs.declared.instruction.Instr.{Instr}
-use Rattle.avr_model.specs.Devices.{Program, size_of, ramend, wrapped}
-use Rattle.avr_model.specs.Image.{WORDS}
+use Rattle.avr_model.specs.Devices.{Program, io_end, size_of, ramend, wrapped, limit_of, depth_of, device_of}
 use Rattle.avr_model.specs.Sreg.{flag}
-use Rattle.avr_model.specs.Assumptions.{has_masks}
+use Rattle.avr_model.specs.Masks.{reads_masks}
+use Rattle.avr_model.specs.Vectors.{enable_count}
 use Rattle.avr_model.specs.Sites.{is_scratch}
-use Rattle.avr_model.specs.State.{State, SIZE, BELOW, plus16}
+use Rattle.avr_model.specs.State.{State, plus16}
 use Rattle.avr_model.specs.Effects.{effect_of, calling, popped_word}
 use Rattle.avr_model.specs.Step.{after, all_inside, protected_write, unlisted_transfer}
 use Rattle.sp_domain.specs.Tags.{Origin, LessHolds, HasByteNumbers}
@@ -54,21 +54,21 @@ FormFitsKind kind (Open offset h) = HighFitsKind kind h
 abbrev pub FormFits : NodeKey → Type 0
 FormFits k = FormFitsKind k.inst.kind k.sp
 
--- The parts of a key are in range: a word address, at most as many bytes as SRAM has, 25 enable bits, a form that the instance's kind
--- permits, and a byte if one is picked.
-pub record IsKey (k : NodeKey) : Type 0 where
-  pub word : k.pc < WORDS
-  pub small : offset_of k.sp ≤ SIZE
-  pub masks : k.masks < 2 ^ 25
+-- The parts of a key are in range for the device: a word address and an offset that its texts admit, an enable bit for each vector, a form
+-- that the instance's kind permits, and a byte if one is picked.
+pub record IsKey (device : Device) (k : NodeKey) : Type 0 where
+  pub word : k.pc < limit_of device
+  pub small : offset_of k.sp ≤ depth_of device
+  pub masks : k.masks < 2 ^ enable_count device
   pub fits : FormFits k
   pub pick : PickFits k.pick
 
--- A node of the analysis: its key is in range, its state is formed for the key's offset, numbers in tags are in range, and in the root no
--- byte is tagged. It follows pairs or doesn't, as `followed` says, and each interval lies in the hull of its registers.
-pub record IsNodeIn (followed : Bool) (k : NodeKey) (s : AbsState) : Type 0 where
-  pub word : k.pc < WORDS
-  pub small : offset_of k.sp ≤ SIZE
-  pub masks : k.masks < 2 ^ 25
+-- A node of the analysis of a device: its key is in range, its state is formed for the key's offset, numbers in tags are in range, and in
+-- the root no byte is tagged. It follows pairs or doesn't, as `followed` says, and each interval lies in the hull of its registers.
+pub record IsNodeIn (device : Device) (followed : Bool) (k : NodeKey) (s : AbsState) : Type 0 where
+  pub word : k.pc < limit_of device
+  pub small : offset_of k.sp ≤ depth_of device
+  pub masks : k.masks < 2 ^ enable_count device
   pub fits : FormFits k
   pub pick : PickFits k.pick
   pub formed : IsFormed s (offset_of k.sp)
@@ -79,8 +79,8 @@ pub record IsNodeIn (followed : Bool) (k : NodeKey) (s : AbsState) : Type 0 wher
   pub hulls : IsInHulls s
 
 -- a node of an analysis that doesn't follow pairs
-abbrev pub IsNode : NodeKey → AbsState → Type 0
-IsNode k s = IsNodeIn false k s
+abbrev pub IsNode : Device → NodeKey → AbsState → Type 0
+IsNode device k s = IsNodeIn device false k s
 
 -- ---- where the machine is
 
@@ -88,13 +88,13 @@ IsNode k s = IsNodeIn false k s
 -- top of the device's SRAM. If `may`, the frame's slots lie in SRAM or above it, so none is an enable bit.
 pub record InFrameIn (followed may : Bool) (m : State) (o : Origin) (k : NodeKey) (s : AbsState) : Type 0 where
   pub machine : IsMachine m
-  pub node : IsNodeIn followed k s
+  pub node : IsNodeIn m.device followed k s
   pub place : AtNode may o.base m k
   pub stands : Stands o s m
   pub facts : HoldsAt s.facts m.registers m.sreg
   pub root : k.inst.kind ≡ Root → o.base ≡ ramend m.device
   pub base_word : o.base < 65536
-  pub room : may ≡ true → offset_of k.sp + BELOW ≤ o.base
+  pub room : may ≡ true → offset_of k.sp + io_end m.device ≤ o.base
 
 -- a closed offset is at most the base, and then the stack pointer stays in SRAM
 abbrev pub IsWithinBase : ℕ → SpForm → Type 0
@@ -151,7 +151,7 @@ abbrev pub CoversStep : Program → List Entry → State → Origin → NodeKey 
 CoversStep words A m o k b1 b2 None r = r.faults ≡ [] → ⊥
 CoversStep words A m o k b1 b2 (Some instr) r =
     r.faults ≡ [] → IsUnflagged words A m instr (effect_of words m instr b1 b2)
-    → Follows (has_masks A) m o k (not (is_scratch words m.pc)) b1 b2 (effect_of words m instr b1 b2) r
+    → Follows (reads_masks (device_of words) A) m o k (not (is_scratch words m.pc)) b1 b2 (effect_of words m instr b1 b2) r
 
 -- a step of the machine that the local part has
 pub data IsStep (may : Bool) (m : State) (o : Origin) (k : NodeKey) (b1 b2 : ℕ) (l : Local) (n : State) : Type 0 where

@@ -6,7 +6,7 @@ use Rattle.avr_model.specs.Bits.{any_below, all_below}
 use Rattle.avr_model.specs.Devices.{device_row, Program, M328, image, M48}
 use Rattle.avr_model.specs.Sites.{is_scratch, table_site, ijmp_from}
 use Rattle.avr_model.specs.Table.{length_of, decoded}
-use Rattle.avr_model.specs.Vectors.{row_of}
+use Rattle.avr_model.specs.Vectors.{places, place_at}
 use Rattle.bit_domain.specs.Packed.{packed}
 use Rattle.bit_domain.specs.TriByte.{byte_known, byte_any, permits_below}
 use Rattle.bit_domain.specs.Numbers.{numbers_of}
@@ -23,7 +23,7 @@ use Rattle.mask_states.specs.declared.keys.Kind.TheVariants.{Root, Call}
 use Rattle.mask_states.specs.declared.keys.SpForm.{SpForm}
 use Rattle.mask_states.specs.declared.keys.SpForm.TheVariants.{Closed, Open}
 use Rattle.mask_states.specs.declared.keys.High.TheVariants.{Tag as Tagged}
-use Rattle.mask_states.specs.Splits.{enable_tri}
+use Rattle.mask_states.specs.Splits.{common_tri, enable_tri}
 use Rattle.local_rules.specs.declared.local.NodeFault.{NodeFault}
 use Rattle.local_rules.specs.declared.local.NodeFault.TheVariants.{UnresolvedJump, UntrackedSp, Unsupported, TooDeep}
 use Rattle.local_rules.specs.Raw.{Raw}
@@ -51,8 +51,8 @@ abbrev with_frame : ℕ → ℕ → AbsState
 with_frame j k = record pushed { registers = slice_set (slice_set (entered root).registers 28 (with_bits (tag.SpLo j) unknown.bits)) 29 (with_bits (tag.SpHi k) unknown.bits) }
 
 -- what the rows show: the places of keys, tags of a register, faults
-abbrev places : Raw → List (ℕ × SpForm)
-places r = map (λ n. (n.key.pc, n.key.sp)) r.moves
+abbrev ways : Raw → List (ℕ × SpForm)
+ways r = map (λ n. (n.key.pc, n.key.sp)) r.moves
 
 abbrev tags : ℕ → Raw → List Tag
 tags d r = map (λ n. (value_at n.state.registers d).tag) r.moves
@@ -75,11 +75,11 @@ unfolding raw table_site ijmp_from is_scratch any_below all_below decoded device
 moves_down = refl
 
 -- `out 0x3e, r29` opens the pair, and `out 0x3d, r28` closes it at the new offset
-opens : places (raw (firmware 0xBFDE 0xFFFF) [] (in_call (Closed 2)) (with_frame 34 34)) ≡ (1, Open 2 (Tagged 34)) ∷ []
+opens : ways (raw (firmware 0xBFDE 0xFFFF) [] (in_call (Closed 2)) (with_frame 34 34)) ≡ (1, Open 2 (Tagged 34)) ∷ []
 unfolding raw table_site ijmp_from is_scratch any_below all_below decoded device_row written_at
 opens = refl
 
-closes : places (raw (firmware 0xBFCD 0xFFFF) [] (in_call (Open 2 (Tagged 34))) (with_frame 34 34)) ≡ (1, Closed 34) ∷ []
+closes : ways (raw (firmware 0xBFCD 0xFFFF) [] (in_call (Open 2 (Tagged 34))) (with_frame 34 34)) ≡ (1, Closed 34) ∷ []
 unfolding raw table_site ijmp_from is_scratch any_below all_below decoded device_row written_at
 closes = refl
 
@@ -118,14 +118,14 @@ abbrev enables : Raw → List ℕ
 enables r = map (λ n. n.key.masks) r.moves
 
 splits_enables : enables (raw (firmware 0x9300 0x006E) [] (in_root (Closed 0)) root) ≡ 0 ∷ 8192 ∷ 16384 ∷ 24576 ∷ 32768 ∷ 40960 ∷ 49152 ∷ 57344 ∷ []
-unfolding raw table_site ijmp_from is_scratch any_below all_below decoded device_row written_at numbers_of enable_tri row_of packed
+unfolding raw table_site ijmp_from is_scratch any_below all_below decoded device_row written_at numbers_of enable_tri place_at places common_tri packed
 splits_enables = refl
 
 -- `eor r0, r0` sets Z whatever r0 holds, and `brbc 1` then has one successor
 abbrev zero_known : AbsState
 zero_known = record root { flags = record root.flags { bits = byte_known 2 } }
 
-branches_once : places (raw (firmware 0xF409 0xFFFF) [] (in_root (Closed 0)) zero_known) ≡ (1, Closed 0) ∷ []
+branches_once : ways (raw (firmware 0xF409 0xFFFF) [] (in_root (Closed 0)) zero_known) ≡ (1, Closed 0) ∷ []
 unfolding raw table_site ijmp_from is_scratch any_below all_below decoded device_row packed
 branches_once = refl
 
@@ -217,13 +217,13 @@ keeps_range : ranges 16 (raw (firmware 0x2300 0xFFFF) [] (in_root (Closed 0)) co
 unfolding raw table_site ijmp_from is_scratch any_below all_below decoded device_row packed is_frame
 keeps_range = refl
 
--- ---- on the smallest device, which has 2,048 words of flash, 512 bytes of SRAM and no `jmp`
+-- ---- on the ATmega48PA, which has 2,048 words of flash, 512 bytes of SRAM and no `jmp`
 
 abbrev small : ℕ → ℕ → Program
 small w0 w1 = image M48 (w0 ∷ w1 ∷ replicate 2046 0xFFFF)
 
 -- `rjmp .-2` at word 0 goes to the last word
-leads_round : places (raw (small 0xCFFE 0xFFFF) [] (in_root (Closed 0)) root) ≡ (2047, Closed 0) ∷ []
+leads_round : ways (raw (small 0xCFFE 0xFFFF) [] (in_root (Closed 0)) root) ≡ (2047, Closed 0) ∷ []
 unfolding raw table_site ijmp_from is_scratch any_below all_below decoded device_row
 leads_round = refl
 
@@ -232,7 +232,7 @@ unfolding raw table_site ijmp_from is_scratch any_below all_below decoded device
 has_no_jmp = refl
 
 -- `sbrc r1, 0` of a zero skips both words of a `jmp`
-skips_both : places (raw (small 0xFC10 0x940C) [] (in_root (Closed 0)) zeros) ≡ (3, Closed 0) ∷ []
+skips_both : ways (raw (small 0xFC10 0x940C) [] (in_root (Closed 0)) zeros) ≡ (3, Closed 0) ∷ []
 unfolding raw table_site ijmp_from is_scratch any_below all_below decoded length_of packed device_row
 skips_both = refl
 
@@ -259,12 +259,12 @@ abbrev pointing : AbsState
 pointing = record root { registers = slice_set (slice_set root.registers 30 (known 3)) 31 (known 8) }
 
 -- a line that lists 0x0803 permits no word of this device
-lists_none : places (raw (small 0x9409 0xFFFF) (Jump 0 (0x0803 ∷ []) ∷ []) (in_root (Closed 0)) pointing) ≡ []
+lists_none : ways (raw (small 0x9409 0xFFFF) (Jump 0 (0x0803 ∷ []) ∷ []) (in_root (Closed 0)) pointing) ≡ []
 unfolding raw table_site ijmp_from is_scratch any_below all_below decoded jump_line numbers_of packed device_row
 lists_none = refl
 
 -- `ijmp` to 0x0803 leads to word 3
-leads_within : places (raw (small 0x9409 0xFFFF) [] (in_root (Closed 0)) pointing) ≡ (3, Closed 0) ∷ []
+leads_within : ways (raw (small 0x9409 0xFFFF) [] (in_root (Closed 0)) pointing) ≡ (3, Closed 0) ∷ []
 unfolding raw table_site ijmp_from is_scratch any_below all_below decoded jump_line numbers_of packed device_row
 leads_within = refl
 

@@ -2,11 +2,11 @@
 use Rattle.std.specs.Prelude.{ℕ, zero, suc, ◌+◌, ◌-◌, ◌==◌, Bool, true, false, nat_lt, nat_le, min, max, if◌then◌else◌, List, [], ◌∷◌, ◌++◌, map, filter, take, length, Option, Some, None}
 use Rattle.avr_model.specs.declared.device.Device.{Device}
 use Rattle.avr_model.specs.declared.assumption.Entry.{Entry}
-use Rattle.avr_model.specs.Devices.{Program, size_of, width}
+use Rattle.avr_model.specs.Devices.{Program, size_of, width, limit_width}
 use Rattle.avr_model.specs.Image.{word_at}
 use Rattle.avr_model.specs.Table.{length_of}
 use Rattle.avr_model.specs.Assumptions.{jump_line, lists}
-use Rattle.avr_model.specs.Vectors.{enable_of}
+use Rattle.avr_model.specs.Vectors.{held_of}
 use Rattle.bit_domain.specs.declared.bits.Tri.{Tri}
 use Rattle.bit_domain.specs.declared.bits.Tri.TheVariants.{Zero, One, Any}
 use Rattle.bit_domain.specs.declared.bytes.TriByte.{TriByte}
@@ -47,9 +47,9 @@ branch t k s taken other = branch_by t k k s taken other
 abbrev pub skipping : Device → Program → NodeKey → NodeKey → AbsState → Tri → Raw
 skipping device words k l s t = branch_by t k l s (further device k (1 + length_of (word_at words (k.pc + 1)))) (further device k 1)
 
--- The key after this bit of an address reads 0. If it is a vector's enable bit and `may`, the vector is removed.
-abbrev pub reading_zero : Bool → NodeKey → ℕ → ℕ → NodeKey
-reading_zero may k a b = record k { masks = without may (enable_of a b) k.masks }
+-- The key after this bit of an address reads 0. If reads give it as a vector's enable bit and `may`, the vector is removed.
+abbrev pub reading_zero : Device → Bool → NodeKey → ℕ → ℕ → NodeKey
+reading_zero device may k a b = record k { masks = without device may (held_of device a b) k.masks }
 
 -- flag n; I is in the key
 abbrev pub flag_at : NodeKey → AbsState → ℕ → Tri
@@ -94,9 +94,9 @@ flag_branch n k s set clear other = if n == 0 then carry_branch (carry_bit s) k 
 abbrev pub words_on : Device → TriByte → TriByte → List ℕ
 words_on device lo hi = numbers_of (pointer_bit lo hi) (width device)
 
--- the listed words that the bits permit; without a line all permitted ones, if the 14-bit targets are few
+-- the listed words that the bits permit; without a line all permitted ones, if the targets below the limit of texts are few
 abbrev pub targets_by : Device → Option (List ℕ) → TriByte → TriByte → Option (List ℕ)
-targets_by device None lo hi = if nat_le (length (targets_of lo hi)) 64 then Some (words_on device lo hi) else None
+targets_by device None lo hi = if nat_le (length (targets_of (limit_width device) lo hi)) 64 then Some (words_on device lo hi) else None
 targets_by device (Some listed) lo hi = Some (filter (lists (words_on device lo hi)) listed)
 
 abbrev pub targets_at : Device → List Entry → NodeKey → AbsState → Option (List ℕ)

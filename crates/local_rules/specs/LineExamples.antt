@@ -3,7 +3,8 @@ use Rattle.std.specs.Prelude.{ℕ, ◌≡◌, true, false, List, [], ◌∷◌, 
 use Rattle.avr_model.specs.declared.assumption.Entry.{Entry}
 use Rattle.avr_model.specs.declared.assumption.Entry.TheVariants.{Prove, Free, Never, Frame}
 use Rattle.avr_model.specs.Assumptions.{store_line, is_proved, is_freed, is_never, is_frame, is_fixed_site, has_masks}
-use Rattle.avr_model.specs.Masks.{admits_enables}
+use Rattle.avr_model.specs.Masks.{reads_masks, admits_enables}
+use Rattle.avr_model.specs.Vectors.{is_enabled, has_place, places}
 use Rattle.avr_model.specs.Bits.{any_below, all_below}
 use Rattle.avr_model.specs.Devices.{device_row, M328, image}
 use Rattle.avr_model.specs.Sites.{is_scratch, is_fixed, path_behind, is_loaded_behind, table_site, ijmp_from}
@@ -156,7 +157,7 @@ unfolding raw table_site ijmp_from is_scratch is_fixed path_behind is_loaded_beh
 is_fixed_by_words = refl
 
 is_freed_there : leads (storing (Free 2 ∷ [])) ≡ (3 ∷ [], [])
-unfolding raw table_site ijmp_from is_scratch is_fixed path_behind is_loaded_behind is_proved is_freed is_fixed_site store_line any_below all_below decoded length_of device_row packed may_wake admits_enables has_masks
+unfolding raw table_site ijmp_from is_scratch is_fixed path_behind is_loaded_behind is_proved is_freed is_fixed_site store_line any_below all_below decoded length_of device_row packed may_wake admits_enables reads_masks has_masks
 is_freed_there = refl
 
 is_freed_elsewhere : leads (storing (Free 1 ∷ [])) ≡ ([], UnknownPointer 2 ∷ [])
@@ -174,18 +175,18 @@ abbrev waiting : List Entry → List NodeFault
 waiting A = (raw (image M328 (0x0000 ∷ replicate 16383 0xFFFF)) A (record (in_call (Open 0 (Tagged 2))) { i = true; masks = 40960 }) root).faults
 
 may_be_entered : waiting [] ≡ UntrackedSp 0 ∷ []
-unfolding raw table_site ijmp_from is_scratch may_come is_never any_below all_below decoded device_row
+unfolding raw table_site ijmp_from is_scratch may_come is_enabled has_place places is_never any_below all_below decoded device_row
 may_be_entered = refl
 
 one_may_be_entered : waiting (Never 28 ∷ []) ≡ UntrackedSp 0 ∷ []
-unfolding raw table_site ijmp_from is_scratch may_come is_never any_below all_below decoded device_row
+unfolding raw table_site ijmp_from is_scratch may_come is_enabled has_place places is_never any_below all_below decoded device_row
 one_may_be_entered = refl
 
 none_may_be_entered : waiting (Never 28 ∷ Never 32 ∷ []) ≡ []
-unfolding raw table_site ijmp_from is_scratch may_come is_never any_below all_below decoded device_row
+unfolding raw table_site ijmp_from is_scratch may_come is_enabled has_place places is_never any_below all_below decoded device_row
 none_may_be_entered = refl
 
 -- these are numbers of vectors, not their words
 others_are_never_entered : waiting (Never 15 ∷ Never 17 ∷ []) ≡ UntrackedSp 0 ∷ []
-unfolding raw table_site ijmp_from is_scratch may_come is_never any_below all_below decoded device_row
+unfolding raw table_site ijmp_from is_scratch may_come is_enabled has_place places is_never any_below all_below decoded device_row
 others_are_never_entered = refl

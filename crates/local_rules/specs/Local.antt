@@ -18,19 +18,20 @@ use Rattle.avr_model.specs.Marks.{marks}
 use Rattle.avr_model.specs.Text.{far, near}
 use Rattle.avr_model.specs.Image.{word_at}
 use Rattle.avr_model.specs.Table.{length_of}
-use Rattle.avr_model.specs.Assumptions.{jump_line, is_never, is_frame, has_masks}
+use Rattle.avr_model.specs.Assumptions.{jump_line, is_never, is_frame}
+use Rattle.avr_model.specs.Masks.{reads_masks}
 use Rattle.avr_model.specs.Bits.{any_below}
-use Rattle.avr_model.specs.Vectors.{is_enabled, vector_word}
+use Rattle.avr_model.specs.Vectors.{is_enabled, last_vector, vector_word}
 use Rattle.avr_model.specs.Sites.{instruction_at, is_scratch, table_site, base_register, pointer_register}
 use Rattle.avr_model.specs.Effects.{port}
 use Rattle.bit_domain.specs.declared.bits.Tri.TheVariants.{Zero, One}
 use Rattle.bit_domain.specs.Tri.{tri_not}
-use Rattle.bit_domain.specs.TriByte.{tri_at, has, byte_with}
+use Rattle.bit_domain.specs.TriByte.{tri_at, byte_with}
 use Rattle.bit_domain.specs.Logic.{byte_equal}
 use Rattle.abs_state.specs.declared.values.AbsByte.{AbsByte}
 use Rattle.abs_state.specs.declared.state.AbsState.{AbsState}
 use Rattle.pair_domain.specs.declared.facts.PairFacts.{PairFacts}
-use Rattle.abs_state.specs.Values.{untagged}
+use Rattle.abs_state.specs.Values.{untagged, unknown}
 use Rattle.abs_state.specs.Order.{state_join}
 use Rattle.mask_states.specs.declared.keys.NodeKey.{NodeKey}
 use Rattle.mask_states.specs.declared.keys.SpForm.{SpForm}
@@ -48,7 +49,7 @@ use Rattle.local_rules.specs.Raw.{Raw, nowhere, fails, all_of, untracked_if, too
 use Rattle.local_rules.specs.Registers.{value, bits, set, going_with, going_by, before, pair_copied, bit_loaded, bit_stored, product_row, wide_row, pair_moved, flag_row}
 use Rattle.local_rules.specs.FrameLines.{binary_at, immediate_at, unary_at}
 use Rattle.local_rules.specs.Permitted.{may_be}
-use Rattle.local_rules.specs.Reads.{read_at, pointed, pair_constant, read_pointed, flash_value}
+use Rattle.local_rules.specs.Reads.{read_at, kept_bits, pointed, pair_constant, read_pointed, flash_value}
 use Rattle.local_rules.specs.Writes.{written_at, pointer_write}
 use Rattle.local_rules.specs.Flow.{branch, skipping, reading_zero, flag_at, flag_branch, going_where, targets_at, jumping, at_closed, pushing, popping, relative_call, calling, indirect_call, returning, ret_exit, reti_exit}
 
@@ -102,9 +103,9 @@ store_row device words A k s p r =
 abbrev pub std_row : Device → Program → List Entry → NodeKey → AbsState → ℕ → ℕ → ℕ → Raw
 std_row device words A k s b q r = pointer_write device words A s b q (pointed s b q) k.pc (next device k) s (value s r)
 
--- Sets or clears one bit of an I/O address. Other enable bits of the byte stay as in the key.
+-- Sets or clears one bit of an I/O address. Other enable bits stay as in the key.
 abbrev pub bit_row : Device → NodeKey → AbsState → ℕ → ℕ → Bool → Raw
-bit_row device k s a b on = written_at device k.pc (next device k) s false a (untagged (byte_with (read_at device false k s a).bits b (if on then One else Zero)))
+bit_row device k s a b on = written_at device k.pc (next device k) s false a (untagged (byte_with (kept_bits device k.masks a) b (if on then One else Zero)))
 
 -- ---- the whole table, in three parts
 
@@ -125,9 +126,9 @@ flow_row device words A scratch k s (i.Brbc n t) =
     flag_branch n k s (further device k 1) (wrapped device (near k.pc t))
     (branch (tri_not (flag_at k s n)) k s (wrapped device (near k.pc t)) (further device k 1))
 flow_row device words A scratch k s (i.Sbic a b) =
-    skipping device words (reading_zero (has_masks A) k (port a) b) k s (tri_not (tri_at (read_at device (has_masks A) k s (port a)).bits b))
+    skipping device words (reading_zero device (reads_masks device A) k (port a) b) k s (tri_not (tri_at (read_at device (reads_masks device A) k s (port a)).bits b))
 flow_row device words A scratch k s (i.Sbis a b) =
-    skipping device words k (reading_zero (has_masks A) k (port a) b) s (tri_at (read_at device (has_masks A) k s (port a)).bits b)
+    skipping device words k (reading_zero device (reads_masks device A) k (port a) b) s (tri_at (read_at device (reads_masks device A) k s (port a)).bits b)
 flow_row device words A scratch k s (i.Sbrc r b) = skipping device words k k s (tri_not (tri_at (bits s r) b))
 flow_row device words A scratch k s (i.Sbrs r b) = skipping device words k k s (tri_at (bits s r) b)
 -- nop, sleep, break and wdr
@@ -135,18 +136,22 @@ flow_row device words A scratch k s _ = going_on device k s
 
 -- loads, stores and I/O
 abbrev pub memory_row : Device → Program → List Entry → Bool → NodeKey → AbsState → Instr → Raw
-memory_row device words A scratch k s (i.Ldd d b q) = loading device k s s.registers d (read_pointed device (has_masks A) k s (pointed s (base_register b) q))
+memory_row device words A scratch k s (i.Ldd d b q) = loading device k s s.registers d (read_pointed device (reads_masks device A) k s (pointed s (base_register b) q))
 memory_row device words A scratch k s (i.Std b q r) = std_row device words A k s (base_register b) q r
-memory_row device words A scratch k s (i.Lds d a) = going_to k (record s { registers = set s d (read_at device (has_masks A) k s a) }) (further device k 2)
+memory_row device words A scratch k s (i.Lds d a) = going_to k (record s { registers = set s d (read_at device (reads_masks device A) k s a) }) (further device k 2)
 memory_row device words A scratch k s (i.Sts a r) = written_at device k.pc (at_word k (further device k 2)) s false a (value s r)
-memory_row device words A scratch k s (i.Ld d p) = load_row device (has_masks A) k s d p
+memory_row device words A scratch k s (i.Ld d p) = load_row device (reads_masks device A) k s d p
 memory_row device words A scratch k s (i.St p r) = store_row device words A k s p r
 memory_row device words A scratch k s (i.LpmZ d) = setting device k s (set s d (flash_value words (pair_constant s 30))) s.flags
 memory_row device words A scratch k s (i.LpmZPlus d) = setting device k s (slice_set (pair_moved s 30 true 1) d (flash_value words (pair_constant s 30))) s.flags
 memory_row device words A scratch k s i.Lpm = setting device k s (set s 0 (flash_value words (pair_constant s 30))) s.flags
+-- `elpm` gives any byte
+memory_row device words A scratch k s (i.ElpmZ d) = setting device k s (set s d unknown) s.flags
+memory_row device words A scratch k s (i.ElpmZPlus d) = setting device k s (slice_set (pair_moved s 30 true 1) d unknown) s.flags
+memory_row device words A scratch k s i.Elpm = setting device k s (set s 0 unknown) s.flags
 memory_row device words A scratch k s (i.Pop d) = at_closed k.sp k.pc (popping device k s d)
 memory_row device words A scratch k s (i.Push r) = at_closed k.sp k.pc (pushing device scratch k s r)
-memory_row device words A scratch k s (i.In d a) = setting device k s (set s d (read_at device (has_masks A) k s (port a))) s.flags
+memory_row device words A scratch k s (i.In d a) = setting device k s (set s d (read_at device (reads_masks device A) k s (port a))) s.flags
 memory_row device words A scratch k s (i.Out a r) = written_at device k.pc (next device k) s true (port a) (value s r)
 memory_row device words A scratch k s (i.Cbi a b) = bit_row device k s (port a) b false
 memory_row device words A scratch k s (i.Sbi a b) = bit_row device k s (port a) b true
@@ -244,7 +249,7 @@ row_at device words A scratch k s (Some instr) = row_by s.facts device words A s
 
 -- some enabled vector's word has no `never` line
 unfoldable pub may_come : Device → List Entry → ℕ → Bool
-may_come device A masks = any_below 27 (λ v. is_enabled masks v && not (is_never A (vector_word device v)))
+may_come device A masks = any_below (last_vector device + 1) (λ v. is_enabled device masks v && not (is_never A (vector_word device v)))
 
 -- an interrupt may come while the stack pointer is half written
 abbrev pub is_hung : Device → List Entry → NodeKey → SpForm → Bool

@@ -1,11 +1,11 @@
 -- The value of a byte read from data space. Source: own.
-use Rattle.std.specs.Prelude.{ℕ, ◌+◌, ◌*◌, ◌-◌, ◌==◌, Bool, true, false, nat_lt, nat_le, if◌then◌else◌, List, length, Option, Some, None}
+use Rattle.std.specs.Prelude.{ℕ, ◌+◌, ◌*◌, ◌-◌, ◌==◌, Bool, true, false, nat_lt, nat_le, if◌then◌else◌, length, Option, Some, None}
 use Rattle.std.specs.Int.{bit_at, from_bool}
 use Rattle.avr_model.specs.declared.device.Device.{Device}
-use Rattle.avr_model.specs.Devices.{Program, words_of, ramend, device_of}
+use Rattle.avr_model.specs.Devices.{Program, words_of, io_end, ramend, device_of}
 use Rattle.avr_model.specs.Image.{byte_at}
-use Rattle.avr_model.specs.Vectors.{enable_of}
-use Rattle.avr_model.specs.State.{BELOW, SPL, SPH, SREG, low, high, plus16, minus16}
+use Rattle.avr_model.specs.Vectors.{enable_of, held_of}
+use Rattle.avr_model.specs.State.{SPL, SPH, SREG, low, high, plus16, minus16}
 use Rattle.bit_domain.specs.declared.bits.Tri.{Tri}
 use Rattle.bit_domain.specs.declared.bits.Tri.TheVariants.{Zero, One, Any}
 use Rattle.bit_domain.specs.declared.bytes.TriByte.{TriByte}
@@ -72,13 +72,19 @@ abbrev pub enable_read : Bool → ℕ → Tri
 enable_read false bit = tri_bit bit
 enable_read true bit = loosened (tri_bit bit)
 
--- enable bits come from the key; other bits of I/O are unknown
-abbrev pub io_tri : Bool → Option ℕ → ℕ → Tri
-io_tri may None masks = Any
-io_tri may (Some v) masks = enable_read may (bit_at masks (v - 2))
+-- a bit that is a vector's enable bit comes from the key; others are as given
+abbrev pub io_tri : Tri → Bool → Option ℕ → ℕ → Tri
+io_tri free may None masks = free
+io_tri free may (Some v) masks = enable_read may (bit_at masks (v - 2))
 
-abbrev pub io_bits : Bool → ℕ → ℕ → TriByte
-io_bits may masks a = byte_of (λ b. io_tri may (enable_of a b) masks)
+-- what a read of an I/O address gives: held bits by the key, other bits are unknown
+abbrev pub io_bits : Device → Bool → ℕ → ℕ → TriByte
+io_bits device may masks a = byte_of (λ b. io_tri Any may (held_of device a b) masks)
+
+-- The byte of an I/O address of which `sbi` and `cbi` change one bit: each bit that enables a vector is that of the key, every other bit is
+-- 0. So writing it back leaves all other enable bits of the key.
+abbrev pub kept_bits : Device → ℕ → ℕ → TriByte
+kept_bits device masks a = byte_of (λ b. io_tri Zero false (enable_of device a b) masks)
 
 abbrev pub value_of : Slot AbsByte → AbsByte
 value_of Free = unknown
@@ -97,7 +103,7 @@ read_at device may k s a =
     else (if a == SPL then sp_low device k.inst.kind k.sp
     else (if a == SPH then sp_high device k.inst.kind k.sp
     else (if a == SREG then sreg_value k s
-    else (if nat_le a BELOW then untagged (io_bits may k.masks a)
+    else (if nat_le a (io_end device) then untagged (io_bits device may k.masks a)
     else slot_read device k.inst.kind s a))))
 
 -- ---- through a pointer
@@ -129,7 +135,7 @@ pointed s r up =
 
 -- the value by the number alone: without a tag; of registers and I/O the bits alone, a slot keeps its range
 abbrev pub read_number : Device → Bool → NodeKey → AbsState → ℕ → AbsByte
-read_number device may k s a = if nat_le a BELOW then untagged (read_at device may k s a).bits else valued tag.None (set_of (read_at device may k s a))
+read_number device may k s a = if nat_le a (io_end device) then untagged (read_at device may k s a).bits else valued tag.None (set_of (read_at device may k s a))
 
 abbrev pub read_constant : Device → Bool → NodeKey → AbsState → Option ℕ → AbsByte
 read_constant device may k s None = unknown

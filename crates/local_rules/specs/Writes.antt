@@ -109,8 +109,8 @@ sreg_written Any k s is_out =
 -- ---- at an address
 
 -- one successor for each permitted value of the enable bits; at other addresses nothing changes
-abbrev pub masks_written : NodeKey → AbsState → ℕ → AbsByte → Raw
-masks_written k s a v = moves_to (map (λ m. record { key = record k { masks = m }; state = s }) (splits k.masks a v.bits))
+abbrev pub masks_written : Device → NodeKey → AbsState → ℕ → AbsByte → Raw
+masks_written device k s a v = moves_to (map (λ m. record { key = record k { masks = m }; state = s }) (splits device k.masks a v.bits))
 
 -- the interval of a pair becomes the hull of its bytes when one is written by its address
 abbrev pub hulled : ℕ → AbsState → AbsState
@@ -131,7 +131,7 @@ written_at device pc k s is_out a v =
     else (if a == SPL then closing device (closing_offset device k.inst.kind k.sp v) k s pc
     else (if a == SPH then opening (high_part k.inst.kind v) k s pc
     else (if a == SREG then sreg_written (tri_at v.bits 7) k (put_flags s (flags_written v)) is_out
-    else masks_written k s a v)))
+    else masks_written device k s a v)))
 
 -- ---- through a pointer
 
@@ -157,7 +157,7 @@ is_own_slot (Some d) offset = nat_lt d offset
 -- slot of the running frame, and it permits an address at which the byte may set such a bit.
 unfoldable pub may_wake : Device → List Entry → AbsState → ℕ → ℕ → Pointed → ℕ → NodeKey → AbsByte → Bool
 may_wake device A was r up p pc k v =
-    admits_enables A pc && not (is_own_slot p.frame (offset_of k.sp))
+    admits_enables device A pc && not (is_own_slot p.frame (offset_of k.sp))
     && may_enable_other device A (λ a. permits_number was r (minus16 a up)) v.bits
 
 -- adds a successor in which each vector that isn't barred may be enabled, whatever the state

@@ -5,14 +5,15 @@ use Rattle.std.proofs.lemmas.Bool.{cases_eq}
 use Rattle.std.proofs.lemmas.Nat.{or_lt, pow_below, or_disjoint, mod-pow-add, div-add-mod'}
 use Rattle.std.proofs.lemmas.Nat.Bits.{bit_at-lt, bit_at_cat_high, bit_at_lowest, bit_at_or, bit_at-pow_same, bit_at-pow_other, and_pow}
 use Rattle.std.proofs.Math.Numerals.{one-add}
-use Rattle.avr_model.specs.Vectors.{with_enable}
+use Rattle.avr_model.specs.declared.device.Device.{Device}
+use Rattle.avr_model.specs.Vectors.{enable_count, with_enable}
 use Rattle.vector_table.proofs.AllLaws.{numbers_are_their_bits}
 
 -- setting a bit that is clear adds its weight
-pub enabled_is_sum : (x k : ℕ) → x < 2 ^ 25 → k < 25 → bit_at x k ≡ 0 → with_enable x (k + 2) true ≡ 2 ^ k + x
-enabled_is_sum x k small lt none =
+pub enabled_is_sum : (d : Device) (x k : ℕ) → x < 2 ^ enable_count d → k < enable_count d → bit_at x k ≡ 0 → with_enable d x (k + 2) true ≡ 2 ^ k + x
+enabled_is_sum d x k small lt none =
     let sum : bit_or x (2 ^ k) ≡ 2 ^ k + x = or_disjoint x (2 ^ k) (and_pow x k ∙ ap (λ (b : ℕ). b * 2 ^ k) none ∙ omega arith) ∙ omega arith in
-    let bit : (j : ℕ) → j < 25 → bit_at (bit_or x (2 ^ k)) j ≡ cond (eqb (j + 2) (k + 2)) 1 (bit_at x j) = λ j below.
+    let bit : (j : ℕ) → j < enable_count d → bit_at (bit_or x (2 ^ k)) j ≡ cond (eqb (j + 2) (k + 2)) 1 (bit_at x j) = λ j below.
     bit_at_or x (2 ^ k) j ∙ elim (cases_eq j k) [
       | inl same ↦
           let two : j + 2 ≡ k + 2 = omega arith in
@@ -22,7 +23,7 @@ enabled_is_sum x k small lt none =
           let two : j + 2 ≡ k + 2 → ⊥ = λ e. other (omega arith) in
           rw (ne_eqb (j + 2) (k + 2) two) (omega (arith, bit_at-pow_other k j other))
     ] in
-    sym (numbers_are_their_bits.same 25 (bit_or x (2 ^ k)) (λ j. cond (eqb (j + 2) (k + 2)) 1 (bit_at x j)) (or_lt 25 x (2 ^ k) small (pow_below k 25 lt)) bit) ∙ sum
+    sym (numbers_are_their_bits.same (enable_count d) (bit_or x (2 ^ k)) (λ j. cond (eqb (j + 2) (k + 2)) 1 (bit_at x j)) (or_lt (enable_count d) x (2 ^ k) small (pow_below k (enable_count d) lt)) bit) ∙ sum
 
 -- ---- the bits from k on
 

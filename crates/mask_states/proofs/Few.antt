@@ -1,104 +1,130 @@
--- At most four enable bits are at one address.
-use Rattle.std.proofs.Common.{◌≡◌, ap, refl, inl, inr, ◌⊎◌, ℕ, zero, suc, ◌+◌, ◌^◌, ◌≤◌, arith, Bool, true, false, cond, eqb, List, [], ◌∷◌, map, length, reverse, Option, Some, None, nat_le, ne_eqb}
+-- At most eight vectors are enabled at one address, since a bit enables one.
+use Rattle.std.proofs.Common.{◌≡◌, ◌∙◌, sym, ap, refl, inl, inr, ◌⊎◌, ℕ, zero, suc, ◌+◌, ◌^◌, ◌<◌, ◌≤◌, ◌==◌, ◌&&◌, arith, Bool, true, false, cond, eqb, nat_lt, length, Option, Some, None}
 use Rattle.std.specs.Int.{from_bool, bit_at}
-use Rattle.std.specs.List.{list_all}
-use Rattle.std.proofs.lemmas.Bool.{cases_Bool, cases_eq, and_parts}
+use Rattle.std.proofs.lemmas.Bool.{cases_Bool, cases_eq}
 use Rattle.std.proofs.lemmas.Bool.Decides.{nat_tests}
 use Rattle.std.proofs.lemmas.Nat.{pow_below}
-use Rattle.avr_model.specs.Vectors.{Vector, vectors, row_of}
+use Rattle.avr_model.specs.declared.device.Device.{Device}
+use Rattle.avr_model.specs.declared.rows.Place.{Place}
+use Rattle.avr_model.specs.Vectors.{enable_count, is_sticky, place_at, enable_of}
 use Rattle.bit_domain.specs.declared.bits.Tri.{Tri}
 use Rattle.bit_domain.specs.declared.bits.Tri.TheVariants.{Zero, One, Any}
 use Rattle.bit_domain.specs.declared.bytes.TriByte.{TriByte}
-use Rattle.bit_domain.specs.TriByte.{tri_at}
 use Rattle.bit_domain.specs.Numbers.{one_if_any, count_unknown}
 use Rattle.bit_domain.proofs.AllLaws.{numbers_are_permitted}
-use Rattle.mask_states.specs.Splits.{enable_in, enable_tri, splits}
+use Rattle.vector_table.proofs.AllLaws.{enables_are_vectors}
+use Rattle.mask_states.specs.Splits.{is_any, common_tri, enable_in, enable_tri, splits}
+use Rattle.mask_states.proofs.Commons.{some_one, some_any, by_tests, any_there}
 
--- the number of vectors from 2 to n + 1 whose enable bit is at an address
-abbrev one_at : Option Vector → ℕ → ℕ
-one_at None address = 0
-one_at (Some r) address = from_bool (eqb r.address address)
+-- ---- how many of the first bits of an address enable one of the vectors 2 to n + 1
 
-unfoldable tally : ℕ → ℕ → ℕ
-tally address zero = 0
-tally address (suc n) = one_at (row_of (n + 2)) address + tally address n
+one_before : Option ℕ → ℕ → ℕ
+one_before None n = 0
+one_before (Some v) n = from_bool (nat_lt v (n + 2))
 
-unknown_le : (t : Tri) → one_if_any t ≤ 1
-unknown_le Zero = omega arith
-unknown_le One = omega arith
-unknown_le Any = omega arith
+tally : ℕ → (ℕ → Option ℕ) → ℕ → ℕ
+tally zero o n = 0
+tally (suc j) o n = one_before (o j) n + tally j o n
 
-known_bit : (b : Bool) → one_if_any (cond b Zero One) ≡ 0
-known_bit true = refl
-known_bit false = refl
+test_le : (v n : ℕ) → from_bool (nat_lt v (n + 2)) ≤ from_bool (nat_lt v (suc n + 2))
+test_le v n = grind (arith, nat_tests)
 
-unknown_at : (o : Option Vector) (address : ℕ) (value : TriByte) (old : ℕ) → one_if_any (enable_in o address value old) ≤ one_at o address
-unknown_at None address value old = omega (arith, known_bit (eqb old 0))
-unknown_at (Some r) address value old = elim (cases_Bool (eqb r.address address)) [
-  | inl here ↦ rw here (unknown_le (tri_at value r.bit))
-  | inr other ↦ rw other (omega (arith, known_bit (eqb old 0)))
+before_le : (o : Option ℕ) (n : ℕ) → one_before o n ≤ one_before o (suc n)
+unfolding one_before
+before_le None n = omega arith
+before_le (Some v) n = test_le v n
+
+before_one : (o : Option ℕ) (n : ℕ) → one_before o n ≤ 1
+unfolding one_before
+before_one None n = omega arith
+before_one (Some v) n = elim (cases_Bool (nat_lt v (n + 2))) [
+  | inl here ↦ rw here (omega arith)
+  | inr other ↦ rw other (omega arith)
 ]
 
-unknown_tally : (m address : ℕ) (value : TriByte) (n : ℕ) → count_unknown (enable_tri m address value) n ≤ tally address n
-unfolding count_unknown tally enable_tri
-unknown_tally m address value zero = omega arith
-unknown_tally m address value (suc n) =
-    omega (arith, unknown_at (row_of (n + 2)) address value (bit_at m n), unknown_tally m address value n)
+here_more : (n : ℕ) → from_bool (nat_lt (n + 2) (n + 2)) + 1 ≤ from_bool (nat_lt (n + 2) (suc n + 2))
+here_more n = grind (arith, nat_tests)
 
--- ---- how often an address stands in a list
+before_more : (o : Option ℕ) (n : ℕ) → o ≡ Some (n + 2) → one_before o n + 1 ≤ one_before o (suc n)
+unfolding one_before
+before_more o n e = rw e (here_more n)
 
-abbrev occurs : ℕ → List ℕ → ℕ
-occurs a [] = 0
-occurs a (x ∷ xs) = from_bool (eqb x a) + occurs a xs
+tally_le : (j : ℕ) (o : ℕ → Option ℕ) (n : ℕ) → tally j o n ≤ tally j o (suc n)
+unfolding tally
+tally_le zero o n = omega arith
+tally_le (suc j) o n = omega (arith, before_le (o j) n, tally_le j o n)
 
-abbrev addresses : List ℕ
-addresses = reverse (map (λ r. r.address) vectors)
-
-tally_occurs : (address : ℕ) → tally address 25 ≡ occurs address addresses
-unfolding tally row_of
-tally_occurs address = refl
-
-none_or_few : (xs ys : List ℕ) (a : ℕ) → list_all (λ x. nat_le (occurs x ys) 4) xs ≡ true → (occurs a xs ≡ 0) ⊎ (occurs a ys ≤ 4)
-none_or_few [] ys a h = inl refl
-none_or_few (x ∷ xs) ys a h =
-    let parts = and_parts (nat_le (occurs x ys) 4) (list_all (λ x. nat_le (occurs x ys) 4) xs) h in
-    elim (cases_eq x a) [
-      | inl same ↦
-          let le : occurs x ys ≤ 4 = grind (arith, nat_tests) in
-          inr (omega (arith, ap (λ (b : ℕ). occurs b ys) same))
-      | inr other ↦ elim (none_or_few xs ys a parts.1) [
-        | inl none ↦ inl (omega (arith, ap from_bool (ne_eqb x a other)))
-        | inr few ↦ inr few
-      ]
-    ]
-
-tally_few : (address : ℕ) → tally address 25 ≤ 4
-tally_few address =
-    let is = tally_occurs address in
-    elim (none_or_few addresses addresses address refl) [
-      | inl none ↦ omega arith
-      | inr few ↦ omega arith
-    ]
-
-pub few_unknown : (m address : ℕ) (value : TriByte) → count_unknown (enable_tri m address value) 25 ≤ 4
-few_unknown m address value = let le = unknown_tally m address value 25 in let few = tally_few address in omega arith
-
-pub more_unknown : (f : ℕ → Tri) (n m : ℕ) → n ≤ m → count_unknown f n ≤ count_unknown f m
-unfolding count_unknown
-more_unknown f n zero h = let none : n ≡ 0 = omega arith in omega (arith, ap (count_unknown f) none)
-more_unknown f n (suc m) h = elim (cases_eq n (suc m)) [
-  | inl same ↦ omega (arith, ap (count_unknown f) same)
-  | inr other ↦ omega (arith, more_unknown f n m (omega arith))
+tally_more : (j : ℕ) (o : ℕ → Option ℕ) (n i : ℕ) → i < j → o i ≡ Some (n + 2) → tally j o n + 1 ≤ tally j o (suc n)
+unfolding tally
+tally_more zero o n i lt e = absurd (omega arith)
+tally_more (suc j) o n i lt e = elim (cases_eq i j) [
+  | inl same ↦ omega (arith, before_more (o j) n (ap o (sym same) ∙ e), tally_le j o n)
+  | inr other ↦ omega (arith, before_le (o j) n, tally_more j o n i (omega arith) e)
 ]
 
-pub power_le : (n m : ℕ) → n ≤ m → 2 ^ n ≤ 2 ^ m
+tally_few : (j : ℕ) (o : ℕ → Option ℕ) (n : ℕ) → tally j o n ≤ j
+unfolding tally
+tally_few zero o n = omega arith
+tally_few (suc j) o n = omega (arith, before_one (o j) n, tally_few j o n)
+
+-- ---- unknown enable bits
+
+pub one_any : (t : Tri) → (t ≡ Any) ⊎ (is_any t ≡ false)
+one_any Zero = inr refl
+one_any One = inr refl
+one_any Any = inl refl
+
+no_any : (t : Tri) → is_any t ≡ false → one_if_any t ≡ 0
+no_any Zero h = refl
+no_any One h = refl
+no_any Any h = absurd (cc)
+
+bit_known : (b : Bool) → cond b Zero One ≡ Any → ⊥
+bit_known true e = absurd (cc)
+bit_known false e = absurd (cc)
+
+by_common : (s : Bool) (t : Tri) → cond s One t ≡ Any → t ≡ Any
+by_common true t e = absurd (cc)
+by_common false t e = e
+
+by_any : (a b : Bool) → cond a One (cond b Any Zero) ≡ Any → b ≡ true
+by_any true b e = absurd (cc)
+by_any false true e = refl
+by_any false false e = absurd (cc)
+
+-- an unknown enable bit is that of one of the address's bits
+unknown_bit : (d : Device) (address : ℕ) (value : TriByte) (k old : ℕ) (o : Option Place) → place_at d (k + 2) address ≡ o → enable_in o value old ≡ Any
+    → (j : ℕ) × ((j < 8) × (enable_of d address j ≡ Some (k + 2)))
+unknown_bit d address value k old None at e = absurd (bit_known (eqb old 0) e)
+unknown_bit d address value k old (Some p) at e =
+    let common = by_common (is_sticky p.enable && (old == 1)) (common_tri value p.mask) e in
+    let any = by_any (some_one value p.mask) (some_any value p.mask) (sym (by_tests value p.mask (some_one value p.mask) (some_any value p.mask) refl refl) ∙ common) in
+    let f = any_there value p.mask any in
+    (f.0, (f.1.0, enables_are_vectors.enabled d (k + 2) address f.0 p f.1.0 at f.1.1.1))
+
+unknown_tally : (d : Device) (m address : ℕ) (value : TriByte) (n : ℕ) → count_unknown (enable_tri d m address value) n ≤ tally 8 (enable_of d address) n
+unfolding count_unknown enable_tri
+unknown_tally d m address value zero = omega arith
+unknown_tally d m address value (suc n) =
+    let rest = unknown_tally d m address value n in
+    elim (one_any (enable_in (place_at d (n + 2) address) value (bit_at m n))) [
+      | inl any ↦
+          let f = unknown_bit d address value n (bit_at m n) (place_at d (n + 2) address) refl any in
+          omega (arith, tally_more 8 (enable_of d address) n f.0 f.1.0 f.1.1, ap one_if_any any)
+      | inr known ↦ omega (arith, tally_le 8 (enable_of d address) n, no_any (enable_in (place_at d (n + 2) address) value (bit_at m n)) known)
+    ]
+
+pub few_unknown : (d : Device) (m address : ℕ) (value : TriByte) (n : ℕ) → count_unknown (enable_tri d m address value) n ≤ 8
+few_unknown d m address value n = omega (arith, unknown_tally d m address value n, tally_few 8 (enable_of d address) n)
+
+power_le : (n m : ℕ) → n ≤ m → 2 ^ n ≤ 2 ^ m
 power_le n m h = elim (cases_eq n m) [
   | inl same ↦ omega (arith, ap (λ (k : ℕ). 2 ^ k) same)
   | inr other ↦ omega (arith, pow_below n m (omega arith))
 ]
 
-pub few_splits : (m address : ℕ) (value : TriByte) → length (splits m address value) ≤ 16
-few_splits m address value =
-    let is = numbers_are_permitted.count (enable_tri m address value) 25 in
-    let le = power_le (count_unknown (enable_tri m address value) 25) 4 (few_unknown m address value) in
+pub few_splits : (d : Device) (m address : ℕ) (value : TriByte) → length (splits d m address value) ≤ 256
+few_splits d m address value =
+    let is = numbers_are_permitted.count (enable_tri d m address value) (enable_count d) in
+    let le = power_le (count_unknown (enable_tri d m address value) (enable_count d)) 8 (few_unknown d m address value (enable_count d)) in
     omega arith

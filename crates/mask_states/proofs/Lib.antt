@@ -1,7 +1,7 @@
 pub mod Chains
 pub mod SameKeys
 pub mod Bits
-pub mod Rows
+pub mod Commons
 pub mod Few
 pub mod Steps
 pub mod Written

@@ -6,8 +6,8 @@ use Rattle.avr_model.specs.State.{filled}
 use Rattle.avr_model.specs.declared.assumption.Entry.{Entry}
 use Rattle.avr_model.specs.declared.assumption.Entry.TheVariants.{Masks, Never}
 use Rattle.avr_model.specs.Assumptions.{is_never}
-use Rattle.avr_model.specs.Bits.{all_below, number_of}
-use Rattle.avr_model.specs.Vectors.{are_among, row_of}
+use Rattle.avr_model.specs.Bits.{all_below, any_below, number_of}
+use Rattle.avr_model.specs.Vectors.{are_among, places, place_at, has_place}
 use Rattle.bit_domain.specs.declared.bits.Tri.TheVariants.{Zero, Any}
 use Rattle.bit_domain.specs.Packed.{packed}
 use Rattle.bit_domain.specs.TriByte.{byte_of, byte_known, byte_any}
@@ -21,8 +21,8 @@ use Rattle.mask_states.specs.declared.keys.NodeKey.{NodeKey}
 use Rattle.mask_states.specs.Keys.{offset_of, root_inst, entry_key, inst_numbers, node_numbers}
 use Rattle.mask_states.specs.Order.{inst_cmp, node_cmp, same_node}
 use Rattle.mask_states.specs.Place.{SpIs, AtNode}
-use Rattle.mask_states.specs.Splits.{enable_tri, splits}
-use Rattle.mask_states.specs.Wakes.{may_enable_barred, may_enable_other, widened, without}
+use Rattle.mask_states.specs.Splits.{common_tri, enable_tri, splits}
+use Rattle.mask_states.specs.Wakes.{may_have, may_enable_barred, may_enable_other, widened, without}
 
 -- ---- keys
 
@@ -87,26 +87,26 @@ half_written = (refl, refl, refl)
 
 -- ---- splits: INT0 and INT1 have their enable bits 0 and 1 at address 0x3D, PCINT0 has its at 0x68
 
-any_byte : splits 4 0x3D byte_any ≡ 4 ∷ 5 ∷ 6 ∷ 7 ∷ []
-unfolding numbers_of enable_tri packed row_of
+any_byte : splits M328 4 0x3D byte_any ≡ 4 ∷ 5 ∷ 6 ∷ 7 ∷ []
+unfolding device_row numbers_of enable_tri packed place_at places common_tri any_below
 any_byte = refl
 
-known_byte : splits 5 0x3D (byte_known 2) ≡ 6 ∷ []
-unfolding numbers_of enable_tri packed row_of
+known_byte : splits M328 5 0x3D (byte_known 2) ≡ 6 ∷ []
+unfolding device_row numbers_of enable_tri packed place_at places common_tri any_below
 known_byte = refl
 
 -- an even byte clears INT0 and may leave INT1
-even_byte : splits 1 0x3D (byte_of (λ i. if i == 0 then Zero else Any)) ≡ 0 ∷ 2 ∷ []
-unfolding numbers_of enable_tri packed row_of
+even_byte : splits M328 1 0x3D (byte_of (λ i. if i == 0 then Zero else Any)) ≡ 0 ∷ 2 ∷ []
+unfolding device_row numbers_of enable_tri packed place_at places common_tri any_below
 even_byte = refl
 
 -- TIMER1 has four enable bits, of vectors 11 to 14; bit 5 is that of the capture
-four_bits : splits 0 0x6F (byte_of (λ i. if i == 5 then Zero else Any)) ≡ 0 ∷ 1024 ∷ 2048 ∷ 3072 ∷ 4096 ∷ 5120 ∷ 6144 ∷ 7168 ∷ []
-unfolding numbers_of enable_tri packed row_of
+four_bits : splits M328 0 0x6F (byte_of (λ i. if i == 5 then Zero else Any)) ≡ 0 ∷ 1024 ∷ 2048 ∷ 3072 ∷ 4096 ∷ 5120 ∷ 6144 ∷ 7168 ∷ []
+unfolding device_row numbers_of enable_tri packed place_at places common_tri any_below
 four_bits = refl
 
-no_enable_bits : splits 5 0x0100 byte_any ≡ 5 ∷ []
-unfolding numbers_of enable_tri packed row_of
+no_enable_bits : splits M328 5 0x0100 byte_any ≡ 5 ∷ []
+unfolding device_row numbers_of enable_tri packed place_at places common_tri any_below
 no_enable_bits = refl
 
 -- ---- what may be enabled
@@ -124,39 +124,39 @@ abbrev no_INT0 : List Entry
 no_INT0 = Masks ∷ Never 2 ∷ []
 
 all_but_INT0 : widened M328 no_INT0 0 ≡ 0x1FFFFFE
-unfolding device_row widened number_of is_never
+unfolding device_row widened number_of is_never has_place places
 all_but_INT0 = refl
 
 -- INT0 stays among the vectors that may be enabled
 with_INT0 : widened M328 no_INT0 1 ≡ 0x1FFFFFF
-unfolding device_row widened number_of is_never
+unfolding device_row widened number_of is_never has_place places
 with_INT0 = refl
 
 -- on the ATmega48PA the word 2 is INT1's
 all_but_INT1 : widened M48 no_INT0 0 ≡ 0x1FFFFFD
-unfolding device_row widened number_of is_never
+unfolding device_row widened number_of is_never has_place places
 all_but_INT1 = refl
 
 any_enables_INT0 : may_enable_barred M328 no_INT0 0x3D byte_any ≡ true
-unfolding device_row may_enable_barred packed is_never
+unfolding device_row may_enable_barred packed is_never places may_have any_below
 any_enables_INT0 = refl
 
 two_enables_INT1_alone : may_enable_barred M328 no_INT0 0x3D (byte_known 2) ≡ false
-unfolding device_row may_enable_barred packed is_never
+unfolding device_row may_enable_barred packed is_never places may_have any_below
 two_enables_INT1_alone = refl
 
 two_enables_another : may_enable_other M328 no_INT0 (λ a. a == 0x3D) (byte_known 2) ≡ true
-unfolding device_row may_enable_other packed is_never
+unfolding device_row may_enable_other packed is_never places may_have any_below
 two_enables_another = refl
 
 one_enables_no_other : may_enable_other M328 no_INT0 (λ a. a == 0x3D) (byte_known 1) ≡ false
-unfolding device_row may_enable_other packed is_never
+unfolding device_row may_enable_other packed is_never places may_have any_below
 one_enables_no_other = refl
 
 -- if INT1's enable bit reads 0, it leaves a set of what may be enabled, and contradicts a set of what is enabled
-reads_zero : without true (Some 3) 7 ≡ 5
-unfolding number_of
+reads_zero : without M328 true (Some 3) 7 ≡ 5
+unfolding device_row number_of
 reads_zero = refl
 
-reads_zero_exactly : without false (Some 3) 5 ≡ 5
+reads_zero_exactly : without M328 false (Some 3) 5 ≡ 5
 reads_zero_exactly = refl

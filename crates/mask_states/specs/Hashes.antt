@@ -5,4 +5,4 @@ use Rattle.mask_states.specs.declared.keys.InstKey.{InstKey}
 
 -- the words that differ for most instances
 abbrev pub inst_hash : InstKey → List (List ℕ)
-inst_hash k = fed.u16 k.entry ++ fed.u32 k.masks
+inst_hash k = fed.u16 k.entry ++ fed.u64 k.masks

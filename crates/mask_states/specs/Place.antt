@@ -21,7 +21,7 @@ SpIs base is_open sp (Open offset h) = (is_open ≡ true) × (low sp ≡ low (mi
 
 -- each vector enabled in the first set is enabled in the second
 abbrev pub AreAmong : ℕ → ℕ → Type 0
-AreAmong enables masks = (k : ℕ) → k < 25 → bit_at enables k ≤ bit_at masks k
+AreAmong enables masks = (k : ℕ) → k < 64 → bit_at enables k ≤ bit_at masks k
 
 -- The enable bits equal the key's; if `may`, they are among the key's.
 abbrev pub EnablesAre : Bool → ℕ → ℕ → Type 0

@@ -15,7 +15,7 @@ pub enum Kind {
     Root,
     /// By a call.
     Call,
-    /// By the interrupt of this vector, 2 to 26.
+    /// By the interrupt of this vector, 2 to the device's last.
     Vector(u8),
 }
 
@@ -77,7 +77,7 @@ pub enum EdgeKind {
     Local,
     /// Into the instance of a call.
     Call,
-    /// Into the instance of an interrupt of this vector, 2 to 26, and whether its own enable bit is cleared.
+    /// Into the instance of an interrupt of this vector, 2 to the device's last, and whether its own enable bit is cleared.
     Interrupt(u8, bool),
     /// Out of an instance.
     Return,

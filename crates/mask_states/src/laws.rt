@@ -13,7 +13,7 @@ pub fn keys_are_their_numbers()
     ensures instances { NodesGoByInstance }
 {}
 
-/// The splits of a write are what writing the members of the byte leaves: at most 16, ascending.
+/// The splits of a write are what writing the members of the byte leaves: at most 256, ascending.
 pub fn splits_are_writes()
     ensures { SplitsAreWrites }
 {}

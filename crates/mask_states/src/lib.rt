@@ -7,5 +7,5 @@ pub mod splits;
 pub mod waking;
 
 pub use keys::{EdgeKind, High, InstKey, Kind, NodeKey, SpForm};
-pub use splits::{Splits, split};
-pub use waking::{may_enable_barred, widened, without};
+pub use splits::split;
+pub use waking::{may_enable, may_enable_barred, widened, without};

@@ -1,50 +1,63 @@
 //! The enable bits that a byte may set if it is stored through an unknown pointer.
 
-ghost use Rattle.std.specs.Prelude.{◌≡◌, ◌≤◌, IfSome};
-ghost use Rattle.avr_model.specs.Vectors.{row_of};
-ghost use Rattle.mask_states.specs.Wakes.{may_enable_barred, may_enable_there, widened, without};
+ghost use Rattle.std.specs.Prelude.{◌≡◌, ◌-◌, true, IfSome, if◌then◌else◌};
+ghost use Rattle.std.specs.Int.{bit_at, from_bool};
+ghost use Rattle.avr_model.specs.Vectors.{is_vector};
+ghost use Rattle.mask_states.specs.Wakes.{may_enable, may_enable_barred, may_wake, widened, without};
 
 use avr_model::device::Device;
-use bit_domain::{Tri, TriByte};
-use vector_table::{Assumptions, Masks, is_barred, row};
+use bit_domain::TriByte;
+use vector_table::{Assumptions, Masks, Place, has_common, has_place, is_barred};
 
-/// The enable bits with those of all vectors that aren't barred. A vector is barred if its word has a `never` entry.
+// Whether some place enables vector `v`, and the vector isn't barred.
+fn may_wake(device: Device, assumptions: &Assumptions, v: u8) -> bool
+    requires vector { is_vector device v ≡ true }
+    ensures { result ≡ may_wake device assumptions.now v }
+{
+    has_place(device, v) && !is_barred(device, assumptions, v)
+}
+
+// Whether the enable bit of vector `v` is 1 in the widened set.
+fn is_wide(device: Device, assumptions: &Assumptions, masks: Masks, v: u8) -> bool
+    requires vector { is_vector device v ≡ true }
+    ensures { from_bool result ≡ (if may_wake device assumptions.now v then 1 else bit_at masks (v - 2)) }
+{
+    may_wake(device, assumptions, v) || masks.is_on(device, v)
+}
+
+/// The enable bits with those of all vectors that have a place and aren't barred. A vector is barred if its word has a `never` entry.
 pub fn widened(device: Device, assumptions: &Assumptions, masks: Masks) -> Masks
     ensures { result ≡ widened device assumptions.now masks }
 {
     let mut wide = Masks::none();
-    for v in 2..27 {
-        if masks.has(v) || !is_barred(device, assumptions, v) {
-            wide = wide.with(v, true);
+    for v in 2..device.last_vector() + 1 {
+        if is_wide(device, assumptions, masks, v) {
+            wide = wide.with(device, v, true);
         }
     }
     wide
 }
 
-/// The enable bits after a bit reads 0: the enable bit of `vector`, 2 to 26, or another bit. Without `may` they are exactly what is
-/// enabled, and the vector isn't among them.
-pub fn without(may: bool, vector: Option<u8>, masks: Masks) -> Masks
-    requires least { IfSome vector (λ v. 2 ≤ v) }
-    requires most { IfSome vector (λ v. v ≤ 26) }
-    ensures { result ≡ without may vector masks }
+/// The enable bits after a bit reads 0: the enable bit of `vector`, or another bit. Without `may` they are exactly what is enabled, and the
+/// vector isn't among them.
+pub fn without(device: Device, may: bool, vector: Option<u8>, masks: Masks) -> Masks
+    requires vector { IfSome vector (λ v. is_vector device v ≡ true) }
+    ensures { result ≡ without device may vector masks }
 {
     match vector {
-        Some(v) if may => masks.with(v, false),
+        Some(v) if may => masks.with(device, v, false),
         _ => masks,
     }
 }
 
-// Whether writing the byte to this address may set the enable bit of vector `v`.
-fn may_enable(address: u16, value: &TriByte, v: u8) -> bool
-    ensures { result ≡ may_enable_there (row_of v) address value.now }
+/// Whether a member of `value` may enable the place's vector.
+pub fn may_enable(value: &TriByte, place: &Place) -> bool
+    ensures { result ≡ may_enable value.now place.now }
 {
-    match row(v) {
-        Some(row) => row.address == address && value.bit(row.bit) != Tri::Zero,
-        None => false,
-    }
+    has_common(value.value | !value.known, place.mask)
 }
 
-/// Whether a member of `value` has 1 at an enable bit of data address `address` whose vector is barred.
+/// Whether a member of `value` may enable a vector at data address `address` that is barred.
 pub fn may_enable_barred(
     device: Device,
     assumptions: &Assumptions,
@@ -53,8 +66,11 @@ pub fn may_enable_barred(
 ) -> bool
     ensures { result ≡ may_enable_barred device assumptions.now address value.now }
 {
-    for v in 2..27 {
-        if may_enable(address, value, v) && is_barred(device, assumptions, v) {
+    for place in device.places() {
+        if place.address == address
+            && may_enable(value, place)
+            && is_barred(device, assumptions, place.vector)
+        {
             return true;
         }
     }

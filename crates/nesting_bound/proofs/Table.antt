@@ -151,7 +151,7 @@ module _ (gs : List GraphInst) (table : List (Option Found)) (graph : IsGraph gs
     small_here : IsSmall f (count_found table + 1)
     small_here =
         let r = over.rank_least (count_found table) (λ e x h is. (sound.small e.into x is).0) in
-        let n = over.need_least (2050 * (f.rank + 1)) (λ o h. let a = graph.offsets i o (has_it o h) in omega arith)
+        let n = over.need_least (16386 * (f.rank + 1)) (λ o h. let a = graph.offsets i o (has_it o h) in omega arith)
         (λ e x h is.
         let p = over.entered e h in
         let same : p.0 ≡ x = same_found p.0 x (at table e.into) p.1 is in

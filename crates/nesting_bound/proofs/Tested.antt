@@ -25,8 +25,8 @@ no_some_place gs i here ps is same none some =
 
 -- ---- all instances below i
 pub record AreComposable (gs : List GraphInst) (i : ℕ) : Type 0 where
-  pub places : (k : ℕ) (p : Place) → k < i → HasPlace gs k p → p.offset ≤ 2048
-  pub edges : (k : ℕ) (e : Entered) → k < i → EntersAlong gs k e → (e.offset ≤ 2048) × (e.into < length gs)
+  pub places : (k : ℕ) (p : Place) → k < i → HasPlace gs k p → p.offset ≤ 16384
+  pub edges : (k : ℕ) (e : Entered) → k < i → EntersAlong gs k e → (e.offset ≤ 16384) × (e.into < length gs)
 
 module _ (gs : List GraphInst) (i : ℕ) (here : GraphInst) (is : slice_get gs i ≡ Some here) where
   place_of : (k : ℕ) (p : Place) → k ≡ i → HasPlace gs k p → Contains here.offsets p
@@ -35,18 +35,18 @@ module _ (gs : List GraphInst) (i : ℕ) (here : GraphInst) (is : slice_get gs i
   pub edge_of : (k : ℕ) (e : Entered) → k ≡ i → EntersAlong gs k e → Contains here.entered e
   edge_of k e same h = let inst : h.inst ≡ here = let a = subst (λ m. slice_get gs m ≡ Some h.inst) same h.is in cc in subst (λ x. Contains x.entered e) inst h.has
 
-  pub composable_more : (ps : List Place) (es : List Entered) → ps ≡ here.offsets → es ≡ here.entered → ((p : Place) → Contains ps p → p.offset ≤ 2048) → ((e : Entered) → Contains es e → (e.offset ≤ 2048) × (e.into < length gs)) → AreComposable gs i → AreComposable gs (i + 1)
+  pub composable_more : (ps : List Place) (es : List Entered) → ps ≡ here.offsets → es ≡ here.entered → ((p : Place) → Contains ps p → p.offset ≤ 16384) → ((e : Entered) → Contains es e → (e.offset ≤ 16384) × (e.into < length gs)) → AreComposable gs i → AreComposable gs (i + 1)
   composable_more ps es same_ps same_es low inside before = record {
     places = λ k p lt h. ⊎_elim (λ less. before.places k p less h) (λ same. low p (subst (λ xs. Contains xs p) (sym same_ps) (place_of k p same h))) (before_or_last k i lt);
     edges = λ k e lt h. ⊎_elim (λ less. before.edges k e less h) (λ same. inside e (subst (λ xs. Contains xs e) (sym same_es) (edge_of k e same h))) (before_or_last k i lt);
   }
 
-  pub not_low : (ps : List Place) → ps ≡ here.offsets → (p : Place) → Contains ps p → 2048 < p.offset → IsGraph gs → ⊥
+  pub not_low : (ps : List Place) → ps ≡ here.offsets → (p : Place) → Contains ps p → 16384 < p.offset → IsGraph gs → ⊥
   not_low ps same p h high graph =
       let le = graph.offsets i p (record { inst = here; is = is; has = subst (λ xs. Contains xs p) same h }) in
       absurd (omega arith)
 
-  pub not_inside : (es : List Entered) → es ≡ here.entered → (e : Entered) → Contains es e → ((e.offset ≤ 2048) × (e.into < length gs) → ⊥) → IsGraph gs → ⊥
+  pub not_inside : (es : List Entered) → es ≡ here.entered → (e : Entered) → Contains es e → ((e.offset ≤ 16384) × (e.into < length gs) → ⊥) → IsGraph gs → ⊥
   not_inside es same e h never graph =
       let en : EntersAlong gs i e = record { inst = here; is = is; has = subst (λ xs. Contains xs e) same h } in
       never (graph.places i e en, graph.within i e en)

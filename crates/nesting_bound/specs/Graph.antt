@@ -31,10 +31,10 @@ pub record AreGraphNeeds (gs : List GraphInst) (need : ℕ → ℕ) : Type 0 whe
   pub offsets : (i : ℕ) (p : Place) → HasPlace gs i p → p.offset ≤ need i
   pub entered : (i : ℕ) (e : Entered) → EntersAlong gs i e → e.offset + 2 + need e.into ≤ need i
 
--- a valid graph: 1 to 65,537 instances, each entered instance among them, each offset at most 2,048
+-- a valid graph: 1 to 65,537 instances, each entered instance among them, each offset at most 16,384
 pub record IsGraph (gs : List GraphInst) : Type 0 where
   pub some : 0 < length gs
   pub few : length gs ≤ 65537
-  pub offsets : (i : ℕ) (p : Place) → HasPlace gs i p → p.offset ≤ 2048
-  pub places : (i : ℕ) (e : Entered) → EntersAlong gs i e → e.offset ≤ 2048
+  pub offsets : (i : ℕ) (p : Place) → HasPlace gs i p → p.offset ≤ 16384
+  pub places : (i : ℕ) (e : Entered) → EntersAlong gs i e → e.offset ≤ 16384
   pub within : (i : ℕ) (e : Entered) → EntersAlong gs i e → e.into < length gs

@@ -40,7 +40,7 @@ count_missing table = sum_by one_if_missing table
 
 -- numbers small enough for the next step
 abbrev pub IsSmall : Found → ℕ → Type 0
-IsSmall x count = (x.rank < count) × (x.need ≤ 2050 * (x.rank + 1))
+IsSmall x count = (x.rank < count) × (x.need ≤ 16386 * (x.rank + 1))
 
 -- x has the least rank and need of instance i, and all instances that it enters have entries
 pub record IsSettled (gs : List GraphInst) (table : List (Option Found)) (i : ℕ) (x : Found) : Type 0 where

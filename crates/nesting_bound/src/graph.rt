@@ -8,7 +8,7 @@ use mask_states::{EdgeKind, InstKey};
 pub struct Place {
     /// The number of the node.
     pub node: u32,
-    /// The offset below the instance's base in bytes, at most 2,048.
+    /// The offset below the instance's base in bytes, at most 16,384.
     pub offset: u16,
 }
 
@@ -17,7 +17,7 @@ pub struct Place {
 pub struct Entered {
     /// The number of the node.
     pub node: u32,
-    /// The offset below the instance's base in bytes, at most 2,048.
+    /// The offset below the instance's base in bytes, at most 16,384.
     pub offset: u16,
     /// The kind: a call or an interrupt.
     pub kind: EdgeKind,

@@ -14,7 +14,7 @@ const MOST_INSTANCES: usize = 65_537;
 
 const GREATEST_OFFSET: u16 = SIZE;
 
-// Whether each offset is at most 2,048.
+// Whether each offset is at most 16,384.
 fn are_low(places: &[Place]) -> bool
     ensures yes { result ≡ true → (p : Place) → Contains places.now p → p.offset ≤ model.SIZE }
     ensures no { result ≡ false → (p : Place) × Contains places.now p × (model.SIZE < p.offset) }
@@ -27,7 +27,7 @@ fn are_low(places: &[Place]) -> bool
     true
 }
 
-// Whether each offset is at most 2,048, and each edge enters one of `count` instances.
+// Whether each offset is at most 16,384, and each edge enters one of `count` instances.
 fn lead_inside(edges: &[Entered], count: usize) -> bool
     ensures yes { result ≡ true → (e : Entered) → Contains edges.now e → (e.offset ≤ model.SIZE) × (e.into < count) }
     ensures no { result ≡ false → (e : Entered) × Contains edges.now e × ((e.offset ≤ model.SIZE) × (e.into < count) → ⊥) }
@@ -70,7 +70,7 @@ fn lead_to_places(instances: &[GraphInst], edges: &[Entered]) -> bool
 }
 
 impl Graph {
-    /// Whether `compose` accepts the graph: 1 to 65,537 instances, all entered ones among them, each offset at most 2,048.
+    /// Whether `compose` accepts the graph: 1 to 65,537 instances, all entered ones among them, each offset at most 16,384.
     pub fn is_composable(&self) -> bool
         ensures yes { result ≡ true → IsGraph self.now.instances }
         ensures no { result ≡ false → IsGraph self.now.instances → ⊥ }

@@ -6,7 +6,7 @@ mod answer;
 mod row;
 
 use abs_step::local;
-use avr_model::device::WORDS;
+use avr_model::device::Device;
 use indirect_targets::entry_of;
 use row::Row;
 use std::{fs, io};
@@ -18,7 +18,7 @@ const MOST_ENTRIES: usize = 4_096;
 // Prints the successors of a row's node.
 fn show(rt: &HostRuntime, row: &Row, lines: &Assumptions) -> io::Result<()> {
     let (key, state) = (&row.key, &row.state);
-    if key.pc >= WORDS || state.slots.len() != key.offset() {
+    if u32::from(key.pc) >= row.device.limit() || state.slots.len() != key.offset() {
         return println!(rt; "  no node");
     }
     let Some(flash) = row.flash(rt.alloc())? else {
@@ -31,13 +31,14 @@ fn show(rt: &HostRuntime, row: &Row, lines: &Assumptions) -> io::Result<()> {
     }
 }
 
-// Prints a line: an assumption is kept for the next row, and a row gets its answer.
+// Prints a line: an assumption is kept for the next row, and a row gets its answer. Assumptions are read as those of the ATmega328P: the
+// four devices admit the same.
 fn show_line(rt: &HostRuntime, line: &str, lines: &mut Assumptions) -> io::Result<()> {
     println!(rt; "{line}")?;
     if line.is_empty() || line.starts_with('#') {
         return Ok(());
     }
-    match entry_of(rt.alloc(), line.as_bytes())? {
+    match entry_of(rt.alloc(), Device::M328, line.as_bytes())? {
         Some(entry) => {
             if lines.entries().len() < MOST_ENTRIES && lines.push(entry).is_ok() {
                 return Ok(());

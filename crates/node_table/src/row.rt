@@ -1,9 +1,10 @@
 //! Rows of the table: a node with the words of firmware there, and its state.
 
-ghost use Rattle.std.specs.Prelude.{◌<◌};
+ghost use Rattle.std.specs.Prelude.{◌≤◌, ◌+◌, ◌*◌};
+ghost use Rattle.avr_model.specs.Devices.{limit_of};
 
 use abs_state::{AbsByte, AbsFlags, AbsState};
-use avr_model::device::{Device, WORDS};
+use avr_model::device::Device;
 use bit_domain::TriByte;
 use flash_image::Flash;
 use mask_states::{High, InstKey, Kind, NodeKey, SpForm};
@@ -17,7 +18,8 @@ use vector_table::Masks;
 pub struct Row {
     // The word at the node and the three after it.
     words: [u16; 4],
-    device: Device,
+    /// Its device.
+    pub device: Device,
     /// Its key.
     pub key: NodeKey,
     /// Its state.
@@ -56,7 +58,7 @@ fn kind(text: &str) -> Option<Kind> {
         return Some(Kind::Call);
     }
     let vector = decimal(text.strip_prefix('v')?)?;
-    if vector <= 26 {
+    if vector <= 64 {
         Some(Kind::Vector(vector as u8))
     } else {
         None
@@ -182,7 +184,7 @@ impl Row {
             self.words[2] = number(third)?;
             self.words[3] = number(fourth)?;
         } else if name == "masks" {
-            self.key.masks = Masks::from_bits(u32::from_str_radix(text, 16).ok()?)?;
+            self.key.masks = Masks::from_bits(u64::from_str_radix(text, 16).ok()?);
         } else if name == "device" {
             self.device = device(text)?;
         } else if name == "pick" {
@@ -208,16 +210,17 @@ impl Row {
     }
 
     // The byte address of a word this many words from the node, modulo the number of words.
-    fn address(&self, words: u16) -> u16
-        ensures { result < 32767 }
+    #[tactic(auto, using(avr_model::proofs::AllLaws::devices_are_alike))]
+    fn address(&self, words: u8) -> u32
+        ensures { result + 2 ≤ 2 * limit_of self.now.device }
     {
-        self.device.wrap(self.key.pc.wrapping_add(words)) % WORDS * 2
+        2 * u32::from(self.device.wrap(u32::from(self.key.pc) + u32::from(words)))
     }
 
     /// The device's flash with the four words at the node, modulo the number of its words, and erased words elsewhere.
     pub fn flash(&self, alloc: Global) -> Result<Option<Flash>, AllocError> {
         let [first, second, third, fourth] = self.words;
-        let mut flash = Flash::erased(alloc)?;
+        let mut flash = Flash::erased(alloc, self.device)?;
         flash.place(self.address(0), &first.to_le_bytes());
         flash.place(self.address(1), &second.to_le_bytes());
         flash.place(self.address(2), &third.to_le_bytes());

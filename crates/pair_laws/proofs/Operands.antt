@@ -8,7 +8,7 @@ use Rattle.avr_model.specs.declared.instruction.Instr.{Instr}
 use Rattle.avr_model.specs.declared.device.Device.{Device}
 use Rattle.avr_model.specs.Devices.{Program, has_jmp, device_of}
 use Rattle.avr_model.specs.Image.{word_at}
-use Rattle.avr_model.specs.Sites.{is_long_transfer, on_device, instruction_at}
+use Rattle.avr_model.specs.Sites.{is_lacking, on_device, instruction_at}
 use Rattle.avr_model.specs.Pattern.{places, letter}
 use Rattle.avr_model.specs.Table.{Row, table, fields, matches, decoded_by, decoded}
 use Rattle.pair_rules.specs.Fits.{HasRegisters}
@@ -134,11 +134,11 @@ all_there = (
                                                                             (
                                                                               (λ w next. small 100 "1001 000d dddd 0101" w),
                                                                               (
-                                                                                (λ w next. small 100 "1001 000d dddd 1111" w),
+                                                                                (λ w next. small 100 "1001 000d dddd 0110" w),
                                                                                 (
-                                                                                  (λ w next. tt),
+                                                                                  (λ w next. small 100 "1001 000d dddd 0111" w),
                                                                                   (
-                                                                                    (λ w next. tt),
+                                                                                    (λ w next. small 100 "1001 000d dddd 1111" w),
                                                                                     (
                                                                                       (λ w next. tt),
                                                                                       (
@@ -154,25 +154,25 @@ all_there = (
                                                                                                 (
                                                                                                   (λ w next. tt),
                                                                                                   (
-                                                                                                    (λ w next. small 100 "1001 010d dddd 0000" w),
+                                                                                                    (λ w next. tt),
                                                                                                     (
-                                                                                                      (λ w next. small 100 "1001 010d dddd 0001" w),
+                                                                                                      (λ w next. tt),
                                                                                                       (
-                                                                                                        (λ w next. small 100 "1001 010d dddd 0010" w),
+                                                                                                        (λ w next. small 100 "1001 010d dddd 0000" w),
                                                                                                         (
-                                                                                                          (λ w next. small 100 "1001 010d dddd 0011" w),
+                                                                                                          (λ w next. small 100 "1001 010d dddd 0001" w),
                                                                                                           (
-                                                                                                            (λ w next. small 100 "1001 010d dddd 0101" w),
+                                                                                                            (λ w next. small 100 "1001 010d dddd 0010" w),
                                                                                                             (
-                                                                                                              (λ w next. small 100 "1001 010d dddd 0110" w),
+                                                                                                              (λ w next. small 100 "1001 010d dddd 0011" w),
                                                                                                               (
-                                                                                                                (λ w next. small 100 "1001 010d dddd 0111" w),
+                                                                                                                (λ w next. small 100 "1001 010d dddd 0101" w),
                                                                                                                 (
-                                                                                                                  (λ w next. small 100 "1001 010d dddd 1010" w),
+                                                                                                                  (λ w next. small 100 "1001 010d dddd 0110" w),
                                                                                                                   (
-                                                                                                                    (λ w next. tt),
+                                                                                                                    (λ w next. small 100 "1001 010d dddd 0111" w),
                                                                                                                     (
-                                                                                                                      (λ w next. tt),
+                                                                                                                      (λ w next. small 100 "1001 010d dddd 1010" w),
                                                                                                                       (
                                                                                                                         (λ w next. tt),
                                                                                                                         (
@@ -194,38 +194,47 @@ all_there = (
                                                                                                                                         (
                                                                                                                                           (λ w next. tt),
                                                                                                                                           (
-                                                                                                                                            (λ w next. (twelve_more (small 100 "1001 0110 KKdd KKKK" w), six_bits (small 75 "1001 0110 KKdd KKKK" w))),
+                                                                                                                                            (λ w next. tt),
                                                                                                                                             (
-                                                                                                                                              (λ w next. (twelve_more (small 100 "1001 0111 KKdd KKKK" w), six_bits (small 75 "1001 0111 KKdd KKKK" w))),
+                                                                                                                                              (λ w next. tt),
                                                                                                                                               (
                                                                                                                                                 (λ w next. tt),
                                                                                                                                                 (
-                                                                                                                                                  (λ w next. tt),
+                                                                                                                                                  (λ w next. (twelve_more (small 100 "1001 0110 KKdd KKKK" w), six_bits (small 75 "1001 0110 KKdd KKKK" w))),
                                                                                                                                                   (
-                                                                                                                                                    (λ w next. tt),
+                                                                                                                                                    (λ w next. (twelve_more (small 100 "1001 0111 KKdd KKKK" w), six_bits (small 75 "1001 0111 KKdd KKKK" w))),
                                                                                                                                                     (
                                                                                                                                                       (λ w next. tt),
                                                                                                                                                       (
-                                                                                                                                                        (λ w next. small 100 "1011 0AAd dddd AAAA" w),
+                                                                                                                                                        (λ w next. tt),
                                                                                                                                                         (
                                                                                                                                                           (λ w next. tt),
                                                                                                                                                           (
                                                                                                                                                             (λ w next. tt),
                                                                                                                                                             (
-                                                                                                                                                              (λ w next. tt),
+                                                                                                                                                              (λ w next. small 100 "1011 0AAd dddd AAAA" w),
                                                                                                                                                               (
                                                                                                                                                                 (λ w next. tt),
                                                                                                                                                                 (
                                                                                                                                                                   (λ w next. tt),
                                                                                                                                                                   (
-                                                                                                                                                                    (λ w next. small 100 "1111 100d dddd 0bbb" w),
+                                                                                                                                                                    (λ w next. tt),
                                                                                                                                                                     (
                                                                                                                                                                       (λ w next. tt),
                                                                                                                                                                       (
                                                                                                                                                                         (λ w next. tt),
                                                                                                                                                                         (
-                                                                                                                                                                          (λ w next. tt),
-                                                                                                                                                                          tt,
+                                                                                                                                                                          (λ w next. small 100 "1111 100d dddd 0bbb" w),
+                                                                                                                                                                          (
+                                                                                                                                                                            (λ w next. tt),
+                                                                                                                                                                            (
+                                                                                                                                                                              (λ w next. tt),
+                                                                                                                                                                              (
+                                                                                                                                                                                (λ w next. tt),
+                                                                                                                                                                                tt,
+                                                                                                                                                                              ),
+                                                                                                                                                                            ),
+                                                                                                                                                                          ),
                                                                                                                                                                         ),
                                                                                                                                                                       ),
                                                                                                                                                                     ),
@@ -314,7 +323,7 @@ all_there = (
 
 on_device_is : (device : Device) (x : Option Instr) (instr : Instr) → on_device device x ≡ Some instr → x ≡ Some instr
 on_device_is device None instr e = e
-on_device_is device (Some x) instr e = by (is_long_transfer x && not (has_jmp device)) e
+on_device_is device (Some x) instr e = by (is_lacking device x) e
   where
     by : (none : Bool) → (if none then None else Some x) ≡ Some instr → Some x ≡ Some instr
     by true same = absurd (cc)

@@ -136,4 +136,5 @@ module _ (f f' : PairFacts) (fits : FactsFit f) (fits' : FactsFit f') (le : AreF
     told_less (i.Ld d p) fit = pointer_less d p
     told_less (i.St p r) fit = pointer_less 32 p
     told_less (i.LpmZPlus d) fit = pointer_less d pointer.ZPlus
+    told_less (i.ElpmZPlus d) fit = pointer_less d pointer.ZPlus
     told_less _ fit = tt

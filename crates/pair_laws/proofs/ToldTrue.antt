@@ -236,6 +236,7 @@ module _ (o : Origin) (m : State) (s : AbsState) (n : ℕ) (at : IsBefore o s m)
   told_true words b1 b2 (i.Ld d p) fit = load_true d _ p
   told_true words b1 b2 (i.St p r) fit = store_true p
   told_true words b1 b2 (i.LpmZPlus d) fit = pointer_true d 15 (plus16 (pair m 30) 1) _ _ (omega arith) (omega arith) (up_true 15 (omega arith) (pair m 30) refl)
+  told_true words b1 b2 (i.ElpmZPlus d) fit = pointer_true d 15 (plus16 (pair m 30) 1) _ _ (omega arith) (omega arith) (up_true 15 (omega arith) (pair m 30) refl)
   told_true words b1 b2 _ fit = tt
 
 -- ---- it fits
@@ -308,4 +309,5 @@ told_fits s n formed f (i.Sbiw d k) fit = computed_fits d _ fit.0 (modulo_small 
 told_fits s n formed f (i.Ld d p) fit = pointer_fits f d p
 told_fits s n formed f (i.St p r) fit = pointer_fits f 32 p
 told_fits s n formed f (i.LpmZPlus d) fit = unless_fits d 15 _ (omega arith) (modulo_small _ _)
+told_fits s n formed f (i.ElpmZPlus d) fit = unless_fits d 15 _ (omega arith) (modulo_small _ _)
 told_fits s n formed f _ fit = tt

@@ -110,4 +110,5 @@ told_by registers f (i.Sbiw d k) = computed d (moved_down (interval_at f.interva
 told_by registers f (i.Ld d p) = told_pointer f d p
 told_by registers f (i.St p r) = told_pointer f 32 p
 told_by registers f (i.LpmZPlus d) = unless_set d 15 (moved_up (interval_at f.intervals 15) 1)
+told_by registers f (i.ElpmZPlus d) = unless_set d 15 (moved_up (interval_at f.intervals 15) 1)
 told_by registers f _ = told.Nothing

@@ -45,13 +45,12 @@ pub fn joined(flash: &Flash, pair: PairBytes) -> Option<Option<AbsByte>>
     let mut count: u32 = 0;
     let mut value: Option<AbsByte> = None;
     for z in u32::from(pair.interval.low)..u32::from(pair.interval.high) + 1 {
-        let z = z as u16;
-        if permits(pair, z) {
+        if permits(pair, z as u16) {
             if count == 64 || z >= end {
                 return None;
             }
             count += 1;
-            value = Some(joined_with(value, AbsByte::known(flash.byte(z))));
+            value = Some(joined_with(value, AbsByte::known(flash.byte(z as u16))));
         }
     }
     Some(value)

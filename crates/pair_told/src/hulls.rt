@@ -64,6 +64,7 @@ pub fn hull_by(facts: &mut Facts, registers: &[AbsByte; 32], instr: &Instr)
         Instr::Ldd(d, _, _)
         | Instr::Lds(d, _)
         | Instr::LpmZ(d)
+        | Instr::ElpmZ(d)
         | Instr::Pop(d)
         | Instr::Unary(_, d)
         | Instr::In(d, _)
@@ -72,12 +73,12 @@ pub fn hull_by(facts: &mut Facts, registers: &[AbsByte; 32], instr: &Instr)
             hull(facts, registers, *d);
             hull_pointer(facts, registers, *pointer);
         }
-        Instr::LpmZPlus(d) => {
+        Instr::LpmZPlus(d) | Instr::ElpmZPlus(d) => {
             hull(facts, registers, *d);
             hull_pair(facts, registers, Pair::new(15));
         }
         Instr::St(pointer, _) => hull_pointer(facts, registers, *pointer),
-        Instr::Lpm => hull(facts, registers, Register::new(0)),
+        Instr::Lpm | Instr::Elpm => hull(facts, registers, Register::new(0)),
         Instr::Adiw(d, _) | Instr::Sbiw(d, _) => hull_pair(facts, registers, d.widened()),
         _ => {}
     }

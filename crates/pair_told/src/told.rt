@@ -142,7 +142,7 @@ pub fn told_by(registers: &[AbsByte; 32], facts: &PairFacts, instr: &Instr) -> T
         Instr::Sbiw(d, number) => told_wide(facts, d.widened(), false, number.get() as u8),
         Instr::Ld(d, pointer) => told_pointer(facts, d.get(), *pointer),
         Instr::St(pointer, _) => told_pointer(facts, 32, *pointer),
-        Instr::LpmZPlus(d) => told_pointer(facts, d.get(), Pointer::ZPlus),
+        Instr::LpmZPlus(d) | Instr::ElpmZPlus(d) => told_pointer(facts, d.get(), Pointer::ZPlus),
         _ => Told::Nothing,
     }
 }

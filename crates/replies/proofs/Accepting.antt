@@ -1,5 +1,5 @@
 -- Status 0 of a command that judges a certificate: what it says, and when it comes.
-use Rattle.std.proofs.Common.{◌≡◌, ◌≤◌, ◌*◌, ◌%◌, ◌==◌, nat_lt, ℕ, Bool, true, false, List, [], length, take, Option, Some, None, Result, Ok, Err, if◌then◌else◌, IsOkAnd, inl, inr, refl, sym, ap, ◌∙◌, subst, arith}
+use Rattle.std.proofs.Common.{◌≡◌, ◌≤◌, ◌*◌, ◌%◌, ◌==◌, nat_lt, ℕ, Bool, true, false, List, [], length, take, Option, Some, None, Result, Ok, Err, if◌then◌else◌, IsOkAnd, inl, inr, refl, sym, ap, ap₂, ◌∙◌, subst, arith}
 use Rattle.std.specs.Prelude.{◌⊎◌}
 use Rattle.std.specs.Option.{option_map}
 use Rattle.std.proofs.lemmas.Bool.Decides.{nat_tests}
@@ -8,8 +8,8 @@ use Rattle.avr_model.specs.declared.assumption.Entry.{Entry}
 use Rattle.avr_model.specs.declared.choice.Stop.{Stop}
 use Rattle.avr_model.specs.declared.choice.Stop.TheVariants as stop
 use Rattle.avr_model.specs.declared.device.Device.{Device}
-use Rattle.avr_model.specs.Devices.{Program, words_of as count_of, image}
-use Rattle.avr_model.specs.Image.{WORDS, IsRawImage, raw_words}
+use Rattle.avr_model.specs.Devices.{Program, words_of as count_of, limit_of, image, device_of}
+use Rattle.avr_model.specs.Image.{IsRawImage, raw_words}
 use Rattle.avr_model.specs.Run.{Bounded}
 use Rattle.local_rules.specs.Machine.{AreWords}
 use Rattle.elf_load.specs.Elf.{is_elf}
@@ -86,15 +86,15 @@ pub by_none : (o : Option (List ℕ)) (reply : Reply) (status : Status) (text : 
 by_none None reply status text e h = h
 by_none (Some refusal) reply status text e h = absurd (let wrong = e in cc)
 
-no_raw_fault : (n : ℕ) (odd long : Bool) → (n % 2 == 1) ≡ odd → nat_lt 32768 n ≡ long → (if odd then Some (raw_fault raw.OddLength) else (if long then Some (raw_fault raw.TooLong) else None)) ≡ None → (n % 2 ≡ 0) × (n ≤ 32768)
-no_raw_fault n true long e f h = absurd (let wrong = h in cc)
-no_raw_fault n false true e f h = absurd (let wrong = h in cc)
-no_raw_fault n false false e f h = (grind (arith, nat_tests), grind (arith, nat_tests))
+no_raw_fault : (cap n : ℕ) (odd long : Bool) → (n % 2 == 1) ≡ odd → nat_lt cap n ≡ long → (if odd then Some (raw_fault raw.OddLength) else (if long then Some (raw_fault raw.TooLong) else None)) ≡ None → (n % 2 ≡ 0) × (n ≤ cap)
+no_raw_fault cap n true long e f h = absurd (let wrong = h in cc)
+no_raw_fault cap n false true e f h = absurd (let wrong = h in cc)
+no_raw_fault cap n false false e f h = (grind (arith, nat_tests), grind (arith, nat_tests))
 
-raw_fault_none : (n : ℕ) → n % 2 ≡ 0 → n ≤ 32768 → (if n % 2 == 1 then Some (raw_fault raw.OddLength) else (if nat_lt 32768 n then Some (raw_fault raw.TooLong) else None)) ≡ None
-raw_fault_none n even fits =
+raw_fault_none : (cap n : ℕ) → n % 2 ≡ 0 → n ≤ cap → (if n % 2 == 1 then Some (raw_fault raw.OddLength) else (if nat_lt cap n then Some (raw_fault raw.TooLong) else None)) ≡ None
+raw_fault_none cap n even fits =
     let e : (n % 2 == 1) ≡ false = grind (arith, nat_tests) in
-    let f : nat_lt 32768 n ≡ false = grind (arith, nat_tests) in
+    let f : nat_lt cap n ≡ false = grind (arith, nat_tests) in
     rw (e, f) refl
 
 -- there is neither fault
@@ -107,42 +107,42 @@ no_word None e = refl
 no_word (Some word) e = absurd (let wrong = e in cc)
 
 module _
-    (one : (bytes words : List ℕ) → IsRawImage bytes words → words ≡ raw_words bytes)
-    (images : (bytes : List ℕ) → length bytes % 2 ≡ 0 → length bytes ≤ 2 * WORDS → IsRawImage bytes (raw_words bytes))
+    (one : (device : Device) (bytes words : List ℕ) → IsRawImage device bytes words → words ≡ raw_words device bytes)
+    (images : (device : Device) (bytes : List ℕ) → length bytes % 2 ≡ 0 → length bytes ≤ 2 * limit_of device → IsRawImage device bytes (raw_words device bytes))
     (narrowing : NarrowingIsExact) where
-  image_by : (elf : Bool) (bytes : List ℕ) → fault_by elf bytes ≡ None → IsImageBy elf bytes (words_by elf bytes)
-  image_by true bytes e = some_elf bytes (no_refusal bytes e)
-  image_by false bytes e = let h = no_raw_fault (length bytes) (length bytes % 2 == 1) (nat_lt 32768 (length bytes)) refl refl e in images bytes h.0 h.1
+  image_by : (device : Device) (elf : Bool) (bytes : List ℕ) → fault_by device elf bytes ≡ None → IsImageBy device elf bytes (words_by device elf bytes)
+  image_by device true bytes e = some_elf device bytes (no_refusal device bytes e)
+  image_by device false bytes e = let h = no_raw_fault (2 * limit_of device) (length bytes) (length bytes % 2 == 1) (nat_lt (2 * limit_of device) (length bytes)) refl refl e in images device bytes h.0 h.1
 
-  all_of : (elf : Bool) (bytes all : List ℕ) → IsImageBy elf bytes all → all ≡ words_by elf bytes
-  all_of true bytes all h = one_elf bytes all h
-  all_of false bytes all h = one bytes all h
+  all_of : (device : Device) (elf : Bool) (bytes all : List ℕ) → IsImageBy device elf bytes all → all ≡ words_by device elf bytes
+  all_of device true bytes all h = one_elf device bytes all h
+  all_of device false bytes all h = one device bytes all h
 
-  image_fault : (elf : Bool) (bytes all : List ℕ) → IsImageBy elf bytes all → fault_by elf bytes ≡ None
-  image_fault true bytes all h = ap (option_map elf_refused) h.loads
-  image_fault false bytes all h = raw_fault_none (length bytes) h.even h.fits
+  image_fault : (device : Device) (elf : Bool) (bytes all : List ℕ) → IsImageBy device elf bytes all → fault_by device elf bytes ≡ None
+  image_fault device true bytes all h = ap (option_map elf_refused) h.loads
+  image_fault device false bytes all h = raw_fault_none (2 * limit_of device) (length bytes) h.even h.fits
 
-  image_size : (elf : Bool) (bytes all : List ℕ) → IsImageBy elf bytes all → length all ≡ WORDS
-  image_size true bytes all h = h.size
-  image_size false bytes all h = h.size
+  image_size : (device : Device) (elf : Bool) (bytes all : List ℕ) → IsImageBy device elf bytes all → length all ≡ limit_of device
+  image_size device true bytes all h = h.size
+  image_size device false bytes all h = h.size
 
   firmware_here : (device : Device) (bytes : List ℕ) → firmware_fault device bytes ≡ None → IsFirmware device bytes (firmware_image device bytes)
   firmware_here device bytes e =
-      let all : List ℕ = words_by (is_elf bytes) bytes in
-      let none = none_of (fault_by (is_elf bytes) bytes) (outside_fault device all) e in
-      let image = image_by (is_elf bytes) bytes none.0 in
-      record { all = all; image = image; narrowed = narrowing.some device all (image_size (is_elf bytes) bytes all image) (no_word (outside_word device all) none.1) }
+      let all : List ℕ = words_by device (is_elf bytes) bytes in
+      let none = none_of (fault_by device (is_elf bytes) bytes) (outside_fault device all) e in
+      let image = image_by device (is_elf bytes) bytes none.0 in
+      record { all = all; image = image; narrowed = narrowing.some device all (image_size device (is_elf bytes) bytes all image) (no_word (outside_word device all) none.1) }
 
   pub words_of : (device : Device) (bytes : List ℕ) (words : Program) → IsFirmware device bytes words → words ≡ firmware_image device bytes
   words_of device bytes words h =
-      narrowing.words device h.all words (image_size (is_elf bytes) bytes h.all h.image) h.narrowed
-      ∙ ap (λ (all : List ℕ). image device (take (count_of device) all)) (all_of (is_elf bytes) bytes h.all h.image)
+      narrowing.words device h.all words (image_size device (is_elf bytes) bytes h.all h.image) h.narrowed
+      ∙ ap (λ (all : List ℕ). image device (take (count_of device) all)) (all_of device (is_elf bytes) bytes h.all h.image)
 
   pub fault_of : (device : Device) (bytes : List ℕ) (words : Program) → IsFirmware device bytes words → firmware_fault device bytes ≡ None
   fault_of device bytes words h =
-      let none = narrowing.none device h.all words (image_size (is_elf bytes) bytes h.all h.image) h.narrowed in
-      ap (λ (o : Option (List ℕ)). fault_or o (outside_fault device (words_by (is_elf bytes) bytes))) (image_fault (is_elf bytes) bytes h.all h.image)
-      ∙ ap (outside_fault device) (sym (all_of (is_elf bytes) bytes h.all h.image))
+      let none = narrowing.none device h.all words (image_size device (is_elf bytes) bytes h.all h.image) h.narrowed in
+      ap (λ (o : Option (List ℕ)). fault_or o (outside_fault device (words_by device (is_elf bytes) bytes))) (image_fault device (is_elf bytes) bytes h.all h.image)
+      ∙ ap (outside_fault device) (sym (all_of device (is_elf bytes) bytes h.all h.image))
       ∙ ap (option_map firmware_outside) none
 
   pub zero_image : (device : Device) (bytes : List ℕ) (next : Program → Reply) (text : List ℕ) → WithImage device bytes next exit.Done text
@@ -167,19 +167,19 @@ zero_read (Ok A) next text h = (A, refl, h)
 zero_read (Err fault) next text h = absurd (zero_refused exit.BadAssumptions not_assumptions (assumptions_refused fault) text h)
 
 module _ (exact : ReadingIsExact) where
-  pub zero_list : (list : Option (List ℕ)) (next : List Entry → Reply) (text : List ℕ) → WithList list next exit.Done text → (A : List Entry) × IsListOf list A × next A exit.Done text
-  zero_list None next text h = ([], refl, h)
-  zero_list (Some bytes) next text h =
-      let r = zero_read (entries_in bytes) next text h in
-      (r.0, subst (IsListDue bytes) r.1 (exact.read bytes), r.2)
+  pub zero_list : (device : Device) (list : Option (List ℕ)) (next : List Entry → Reply) (text : List ℕ) → WithList device list next exit.Done text → (A : List Entry) × IsListOf device list A × next A exit.Done text
+  zero_list device None next text h = ([], refl, h)
+  zero_list device (Some bytes) next text h =
+      let r = zero_read (entries_in device bytes) next text h in
+      (r.0, subst (IsListDue device bytes) r.1 (exact.read device bytes), r.2)
 
-  pub list_zero : (list : Option (List ℕ)) (A : List Entry) (next : List Entry → Reply) (status : Status) (text : List ℕ) → IsListOf list A → next A status text → WithList list next status text
-  list_zero None A next status text e h = subst (λ l. next l status text) e h
-  list_zero (Some bytes) A next status text e h = subst (λ x. ListBy x next status text) (sym (exact.due bytes (Ok A) e)) h
+  pub list_zero : (device : Device) (list : Option (List ℕ)) (A : List Entry) (next : List Entry → Reply) (status : Status) (text : List ℕ) → IsListOf device list A → next A status text → WithList device list next status text
+  list_zero device None A next status text e h = subst (λ l. next l status text) e h
+  list_zero device (Some bytes) A next status text e h = subst (λ x. ListBy x next status text) (sym (exact.due device bytes (Ok A) e)) h
 
-  pub same_list : (list : Option (List ℕ)) (A B : List Entry) → IsListOf list A → IsListOf list B → A ≡ B
-  same_list None A B h k = h ∙ sym k
-  same_list (Some bytes) A B h k = let e : ◌≡◌ {A = Result (List Entry) AssumeText} (Ok A) (Ok B) = sym (exact.due bytes (Ok A) h) ∙ exact.due bytes (Ok B) k in cc
+  pub same_list : (device : Device) (list : Option (List ℕ)) (A B : List Entry) → IsListOf device list A → IsListOf device list B → A ≡ B
+  same_list device None A B h k = h ∙ sym k
+  same_list device (Some bytes) A B h k = let e : ◌≡◌ {A = Result (List Entry) AssumeText} (Ok A) (Ok B) = sym (exact.due device bytes (Ok A) h) ∙ exact.due device bytes (Ok B) k in cc
 
 -- ---- the schedule
 
@@ -290,15 +290,15 @@ Accepting = List ℕ → Program → List Entry → Claim → Reply
 
 -- the answer of a command that judges, by the bytes of its files
 abbrev JudgeReply : Device → Accepting → List ℕ → List ℕ → Option (List ℕ) → Reply
-JudgeReply device next firmware second list = WithImage device firmware (λ words. WithList list (λ A. CertificateReply words A (next firmware words A) (certificate_in second)))
+JudgeReply device next firmware second list = WithImage device firmware (λ words. WithList device list (λ A. CertificateReply words A (next firmware words A) (certificate_in (device_of words) second)))
 
 -- the answer of a command that judges this certificate for this firmware, and how it continues if it accepts
 abbrev pub IsReplyJudged : Device → Accepting → List ℕ → List ℕ → Option (List ℕ) → Contents → Reply
 IsReplyJudged device next fw cert assume seen = WithFile fw seen.firmware (λ firmware. WithFile cert seen.second (λ s. WithOptional assume seen.assumptions (λ list. JudgeReply device next firmware s list)))
 
 module _
-    (one : (bytes words : List ℕ) → IsRawImage bytes words → words ≡ raw_words bytes)
-    (images : (bytes : List ℕ) → length bytes % 2 ≡ 0 → length bytes ≤ 2 * WORDS → IsRawImage bytes (raw_words bytes))
+    (one : (device : Device) (bytes words : List ℕ) → IsRawImage device bytes words → words ≡ raw_words device bytes)
+    (images : (device : Device) (bytes : List ℕ) → length bytes % 2 ≡ 0 → length bytes ≤ 2 * limit_of device → IsRawImage device bytes (raw_words device bytes))
     (narrowing : NarrowingIsExact)
     (lists : ReadingIsExact)
     (read : ReadCertificateIsSpelled)
@@ -315,8 +315,8 @@ module _
     A : List Entry
     claim : Claim
     image : IsFirmware device firmware (firmware_image device firmware)
-    assumptions : IsListOf list A
-    is : certificate_in certificate ≡ Ok claim
+    assumptions : IsListOf device list A
+    is : certificate_in device certificate ≡ Ok claim
     accepted : IsAccepted (firmware_image device firmware) A (next firmware (firmware_image device firmware) A) claim text
 
   zero_judgement : (fw cert : List ℕ) (assume : Option (List ℕ)) (seen : Contents) (text : List ℕ) → IsReplyJudged device next fw cert assume seen exit.Done text → IsZero assume seen text
@@ -324,9 +324,9 @@ module _
       let first = zero_file fw seen.firmware _ text h in
       let second = zero_file cert seen.second _ text first.2 in
       let third = zero_optional assume seen.assumptions (λ list. JudgeReply device next first.0 second.0 list) text second.2 in
-      let image = zero_image one images narrowing device first.0 (λ ws. WithList third.0 (λ B. CertificateReply ws B (next first.0 ws B) (certificate_in second.0))) text third.2 in
-      let list = zero_list lists third.0 (λ B. CertificateReply (firmware_image device first.0) B (next first.0 (firmware_image device first.0) B) (certificate_in second.0)) text image.1 in
-      let judged = zero_certificate (firmware_image device first.0) list.0 (next first.0 (firmware_image device first.0) list.0) (certificate_in second.0) text list.2 in
+      let image = zero_image one images narrowing device first.0 (λ ws. WithList device third.0 (λ B. CertificateReply ws B (next first.0 ws B) (certificate_in (device_of ws) second.0))) text third.2 in
+      let list = zero_list lists device third.0 (λ B. CertificateReply (firmware_image device first.0) B (next first.0 (firmware_image device first.0) B) (certificate_in device second.0)) text image.1 in
+      let judged = zero_certificate (firmware_image device first.0) list.0 (next first.0 (firmware_image device first.0) list.0) (certificate_in device second.0) text list.2 in
       record {
         firmware = first.0;
         certificate = second.0;
@@ -359,7 +359,7 @@ module _
       → IsReplyJudged device next fw cert assume seen exit.Done text → HoldsOf assume seen text
   judgement_holds fw cert assume seen text has h =
       let z = zero_judgement fw cert assume seen text h in
-      let spelling = read z.certificate z.claim z.is in
+      let spelling = read device z.certificate z.claim z.is in
       record {
         firmware = z.firmware;
         certificate = z.certificate;
@@ -368,10 +368,10 @@ module _
         words = firmware_image device z.firmware;
         claim = z.claim;
         A = z.A;
-        stand = record { mean = record { image = z.image; assumptions = z.assumptions }; fits = spelling.1; bytes = spelling.0 };
+        stand = record { mean = record { image = z.image; assumptions = z.assumptions }; made_for = spelling.0; fits = spelling.2; bytes = spelling.1 };
         fit = has z.firmware z.are_read.loaded.firmware_read;
         valid = record { sound = z.accepted.sound; attained = z.accepted.told.attained };
-        bounded = bounds (firmware_image device z.firmware) z.A z.claim (has z.firmware z.are_read.loaded.firmware_read) spelling.1.claim z.accepted.sound;
+        bounded = bounds (firmware_image device z.firmware) z.A z.claim (has z.firmware z.are_read.loaded.firmware_read) spelling.2.claim z.accepted.sound;
         told = z.accepted.told.says;
       }
 
@@ -382,9 +382,9 @@ module _
       subst (λ ws. later ws status text) (sym (words_of one images narrowing device bytes words firmware))
       (fault_none (firmware_fault device bytes) (later (firmware_image device bytes)) status text (fault_of one images narrowing device bytes words firmware) h)
 
-  pub list_read : (list : Option (List ℕ)) (A : List Entry) (later : List Entry → Reply) (status : Status) (text : List ℕ) → IsListOf list A → WithList list later status text → later A status text
+  pub list_read : (list : Option (List ℕ)) (A : List Entry) (later : List Entry → Reply) (status : Status) (text : List ℕ) → IsListOf device list A → WithList device list later status text → later A status text
   list_read None A later status text e h = subst (λ l. later l status text) (sym e) h
-  list_read (Some bytes) A later status text e h = subst (λ x. ListBy x later status text) (lists.due bytes (Ok A) e) h
+  list_read (Some bytes) A later status text e h = subst (λ x. ListBy x later status text) (lists.due device bytes (Ok A) e) h
 
   -- all files are well-formed
   module _ (fw cert : List ℕ) (assume : Option (List ℕ)) (seen : Contents) (firmware certificate : List ℕ) (list : Option (List ℕ)) (words : Program) (claim : Claim) (A : List Entry)
@@ -395,9 +395,9 @@ module _
         let first = file_read fw seen.firmware firmware _ status text are.loaded.firmware_read h in
         let second = file_read cert seen.second certificate _ status text are.second_read first in
         let third = optional_read assume seen.assumptions list (λ l. JudgeReply device next firmware certificate l) status text are.loaded.list_read second in
-        let image = image_read firmware words (λ ws. WithList list (λ B. CertificateReply ws B (next firmware ws B) (certificate_in certificate))) status text stand.mean.image third in
-        subst (λ x. CertificateReply words A (next firmware words A) x status text) (ap certificate_in stand.bytes ∙ spelled claim stand.fits)
-        (list_read list A (λ B. CertificateReply words B (next firmware words B) (certificate_in certificate)) status text stand.mean.assumptions image)
+        let image = image_read firmware words (λ ws. WithList device list (λ B. CertificateReply ws B (next firmware ws B) (certificate_in (device_of ws) certificate))) status text stand.mean.image third in
+        subst (λ x. CertificateReply words A (next firmware words A) x status text) (ap₂ certificate_in (stand.mean.image.narrowed.is ∙ sym stand.made_for) stand.bytes ∙ spelled claim stand.fits)
+        (list_read list A (λ B. CertificateReply words B (next firmware words B) (certificate_in (device_of words) certificate)) status text stand.mean.assumptions image)
 
     -- the certificate is valid and the answer continues, or it isn't valid
     pub judged_by : VerdictsAreOne → (status : Status) (text : List ℕ) → IsReplyJudged device next fw cert assume seen status text → IsJudged words A (next firmware words A) claim status text
@@ -409,6 +409,6 @@ module _
         file_zero fw seen.firmware firmware _ status text are.loaded.firmware_read
         (file_zero cert seen.second certificate _ status text are.second_read
         (optional_zero assume seen.assumptions list (λ l. JudgeReply device next firmware certificate l) status text are.loaded.list_read
-        (image_zero one images narrowing device firmware words (λ ws. WithList list (λ B. CertificateReply ws B (next firmware ws B) (certificate_in certificate))) status text stand.mean.image
-        (list_zero lists list A (λ B. CertificateReply words B (next firmware words B) (certificate_in certificate)) status text stand.mean.assumptions
-        (certificate_zero words A (next firmware words A) (certificate_in certificate) claim status text (ap certificate_in stand.bytes ∙ spelled claim stand.fits) v.sound v.attained says)))))
+        (image_zero one images narrowing device firmware words (λ ws. WithList device list (λ B. CertificateReply ws B (next firmware ws B) (certificate_in (device_of ws) certificate))) status text stand.mean.image
+        (list_zero lists device list A (λ B. CertificateReply words B (next firmware words B) (certificate_in (device_of words) certificate)) status text stand.mean.assumptions
+        (certificate_zero words A (next firmware words A) (certificate_in (device_of words) certificate) claim status text (ap₂ certificate_in (stand.mean.image.narrowed.is ∙ sym stand.made_for) stand.bytes ∙ spelled claim stand.fits) v.sound v.attained says)))))

@@ -7,10 +7,10 @@ use Rattle.avr_model.specs.declared.assumption.Entry.{Entry}
 use Rattle.avr_model.specs.declared.choice.Choice.{Choice}
 use Rattle.avr_model.specs.declared.choice.Flag.{Flag}
 use Rattle.avr_model.specs.declared.device.Device.{Device}
-use Rattle.avr_model.specs.Devices.{Program, device_of}
+use Rattle.avr_model.specs.Devices.{Program, device_of, limit_of}
 use Rattle.avr_model.specs.State.{State}
 use Rattle.avr_model.specs.Vectors.{vector_word}
-use Rattle.avr_model.specs.Image.{WORDS, IsRawImage, raw_words}
+use Rattle.avr_model.specs.Image.{IsRawImage, raw_words}
 use Rattle.flash_image.specs.Narrowing.{NarrowingIsExact}
 use Rattle.flash_image.specs.Naming.{Named}
 use Rattle.indirect_targets.specs.Exact.{ReadingIsExact}
@@ -81,8 +81,8 @@ no_words [] e = refl
 no_words (p ∷ ps) e = absurd (cc)
 
 module _
-    (raw : (bytes words : List ℕ) → IsRawImage bytes words → words ≡ raw_words bytes)
-    (images : (bytes : List ℕ) → length bytes % 2 ≡ 0 → length bytes ≤ 2 * WORDS → IsRawImage bytes (raw_words bytes))
+    (raw : (device : Device) (bytes words : List ℕ) → IsRawImage device bytes words → words ≡ raw_words device bytes)
+    (images : (device : Device) (bytes : List ℕ) → length bytes % 2 ≡ 0 → length bytes ≤ 2 * limit_of device → IsRawImage device bytes (raw_words device bytes))
     (narrowing : NarrowingIsExact)
     (lists : ReadingIsExact)
     (read : ReadCertificateIsSpelled)
@@ -132,7 +132,7 @@ module _
       → HoldsOf raw images narrowing lists read spelled bounds device (AcceptedReply (Attain device fw cert assume trials)) assume seen text → IsAttainedAsRead device fw cert assume trials seen text
   attained_as device fw cert assume trials seen text h =
       let shows = written_attained led texts_fit h.words h.A trials h.claim runs text h.told h.stand.fits h.valid in
-      let stand : StandFor device h.firmware text h.list h.words shows.claim h.A = record { mean = h.stand.mean; fits = shows.fits; bytes = shows.told } in
+      let stand : StandFor device h.firmware text h.list h.words shows.claim h.A = record { mean = h.stand.mean; made_for = ap (λ (x : Claim). x.device) shows.completed.same ∙ h.stand.made_for; fits = shows.fits; bytes = shows.told } in
       record {
         holds = record {
           firmware = h.firmware;
@@ -201,14 +201,14 @@ module _
         rejected = (λ e. h.0, λ n. h.1);
       }
 
-  no_list : (list : Option (List ℕ)) (A : List Entry) → list ≡ None → IsListOf list A → [] ≡ A
-  no_list None A e h = sym h
-  no_list (Some bytes) A e h = absurd (let wrong = e in cc)
+  no_list : (device : Device) (list : Option (List ℕ)) (A : List Entry) → list ≡ None → IsListOf device list A → [] ≡ A
+  no_list device None A e h = sym h
+  no_list device (Some bytes) A e h = absurd (let wrong = e in cc)
 
   clear_read : (device : Device) (fw cert : List ℕ) (seen : Contents) (status : Status) (text : List ℕ) → IsReplyJudged device (AcceptedReply (Clear device fw cert)) fw cert None seen status text
       → AcceptsExactly (Clear device fw cert) None seen status
   clear_read device fw cert seen status text h firmware certificate list words claim A are stand =
-      let empty : [] ≡ A = no_list list A are.loaded.list_read stand.mean.assumptions in
+      let empty : [] ≡ A = no_list device list A are.loaded.list_read stand.mean.assumptions in
       let judged = judged_by raw images narrowing lists read spelled bounds device (AcceptedReply (Clear device fw cert)) fw cert None seen firmware certificate list words claim A are stand verdicts status text h in
       subst (λ B. SaysWhether (Clear device fw cert) words B claim status) empty
       (clear_says words claim status text device fw cert (subst (λ B. IsJudged words B (ClearReply words) claim status text) (sym empty) judged))
@@ -220,7 +220,7 @@ module _
   clear_as : (device : Device) (fw cert : List ℕ) (seen : Contents) (text : List ℕ)
       → HoldsOf raw images narrowing lists read spelled bounds device (AcceptedReply (Clear device fw cert)) None seen text → HoldsAsRead (Clear device fw cert) None seen text
   clear_as device fw cert seen text h =
-      let empty : [] ≡ h.A = no_list h.list h.A h.are_read.loaded.list_read h.stand.mean.assumptions in
+      let empty : [] ≡ h.A = no_list device h.list h.A h.are_read.loaded.list_read h.stand.mean.assumptions in
       holds_as (Clear device fw cert) None seen text h
       (told_clear.never h.words h.claim h.fit h.stand.fits.claim (subst (λ B. IsSound h.words B h.claim) (sym empty) h.valid.sound) (all_clear h.words h.claim text h.told.verdict h.told.is h.told.says))
 
@@ -292,14 +292,14 @@ module _
   -- ---- analyse
 
   abbrev AfterAnalysis : Device → Option ℕ → List ℕ → Option (List ℕ) → Reply
-  AfterAnalysis device steps firmware list = WithImage device firmware (λ words. WithList list (λ A. AnalyseReply words A steps))
+  AfterAnalysis device steps firmware list = WithImage device firmware (λ words. WithList device list (λ A. AnalyseReply words A steps))
 
   least_text : (device : Device) (assume : Option (List ℕ)) (steps : Option ℕ) (seen : Contents) (text firmware : List ℕ) (list : Option (List ℕ)) (A : List Entry) → AreLoaded assume seen firmware list
-      → IsFirmware device firmware (firmware_image device firmware) → IsListOf list A → AreWords (firmware_image device firmware) → AnalyseReply (firmware_image device firmware) A steps exit.Done text → IsLeastAsRead device assume seen text
+      → IsFirmware device firmware (firmware_image device firmware) → IsListOf device list A → AreWords (firmware_image device firmware) → AnalyseReply (firmware_image device firmware) A steps exit.Done text → IsLeastAsRead device assume seen text
   least_text device assume steps seen text firmware list A loaded image listed has (inr h) = absurd (not_written answers rounds solutions bounds runs (firmware_image device firmware) A steps text h)
   least_text device assume steps seen text firmware list A loaded image listed has (inl h) =
       let best = analysis_best answers rounds solutions bounds runs (firmware_image device firmware) A steps h.claim h.analysis in
-      let stand : StandFor device firmware text list (firmware_image device firmware) h.claim A = record { mean = record { image = image; assumptions = listed }; fits = best.fits; bytes = h.says.1 } in
+      let stand : StandFor device firmware text list (firmware_image device firmware) h.claim A = record { mean = record { image = image; assumptions = listed }; made_for = best.valid.sound.meets.device; fits = best.fits; bytes = h.says.1 } in
       record {
         firmware = firmware;
         list = list;
@@ -326,22 +326,22 @@ module _
   zero_analysis device fw assume steps seen text has h =
       let first = zero_file fw seen.firmware _ text h in
       let second = zero_optional assume seen.assumptions (AfterAnalysis device steps first.0) text first.2 in
-      let image = zero_image raw images narrowing device first.0 (λ ws. WithList second.0 (λ B. AnalyseReply ws B steps)) text second.2 in
-      let list = zero_list lists second.0 (λ B. AnalyseReply (firmware_image device first.0) B steps) text image.1 in
+      let image = zero_image raw images narrowing device first.0 (λ ws. WithList device second.0 (λ B. AnalyseReply ws B steps)) text second.2 in
+      let list = zero_list lists device second.0 (λ B. AnalyseReply (firmware_image device first.0) B steps) text image.1 in
       least_text device assume steps seen text first.0 second.0 list.0 (record { firmware_read = first.1; list_read = second.1 }) image.0 list.1 (has first.0 first.1) list.2
 
   analysis_read : (device : Device) (fw : List ℕ) (assume : Option (List ℕ)) (steps : Option ℕ) (seen : Contents) (status : Status) (text : List ℕ) → IsReply (Analyse device fw assume steps) seen status text → AnswersRounds device assume steps seen status
   analysis_read device fw assume steps seen status text h firmware list words A loaded mean =
       let first : WithOptional assume seen.assumptions (AfterAnalysis device steps firmware) status text = file_read fw seen.firmware firmware (λ b. WithOptional assume seen.assumptions (AfterAnalysis device steps b)) status text loaded.firmware_read h in
       let second = optional_read assume seen.assumptions list (AfterAnalysis device steps firmware) status text loaded.list_read first in
-      let image = image_read raw images narrowing lists read spelled bounds device no_reply firmware words (λ ws. WithList list (λ B. AnalyseReply ws B steps)) status text mean.image second in
+      let image = image_read raw images narrowing lists read spelled bounds device no_reply firmware words (λ ws. WithList device list (λ B. AnalyseReply ws B steps)) status text mean.image second in
       says_ends answers rounds solutions bounds runs words A steps status text
       (analyse_ends answers rounds solutions bounds runs words A steps status text (list_read raw images narrowing lists read spelled bounds device no_reply list A (λ B. AnalyseReply words B steps) status text mean.assumptions image))
 
   -- ---- simulate
 
   abbrev AfterDevices : Device → ℕ → List ℕ → List ℕ → Option (List ℕ) → Reply
-  AfterDevices device steps firmware devices list = WithImage device firmware (λ words. WithList list (λ A. SimulateReply words A steps (setup_in devices)))
+  AfterDevices device steps firmware devices list = WithImage device firmware (λ words. WithList device list (λ A. SimulateReply words A steps (setup_in (device_of words) devices)))
 
   -- status 0 comes with a setup, and a setup gives status 0
   zero_setup : (words : Program) (A : List Entry) (steps : ℕ) (x : Result Setup DevicesFault) (text : List ℕ) → SimulateReply words A steps x exit.Done text
@@ -356,10 +356,10 @@ module _
       let second = zero_file dev seen.second _ text first.2 in
       let third = zero_optional assume seen.assumptions (AfterDevices device steps first.0 second.0) text second.2 in
       let words : Program = firmware_image device first.0 in
-      let image = zero_image raw images narrowing device first.0 (λ ws. WithList third.0 (λ B. SimulateReply ws B steps (setup_in second.0))) text third.2 in
-      let list = zero_list lists third.0 (λ B. SimulateReply words B steps (setup_in second.0)) text image.1 in
-      let setup = zero_setup words list.0 steps (setup_in second.0) text list.2 in
-      let reads = devices.read second.0 setup.0 setup.1 in
+      let image = zero_image raw images narrowing device first.0 (λ ws. WithList device third.0 (λ B. SimulateReply ws B steps (setup_in (device_of ws) second.0))) text third.2 in
+      let list = zero_list lists device third.0 (λ B. SimulateReply words B steps (setup_in (device_of words) second.0)) text image.1 in
+      let setup = zero_setup words list.0 steps (setup_in (device_of words) second.0) text list.2 in
+      let reads = devices.read device second.0 setup.0 setup.1 in
       record {
         firmware = first.0;
         devices = second.0;
@@ -372,14 +372,14 @@ module _
           mean = record { image = image.0; assumptions = list.1 };
           reads = reads;
           told = setup.2;
-          within = λ c claim valid. simulations words list.0 setup.0 steps c.bound reads.fits (bounds words list.0 c (has first.0 first.1) claim valid.sound);
+          within = λ c claim valid. simulations device words list.0 setup.0 steps c.bound reads.fits (bounds words list.0 c (has first.0 first.1) claim valid.sound);
         };
       }
 
-  simulated_by : (words : Program) (A : List Entry) (steps : ℕ) (text bytes : List ℕ) (status : Status) → SimulateReply words A steps (setup_in bytes) status text → (status ≡ exit.Done) ↔ ((setup : Setup) × IsDevices bytes setup)
+  simulated_by : (words : Program) (A : List Entry) (steps : ℕ) (text bytes : List ℕ) (status : Status) → SimulateReply words A steps (setup_in (device_of words) bytes) status text → (status ≡ exit.Done) ↔ ((setup : Setup) × IsDevices (device_of words) bytes setup)
   simulated_by words A steps text bytes status h = (
-    λ zero. let s = zero_setup words A steps (setup_in bytes) text (subst (λ x. SimulateReply words A steps (setup_in bytes) x text) zero h) in (s.0, devices.read bytes s.0 s.1),
-    λ s. (subst (λ x. SimulateReply words A steps x status text) (devices.spelled bytes s.0 s.1) h).0,
+    λ zero. let s = zero_setup words A steps (setup_in (device_of words) bytes) text (subst (λ x. SimulateReply words A steps (setup_in (device_of words) bytes) x text) zero h) in (s.0, devices.read (device_of words) bytes s.0 s.1),
+    λ s. (subst (λ x. SimulateReply words A steps x status text) (devices.spelled (device_of words) bytes s.0 s.1) h).0,
   )
 
   simulation_read : (device : Device) (fw dev : List ℕ) (assume : Option (List ℕ)) (steps : ℕ) (seen : Contents) (status : Status) (text : List ℕ) → IsReply (Simulate device fw dev assume steps) seen status text → AnswersDevices device assume seen status
@@ -387,9 +387,10 @@ module _
       let first = file_read fw seen.firmware firmware _ status text are.loaded.firmware_read h in
       let second = file_read dev seen.second devices _ status text are.second_read first in
       let third = optional_read assume seen.assumptions list (AfterDevices device steps firmware devices) status text are.loaded.list_read second in
-      let image = image_read raw images narrowing lists read spelled bounds device no_reply firmware words (λ ws. WithList list (λ B. SimulateReply ws B steps (setup_in devices))) status text mean.image third in
-      simulated_by words A steps text devices status
-      (list_read raw images narrowing lists read spelled bounds device no_reply list A (λ B. SimulateReply words B steps (setup_in devices)) status text mean.assumptions image)
+      let image = image_read raw images narrowing lists read spelled bounds device no_reply firmware words (λ ws. WithList device list (λ B. SimulateReply ws B steps (setup_in (device_of ws) devices))) status text mean.image third in
+      subst (λ (d : Device). (status ≡ exit.Done) ↔ ((setup : Setup) × IsDevices d devices setup)) mean.image.narrowed.is
+      (simulated_by words A steps text devices status
+      (list_read raw images narrowing lists read spelled bounds device no_reply list A (λ B. SimulateReply words B steps (setup_in (device_of words) devices)) status text mean.assumptions image))
 
   -- ---- demo
 
@@ -439,7 +440,7 @@ module _
       accepts_valid (Explain device fw cert assume) fw cert assume seen status text (λ bytes ws B c s t k. k.says.0) (λ ws B c s k. record { accepted = k.accepted; unclear = (k.unclear, λ b. absurd b); rejected = k.rejected }) h
   replies_are_exact (Clear device fw cert) seen status text h = clear_read device fw cert seen status text h
   replies_are_exact (Premises device fw cert assume why) seen status text h =
-      accepts_valid (Premises device fw cert assume why) fw cert assume seen status text (λ bytes ws B c s t k. places_zero why (firmware_names bytes) ws B c s t k) (λ ws B c s k. record { accepted = k.accepted; unclear = (k.unclear, λ b. absurd b); rejected = k.rejected }) h
+      accepts_valid (Premises device fw cert assume why) fw cert assume seen status text (λ bytes ws B c s t k. places_zero why (firmware_names device bytes) ws B c s t k) (λ ws B c s k. record { accepted = k.accepted; unclear = (k.unclear, λ b. absurd b); rejected = k.rejected }) h
   replies_are_exact (Attain device fw cert assume trials) seen status text h =
       accepts_valid (Attain device fw cert assume trials) fw cert assume seen status text (λ bytes ws B c s t k. k.says.0) (λ ws B c s k. record { accepted = k.accepted; unclear = (k.unclear, λ b. absurd b); rejected = k.rejected }) h
   replies_are_exact (Simulate device fw dev assume steps) seen status text h = simulation_read device fw dev assume steps seen status text h

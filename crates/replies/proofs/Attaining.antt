@@ -2,7 +2,8 @@
 use Rattle.std.proofs.Common.{◌≡◌, ◌≤◌, refl, sym, ap, ◌∙◌, subst, arith, ℕ, List, length, Option, Some, None, IfSome}
 use Rattle.basics.specs.Numbers.{same_if_neither}
 use Rattle.avr_model.specs.declared.assumption.Entry.{Entry}
-use Rattle.avr_model.specs.Devices.{Program}
+use Rattle.avr_model.specs.declared.device.Device.{Device}
+use Rattle.avr_model.specs.Devices.{Program, device_of}
 use Rattle.witness_replay.specs.Spelling.{Plan, IsSchedule, most_choices, choices_of}
 use Rattle.witness_replay.specs.Runs.{ReplaysAreRuns}
 use Rattle.certificate.specs.Claims.{Claim, IsCertificate}
@@ -31,7 +32,7 @@ module _ (words : Program) (A : List Entry) (g : Guide) (n : ℕ) where
       let trial : h.trial ≡ k.trial = same_if_neither h.trial k.trial (λ lt. k.failed h.trial lt h.succeeds) (λ lt. h.failed k.trial lt k.succeeds) in
       let fill : a.fill ≡ b.fill = h.schedule.fill ∙ ap (fill_of g) trial ∙ sym k.schedule.fill in
       let choices : choices_of a.runs ≡ choices_of b.runs = h.schedule.choices ∙ ap (trial_of words A g) trial ∙ sym k.schedule.choices in
-      same_plan a b fill (same_runs None None most_choices most_choices a.runs b.runs h.schedule.fits.runs_fit k.schedule.fits.runs_fit choices)
+      same_plan a b fill (same_runs (device_of words) None None most_choices most_choices a.runs b.runs h.schedule.fits.runs_fit k.schedule.fits.runs_fit choices)
 
   found_one : (p q : Option Plan) → IsGuidedFound words A g n p → IsGuidedFound words A g n q → p ≡ q
   found_one None None h k = refl
@@ -55,18 +56,20 @@ attain_one words A n c s t a b h k =
 -- ---- what is said of it
 
 module _ (led : TrialsAreLed) (fit : TextsFit) (words : Program) (A : List Entry) (n : ℕ) (c : Claim) where
-  schedule_fits : (w found : Option Plan) → IfSome w IsSchedule → IsScheduled words A n c w found → IfSome found IsSchedule
+  schedule_fits : (w found : Option Plan) → IfSome w (IsSchedule (device_of words)) → IsScheduled words A n c w found → IfSome found (IsSchedule (device_of words))
   schedule_fits None None fits h = tt
   schedule_fits None (Some plan) fits h = h.schedule.fits
-  schedule_fits (Some p) found fits h = subst (λ (w : Option Plan). IfSome w IsSchedule) (sym h) fits
+  schedule_fits (Some p) found fits h = subst (λ (w : Option Plan). IfSome w (IsSchedule (device_of words))) (sym h) fits
 
   few_found : (found : Option Plan) → IsGuidedFound words A (guide_of words A c) n found → IfSome found HasFewChoices
   few_found None h = tt
   few_found (Some plan) h = omega (arith, ap length h.schedule.choices, led.short words A (guide_of words A c) h.trial)
 
-  fits_as : (d : Claim) → IsCompleted words A n c d → IsCertificate c → IsCertificate d
-  fits_as d h is =
-      subst IsCertificate (sym h.same) (record { claim = claim_with c d.witness is.claim; schedule = schedule_fits c.witness d.witness is.schedule h.schedule })
+  fits_as : (d : Claim) → IsCompleted words A n c d → IsCertificate c → IsSound words A c → IsCertificate d
+  fits_as d h is sound =
+      let own = subst (λ (device : Device). IfSome c.witness (IsSchedule device)) sound.meets.device is.schedule in
+      let found = subst (λ (device : Device). IfSome d.witness (IsSchedule device)) (sym sound.meets.device) (schedule_fits c.witness d.witness own h.schedule) in
+      subst IsCertificate (sym h.same) (record { claim = claim_with c d.witness is.claim; schedule = found })
 
   itself : (d : Claim) (p : Plan) → c.witness ≡ Some p → d.witness ≡ Some p → d ≡ record c { witness = d.witness } → d ≡ c
   itself d p own is same = same ∙ ap (λ (w : Option Plan). record c { witness = w }) (is ∙ sym own)
@@ -84,14 +87,16 @@ module _ (led : TrialsAreLed) (fit : TextsFit) (words : Program) (A : List Entry
 
   pub written_attained : (runs : ReplaysAreRuns) (text : List ℕ) → AttainReply words A n c exit.Done text → IsCertificate c → IsValid words A c → IsWrittenAttained words A n c text
   written_attained runs text h is valid =
-      let fits = fits_as h.claim h.completed is in
+      let fits = fits_as h.claim h.completed is valid.sound in
+      let whole = valid_as h.claim h.completed h.attained valid.sound in
+      let schedule = subst (λ (device : Device). IfSome h.claim.witness (IsSchedule device)) whole.sound.meets.device fits.schedule in
       record {
         claim = h.claim;
         fits = fits;
         told = h.says.1;
         completed = h.completed;
         attained = attained_where words A n c h.claim h.completed;
-        valid = valid_as h.claim h.completed h.attained valid.sound;
-        reached = λ e. subst (IsDepthReached words A) (sym (bound_as h.claim h.completed)) (reached runs words A c.bound h.claim.witness fits.schedule h.attained e);
+        valid = whole;
+        reached = λ e. subst (IsDepthReached words A) (sym (bound_as h.claim h.completed)) (reached runs words A c.bound h.claim.witness schedule h.attained e);
         short = λ le. subst (λ (t : List ℕ). length t ≤ certificate_cap) (sym h.says.1) (short_by h.claim c.witness refl h.completed.schedule h.completed.same fits le);
       }

@@ -4,7 +4,8 @@ use Rattle.std.specs.Option.{option_map}
 use Rattle.std.proofs.lemmas.Option.{none-some}
 use Rattle.std.proofs.lemmas.Grind.{same_number_lists}
 use Rattle.basics.specs.Numbers.{one_step_on}
-use Rattle.avr_model.specs.Image.{WORDS}
+use Rattle.avr_model.specs.declared.device.Device.{Device}
+use Rattle.avr_model.specs.Devices.{limit_of}
 use Rattle.elf_load.specs.Elf.{ElfRefusal, elf_fault, IsElfImage}
 use Rattle.replies.specs.Firmware.{tabulated, elf_word, elf_words}
 use Rattle.replies.specs.Texts.{elf_refused}
@@ -23,21 +24,21 @@ tabulated_at at (suc n) f (suc k) lt = tabulated_at (at + 1) n f k (let less : s
 from_zero : (a : ℕ) → 0 + a ≡ a
 from_zero a = omega arith
 
-word_in : (bytes : List ℕ) (a : ℕ) → a < WORDS → slice_index (elf_words bytes) a ≡ elf_word bytes a
-word_in bytes a lt = tabulated_at 0 WORDS (elf_word bytes) a lt ∙ ap (elf_word bytes) (from_zero a)
+word_in : (device : Device) (bytes : List ℕ) (a : ℕ) → a < limit_of device → slice_index (elf_words device bytes) a ≡ elf_word bytes a
+word_in device bytes a lt = tabulated_at 0 (limit_of device) (elf_word bytes) a lt ∙ ap (elf_word bytes) (from_zero a)
 
-pub one_elf : (bytes words : List ℕ) → IsElfImage bytes words → words ≡ elf_words bytes
-one_elf bytes words image =
-    same_number_lists words (elf_words bytes) (image.size ∙ sym (length_tabulated 0 WORDS (elf_word bytes)))
-    (λ a lt. let less : a < WORDS = (let e = image.size in omega (arith, e)) in image.each a less ∙ sym (word_in bytes a less))
+pub one_elf : (device : Device) (bytes words : List ℕ) → IsElfImage device bytes words → words ≡ elf_words device bytes
+one_elf device bytes words image =
+    same_number_lists words (elf_words device bytes) (image.size ∙ sym (length_tabulated 0 (limit_of device) (elf_word bytes)))
+    (λ a lt. let less : a < limit_of device = (let e = image.size in omega (arith, e)) in image.each a less ∙ sym (word_in device bytes a less))
 
-pub some_elf : (bytes : List ℕ) → elf_fault bytes ≡ None → IsElfImage bytes (elf_words bytes)
-some_elf bytes loads =
-    record { loads = loads; size = length_tabulated 0 WORDS (elf_word bytes); each = λ a lt. word_in bytes a lt }
+pub some_elf : (device : Device) (bytes : List ℕ) → elf_fault device bytes ≡ None → IsElfImage device bytes (elf_words device bytes)
+some_elf device bytes loads =
+    record { loads = loads; size = length_tabulated 0 (limit_of device) (elf_word bytes); each = λ a lt. word_in device bytes a lt }
 
 no_text : (due : Option ElfRefusal) → option_map elf_refused due ≡ None → due ≡ None
 no_text None e = refl
 no_text (Some r) e = absurd (none-some (elf_refused r) (sym e))
 
-pub no_refusal : (bytes : List ℕ) → option_map elf_refused (elf_fault bytes) ≡ None → elf_fault bytes ≡ None
-no_refusal bytes e = no_text (elf_fault bytes) e
+pub no_refusal : (device : Device) (bytes : List ℕ) → option_map elf_refused (elf_fault device bytes) ≡ None → elf_fault device bytes ≡ None
+no_refusal device bytes e = no_text (elf_fault device bytes) e

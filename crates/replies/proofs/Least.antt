@@ -4,7 +4,8 @@ use Rattle.std.specs.Option.{is_some}
 use Rattle.avr_model.specs.declared.assumption.Entry.{Entry}
 use Rattle.avr_model.specs.declared.choice.Stop.TheVariants as stop
 use Rattle.avr_model.specs.Run.{Bounded}
-use Rattle.avr_model.specs.Devices.{Program}
+use Rattle.avr_model.specs.declared.device.Device.{Device}
+use Rattle.avr_model.specs.Devices.{Program, device_of}
 use Rattle.local_rules.specs.declared.local.NodeFault.{NodeFault}
 use Rattle.local_rules.specs.declared.local.NodeFault.TheVariants as fault
 use Rattle.local_rules.specs.Machine.{AreWords}
@@ -35,7 +36,7 @@ use Rattle.replies.specs.Reply.{Refuses, AnalyseReply, WhyNotReply}
 use Rattle.replies.specs.Headline.{IsDepthReached, HasValid, SaysHowRoundsEnd}
 use Rattle.replies.proofs.Analysing.{no_memory}
 
-schedule_found : (words : Program) (A : List Entry) (points : List Waypoint) (bound : ℕ) (found : Option Plan) → IsFound words A points bound found → IfSome found IsSchedule
+pub schedule_found : (words : Program) (A : List Entry) (points : List Waypoint) (bound : ℕ) (found : Option Plan) → IsFound words A points bound found → IfSome found (IsSchedule (device_of words))
 schedule_found words A points bound None h = tt
 schedule_found words A points bound (Some plan) h = h.trial.fits
 
@@ -62,11 +63,11 @@ no_schedule : (w : Option Plan) → w ≡ None → is_some w ≡ true → ⊥
 no_schedule None e f = let wrong = f in cc
 no_schedule (Some plan) e f = let wrong = e in cc
 
-pub reached : (runs : ReplaysAreRuns) (words : Program) (A : List Entry) (bound : ℕ) (found : Option Plan) → IfSome found IsSchedule → IsAttained words A bound found → is_some found ≡ true → IsDepthReached words A bound
+pub reached : (runs : ReplaysAreRuns) (words : Program) (A : List Entry) (bound : ℕ) (found : Option Plan) → IfSome found (IsSchedule (device_of words)) → IsAttained words A bound found → is_some found ≡ true → IsDepthReached words A bound
 reached runs words A bound None fits h e = absurd (no_schedule None refl e)
 reached runs words A bound (Some plan) fits h e =
     let r = replayed bound (replay_of words A plan) (replay_of words A plan) refl h in
-    let run = runs words A plan r.0 fits r.1 in
+    let run = runs (device_of words) words A plan r.0 fits r.1 in
     record { state = _; reset = run.reset; choices = run.choices; run = run.run; ends = sym run.stop ∙ r.2; deep = sym run.depth ∙ r.3 }
 
 -- ---- what is told in place of a certificate
@@ -156,7 +157,7 @@ module _
       let sound = (solutions.valid words A a.answer.number a.answer.family a.least a.claim a.answer.solved a.answer.solution).sound in
       let schedule = schedule_found words A a.trials.points a.least.bound a.found a.trials.first in
       record {
-        fits = record { claim = claim_with a.least a.found a.claim; schedule = schedule };
+        fits = record { claim = claim_with a.least a.found a.claim; schedule = subst (λ (d : Device). IfSome a.found (IsSchedule d)) (sym sound.meets.device) schedule };
         valid = record { sound = sound_with words A a.least a.found sound; attained = a.attained };
         least = λ other claim valid. solutions.least words A a.answer.number a.answer.family a.least other a.answer.solved a.answer.solution (record { claim = claim; sound = valid.sound });
         reached = reached runs words A a.least.bound a.found schedule a.attained;

@@ -1,7 +1,8 @@
 -- The answer to the contents of a command's files is unique.
 use Rattle.std.proofs.Common.{◌≡◌, ℕ, Bool, true, false, List, [], ◌∷◌, Option, Some, None, Result, Ok, Err, refl, sym, ap, ap₂, ◌∙◌, subst}
 use Rattle.avr_model.specs.declared.assumption.Entry.{Entry}
-use Rattle.avr_model.specs.Devices.{Program}
+use Rattle.avr_model.specs.declared.device.Device.{Device}
+use Rattle.avr_model.specs.Devices.{Program, device_of}
 use Rattle.sb_base.specs.Lines.{Place, TextLine}
 use Rattle.indirect_targets.specs.declared.fault.AssumeText.{AssumeText}
 use Rattle.indirect_targets.specs.Reading.{entries_in}
@@ -72,9 +73,9 @@ list_one : (x : Result (List Entry) AssumeText) (next : List Entry → Reply) �
 list_one (Ok A) next f s t a b h k = f A s t a b h k
 list_one (Err fault) next f s t a b h k = refuses_one exit.BadAssumptions (assumptions_refused fault) s t a b h k
 
-with_list_one : (list : Option (List ℕ)) (next : List Entry → Reply) → ((A : List Entry) → IsOneAnswer (next A)) → IsOneAnswer (WithList list next)
-with_list_one None next f = f []
-with_list_one (Some bytes) next f = list_one (entries_in bytes) next f
+with_list_one : (device : Device) (list : Option (List ℕ)) (next : List Entry → Reply) → ((A : List Entry) → IsOneAnswer (next A)) → IsOneAnswer (WithList device list next)
+with_list_one device None next f = f []
+with_list_one device (Some bytes) next f = list_one (entries_in device bytes) next f
 
 attained_one : (next : Reply) (attained : Bool) → IsOneAnswer next → IsOneAnswer (AttainedBy next attained)
 attained_one next true f s t a b h k = f s t a b h k
@@ -85,7 +86,7 @@ witness_one words A next bound None f s t a b h k = f s t a b h k
 witness_one words A next bound (Some plan) f s t a b h k = attained_one next (attains bound (replay_of words A plan)) f s t a b h k
 
 verdict_one : (words : Program) (A : List Entry) (next : Claim → Reply) (c : Claim) (v : Verdict) → IsOneAnswer (next c) → IsOneAnswer (VerdictReply words A next c v)
-verdict_one words A next c (Rejected reason) f s t a b h k = says_one exit.Rejected (rejected reason) s t a b h k
+verdict_one words A next c (Rejected reason) f s t a b h k = says_one exit.Rejected (rejected (device_of words) reason) s t a b h k
 verdict_one words A next c (Accepted bound) f s t a b h k = witness_one words A (next c) bound c.witness f s t a b h k
 
 simulate_one : (words : Program) (A : List Entry) (steps : ℕ) (x : Result Setup DevicesFault) → IsOneAnswer (SimulateReply words A steps x)
@@ -116,13 +117,13 @@ module _ (read : ReadCertificateIsSpelled) (one : VerdictsAreOne) (answers : Ans
   certificate_one words A next (Err fault) f g s t a b h k = refuses_one exit.BadCertificate (certificate_refused fault) s t a b h k
   certificate_one words A next (Ok c) f g s t a b h k = judged_one words A next c (f c refl) (g c (f c refl)) s t a b h k
 
-  read_one : (words : Program) (A : List Entry) (next : Claim → Reply) (bytes : List ℕ) → ((c : Claim) → IsClaim c → IsOneAnswer (next c)) → IsOneAnswer (CertificateReply words A next (certificate_in bytes))
-  read_one words A next bytes g = certificate_one words A next (certificate_in bytes) (λ c e. (read bytes c e).1.claim) g
+  read_one : (words : Program) (A : List Entry) (next : Claim → Reply) (bytes : List ℕ) → ((c : Claim) → IsClaim c → IsOneAnswer (next c)) → IsOneAnswer (CertificateReply words A next (certificate_in (device_of words) bytes))
+  read_one words A next bytes g = certificate_one words A next (certificate_in (device_of words) bytes) (λ c e. (read (device_of words) bytes c e).2.claim) g
 
   explain_one : (names : List Named) (words : Program) (A : List Entry) (c : Claim) → IsClaim c → IsOneAnswer (ExplainReply names words A c)
   explain_one names words A c claim s t a b h k =
       let e = explanations words A c h.explanation k.explanation claim h.is k.is in
-      (h.says.0 ∙ sym k.says.0, h.says.1 ∙ (ap (explanation_text c.bound names) e ∙ sym k.says.1))
+      (h.says.0 ∙ sym k.says.0, h.says.1 ∙ (ap (explanation_text (device_of words) c.bound names) e ∙ sym k.says.1))
 
   clear_says_one : (words : Program) (c : Claim) (v : ClearVerdict) → IsOneAnswer (ClearSays words c v)
   clear_says_one words c clear.Clear s t a b h k = says_one exit.Done (clear_text c.bound) s t a b h k
@@ -152,23 +153,23 @@ module _ (read : ReadCertificateIsSpelled) (one : VerdictsAreOne) (answers : Ans
   flash_one (Check device fw cert assume) firmware bytes words A =
       read_one words A (AcceptedReply (Check device fw cert assume) firmware words A) bytes (λ c claim. says_one exit.Done (told_of (Check device fw cert assume) firmware c))
   flash_one (Analyse device fw assume steps) firmware bytes words A = analyse_one answers chains words A steps
-  flash_one (Run device fw schedule assume) firmware bytes words A = schedule_one words A (schedule_in _)
+  flash_one (Run device fw schedule assume) firmware bytes words A = schedule_one words A (schedule_in (device_of words) _)
   flash_one (Report device fw cert assume json) firmware bytes words A =
       read_one words A (AcceptedReply (Report device fw cert assume json) firmware words A) bytes (λ c claim. says_one exit.Done (told_of (Report device fw cert assume json) firmware c))
   flash_one (Explain device fw cert assume) firmware bytes words A =
-      read_one words A (AcceptedReply (Explain device fw cert assume) firmware words A) bytes (explain_one (firmware_names firmware) words A)
+      read_one words A (AcceptedReply (Explain device fw cert assume) firmware words A) bytes (explain_one (firmware_names device firmware) words A)
   flash_one (Clear device fw cert) firmware bytes words A = read_one words [] (ClearReply words) bytes (clear_one words)
   flash_one (Premises device fw cert assume why) firmware bytes words A =
-      read_one words A (AcceptedReply (Premises device fw cert assume why) firmware words A) bytes (places_one why (firmware_names firmware) words A)
+      read_one words A (AcceptedReply (Premises device fw cert assume why) firmware words A) bytes (places_one why (firmware_names device firmware) words A)
   flash_one (Attain device fw cert assume trials) firmware bytes words A =
       read_one words A (AcceptedReply (Attain device fw cert assume trials) firmware words A) bytes (λ c claim. attain_one words A trials c)
-  flash_one (Simulate device fw devices assume steps) firmware bytes words A = simulate_one words A steps (setup_in bytes)
+  flash_one (Simulate device fw devices assume steps) firmware bytes words A = simulate_one words A steps (setup_in (device_of words) bytes)
   flash_one (Demo size) firmware bytes words A = demo_one answers chains size
 
-  on_flash_one : (command : Command) (firmware second : List ℕ) (list : Option (List ℕ)) → IsOneAnswer (WithImage (device_for command) firmware (λ words. WithList list (λ A. FlashReply command firmware second words A)))
+  on_flash_one : (command : Command) (firmware second : List ℕ) (list : Option (List ℕ)) → IsOneAnswer (WithImage (device_for command) firmware (λ words. WithList (device_for command) list (λ A. FlashReply command firmware second words A)))
   on_flash_one command firmware second list =
-      image_one (firmware_fault (device_for command) firmware) (WithList list (λ A. FlashReply command firmware second (firmware_image (device_for command) firmware) A))
-      (with_list_one list (λ A. FlashReply command firmware second (firmware_image (device_for command) firmware) A) (flash_one command firmware second (firmware_image (device_for command) firmware)))
+      image_one (firmware_fault (device_for command) firmware) (WithList (device_for command) list (λ A. FlashReply command firmware second (firmware_image (device_for command) firmware) A))
+      (with_list_one (device_for command) list (λ A. FlashReply command firmware second (firmware_image (device_for command) firmware) A) (flash_one command firmware second (firmware_image (device_for command) firmware)))
 
   work_one : (command : Command) (firmware second : List ℕ) (list : Option (List ℕ)) → IsOneAnswer (WorkReply command firmware second list)
   work_one (Check device fw cert assume) firmware second list = on_flash_one (Check device fw cert assume) firmware second list

@@ -7,7 +7,8 @@ use Rattle.basics.specs.Items.{first_in, further_in}
 use Rattle.avr_model.specs.declared.assumption.Entry.{Entry}
 use Rattle.avr_model.specs.declared.choice.Choice.{Choice}
 use Rattle.avr_model.specs.declared.choice.Choice.TheVariants as choice
-use Rattle.avr_model.specs.Devices.{Program}
+use Rattle.avr_model.specs.declared.device.Device.{Device}
+use Rattle.avr_model.specs.Devices.{Program, device_of}
 use Rattle.witness_replay.specs.declared.schedule.Run.{Run}
 use Rattle.witness_replay.specs.declared.schedule.Run.TheVariants.{Go, Take}
 use Rattle.witness_replay.specs.Spelling.{Plan, AreRuns, most_choices, choices_of}
@@ -53,11 +54,11 @@ differ a b c d f e = let x : c ≡ a = first_bytes c d a b e in let y : d ≡ b 
 take_go : (v a b : ℕ) (clears : Bool) → choice.Take v clears ≢ choice.Go a b
 take_go v a b clears e = cc
 
-next_behind : (n a b left : ℕ) (rs : List Run) → AreRuns (Some (Go n a b)) left rs → BeginsOtherwise (choice.Go a b) (choices_of rs)
-next_behind n a b left [] h = tt
-next_behind n a b left (Go zero c d ∷ rs) h = no_count h.0.0
-next_behind n a b left (Go (suc k) c d ∷ rs) h = differ a b c d h.1
-next_behind n a b left (Take v clears ∷ rs) h = take_go v a b clears
+next_behind : (device : Device) (n a b left : ℕ) (rs : List Run) → AreRuns device (Some (Go n a b)) left rs → BeginsOtherwise (choice.Go a b) (choices_of rs)
+next_behind device n a b left [] h = tt
+next_behind device n a b left (Go zero c d ∷ rs) h = no_count h.0.0
+next_behind device n a b left (Go (suc k) c d ∷ rs) h = differ a b c d h.1
+next_behind device n a b left (Take v clears ∷ rs) h = take_go v a b clears
 
 no_choice : (x : Choice) (xs : List Choice) → ◌≡◌ {A = List Choice} [] (x ∷ xs) → ⊥
 no_choice x xs e = cc
@@ -68,26 +69,26 @@ go_same n m a b c d rs qs e f g h = cc
 take_same : (v w : ℕ) (x y : Bool) (rs qs : List Run) → choice.Take v x ≡ choice.Take w y → rs ≡ qs → ◌≡◌ {A = List Run} (Take v x ∷ rs) (Take w y ∷ qs)
 take_same v w x y rs qs e h = cc
 
-pub same_runs : (before last : Option Run) (left most : ℕ) (rs qs : List Run) → AreRuns before left rs → AreRuns last most qs → choices_of rs ≡ choices_of qs → rs ≡ qs
-same_runs before last left most [] [] h k e = refl
-same_runs before last left most [] (Go zero a b ∷ qs) h k e = no_count k.0.0
-same_runs before last left most [] (Go (suc n) a b ∷ qs) h k e = absurd (no_choice (choice.Go a b) _ e)
-same_runs before last left most [] (Take v x ∷ qs) h k e = absurd (no_choice (choice.Take v x) _ e)
-same_runs before last left most (Go zero a b ∷ rs) qs h k e = no_count h.0.0
-same_runs before last left most (Go (suc n) a b ∷ rs) [] h k e = absurd (no_choice (choice.Go a b) _ (sym e))
-same_runs before last left most (Go (suc n) a b ∷ rs) (Go zero c d ∷ qs) h k e = no_count k.0.0
-same_runs before last left most (Go (suc n) a b ∷ rs) (Go (suc m) c d ∷ qs) h k e =
+pub same_runs : (device : Device) (before last : Option Run) (left most : ℕ) (rs qs : List Run) → AreRuns device before left rs → AreRuns device last most qs → choices_of rs ≡ choices_of qs → rs ≡ qs
+same_runs device before last left most [] [] h k e = refl
+same_runs device before last left most [] (Go zero a b ∷ qs) h k e = no_count k.0.0
+same_runs device before last left most [] (Go (suc n) a b ∷ qs) h k e = absurd (no_choice (choice.Go a b) _ e)
+same_runs device before last left most [] (Take v x ∷ qs) h k e = absurd (no_choice (choice.Take v x) _ e)
+same_runs device before last left most (Go zero a b ∷ rs) qs h k e = no_count h.0.0
+same_runs device before last left most (Go (suc n) a b ∷ rs) [] h k e = absurd (no_choice (choice.Go a b) _ (sym e))
+same_runs device before last left most (Go (suc n) a b ∷ rs) (Go zero c d ∷ qs) h k e = no_count k.0.0
+same_runs device before last left most (Go (suc n) a b ∷ rs) (Go (suc m) c d ∷ qs) h k e =
     let top : choice.Go a b ≡ choice.Go c d = heads (choice.Go a b) (choice.Go c d) (replicate n (choice.Go a b) ++ choices_of rs) (replicate m (choice.Go c d) ++ choices_of qs) e in
     let rest : replicate n (choice.Go a b) ++ choices_of rs ≡ replicate m (choice.Go c d) ++ choices_of qs = tails (choice.Go a b) (choice.Go c d) _ _ e in
-    let behind : BeginsOtherwise (choice.Go a b) (choices_of qs) = subst (λ x. BeginsOtherwise x (choices_of qs)) (sym top) (next_behind (suc m) c d _ qs k.3) in
-    let counts = same_counts n m (choice.Go a b) (choices_of rs) (choices_of qs) (rest ∙ ap (λ x. replicate m x ++ choices_of qs) (sym top)) (next_behind (suc n) a b _ rs h.3) behind in
-    go_same n m a b c d rs qs counts.0 (first_bytes a b c d top) (second_bytes a b c d top) (same_runs (Some (Go (suc n) a b)) (Some (Go (suc m) c d)) (left - suc n) (most - suc m) rs qs h.3 k.3 counts.1)
-same_runs before last left most (Go (suc n) a b ∷ rs) (Take v x ∷ qs) h k e = absurd (take_go v a b x (sym (heads (choice.Go a b) (choice.Take v x) _ _ e)))
-same_runs before last left most (Take v x ∷ rs) [] h k e = absurd (no_choice (choice.Take v x) _ (sym e))
-same_runs before last left most (Take v x ∷ rs) (Go zero a b ∷ qs) h k e = no_count k.0.0
-same_runs before last left most (Take v x ∷ rs) (Go (suc m) a b ∷ qs) h k e = absurd (take_go v a b x (heads (choice.Take v x) (choice.Go a b) _ _ e))
-same_runs before last left most (Take v x ∷ rs) (Take w y ∷ qs) h k e =
-    take_same v w x y rs qs (heads (choice.Take v x) (choice.Take w y) _ _ e) (same_runs (Some (Take v x)) (Some (Take w y)) (left - 1) (most - 1) rs qs h.3 k.3 (tails (choice.Take v x) (choice.Take w y) _ _ e))
+    let behind : BeginsOtherwise (choice.Go a b) (choices_of qs) = subst (λ x. BeginsOtherwise x (choices_of qs)) (sym top) (next_behind device (suc m) c d _ qs k.3) in
+    let counts = same_counts n m (choice.Go a b) (choices_of rs) (choices_of qs) (rest ∙ ap (λ x. replicate m x ++ choices_of qs) (sym top)) (next_behind device (suc n) a b _ rs h.3) behind in
+    go_same n m a b c d rs qs counts.0 (first_bytes a b c d top) (second_bytes a b c d top) (same_runs device (Some (Go (suc n) a b)) (Some (Go (suc m) c d)) (left - suc n) (most - suc m) rs qs h.3 k.3 counts.1)
+same_runs device before last left most (Go (suc n) a b ∷ rs) (Take v x ∷ qs) h k e = absurd (take_go v a b x (sym (heads (choice.Go a b) (choice.Take v x) _ _ e)))
+same_runs device before last left most (Take v x ∷ rs) [] h k e = absurd (no_choice (choice.Take v x) _ (sym e))
+same_runs device before last left most (Take v x ∷ rs) (Go zero a b ∷ qs) h k e = no_count k.0.0
+same_runs device before last left most (Take v x ∷ rs) (Go (suc m) a b ∷ qs) h k e = absurd (take_go v a b x (heads (choice.Take v x) (choice.Go a b) _ _ e))
+same_runs device before last left most (Take v x ∷ rs) (Take w y ∷ qs) h k e =
+    take_same v w x y rs qs (heads (choice.Take v x) (choice.Take w y) _ _ e) (same_runs device (Some (Take v x)) (Some (Take w y)) (left - 1) (most - 1) rs qs h.3 k.3 (tails (choice.Take v x) (choice.Take w y) _ _ e))
 
 pub same_plan : (a b : Plan) → a.fill ≡ b.fill → a.runs ≡ b.runs → a ≡ b
 same_plan a b e f = ap (λ x. record { fill = x; runs = a.runs }) e ∙ ap (λ x. record { fill = b.fill; runs = x }) f
@@ -121,7 +122,7 @@ module _ (words : Program) (A : List Entry) (points : List Waypoint) (bound : �
   first_one a b h k =
       let fill : a.fill ≡ b.fill = fill_one h.before h.after k.before k.after a.fill b.fill (sym h.order ∙ k.order) h.failed k.failed h.succeeds k.succeeds in
       let choices : choices_of a.runs ≡ choices_of b.runs = h.trial.choices ∙ (ap (trial_of words A points bound) fill ∙ sym k.trial.choices) in
-      same_plan a b fill (same_runs None None most_choices most_choices a.runs b.runs h.trial.fits.runs_fit k.trial.fits.runs_fit choices)
+      same_plan a b fill (same_runs (device_of words) None None most_choices most_choices a.runs b.runs h.trial.fits.runs_fit k.trial.fits.runs_fit choices)
 
   pub found_one : (p q : Option Plan) → IsFound words A points bound p → IsFound words A points bound q → p ≡ q
   found_one None None h k = refl

@@ -60,19 +60,20 @@ pub record AreRead (assume : Option (List ℕ)) (seen : Contents) (firmware seco
   pub loaded : AreLoaded assume seen firmware list
   pub second_read : seen.second ≡ Whole second
 
--- the assumptions in an assumption file's bytes, or none without such a file
-abbrev pub IsListOf : Option (List ℕ) → List Entry → Type 0
-IsListOf None A = A ≡ []
-IsListOf (Some bytes) A = IsListReading bytes A
+-- the assumptions in an assumption file's bytes for a device, or none without such a file
+abbrev pub IsListOf : Device → Option (List ℕ) → List Entry → Type 0
+IsListOf device None A = A ≡ []
+IsListOf device (Some bytes) A = IsListReading device bytes A
 
 -- the bytes of a firmware for a device and of an assumption file stand for these words and assumptions
 pub record Mean (device : Device) (firmware : List ℕ) (list : Option (List ℕ)) (words : Program) (A : List Entry) : Type 0 where
   pub image : IsFirmware device firmware words
-  pub assumptions : IsListOf list A
+  pub assumptions : IsListOf device list A
 
 -- the bytes of a certificate stand for this claim too
 pub record StandFor (device : Device) (firmware certificate : List ℕ) (list : Option (List ℕ)) (words : Program) (claim : Claim) (A : List Entry) : Type 0 where
   pub mean : Mean device firmware list words A
+  pub made_for : claim.device ≡ device
   pub fits : IsCertificate claim
   pub bytes : certificate ≡ text_of claim
 
@@ -83,7 +84,7 @@ pub record IsExplained (names : List Named) (words : Program) (A : List Entry) (
   pub explanation : Explanation
   pub is : IsExplanation words A c explanation
   pub tells : Tells words A c explanation
-  pub told : text ≡ explanation_text c.bound names explanation
+  pub told : text ≡ explanation_text (device_of words) c.bound names explanation
 
 -- The text lists, with these names, the words at which some node isn't clear, and those of vectors that may be taken despite `never`
 -- lines. Each run from reset that ends flagged ends at one of the first, or by taking a vector at one of the second, so no run does if
@@ -141,9 +142,9 @@ pub record IsWrittenAttained (words : Program) (A : List Entry) (trials : ℕ) (
 
 -- what a text states of an accepted certificate besides its bound, for a firmware of these bytes with these words
 abbrev pub Shows : Command → List ℕ → Program → List Entry → Claim → List ℕ → Type 0
-Shows (Explain device firmware certificate assume) bytes words A c text = IsExplained (firmware_names bytes) words A c text
+Shows (Explain device firmware certificate assume) bytes words A c text = IsExplained (firmware_names device bytes) words A c text
 Shows (Clear device firmware certificate) bytes words A c text = IsBoundedAndClear words c.bound
-Shows (Premises device firmware certificate assume why) bytes words A c text = TellsPlaces why (firmware_names bytes) words A c text
+Shows (Premises device firmware certificate assume why) bytes words A c text = TellsPlaces why (firmware_names device bytes) words A c text
 Shows (Attain device firmware certificate assume trials) bytes words A c text = IsWrittenAttained words A trials c text
 Shows command bytes words A c text = ⊤
 
@@ -212,7 +213,7 @@ pub record IsSimulated (device : Device) (steps : ℕ) (firmware devices : List 
   pub setup : Setup
   pub assumptions : List Entry
   pub mean : Mean device firmware list words assumptions
-  pub reads : IsDevices devices setup
+  pub reads : IsDevices device devices setup
   pub told : text ≡ run_text (simulation_of words assumptions setup steps)
   pub within : (c : Claim) → IsClaim c → IsValid words assumptions c → (simulation_of words assumptions setup steps).depth ≤ c.bound
 
@@ -299,7 +300,7 @@ AnswersRounds device assume steps seen status =
 abbrev pub AnswersDevices : Device → Option (List ℕ) → Contents → Status → Type 0
 AnswersDevices device assume seen status =
     (firmware devices : List ℕ) (list : Option (List ℕ)) (words : Program) (A : List Entry)
-    → AreRead assume seen firmware devices list → Mean device firmware list words A → (status ≡ exit.Done) ↔ ((setup : Setup) × IsDevices devices setup)
+    → AreRead assume seen firmware devices list → Mean device firmware list words A → (status ≡ exit.Done) ↔ ((setup : Setup) × IsDevices device devices setup)
 
 abbrev pub IsExact : Command → Contents → Status → Type 0
 IsExact (Check device firmware certificate assume) seen status = AcceptsExactly (Check device firmware certificate assume) assume seen status

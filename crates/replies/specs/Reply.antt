@@ -5,7 +5,7 @@ use Rattle.avr_model.specs.declared.assumption.Entry.{Entry}
 use Rattle.avr_model.specs.declared.device.Device.{Device}
 use Rattle.avr_model.specs.declared.choice.Stop.{Stop}
 use Rattle.avr_model.specs.declared.choice.Stop.TheVariants as stop
-use Rattle.avr_model.specs.Devices.{Program}
+use Rattle.avr_model.specs.Devices.{Program, device_of}
 use Rattle.sb_base.specs.Lines.{Place, TextLine, lines_of}
 use Rattle.indirect_targets.specs.declared.fault.AssumeText.{AssumeText}
 use Rattle.indirect_targets.specs.Reading.{entries_in}
@@ -81,10 +81,10 @@ abbrev pub ListBy : Result (List Entry) AssumeText → (List Entry → Reply) �
 ListBy (Ok entries) next status text = next entries status text
 ListBy (Err fault) next status text = Refuses exit.BadAssumptions (assumptions_refused fault) status text
 
--- continues with the assumptions of a file, or with none
-abbrev pub WithList : Option (List ℕ) → (List Entry → Reply) → Reply
-WithList None next = next []
-WithList (Some bytes) next = ListBy (entries_in bytes) next
+-- continues with the assumptions of a file for a device, or with none
+abbrev pub WithList : Device → Option (List ℕ) → (List Entry → Reply) → Reply
+WithList device None next = next []
+WithList device (Some bytes) next = ListBy (entries_in device bytes) next
 
 -- ---- commands that judge
 
@@ -107,7 +107,7 @@ WitnessReply words A next bound None status text = next status text
 WitnessReply words A next bound (Some plan) status text = AttainedBy next (attains bound (replay_of words A plan)) status text
 
 abbrev pub VerdictReply : Program → List Entry → (Claim → Reply) → Claim → Verdict → Reply
-VerdictReply words A next c (Rejected reason) status text = Says exit.Rejected (rejected reason) status text
+VerdictReply words A next c (Rejected reason) status text = Says exit.Rejected (rejected (device_of words) reason) status text
 VerdictReply words A next c (Accepted bound) status text = WitnessReply words A (next c) bound c.witness status text
 
 -- the answer by the verdict on a certificate
@@ -127,14 +127,14 @@ report_by false device names end c = plain_text device c names end
 
 -- what a command prints of a certificate that it accepts, for a firmware of these bytes
 abbrev pub told_of : Command → List ℕ → Claim → List ℕ
-told_of (Report device firmware certificate assume json) bytes c = report_by json device (firmware_names bytes) (firmware_end bytes) c
+told_of (Report device firmware certificate assume json) bytes c = report_by json device (firmware_names device bytes) (firmware_end device bytes) c
 told_of command bytes c = accepted c.bound (is_some c.witness)
 
 -- the answer is the explanation of a certificate, with these names of words
 pub record ExplainReply (names : List Named) (words : Program) (A : List Entry) (c : Claim) (status : Status) (text : List ℕ) : Type 0 where
   pub explanation : Explanation
   pub is : IsExplanation words A c explanation
-  pub says : Says exit.Done (explanation_text c.bound names explanation) status text
+  pub says : Says exit.Done (explanation_text (device_of words) c.bound names explanation) status text
 
 -- the answer by whether all nodes of a certificate are clear
 abbrev pub ClearSays : Program → Claim → ClearVerdict → Reply
@@ -177,9 +177,9 @@ pub record AttainReply (words : Program) (A : List Entry) (trials : ℕ) (c : Cl
 
 -- the answer of a command that accepts a certificate, for a firmware of these bytes with these words, under these assumptions
 abbrev pub AcceptedReply : Command → List ℕ → Program → List Entry → Claim → Reply
-AcceptedReply (Explain device firmware certificate assume) bytes words A c = ExplainReply (firmware_names bytes) words A c
+AcceptedReply (Explain device firmware certificate assume) bytes words A c = ExplainReply (firmware_names device bytes) words A c
 AcceptedReply (Clear device firmware certificate) bytes words A c = ClearReply words c
-AcceptedReply (Premises device firmware certificate assume why) bytes words A c = PlacesReply why (firmware_names bytes) words A c
+AcceptedReply (Premises device firmware certificate assume why) bytes words A c = PlacesReply why (firmware_names device bytes) words A c
 AcceptedReply (Attain device firmware certificate assume trials) bytes words A c = AttainReply words A trials c
 AcceptedReply command bytes words A c = Says exit.Done (told_of command bytes c)
 
@@ -237,16 +237,16 @@ DemoReply size status text = MeasuredReply size status text ⊎ WhyNotReply (dem
 -- The answer for the words of a firmware of these bytes, the bytes of its second file, and these assumptions. `clear` has none.
 abbrev pub FlashReply : Command → List ℕ → List ℕ → Program → List Entry → Reply
 FlashReply (Analyse device name assume steps) firmware bytes words A = AnalyseReply words A steps
-FlashReply (Run device name schedule assume) firmware bytes words A = ScheduleReply words A (schedule_in (record { at = 0; rest = lines_of bytes }))
-FlashReply (Simulate device name devices assume steps) firmware bytes words A = SimulateReply words A steps (setup_in bytes)
+FlashReply (Run device name schedule assume) firmware bytes words A = ScheduleReply words A (schedule_in (device_of words) (record { at = 0; rest = lines_of bytes }))
+FlashReply (Simulate device name devices assume steps) firmware bytes words A = SimulateReply words A steps (setup_in (device_of words) bytes)
 FlashReply (Demo size) firmware bytes words A = DemoReply size
-FlashReply (Clear device name certificate) firmware bytes words A = CertificateReply words [] (ClearReply words) (certificate_in bytes)
-FlashReply command firmware bytes words A = CertificateReply words A (AcceptedReply command firmware words A) (certificate_in bytes)
+FlashReply (Clear device name certificate) firmware bytes words A = CertificateReply words [] (ClearReply words) (certificate_in (device_of words) bytes)
+FlashReply command firmware bytes words A = CertificateReply words A (AcceptedReply command firmware words A) (certificate_in (device_of words) bytes)
 
 -- Firmware, assumptions and the second file are examined in this order. `demo` has none of them.
 abbrev pub WorkReply : Command → List ℕ → List ℕ → Option (List ℕ) → Reply
 WorkReply (Demo size) firmware second list = DemoReply size
-WorkReply command firmware second list = WithImage (device_for command) firmware (λ words. WithList list (λ A. FlashReply command firmware second words A))
+WorkReply command firmware second list = WithImage (device_for command) firmware (λ words. WithList (device_for command) list (λ A. FlashReply command firmware second words A))
 
 -- The status and the text answer a command whose files have these contents. Files are read in this order before any is examined.
 abbrev pub IsReply : Command → Contents → Reply

@@ -11,7 +11,8 @@ use Rattle.avr_model.specs.Text as instruction
 use Rattle.avr_model.specs.declared.choice.Flag.TheVariants.{Live, Protected, Transfer}
 use Rattle.avr_model.specs.declared.choice.Stop.{Stop}
 use Rattle.avr_model.specs.declared.choice.Stop.TheVariants as stop
-use Rattle.avr_model.specs.Devices.{Program}
+use Rattle.avr_model.specs.declared.device.Device.{Device}
+use Rattle.avr_model.specs.Devices.{Program, device_of}
 use Rattle.indirect_targets.specs.declared.fault.AssumeText.{AssumeText}
 use Rattle.indirect_targets.specs.declared.fault.AssumeText.TheVariants as assume
 use Rattle.certificate.specs.Claims.{Claim}
@@ -124,18 +125,18 @@ abbrev pub accepted : ℕ → Bool → List ℕ
 accepted bound attained = told (codes "accepted" ∷ codes "bound" ∷ decimal bound ∷ witness_word attained ∷ [])
 
 -- the words after `rejected`, the first one the reason's number
-abbrev pub reason_words : Reason → List (List ℕ)
-reason_words Root = codes "1" ∷ codes "root" ∷ []
-reason_words (Node at cause) = codes "2" ∷ codes "node" ∷ decimal at ∷ codes "cause" ∷ decimal cause ∷ []
-reason_words (Edge at key) = codes "3" ∷ codes "node" ∷ decimal at ∷ codes "to" ∷ node_key_words key
-reason_words (Rank at entered) = codes "4" ∷ codes "inst" ∷ decimal at ∷ codes "inst" ∷ decimal entered ∷ []
-reason_words (Need at least) = codes "5" ∷ codes "inst" ∷ decimal at ∷ codes "least" ∷ decimal least ∷ []
-reason_words (Bound least) = codes "6" ∷ codes "least" ∷ decimal least ∷ []
-reason_words Assumptions = codes "7" ∷ codes "assumptions" ∷ []
-reason_words (Expansion at) = codes "9" ∷ codes "node" ∷ decimal at ∷ []
+abbrev pub reason_words : Device → Reason → List (List ℕ)
+reason_words device Root = codes "1" ∷ codes "root" ∷ []
+reason_words device (Node at cause) = codes "2" ∷ codes "node" ∷ decimal at ∷ codes "cause" ∷ decimal cause ∷ []
+reason_words device (Edge at key) = codes "3" ∷ codes "node" ∷ decimal at ∷ codes "to" ∷ node_key_words device key
+reason_words device (Rank at entered) = codes "4" ∷ codes "inst" ∷ decimal at ∷ codes "inst" ∷ decimal entered ∷ []
+reason_words device (Need at least) = codes "5" ∷ codes "inst" ∷ decimal at ∷ codes "least" ∷ decimal least ∷ []
+reason_words device (Bound least) = codes "6" ∷ codes "least" ∷ decimal least ∷ []
+reason_words device Assumptions = codes "7" ∷ codes "assumptions" ∷ []
+reason_words device (Expansion at) = codes "9" ∷ codes "node" ∷ decimal at ∷ []
 
-abbrev pub rejected : Reason → List ℕ
-rejected reason = told (codes "rejected" ∷ reason_words reason)
+abbrev pub rejected : Device → Reason → List ℕ
+rejected device reason = told (codes "rejected" ∷ reason_words device reason)
 
 abbrev pub witness_rejected : List ℕ
 witness_rejected = told (codes "rejected" ∷ codes "8" ∷ codes "witness" ∷ [])
@@ -156,13 +157,13 @@ run_text r =
 -- ---- in place of a certificate
 
 -- the text of the instruction, or the word in digits if it is no instruction of the device
-abbrev pub instruction_words : Option Instr → ℕ → ℕ → List (List ℕ)
-instruction_words (Some instr) word at = instruction.text_of instr at ∷ []
-instruction_words None word at = codes "opcode" ∷ hex_digits word 4 ∷ []
+abbrev pub instruction_words : Device → Option Instr → ℕ → ℕ → List (List ℕ)
+instruction_words device (Some instr) word at = instruction.text_of device instr at ∷ []
+instruction_words device None word at = codes "opcode" ∷ hex_digits word 4 ∷ []
 
 -- the instruction at a word address, or the word in digits
 abbrev pub instruction_told : Program → ℕ → List (List ℕ)
-instruction_told words at = instruction_words (instruction_at words at) (word_at words at) at
+instruction_told words at = instruction_words (device_of words) (instruction_at words at) (word_at words at) at
 
 -- the number and name of a cause, and its word
 abbrev pub cause_at : List ℕ → List ℕ → ℕ → List (List ℕ) → Option (List (List ℕ))

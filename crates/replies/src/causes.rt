@@ -24,7 +24,7 @@ pub(crate) fn put_instruction(
 {
     match flash.instruction(at) {
         Some(instr) => {
-            let text = instruction_text(alloc, &instr, at)?;
+            let text = instruction_text(alloc, flash.device(), &instr, at)?;
             line.word(&text)
         }
         None => put_address(line, b"opcode", flash.word(at)),

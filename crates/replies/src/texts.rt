@@ -9,6 +9,7 @@ ghost use Rattle.replies.specs.Texts.{told, usage, read_fault, too_long, raw_fau
 
 use crate::raw::RawRefusal;
 use avr_model::choice::{Flag, Stop};
+use avr_model::device::Device;
 use cert_check::Reason;
 use cert_format::{CertFault, Limit};
 use cert_writing::write_key;
@@ -277,8 +278,13 @@ fn put_inst(
 }
 
 // The words after `rejected`, the reason's number first.
-fn put_reason(alloc: Global, line: &mut LineWriter, reason: &Reason) -> Result<(), AllocError>
-    ensures { OnOk result (line.new ≡ with_words line.old (reason_words reason.now)) }
+fn put_reason(
+    alloc: Global,
+    line: &mut LineWriter,
+    device: Device,
+    reason: &Reason,
+) -> Result<(), AllocError>
+    ensures { OnOk result (line.new ≡ with_words line.old (reason_words device reason.now)) }
 {
     match *reason {
         Reason::Root => put_two(line, b"1", b"root"),
@@ -289,7 +295,7 @@ fn put_reason(alloc: Global, line: &mut LineWriter, reason: &Reason) -> Result<(
         Reason::Edge(at, key) => {
             put_two_and_number(line, b"3", b"node", u64::from(at))?;
             line.word(b"to")?;
-            write_key(line, alloc, &key)
+            write_key(line, alloc, device, &key)
         }
         Reason::Rank(at, entered) => put_inst(line, b"4", at, b"inst", entered),
         Reason::Need(at, least) => put_inst(line, b"5", at, b"least", least),
@@ -299,13 +305,13 @@ fn put_reason(alloc: Global, line: &mut LineWriter, reason: &Reason) -> Result<(
     }
 }
 
-/// The line of a rejected certificate.
-pub fn rejected(alloc: Global, reason: &Reason) -> Result<Vec<u8>, AllocError>
-    ensures { IfOk result (λ v. v.items ≡ rejected reason.now) }
+/// The line of a rejected certificate, with the enable bits of a node as many digits as the device has.
+pub fn rejected(alloc: Global, device: Device, reason: &Reason) -> Result<Vec<u8>, AllocError>
+    ensures { IfOk result (λ v. v.items ≡ rejected device reason.now) }
 {
     let mut line = LineWriter::new(alloc);
     line.word(b"rejected")?;
-    put_reason(alloc, &mut line, reason)?;
+    put_reason(alloc, &mut line, device, reason)?;
     ended(line)
 }
 

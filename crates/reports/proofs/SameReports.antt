@@ -4,6 +4,7 @@ use Rattle.std.specs.List.{flat_map}
 use Rattle.std.proofs.lemmas.Str.{IsUtf8-from_ascii, utf8_lossy-IsUtf8}
 use Rattle.serde_json.specs.Data.{string}
 use Rattle.sb_base.specs.Lines.{line}
+use Rattle.avr_model.specs.declared.device.Device.{Device}
 use Rattle.flash_image.specs.Naming.{Named, SayTheSame}
 use Rattle.certificate.specs.declared.instance.Inst.{Inst}
 use Rattle.chain_explain.specs.declared.explanation.Part.{Part}
@@ -12,15 +13,15 @@ use Rattle.reports.specs.Json.{inst_data}
 use Rattle.reports.specs.Explained.{explain_line, part_text}
 use Rattle.reports.specs.Laws.{NamesThatSayTheSame, ExplanationsSayTheSame, AsciiNamesStay}
 
-same_line : (names others : List Named) (x : Inst) → SayTheSame names others → inst_line names x ≡ inst_line others x
-same_line names others x same = rw (same x.key.entry) refl
+same_line : (device : Device) (names others : List Named) (x : Inst) → SayTheSame names others → inst_line device names x ≡ inst_line device others x
+same_line device names others x same = rw (same x.key.entry) refl
 
 same_data : (names others : List Named) (x : Inst) → SayTheSame names others → inst_data names x ≡ inst_data others x
 same_data names others x same = rw (same x.key.entry) refl
 
-same_lines : (names others : List Named) (xs : List Inst) → SayTheSame names others → map (inst_line names) xs ≡ map (inst_line others) xs
-same_lines names others [] same = refl
-same_lines names others (x ∷ xs) same = rw (same_line names others x same, same_lines names others xs same) refl
+same_lines : (device : Device) (names others : List Named) (xs : List Inst) → SayTheSame names others → map (inst_line device names) xs ≡ map (inst_line device others) xs
+same_lines device names others [] same = refl
+same_lines device names others (x ∷ xs) same = rw (same_line device names others x same, same_lines device names others xs same) refl
 
 same_items : (names others : List Named) (xs : List Inst) → SayTheSame names others → map (inst_data names) xs ≡ map (inst_data others) xs
 same_items names others [] same = refl
@@ -28,17 +29,17 @@ same_items names others (x ∷ xs) same = rw (same_data names others x same, sam
 
 pub same_reports : NamesThatSayTheSame
 same_reports device c names others static_end same =
-    (rw (same_lines names others c.instances same) refl, rw (same_items names others c.instances same) refl)
+    (rw (same_lines device names others c.instances same) refl, rw (same_items names others c.instances same) refl)
 
-same_part : (names others : List Named) (p : Part) → SayTheSame names others → part_text names p ≡ part_text others p
-same_part names others p same = rw (same p.inst.entry) refl
+same_part : (device : Device) (names others : List Named) (p : Part) → SayTheSame names others → part_text device names p ≡ part_text device others p
+same_part device names others p same = rw (same p.inst.entry) refl
 
-same_parts : (names others : List Named) (ps : List Part) → SayTheSame names others → flat_map (part_text names) ps ≡ flat_map (part_text others) ps
-same_parts names others [] same = refl
-same_parts names others (p ∷ ps) same = ap₂ (λ (xs ys : List ℕ). xs ++ ys) (same_part names others p same) (same_parts names others ps same)
+same_parts : (device : Device) (names others : List Named) (ps : List Part) → SayTheSame names others → flat_map (part_text device names) ps ≡ flat_map (part_text device others) ps
+same_parts device names others [] same = refl
+same_parts device names others (p ∷ ps) same = ap₂ (λ (xs ys : List ℕ). xs ++ ys) (same_part device names others p same) (same_parts device names others ps same)
 
 pub same_explanations : ExplanationsSayTheSame
-same_explanations bound names others x same = ap (λ (ys : List ℕ). line (explain_line bound x) ++ ys) (same_parts names others x.parts same)
+same_explanations device bound names others x same = ap (λ (ys : List ℕ). line (explain_line bound x) ++ ys) (same_parts device names others x.parts same)
 
 pub ascii_names_stay : AsciiNamesStay
 ascii_names_stay name h = ap string (utf8_lossy-IsUtf8 name (IsUtf8-from_ascii name h))

@@ -23,7 +23,7 @@ blinker_insts =
 
 -- a certificate of these instances; a report has no nodes
 abbrev pub blinker : Option Plan → Claim
-blinker witness = record { version = Two; bound = 9; assumptions = []; instances = blinker_insts; nodes = []; witness = witness }
+blinker witness = record { device = M328; version = Two; bound = 9; assumptions = []; instances = blinker_insts; nodes = []; witness = witness }
 
 -- ---- lines
 
@@ -32,7 +32,7 @@ three_instances : text_lines M328 (blinker None) [] None
     ∷ (codes "inst" ∷ codes "root" ∷ codes "0000" ∷ codes "0000000" ∷ codes "0" ∷ codes "-" ∷ codes "need" ∷ codes "9" ∷ [])
     ∷ (codes "inst" ∷ codes "call" ∷ codes "0040" ∷ codes "0000000" ∷ codes "0" ∷ codes "-" ∷ codes "need" ∷ codes "7" ∷ [])
     ∷ (codes "inst" ∷ codes "v17" ∷ codes "0020" ∷ codes "0008000" ∷ codes "0" ∷ codes "-" ∷ codes "need" ∷ codes "5" ∷ []) ∷ []
-unfolding digits hex_digits
+unfolding device_row digits hex_digits
 three_instances = refl
 
 -- static data that ends at 0x0104 leaves 2,044 bytes
@@ -66,6 +66,7 @@ nothing_fits = refl
 -- the root alone
 abbrev loop : Claim
 loop = record {
+  device = M328;
   version = Two;
   bound = 0;
   assumptions = [];

@@ -3,6 +3,7 @@ use Rattle.std.specs.Prelude.{ℕ, List, [], ◌∷◌, ◌++◌, map, codes, de
 use Rattle.std.specs.List.{flat_map}
 use Rattle.sb_base.specs.Digits.{hex_digits}
 use Rattle.sb_base.specs.Lines.{line}
+use Rattle.avr_model.specs.declared.device.Device.{Device}
 use Rattle.flash_image.specs.Naming.{Named, least_name}
 use Rattle.cert_words.specs.KeySpelling.{inst_key_words}
 use Rattle.chain_explain.specs.declared.explanation.Explanation.{Explanation}
@@ -14,9 +15,9 @@ abbrev pub explain_line : ℕ → Explanation → List (List ℕ)
 explain_line bound x = codes "explain" ∷ codes "bound" ∷ decimal bound ∷ codes "least" ∷ decimal x.least ∷ []
 
 -- a link: its instance, the name of the entry, the word of its place, and its bytes
-abbrev pub link_line : List Named → Part → List (List ℕ)
-link_line names part =
-    codes "link" ∷ inst_key_words part.inst ++ name_word (least_name names part.inst.entry) ∷ codes "at" ∷ hex_digits part.pc 4 ∷ codes "adds" ∷ decimal part.adds ∷ []
+abbrev pub link_line : Device → List Named → Part → List (List ℕ)
+link_line device names part =
+    codes "link" ∷ inst_key_words device part.inst ++ name_word (least_name names part.inst.entry) ∷ codes "at" ∷ hex_digits part.pc 4 ∷ codes "adds" ∷ decimal part.adds ∷ []
 
 abbrev pub word_text : ℕ → List ℕ
 word_text word = hex_digits word 4
@@ -25,9 +26,9 @@ word_text word = hex_digits word 4
 abbrev pub path_line : Part → List (List ℕ)
 path_line part = codes "path" ∷ map word_text part.walk
 
-abbrev pub part_text : List Named → Part → List ℕ
-part_text names part = line (link_line names part) ++ line (path_line part)
+abbrev pub part_text : Device → List Named → Part → List ℕ
+part_text device names part = line (link_line device names part) ++ line (path_line part)
 
--- the text of an explanation of a certificate with this bound
-abbrev pub explanation_text : ℕ → List Named → Explanation → List ℕ
-explanation_text bound names x = line (explain_line bound x) ++ flat_map (part_text names) x.parts
+-- the text of an explanation of a certificate with this bound, for a device
+abbrev pub explanation_text : Device → ℕ → List Named → Explanation → List ℕ
+explanation_text device bound names x = line (explain_line bound x) ++ flat_map (part_text device names) x.parts

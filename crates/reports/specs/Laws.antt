@@ -18,7 +18,7 @@ NamesThatSayTheSame =
 
 -- So does the text of an explanation.
 abbrev pub ExplanationsSayTheSame : Type 0
-ExplanationsSayTheSame = (bound : ℕ) (names others : List Named) (x : Explanation) → SayTheSame names others → explanation_text bound names x ≡ explanation_text bound others x
+ExplanationsSayTheSame = (device : Device) (bound : ℕ) (names others : List Named) (x : Explanation) → SayTheSame names others → explanation_text device bound names x ≡ explanation_text device bound others x
 
 -- A name of ASCII characters, as all names of an ELF file are, is unchanged in JSON.
 abbrev pub AsciiNamesStay : Type 0

@@ -46,9 +46,9 @@ name_word None = codes "-"
 name_word (Some name) = name
 
 -- an instance, the name of its entry, and its need
-abbrev pub inst_line : List Named → Inst → List (List ℕ)
-inst_line names x =
-    codes "inst" ∷ inst_key_words x.key ++ name_word (least_name names x.key.entry) ∷ codes "need" ∷ decimal x.need ∷ []
+abbrev pub inst_line : Device → List Named → Inst → List (List ℕ)
+inst_line device names x =
+    codes "inst" ∷ inst_key_words device x.key ++ name_word (least_name names x.key.entry) ∷ codes "need" ∷ decimal x.need ∷ []
 
 -- ---- the whole
 
@@ -59,7 +59,7 @@ heading device c static_end = numbered (codes "bound") c.bound ∷ witness_line 
 -- The lines of a report of a certificate for a device, each by its words, with names for words of flash, and static data that ends at
 -- this data address.
 abbrev pub text_lines : Device → Claim → List Named → Option ℕ → List (List (List ℕ))
-text_lines device c names static_end = heading device c static_end ++ map (inst_line names) c.instances
+text_lines device c names static_end = heading device c static_end ++ map (inst_line device names) c.instances
 
 abbrev pub plain_text : Device → Claim → List Named → Option ℕ → List ℕ
 plain_text device c names static_end = flat_map line (text_lines device c names static_end)

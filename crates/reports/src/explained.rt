@@ -9,7 +9,7 @@ ghost use Rattle.reports.specs.Explained.{word_text, explain_line, link_line, pa
 use crate::text::write_name;
 use cert_writing::write_inst_key;
 use chain_explain::{Explanation, Part};
-use flash_image::Names;
+use flash_image::{Device, Names};
 use line_reading::laws::appending_laws;
 use sb_base::LineWriter;
 use std::alloc::{AllocError, Global};
@@ -18,13 +18,14 @@ use std::alloc::{AllocError, Global};
 fn write_link(
     out: &mut LineWriter,
     alloc: Global,
+    device: Device,
     names: &Names,
     part: &Part,
 ) -> Result<(), AllocError>
-    ensures { OnOk result (out.new ≡ with_end (with_words out.old (link_line names.now part.now))) }
+    ensures { OnOk result (out.new ≡ with_end (with_words out.old (link_line device names.now part.now))) }
 {
     out.word(b"link")?;
-    write_inst_key(out, alloc, &part.inst)?;
+    write_inst_key(out, alloc, device, &part.inst)?;
     write_name(out, names, part.inst.entry)?;
     out.word(b"at")?;
     out.hex(u32::from(part.pc), 4)?;
@@ -47,14 +48,15 @@ pub fn write_words(out: &mut LineWriter, words: &[u16]) -> Result<(), AllocError
 fn write_part(
     out: &mut LineWriter,
     alloc: Global,
+    device: Device,
     names: &Names,
     part: &Part,
 ) -> Result<(), AllocError>
     requires { out.old.begun ≡ false }
-    ensures { OnOk result (out.new ≡ with_text out.old (part_text names.now part.now)) }
+    ensures { OnOk result (out.new ≡ with_text out.old (part_text device names.now part.now)) }
 {
     appending_laws();
-    write_link(out, alloc, names, part)?;
+    write_link(out, alloc, device, names, part)?;
     out.word(b"path")?;
     write_words(out, part.walk.as_slice())?;
     out.end_line()
@@ -64,14 +66,15 @@ fn write_part(
 fn write_parts(
     out: &mut LineWriter,
     alloc: Global,
+    device: Device,
     names: &Names,
     explanation: &Explanation,
 ) -> Result<(), AllocError>
     requires { out.old.begun ≡ false }
-    ensures { OnOk result (out.new ≡ with_text out.old (flat_map (part_text names.now) explanation.now.parts)) }
+    ensures { OnOk result (out.new ≡ with_text out.old (flat_map (part_text device names.now) explanation.now.parts)) }
 {
     for at in 0..explanation.count() {
-        write_part(out, alloc, names, explanation.part(at))?;
+        write_part(out, alloc, device, names, explanation.part(at))?;
     }
     Ok(())
 }
@@ -88,19 +91,20 @@ fn write_sum(out: &mut LineWriter, bound: u16, explanation: &Explanation) -> Res
     out.end_line()
 }
 
-/// The text of an explanation of a certificate with this bound: the sum of its links, and for each link the instance with the name of its
+/// The text of an explanation of a certificate with this bound for a device: the sum of its links, and for each link the instance with the name of its
 /// entry, the word of the place, the bytes that it adds, and the words of a shortest path to the place.
 pub fn explanation_text(
     alloc: Global,
+    device: Device,
     bound: u16,
     names: &Names,
     explanation: &Explanation,
 ) -> Result<Vec<u8>, AllocError>
-    ensures { IfOk result (λ v. v.items ≡ explanation_text bound names.now explanation.now) }
+    ensures { IfOk result (λ v. v.items ≡ explanation_text device bound names.now explanation.now) }
 {
     appending_laws();
     let mut out = LineWriter::new(alloc);
     write_sum(&mut out, bound, explanation)?;
-    write_parts(&mut out, alloc, names, explanation)?;
+    write_parts(&mut out, alloc, device, names, explanation)?;
     Ok(out.finish())
 }

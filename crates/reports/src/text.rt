@@ -76,13 +76,14 @@ pub fn write_name(out: &mut LineWriter, names: &Names, word: u16) -> Result<(), 
 fn write_inst(
     out: &mut LineWriter,
     alloc: Global,
+    device: Device,
     names: &Names,
     inst: &Inst,
 ) -> Result<(), AllocError>
-    ensures { OnOk result (out.new ≡ with_end (with_words out.old (inst_line names.now inst.now))) }
+    ensures { OnOk result (out.new ≡ with_end (with_words out.old (inst_line device names.now inst.now))) }
 {
     out.word(b"inst")?;
-    write_inst_key(out, alloc, &inst.key)?;
+    write_inst_key(out, alloc, device, &inst.key)?;
     write_name(out, names, inst.key.entry)?;
     out.word(b"need")?;
     out.dec(u64::from(inst.need))?;
@@ -93,15 +94,16 @@ fn write_inst(
 fn write_insts(
     out: &mut LineWriter,
     alloc: Global,
+    device: Device,
     names: &Names,
     insts: &[Inst],
 ) -> Result<(), AllocError>
     requires { out.old.begun ≡ false }
-    ensures { OnOk result (out.new ≡ with_text out.old (flat_map line (map (inst_line names.now) insts.now))) }
+    ensures { OnOk result (out.new ≡ with_text out.old (flat_map line (map (inst_line device names.now) insts.now))) }
 {
     appending_laws();
     for inst in insts {
-        write_inst(out, alloc, names, inst)?;
+        write_inst(out, alloc, device, names, inst)?;
     }
     Ok(())
 }
@@ -135,6 +137,6 @@ pub fn report_text(
 {
     let mut out = LineWriter::new(alloc);
     write_heading(&mut out, device, certificate, static_end)?;
-    write_insts(&mut out, alloc, names, certificate.instances())?;
+    write_insts(&mut out, alloc, device, names, certificate.instances())?;
     Ok(out.finish())
 }

@@ -81,6 +81,7 @@ module _ (words : Program) (A : List Entry) where
       nodes = nodes_of f;
       expanded = is.expands;
       meets = record {
+        device = is.device;
         reset = lands_covered f _ (comes_root words A n f solved.comes);
         faultless = λ m i. solved.passes.faultless m (has_member f m i);
         edges = λ m e i edge. lands_covered f _ (solved.closed m e (has_member f m i) edge);

@@ -6,9 +6,10 @@ use Rattle.std.specs.FinMap.{get, insert, entries, get-entries, entries-insert, 
 use Rattle.std.specs.FinMap.Entries.{find, put, by_order}
 use Rattle.basics.specs.Items.{none_in, first_in, further_in as there}
 use Rattle.std.proofs.lemmas.Option.{same_Some}
+use Rattle.avr_model.specs.declared.device.Device.{Device}
 use Rattle.avr_model.specs.declared.assumption.Entry.{Entry}
 use Rattle.avr_model.specs.Assumptions.{has_pairs}
-use Rattle.avr_model.specs.Devices.{Program}
+use Rattle.avr_model.specs.Devices.{Program, device_of}
 use Rattle.abs_state.specs.declared.state.AbsState.{AbsState}
 use Rattle.abs_state.specs.Order.{IsStateWithin, IsLeastAbove, state_join}
 use Rattle.abs_state.proofs.AllLaws.{states_are_ordered, joins_are_formed}
@@ -37,24 +38,24 @@ use Rattle.round_laws.proofs.Least.{lands_up, formed_nodes}
 
 -- ---- one join
 
-join_node : {followed : Bool} (k : NodeKey) (s t : AbsState) → IsNodeIn followed k s → IsNodeIn followed k t → IsNodeIn followed k (state_join s t)
+join_node : {device : Device} {followed : Bool} (k : NodeKey) (s t : AbsState) → IsNodeIn device followed k s → IsNodeIn device followed k t → IsNodeIn device followed k (state_join s t)
 unfolding joined_onto placed
-join_node {followed = followed} k s t a b =
+join_node {device = device} {followed = followed} k s t a b =
     let m : Node = record { key = k; state = s } in
     let n : Node = record { key = k; state = t } in
     let j : Node = record { key = k; state = state_join s t } in
-    let are : AreNodesIn followed (m ∷ n ∷ []) = each_of (λ x. IsNodeIn followed x.key x.state) m (n ∷ []) a (each_of (λ x. IsNodeIn followed x.key x.state) n [] b (λ x i. absurd (none_in x i))) in
+    let are : AreNodesIn device followed (m ∷ n ∷ []) = each_of (λ x. IsNodeIn device followed x.key x.state) m (n ∷ []) a (each_of (λ x. IsNodeIn device followed x.key x.state) n [] b (λ x i. absurd (none_in x i))) in
     let is : joined_onto [] (m ∷ n ∷ []) ≡ j ∷ [] = ap (λ o. place_by o n m [] (placed n [])) ((keys_are_ordered.equal_nodes k k).1 refl) in
     joins_are_least.nodes (m ∷ n ∷ []) are j (subst (λ (l : List Node). Contains l j) (sym is) (first_in j []))
 
-join_least : {followed : Bool} (k : NodeKey) (s t : AbsState) → IsNodeIn followed k s → IsNodeIn followed k t → IsLeastAbove s t (state_join s t)
+join_least : {device : Device} {followed : Bool} (k : NodeKey) (s t : AbsState) → IsNodeIn device followed k s → IsNodeIn device followed k t → IsLeastAbove s t (state_join s t)
 join_least k s t a b = states_are_ordered.join s t (joins_are_formed.whole s (offset_of k.sp) a.formed) (joins_are_formed.whole t (offset_of k.sp) b.formed) (a.formed.count_slots ∙ sym b.formed.count_slots)
 
 -- g is f with the state v at the node's key
-module _ {followed : Bool} (f : Family) (n : Node) (formed : AreFormed followed f) (node : IsNodeIn followed n.key n.state) where
+module _ {device : Device} {followed : Bool} (f : Family) (n : Node) (formed : AreFormed device followed f) (node : IsNodeIn device followed n.key n.state) where
   -- the state at the key
   record IsPut (v : AbsState) : Type 0 where
-    good : IsNodeIn followed n.key v
+    good : IsNodeIn device followed n.key v
     old : (t : AbsState) → get f n.key ≡ Some t → IsStateWithin t v
     new : IsStateWithin n.state v
     least : (u : AbsState) → ((t : AbsState) → get f n.key ≡ Some t → IsStateWithin t u) → IsStateWithin n.state u → IsStateWithin v u
@@ -82,10 +83,10 @@ module _ {followed : Bool} (f : Family) (n : Node) (formed : AreFormed followed 
   is_put : IsPut v
   is_put = put_is (get f n.key) refl
 
-  raised_formed : AreFormed followed (raised f n)
+  raised_formed : AreFormed device followed (raised f n)
   raised_formed m has =
-      at_keys (λ q. (s : AbsState) → get (raised f n) q ≡ Some s → IsNodeIn followed q s) n.key m.key
-      (λ s e. subst (IsNodeIn followed n.key) (same_Some v s (sym (get_same f n.key v) ∙ e)) is_put.good)
+      at_keys (λ q. (s : AbsState) → get (raised f n) q ≡ Some s → IsNodeIn device followed q s) n.key m.key
+      (λ s e. subst (IsNodeIn device followed n.key) (same_Some v s (sym (get_same f n.key v) ∙ e)) is_put.good)
       (λ ne s e. formed (record { key = m.key; state = s }) (sym (get_other f n.key v m.key ne) ∙ e)) m.state has
 
   raised_above : Below f (raised f n)
@@ -112,7 +113,7 @@ module _ {followed : Bool} (f : Family) (n : Node) (formed : AreFormed followed 
 below_itself : (f : Family) → Below f f
 below_itself f n has = record { at = n.state; is = has; above = states_are_ordered.same n.state }
 
-all_joined : {followed : Bool} (ns : List Node) (f : Family) → AreFormed followed f → AreNodesIn followed ns → AreJoined followed f ns (raised_all f ns)
+all_joined : {device : Device} {followed : Bool} (ns : List Node) (f : Family) → AreFormed device followed f → AreNodesIn device followed ns → AreJoined device followed f ns (raised_all f ns)
 all_joined [] f formed nodes = record {
   formed = formed;
   above = below_itself f;
@@ -134,7 +135,7 @@ covered_up g ns to lands c =
     let l = lands (with_state to c.state) c.present in
     record { at = l.at; is = l.is; above = states_are_ordered.through to.state c.state l.at c.above l.above }
 
-next_is : (words : Program) (A : List Entry) (f : Family) (ns : List Node) → AreFormed (has_pairs A) f → IsRoundOf words A f ns → IsNext words A f (raised_all f ns)
+next_is : (words : Program) (A : List Entry) (f : Family) (ns : List Node) → AreFormed (device_of words) (has_pairs A) f → IsRoundOf words A f ns → IsNext words A f (raised_all f ns)
 next_is words A f ns formed round =
     let g = raised_all f ns in
     let joined = all_joined ns f formed round.formed in
@@ -172,7 +173,7 @@ insert_again f k v is =
     same_map node_total node_exact (insert f k v) f
     (λ q. at_keys (λ q. get (insert f k v) q ≡ get f q) k q (get_same f k v ∙ sym is) (λ ne. get_other f k v q ne))
 
-raised_rises : {followed : Bool} (f : Family) (n : Node) → AreFormed followed f → IsNodeIn followed n.key n.state → (raised f n ≡ f) ⊎ (weight f < weight (raised f n))
+raised_rises : {device : Device} {followed : Bool} (f : Family) (n : Node) → AreFormed device followed f → IsNodeIn device followed n.key n.state → (raised f n ≡ f) ⊎ (weight f < weight (raised f n))
 raised_rises f n formed node = by (get f n.key) refl
   where
     by : (o : Option AbsState) → get f n.key ≡ o → (insert f n.key (joined_with o n.state) ≡ f) ⊎ (weight f < weight (insert f n.key (joined_with o n.state)))
@@ -184,7 +185,7 @@ raised_rises f n formed node = by (get f n.key) refl
         (λ lt. inr (insert_more f n.key (state_join t n.state) (λ u is. subst (λ x. state_rank x < state_rank (state_join t n.state)) (same_Some t u (sym e ∙ is)) lt)))
         (states_rise.rises t (state_join t n.state) (offset_of n.key.sp) at.formed j.formed (join_least n.key t n.state at node).first)
 
-weight_high : {followed : Bool} (es : List (NodeKey × AbsState)) → AreNodesIn followed (map node_of es) → weight_of es ≤ 1122557 * cells_of (map (λ (x : NodeKey × AbsState). x.0) es)
+weight_high : {device : Device} {followed : Bool} (es : List (NodeKey × AbsState)) → AreNodesIn device followed (map node_of es) → weight_of es ≤ 1122557 * cells_of (map (λ (x : NodeKey × AbsState). x.0) es)
 unfolding cells_of
 weight_high [] nodes = omega arith
 weight_high (e ∷ es) nodes =

@@ -2,6 +2,7 @@
 use Rattle.std.proofs.Common.{◌≡◌, Bool, sym, ap, ◌∙◌, subst, ℕ, zero, suc, ◌+◌, ◌<◌, ◌≤◌, List, Some, Contains, arith}
 use Rattle.std.specs.FinMap.{get, empty, get-empty}
 use Rattle.std.proofs.lemmas.Option.{same_Some}
+use Rattle.avr_model.specs.declared.device.Device.{Device}
 use Rattle.avr_model.specs.declared.assumption.Entry.{Entry}
 use Rattle.avr_model.specs.Assumptions.{has_pairs}
 use Rattle.avr_model.specs.Devices.{Program, device_of}
@@ -41,7 +42,7 @@ lands_covered g n l = record { state = l.at; present = member_has g (with_state 
 covered_lands : (g : Family) (n : Node) → IsCovered (nodes_of g) n → Lands g n
 covered_lands g n c = record { at = c.state; is = has_member g (with_state n c.state) c.present; above = c.above }
 
-pub formed_nodes : {followed : Bool} (f : Family) → AreFormed followed f → AreNodesIn followed (nodes_of f)
+pub formed_nodes : {device : Device} {followed : Bool} (f : Family) → AreFormed device followed f → AreNodesIn device followed (nodes_of f)
 formed_nodes f formed n i = formed n (has_member f n i)
 
 -- a property of the first family's one node holds of all its nodes
@@ -52,8 +53,8 @@ first_has A P h n =
     (λ ne s e. absurd (let never = sym (get-empty node_cmp n.key) ∙ sym (get_other empty (entry_key root_inst) (root_of A) n.key ne) ∙ e in cc)) n.state
 
 module _ (words : Program) (A : List Entry) where
-  pub comes_formed : (n : ℕ) (f : Family) → Comes words A n f → AreFormed (has_pairs A) f
-  comes_formed zero f c = subst (AreFormed (has_pairs A)) (sym c) (λ n h. first_has A (IsNodeIn (has_pairs A)) (edges_lead_to_nodes.reset (has_pairs A)) n h)
+  pub comes_formed : (n : ℕ) (f : Family) → Comes words A n f → AreFormed (device_of words) (has_pairs A) f
+  comes_formed zero f c = subst (AreFormed (device_of words) (has_pairs A)) (sym c) (λ n h. first_has A (IsNodeIn (device_of words) (has_pairs A)) (edges_lead_to_nodes.reset (device_of words) (has_pairs A)) n h)
   comes_formed (suc n) f c = c.4.formed
 
   -- ---- one family at each number
@@ -80,7 +81,7 @@ module _ (words : Program) (A : List Entry) where
   -- ---- below a valid family
 
   module _ (g : Family) (valid : IsValidFamily words A g) where
-    module _ (f : Family) (formed : AreFormed (has_pairs A) f) (below : Below f g) where
+    module _ (f : Family) (formed : AreFormed (device_of words) (has_pairs A) f) (below : Below f g) where
       covered : (n : Node) → Contains (nodes_of f) n → IsCovered (nodes_of g) n
       covered n i = lands_covered g n (below n (has_member f n i))
 

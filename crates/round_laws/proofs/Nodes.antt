@@ -9,6 +9,7 @@ use Rattle.std.specs.FinMap.Entries.{find, is_sorted, below_all}
 use Rattle.basics.specs.Booleans.{split_tests as both, less_if_so}
 use Rattle.basics.specs.Items.{none_in, first_in, further_in, first_or_further}
 use Rattle.std.proofs.lemmas.Option.{same_Some}
+use Rattle.avr_model.specs.declared.device.Device.{Device}
 use Rattle.abs_state.specs.declared.state.AbsState.{AbsState}
 use Rattle.abs_state.proofs.AllLaws.{states_are_ordered, joins_are_formed}
 use Rattle.mask_states.specs.declared.keys.NodeKey.{NodeKey}
@@ -101,7 +102,7 @@ nodes_apart (e ∷ es) sorted =
 
 -- ---- the order of families
 
-below_same : {followed : Bool} (f g : Family) → AreFormed followed f → AreFormed followed g → Below f g → Below g f → f ≡ g
+below_same : {device : Device} {followed : Bool} (f g : Family) → AreFormed device followed f → AreFormed device followed g → Below f g → Below g f → f ≡ g
 below_same f g a b up down = same_map node_total node_exact f g (λ q. by q (get f q) (get g q) refl refl)
   where
     by : (q : NodeKey) (x y : Option AbsState) → get f q ≡ x → get g q ≡ y → x ≡ y

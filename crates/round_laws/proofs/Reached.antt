@@ -3,7 +3,7 @@ use Rattle.std.proofs.Common.{◌≡◌, refl, sym, ap, ◌∙◌, subst, ℕ, z
 use Rattle.std.specs.declared.cmp.Ordering.TheVariants.{Equal}
 use Rattle.std.specs.FinMap.{get, retain_keys, get-retain_keys}
 use Rattle.avr_model.specs.declared.assumption.Entry.{Entry}
-use Rattle.avr_model.specs.Devices.{Program}
+use Rattle.avr_model.specs.Devices.{Program, device_of}
 use Rattle.abs_state.specs.declared.state.AbsState.{AbsState}
 use Rattle.mask_states.specs.declared.keys.NodeKey.{NodeKey}
 use Rattle.mask_states.specs.Keys.{root_inst, entry_key}
@@ -35,7 +35,7 @@ module _ (words : Program) (A : List Entry) (holds : NodeKey → Bool) where
   lands_kept g n h l = record { at = l.at; is = kept_by g n.key h ∙ l.is; above = l.above }
 
   -- what the edges of a family without faults preserve, those of one below it preserve
-  kept_down : {followed : Bool} (f g : Family) → AreFormed followed f → AreFormed followed g → Below f g → HasNoFault words A g → IsKept words A g holds → IsKept words A f holds
+  kept_down : {followed : Bool} (f g : Family) → AreFormed (device_of words) followed f → AreFormed (device_of words) followed g → Below f g → HasNoFault words A g → IsKept words A g holds → IsKept words A f holds
   kept_down f g low high below clean kept n e has h edge =
       let o = edges_grow.edges words A (nodes_of f) (nodes_of g) n e (formed_nodes f low) (formed_nodes g high) (λ m c. lands_covered g m (below m (has_member f m c)))
       (λ m c. clean m (has_member g m c)) (member_has f n has) edge in

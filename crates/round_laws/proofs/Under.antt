@@ -5,7 +5,7 @@ use Rattle.std.specs.declared.cmp.Ordering.TheVariants.{Equal}
 use Rattle.std.specs.FinMap.{get, retain_keys, get-retain_keys}
 use Rattle.avr_model.specs.declared.assumption.Entry.{Entry}
 use Rattle.avr_model.specs.Assumptions.{has_pairs}
-use Rattle.avr_model.specs.Devices.{Program}
+use Rattle.avr_model.specs.Devices.{Program, device_of}
 use Rattle.abs_state.specs.declared.state.AbsState.{AbsState}
 use Rattle.mask_states.specs.declared.keys.InstKey.{InstKey}
 use Rattle.mask_states.specs.declared.keys.EdgeKind.{EdgeKind}
@@ -25,7 +25,7 @@ use Rattle.round_laws.proofs.Least.{comes_formed, first_has}
 
 module _ (words : Program) (A : List Entry) where
   -- needs of a family without faults are needs of one below it
-  needs_down : {followed : Bool} (f g : Family) (need : InstKey → ℕ) → AreFormed followed f → AreFormed followed g → Below f g → HasNoFault words A g → AreNeeds words A g need → AreNeeds words A f need
+  needs_down : {followed : Bool} (f g : Family) (need : InstKey → ℕ) → AreFormed (device_of words) followed f → AreFormed (device_of words) followed g → Below f g → HasNoFault words A g → AreNeeds words A g need → AreNeeds words A f need
   needs_down f g need low high below clean are = record {
     offsets = λ n offset has form. let l = below n has in are.offsets (with_state n l.at) offset l.is form;
     entered = λ i j offset e.
@@ -43,7 +43,7 @@ module _ (words : Program) (A : List Entry) where
   }
 
   -- the instance of an edge's target is the node's own, or one that it enters
-  edge_inst : {followed : Bool} (P : InstKey → Type 0) (f : Family) (n : Node) (e : Edge) → AreFormed followed f → FamilyHas f n → P n.key.inst
+  edge_inst : {followed : Bool} (P : InstKey → Type 0) (f : Family) (n : Node) (e : Edge) → AreFormed (device_of words) followed f → FamilyHas f n → P n.key.inst
       → ((way : EdgeKind) (inst : InstKey) (back : ℕ) → Enters words A n way inst back → P inst) → IsEdge words A (nodes_of f) n e → P e.to.inst
   edge_inst P f n _ formed has own enter (moving to clean member) =
       let raw = joins_are_least.keys (raw_of words A n).moves to member in
@@ -78,7 +78,7 @@ module _ (words : Program) (A : List Entry) where
     is_under_is : (k : NodeKey) → is_under k ≡ true → need k.inst ≤ need root_inst
     is_under_is k e = grind (arith, nat_tests)
 
-    next_under : (f g : Family) → AreFormed (has_pairs A) f → IsNext words A f g → HasNoFault words A g → AreNeeds words A f need
+    next_under : (f g : Family) → AreFormed (device_of words) (has_pairs A) f → IsNext words A f g → HasNoFault words A g → AreNeeds words A f need
         → ((n : Node) → FamilyHas f n → need n.key.inst ≤ need root_inst) → (n : Node) → FamilyHas g n → need n.key.inst ≤ need root_inst
     next_under f g formed next clean are low n has =
         let h = retain_keys g is_under in

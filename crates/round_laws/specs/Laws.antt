@@ -1,9 +1,10 @@
 -- Laws of families and rounds.
 use Rattle.std.specs.Prelude.{ℕ, Bool, ◌*◌, ◌≡◌, ◌<◌, ◌≤◌, ◌↔◌, ◌⊎◌, List, Contains}
 use Rattle.std.specs.FinMap.{len}
+use Rattle.avr_model.specs.declared.device.Device.{Device}
 use Rattle.avr_model.specs.declared.assumption.Entry.{Entry}
 use Rattle.avr_model.specs.Assumptions.{has_pairs}
-use Rattle.avr_model.specs.Devices.{Program}
+use Rattle.avr_model.specs.Devices.{Program, device_of}
 use Rattle.mask_states.specs.declared.keys.InstKey.{InstKey}
 use Rattle.mask_states.specs.Keys.{root_inst}
 use Rattle.local_rules.specs.declared.local.Node.{Node}
@@ -21,7 +22,7 @@ use Rattle.round_laws.specs.Steps.{raised, raised_all, IsRoundOf, AreJoined, Hav
 
 pub record FamiliesAreTheirNodes : Type 0 where
   pub members : (f : Family) (n : Node) → Contains (nodes_of f) n ↔ FamilyHas f n
-  pub same : {followed : Bool} (f g : Family) → AreFormed followed f → AreFormed followed g → Below f g → Below g f → f ≡ g
+  pub same : {device : Device} {followed : Bool} (f g : Family) → AreFormed device followed f → AreFormed device followed g → Below f g → Below g f → f ≡ g
   pub apart : (f : Family) → HaveOwnKeys (nodes_of f)
 
 -- a family that shows a bound, with ranks and needs
@@ -41,7 +42,7 @@ pub record StandsForShown (words : Program) (A : List Entry) (c : Claim) : Type 
 pub record RoundsAreLeast : Type 0 where
   -- the family of a number is unique, and has nodes of the analysis
   pub one : (words : Program) (A : List Entry) (n : ℕ) (f g : Family) → Comes words A n f → Comes words A n g → f ≡ g
-  pub formed : (words : Program) (A : List Entry) (n : ℕ) (f : Family) → Comes words A n f → AreFormed (has_pairs A) f
+  pub formed : (words : Program) (A : List Entry) (n : ℕ) (f : Family) → Comes words A n f → AreFormed (device_of words) (has_pairs A) f
   -- it is below each valid family
   pub below : (words : Program) (A : List Entry) (n : ℕ) (f g : Family) → IsValidFamily words A g → Comes words A n f → Below f g
   pub faultless : (words : Program) (A : List Entry) (n : ℕ) (f g : Family) → IsValidFamily words A g → Comes words A n f → HasNoFault words A f
@@ -77,8 +78,8 @@ pub record SolutionsAreValid : Type 0 where
 -- The code computes a round: joining the nodes one after the other gives the next family. Each join leaves the family or raises its
 -- weight, which is bounded.
 pub record RoundsAreJoins : Type 0 where
-  pub next : (words : Program) (A : List Entry) (f : Family) (ns : List Node) → AreFormed (has_pairs A) f → IsRoundOf words A f ns → IsNext words A f (raised_all f ns)
-  pub joined : {followed : Bool} (f : Family) (ns : List Node) → AreFormed followed f → AreNodesIn followed ns → AreJoined followed f ns (raised_all f ns)
-  pub rises : {followed : Bool} (f : Family) (n : Node) → AreFormed followed f → IsNodeIn followed n.key n.state → (raised f n ≡ f) ⊎ (weight f < weight (raised f n))
-  pub high : {followed : Bool} (f : Family) → AreFormed followed f → weight f ≤ 1122557 * cells f
-  pub formed : {followed : Bool} (f : Family) (n : Node) → AreFormed followed f → IsNodeIn followed n.key n.state → AreFormed followed (raised f n)
+  pub next : (words : Program) (A : List Entry) (f : Family) (ns : List Node) → AreFormed (device_of words) (has_pairs A) f → IsRoundOf words A f ns → IsNext words A f (raised_all f ns)
+  pub joined : {device : Device} {followed : Bool} (f : Family) (ns : List Node) → AreFormed device followed f → AreNodesIn device followed ns → AreJoined device followed f ns (raised_all f ns)
+  pub rises : {device : Device} {followed : Bool} (f : Family) (n : Node) → AreFormed device followed f → IsNodeIn device followed n.key n.state → (raised f n ≡ f) ⊎ (weight f < weight (raised f n))
+  pub high : {device : Device} {followed : Bool} (f : Family) → AreFormed device followed f → weight f ≤ 1122557 * cells f
+  pub formed : {device : Device} {followed : Bool} (f : Family) (n : Node) → AreFormed device followed f → IsNodeIn device followed n.key n.state → AreFormed device followed (raised f n)

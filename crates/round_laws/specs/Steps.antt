@@ -1,9 +1,10 @@
 -- One round as a list of nodes that are joined one after the other.
 use Rattle.std.specs.Prelude.{ℕ, Bool, ◌+◌, ◌≡◌, ◌⊎◌, ⊤, List, [], ◌∷◌, Option, Some, None, Contains}
 use Rattle.std.specs.FinMap.{get, insert, entries}
+use Rattle.avr_model.specs.declared.device.Device.{Device}
 use Rattle.avr_model.specs.declared.assumption.Entry.{Entry}
 use Rattle.avr_model.specs.Assumptions.{has_pairs}
-use Rattle.avr_model.specs.Devices.{Program}
+use Rattle.avr_model.specs.Devices.{Program, device_of}
 use Rattle.abs_state.specs.declared.state.AbsState.{AbsState}
 use Rattle.abs_state.specs.Order.{state_join}
 use Rattle.mask_states.specs.declared.keys.NodeKey.{NodeKey}
@@ -30,13 +31,13 @@ raised_all f (n ∷ ns) = raised_all (raised f n) ns
 
 -- Nodes whose join makes all edges of f land: each edge lands already or is below one of them; and wherever all edges land, so do they.
 pub record IsRoundOf (words : Program) (A : List Entry) (f : Family) (ns : List Node) : Type 0 where
-  pub formed : (to : Node) → Contains ns to → IsNodeIn (has_pairs A) to.key to.state
+  pub formed : (to : Node) → Contains ns to → IsNodeIn (device_of words) (has_pairs A) to.key to.state
   pub all : (n : Node) (e : Edge) → FamilyHas f n → IsEdge words A (nodes_of f) n e → Lands f (target e) ⊎ IsCovered ns (target e)
   pub least : (h : Family) → Below f h → LandIn words A f h → (to : Node) → Contains ns to → Lands h to
 
--- g is f with all these nodes joined: the least family above f that has them
-pub record AreJoined (followed : Bool) (f : Family) (ns : List Node) (g : Family) : Type 0 where
-  pub formed : AreFormed followed g
+-- g is f with all these nodes joined: the least family above f that has them; all are nodes of the analysis of a device
+pub record AreJoined (device : Device) (followed : Bool) (f : Family) (ns : List Node) (g : Family) : Type 0 where
+  pub formed : AreFormed device followed g
   pub above : Below f g
   pub lands : (to : Node) → Contains ns to → Lands g to
   pub least : (h : Family) → Below f h → ((to : Node) → Contains ns to → Lands h to) → Below g h

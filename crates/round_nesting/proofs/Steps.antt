@@ -4,6 +4,7 @@ use Rattle.std.proofs.lemmas.List.{take_more, take_all, take-append-le}
 use Rattle.std.proofs.lemmas.List.Elements.{Contains-push_cases, Contains-push, Contains-append_left}
 use Rattle.std.proofs.lemmas.Option.{none-some, same_Some}
 use Rattle.basics.specs.Items.{none_in}
+use Rattle.avr_model.specs.State.{SIZE}
 use Rattle.mask_states.specs.declared.keys.InstKey.{InstKey}
 use Rattle.nesting_bound.specs.declared.graph.Entered.{Entered}
 use Rattle.nesting_bound.specs.declared.graph.GraphInst.{GraphInst}
@@ -23,13 +24,13 @@ if_ok P Q (Ok v) h f = f v h
 if_ok P Q (Err e) h f = h
 
 module _ (keys : List InstKey) (spots : List Spot) (entrances : List Entrance) (old new : List GraphInst) (drawn : IsDrawn keys spots entrances old) where
-  pub spot_more : (s : Spot) (at : ℕ) (p : Place) → number_of keys s.inst ≡ at → s.offset ≡ p.offset → p.offset ≤ 2048 → HasPlaced old at p new
+  pub spot_more : (s : Spot) (at : ℕ) (p : Place) → number_of keys s.inst ≡ at → s.offset ≡ p.offset → p.offset ≤ SIZE → HasPlaced old at p new
       → IsDrawn keys (spots ++ s ∷ []) entrances new
   spot_more s at p number offset low placed = record {
     is_graph = record {
       some = omega (arith, drawn.is_graph.some, placed.same.count);
       few = omega (arith, drawn.is_graph.few, placed.same.count);
-      offsets = λ i q h. ⊎_elim (λ before. drawn.is_graph.offsets i q before) (λ it. subst (λ (x : Place). x.offset ≤ 2048) (sym it.1) low) ((placed.places i q).0 h);
+      offsets = λ i q h. ⊎_elim (λ before. drawn.is_graph.offsets i q before) (λ it. subst (λ (x : Place). x.offset ≤ SIZE) (sym it.1) low) ((placed.places i q).0 h);
       places = λ i e h. drawn.is_graph.places i e ((placed.entered i e).0 h);
       within = λ i e h. let lt = drawn.is_graph.within i e ((placed.entered i e).0 h) in omega (arith, lt, placed.same.count);
     };
@@ -53,14 +54,14 @@ module _ (keys : List InstKey) (spots : List Spot) (entrances : List Entrance) (
       there : HasSpot keys new s
       there = record { place = p; has = (placed.places (number_of keys s.inst) p).1 (inr (number, refl)); at = offset }
 
-  pub entrance_more : (x : Entrance) (at : ℕ) (e : Entered) → number_of keys x.from ≡ at → number_of keys x.into ≡ e.into → x.offset ≡ e.offset → e.offset ≤ 2048
+  pub entrance_more : (x : Entrance) (at : ℕ) (e : Entered) → number_of keys x.from ≡ at → number_of keys x.into ≡ e.into → x.offset ≡ e.offset → e.offset ≤ SIZE
       → IsEntranceDrawn old at e new → IsDrawn keys spots (entrances ++ x ∷ []) new
   entrance_more x at e number into offset low entered = record {
     is_graph = record {
       some = omega (arith, drawn.is_graph.some, entered.same.count);
       few = omega (arith, drawn.is_graph.few, entered.same.count);
       offsets = λ i p h. drawn.is_graph.offsets i p ((entered.places i p).0 h);
-      places = λ i q h. ⊎_elim (λ before. drawn.is_graph.places i q before) (λ it. subst (λ (y : Entered). y.offset ≤ 2048) (sym it.1) low) ((entered.entered i q).0 h);
+      places = λ i q h. ⊎_elim (λ before. drawn.is_graph.places i q before) (λ it. subst (λ (y : Entered). y.offset ≤ SIZE) (sym it.1) low) ((entered.entered i q).0 h);
       within = λ i q h. ⊎_elim (λ before. let lt = drawn.is_graph.within i q before in omega (arith, lt, entered.same.count))
           (λ it. subst (λ (y : Entered). y.into < length new) (sym it.1) inside) ((entered.entered i q).0 h);
     };

@@ -51,7 +51,7 @@ impl Hash for NotedInst {
     }
 }
 
-// An instance with a node at this offset, at most 2,048, whose stack pointer is whole.
+// An instance with a node at this offset, at most 16,384, whose stack pointer is whole.
 #[derive(Drop)]
 pub(crate) struct NotedSpot {
     inst: InstKey,
@@ -118,7 +118,7 @@ impl Hash for NotedSpot {
     }
 }
 
-// A node of one instance, at this offset of at most 2,048, enters another.
+// A node of one instance, at this offset of at most 16,384, enters another.
 #[derive(Drop)]
 pub(crate) struct NotedEntrance {
     from: InstKey,

@@ -1,6 +1,7 @@
 -- Families: finite maps from keys to states. Source: own.
 use Rattle.std.specs.Prelude.{ℕ, Bool, ◌≡◌, ◌≤◌, List, map, Some}
 use Rattle.std.specs.FinMap.{FinMap, get, entries, keys, len}
+use Rattle.avr_model.specs.declared.device.Device.{Device}
 use Rattle.avr_model.specs.declared.assumption.Entry.{Entry}
 use Rattle.avr_model.specs.Devices.{Program}
 use Rattle.abs_state.specs.declared.state.AbsState.{AbsState}
@@ -40,9 +41,9 @@ pub record Lands (f : Family) (n : Node) : Type 0 where
 abbrev pub Below : Family → Family → Type 0
 Below f g = (n : Node) → FamilyHas f n → Lands g n
 
--- all nodes are nodes of the analysis, which follow pairs as `followed` says
-abbrev pub AreFormed : Bool → Family → Type 0
-AreFormed followed f = (n : Node) → FamilyHas f n → IsNodeIn followed n.key n.state
+-- all nodes are nodes of the analysis of a device, which follow pairs as `followed` says
+abbrev pub AreFormed : Device → Bool → Family → Type 0
+AreFormed device followed f = (n : Node) → FamilyHas f n → IsNodeIn device followed n.key n.state
 
 abbrev pub HasNoFault : Program → List Entry → Family → Type 0
 HasNoFault words A f = (n : Node) → FamilyHas f n → IsFaultless words A n

@@ -63,7 +63,7 @@ first A = insert empty (entry_key root_inst) (root_of A)
 
 -- g is f joined with the targets of all its edges: the least family above f to which they lead
 pub record IsNext (words : Program) (A : List Entry) (f g : Family) : Type 0 where
-  pub formed : AreFormed (has_pairs A) g
+  pub formed : AreFormed (device_of words) (has_pairs A) g
   pub above : Below f g
   pub edges : LandIn words A f g
   pub least : (h : Family) → Below f h → LandIn words A f h → Below g h

@@ -1,7 +1,7 @@
 -- The answer of the analysis.
 use Rattle.std.specs.Prelude.{ℕ, ◌≡◌, ◌≤◌, ◌↔◌, ⊤, List, Option, Some, None, Contains}
 use Rattle.avr_model.specs.declared.assumption.Entry.{Entry}
-use Rattle.avr_model.specs.Devices.{Program}
+use Rattle.avr_model.specs.Devices.{Program, device_of}
 use Rattle.mask_states.specs.declared.keys.InstKey.{InstKey}
 use Rattle.mask_states.specs.Keys.{root_inst}
 use Rattle.edge_rules.specs.Expansion.{IsFilled}
@@ -21,9 +21,10 @@ pub record IsShown (words : Program) (A : List Entry) (c : Claim) : Type 0 where
   pub claim : IsClaim c
   pub sound : IsSound words A c
 
--- The certificate of a solved family, in the version for its assumptions: the family's nodes and instances, least ranks and needs, and
--- the root's need as bound. A node's state is left out exactly if its only edge determines it.
+-- The certificate of a solved family, for the image's device and in the version for its assumptions: the family's nodes and instances,
+-- least ranks and needs, and the root's need as bound. A node's state is left out exactly if its only edge determines it.
 pub record IsSolution (words : Program) (A : List Entry) (f : Family) (c : Claim) : Type 0 where
+  pub device : c.device ≡ device_of words
   pub version : c.version ≡ written_version A
   pub expands : IsFilled words A c.nodes (nodes_of f)
   pub sparse : AreSparse words A (nodes_of f) c.nodes

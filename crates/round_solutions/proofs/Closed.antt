@@ -2,7 +2,7 @@
 use Rattle.std.proofs.Common.{◌≡◌, sym, ap, subst, ℕ, inr, List, [], map, Ok, Err, Result, Contains}
 use Rattle.avr_model.specs.declared.assumption.Entry.{Entry}
 use Rattle.avr_model.specs.Assumptions.{has_pairs}
-use Rattle.avr_model.specs.Devices.{Program}
+use Rattle.avr_model.specs.Devices.{Program, device_of}
 use Rattle.abs_state.proofs.AllLaws.{states_are_ordered}
 use Rattle.local_rules.specs.declared.local.Node.{Node}
 use Rattle.local_rules.specs.declared.local.NodeFault.{NodeFault}
@@ -44,7 +44,7 @@ module _ (words : Program) (A : List Entry) where
   targets : Family → List Node
   targets f = map target (all_edges (nodes_of f))
 
-  round_of : (f : Family) → AreFormed (has_pairs A) f → HasNoFault words A f → IsRoundOf words A f (targets f)
+  round_of : (f : Family) → AreFormed (device_of words) (has_pairs A) f → HasNoFault words A f → IsRoundOf words A f (targets f)
   unfolding targets all_edges
   round_of f formed clean =
       let each : (P : Node → Type 0) → ((n : Node) (e : Edge) → FamilyHas f n → IsEdge words A (nodes_of f) n e → P (target e)) → (to : Node) → Contains (targets f) to → P to = λ P h.
@@ -52,7 +52,7 @@ module _ (words : Program) (A : List Entry) where
       (λ e. each_gathered (edges_from (nodes_of f)) (λ x. P (target x)) (nodes_of f)
       (λ n x i j. let has = has_member f n i in h n x has ((are_edges (nodes_of f) n (clean n has) x).0 j)) e) in
       record {
-        formed = each (λ to. IsNodeIn (has_pairs A) to.key to.state) (λ n e has edge. edges_lead_to_nodes.edges words A (nodes_of f) n e (formed_nodes f formed) (member_has f n has) edge);
+        formed = each (λ to. IsNodeIn (device_of words) (has_pairs A) to.key to.state) (λ n e has edge. edges_lead_to_nodes.edges words A (nodes_of f) n e (formed_nodes f formed) (member_has f n has) edge);
         all = λ n e has edge. inr (record {
           state = e.state;
           present = in_map target (all_edges (nodes_of f)) e

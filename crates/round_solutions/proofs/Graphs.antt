@@ -8,7 +8,7 @@ use Rattle.basics.specs.Items.{contained_at, get_contained}
 use Rattle.family_graph.proofs.Graphs.{keys_long}
 use Rattle.avr_model.specs.declared.assumption.Entry.{Entry}
 use Rattle.avr_model.specs.Assumptions.{has_pairs}
-use Rattle.avr_model.specs.Devices.{Program}
+use Rattle.avr_model.specs.Devices.{Program, device_of}
 use Rattle.abs_state.specs.Frames.{entered}
 use Rattle.mask_states.specs.declared.keys.EdgeKind.{EdgeKind}
 use Rattle.mask_states.specs.declared.keys.InstKey.{InstKey}
@@ -56,7 +56,7 @@ module _ (words : Program) (A : List Entry) (n : ℕ) (f : Family) (solved : IsS
   abbrev nodes : List Node
   nodes = nodes_of f
 
-  shown : AreShown nodes
+  shown : AreShown (device_of words) nodes
   shown = record { followed = has_pairs A; ascending = ascending f; all = formed_nodes f (formed words A n f solved) }
 
   -- the root's node is among them

@@ -1,17 +1,16 @@
 -- The instances of a solved family are valid in a certificate.
 use Rattle.std.proofs.Common.{◌≡◌, refl, sym, ap, ◌∙◌, subst, eq-eqb, ⊎_elim, ℕ, ◌^◌, ◌<◌, Bool, true, false, cond, ◌==◌, ◌&&◌, ◌-◌, ◌*◌, not, nat_lt, List, Some, None, arith}
-use Rattle.std.specs.Prelude.{nat_le}
 use Rattle.std.proofs.lemmas.Bool.Decides.{nat_tests}
 use Rattle.std.specs.FinMap.{get, retain_keys, get-retain_keys}
 use Rattle.std.specs.declared.cmp.Ordering.TheVariants.{Equal}
 use Rattle.std.proofs.lemmas.Bool.{or_left, or_right}
+use Rattle.basics.specs.Booleans.{left_of_and}
 use Rattle.avr_model.proofs.AllLaws.{devices_are_alike}
 use Rattle.avr_model.specs.declared.assumption.Entry.{Entry}
 use Rattle.avr_model.specs.Assumptions.{has_pairs}
-use Rattle.avr_model.specs.Image.{WORDS}
 use Rattle.avr_model.specs.declared.device.Device.{Device}
-use Rattle.avr_model.specs.Devices.{Program, device_of}
-use Rattle.avr_model.specs.Vectors.{is_enabled, vector_word}
+use Rattle.avr_model.specs.Devices.{Program, device_of, limit_of}
+use Rattle.avr_model.specs.Vectors.{is_vector, enable_count, is_enabled, vector_word}
 use Rattle.abs_state.specs.declared.state.AbsState.{AbsState}
 use Rattle.abs_state.proofs.AllLaws.{states_are_ordered}
 use Rattle.mask_states.specs.declared.keys.InstKey.{InstKey}
@@ -33,12 +32,16 @@ use Rattle.round_rules.specs.Refusals.{IsSolved}
 use Rattle.round_laws.proofs.AllLaws.{node_exact, has_member, member_has, lands_covered, formed_nodes, comes_root}
 use Rattle.round_solutions.proofs.Lone.{formed, rounds_below}
 
--- its kind permits its other parts, and it has 25 enable bits
-abbrev pub fits : InstKey → Bool
-fits k = fits_kind k.kind k.entry k.masks k.i && nat_lt k.masks (2 ^ 25)
+-- its kind permits its other parts, and it has an enable bit for each vector
+abbrev pub fits : Device → InstKey → Bool
+fits device k = fits_kind device k.kind k.entry k.masks k.i && nat_lt k.masks (2 ^ enable_count device)
 
-call_fits : (entry masks : ℕ) → entry < WORDS → masks < 2 ^ 25 → (nat_lt entry WORDS && nat_lt masks (2 ^ 25)) ≡ true
-call_fits entry masks a b = grind (arith, nat_tests)
+call_fits : (entry limit masks end : ℕ) → entry < limit → masks < end → (nat_lt entry limit && nat_lt masks end) ≡ true
+call_fits entry limit masks end a b = grind (arith, nat_tests)
+
+-- no vector is enabled at reset
+none_fits : (end : ℕ) → 0 < end → nat_lt 0 end ≡ true
+none_fits end some = grind (arith, nat_tests)
 
 -- a vector's word on each device is a valid entry
 vector_is : (device : Device) (v : ℕ) → is_vector_word v (vector_word device v) ≡ true
@@ -48,34 +51,35 @@ vector_is device v =
     (λ (long : vector_word device v ≡ 2 * (v - 1)). or_left (vector_word device v == 2 * (v - 1)) (vector_word device v == v - 1) (eq-eqb (vector_word device v) (2 * (v - 1)) long))
     (devices_are_alike.steps device v)
 
-fits_if : (enables v masks : ℕ) (is : Bool) → is_enabled enables v ≡ true → masks < 2 ^ 25 → is ≡ true
-    → (nat_le 2 v && nat_le v 26 && is && not false) && nat_lt masks (2 ^ 25) ≡ true
-fits_if enables v masks is e b t = grind (arith, nat_tests)
+fits_if : (is word : Bool) (masks end : ℕ) → is ≡ true → word ≡ true → masks < end → ((is && word && not false) && nat_lt masks end) ≡ true
+fits_if is word masks end e t b = grind (arith, nat_tests)
 
-vector_fits : (device : Device) (enables v masks : ℕ) → is_enabled enables v ≡ true → masks < 2 ^ 25
-    → fits_kind (Vector v) (vector_word device v) masks false && nat_lt masks (2 ^ 25) ≡ true
-vector_fits device enables v masks e b = fits_if enables v masks (is_vector_word v (vector_word device v)) e b (vector_is device v)
+vector_fits : (device : Device) (enables v masks : ℕ) → is_enabled device enables v ≡ true → masks < 2 ^ enable_count device
+    → fits_kind device (Vector v) (vector_word device v) masks false && nat_lt masks (2 ^ enable_count device) ≡ true
+unfolding is_enabled
+vector_fits device enables v masks e b =
+    fits_if (is_vector device v) (is_vector_word v (vector_word device v)) masks (2 ^ enable_count device) (left_of_and (is_vector device v) _ e) (vector_is device v) b
 
 -- an entered instance fits
-entered_fits : {followed : Bool} (words : Program) (A : List Entry) (n : Node) (way : EdgeKind) (inst : InstKey) (back : ℕ) → IsNodeIn followed n.key n.state → Enters words A n way inst back → fits inst ≡ true
+entered_fits : {followed : Bool} (words : Program) (A : List Entry) (n : Node) (way : EdgeKind) (inst : InstKey) (back : ℕ) → IsNodeIn (device_of words) followed n.key n.state → Enters words A n way inst back → fits (device_of words) inst ≡ true
 entered_fits words A n way inst back node enters = let to = edges_lead_to_nodes.entries words A n way inst back node enters in by way inst back enters to.word to.masks
   where
-    by : (way : EdgeKind) (inst : InstKey) (back : ℕ) → Enters words A n way inst back → inst.entry < WORDS → inst.masks < 2 ^ 25 → fits inst ≡ true
-    by _ _ _ (by_call offset site clean form member) word masks = call_fits _ _ word masks
+    by : (way : EdgeKind) (inst : InstKey) (back : ℕ) → Enters words A n way inst back → inst.entry < limit_of (device_of words) → inst.masks < 2 ^ enable_count (device_of words) → fits (device_of words) inst ≡ true
+    by _ _ _ (by_call offset site clean form member) word masks = call_fits _ (limit_of (device_of words)) _ (2 ^ enable_count (device_of words)) word masks
     by _ _ _ (by_interrupt offset v clears clean form i delay enabled allowed clearable) word masks = vector_fits (device_of words) n.key.masks v _ enabled masks
 
 -- the instance of an edge's target fits if the node's own does
-target_fits : {followed : Bool} (words : Program) (A : List Entry) (nodes : List Node) (n : Node) (e : Edge) → IsNodeIn followed n.key n.state → fits n.key.inst ≡ true → IsEdge words A nodes n e → fits e.to.inst ≡ true
+target_fits : {followed : Bool} (words : Program) (A : List Entry) (nodes : List Node) (n : Node) (e : Edge) → IsNodeIn (device_of words) followed n.key n.state → fits (device_of words) n.key.inst ≡ true → IsEdge words A nodes n e → fits (device_of words) e.to.inst ≡ true
 target_fits words A nodes n _ node own (moving to clean member) =
     let raw = joins_are_least.keys (raw_of words A n).moves to member in
     let same = (local_parts_are_nodes.nodes words A n.key n.state raw.0 node clean raw.1.0).0 in
-    subst (λ (k : InstKey). fits k ≡ true) (sym same ∙ ap (λ (k : NodeKey). k.inst) raw.1.1) own
+    subst (λ (k : InstKey). fits (device_of words) k ≡ true) (sym same ∙ ap (λ (k : NodeKey). k.inst) raw.1.1) own
 target_fits words A nodes n _ node own (entering way inst back enters) = entered_fits words A n way inst back node enters
 target_fits words A nodes n _ node own (returning way inst back leaver x state enters present at clean exit is) = own
 
 module _ (words : Program) (A : List Entry) (n : ℕ) (f : Family) (solved : IsSolved words A n f) where
   abbrev is_fit : NodeKey → Bool
-  is_fit k = fits k.inst
+  is_fit k = fits (device_of words) k.inst
 
   alike : (q x : NodeKey) → node_cmp q x ≡ Equal → is_fit x ≡ is_fit q
   alike q x e = ap is_fit (sym (node_exact q x e))
@@ -97,7 +101,7 @@ module _ (words : Program) (A : List Entry) (n : ℕ) (f : Family) (solved : IsS
       by true t is = (t, is)
       by false t is = absurd (cc)
 
-  h_formed : AreFormed (has_pairs A) h
+  h_formed : AreFormed (device_of words) (has_pairs A) h
   h_formed m has = formed words A n f solved m (parts m.key m.state has).1
 
   h_below : Below h f
@@ -118,9 +122,9 @@ module _ (words : Program) (A : List Entry) (n : ℕ) (f : Family) (solved : IsS
       (record { at = l.at; is = l.is; above = states_are_ordered.through e.state p.landed l.at p.above l.above })
 
   h_root : Lands h (reset_node A)
-  h_root = lands_h (reset_node A) refl (comes_root words A n f solved.comes)
+  h_root = lands_h (reset_node A) (none_fits (2 ^ enable_count (device_of words)) (edges_lead_to_nodes.reset (device_of words) (has_pairs A)).masks) (comes_root words A n f solved.comes)
 
-  pub insts_fit : (inst : InstKey) → FamilyHasInst f inst → fits inst ≡ true
+  pub insts_fit : (inst : InstKey) → FamilyHasInst f inst → fits (device_of words) inst ≡ true
   insts_fit inst has =
       let l = rounds_below words A h h_formed h_clean h_closed h_root n f solved.comes has.0 has.1 in
-      subst (λ (k : InstKey). fits k ≡ true) has.2 (parts has.0.key l.at l.is).0
+      subst (λ (k : InstKey). fits (device_of words) k ≡ true) has.2 (parts has.0.key l.at l.is).0

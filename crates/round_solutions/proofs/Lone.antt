@@ -5,7 +5,7 @@ use Rattle.basics.specs.Items.{contained_at}
 use Rattle.std.proofs.lemmas.Option.{same_Some}
 use Rattle.avr_model.specs.declared.assumption.Entry.{Entry}
 use Rattle.avr_model.specs.Assumptions.{has_pairs}
-use Rattle.avr_model.specs.Devices.{Program}
+use Rattle.avr_model.specs.Devices.{Program, device_of}
 use Rattle.abs_state.specs.declared.state.AbsState.{AbsState}
 use Rattle.abs_state.specs.Order.{IsStateWithin}
 use Rattle.abs_state.proofs.AllLaws.{states_are_ordered, joins_are_formed}
@@ -26,7 +26,7 @@ use Rattle.round_laws.proofs.AllLaws.{at_keys, get_same, get_other, has_member, 
 
 module _ (words : Program) (A : List Entry) where
   -- if an edge of a greater family lands, so does that of the lesser
-  over : {followed : Bool} (g h : Family) → AreFormed followed g → AreFormed followed h → Below g h → HasNoFault words A h → IsClosed words A h → LandIn words A g h
+  over : {followed : Bool} (g h : Family) → AreFormed (device_of words) followed g → AreFormed (device_of words) followed h → Below g h → HasNoFault words A h → IsClosed words A h → LandIn words A g h
   over g h low high below clean closed m e has edge =
       let p = edges_grow.edges words A (nodes_of g) (nodes_of h) m e (formed_nodes g low) (formed_nodes h high) (λ x i. lands_covered h x (below x (has_member g x i)))
       (λ x i. clean x (has_member h x i)) (member_has g m has) edge in
@@ -34,7 +34,7 @@ module _ (words : Program) (A : List Entry) where
       record { at = l.at; is = l.is; above = states_are_ordered.through e.state p.landed l.at p.above l.above }
 
   -- the rounds stay below each closed family without faults that has the root's node
-  pub rounds_below : (h : Family) → AreFormed (has_pairs A) h → HasNoFault words A h → IsClosed words A h → Lands h (reset_node A) → (n : ℕ) (g : Family) → Comes words A n g → Below g h
+  pub rounds_below : (h : Family) → AreFormed (device_of words) (has_pairs A) h → HasNoFault words A h → IsClosed words A h → Lands h (reset_node A) → (n : ℕ) (g : Family) → Comes words A n g → Below g h
   rounds_below h high clean closed root zero g c = subst (λ (x : Family). Below x h) (sym c) (λ m i. first_has A (λ q s. Lands h (record { key = q; state = s })) root m i)
   rounds_below h high clean closed root (suc n) g c =
       let low = comes_formed words A n c.0 c.1 in
@@ -42,7 +42,7 @@ module _ (words : Program) (A : List Entry) where
       c.4.least h below (over c.0 h low high below clean closed)
 
   module _ (n : ℕ) (f : Family) (solved : IsSolved words A n f) where
-    pub formed : AreFormed (has_pairs A) f
+    pub formed : AreFormed (device_of words) (has_pairs A) f
     formed = comes_formed words A n f solved.comes
 
     module _ (k : NodeKey) (m : ℕ) (t : AbsState) (only : IsOnlyFrom words A (nodes_of f) k m) (other : k ≢ entry_key root_inst) (is : get f k ≡ Some t) where
@@ -52,8 +52,8 @@ module _ (words : Program) (A : List Entry) where
       from_member : Contains (nodes_of f) only.node
       from_member = contained_at (nodes_of f) m only.node only.at
 
-      s_node : IsNodeIn (has_pairs A) k s
-      s_node = subst (λ (q : NodeKey). IsNodeIn (has_pairs A) q s) only.leads (edges_lead_to_nodes.edges words A (nodes_of f) only.node only.edge (formed_nodes f formed) from_member only.is)
+      s_node : IsNodeIn (device_of words) (has_pairs A) k s
+      s_node = subst (λ (q : NodeKey). IsNodeIn (device_of words) (has_pairs A) q s) only.leads (edges_lead_to_nodes.edges words A (nodes_of f) only.node only.edge (formed_nodes f formed) from_member only.is)
 
       s_within : IsStateWithin s t
       s_within =
@@ -69,8 +69,8 @@ module _ (words : Program) (A : List Entry) where
           at_keys (λ q. (v : AbsState) → get h q ≡ Some v → P q v) k x.key (λ v e. subst (P k) (same_Some s v (sym (get_same f k s) ∙ e)) here)
           (λ ne v e. others x.key v (sym (get_other f k s x.key ne) ∙ e)) x.state has
 
-      h_formed : AreFormed (has_pairs A) h
-      h_formed = each (IsNodeIn (has_pairs A)) s_node (λ q v e. formed (record { key = q; state = v }) e)
+      h_formed : AreFormed (device_of words) (has_pairs A) h
+      h_formed = each (IsNodeIn (device_of words) (has_pairs A)) s_node (λ q v e. formed (record { key = q; state = v }) e)
 
       h_below : Below h f
       h_below =

@@ -5,18 +5,20 @@ use Rattle.std.proofs.lemmas.List.{length-map}
 use Rattle.std.proofs.lemmas.Option.{same_Some, slice_get_within}
 use Rattle.std.specs.Prelude.{◌↔◌}
 use Rattle.std.specs.FinMap.{entries}
-use Rattle.std.specs.List.{AllByRecursion}
+use Rattle.std.specs.List.{All, AllByRecursion}
 use Rattle.std.specs.List.Sorted.{IsStrictlySortedBy}
 use Rattle.basics.specs.Items.{contained_at}
 use Rattle.basics.specs.Lists.{get_inside, one_at}
 use Rattle.local_laws.proofs.AllLaws.{node_key}
 use Rattle.family_graph.proofs.Graphs.{keys_long}
+use Rattle.avr_model.specs.declared.device.Device.{Device}
 use Rattle.avr_model.specs.declared.assumption.Entry.{Entry}
 use Rattle.avr_model.specs.Assumptions.{has_pairs}
-use Rattle.avr_model.specs.Devices.{Program, device_of, size_of}
+use Rattle.avr_model.specs.Devices.{Program, device_of, size_of, depth_of}
+use Rattle.avr_model.specs.Vectors.{enable_count}
 use Rattle.avr_model.proofs.AllLaws.{devices_are_alike}
 use Rattle.abs_state.specs.declared.state.AbsState.{AbsState}
-use Rattle.vector_table.specs.Entries.{AreEntries}
+use Rattle.vector_table.specs.Entries.{AreEntries, fits_device}
 use Rattle.mask_states.specs.declared.keys.InstKey.{InstKey}
 use Rattle.mask_states.specs.declared.keys.NodeKey.{NodeKey}
 use Rattle.mask_states.specs.Keys.{root_inst}
@@ -99,21 +101,21 @@ no_more (x ∷ xs) = let first : x + 0 ≡ x = omega arith in ap₂ (λ (y : ℕ
 
 -- ---- nodes with their forms
 
-from_all : (followed : Bool) (seeds : Seeds) (start : ℕ) → ((i : ℕ) (e : NodeKey × NodeForm) → slice_get seeds i ≡ Some e → FitsAt followed (start + i) e.0 e.1) → AreFrom followed start seeds
-from_all followed [] start h = tt
-from_all followed (e ∷ es) start h =
+from_all : (device : Device) (followed : Bool) (seeds : Seeds) (start : ℕ) → ((i : ℕ) (e : NodeKey × NodeForm) → slice_get seeds i ≡ Some e → FitsAt device followed (start + i) e.0 e.1) → AreFrom device followed start seeds
+from_all device followed [] start h = tt
+from_all device followed (e ∷ es) start h =
     let first : start + 0 ≡ start = omega arith in (
-      subst (λ (i : ℕ). FitsAt followed i e.0 e.1) first (h zero e refl),
-      from_all followed es (start + 1) (λ i x is. let at : start + suc i ≡ start + 1 + i = omega arith in subst (λ (j : ℕ). FitsAt followed j x.0 x.1) at (h (suc i) x is)),
+      subst (λ (i : ℕ). FitsAt device followed i e.0 e.1) first (h zero e refl),
+      from_all device followed es (start + 1) (λ i x is. let at : start + suc i ≡ start + 1 + i = omega arith in subst (λ (j : ℕ). FitsAt device followed j x.0 x.1) at (h (suc i) x is)),
     )
 
 keys_of_nodes : (es : List (NodeKey × AbsState)) → map key_of (map node_of es) ≡ map (λ (e : NodeKey × AbsState). e.0) es
 keys_of_nodes [] = refl
 keys_of_nodes (e ∷ es) = ap (λ (l : List NodeKey). e.0 ∷ l) (keys_of_nodes es)
 
-fits_both : (a : Bool) (masks : ℕ) → (a && nat_lt masks (2 ^ 25)) ≡ true → (a ≡ true) × (masks < 2 ^ 25)
-fits_both true masks e = (refl, grind (arith, nat_tests))
-fits_both false masks e = absurd (cc)
+fits_both : (a : Bool) (masks end : ℕ) → (a && nat_lt masks end) ≡ true → (a ≡ true) × (masks < end)
+fits_both true masks end e = (refl, grind (arith, nat_tests))
+fits_both false masks end e = absurd (cc)
 
 -- ---- the version
 
@@ -174,8 +176,8 @@ module _ (words : Program) (A : List Entry) (n : ℕ) (f : Family) (insts : List
   pub bound_small : slice_index parts.needs 0 ≤ size_of (device_of words)
   bound_small = let s = solved.passes.shallow in let le = root_need.least s.need s.are in omega (arith, le, s.small)
 
-  bound_fits : slice_index parts.needs 0 ≤ 2048
-  bound_fits = omega (arith, bound_small, devices_are_alike.most_bytes (device_of words))
+  bound_fits : slice_index parts.needs 0 ≤ depth_of (device_of words)
+  bound_fits = omega (arith, bound_small, devices_are_alike.in_depth (device_of words))
 
   bound_is : slice_index parts.needs 0 ≡ need_in insts root_inst
   bound_is =
@@ -201,17 +203,17 @@ module _ (words : Program) (A : List Entry) (n : ℕ) (f : Family) (insts : List
       let g = get_inside gs i (omega (arith, slice_get_within insts i x e, parts.insts_are.count)) in
       (g.0, (g.1, one_at insts i x (inst_of g.0 (slice_index parts.ranks i) (slice_index parts.needs i)) e (parts.insts_are.each i g.0 g.1)))
 
-  is_inst : (i : ℕ) (x : Inst) → slice_get insts i ≡ Some x → IsInst x
+  is_inst : (i : ℕ) (x : Inst) → slice_get insts i ≡ Some x → IsInst (device_of words) x
   is_inst i x e =
       let g = inst_at i x e in
       let lt = slice_get_within gs i g.0 g.1.0 in
       let is = key_is gs i g.0 g.1.0 in
       let has = (has_inst g.0.key).0 (subst (λ (l : List InstKey). Contains l g.0.key) (sym are_keys) (contained_at keys i g.0.key is)) in
-      let fit = fits_both (fits_kind g.0.key.kind g.0.key.entry g.0.key.masks g.0.key.i) g.0.key.masks (insts_fit words A n f solved g.0.key has) in
+      let fit = fits_both (fits_kind (device_of words) g.0.key.kind g.0.key.entry g.0.key.masks g.0.key.i) g.0.key.masks (2 ^ enable_count (device_of words)) (insts_fit words A n f solved g.0.key has) in
       let low = few_ranks gs parts.is_graph parts.ranks parts.needs parts.least i lt in
       let under = rounds_are_least.under_root words A n f (valued keys parts.needs) solved.comes solved.passes.faultless valued_needs g.0.key has in
       let at = valued_at keys parts.needs i g.0.key told.once (omega (arith, lt, parts.least.needs_length)) is in
-      subst IsInst (sym g.1.1)
+      subst (IsInst (device_of words)) (sym g.1.1)
       (record {
         kind = fit.0;
         masks = fit.1;
@@ -227,16 +229,16 @@ module _ (words : Program) (A : List Entry) (n : ℕ) (f : Family) (insts : List
   are_node_keys : node_keys seeds ≡ map key_of (nodes_of f)
   are_node_keys = sym (filled_or_missing.keys words A seeds (nodes_of f) filled_nodes)
 
-  form_fits : (at : ℕ) (m : Node) (form : NodeForm) → IsNodeIn (has_pairs A) m.key m.state → IsForm words A (nodes_of f) at m form → FitsAt (has_pairs A) at m.key form
-  form_fits at m (State s) node h = subst (IsNodeIn (has_pairs A) m.key) (sym h.0) node
+  form_fits : (at : ℕ) (m : Node) (form : NodeForm) → IsNodeIn (device_of words) (has_pairs A) m.key m.state → IsForm words A (nodes_of f) at m form → FitsAt (device_of words) (has_pairs A) at m.key form
+  form_fits at m (State s) node h = subst (IsNodeIn (device_of words) (has_pairs A) m.key) (sym h.0) node
   form_fits at m (From j) node h = (node_key m.key m.state node, h.0)
 
-  fits_at : (at : ℕ) (e : NodeKey × NodeForm) → slice_get seeds at ≡ Some e → FitsAt (has_pairs A) at e.0 e.1
+  fits_at : (at : ℕ) (e : NodeKey × NodeForm) → slice_get seeds at ≡ Some e → FitsAt (device_of words) (has_pairs A) at e.0 e.1
   fits_at at e is =
       let m = get_inside (nodes_of f) at (omega (arith, slice_get_within seeds at e is, parts.forms.count)) in
       let h = parts.forms.each at m.0 m.1 in
       let node = formed words A n f solved m.0 (has_member f m.0 (contained_at (nodes_of f) at m.0 m.1)) in
-      subst (λ (x : NodeKey × NodeForm). FitsAt (has_pairs A) at x.0 x.1) (one_at seeds at (m.0.key, h.0) e h.1.0 is) (form_fits at m.0 h.0 node h.1.1)
+      subst (λ (x : NodeKey × NodeForm). FitsAt (device_of words) (has_pairs A) at x.0 x.1) (one_at seeds at (m.0.key, h.0) e h.1.0 is) (form_fits at m.0 h.0 node h.1.1)
 
   belongs : (i : ℕ) (k : NodeKey) → slice_get (map key_of (nodes_of f)) i ≡ Some k → Belongs insts k
   belongs i k e =
@@ -244,14 +246,15 @@ module _ (words : Program) (A : List Entry) (n : ℕ) (f : Family) (insts : List
       let same = one_at (map key_of (nodes_of f)) i m.0.key k (key_at (nodes_of f) i m.0 m.1) e in
       (has_inst k.inst).1 (m.0, has_member f m.0 (contained_at (nodes_of f) i m.0 m.1), ap (λ (q : NodeKey). q.inst) same)
 
-  pub claim : AreEntries A → IsClaim (claim_of (slice_index parts.needs 0) A insts seeds)
-  claim entries_fit = record {
+  pub claim : AreEntries A → All (λ e. fits_device (device_of words) e ≡ true) A → IsClaim (claim_of (device_of words) (slice_index parts.needs 0) A insts seeds)
+  claim entries_fit entries_of_device = record {
     bound_fits = bound_fits;
     entries_fit = entries_fit;
-    insts_fit = all_of IsInst insts is_inst;
+    entries_of_device = entries_of_device;
+    insts_fit = all_of (IsInst (device_of words)) insts is_inst;
     insts_ascend = subst (IsStrictlySortedBy inst_cmp) (sym are_keys) parts.of.ascending;
     few_insts = omega (arith, few_graph, parts.insts_are.count);
-    nodes_fit = from_all (has_pairs A) seeds 0 (λ i e is. let at : i ≡ 0 + i = omega arith in subst (λ (j : ℕ). FitsAt (has_pairs A) j e.0 e.1) at (fits_at i e is));
+    nodes_fit = from_all (device_of words) (has_pairs A) seeds 0 (λ i e is. let at : i ≡ 0 + i = omega arith in subst (λ (j : ℕ). FitsAt (device_of words) (has_pairs A) j e.0 e.1) at (fits_at i e is));
     nodes_belong = subst (AllByRecursion (Belongs insts)) (sym are_node_keys) (all_of (Belongs insts) (map key_of (nodes_of f)) belongs);
     nodes_ascend = subst (IsStrictlySortedBy node_cmp) (sym are_node_keys) (ascending f);
     few_nodes = omega (arith, parts.forms.count, few words A n f solved);
@@ -260,8 +263,9 @@ module _ (words : Program) (A : List Entry) (n : ℕ) (f : Family) (insts : List
     of_list = written_third (has_pairs A);
   }
 
-  pub solution : IsSolution words A f (claim_of (slice_index parts.needs 0) A insts seeds)
+  pub solution : IsSolution words A f (claim_of (device_of words) (slice_index parts.needs 0) A insts seeds)
   solution = record {
+    device = refl;
     version = refl;
     expands = filled_nodes;
     sparse = sparse words A f seeds parts.forms;
@@ -278,6 +282,6 @@ module _ (words : Program) (A : List Entry) (n : ℕ) (f : Family) (insts : List
 pub solutions_are_made : SolutionsAreMade
 solutions_are_made = record {
   bound = λ words A n f insts seeds solved parts. bound_small words A n f insts seeds solved parts;
-  claim = λ words A n f insts seeds fit solved parts. claim words A n f insts seeds solved parts fit;
+  claim = λ words A n f insts seeds fit of solved parts. claim words A n f insts seeds solved parts fit of;
   solution = λ words A n f insts seeds solved parts. solution words A n f insts seeds solved parts;
 }

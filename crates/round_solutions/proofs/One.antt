@@ -59,6 +59,9 @@ module _ (words : Program) (A : List Entry) (f : Family) (c d : Claim) (claim_c 
   nodes : c.nodes ≡ d.nodes
   nodes = same_seeds c.nodes d.nodes (sym (filled_or_missing.keys words A c.nodes (nodes_of f) has_c.expands) ∙ filled_or_missing.keys words A d.nodes (nodes_of f) has_d.expands) forms
 
+  devices : c.device ≡ d.device
+  devices = has_c.device ∙ sym has_d.device
+
   versions : c.version ≡ d.version
   versions = has_c.version ∙ sym has_d.version
 
@@ -71,18 +74,19 @@ module _ (words : Program) (A : List Entry) (f : Family) (c d : Claim) (claim_c 
   unwitnessed : c.witness ≡ d.witness
   unwitnessed = has_c.unwitnessed ∙ sym has_d.unwitnessed
 
-claim_is : (c d : Claim) → c.version ≡ d.version → c.bound ≡ d.bound → c.assumptions ≡ d.assumptions → c.instances ≡ d.instances → c.nodes ≡ d.nodes → c.witness ≡ d.witness → c ≡ d
-claim_is c d v a b e f g =
-    ap (λ x. record { version = x; bound = c.bound; assumptions = c.assumptions; instances = c.instances; nodes = c.nodes; witness = c.witness }) v
-    ∙ ap (λ x. record { version = d.version; bound = x; assumptions = c.assumptions; instances = c.instances; nodes = c.nodes; witness = c.witness }) a
-    ∙ ap (λ x. record { version = d.version; bound = d.bound; assumptions = x; instances = c.instances; nodes = c.nodes; witness = c.witness }) b
-    ∙ ap (λ x. record { version = d.version; bound = d.bound; assumptions = d.assumptions; instances = x; nodes = c.nodes; witness = c.witness }) e
-    ∙ ap (λ x. record { version = d.version; bound = d.bound; assumptions = d.assumptions; instances = d.instances; nodes = x; witness = c.witness }) f
-    ∙ ap (λ x. record { version = d.version; bound = d.bound; assumptions = d.assumptions; instances = d.instances; nodes = d.nodes; witness = x }) g
+claim_is : (c d : Claim) → c.device ≡ d.device → c.version ≡ d.version → c.bound ≡ d.bound → c.assumptions ≡ d.assumptions → c.instances ≡ d.instances → c.nodes ≡ d.nodes → c.witness ≡ d.witness → c ≡ d
+claim_is c d z v a b e f g =
+    ap (λ x. record { device = x; version = c.version; bound = c.bound; assumptions = c.assumptions; instances = c.instances; nodes = c.nodes; witness = c.witness }) z
+    ∙ ap (λ x. record { device = d.device; version = x; bound = c.bound; assumptions = c.assumptions; instances = c.instances; nodes = c.nodes; witness = c.witness }) v
+    ∙ ap (λ x. record { device = d.device; version = d.version; bound = x; assumptions = c.assumptions; instances = c.instances; nodes = c.nodes; witness = c.witness }) a
+    ∙ ap (λ x. record { device = d.device; version = d.version; bound = d.bound; assumptions = x; instances = c.instances; nodes = c.nodes; witness = c.witness }) b
+    ∙ ap (λ x. record { device = d.device; version = d.version; bound = d.bound; assumptions = d.assumptions; instances = x; nodes = c.nodes; witness = c.witness }) e
+    ∙ ap (λ x. record { device = d.device; version = d.version; bound = d.bound; assumptions = d.assumptions; instances = d.instances; nodes = x; witness = c.witness }) f
+    ∙ ap (λ x. record { device = d.device; version = d.version; bound = d.bound; assumptions = d.assumptions; instances = d.instances; nodes = d.nodes; witness = x }) g
 
 solution : (words : Program) (A : List Entry) (f : Family) (c d : Claim) → IsClaim c → IsClaim d → IsSolution words A f c → IsSolution words A f d → c ≡ d
 solution words A f c d p q h i =
-    claim_is c d (versions words A f c d p q h i) (bounds words A f c d p q h i) (assumed words A f c d p q h i) (insts words A f c d p q h i) (nodes words A f c d p q h i) (unwitnessed words A f c d p q h i)
+    claim_is c d (devices words A f c d p q h i) (versions words A f c d p q h i) (bounds words A f c d p q h i) (assumed words A f c d p q h i) (insts words A f c d p q h i) (nodes words A f c d p q h i) (unwitnessed words A f c d p q h i)
 
 answer : (words : Program) (A : List Entry) (steps : Option ℕ) (c d : Claim) → IsClaim c → IsClaim d → IsAnswer words A steps c → IsAnswer words A steps d → c ≡ d
 answer words A steps c d p q h i =

@@ -1,10 +1,11 @@
 -- Laws of the certificates of solved families.
-use Rattle.std.specs.Prelude.{ℕ, ◌≡◌, ◌≢◌, ◌<◌, ◌≤◌, List, length, Some, Contains, slice_index}
+use Rattle.std.specs.Prelude.{ℕ, ◌≡◌, ◌≢◌, ◌<◌, ◌≤◌, true, List, length, Some, Contains, slice_index}
+use Rattle.std.specs.List.{All}
 use Rattle.std.specs.FinMap.{get}
 use Rattle.avr_model.specs.declared.assumption.Entry.{Entry}
 use Rattle.avr_model.specs.Devices.{Program, device_of, size_of}
 use Rattle.abs_state.specs.declared.state.AbsState.{AbsState}
-use Rattle.vector_table.specs.Entries.{AreEntries}
+use Rattle.vector_table.specs.Entries.{AreEntries, fits_device}
 use Rattle.mask_states.specs.declared.keys.EdgeKind.TheVariants.{Local}
 use Rattle.mask_states.specs.declared.keys.NodeKey.{NodeKey}
 use Rattle.mask_states.specs.Keys.{root_inst, entry_key}
@@ -27,7 +28,7 @@ use Rattle.round_solutions.specs.Parts.{AreForms, AreCertificateParts, claim_of}
 
 -- A solved family has 1 to 65,536 nodes, ascending by key, none with a fault, and each entered instance has its first node.
 pub record SolvedFamiliesAreShown : Type 0 where
-  pub shown : (words : Program) (A : List Entry) (n : ℕ) (f : Family) → IsSolved words A n f → AreShown (nodes_of f)
+  pub shown : (words : Program) (A : List Entry) (n : ℕ) (f : Family) → IsSolved words A n f → AreShown (device_of words) (nodes_of f)
   pub some : (words : Program) (A : List Entry) (n : ℕ) (f : Family) → IsSolved words A n f → 0 < length (nodes_of f)
   pub few : (words : Program) (A : List Entry) (n : ℕ) (f : Family) → IsSolved words A n f → length (nodes_of f) ≤ 65536
   pub faultless : (words : Program) (A : List Entry) (n : ℕ) (f : Family) → IsSolved words A n f → (m : Node) → Contains (nodes_of f) m → IsFaultless words A m
@@ -53,7 +54,7 @@ GraphsAreAcyclic = (words : Program) (A : List Entry) (n : ℕ) (f : Family) (gs
 pub record SolutionsAreMade : Type 0 where
   pub bound : (words : Program) (A : List Entry) (n : ℕ) (f : Family) (insts : List Inst) (seeds : Seeds) → IsSolved words A n f
       → (parts : AreCertificateParts words A f insts seeds) → slice_index parts.needs 0 ≤ size_of (device_of words)
-  pub claim : (words : Program) (A : List Entry) (n : ℕ) (f : Family) (insts : List Inst) (seeds : Seeds) → AreEntries A → IsSolved words A n f
-      → (parts : AreCertificateParts words A f insts seeds) → IsClaim (claim_of (slice_index parts.needs 0) A insts seeds)
+  pub claim : (words : Program) (A : List Entry) (n : ℕ) (f : Family) (insts : List Inst) (seeds : Seeds) → AreEntries A → All (λ e. fits_device (device_of words) e ≡ true) A → IsSolved words A n f
+      → (parts : AreCertificateParts words A f insts seeds) → IsClaim (claim_of (device_of words) (slice_index parts.needs 0) A insts seeds)
   pub solution : (words : Program) (A : List Entry) (n : ℕ) (f : Family) (insts : List Inst) (seeds : Seeds) → IsSolved words A n f
-      → (parts : AreCertificateParts words A f insts seeds) → IsSolution words A f (claim_of (slice_index parts.needs 0) A insts seeds)
+      → (parts : AreCertificateParts words A f insts seeds) → IsSolution words A f (claim_of (device_of words) (slice_index parts.needs 0) A insts seeds)

@@ -1,5 +1,6 @@
 -- The parts of a family's certificate. Source: own.
 use Rattle.std.specs.Prelude.{ℕ, ◌≡◌, ◌<◌, List, length, None, Some, slice_get, slice_index}
+use Rattle.avr_model.specs.declared.device.Device.{Device}
 use Rattle.avr_model.specs.declared.assumption.Entry.{Entry}
 use Rattle.avr_model.specs.Devices.{Program}
 use Rattle.local_rules.specs.declared.local.Node.{Node}
@@ -53,6 +54,6 @@ pub record AreCertificateParts (words : Program) (A : List Entry) (f : Family) (
   pub insts_are : AreInsts graph ranks needs insts
   pub forms : AreForms words A (nodes_of f) seeds
 
--- the certificate of these parts with this bound, without a schedule, in the version for the assumptions
-abbrev pub claim_of : ℕ → List Entry → List Inst → Seeds → Claim
-claim_of bound A insts seeds = record { version = written_version A; bound = bound; assumptions = A; instances = insts; nodes = seeds; witness = None }
+-- the certificate of these parts for this device with this bound, without a schedule, in the version for the assumptions
+abbrev pub claim_of : Device → ℕ → List Entry → List Inst → Seeds → Claim
+claim_of device bound A insts seeds = record { device = device; version = written_version A; bound = bound; assumptions = A; instances = insts; nodes = seeds; witness = None }

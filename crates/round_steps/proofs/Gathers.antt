@@ -5,6 +5,7 @@ use Rattle.std.proofs.lemmas.List.Elements.{Contains-append_left, Contains-push,
 use Rattle.std.specs.FinMap.{get, empty, get-empty}
 use Rattle.basics.specs.Items.{none_in, first_in}
 use Rattle.std.proofs.lemmas.Option.{same_Some}
+use Rattle.avr_model.specs.declared.device.Device.{Device}
 use Rattle.abs_state.specs.declared.state.AbsState.{AbsState}
 use Rattle.abs_state.specs.Order.{IsStateWithin}
 use Rattle.abs_state.proofs.AllLaws.{states_are_ordered}
@@ -14,12 +15,11 @@ use Rattle.local_rules.specs.declared.local.Node.{Node}
 use Rattle.local_rules.specs.Cover.{IsNodeIn}
 use Rattle.local_laws.specs.Laws.{AreNodesIn}
 use Rattle.local_laws.proofs.AllLaws.{each_of}
-use Rattle.edge_rules.specs.Views.{IsOwnNode}
 use Rattle.call_graph.specs.Next.{gathered}
 use Rattle.round_rules.specs.Families.{Family, nodes_of, FamilyHas, Lands, AreFormed}
 use Rattle.round_laws.specs.Steps.{joined_with, raised, AreJoined}
 use Rattle.round_laws.proofs.AllLaws.{families_are_their_nodes, rounds_are_joins, lands_up, lands_covered, at_keys, get_other}
-use Rattle.round_steps.specs.Gathers.{AreOwn, AreOwnNodes, IsTargetGathered, AreTargetsGathered, AreBeyond}
+use Rattle.round_steps.specs.Gathers.{IsOwn, AreOwn, AreOwnNodes, IsTargetGathered, AreTargetsGathered, AreBeyond}
 
 pub on_ok : {V E P Q : Type 0} (r : Result V E) → OnOk r P → (P → Q) → OnOk r Q
 on_ok (Ok v) p f = f p
@@ -30,20 +30,20 @@ if_ok (Ok v) p f = f v p
 if_ok (Err e) p f = p
 
 -- a node's state determines whether it follows pairs
-pub own_node : {followed : Bool} (k : NodeKey) (s : AbsState) → IsNodeIn followed k s → IsOwnNode k s
-own_node k s node = subst (λ (m : Bool). IsNodeIn m k s) (sym node.mode) node
+pub own_node : {device : Device} {followed : Bool} (k : NodeKey) (s : AbsState) → IsNodeIn device followed k s → IsOwn k s
+own_node {device = device} k s node = (device, subst (λ (m : Bool). IsNodeIn device m k s) (sym node.mode) node)
 
-pub formed_own : {followed : Bool} (f : Family) → AreFormed followed f → AreOwn f
+pub formed_own : {device : Device} {followed : Bool} (f : Family) → AreFormed device followed f → AreOwn f
 formed_own f formed n has = own_node n.key n.state (formed n has)
 
-pub nodes_own : {followed : Bool} (ns : List Node) → AreNodesIn followed ns → AreOwnNodes ns
+pub nodes_own : {device : Device} {followed : Bool} (ns : List Node) → AreNodesIn device followed ns → AreOwnNodes ns
 nodes_own ns nodes n i = own_node n.key n.state (nodes n i)
 
 nothing_there : (n : Node) → FamilyHas empty n → ⊥
 nothing_there n has = let never = sym (get-empty {X = AbsState} node_cmp n.key) ∙ has in cc
 
-pub none_gathered : (followed : Bool) (f : Family) → AreTargetsGathered followed f [] empty
-none_gathered followed f = record {
+pub none_gathered : (device : Device) (followed : Bool) (f : Family) → AreTargetsGathered device followed f [] empty
+none_gathered device followed f = record {
   formed = λ n has. absurd (nothing_there n has);
   each = λ to i. absurd (none_in to i);
   least = λ h lands n has. absurd (nothing_there n has);
@@ -55,8 +55,8 @@ lands_below : (f : Family) (n m : Node) → m.key ≡ n.key → IsStateWithin n.
 lands_below f n m same below l =
     record { at = l.at; is = subst (λ (k : NodeKey). get f k ≡ Some l.at) same l.is; above = states_are_ordered.through n.state m.state l.at below l.above }
 
-module _ (followed : Bool) (f old : Family) (all : List Node) (n : Node) (node : IsNodeIn followed n.key n.state) (g : AreTargetsGathered followed f all old) where
-  lands_already : Lands f n → AreTargetsGathered followed f (all ++ n ∷ []) old
+module _ (device : Device) (followed : Bool) (f old : Family) (all : List Node) (n : Node) (node : IsNodeIn device followed n.key n.state) (g : AreTargetsGathered device followed f all old) where
+  lands_already : Lands f n → AreTargetsGathered device followed f (all ++ n ∷ []) old
   lands_already l = record {
     formed = g.formed;
     each = λ to i. ⊎_elim (g.each to) (λ same. inl (subst (Lands f) same l)) (Contains-push_cases all n to i);
@@ -64,8 +64,8 @@ module _ (followed : Bool) (f old : Family) (all : List Node) (n : Node) (node :
     beyond = g.beyond;
   }
 
-  joined : AreJoined followed old (n ∷ []) (raised old n)
-  joined = rounds_are_joins.joined old (n ∷ []) g.formed (each_of (λ m. IsNodeIn followed m.key m.state) n [] node (λ m i. absurd (none_in m i)))
+  joined : AreJoined device followed old (n ∷ []) (raised old n)
+  joined = rounds_are_joins.joined old (n ∷ []) g.formed (each_of (λ m. IsNodeIn device followed m.key m.state) n [] node (λ m i. absurd (none_in m i)))
 
   landed : Lands (raised old n) n
   landed = joined.lands n (first_in n [])
@@ -77,7 +77,7 @@ module _ (followed : Bool) (f old : Family) (all : List Node) (n : Node) (node :
       never (lands_below f n (record { key = n.key; state = s }) refl (subst (IsStateWithin n.state) (same_Some landed.at s (sym landed.is ∙ e)) landed.above) l))
       (λ ne s e l. g.beyond (record { key = m.key; state = s }) (sym (get_other old n.key (joined_with (get old n.key) n.state) m.key ne) ∙ e) l) m.state has
 
-  joins_in : (Lands f n → ⊥) → AreTargetsGathered followed f (all ++ n ∷ []) (raised old n)
+  joins_in : (Lands f n → ⊥) → AreTargetsGathered device followed f (all ++ n ∷ []) (raised old n)
   joins_in never = record {
     formed = joined.formed;
     each = λ to i. ⊎_elim (λ j. ⊎_elim (λ l. inl l) (λ l. inr (lands_up old (raised old n) to joined.above l)) (g.each to j))
@@ -87,9 +87,9 @@ module _ (followed : Bool) (f old : Family) (all : List Node) (n : Node) (node :
     beyond = beyond_still never;
   }
 
-  pub one_gathered : (new : Family) → IsTargetGathered f old n new → AreTargetsGathered followed f (all ++ n ∷ []) new
+  pub one_gathered : (new : Family) → IsTargetGathered f old n new → AreTargetsGathered device followed f (all ++ n ∷ []) new
   one_gathered new is =
-      ⊎_elim (λ p. subst (AreTargetsGathered followed f (all ++ n ∷ [])) (sym p.1) (lands_already p.0)) (λ p. subst (AreTargetsGathered followed f (all ++ n ∷ [])) (sym p.1) (joins_in p.0)) is
+      ⊎_elim (λ p. subst (AreTargetsGathered device followed f (all ++ n ∷ [])) (sym p.1) (lands_already p.0)) (λ p. subst (AreTargetsGathered device followed f (all ++ n ∷ [])) (sym p.1) (joins_in p.0)) is
 
 -- ---- look by look
 
@@ -98,8 +98,8 @@ gathered_push f [] x = append-nil (f x)
 gathered_push f (y ∷ ys) x = ap (λ l. f y ++ l) (gathered_push f ys x) ∙ sym (append_assoc (f y) (gathered f ys) (f x))
 
 -- the gathered nodes
-pub are_beyond : (followed : Bool) (f : Family) (all : List Node) (g : Family) → AreTargetsGathered followed f all g → AreBeyond followed f all (nodes_of g)
-are_beyond followed f all g a = record {
+pub are_beyond : (device : Device) (followed : Bool) (f : Family) (all : List Node) (g : Family) → AreTargetsGathered device followed f all g → AreBeyond device followed f all (nodes_of g)
+are_beyond device followed f all g a = record {
   nodes = λ n i. a.formed n ((families_are_their_nodes.members g n).0 i);
   each = λ to i. ⊎_elim (λ l. inl l) (λ l. inr (lands_covered g to l)) (a.each to i);
   least = λ h lands n i. a.least h lands n ((families_are_their_nodes.members g n).0 i);

@@ -91,14 +91,14 @@ none_yet f count all counted fit fresh apart = record {
   fresh = fresh;
   apart = apart;
   fit = fit;
-  formed = λ followed formed nodes. (formed, nodes);
+  formed = λ device followed formed nodes. (formed, nodes);
   keys = refl;
   kept = λ k apart. refl;
   more = omega arith;
 }
 
 module _ (f : Family) (all : List Node) (g : Family) (n : Node) (left : List Node) (changed : List NodeKey) (before : ℕ) (so : AreJoinedSoFar f all g before (n ∷ left) changed) where
-  node : IsNodeIn so.fit.followed n.key n.state
+  node : IsNodeIn so.fit.device so.fit.followed n.key n.state
   node = so.fit.nodes n (first_in n left)
 
   other : (k : NodeKey) → k ≢ n.key → get (raised g n) k ≡ get g k
@@ -109,7 +109,7 @@ module _ (f : Family) (all : List Node) (g : Family) (n : Node) (left : List Nod
   higher = ⊎_elim (λ same. absurd (so.fresh n (first_in n left) (subst (λ h. Lands h n) same landed))) (λ lt. lt) (rounds_are_joins.rises g n so.fit.formed node)
     where
       landed : Lands (raised g n) n
-      landed = (rounds_are_joins.joined g (n ∷ []) so.fit.formed (each_of (λ m. IsNodeIn so.fit.followed m.key m.state) n [] node (λ m i. absurd (none_in m i)))).lands n (first_in n [])
+      landed = (rounds_are_joins.joined g (n ∷ []) so.fit.formed (each_of (λ m. IsNodeIn so.fit.device so.fit.followed m.key m.state) n [] node (λ m i. absurd (none_in m i)))).lands n (first_in n [])
 
   more_joined : (count : ℕ) → count ≡ cells (raised g n) → AreJoinedSoFar f all (raised g n) count left (changed ++ n.key ∷ [])
   more_joined count counted = record {
@@ -119,12 +119,13 @@ module _ (f : Family) (all : List Node) (g : Family) (n : Node) (left : List Nod
         so.fresh x (there n x left i) (record { at = l.at; is = sym (other x.key (so.apart.0 x i)) ∙ l.is; above = l.above });
     apart = so.apart.1;
     fit = record {
+      device = so.fit.device;
       followed = so.fit.followed;
       formed = rounds_are_joins.formed g n so.fit.formed node;
       nodes = λ x i. so.fit.nodes x (there n x left i);
     };
-    formed = λ followed formed nodes.
-        let now = so.formed followed formed nodes in
+    formed = λ device followed formed nodes.
+        let now = so.formed device followed formed nodes in
         (rounds_are_joins.formed g n now.0 (now.1 n (first_in n left)), λ x i. now.1 x (there n x left i));
     keys = append_assoc changed (n.key ∷ []) (keys_of left) ∙ so.keys;
     kept = λ k apart.

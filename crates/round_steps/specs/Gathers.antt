@@ -1,5 +1,8 @@
 -- The targets of a family's edges that do not land in it, joined by key.
 use Rattle.std.specs.Prelude.{Bool, ◌≡◌, ◌⊎◌, List, Contains}
+use Rattle.avr_model.specs.declared.device.Device.{Device}
+use Rattle.abs_state.specs.declared.state.AbsState.{AbsState}
+use Rattle.mask_states.specs.declared.keys.NodeKey.{NodeKey}
 use Rattle.local_rules.specs.declared.local.Node.{Node}
 use Rattle.local_laws.specs.Laws.{AreNodesIn}
 use Rattle.edge_rules.specs.Families.{IsCovered}
@@ -7,28 +10,32 @@ use Rattle.edge_rules.specs.Views.{IsOwnNode}
 use Rattle.round_rules.specs.Families.{Family, FamilyHas, Lands, Below, AreFormed}
 use Rattle.round_laws.specs.Steps.{raised, HaveOwnKeys}
 
--- nodes of the analysis, which follow pairs if their own state does: of a family, and of a list
+-- a node of the analysis of some device, which follows pairs if its state does
+abbrev pub IsOwn : NodeKey → AbsState → Type 0
+IsOwn k s = (device : Device) × IsOwnNode device k s
+
+-- such nodes: of a family, and of a list
 abbrev pub AreOwn : Family → Type 0
-AreOwn f = (n : Node) → FamilyHas f n → IsOwnNode n.key n.state
+AreOwn f = (n : Node) → FamilyHas f n → IsOwn n.key n.state
 
 abbrev pub AreOwnNodes : List Node → Type 0
-AreOwnNodes ns = (n : Node) → Contains ns n → IsOwnNode n.key n.state
+AreOwnNodes ns = (n : Node) → Contains ns n → IsOwn n.key n.state
 
 -- joins the node into the gathered ones, unless it lands in the family f
 abbrev pub IsTargetGathered : Family → Family → Node → Family → Type 0
 IsTargetGathered f old n new = (Lands f n × (new ≡ old)) ⊎ ((Lands f n → ⊥) × (new ≡ raised old n))
 
 -- g is the join by key of those nodes that do not land in f, and has no other nodes: none of its nodes lands in f
-pub record AreTargetsGathered (followed : Bool) (f : Family) (all : List Node) (g : Family) : Type 0 where
-  pub formed : AreFormed followed g
+pub record AreTargetsGathered (device : Device) (followed : Bool) (f : Family) (all : List Node) (g : Family) : Type 0 where
+  pub formed : AreFormed device followed g
   pub each : (to : Node) → Contains all to → Lands f to ⊎ Lands g to
   pub least : (h : Family) → ((to : Node) → Contains all to → Lands h to) → Below g h
   pub beyond : (n : Node) → FamilyHas g n → Lands f n → ⊥
 
 -- The items are the join by key of those nodes that do not land in f: each node lands in f or is below an item, the items land wherever
 -- all nodes do, and no item lands in f.
-pub record AreBeyond (followed : Bool) (f : Family) (all items : List Node) : Type 0 where
-  pub nodes : AreNodesIn followed items
+pub record AreBeyond (device : Device) (followed : Bool) (f : Family) (all items : List Node) : Type 0 where
+  pub nodes : AreNodesIn device followed items
   pub each : (to : Node) → Contains all to → Lands f to ⊎ IsCovered items to
   pub least : (h : Family) → ((to : Node) → Contains all to → Lands h to) → (n : Node) → Contains items n → Lands h n
   pub beyond : (n : Node) → Contains items n → Lands f n → ⊥

@@ -1,6 +1,7 @@
 -- What a join of nodes into a family changes.
 use Rattle.std.specs.Prelude.{ℕ, Bool, ◌+◌, ◌≡◌, ◌≤◌, List, ◌++◌, map, length, Contains}
 use Rattle.std.specs.FinMap.{get}
+use Rattle.avr_model.specs.declared.device.Device.{Device}
 use Rattle.mask_states.specs.declared.keys.NodeKey.{NodeKey}
 use Rattle.local_rules.specs.declared.local.Node.{Node}
 use Rattle.local_laws.specs.Laws.{AreNodesIn}
@@ -18,11 +19,12 @@ AreNew f ns = (n : Node) → Contains ns n → Lands f n → ⊥
 abbrev pub KeptBut : Family → Family → List NodeKey → Type 0
 KeptBut f g changed = (k : NodeKey) → (Contains changed k → ⊥) → get g k ≡ get f k
 
--- the family's nodes and these are nodes of the analysis: all follow pairs, or none does
+-- the family's nodes and these are nodes of the analysis of one device: all follow pairs, or none does
 pub record FitTogether (f : Family) (ns : List Node) : Type 0 where
+  pub device : Device
   pub followed : Bool
-  pub formed : AreFormed followed f
-  pub nodes : AreNodesIn followed ns
+  pub formed : AreFormed device followed f
+  pub nodes : AreNodesIn device followed ns
 
 -- g is f with some of the nodes joined, and the others are left
 pub record AreJoinedSoFar (f : Family) (all : List Node) (g : Family) (count : ℕ) (left : List Node) (changed : List NodeKey) : Type 0 where
@@ -31,7 +33,7 @@ pub record AreJoinedSoFar (f : Family) (all : List Node) (g : Family) (count : �
   pub fresh : AreNew g left
   pub apart : HaveOwnKeys left
   pub fit : FitTogether g left
-  pub formed : (followed : Bool) → AreFormed followed f → AreNodesIn followed all → AreFormed followed g × AreNodesIn followed left
+  pub formed : (device : Device) (followed : Bool) → AreFormed device followed f → AreNodesIn device followed all → AreFormed device followed g × AreNodesIn device followed left
   pub keys : changed ++ keys_of left ≡ keys_of all
   pub kept : KeptBut f g changed
   pub more : weight f + length changed ≤ weight g

@@ -1,10 +1,11 @@
 //! Nodes joined into a family.
 
 ghost use Rattle.std.specs.Prelude.{Bool, ◌≡◌, ◌+◌, ◌≤◌, ◌++◌, ◌∷◌, [], length, IfOk, OnOk};
+ghost use Rattle.avr_model.specs.declared.device.Device.{Device};
 ghost use Rattle.local_laws.specs.Laws.{AreNodesIn};
-ghost use Rattle.edge_rules.specs.Views.{IsOwnNode};
 ghost use Rattle.round_rules.specs.Families.{AreFormed, cells};
 ghost use Rattle.round_laws.specs.Steps.{raised, raised_all, HaveOwnKeys, weight};
+ghost use Rattle.round_steps.specs.Gathers.{IsOwn};
 ghost use Rattle.round_steps.specs.Joins.{keys_of, AreNew, FitTogether, KeptBut};
 
 use local_rules::Node;
@@ -21,7 +22,7 @@ fn join_one(
     node: Node,
 ) -> Result<(), AllocError>
     requires count { counted.old ≡ cells table.old }
-    requires node { IsOwnNode node.key node.state }
+    requires node { IsOwn node.key node.state }
     ensures joined { OnOk result (table.new ≡ raised table.old node) }
     ensures count { OnOk result (counted.new ≡ cells table.new) }
     ensures key { OnOk result (changed.new.items ≡ changed.old.items ++ node.key ∷ []) }
@@ -53,7 +54,7 @@ pub fn join_all(
     requires apart { HaveOwnKeys nodes.items }
     ensures joined { OnOk result (table.new ≡ raised_all table.old nodes.items) }
     ensures count { OnOk result (counted.new ≡ cells table.new) }
-    ensures formed { (followed : Bool) → AreFormed followed table.old → AreNodesIn followed nodes.items → OnOk result (AreFormed followed table.new) }
+    ensures formed { (device : Device) (followed : Bool) → AreFormed device followed table.old → AreNodesIn device followed nodes.items → OnOk result (AreFormed device followed table.new) }
     ensures keys { IfOk result (λ changed. changed.items ≡ keys_of nodes.items) }
     ensures kept { IfOk result (λ changed. KeptBut table.old table.new changed.items) }
     ensures more { IfOk result (λ changed. weight table.old + length changed.items ≤ weight table.new) }

@@ -3,6 +3,7 @@
 ghost use Rattle.std.specs.Prelude.{◌≡◌, ◌≢◌, ◌++◌, ◌∷◌, [], List, Ok, Err, IfOk, IfErr, OnOk};
 ghost use Rattle.mask_states.specs.declared.keys.NodeKey as key_type;
 ghost use Rattle.local_rules.specs.declared.local.NodeFault.TheVariants.{Memory};
+ghost use Rattle.avr_model.specs.Devices.{device_of};
 ghost use Rattle.avr_model.specs.Assumptions.{has_pairs};
 ghost use Rattle.local_rules.specs.Cover.{IsNodeIn};
 ghost use Rattle.local_rules.specs.Local as rows;
@@ -42,7 +43,7 @@ pub struct Seen {
 
 // The result of a visit, or the node's fault.
 fn found_at(task: &Task<'_>, key: &NodeKey, state: &AbsState) -> Result<Look, NodeFault>
-    requires { IsNodeIn (has_pairs task.now.assumptions.now) key.now state.now }
+    requires { IsNodeIn (device_of task.now.flash.now) (has_pairs task.now.assumptions.now) key.now state.now }
     ensures key { IfOk result (λ x. x.key ≡ key.now) }
     ensures part { IfOk result (λ x. rows.local task.now.flash.now task.now.assumptions.now key.now state.now ≡ Ok x.part) }
     ensures ways { IfOk result (λ x. x.ways.items ≡ ways_of task.now.flash.now task.now.assumptions.now key.now x.part.calls) }
@@ -113,7 +114,7 @@ fn see(seen: &mut Seen, found: Result<Look, NodeFault>) -> Result<(), AllocError
 
 // Visits one more node, if the family has it.
 fn look_at(seen: &mut Seen, task: &Task<'_>, table: &Table, key: &NodeKey) -> Result<(), AllocError>
-    requires { AreFormed (has_pairs task.now.assumptions.now) table.now }
+    requires { AreFormed (device_of task.now.flash.now) (has_pairs task.now.assumptions.now) table.now }
     ensures { (keys : List key_type.NodeKey) → AreSeen task.now.flash.now task.now.assumptions.now table.now keys seen.old → OnOk result (AreSeen task.now.flash.now task.now.assumptions.now table.now (keys ++ key.now ∷ []) seen.new) }
 {
     let Some(state) = table.get(key) else {
@@ -125,7 +126,7 @@ fn look_at(seen: &mut Seen, task: &Task<'_>, table: &Table, key: &NodeKey) -> Re
 
 /// Visits these nodes of a family: their results, or the fault that counts.
 pub fn look_all(task: &Task<'_>, table: &Table, keys: &[NodeKey]) -> Result<Seen, AllocError>
-    requires { AreFormed (has_pairs task.now.assumptions.now) table.now }
+    requires { AreFormed (device_of task.now.flash.now) (has_pairs task.now.assumptions.now) table.now }
     ensures { IfOk result (λ seen. AreSeen task.now.flash.now task.now.assumptions.now table.now keys.now seen) }
 {
     let mut seen = Seen {

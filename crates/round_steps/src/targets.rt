@@ -1,13 +1,13 @@
 //! The targets of edges.
 
 ghost use Rattle.std.specs.Prelude.{ℕ, Bool, ◌≡◌, ◌<◌, ◌++◌, List, map, OnOk, IfOk};
+ghost use Rattle.avr_model.specs.declared.device.Device.{Device};
 ghost use Rattle.abs_state.specs.Values.{value_at};
 ghost use Rattle.abs_state.specs.Formed.{NamesRegister};
 ghost use Rattle.local_rules.specs.declared.local.Node as node_type;
 ghost use Rattle.local_laws.specs.Laws.{AreNodesIn};
-ghost use Rattle.edge_rules.specs.Views.{IsOwnNode};
 ghost use Rattle.round_steps.specs.Targets.{entry_node, returned_to, back_at, backs_in, all_backs, onward_at, onwards_if, crossings_of, targets_of, all_targets};
-ghost use Rattle.round_steps.specs.Gathers.{AreOwn, AreOwnNodes, IsTargetGathered, AreTargetsGathered, AreBeyond};
+ghost use Rattle.round_steps.specs.Gathers.{IsOwn, AreOwn, AreOwnNodes, IsTargetGathered, AreTargetsGathered, AreBeyond};
 
 use crate::looking::Look;
 use crate::noting::Notes;
@@ -208,7 +208,7 @@ fn add_targets(targets: &mut Vec<Node>, family: &Family<'_>, x: Look) -> Result<
 
 // Joins a node into the gathered one of its key, unless it lands in the family.
 fn gather_one(next: &mut GatheredStates, table: &Table, node: Node) -> Result<(), AllocError>
-    requires { IsOwnNode node.key node.state }
+    requires { IsOwn node.key node.state }
     ensures { OnOk result (IsTargetGathered table.now next.old node next.new) }
 {
     if table.covers(&node) {
@@ -220,7 +220,7 @@ fn gather_one(next: &mut GatheredStates, table: &Table, node: Node) -> Result<()
 
 fn gather(next: &mut GatheredStates, table: &Table, nodes: Vec<Node>) -> Result<(), AllocError>
     requires { AreOwnNodes nodes.items }
-    ensures { (followed : Bool) (before : List node_type.Node) → AreNodesIn followed nodes.items → AreTargetsGathered followed table.now before next.old → OnOk result (AreTargetsGathered followed table.now (before ++ nodes.items) next.new) }
+    ensures { (device : Device) (followed : Bool) (before : List node_type.Node) → AreNodesIn device followed nodes.items → AreTargetsGathered device followed table.now before next.old → OnOk result (AreTargetsGathered device followed table.now (before ++ nodes.items) next.new) }
 {
     for node in nodes {
         gather_one(next, table, node)?;
@@ -232,7 +232,7 @@ fn gather(next: &mut GatheredStates, table: &Table, nodes: Vec<Node>) -> Result<
 fn gather_targets(next: &mut GatheredStates, family: &Family<'_>, x: Look) -> Result<(), AllocError>
     requires formed { AreOwn family.now.table.now }
     requires nodes { AreOwnNodes (targets_of family.now.table.now family.now.notes.now x) }
-    ensures { (followed : Bool) (before : List node_type.Node) → AreNodesIn followed (targets_of family.now.table.now family.now.notes.now x) → AreTargetsGathered followed family.now.table.now before next.old → OnOk result (AreTargetsGathered followed family.now.table.now (before ++ targets_of family.now.table.now family.now.notes.now x) next.new) }
+    ensures { (device : Device) (followed : Bool) (before : List node_type.Node) → AreNodesIn device followed (targets_of family.now.table.now family.now.notes.now x) → AreTargetsGathered device followed family.now.table.now before next.old → OnOk result (AreTargetsGathered device followed family.now.table.now (before ++ targets_of family.now.table.now family.now.notes.now x) next.new) }
 {
     let mut nodes = Vec::new(family.alloc);
     match add_targets(&mut nodes, family, x) {
@@ -254,7 +254,7 @@ pub fn targets(
 ) -> Result<Vec<Node>, AllocError>
     requires formed { AreOwn table.now }
     requires nodes { AreOwnNodes (all_targets table.now notes.now looks.items) }
-    ensures { (followed : Bool) → AreNodesIn followed (all_targets table.now notes.now looks.items) → IfOk result (λ all. AreBeyond followed table.now (all_targets table.now notes.now looks.items) all.items) }
+    ensures { (device : Device) (followed : Bool) → AreNodesIn device followed (all_targets table.now notes.now looks.items) → IfOk result (λ all. AreBeyond device followed table.now (all_targets table.now notes.now looks.items) all.items) }
 {
     let family = Family {
         alloc,

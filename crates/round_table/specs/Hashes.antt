@@ -9,7 +9,7 @@ use Rattle.mask_states.proofs.AllLaws.{keys_are_ordered}
 
 -- the words that differ for most nodes
 abbrev pub key_hash : NodeKey → List (List ℕ)
-key_hash k = fed.u16 k.inst.entry ++ fed.u32 k.inst.masks ++ fed.u16 k.pc ++ fed.u32 k.masks ++ fed.u16 (offset_of k.sp)
+key_hash k = fed.u16 k.inst.entry ++ fed.u64 k.inst.masks ++ fed.u16 k.pc ++ fed.u64 k.masks ++ fed.u16 (offset_of k.sp)
 
 -- equal keys feed a hasher alike
 pub alike : (a b : NodeKey) → IsTrue (same_node a b) → key_hash a ≡ key_hash b

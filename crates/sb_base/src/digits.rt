@@ -40,16 +40,16 @@ fn value_of(digit: u8) -> u8
     }
 }
 
-// The value of at most eight hexadecimal digits.
-fn hex_number(digits: &[u8]) -> u32
-    requires short { length digits.now ≤ 8 }
+// The value of at most sixteen hexadecimal digits.
+fn hex_number(digits: &[u8]) -> u64
+    requires short { length digits.now ≤ 16 }
     requires digits { AllByRecursion (λ b. is_hex b ≡ true) digits.now }
     ensures number { result ≡ number_from 16 0 digits.now }
     ensures small { result < 16 ^ length digits.now }
 {
-    let mut number = 0u32;
+    let mut number = 0u64;
     for digit in digits {
-        number = 16 * number + u32::from(value_of(*digit));
+        number = 16 * number + u64::from(value_of(*digit));
     }
     number
 }
@@ -73,9 +73,9 @@ fn bad_dec(text: &[u8]) -> Option<usize>
 /// Reads a number of exactly `digits` upper-case hexadecimal digits.
 ///
 /// Fails with `WrongLength` exactly if the text has another number of bytes, else with `BadDigit` exactly if a byte is no such digit.
-pub fn read_hex(text: &[u8], digits: usize) -> Result<u32, DigitFault>
+pub fn read_hex(text: &[u8], digits: usize) -> Result<u64, DigitFault>
     requires some { 1 ≤ digits }
-    requires few { digits ≤ 8 }
+    requires few { digits ≤ 16 }
     ensures exact { result ≡ hex_answer text.now digits }
     ensures small { IfOk result (λ n. n < 16 ^ digits) }
 {

@@ -12,4 +12,4 @@ pub use digits::{DigitFault, hex_glyph, read_dec, read_hex};
 pub use lines::{Line, LineReader, Words};
 pub use memory::{MemFiles, MemSink};
 pub use outside::{FileFault, Files, Sink, SinkFault, put_all};
-pub use writer::LineWriter;
+pub use writer::{LineWriter, hex_glyphs};

@@ -25,12 +25,12 @@ impl Model for LineWriter {
     ghost view = { λ w. record { bytes = w.bytes.items; begun = w.begun } };
 }
 
-// The hexadecimal digits of a number, at the front of the array.
-fn hex_glyphs(number: u32, digits: usize) -> [u8; 8]
-    requires { digits ≤ 8 }
+/// The last upper-case hexadecimal digits of a number, this many, at the front of the array.
+pub fn hex_glyphs(number: u64, digits: usize) -> [u8; 16]
+    requires { digits ≤ 16 }
     ensures { take digits result ≡ hex_digits number digits }
 {
-    let mut glyphs = [b'0'; 8];
+    let mut glyphs = [b'0'; 16];
     let mut rest = number;
     for at in (0..digits).rev() {
         glyphs[at] = hex_glyph((rest % 16) as u8);
@@ -80,7 +80,7 @@ impl LineWriter {
         ensures written { OnOk result (self.new ≡ with_word self.old (hex_digits number digits)) }
         ensures refused { OnErr result (self.new ≡ self.old) }
     {
-        let glyphs = hex_glyphs(number, digits);
+        let glyphs = hex_glyphs(u64::from(number), digits);
         self.word(&glyphs[..digits])
     }
 

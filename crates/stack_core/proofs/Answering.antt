@@ -3,7 +3,8 @@ use Rattle.std.proofs.Common.{◌≡◌, ◌≢◌, inl, inr, ℕ, Bool, true, f
 use Rattle.std.specs.Prelude.{IfOk, MatchResult}
 use Rattle.std.proofs.lemmas.List.{append-nil}
 use Rattle.avr_model.specs.declared.assumption.Entry.{Entry}
-use Rattle.avr_model.specs.Devices.{Program}
+use Rattle.avr_model.specs.declared.device.Device.{Device}
+use Rattle.avr_model.specs.Devices.{Program, device_of}
 use Rattle.sb_base.specs.Lines.{Place, TextLine}
 use Rattle.sb_base.specs.Outside.{Held, Blamed, grown}
 use Rattle.indirect_targets.specs.declared.fault.AssumeText.{AssumeText}
@@ -111,9 +112,9 @@ list_apart : (x : Result (List Entry) AssumeText) (next : List Entry → Reply) 
 list_apart (Ok A) next f s t h = f A s t h
 list_apart (Err fault) next f s t h = refuses_apart exit.BadAssumptions assumptions_plain (assumptions_refused fault) s t h
 
-with_list_apart : (list : Option (List ℕ)) (next : List Entry → Reply) → ((A : List Entry) → IsPlainApart (next A)) → IsPlainApart (WithList list next)
-with_list_apart None next f = f []
-with_list_apart (Some bytes) next f = list_apart (entries_in bytes) next f
+with_list_apart : (device : Device) (list : Option (List ℕ)) (next : List Entry → Reply) → ((A : List Entry) → IsPlainApart (next A)) → IsPlainApart (WithList device list next)
+with_list_apart device None next f = f []
+with_list_apart device (Some bytes) next f = list_apart (entries_in device bytes) next f
 
 attained_apart : (next : Reply) (attained : Bool) → IsPlainApart next → IsPlainApart (AttainedBy next attained)
 attained_apart next true f s t h = f s t h
@@ -179,27 +180,27 @@ schedule_apart words A (Ok r) s t h = ends_apart r.1.rest r.1.at (RunReply (repl
 
 flash_apart : (c : Command) (firmware bytes : List ℕ) (words : Program) (A : List Entry) → IsPlainApart (FlashReply c firmware bytes words A)
 flash_apart (Check device f k a) firmware bytes words A =
-    certificate_apart words A (AcceptedReply (Check device f k a) firmware words A) (certificate_in bytes) (accepted_apart (told_of (Check device f k a) firmware))
+    certificate_apart words A (AcceptedReply (Check device f k a) firmware words A) (certificate_in (device_of words) bytes) (accepted_apart (told_of (Check device f k a) firmware))
 flash_apart (Analyse device f a steps) firmware bytes words A = analyse_apart words A steps
-flash_apart (Run device f k a) firmware bytes words A = schedule_apart words A (schedule_in _)
+flash_apart (Run device f k a) firmware bytes words A = schedule_apart words A (schedule_in (device_of words) _)
 flash_apart (Report device f k a json) firmware bytes words A =
-    certificate_apart words A (AcceptedReply (Report device f k a json) firmware words A) (certificate_in bytes) (accepted_apart (told_of (Report device f k a json) firmware))
+    certificate_apart words A (AcceptedReply (Report device f k a json) firmware words A) (certificate_in (device_of words) bytes) (accepted_apart (told_of (Report device f k a json) firmware))
 flash_apart (Explain device f k a) firmware bytes words A =
-    certificate_apart words A (AcceptedReply (Explain device f k a) firmware words A) (certificate_in bytes) (λ c s t h. at exit.Done s done_plain h.says.0)
-flash_apart (Clear device f k) firmware bytes words A = certificate_apart words [] (ClearReply words) (certificate_in bytes) (λ c s t h. clear_apart words c h.verdict s t h.says)
+    certificate_apart words A (AcceptedReply (Explain device f k a) firmware words A) (certificate_in (device_of words) bytes) (λ c s t h. at exit.Done s done_plain h.says.0)
+flash_apart (Clear device f k) firmware bytes words A = certificate_apart words [] (ClearReply words) (certificate_in (device_of words) bytes) (λ c s t h. clear_apart words c h.verdict s t h.says)
 flash_apart (Premises device f k a false) firmware bytes words A =
-    certificate_apart words A (AcceptedReply (Premises device f k a false) firmware words A) (certificate_in bytes) (λ c s t h. at exit.Done s done_plain h.says.0)
+    certificate_apart words A (AcceptedReply (Premises device f k a false) firmware words A) (certificate_in (device_of words) bytes) (λ c s t h. at exit.Done s done_plain h.says.0)
 flash_apart (Premises device f k a true) firmware bytes words A =
-    certificate_apart words A (AcceptedReply (Premises device f k a true) firmware words A) (certificate_in bytes) (λ c s t h. at exit.Done s done_plain h.says.0)
+    certificate_apart words A (AcceptedReply (Premises device f k a true) firmware words A) (certificate_in (device_of words) bytes) (λ c s t h. at exit.Done s done_plain h.says.0)
 flash_apart (Attain device f k a trials) firmware bytes words A =
-    certificate_apart words A (AcceptedReply (Attain device f k a trials) firmware words A) (certificate_in bytes) (λ c s t h. at exit.Done s done_plain h.says.0)
-flash_apart (Simulate device f k a steps) firmware bytes words A = simulate_apart words A steps (setup_in bytes)
+    certificate_apart words A (AcceptedReply (Attain device f k a trials) firmware words A) (certificate_in (device_of words) bytes) (λ c s t h. at exit.Done s done_plain h.says.0)
+flash_apart (Simulate device f k a steps) firmware bytes words A = simulate_apart words A steps (setup_in (device_of words) bytes)
 flash_apart (Demo size) firmware bytes words A = demo_apart size
 
-on_image_apart : (c : Command) (firmware second : List ℕ) (list : Option (List ℕ)) → IsPlainApart (WithImage (device_for c) firmware (λ words. WithList list (λ A. FlashReply c firmware second words A)))
+on_image_apart : (c : Command) (firmware second : List ℕ) (list : Option (List ℕ)) → IsPlainApart (WithImage (device_for c) firmware (λ words. WithList (device_for c) list (λ A. FlashReply c firmware second words A)))
 on_image_apart c firmware second list =
-    image_apart (firmware_fault (device_for c) firmware) (WithList list (λ A. FlashReply c firmware second (firmware_image (device_for c) firmware) A))
-    (with_list_apart list (λ A. FlashReply c firmware second (firmware_image (device_for c) firmware) A) (flash_apart c firmware second (firmware_image (device_for c) firmware)))
+    image_apart (firmware_fault (device_for c) firmware) (WithList (device_for c) list (λ A. FlashReply c firmware second (firmware_image (device_for c) firmware) A))
+    (with_list_apart (device_for c) list (λ A. FlashReply c firmware second (firmware_image (device_for c) firmware) A) (flash_apart c firmware second (firmware_image (device_for c) firmware)))
 
 work_apart : (c : Command) (firmware second : List ℕ) (list : Option (List ℕ)) → IsPlainApart (WorkReply c firmware second list)
 work_apart (Check device f k a) firmware second list = on_image_apart (Check device f k a) firmware second list

@@ -6,7 +6,7 @@ use Rattle.std.proofs.lemmas.Bool.{false_from_ne_true}
 use denote.Ref.{Bor}
 use Rattle.avr_model.specs.declared.assumption.Entry.{Entry}
 use Rattle.avr_model.specs.declared.device.Device.{Device}
-use Rattle.avr_model.specs.Devices.{Program}
+use Rattle.avr_model.specs.Devices.{Program, device_of}
 use Rattle.indirect_targets.specs.declared.fault.AssumeText.{AssumeText}
 use Rattle.indirect_targets.specs.declared.fault.AssumeText.TheVariants as assume
 use Rattle.indirect_targets.specs.Reading.{entries_in}
@@ -70,7 +70,7 @@ missed_judged words A next c family text f b told missed t =
     }
 
 -- a certificate that fails a condition
-pub rejected_judged : (words : Program) (A : List Entry) (next : Claim → Reply) (c : Claim) (r : Reason) (text : List ℕ) → IsReason words A c r → text ≡ rejected r
+pub rejected_judged : (words : Program) (A : List Entry) (next : Claim → Reply) (c : Claim) (r : Reason) (text : List ℕ) → IsReason words A c r → text ≡ rejected (device_of words) r
     → JudgedReply words A next c exit.Rejected text
 rejected_judged words A next c r text h t = record { verdict = Rejected r; is = h; reply = (refl, t) }
 
@@ -151,10 +151,10 @@ result_has_words (Ok r) command firmware h = λ zero. has_words command firmware
 
 -- ---- an assumption file
 
-pub unlisted : (bytes : List ℕ) (f : AssumeText) (r : Answered) → (f ≢ assume.Memory → entries_in bytes ≡ Err f) → r.status ≡ exit.BadAssumptions → assumptions_refused f ≡ Some r.text.items → ReadsAs bytes (Unlisted r)
-unlisted bytes (assume.Malformed line) r e s t = (assume.Malformed line, e (λ w. cc), s, t)
-unlisted bytes (assume.Order line) r e s t = (assume.Order line, e (λ w. cc), s, t)
-unlisted bytes assume.Memory r e s t = absurd (let wrong = t in cc)
+pub unlisted : (device : Device) (bytes : List ℕ) (f : AssumeText) (r : Answered) → (f ≢ assume.Memory → entries_in device bytes ≡ Err f) → r.status ≡ exit.BadAssumptions → assumptions_refused f ≡ Some r.text.items → ReadsAs device bytes (Unlisted r)
+unlisted device bytes (assume.Malformed line) r e s t = (assume.Malformed line, e (λ w. cc), s, t)
+unlisted device bytes (assume.Order line) r e s t = (assume.Order line, e (λ w. cc), s, t)
+unlisted device bytes assume.Memory r e s t = absurd (let wrong = t in cc)
 
 -- ---- a firmware
 
@@ -165,7 +165,7 @@ report_alike laws false device names others end end' same e c = (laws device c n
 explain_alike : ExplanationsSayTheSame → (names others : List Named) (words : Program) (A : List Entry) → SayTheSame names others → (c : Claim) (status : Status) (text : List ℕ)
     → ExplainReply names words A c status text → ExplainReply others words A c status text
 explain_alike texts names others words A same c status text h =
-    record { explanation = h.explanation; is = h.is; says = (h.says.0, h.says.1 ∙ texts c.bound names others h.explanation same) }
+    record { explanation = h.explanation; is = h.is; says = (h.says.0, h.says.1 ∙ texts (device_of words) c.bound names others h.explanation same) }
 
 premises_alike : PlacesSayTheSame → (names others : List Named) (words : Program) (A : List Entry) → SayTheSame names others → (c : Claim) (status : Status) (text : List ℕ)
     → PremisesReply names words A c status text → PremisesReply others words A c status text
@@ -194,21 +194,21 @@ places_alike : PlacesSayTheSame → CausesSayTheSame → (why : Bool) (names oth
 places_alike places causes false names others words A same c status text h = premises_alike places names others words A same c status text h
 places_alike places causes true names others words A same c status text h = why_alike causes names others words A same c status text h
 
-flash_alike : (laws : NamesThatSayTheSame) (texts : ExplanationsSayTheSame) (places : PlacesSayTheSame) (causes : CausesSayTheSame) (command : Command) (firmware bytes : List ℕ) (loaded : Loaded) (A : List Entry) (status : Status) (text : List ℕ) → SayTheSame loaded.names (firmware_names firmware)
-    → loaded.static_end ≡ firmware_end firmware → LoadedReply command loaded bytes A status text → FlashReply command firmware bytes loaded.flash A status text
+flash_alike : (laws : NamesThatSayTheSame) (texts : ExplanationsSayTheSame) (places : PlacesSayTheSame) (causes : CausesSayTheSame) (command : Command) (firmware bytes : List ℕ) (loaded : Loaded) (A : List Entry) (status : Status) (text : List ℕ) → SayTheSame loaded.names (firmware_names (device_for command) firmware)
+    → loaded.static_end ≡ firmware_end (device_for command) firmware → LoadedReply command loaded bytes A status text → FlashReply command firmware bytes loaded.flash A status text
 flash_alike laws texts places causes (Check device name cert assume) firmware bytes loaded A status text names end h = h
 flash_alike laws texts places causes (Analyse device name assume steps) firmware bytes loaded A status text names end h = h
 flash_alike laws texts places causes (Run device name schedule assume) firmware bytes loaded A status text names end h = h
 flash_alike laws texts places causes (Report device name cert assume json) firmware bytes loaded A status text names end h =
-    told_alike loaded.flash A (λ c. Says exit.Done (report_by json device loaded.names loaded.static_end c)) (AcceptedReply (Report device name cert assume json) firmware loaded.flash A) (certificate_in bytes) status text
-    (λ c k. (k.0, k.1 ∙ report_alike laws json device loaded.names (firmware_names firmware) loaded.static_end (firmware_end firmware) names end c)) h
+    told_alike loaded.flash A (λ c. Says exit.Done (report_by json device loaded.names loaded.static_end c)) (AcceptedReply (Report device name cert assume json) firmware loaded.flash A) (certificate_in (device_of loaded.flash) bytes) status text
+    (λ c k. (k.0, k.1 ∙ report_alike laws json device loaded.names (firmware_names device firmware) loaded.static_end (firmware_end device firmware) names end c)) h
 flash_alike laws texts places causes (Explain device name cert assume) firmware bytes loaded A status text names end h =
-    told_alike loaded.flash A (ExplainReply loaded.names loaded.flash A) (AcceptedReply (Explain device name cert assume) firmware loaded.flash A) (certificate_in bytes) status text
-    (λ c k. explain_alike texts loaded.names (firmware_names firmware) loaded.flash A names c status text k) h
+    told_alike loaded.flash A (ExplainReply loaded.names loaded.flash A) (AcceptedReply (Explain device name cert assume) firmware loaded.flash A) (certificate_in (device_of loaded.flash) bytes) status text
+    (λ c k. explain_alike texts loaded.names (firmware_names device firmware) loaded.flash A names c status text k) h
 flash_alike laws texts places causes (Clear device name cert) firmware bytes loaded A status text names end h = h
 flash_alike laws texts places causes (Premises device name cert assume why) firmware bytes loaded A status text names end h =
-    told_alike loaded.flash A (PlacesReply why loaded.names loaded.flash A) (AcceptedReply (Premises device name cert assume why) firmware loaded.flash A) (certificate_in bytes) status text
-    (λ c k. places_alike places causes why loaded.names (firmware_names firmware) loaded.flash A names c status text k) h
+    told_alike loaded.flash A (PlacesReply why loaded.names loaded.flash A) (AcceptedReply (Premises device name cert assume why) firmware loaded.flash A) (certificate_in (device_of loaded.flash) bytes) status text
+    (λ c k. places_alike places causes why loaded.names (firmware_names device firmware) loaded.flash A names c status text k) h
 flash_alike laws texts places causes (Attain device name cert assume trials) firmware bytes loaded A status text names end h = h
 flash_alike laws texts places causes (Simulate device name devices assume steps) firmware bytes loaded A status text names end h = h
 flash_alike laws texts places causes (Demo size) firmware bytes loaded A status text names end h = h
@@ -217,14 +217,14 @@ list_alike : (x : Result (List Entry) AssumeText) (next other : List Entry → R
 list_alike (Ok A) next other status text f h = f A h
 list_alike (Err fault) next other status text f h = h
 
-next_alike : (list : Option (List ℕ)) (next other : List Entry → Reply) (status : Status) (text : List ℕ) → ((A : List Entry) → next A status text → other A status text) → WithList list next status text → WithList list other status text
-next_alike None next other status text f h = f [] h
-next_alike (Some bytes) next other status text f h = list_alike (entries_in bytes) next other status text f h
+next_alike : (device : Device) (list : Option (List ℕ)) (next other : List Entry → Reply) (status : Status) (text : List ℕ) → ((A : List Entry) → next A status text → other A status text) → WithList device list next status text → WithList device list other status text
+next_alike device None next other status text f h = f [] h
+next_alike device (Some bytes) next other status text f h = list_alike (entries_in device bytes) next other status text f h
 
 pub loaded_reply : (laws : NamesThatSayTheSame) (texts : ExplanationsSayTheSame) (places : PlacesSayTheSame) (causes : CausesSayTheSame) (command : Command) (firmware second : List ℕ) (list : Option (List ℕ)) (loaded : Loaded) (status : Status) (text : List ℕ) → GivesOn (device_for command) firmware loaded
-    → WithList list (λ A. LoadedReply command loaded second A) status text → ImageReply command firmware second list status text
+    → WithList (device_of loaded.flash) list (λ A. LoadedReply command loaded second A) status text → ImageReply command firmware second list status text
 loaded_reply laws texts places causes command firmware second list loaded status text g h =
-    let there : WithList list (λ A. FlashReply command firmware second loaded.flash A) status text =
-    next_alike list (λ A. LoadedReply command loaded second A) (λ A. FlashReply command firmware second loaded.flash A) status text (λ A k. flash_alike laws texts places causes command firmware second loaded A status text g.names g.static_end k) h in
-    by_none (firmware_fault (device_for command) firmware) (WithList list (λ A. FlashReply command firmware second (firmware_image (device_for command) firmware) A)) status text g.loads
-    (subst (λ ws. WithList list (λ A. FlashReply command firmware second ws A) status text) g.words there)
+    let there : WithList (device_of loaded.flash) list (λ A. FlashReply command firmware second loaded.flash A) status text =
+    next_alike (device_of loaded.flash) list (λ A. LoadedReply command loaded second A) (λ A. FlashReply command firmware second loaded.flash A) status text (λ A k. flash_alike laws texts places causes command firmware second loaded A status text g.names g.static_end k) h in
+    by_none (firmware_fault (device_for command) firmware) (WithList (device_for command) list (λ A. FlashReply command firmware second (firmware_image (device_for command) firmware) A)) status text g.loads
+    (subst (λ ws. WithList (device_of ws) list (λ A. FlashReply command firmware second ws A) status text) g.words there)

@@ -163,7 +163,7 @@ HeldSimulated command holds status before after =
 abbrev pub AreHeldDevices : Option Command → (List ℕ → Held) → Status → Type 0
 AreHeldDevices command holds status =
     (device : Device) (steps : ℕ) (firmware devices : List ℕ) (list : Option (List ℕ)) (words : Program) (A : List Entry)
-    → IsSimulating command device steps holds firmware devices list → Mean device firmware list words A → (status ≡ exit.Done) ↔ ((setup : Setup) × IsDevices devices setup)
+    → IsSimulating command device steps holds firmware devices list → Mean device firmware list words A → (status ≡ exit.Done) ↔ ((setup : Setup) × IsDevices device devices setup)
 
 -- ---- laws
 

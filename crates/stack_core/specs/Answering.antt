@@ -1,10 +1,12 @@
 -- Intermediate values for a firmware and an assumption file, and their answers.
-use Rattle.std.specs.Prelude.{ℕ, ◌≡◌, List, [], Bool, length, Option, Some, None, Result, Ok, Err}
+use Rattle.std.specs.Prelude.{ℕ, ◌≡◌, ⊤, List, [], Bool, true, length, Option, Some, None, Result, Ok, Err}
 use Rattle.std.specs.Global.{Vec}
+use Rattle.std.specs.List.{All}
 use Rattle.avr_model.specs.declared.assumption.Entry.{Entry}
 use Rattle.avr_model.specs.declared.device.Device.{Device}
-use Rattle.avr_model.specs.Image.{WORDS, IsNarrowed}
-use Rattle.avr_model.specs.Devices.{Program}
+use Rattle.avr_model.specs.Image.{IsNarrowed}
+use Rattle.avr_model.specs.Devices.{Program, device_of, limit_of}
+use Rattle.vector_table.specs.Entries.{fits_device}
 use Rattle.flash_image.specs.Naming.{SayTheSame}
 use Rattle.elf_load.specs.Elf.{is_elf}
 use Rattle.elf_load.specs.declared.Loaded.{Loaded as Firmware}
@@ -32,21 +34,21 @@ use Rattle.stack_core.specs.declared.judging.Judged.{Judged}
 use Rattle.stack_core.specs.declared.judging.Judged.TheVariants.{Accepted}
 use Rattle.stack_core.specs.declared.judging.Judged.TheVariants as judged
 
--- a firmware in the greatest flash has the words, names and static data of the file's bytes
-pub record GivesAs (elf : Bool) (bytes : List ℕ) (loaded : Firmware) : Type 0 where
-  pub loads : fault_by elf bytes ≡ None
-  pub size : length loaded.flash.words ≡ WORDS
-  pub words : loaded.flash.words ≡ words_by elf bytes
-  pub names : SayTheSame loaded.names (names_by elf bytes)
-  pub static_end : loaded.static_end ≡ end_by elf bytes
+-- a firmware for a device, before it is narrowed, has the words, names and static data of the file's bytes
+pub record GivesAs (device : Device) (elf : Bool) (bytes : List ℕ) (loaded : Firmware) : Type 0 where
+  pub loads : fault_by device elf bytes ≡ None
+  pub size : length loaded.flash.words ≡ limit_of device
+  pub words : loaded.flash.words ≡ words_by device elf bytes
+  pub names : SayTheSame loaded.names (names_by device elf bytes)
+  pub static_end : loaded.static_end ≡ end_by device elf bytes
 
 -- a firmware that was loaded, or its refusal
-abbrev pub LoadsBy : Bool → List ℕ → Image → Type 0
-LoadsBy elf bytes (Loaded loaded) = GivesAs elf bytes loaded
-LoadsBy elf bytes (Refused r) = (r.status ≡ exit.BadFirmware) × (fault_by elf bytes ≡ Some r.text.items)
+abbrev pub LoadsBy : Device → Bool → List ℕ → Image → Type 0
+LoadsBy device elf bytes (Loaded loaded) = GivesAs device elf bytes loaded
+LoadsBy device elf bytes (Refused r) = (r.status ≡ exit.BadFirmware) × (fault_by device elf bytes ≡ Some r.text.items)
 
-abbrev pub LoadsAs : List ℕ → Image → Type 0
-LoadsAs bytes image = LoadsBy (is_elf bytes) bytes image
+abbrev pub LoadsAs : Device → List ℕ → Image → Type 0
+LoadsAs device bytes image = LoadsBy device (is_elf bytes) bytes image
 
 -- the same firmware on a device, or its refusal if it has a word behind the device's flash
 abbrev pub NarrowedTo : Device → Firmware → Image → Type 0
@@ -58,8 +60,8 @@ NarrowedTo device before (Refused r) = (r.status ≡ exit.BadFirmware) × (outsi
 pub record GivesOn (device : Device) (bytes : List ℕ) (loaded : Firmware) : Type 0 where
   pub loads : firmware_fault device bytes ≡ None
   pub words : loaded.flash ≡ firmware_image device bytes
-  pub names : SayTheSame loaded.names (firmware_names bytes)
-  pub static_end : loaded.static_end ≡ firmware_end bytes
+  pub names : SayTheSame loaded.names (firmware_names device bytes)
+  pub static_end : loaded.static_end ≡ firmware_end device bytes
 
 -- a firmware that was loaded for a device, or its refusal
 abbrev pub LoadsOn : Device → List ℕ → Image → Type 0
@@ -67,15 +69,20 @@ LoadsOn device bytes (Loaded loaded) = GivesOn device bytes loaded
 LoadsOn device bytes (Refused r) = (r.status ≡ exit.BadFirmware) × (firmware_fault device bytes ≡ Some r.text.items)
 
 -- a list that was read, or its refusal
-abbrev pub ReadsAs : List ℕ → Listing → Type 0
-ReadsAs bytes (Listed A) = entries_in bytes ≡ Ok A
-ReadsAs bytes (Unlisted r) = (fault : AssumeText) × (entries_in bytes ≡ Err fault) × (r.status ≡ exit.BadAssumptions) × (assumptions_refused fault ≡ Some r.text.items)
+abbrev pub ReadsAs : Device → List ℕ → Listing → Type 0
+ReadsAs device bytes (Listed A) = entries_in device bytes ≡ Ok A
+ReadsAs device bytes (Unlisted r) = (fault : AssumeText) × (entries_in device bytes ≡ Err fault) × (r.status ≡ exit.BadAssumptions) × (assumptions_refused fault ≡ Some r.text.items)
 
 -- the list of an optional file, or its refusal; without a file the list is empty
-abbrev pub ListsAs : Option (List ℕ) → Listing → Type 0
-ListsAs None (Listed A) = A ≡ []
-ListsAs None (Unlisted r) = ⊥
-ListsAs (Some bytes) listing = ReadsAs bytes listing
+abbrev pub ListsAs : Device → Option (List ℕ) → Listing → Type 0
+ListsAs device None (Listed A) = A ≡ []
+ListsAs device None (Unlisted r) = ⊥
+ListsAs device (Some bytes) listing = ReadsAs device bytes listing
+
+-- a list that was read fits the device
+abbrev pub ListFits : Device → Listing → Type 0
+ListFits device (Listed A) = All (λ e. fits_device device e ≡ true) A
+ListFits device (Unlisted r) = ⊤
 
 -- no answer
 abbrev pub nothing : Claim → Reply
@@ -107,10 +114,10 @@ pub record IsWitnessedText (words : Program) (A : List Entry) (least : Claim) (t
 -- the answer for a loaded firmware, with its names and static data
 abbrev pub LoadedReply : Command → Firmware → List ℕ → List Entry → Reply
 LoadedReply (Report device name certificate assume json) loaded bytes A =
-    CertificateReply loaded.flash A (λ c. Says exit.Done (report_by json device loaded.names loaded.static_end c)) (certificate_in bytes)
-LoadedReply (Explain device name certificate assume) loaded bytes A = CertificateReply loaded.flash A (ExplainReply loaded.names loaded.flash A) (certificate_in bytes)
-LoadedReply (Premises device name certificate assume why) loaded bytes A = CertificateReply loaded.flash A (PlacesReply why loaded.names loaded.flash A) (certificate_in bytes)
+    CertificateReply loaded.flash A (λ c. Says exit.Done (report_by json device loaded.names loaded.static_end c)) (certificate_in (device_of loaded.flash) bytes)
+LoadedReply (Explain device name certificate assume) loaded bytes A = CertificateReply loaded.flash A (ExplainReply loaded.names loaded.flash A) (certificate_in (device_of loaded.flash) bytes)
+LoadedReply (Premises device name certificate assume why) loaded bytes A = CertificateReply loaded.flash A (PlacesReply why loaded.names loaded.flash A) (certificate_in (device_of loaded.flash) bytes)
 LoadedReply command loaded bytes A = FlashReply command [] bytes loaded.flash A
 
 abbrev pub ImageReply : Command → List ℕ → List ℕ → Option (List ℕ) → Reply
-ImageReply command firmware second list = WithImage (device_for command) firmware (λ words. WithList list (λ A. FlashReply command firmware second words A))
+ImageReply command firmware second list = WithImage (device_for command) firmware (λ words. WithList (device_for command) list (λ A. FlashReply command firmware second words A))

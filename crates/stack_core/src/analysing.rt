@@ -1,6 +1,9 @@
 //! Certificates that the program makes, for `analyse` and `demo`.
 
-ghost use Rattle.std.specs.Prelude.{◌≡◌, IfOk, None};
+ghost use Rattle.std.specs.Prelude.{◌≡◌, IfOk, None, true};
+ghost use Rattle.std.specs.List.{All};
+ghost use Rattle.avr_model.specs.Devices.{device_of};
+ghost use Rattle.vector_table.specs.Entries.{fits_device};
 ghost use Rattle.certificate.specs.Claims.{IsClaim};
 ghost use Rattle.certificate.specs.Valid.{IsSound};
 ghost use Rattle.replies.specs.Texts.{why_not_status, why_not_text, demo_text};
@@ -60,8 +63,9 @@ fn solved(task: &Task<'_>, certificate: Certificate) -> Result<Vec<u8>, AllocErr
     write(task.alloc, &certificate.with_witness(found))
 }
 
-/// The answer to an analysis. `steps` limits the number of rounds.
+/// The answer to an analysis under assumptions that fit the device. `steps` limits the number of rounds.
 pub fn analyse(task: &Task<'_>, steps: Option<u64>) -> Result<Reply, AllocError>
+    requires { All (λ e. fits_device (device_of task.now.flash.now) e ≡ true) task.now.assumptions.now }
     ensures { IfOk result (λ r. AnalyseReply task.now.flash.now task.now.assumptions.now steps r.status r.text.items) }
 {
     match solve(task.alloc, task.flash, task.assumptions, steps) {
@@ -87,7 +91,7 @@ fn measured(task: &Task<'_>, size: u32, certificate: &Certificate) -> Result<Rep
         }),
         Verdict::Rejected(reason) => Ok(Reply {
             status: Status::Rejected,
-            text: texts::rejected(task.alloc, &reason)?,
+            text: texts::rejected(task.alloc, task.flash.device(), &reason)?,
         }),
     }
 }

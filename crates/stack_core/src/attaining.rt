@@ -35,7 +35,7 @@ fn completed(task: &Task<'_>, certificate: Certificate, trials: u32) -> Result<V
 
 /// The answer of `attain` on the text of a certificate.
 pub fn attain(task: &Task<'_>, text: &[u8], trials: u32) -> Result<Reply, AllocError>
-    ensures { IfOk result (λ r. CertificateReply task.now.flash.now task.now.assumptions.now (AttainReply task.now.flash.now task.now.assumptions.now trials) (certificate_in text.now) r.status r.text.items) }
+    ensures { IfOk result (λ r. CertificateReply task.now.flash.now task.now.assumptions.now (AttainReply task.now.flash.now task.now.assumptions.now trials) (certificate_in task.now.flash.now.device text.now) r.status r.text.items) }
 {
     match judge_text(task, text)? {
         Judged::Accepted(certificate, family) => {

@@ -38,7 +38,7 @@ fn cleared(task: &Task<'_>, certificate: &Certificate, family: &Worked) -> Resul
 
 /// The answer of `clear` on the text of a certificate. There are no assumptions.
 pub fn clear(alloc: Global, flash: &Flash, text: &[u8]) -> Result<Reply, AllocError>
-    ensures { IfOk result (λ r. CertificateReply flash.now [] (ClearReply flash.now) (certificate_in text.now) r.status r.text.items) }
+    ensures { IfOk result (λ r. CertificateReply flash.now [] (ClearReply flash.now) (certificate_in flash.now.device text.now) r.status r.text.items) }
 {
     let assumptions = Assumptions::empty(alloc);
     let task = Task {
@@ -100,7 +100,7 @@ fn told(
 
 /// The answer of `premises` on the text of a certificate, for a firmware with these names; with the causes at each place if `why`.
 pub fn premises(task: &Task<'_>, text: &[u8], names: &Names, why: bool) -> Result<Reply, AllocError>
-    ensures { IfOk result (λ r. CertificateReply task.now.flash.now task.now.assumptions.now (PlacesReply why names.now task.now.flash.now task.now.assumptions.now) (certificate_in text.now) r.status r.text.items) }
+    ensures { IfOk result (λ r. CertificateReply task.now.flash.now task.now.assumptions.now (PlacesReply why names.now task.now.flash.now task.now.assumptions.now) (certificate_in task.now.flash.now.device text.now) r.status r.text.items) }
 {
     match judge_text(task, text)? {
         Judged::Accepted(certificate, family) => told(task, names, &certificate, &family, why),

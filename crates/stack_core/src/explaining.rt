@@ -29,13 +29,19 @@ fn explained(
     let explanation = explain_family(task, certificate, family)?;
     Ok(Reply {
         status: Status::Done,
-        text: explanation_text(task.alloc, certificate.bound(), names, &explanation)?,
+        text: explanation_text(
+            task.alloc,
+            task.flash.device(),
+            certificate.bound(),
+            names,
+            &explanation,
+        )?,
     })
 }
 
 /// The answer of `explain` on the text of a certificate, for a firmware with these names.
 pub fn explain(task: &Task<'_>, text: &[u8], names: &Names) -> Result<Reply, AllocError>
-    ensures { IfOk result (λ r. CertificateReply task.now.flash.now task.now.assumptions.now (ExplainReply names.now task.now.flash.now task.now.assumptions.now) (certificate_in text.now) r.status r.text.items) }
+    ensures { IfOk result (λ r. CertificateReply task.now.flash.now task.now.assumptions.now (ExplainReply names.now task.now.flash.now task.now.assumptions.now) (certificate_in task.now.flash.now.device text.now) r.status r.text.items) }
 {
     match judge_text(task, text)? {
         Judged::Accepted(certificate, family) => explained(task, names, &certificate, &family),

@@ -1,6 +1,7 @@
 //! Judging certificates, for all commands that do.
 
-ghost use Rattle.std.specs.Prelude.{IfOk, Ok};
+ghost use Rattle.std.specs.Prelude.{◌≡◌, IfOk, Ok};
+ghost use Rattle.avr_model.specs.Devices.{device_of};
 ghost use Rattle.std.specs.Option.{is_some};
 ghost use Rattle.cert_format.specs.Reading.{certificate_in};
 ghost use Rattle.replies.specs.Texts.{accepted};
@@ -63,6 +64,7 @@ fn weighed(
     task: &Task<'_>,
     certificate: &Certificate,
 ) -> Result<Result<Worked, Vec<u8>>, AllocError>
+    requires { certificate.now.device ≡ device_of task.now.flash.now }
     ensures { IfOk result (λ w. IsJudgedAs task.now.flash.now task.now.assumptions.now (Ok certificate.now) (judged_by certificate.now w)) }
 {
     match judge_family(task, certificate)? {
@@ -73,12 +75,17 @@ fn weighed(
             drop(family);
             Ok(Err(texts::witness_rejected(task.alloc)?))
         }
-        Judgement::Rejected(reason) => Ok(Err(texts::rejected(task.alloc, &reason)?)),
+        Judgement::Rejected(reason) => Ok(Err(texts::rejected(
+            task.alloc,
+            task.flash.device(),
+            &reason,
+        )?)),
     }
 }
 
 // Judges a certificate that was read.
 fn judge_claim(task: &Task<'_>, certificate: Certificate) -> Result<Judged, AllocError>
+    requires { certificate.device ≡ device_of task.now.flash.now }
     ensures { IfOk result (λ j. IsJudgedAs task.now.flash.now task.now.assumptions.now (Ok certificate) j) }
 {
     match weighed(task, &certificate) {
@@ -93,9 +100,9 @@ fn judge_claim(task: &Task<'_>, certificate: Certificate) -> Result<Judged, Allo
 
 /// Reads and judges the certificate of a text.
 pub fn judge_text(task: &Task<'_>, text: &[u8]) -> Result<Judged, AllocError>
-    ensures { IfOk result (λ j. IsJudgedAs task.now.flash.now task.now.assumptions.now (certificate_in text.now) j) }
+    ensures { IfOk result (λ j. IsJudgedAs task.now.flash.now task.now.assumptions.now (certificate_in task.now.flash.now.device text.now) j) }
 {
-    match read_certificate(task.alloc, text) {
+    match read_certificate(task.alloc, task.flash.device(), text) {
         Ok(certificate) => judge_claim(task, certificate),
         Err(fault) => Ok(Judged::Refused(Reply {
             status: Status::BadCertificate,
@@ -106,7 +113,7 @@ pub fn judge_text(task: &Task<'_>, text: &[u8]) -> Result<Judged, AllocError>
 
 /// The answer of `check` on the text of a certificate.
 pub fn check(task: &Task<'_>, text: &[u8]) -> Result<Reply, AllocError>
-    ensures { IfOk result (λ r. CertificateReply task.now.flash.now task.now.assumptions.now (λ c. Says Status.Done (accepted c.bound (is_some c.witness))) (certificate_in text.now) r.status r.text.items) }
+    ensures { IfOk result (λ r. CertificateReply task.now.flash.now task.now.assumptions.now (λ c. Says Status.Done (accepted c.bound (is_some c.witness))) (certificate_in task.now.flash.now.device text.now) r.status r.text.items) }
 {
     match judge_text(task, text)? {
         Judged::Accepted(certificate, family) => {
@@ -125,7 +132,7 @@ pub fn report(
     loaded: &Loaded,
     json: bool,
 ) -> Result<Reply, AllocError>
-    ensures { IfOk result (λ r. CertificateReply task.now.flash.now task.now.assumptions.now (λ c. Says Status.Done (report_by json device loaded.now.names loaded.now.static_end c)) (certificate_in text.now) r.status r.text.items) }
+    ensures { IfOk result (λ r. CertificateReply task.now.flash.now task.now.assumptions.now (λ c. Says Status.Done (report_by json device loaded.now.names loaded.now.static_end c)) (certificate_in task.now.flash.now.device text.now) r.status r.text.items) }
 {
     match judge_text(task, text)? {
         Judged::Accepted(certificate, family) => {

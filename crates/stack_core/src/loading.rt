@@ -1,9 +1,9 @@
 //! Firmware and assumptions from files.
 
 ghost use Rattle.std.specs.Prelude.{◌≡◌, IfOk, false, length};
-ghost use Rattle.avr_model.specs.Image.{WORDS};
+ghost use Rattle.avr_model.specs.Devices.{limit_of};
 ghost use Rattle.command_files.specs.Reading.{bytes_of};
-ghost use Rattle.stack_core.specs.Answering.{LoadsBy, LoadsAs, NarrowedTo, LoadsOn, ListsAs};
+ghost use Rattle.stack_core.specs.Answering.{LoadsBy, LoadsAs, NarrowedTo, LoadsOn, ListsAs, ListFits};
 
 use crate::reply::Reply;
 use elf_load::{Loaded, is_elf, load};
@@ -31,11 +31,11 @@ pub enum Listing {
 }
 
 // The flash of a raw file, which has no names and no static data.
-fn raw_image(alloc: Global, bytes: &[u8]) -> Result<Image, AllocError>
-    ensures { IfOk result (λ i. LoadsBy false bytes.now i) }
+fn raw_image(alloc: Global, device: Device, bytes: &[u8]) -> Result<Image, AllocError>
+    ensures { IfOk result (λ i. LoadsBy device false bytes.now i) }
 {
     raw_images_are_their_words();
-    match Flash::from_raw(alloc, bytes) {
+    match Flash::from_raw(alloc, device, bytes) {
         Ok(flash) => Ok(Image::Loaded(Loaded {
             flash,
             names: Names::new(alloc),
@@ -53,14 +53,14 @@ fn raw_image(alloc: Global, bytes: &[u8]) -> Result<Image, AllocError>
     }
 }
 
-// The firmware of a file, in the greatest flash.
-fn whole(alloc: Global, bytes: &[u8]) -> Result<Image, AllocError>
-    ensures { IfOk result (λ i. LoadsAs bytes.now i) }
+// The firmware of a file for a device, before it is narrowed.
+fn whole(alloc: Global, device: Device, bytes: &[u8]) -> Result<Image, AllocError>
+    ensures { IfOk result (λ i. LoadsAs device bytes.now i) }
 {
     if !is_elf(bytes) {
-        return raw_image(alloc, bytes);
+        return raw_image(alloc, device, bytes);
     }
-    match load(alloc, bytes) {
+    match load(alloc, device, bytes) {
         Ok(loaded) => Ok(Image::Loaded(loaded)),
         Err(fault) => Ok(Image::Refused(Reply {
             status: Status::BadFirmware,
@@ -84,7 +84,7 @@ fn marked(mut loaded: Loaded) -> Result<Loaded, AllocError>
 
 // The same firmware on a device.
 fn narrowed(alloc: Global, device: Device, loaded: Loaded) -> Result<Image, AllocError>
-    requires { length loaded.flash.words ≡ WORDS }
+    requires { length loaded.flash.words ≡ limit_of device }
     ensures { IfOk result (λ i. NarrowedTo device loaded i) }
 {
     narrowing_is_exact();
@@ -111,20 +111,21 @@ pub fn loaded(alloc: Global, device: Device, bytes: &[u8]) -> Result<Image, Allo
     ensures { IfOk result (λ i. LoadsOn device bytes.now i) }
 {
     narrowing_is_exact();
-    match whole(alloc, bytes)? {
+    match whole(alloc, device, bytes)? {
         Image::Loaded(loaded) => narrowed(alloc, device, loaded),
         Image::Refused(reply) => Ok(Image::Refused(reply)),
     }
 }
 
-/// The assumptions of an optional file.
-pub fn listed(alloc: Global, list: &Option<Vec<u8>>) -> Result<Listing, AllocError>
-    ensures { IfOk result (λ l. ListsAs (bytes_of list.now) l) }
+/// The assumptions of an optional file, for a device.
+pub fn listed(alloc: Global, device: Device, list: &Option<Vec<u8>>) -> Result<Listing, AllocError>
+    ensures lists { IfOk result (λ l. ListsAs device (bytes_of list.now) l) }
+    ensures fits { IfOk result (λ l. ListFits device l) }
 {
     let Some(bytes) = list else {
         return Ok(Listing::Listed(Assumptions::empty(alloc)));
     };
-    match read_list(alloc, bytes) {
+    match read_list(alloc, device, bytes) {
         Ok(assumptions) => Ok(Listing::Listed(assumptions)),
         Err(fault) => Ok(Listing::Unlisted(Reply {
             status: Status::BadAssumptions,

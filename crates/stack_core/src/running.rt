@@ -42,10 +42,10 @@ fn schedule_malformed(alloc: Global, at: usize) -> Result<Reply, AllocError>
 
 /// The answer to the text of a schedule.
 pub fn run(task: &Task<'_>, text: &[u8]) -> Result<Reply, AllocError>
-    ensures { IfOk result (λ r. ScheduleReply task.now.flash.now task.now.assumptions.now (schedule_in (record { at = 0; rest = lines_of text.now })) r.status r.text.items) }
+    ensures { IfOk result (λ r. ScheduleReply task.now.flash.now task.now.assumptions.now (schedule_in task.now.flash.now.device (record { at = 0; rest = lines_of text.now })) r.status r.text.items) }
 {
     let mut reader = LineReader::new(text);
-    match Schedule::read(task.alloc, &mut reader) {
+    match Schedule::read(task.alloc, task.flash.device(), &mut reader) {
         Ok(schedule) => {
             if reader.peek().is_some() {
                 schedule_malformed(task.alloc, reader.offset())

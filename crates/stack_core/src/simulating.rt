@@ -30,9 +30,9 @@ fn simulated(task: &Task<'_>, steps: ChoiceCount, devices: &Devices) -> Result<V
 
 /// The answer to the text of devices.
 pub fn simulate(task: &Task<'_>, steps: ChoiceCount, text: &[u8]) -> Result<Reply, AllocError>
-    ensures { IfOk result (λ r. SimulateReply task.now.flash.now task.now.assumptions.now steps (setup_in text.now) r.status r.text.items) }
+    ensures { IfOk result (λ r. SimulateReply task.now.flash.now task.now.assumptions.now steps (setup_in task.now.flash.now.device text.now) r.status r.text.items) }
 {
-    match Devices::read(task.alloc, text) {
+    match Devices::read(task.alloc, task.flash.device(), text) {
         Ok(devices) => Ok(Reply {
             status: Status::Done,
             text: simulated(task, steps, &devices)?,

@@ -1,6 +1,8 @@
 //! The answer by the contents of a command's files.
 
-ghost use Rattle.std.specs.Prelude.{◌≡◌, IfOk};
+ghost use Rattle.std.specs.Prelude.{◌≡◌, true, IfOk};
+ghost use Rattle.std.specs.List.{All};
+ghost use Rattle.vector_table.specs.Entries.{fits_device};
 ghost use Rattle.local_rules.specs.Machine.{AreWords};
 ghost use Rattle.commands.specs.Commands.{device_for};
 ghost use Rattle.commands.specs.Views.{command_seen};
@@ -37,6 +39,7 @@ fn on_flash(
     assumptions: &Assumptions,
     second: &[u8],
 ) -> Result<Reply, AllocError>
+    requires { All (λ e. fits_device loaded.now.flash.device e ≡ true) assumptions.now }
     ensures { IfOk result (λ r. LoadedReply (command_seen command.now) loaded.now second.now assumptions.now r.status r.text.items) }
 {
     let flash = &loaded.flash;
@@ -67,9 +70,9 @@ fn under_list(
     second: &[u8],
     list: &Option<Vec<u8>>,
 ) -> Result<Reply, AllocError>
-    ensures { IfOk result (λ r. WithList (bytes_of list.now) (λ A. LoadedReply (command_seen command.now) loaded.now second.now A) r.status r.text.items) }
+    ensures { IfOk result (λ r. WithList loaded.now.flash.device (bytes_of list.now) (λ A. LoadedReply (command_seen command.now) loaded.now second.now A) r.status r.text.items) }
 {
-    match listed(alloc, list)? {
+    match listed(alloc, loaded.flash.device(), list)? {
         Listing::Listed(assumptions) => on_flash(alloc, command, loaded, &assumptions, second),
         Listing::Unlisted(reply) => Ok(reply),
     }

@@ -17,7 +17,7 @@ use Rattle.avr_model.specs.declared.instruction.Instr.{Instr}
 use Rattle.avr_model.specs.Sites.{instruction_at}
 use Rattle.avr_model.specs.Step.{is_pointer_store, is_indirect}
 use Rattle.avr_model.specs.Assumptions.{is_fixed_site}
-use Rattle.avr_model.specs.Devices.{Program, device_of}
+use Rattle.avr_model.specs.Devices.{Program, io_end, device_of}
 use Rattle.abs_state.specs.declared.state.AbsState.{AbsState}
 use Rattle.mask_states.specs.declared.keys.NodeKey.{NodeKey}
 use Rattle.local_rules.specs.declared.local.Node.{Node}
@@ -74,7 +74,7 @@ module _ (words : Program) (A : List Entry) (nodes : List Node) (asks : List Ask
 
   -- a node with this key has a condition left and is at the word, and a store there may write this address
   abbrev From : NodeKey → AbsState → Asks → ℕ → Type 0
-  From k s ask a = (is_unclear_at pc k ask ≡ true) × IsProtectedBelow words A pc s instr 256 a
+  From k s ask a = (is_unclear_at pc k ask ≡ true) × IsProtectedBelow words A pc s instr (io_end (device_of words) + 1) a
 
   pub nodes_none : (marks : List Bool) → AreMarkedBeside (At 0) marks marks
   nodes_none marks = marks_none (At 0) marks (λ a t. let lt = t.1.below in omega (arith, lt))
@@ -107,10 +107,10 @@ module _ (words : Program) (A : List Entry) (nodes : List Node) (asks : List Ask
 
   module _ (at : ℕ) (n : Node) (k : NodeKey) (s : AbsState) (ask : Asks) (old mid : List Bool) (is : slice_get nodes at ≡ Some n) (key : n.key ≡ k) (state : n.state ≡ s)
       (same : ask_at asks at ≡ ask) (so : AreMarkedBeside (At at) old mid) where
-    pub nodes_marked : (new : List Bool) → is_unclear_at pc k ask ≡ true → AreMarkedBeside (IsProtectedBelow words A pc s instr 256) mid new → AreMarkedBeside (At (at + 1)) old new
+    pub nodes_marked : (new : List Bool) → is_unclear_at pc k ask ≡ true → AreMarkedBeside (IsProtectedBelow words A pc s instr (io_end (device_of words) + 1)) mid new → AreMarkedBeside (At (at + 1)) old new
     nodes_marked new e one =
         nodes_more at n k s ask old mid new is key state same so
-        (marks_as (IsProtectedBelow words A pc s instr 256) (From k s ask) mid new (λ a t. (e, t)) (λ a t. t.1) one)
+        (marks_as (IsProtectedBelow words A pc s instr (io_end (device_of words) + 1)) (From k s ask) mid new (λ a t. (e, t)) (λ a t. t.1) one)
 
   -- those that come next
   pub nodes_skipped : (start at : ℕ) (old new : List Bool) → IsNext nodes asks pc start at → AreMarkedBeside (At start) old new → AreMarkedBeside (At at) old new
@@ -234,15 +234,15 @@ module _ (words : Program) (A : List Entry) (c : Claim) (nodes : List Node) (ask
         transfer = (λ h. absurd (never_true h), λ cause. absurd (none_without (λ s y. not (is_transfer_listed words A pc s y)) is cause));
       }
 
-  -- only the first 256 addresses are guarded
-  protected_small : (s : AbsState) (instr : Instr) (a : ℕ) → may_write_protected words A pc s instr a ≡ true → a < 256
+  -- only addresses below SRAM are guarded
+  protected_small : (s : AbsState) (instr : Instr) (a : ℕ) → may_write_protected words A pc s instr a ≡ true → a < io_end (device_of words) + 1
   protected_small s instr a h =
       ⊎_elim (λ lt. lt)
       (λ over.
       absurd
       (never_both (is_guarded (device_of words) A pc (stored_bits s instr) a)
       (and_parts (is_pointer_store instr && not (is_fixed_site words A pc)) _ (left_of_and (is_flagged_address words A pc s instr a) _ h)).1
-      (unguarded (device_of words) A pc (stored_bits s instr) a (omega (arith, over))))) (cases_lt a 256)
+      (unguarded (device_of words) A pc (stored_bits s instr) a (omega (arith, over))))) (cases_lt a (io_end (device_of words) + 1))
 
   module _ (instr : Instr) (is : instruction_at words pc ≡ Some instr) (protected : List ℕ) (live : Bool)
       (exact : (a : ℕ) → Contains protected a ↔ IsProtectedAt words A nodes asks pc instr (length asks) a) (sorted : IsStrictlySortedBy nat_cmp protected)

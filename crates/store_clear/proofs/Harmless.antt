@@ -10,8 +10,8 @@ use Rattle.avr_model.specs.declared.instruction.Pointer.{Pointer}
 use Rattle.avr_model.specs.declared.operand.Operand.{Operand}
 use Rattle.avr_model.proofs.AllLaws.{devices_are_alike}
 use Rattle.avr_model.specs.Bits.{all_below}
-use Rattle.avr_model.specs.Devices.{Program, ramend, device_of}
-use Rattle.avr_model.specs.State.{BELOW, plus16, minus16}
+use Rattle.avr_model.specs.Devices.{Program, io_end, ramend, device_of}
+use Rattle.avr_model.specs.State.{plus16, minus16}
 use Rattle.pair_domain.specs.declared.facts.PairFacts.{PairFacts}
 use Rattle.pair_domain.specs.Facts.{is_followed}
 use Rattle.abs_state.specs.declared.state.AbsState.{AbsState}
@@ -47,21 +47,24 @@ module _ (words : Program) (A : List Entry) (bound pc : ℕ) (instr : Instr) (s 
   abbrev is_harmless : ℕ → Bool
   is_harmless a = is_address_harmless words A bound pc s instr a
 
+  abbrev below : ℕ
+  below = io_end (device_of words)
+
   abbrev top : ℕ
   top = ramend (device_of words)
 
   -- between two addresses of a harmless range
   in_range : (first last a : ℕ) → is_range_harmless (device_of words) bound first last ≡ true → first ≤ a → a ≤ last → is_harmless a ≡ true
   in_range first last a h le ge =
-      let parts = and_parts (nat_le first last) ((nat_lt BELOW first && nat_le (last + bound) top) || nat_lt top first) h in
+      let parts = and_parts (nat_le first last) ((nat_lt below first && nat_le (last + bound) top) || nat_lt top first) h in
       ⊎_elim
       (λ t.
-      let ends = and_parts (nat_lt BELOW first) (nat_le (last + bound) top) t in
-      let low = less_from_test BELOW first ends.0 in
+      let ends = and_parts (nat_lt below first) (nat_le (last + bound) top) t in
+      let low = less_from_test below first ends.0 in
       let high = at_most_from_test (last + bound) top ends.1 in
-      or_left _ _ (or_left _ _ (and_from (nat_lt BELOW a) (nat_le (a + bound) top) (test_from_less BELOW a (omega (arith, low, le))) (test_from_at_most (a + bound) top (omega (arith, high, ge))))))
+      or_left _ _ (or_left _ _ (and_from (nat_lt below a) (nat_le (a + bound) top) (test_from_less below a (omega (arith, low, le))) (test_from_at_most (a + bound) top (omega (arith, high, ge))))))
       (λ t. let above = less_from_test top first t in or_left _ _ (or_right _ _ (test_from_less top a (omega (arith, above, le)))))
-      (or_cases (nat_lt BELOW first && nat_le (last + bound) top) (nat_lt top first) parts.1)
+      (or_cases (nat_lt below first && nat_le (last + bound) top) (nat_lt top first) parts.1)
 
   module _ (least most r up : ℕ) (follows : (p : ℕ) → is_in_interval s.facts r p ≡ is_between least most p) where
     -- the numbers of the interval up to this one give harmless addresses, if the bytes permit them
@@ -90,7 +93,7 @@ module _ (words : Program) (A : List Entry) (bound pc : ℕ) (instr : Instr) (s 
     all_in_range small less h =
         let first = plus16 least up in
         let last = plus16 most up in
-        let ascends = at_most_from_test first last (and_parts (nat_le first last) ((nat_lt BELOW first && nat_le (last + bound) top) || nat_lt top first) h).0 in
+        let ascends = at_most_from_test first last (and_parts (nat_le first last) ((nat_lt below first && nat_le (last + bound) top) || nat_lt top first) h).0 in
         all_by
         (λ p permitted.
         let at = inside p permitted in
@@ -151,5 +154,5 @@ direct words A bound pc s f follows a r = ap₂ (λ b c. b && c) (ap is_followed
   where
     past : 65536 ≤ a → all_below 65536 (λ x. not (a == x) || is_address_harmless words A bound pc s (i.Sts a r) x) ≡ is_address_harmless words A bound pc s (i.Sts a r) a
     past far =
-        let above = test_from_less (ramend (device_of words)) a (omega (arith, far, devices_are_alike.most_bytes (device_of words))) in
+        let above = test_from_less (ramend (device_of words)) a (omega (arith, far, devices_are_alike.most_bytes (device_of words), devices_are_alike.most_io (device_of words))) in
         all_past (is_address_harmless words A bound pc s (i.Sts a r)) a far ∙ sym (or_left _ _ (or_right _ _ above))

@@ -1,4 +1,5 @@
 pub mod Marks
+pub mod Io
 pub mod Scans
 pub mod Harmless
 pub mod Lists

@@ -8,13 +8,14 @@ use Rattle.basics.specs.Booleans.{never_both}
 use Rattle.basics.specs.Items.{contained_at}
 use Rattle.basics.specs.Lists.{one_at}
 use Rattle.basics.specs.Numbers.{equals_itself}
+use Rattle.avr_model.proofs.AllLaws.{devices_are_alike}
 use Rattle.avr_model.specs.Image.{WORDS}
 use Rattle.avr_model.specs.declared.assumption.Entry.{Entry}
 use Rattle.avr_model.specs.Devices.{Program}
 use Rattle.abs_state.specs.declared.state.AbsState.{AbsState}
 use Rattle.mask_states.specs.declared.keys.NodeKey.{NodeKey}
 use Rattle.local_rules.specs.declared.local.Node.{Node}
-use Rattle.edge_rules.specs.Views.{AreShown}
+use Rattle.call_graph.specs.Shown.{AreOfSomeDevice}
 use Rattle.certificate.specs.Claims.{Claim}
 use Rattle.certificate.specs.Valid.{family_of}
 use Rattle.clear_laws.specs.Clear.{MayBeFlagged}
@@ -173,9 +174,10 @@ module _ (nodes : List Node) (asks : List Asks) where
         }
 
 -- the word of a node
-pub word_small : (nodes : List Node) → AreShown nodes → (at : ℕ) (n : Node) → slice_get nodes at ≡ Some n → n.key.pc < WORDS
-word_small nodes shown at n is = (shown.all n (contained_at nodes at n is)).word
+pub word_small : (nodes : List Node) → AreOfSomeDevice nodes → (at : ℕ) (n : Node) → slice_get nodes at ≡ Some n → n.key.pc < WORDS
+word_small nodes shown at n is = let word = (shown.1.all n (contained_at nodes at n is)).word in omega (arith, word, devices_are_alike.most_limit shown.0)
 
 -- the word of a node that may flag a step
-pub word_of_flagged : (words : Program) (A : List Entry) (c : Claim) (nodes : List Node) (pc : ℕ) → AreShown nodes → MayBeFlagged words A (family_of c nodes) pc → pc < WORDS
-word_of_flagged words A c nodes pc shown m = subst (λ w. w < WORDS) m.is (shown.all m.node m.present).word
+pub word_of_flagged : (words : Program) (A : List Entry) (c : Claim) (nodes : List Node) (pc : ℕ) → AreOfSomeDevice nodes → MayBeFlagged words A (family_of c nodes) pc → pc < WORDS
+word_of_flagged words A c nodes pc shown m =
+    let word = (shown.1.all m.node m.present).word in subst (λ w. w < WORDS) m.is (omega (arith, word, devices_are_alike.most_limit shown.0))

@@ -12,10 +12,12 @@ use Rattle.std.proofs.lemmas.Option.{none-some, same_Some}
 use Rattle.basics.specs.Items.{none_in, first_in, further_in, first_or_further, contained_at}
 use Rattle.basics.specs.Lists.{one_at}
 use Rattle.basics.specs.Numbers.{before_or_last}
+use Rattle.avr_model.proofs.AllLaws.{devices_are_alike}
 use Rattle.avr_model.specs.Image.{WORDS}
 use Rattle.mask_states.specs.declared.keys.NodeKey.{NodeKey}
 use Rattle.local_rules.specs.declared.local.Node.{Node}
-use Rattle.edge_rules.specs.Views.{AreShown, key_of}
+use Rattle.edge_rules.specs.Views.{key_of}
+use Rattle.call_graph.specs.Shown.{AreOfSomeDevice}
 use Rattle.clear_laws.specs.Reach.{is_on}
 use Rattle.clear_laws.specs.declared.slots.Asks.{Asks}
 use Rattle.store_clear.specs.Settling.{ask_at, passes, IsWordOf, AreWordsMarked, places_from}
@@ -104,13 +106,13 @@ ascending n (false ∷ marks) = ascending (n + 1) marks
 
 -- ---- the word of a node that is there
 
-pub word_within : (nodes : List Node) → AreShown nodes → (at : ℕ) (k : NodeKey) → option_map key_of (slice_get nodes at) ≡ Some k → (marks : List Bool) → length marks ≡ WORDS
+pub word_within : (nodes : List Node) → AreOfSomeDevice nodes → (at : ℕ) (k : NodeKey) → option_map key_of (slice_get nodes at) ≡ Some k → (marks : List Bool) → length marks ≡ WORDS
     → k.pc < length marks
 word_within nodes shown at k e marks size = by (slice_get nodes at) refl e
   where
     by : (o : Option Node) → slice_get nodes at ≡ o → option_map key_of o ≡ Some k → k.pc < length marks
     by None is h = absurd (none-some k h)
     by (Some n) is h =
-        let word = (shown.all n (contained_at nodes at n is)).word in
+        let word = (shown.1.all n (contained_at nodes at n is)).word in
         let same : n.key.pc ≡ k.pc = ap (λ (x : NodeKey). x.pc) (same_Some n.key k h) in
-        omega (arith, word, same, size)
+        omega (arith, word, same, size, devices_are_alike.most_limit shown.0)

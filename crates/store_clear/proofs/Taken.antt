@@ -1,5 +1,5 @@
 -- Marked words of vectors.
-use Rattle.std.proofs.Common.{◌≡◌, refl, sym, ap, ◌∙◌, subst, ℕ, ◌+◌, ◌<◌, ◌≤◌, ◌⊎◌, inl, inr, ⊎_elim, ◌&&◌, Bool, true, false, not, List, length, set, replicate, get_or-set_other, get_or-set_same, Some, slice_get, Contains, arith}
+use Rattle.std.proofs.Common.{◌≡◌, refl, sym, ap, ◌∙◌, subst, ℕ, ◌+◌, ◌<◌, ◌≤◌, ◌⊎◌, inl, inr, ⊎_elim, Bool, true, false, not, List, length, set, replicate, get_or-set_other, get_or-set_same, Some, slice_get, Contains, arith}
 use Rattle.std.proofs.lemmas.Bool.{cases_eq, and_parts, and_from, not-true}
 use Rattle.std.proofs.lemmas.Bool.Decides.{nat_tests}
 use Rattle.std.proofs.lemmas.List.{length-set}
@@ -9,12 +9,13 @@ use Rattle.basics.specs.Items.{place_of_contained, contained_at}
 use Rattle.basics.specs.Lists.{one_at}
 use Rattle.basics.specs.Numbers.{before_or_last}
 use Rattle.store_clear.proofs.Marks.{none_on}
-use Rattle.edge_laws.proofs.AllLaws.{vector_small}
+use Rattle.avr_model.proofs.AllLaws.{devices_are_alike}
 use Rattle.avr_model.specs.declared.assumption.Entry.{Entry}
+use Rattle.avr_model.specs.declared.device.Device.{Device}
 use Rattle.avr_model.specs.Assumptions.{is_never}
 use Rattle.avr_model.specs.Devices.{Program, device_of}
 use Rattle.avr_model.specs.Image.{WORDS}
-use Rattle.avr_model.specs.Vectors.{is_enabled, vector_word}
+use Rattle.avr_model.specs.Vectors.{is_enabled, last_vector, enable_count, vector_word}
 use Rattle.mask_states.specs.declared.keys.NodeKey.{NodeKey}
 use Rattle.local_rules.specs.declared.local.Node.{Node}
 use Rattle.edge_rules.specs.Expansion.{IsFilled}
@@ -25,6 +26,11 @@ use Rattle.clear_laws.specs.Verdict.{AreNevers}
 use Rattle.store_clear.specs.Settling.{places_of}
 use Rattle.store_clear.specs.Takes.{AreMarkedBeside, is_take, IsTakenBelow, may_take, IsTakenFrom, IsTakenAt}
 use Rattle.store_clear.proofs.Marked.{placed, placing, ascending}
+
+-- an enabled vector is one of the device's
+enabled_bounds : (device : Device) (m v : ℕ) → is_enabled device m v ≡ true → (2 ≤ v) × (v < enable_count device + 2)
+unfolding is_enabled
+enabled_bounds device m v e = let some = devices_are_alike.some_vector device in (grind (arith, nat_tests), grind (arith, nat_tests))
 
 -- ---- marks
 
@@ -71,15 +77,11 @@ module _ (words : Program) (A : List Entry) (k : NodeKey) where
   vectors_none marks = marks_none (IsTakenBelow words A k 0) marks (λ w t. two_or_more t.vector (let lt = t.below in omega (arith, lt)) t.take)
     where
       two_or_more : (v : ℕ) → v < 2 → is_take words A k v ≡ true → ⊥
-      two_or_more v lt e = low (is_enabled_low v lt) e
-        where
-          is_enabled_low : (v : ℕ) → v < 2 → is_enabled k.masks v ≡ false
-          is_enabled_low v lt = grind (arith, nat_tests)
+      two_or_more v lt e =
+          let parts = and_parts (is_enabled (device_of words) k.masks v) (is_never A (vector_word (device_of words) v)) e in
+          let bounds = enabled_bounds (device_of words) k.masks v parts.0 in omega (arith, lt, bounds.0)
 
-          low : is_enabled k.masks v ≡ false → is_take words A k v ≡ true → ⊥
-          low off on = let both : (false && is_never A (vector_word (device_of words) v)) ≡ true = subst (λ (b : Bool). (b && is_never A (vector_word (device_of words) v)) ≡ true) off on in cc
-
-  module _ (n : ℕ) (old mid : List Bool) (le : n + 2 ≤ 26) (so : AreMarkedBeside (IsTakenBelow words A k n) old mid) where
+  module _ (n : ℕ) (old mid : List Bool) (le : n + 2 ≤ last_vector (device_of words)) (so : AreMarkedBeside (IsTakenBelow words A k n) old mid) where
     with_it : (new : List Bool) → AreMarkedBeside (This (n + 2)) mid new → AreMarkedBeside (IsTakenBelow words A k (n + 1)) old new
     with_it new one =
         marks_both (IsTakenBelow words A k n) (This (n + 2)) (IsTakenBelow words A k (n + 1)) old mid new
@@ -95,7 +97,10 @@ module _ (words : Program) (A : List Entry) (k : NodeKey) where
 
     pub vectors_more : length mid ≡ WORDS → is_take words A k (n + 2) ≡ true → AreMarkedBeside (IsTakenBelow words A k (n + 1)) old (set mid word true)
     vectors_more all e =
-        let lt : word < length mid = let inside = vector_small (device_of words) (n + 2) le in omega (arith, inside, all) in
+        let lt : word < length mid =
+        let inside = devices_are_alike.vectors (device_of words) (n + 2) le in
+        let most = devices_are_alike.most_words (device_of words) in
+        omega (arith, inside, most, all) in
         with_it (set mid word true) (marks_as (λ w. w ≡ word) (This (n + 2)) mid _ (λ w same. (e, sym same)) (λ w t. sym t.1) (marks_one word mid lt))
 
     pub vectors_same : is_take words A k (n + 2) ≡ false → AreMarkedBeside (IsTakenBelow words A k (n + 1)) old mid
@@ -124,9 +129,9 @@ module _ (words : Program) (A : List Entry) (nodes : List Node) where
           (before_or_last t.at at t.below)
 
   module _ (at : ℕ) (n : Node) (k : NodeKey) (old mid : List Bool) (is : slice_get nodes at ≡ Some n) (key : n.key ≡ k) (so : AreMarkedBeside (IsTakenAt words A nodes at) old mid) where
-    pub takes_marked : (new : List Bool) → may_take k ≡ true → AreMarkedBeside (IsTakenBelow words A k 25) mid new → AreMarkedBeside (IsTakenAt words A nodes (at + 1)) old new
+    pub takes_marked : (new : List Bool) → may_take k ≡ true → AreMarkedBeside (IsTakenBelow words A k (enable_count (device_of words))) mid new → AreMarkedBeside (IsTakenAt words A nodes (at + 1)) old new
     takes_marked new e one =
-        takes_more at n k old mid new is key so (marks_as (IsTakenBelow words A k 25) (IsTakenFrom words A k) mid new (λ w t. (e, t)) (λ w t. t.1) one)
+        takes_more at n k old mid new is key so (marks_as (IsTakenBelow words A k (enable_count (device_of words))) (IsTakenFrom words A k) mid new (λ w t. (e, t)) (λ w t. t.1) one)
 
     pub takes_same : may_take k ≡ false → AreMarkedBeside (IsTakenAt words A nodes (at + 1)) old mid
     takes_same e = takes_more at n k old mid mid is key so (marks_none (IsTakenFrom words A k) mid (λ w t. never_both (may_take k) t.0 e))
@@ -144,7 +149,7 @@ module _ (words : Program) (A : List Entry) (c : Claim) (nodes : List Node) (fil
       taken : (w : ℕ) → IsTakenAt words A nodes (length nodes) w → MayBeTaken words A nodes w
       taken w t =
           let may = and_parts t.node.key.i (not t.node.key.delay) t.taken.0 in
-          let take = and_parts (is_enabled t.node.key.masks t.taken.1.vector) (is_never A (vector_word (device_of words) t.taken.1.vector)) t.taken.1.take in
+          let take = and_parts (is_enabled (device_of words) t.node.key.masks t.taken.1.vector) (is_never A (vector_word (device_of words) t.taken.1.vector)) t.taken.1.take in
           record {
             never = subst (λ x. is_never A x ≡ true) t.taken.1.is take.1;
             node = t.node;
@@ -170,16 +175,13 @@ module _ (words : Program) (A : List Entry) (c : Claim) (nodes : List Node) (fil
           and_from m.node.key.i (not m.node.key.delay) m.i (ap not m.delay),
           record {
             vector = m.vector;
-            below = below m.vector m.enabled;
-            take = and_from (is_enabled m.node.key.masks m.vector) (is_never A (vector_word (device_of words) m.vector)) m.enabled (subst (λ x. is_never A x ≡ true) (sym m.is) m.never);
+            below = (enabled_bounds (device_of words) m.node.key.masks m.vector m.enabled).1;
+            take = and_from (is_enabled (device_of words) m.node.key.masks m.vector) (is_never A (vector_word (device_of words) m.vector)) m.enabled (subst (λ x. is_never A x ≡ true) (sym m.is) m.never);
             is = m.is;
           },
         );
       })) in
       subst (Contains (places_of new)) (let same : 0 + w ≡ w = omega arith in same) (placing 0 new w on)
-    where
-      below : (v : ℕ) → is_enabled m.node.key.masks v ≡ true → v < 25 + 2
-      below v e = grind (arith, nat_tests)
 
   pub are_nevers : AreNevers words A c (places_of new)
   are_nevers = record { nodes = nodes; expanded = filled; ascending = ascending 0 new; exact = λ w. (down w, up w) }

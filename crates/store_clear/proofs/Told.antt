@@ -5,7 +5,7 @@ use Rattle.std.proofs.lemmas.Option.{slice_get_within}
 use Rattle.avr_model.specs.declared.assumption.Entry.{Entry}
 use Rattle.avr_model.specs.Devices.{Program}
 use Rattle.local_rules.specs.declared.local.Node.{Node}
-use Rattle.edge_rules.specs.Views.{AreShown}
+use Rattle.call_graph.specs.Shown.{AreOfSomeDevice}
 use Rattle.certificate.specs.Claims.{Claim}
 use Rattle.certificate.specs.Valid.{family_of}
 use Rattle.clear_laws.specs.Clear.{IsClear}
@@ -34,7 +34,7 @@ passing_met P Nothing done h = refl
 passing_met P (Free d) done h = absurd done
 passing_met P Never done h = absurd h
 
-module _ (words : Program) (A : List Entry) (c : Claim) (nodes : List Node) (shown : AreShown nodes) (links : List (List ℕ)) (offsets : List ℕ) (seeds : List SlotSeed)
+module _ (words : Program) (A : List Entry) (c : Claim) (nodes : List Node) (shown : AreOfSomeDevice nodes) (links : List (List ℕ)) (offsets : List ℕ) (seeds : List SlotSeed)
     (along : SpreadsAlong words A nodes links offsets seeds) (old new : List Asks) (asked : AreAsked words A c.bound nodes old)
     (left : AreSettled links offsets seeds (length old) old new) where
   each : (at : ℕ) (n : Node) → slice_get nodes at ≡ Some n → (passes (ask_at new at) ≡ true) ↔ IsClear words A (family_of c nodes) n
@@ -50,10 +50,10 @@ module _ (words : Program) (A : List Entry) (c : Claim) (nodes : List Node) (sho
       Holding d = MayHold words A nodes n.key d
 
       up : (d : ℕ) → Along d → Holding d
-      up d = (slots_spread_along_links words A nodes links offsets seeds along.are shown at d n e).0
+      up d = (slots_spread_along_links shown.0 words A nodes links offsets seeds along.are shown.1 at d n e).0
 
       down : (d : ℕ) → Holding d → Along d
-      down d = (slots_spread_along_links words A nodes links offsets seeds along.are shown at d n e).1
+      down d = (slots_spread_along_links shown.0 words A nodes links offsets seeds along.are shown.1 at d n e).1
 
       in_nodes : at < length nodes
       in_nodes = slice_get_within nodes at n e
@@ -68,7 +68,7 @@ module _ (words : Program) (A : List Entry) (c : Claim) (nodes : List Node) (sho
   are_told = record { count = left.same ∙ asked.count_is; each = each }
 
 -- conditions behind a reference
-pub told_as : (words : Program) (A : List Entry) (c : Claim) (nodes : List Node) → AreShown nodes → (links : List (List ℕ)) (offsets : List ℕ) (seeds : List SlotSeed)
+pub told_as : (words : Program) (A : List Entry) (c : Claim) (nodes : List Node) → AreOfSomeDevice nodes → (links : List (List ℕ)) (offsets : List ℕ) (seeds : List SlotSeed)
     → SpreadsAlong words A nodes links offsets seeds → (old old' new : List Asks) → old' ≡ old → AreAsked words A c.bound nodes old → AreSettled links offsets seeds (length old') old' new
     → AreTold words A c nodes new
 told_as words A c nodes shown links offsets seeds along old old' new same asked left =

@@ -1,8 +1,8 @@
 -- The causes at a word, node by node. Definitions for the contracts of internal functions.
-use Rattle.std.specs.Prelude.{ℕ, ◌≡◌, ◌<◌, ◌==◌, ◌&&◌, ◌↔◌, Bool, true, not, List, [], map, Some, Contains, slice_get}
+use Rattle.std.specs.Prelude.{ℕ, ◌+◌, ◌≡◌, ◌<◌, ◌==◌, ◌&&◌, ◌↔◌, Bool, true, not, List, [], map, Some, Contains, slice_get}
 use Rattle.avr_model.specs.declared.assumption.Entry.{Entry}
 use Rattle.avr_model.specs.declared.instruction.Instr.{Instr}
-use Rattle.avr_model.specs.Devices.{Program}
+use Rattle.avr_model.specs.Devices.{Program, io_end, device_of}
 use Rattle.abs_state.specs.declared.state.AbsState.{AbsState}
 use Rattle.mask_states.specs.declared.keys.NodeKey.{NodeKey}
 use Rattle.local_rules.specs.declared.local.Node.{Node}
@@ -37,7 +37,7 @@ pub record PassesBelow (nodes : List Node) (asks : List Asks) (pc : ℕ) (test :
   pub passes : test node.state ≡ true
 
 abbrev pub IsProtectedAt : Program → List Entry → List Node → List Asks → ℕ → Instr → ℕ → ℕ → Type 0
-IsProtectedAt words A nodes asks pc instr count a = (a < 256) × PassesBelow nodes asks pc (λ s. may_write_protected words A pc s instr a) count
+IsProtectedAt words A nodes asks pc instr count a = (a < io_end (device_of words) + 1) × PassesBelow nodes asks pc (λ s. may_write_protected words A pc s instr a) count
 
 abbrev pub IsLiveAt : Program → List Entry → ℕ → List Node → List Asks → ℕ → Instr → ℕ → Type 0
 IsLiveAt words A bound nodes asks pc instr count = PassesBelow nodes asks pc (λ s. may_write_live words A bound pc s instr) count

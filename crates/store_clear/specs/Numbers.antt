@@ -4,8 +4,8 @@ use Rattle.avr_model.specs.declared.assumption.Entry.{Entry}
 use Rattle.avr_model.specs.declared.device.Device.{Device}
 use Rattle.avr_model.specs.declared.instruction.Instr.{Instr}
 use Rattle.avr_model.specs.Bits.{all_below}
-use Rattle.avr_model.specs.Devices.{Program, ramend}
-use Rattle.avr_model.specs.State.{BELOW, plus16, minus16}
+use Rattle.avr_model.specs.Devices.{Program, io_end, ramend}
+use Rattle.avr_model.specs.State.{plus16, minus16}
 use Rattle.abs_state.specs.declared.state.AbsState.{AbsState}
 use Rattle.clear_laws.specs.Aims.{permits_bytes, permits_number}
 use Rattle.clear_laws.specs.Clear.{is_address_harmless}
@@ -13,7 +13,7 @@ use Rattle.clear_laws.specs.Clear.{is_address_harmless}
 -- all addresses from the first to the last are in SRAM below the stack's reach, or above SRAM
 abbrev pub is_range_harmless : Device → ℕ → ℕ → ℕ → Bool
 is_range_harmless device bound first last =
-    nat_le first last && ((nat_lt BELOW first && nat_le (last + bound) (ramend device)) || nat_lt (ramend device) first)
+    nat_le first last && ((nat_lt (io_end device) first && nat_le (last + bound) (ramend device)) || nat_lt (ramend device) first)
 
 -- the bytes of registers r and r + 1 exclude the number, or the address `up` further, modulo 65,536, is harmless
 abbrev pub is_number_harmless : Program → List Entry → ℕ → ℕ → AbsState → Instr → ℕ → ℕ → ℕ → Bool

@@ -3,7 +3,7 @@ use Rattle.std.specs.Prelude.{ℕ, ◌+◌, ◌≡◌, ◌<◌, ◌↔◌, ◌�
 use Rattle.avr_model.specs.declared.assumption.Entry.{Entry}
 use Rattle.avr_model.specs.Assumptions.{is_never}
 use Rattle.avr_model.specs.Devices.{Program, device_of}
-use Rattle.avr_model.specs.Vectors.{is_enabled, vector_word}
+use Rattle.avr_model.specs.Vectors.{is_enabled, enable_count, vector_word}
 use Rattle.mask_states.specs.declared.keys.NodeKey.{NodeKey}
 use Rattle.local_rules.specs.declared.local.Node.{Node}
 use Rattle.clear_laws.specs.Reach.{is_on}
@@ -15,7 +15,7 @@ pub record AreMarkedBeside (P : ℕ → Type 0) (old new : List Bool) : Type 0 w
 
 -- the vector is enabled, and its word has a `never` line
 abbrev pub is_take : Program → List Entry → NodeKey → ℕ → Bool
-is_take words A k v = is_enabled k.masks v && is_never A (vector_word (device_of words) v)
+is_take words A k v = is_enabled (device_of words) k.masks v && is_never A (vector_word (device_of words) v)
 
 -- one of this many vectors, from 2 on, is so, and this is its word
 pub record IsTakenBelow (words : Program) (A : List Entry) (k : NodeKey) (count word : ℕ) : Type 0 where
@@ -30,7 +30,7 @@ may_take k = k.i && not k.delay
 
 -- `IsTakenBelow`, if an interrupt may be taken
 abbrev pub IsTakenFrom : Program → List Entry → NodeKey → ℕ → Type 0
-IsTakenFrom words A k word = (may_take k ≡ true) × IsTakenBelow words A k 25 word
+IsTakenFrom words A k word = (may_take k ≡ true) × IsTakenBelow words A k (enable_count (device_of words)) word
 
 -- `IsTakenFrom` for one of the first nodes
 pub record IsTakenAt (words : Program) (A : List Entry) (nodes : List Node) (count word : ℕ) : Type 0 where

@@ -42,7 +42,7 @@ pub(crate) fn by_word(alloc: Global, told: &ToldNodes<'_>) -> Result<ByWord, All
     ensures { IfOk result (λ links. AreLinked told.now.nodes.now told.now.asks.now 0 links.first.items links.later.items) }
 {
     let count = told.asks.len();
-    let mut first = vec![in alloc; count; usize::from(WORDS)]?;
+    let mut first = vec![in alloc; count; WORDS as usize]?;
     let mut later = vec![in alloc; count; count]?;
     link_all(told, first.as_mut_slice(), later.as_mut_slice());
     Ok(ByWord { first, later })

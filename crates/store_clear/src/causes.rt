@@ -1,9 +1,9 @@
 //! The causes at each word at which a step may be flagged.
 
-ghost use Rattle.std.specs.Prelude.{ℕ, ◌≡◌, ◌≤◌, ◌↔◌, true, length, Contains, IfOk};
+ghost use Rattle.std.specs.Prelude.{ℕ, ◌+◌, ◌≡◌, ◌≤◌, ◌↔◌, true, length, Contains, IfOk};
 ghost use Rattle.std.specs.List.Sorted.{IsStrictlySortedBy};
 ghost use Rattle.std.specs.Ordering.{nat_cmp};
-ghost use Rattle.avr_model.specs.Devices.{device_of, size_of};
+ghost use Rattle.avr_model.specs.Devices.{device_of, io_end, size_of};
 ghost use Rattle.certificate.specs.Valid.{family_of};
 ghost use Rattle.clear_laws.specs.Clear.{MayBeFlagged};
 ghost use Rattle.clear_laws.specs.Places.{IsPlaceOf};
@@ -35,11 +35,12 @@ struct WordSite<'a> {
 }
 
 // Marks the addresses that a store may write and that are flagged as protected.
+#[tactic(auto, using(crate::proofs::Io::most_io))]
 fn mark_addresses(store: &Store<'_>, marks: &mut [bool])
-    requires { length marks.old ≡ 256 }
-    ensures { AreMarkedBeside (IsProtectedBelow store.now.flash.now store.now.assumptions.now store.now.pc store.now.state.now store.now.instr.now 256) marks.old marks.new }
+    requires { length marks.old ≡ io_end (device_of store.now.flash.now) + 1 }
+    ensures { AreMarkedBeside (IsProtectedBelow store.now.flash.now store.now.assumptions.now store.now.pc store.now.state.now store.now.instr.now (io_end (device_of store.now.flash.now) + 1)) marks.old marks.new }
 {
-    for address in 0..256u16 {
+    for address in 0..store.flash.device().io_end() + 1 {
         if may_write_protected(store, address) {
             marks[usize::from(address)] = true;
         }
@@ -50,7 +51,7 @@ fn mark_addresses(store: &Store<'_>, marks: &mut [bool])
 fn mark_nodes(task: &Task<'_>, told: &ToldNodes<'_>, site: &WordSite<'_>, marks: &mut [bool])
     requires same { length told.now.asks.now ≡ length told.now.nodes.now }
     requires chain { IsChain told.now.nodes.now told.now.asks.now site.now.pc site.now.first site.now.later.now }
-    requires all { length marks.old ≡ 256 }
+    requires all { length marks.old ≡ io_end (device_of task.now.flash.now) + 1 }
     ensures { AreMarkedBeside (IsProtectedAt task.now.flash.now task.now.assumptions.now told.now.nodes.now told.now.asks.now site.now.pc site.now.instr.now (length told.now.asks.now)) marks.old marks.new }
 {
     let _count = told.nodes.count();
@@ -79,7 +80,8 @@ fn protected_of(
     ensures exact { IfOk result (λ list. (a : ℕ) → Contains list a ↔ IsProtectedAt task.now.flash.now task.now.assumptions.now told.now.nodes.now told.now.asks.now site.now.pc site.now.instr.now (length told.now.asks.now) a) }
     ensures ascending { IfOk result (λ list. IsStrictlySortedBy nat_cmp list) }
 {
-    let mut marks = vec![in task.alloc; false; 256]?;
+    let count = usize::from(task.flash.device().io_end()) + 1;
+    let mut marks = vec![in task.alloc; false; count]?;
     mark_nodes(task, told, site, marks.as_mut_slice());
     places(task.alloc, &marks)
 }

@@ -112,7 +112,7 @@ pub fn flagged_places_in(
 pub fn never_takes_in(task: &Task<'_>, nodes: &Filled) -> Result<Listed<u16>, AllocError>
     ensures exact { IfOk result (λ nevers. (c : Claim) → IsFilled task.now.flash.now task.now.assumptions.now c.nodes nodes.now → AreNevers task.now.flash.now task.now.assumptions.now c nevers) }
 {
-    let mut marks = vec![in task.alloc; false; usize::from(WORDS)]?;
+    let mut marks = vec![in task.alloc; false; WORDS as usize]?;
     mark_takes(task, nodes, marks.as_mut_slice());
     places(task.alloc, &marks)
 }

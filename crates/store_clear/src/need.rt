@@ -12,7 +12,6 @@ use crate::aims::aim;
 use crate::numbers::are_addresses_harmless;
 use crate::store::Store;
 use abs_state::AbsState;
-use avr_model::device::BELOW;
 use avr_model::instruction::{Base, Instr, LowRegister};
 use bit_domain::TriByte;
 use clear_laws::slots::Asks;
@@ -59,12 +58,12 @@ fn is_guarded(store: &Store<'_>, address: u16) -> bool
     ensures { result ≡ is_guarded (device_of store.now.flash.now) store.now.assumptions.now store.now.pc (stored_bits store.now.state.now store.now.instr.now) address }
 {
     let assumptions = store.assumptions;
-    if assumptions.admits_enables(store.pc) {
+    let device = store.flash.device();
+    if assumptions.admits_enables(device, store.pc) {
         let value = stored_bits(store.state, store.instr);
-        let device = store.flash.device();
         is_core(address) || may_enable_barred(device, assumptions, address, &value)
     } else {
-        is_protected(address) && !lists(assumptions.stores(store.pc), address)
+        is_protected(device, address) && !lists(assumptions.stores(store.pc), address)
     }
 }
 
@@ -83,10 +82,11 @@ pub(crate) fn is_address_harmless(store: &Store<'_>, bound: u16, address: u16) -
     requires { bound ≤ size_of (device_of store.now.flash.now) }
     ensures { result ≡ is_address_harmless store.now.flash.now store.now.assumptions.now bound store.now.pc store.now.state.now store.now.instr.now address }
 {
-    let ramend = store.flash.device().ramend();
-    (BELOW < address && address <= ramend - bound)
+    let device = store.flash.device();
+    let (below, ramend) = (device.io_end(), device.ramend());
+    (below < address && address <= ramend - bound)
         || ramend < address
-        || (address <= BELOW && !is_flagged_address(store, address))
+        || (address <= below && !is_flagged_address(store, address))
 }
 
 // Whether a store to one of these addresses writes neither a live byte nor a flagged address.
@@ -97,11 +97,12 @@ fn is_reach_harmless(store: &Store<'_>, bound: u16, reach: Reach) -> bool
     match reach {
         Reach::Nothing => true,
         Reach::Within(Span { first, last }) => {
-            let ramend = store.flash.device().ramend();
+            let device = store.flash.device();
+            let (below, ramend) = (device.io_end(), device.ramend());
             let flagged = is_flagged_address(store, first);
-            (BELOW < first && last <= ramend - bound)
+            (below < first && last <= ramend - bound)
                 || ramend < first
-                || (first == last && first <= BELOW && !flagged)
+                || (first == last && first <= below && !flagged)
         }
         Reach::Beyond => false,
     }
@@ -143,7 +144,7 @@ fn is_target_listed(flash: &Flash, state: &AbsState, listed: &[u16], z: u16) -> 
     ensures { result ≡ is_target_listed (device_of flash.now) state.now listed.now z }
 {
     let permitted = permits_pair(state, base_register(Base::Z), z);
-    !permitted || lists(listed, flash.device().wrap(z))
+    !permitted || lists(listed, flash.device().wrap(u32::from(z)))
 }
 
 // Whether all possible targets of Z are listed.

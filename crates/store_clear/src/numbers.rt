@@ -8,7 +8,6 @@ ghost use Rattle.store_clear.specs.Numbers.{is_range_harmless, is_number_harmles
 
 use crate::need::is_address_harmless;
 use crate::store::Store;
-use avr_model::device::BELOW;
 use avr_model::instruction::{Instr, LowRegister};
 use flash_image::Flash;
 use local_reads::members::permits_bytes;
@@ -23,8 +22,9 @@ fn is_range_harmless(flash: &Flash, bound: u16, first: u16, last: u16) -> bool
     requires { bound ≤ size_of (device_of flash.now) }
     ensures { result ≡ is_range_harmless (device_of flash.now) bound first last }
 {
-    let ramend = flash.device().ramend();
-    first <= last && ((BELOW < first && last <= ramend - bound) || ramend < first)
+    let device = flash.device();
+    let (below, ramend) = (device.io_end(), device.ramend());
+    first <= last && ((below < first && last <= ramend - bound) || ramend < first)
 }
 
 // Whether the bytes of registers `r` and `r + 1` exclude the number, or the address `up` further is harmless.

@@ -1,7 +1,9 @@
 //! The words of vectors that are assumed never to be taken, and that some node may take.
 
 ghost use Rattle.std.specs.Prelude.{◌≡◌, ◌≤◌, length};
+ghost use Rattle.avr_model.specs.Devices.{device_of};
 ghost use Rattle.avr_model.specs.Image.{WORDS};
+ghost use Rattle.avr_model.specs.Vectors.{last_vector, enable_count};
 ghost use Rattle.store_clear.specs.Takes.{AreMarkedBeside, is_take, IsTakenBelow, may_take, IsTakenAt};
 
 use call_graph::{Filled, Task};
@@ -10,20 +12,22 @@ use mask_states::NodeKey;
 // Whether the vector is enabled, and its word has a `never` line.
 fn is_take(task: &Task<'_>, key: &NodeKey, v: u8) -> bool
     requires low { 2 ≤ v }
-    requires high { v ≤ 26 }
+    requires high { v ≤ last_vector (device_of task.now.flash.now) }
     ensures { result ≡ is_take task.now.flash.now task.now.assumptions.now key.now v }
 {
-    key.masks.has(v) && task.assumptions.never(task.flash.device().vector_word(v))
+    let device = task.flash.device();
+    key.masks.has(device, v) && task.assumptions.never(device.vector_word(v))
 }
 
 // Marks the words of all such vectors.
 fn mark_vectors(task: &Task<'_>, key: &NodeKey, marks: &mut [bool])
     requires { length marks.old ≡ WORDS }
-    ensures { AreMarkedBeside (IsTakenBelow task.now.flash.now task.now.assumptions.now key.now 25) marks.old marks.new }
+    ensures { AreMarkedBeside (IsTakenBelow task.now.flash.now task.now.assumptions.now key.now (enable_count (device_of task.now.flash.now))) marks.old marks.new }
 {
-    for n in 0..25u8 {
+    let device = task.flash.device();
+    for n in 0..device.last_vector() - 1 {
         if is_take(task, key, n + 2) {
-            marks[usize::from(task.flash.device().vector_word(n + 2))] = true;
+            marks[usize::from(device.vector_word(n + 2))] = true;
         }
     }
 }

@@ -56,7 +56,7 @@ pub(crate) fn sites_of(alloc: Global, told: &ToldNodes<'_>) -> Result<Listed<u16
     requires { length told.now.asks.now ≡ length told.now.nodes.now }
     ensures { IfOk result (λ sites. AreSitesTold told.now.nodes.now told.now.asks.now sites) }
 {
-    let mut marks = vec![in alloc; false; usize::from(WORDS)]?;
+    let mut marks = vec![in alloc; false; WORDS as usize]?;
     mark_words(told, marks.as_mut_slice());
     places(alloc, &marks)
 }

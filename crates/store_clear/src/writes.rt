@@ -40,10 +40,11 @@ pub(crate) fn may_write_protected(store: &Store<'_>, address: u16) -> bool
 }
 
 // Whether some data address is so.
+#[tactic(auto, using(crate::proofs::Io::most_io))]
 fn may_write_some_protected(store: &Store<'_>) -> bool
     ensures { result ≡ may_write_some_protected store.now.flash.now store.now.assumptions.now store.now.pc store.now.state.now store.now.instr.now }
 {
-    for address in 0..256u16 {
+    for address in 0..store.flash.device().io_end() + 1 {
         if may_write_protected(store, address) {
             return true;
         }

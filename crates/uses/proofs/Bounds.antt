@@ -40,8 +40,8 @@ trial_bounded law words A m end cs device depth start reset is run after ends bo
     (subst (λ (x : Machine). x.depth ≤ bound) (sym start) (omega arith))
     (h.depth m.state cs (subst (λ d. IsReset d m.state) is reset) run)
 
-pub replay_bounded : ReplaysAreRuns → (words : Program) (A : List Entry) (plan : Plan) (r : ReplayReport) → plan.fill < 256 → AreRuns None most_choices plan.runs
+pub replay_bounded : ReplaysAreRuns → (device : Device) (words : Program) (A : List Entry) (plan : Plan) (r : ReplayReport) → plan.fill < 256 → AreRuns device None most_choices plan.runs
     → told (Ok r) ≡ replay_of words A plan → (bound : ℕ) → Bounded words A bound → r.depth ≤ bound
-replay_bounded law words A plan r small fit is bound h =
-    let runs = law words A plan (record { steps = r.steps; depth = r.depth; stop = r.stop }) (record { fill_is_byte = small; runs_fit = fit }) (sym is) in
+replay_bounded law device words A plan r small fit is bound h =
+    let runs = law device words A plan (record { steps = r.steps; depth = r.depth; stop = r.stop }) (record { fill_is_byte = small; runs_fit = fit }) (sym is) in
     subst (λ n. n ≤ bound) (sym runs.depth) (h.depth _ runs.choices runs.reset runs.run)

@@ -1,21 +1,29 @@
 //! Shows `indirect_targets`.
 
-ghost use Rattle.std.specs.Prelude.{◌≡◌, IfOk};
+ghost use Rattle.std.specs.Prelude.{◌≡◌, true, IfOk};
+ghost use Rattle.std.specs.List.{All};
+ghost use Rattle.vector_table.specs.Entries.{fits_device};
 
+use avr_model::device::Device;
 use indirect_targets::{read, write};
 use sb_base::LineWriter;
 use std::alloc::{AllocError, Global};
 use vector_table::Assumptions;
 
-/// Writes an assumption list and reads it back, which gives that list. Fails if memory runs out.
-pub fn read_back(alloc: Global, list: &Assumptions) -> Result<Assumptions, AllocError>
+/// Writes an assumption list that fits a device and reads it back, which gives that list. Fails if memory runs out.
+pub fn read_back(
+    alloc: Global,
+    device: Device,
+    list: &Assumptions,
+) -> Result<Assumptions, AllocError>
+    requires { All (λ e. fits_device device e ≡ true) list.now }
     ensures { IfOk result (λ again. again ≡ list.now) }
 {
     let _entries = list.entries();
     let mut out = LineWriter::new(alloc);
     write(list, &mut out)?;
     let text = out.finish();
-    match read(alloc, &text) {
+    match read(alloc, device, &text) {
         Ok(again) => Ok(again),
         Err(_) => Err(AllocError),
     }

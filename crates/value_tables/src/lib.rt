@@ -1,4 +1,4 @@
-//! Tables of worked values: bytes with some bits known, places in a frame, states, keys, and arithmetic on all of them.
+//! Tables of worked values: devices and their enable bits, bytes with some bits known, places in a frame, states, keys, and arithmetic.
 #![tactic(auto)]
 
 #[cfg(test)]

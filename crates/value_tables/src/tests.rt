@@ -2,6 +2,8 @@
 
 mod abstract_arithmetic;
 mod arithmetic;
+mod devices;
+mod enables;
 mod keys;
 mod offsets;
 mod pools;
@@ -79,10 +81,17 @@ fn tell_bits(told: &mut Told, alloc: Global) {
     tell(told, alloc, &abstract_arithmetic::PRODUCTS);
 }
 
+// Devices, and their enable bits.
+fn tell_devices(told: &mut Told, alloc: Global) {
+    tell(told, alloc, &devices::NAMES);
+    tell(told, alloc, &enables::PLACES);
+    tell(told, alloc, &enables::WRITES);
+    tell(told, alloc, &enables::ADDRESSES);
+    tell(told, alloc, &enables::SPLITS);
+}
+
 // Keys and states.
 fn tell_keys(told: &mut Told, alloc: Global) {
-    tell(told, alloc, &keys::ADDRESSES);
-    tell(told, alloc, &keys::SPLITS);
     tell(told, alloc, &keys::INSTANCES);
     tell(told, alloc, &keys::NODES);
     tell(told, alloc, &keys::EDGES);
@@ -108,6 +117,7 @@ fn each_row_holds(rt: HostRuntime) {
         wrong: false,
     };
     tell_bits(&mut told, alloc);
+    tell_devices(&mut told, alloc);
     tell_keys(&mut told, alloc);
     tell_facts(&mut told, alloc);
     let Told { table, row, wrong } = told;

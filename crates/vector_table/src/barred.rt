@@ -1,27 +1,30 @@
 //! Barred vectors: those with a `never` entry.
 
-ghost use Rattle.std.specs.Prelude.{◌≡◌, ◌≤◌};
+ghost use Rattle.std.specs.Prelude.{◌≡◌, true};
 ghost use Rattle.avr_model.specs.Masks.{is_barred, enables_barred};
+ghost use Rattle.avr_model.specs.Vectors.{is_vector};
 
 use crate::assumption_list::Assumptions;
-use crate::rows::ENABLES;
+use crate::table::has_common;
 use avr_model::device::Device;
 
-/// Whether the word of vector `v`, 2 to 26, has a `never` entry.
+/// Whether the word of vector `v` has a `never` entry.
 pub fn is_barred(device: Device, assumptions: &Assumptions, v: u8) -> bool
-    requires least { 2 ≤ v }
-    requires most { v ≤ 26 }
+    requires vector { is_vector device v ≡ true }
     ensures { result ≡ is_barred device assumptions.now v }
 {
     assumptions.never(device.vector_word(v))
 }
 
-/// Whether `byte` has 1 at an enable bit of data address `address` whose vector's word has a `never` entry.
+/// Whether `byte` has 1 at a bit of data address `address` that enables a vector whose word has a `never` entry.
 pub fn enables_barred(device: Device, assumptions: &Assumptions, address: u16, byte: u8) -> bool
     ensures { result ≡ enables_barred device assumptions.now address byte }
 {
-    for (k, &(at, bit)) in ENABLES.iter().enumerate() {
-        if at == address && byte >> bit & 1 == 1 && is_barred(device, assumptions, k as u8 + 2) {
+    for place in device.places() {
+        if place.address == address
+            && has_common(byte, place.mask)
+            && is_barred(device, assumptions, place.vector)
+        {
             return true;
         }
     }

@@ -8,7 +8,7 @@ use Rattle.avr_model.specs.declared.choice.Flag.{Flag}
 use Rattle.avr_model.specs.declared.choice.StepResult.TheVariants as answer
 use Rattle.avr_model.specs.declared.assumption.Entry.{Entry}
 use Rattle.avr_model.specs.declared.instruction.Instr.{Instr}
-use Rattle.avr_model.specs.Assumptions.{has_masks}
+use Rattle.avr_model.specs.Masks.{reads_masks}
 use Rattle.avr_model.specs.Devices.{Program, device_of}
 use Rattle.avr_model.specs.Sites.{instruction_at}
 use Rattle.avr_model.specs.State.{State, filled, depth_of_state}
@@ -91,10 +91,10 @@ fewer may (w ∷ ws) m = left_if w ws (due_at may w m)
 
 module _ (words : Program) (A : List Entry) (points : List Waypoint) (bound fill : ℕ) where
   abbrev pub Picks : List Waypoint → State → Choice
-  Picks = pick_due (has_masks A) fill
+  Picks = pick_due (reads_masks (device_of words) A) fill
 
   abbrev pub Leaves : List Waypoint → State → List Waypoint
-  Leaves = due_left (has_masks A)
+  Leaves = due_left (reads_masks (device_of words) A)
 
   -- choices of the trial lead from one place to another
   abbrev pub Goes : List Waypoint → Machine → List Choice → List Waypoint → Machine → Type 0
@@ -107,8 +107,8 @@ module _ (words : Program) (A : List Entry) (points : List Waypoint) (bound fill
   fewer_left ws m [] left end h = inl h.0
   fewer_left ws m (c ∷ cs) left end h =
       elim (fewer_left (Leaves ws m.state) (moved_on m (Done h.2)) cs left end h.4) [
-        | inl same ↦ elim (fewer (has_masks A) ws m.state) [ inl kept ↦ inl (same ∙ kept) | inr less ↦ inr (subst (λ (xs : List Waypoint). length xs < length ws) (sym same) less) ]
-        | inr less ↦ elim (fewer (has_masks A) ws m.state) [ inl kept ↦ inr (subst (λ (xs : List Waypoint). length left < length xs) kept less) | inr more ↦ inr (omega (arith, less, more)) ]
+        | inl same ↦ elim (fewer (reads_masks (device_of words) A) ws m.state) [ inl kept ↦ inl (same ∙ kept) | inr less ↦ inr (subst (λ (xs : List Waypoint). length xs < length ws) (sym same) less) ]
+        | inr less ↦ elim (fewer (reads_masks (device_of words) A) ws m.state) [ inl kept ↦ inr (subst (λ (xs : List Waypoint). length left < length xs) kept less) | inr more ↦ inr (omega (arith, less, more)) ]
       ]
 
   same_left : (ws : List Waypoint) (m : Machine) (cs : List Choice) (left : List Waypoint) (end : Machine) → Goes ws m cs left end → length left ≡ length ws → left ≡ ws
@@ -159,7 +159,7 @@ module _ (words : Program) (A : List Entry) (points : List Waypoint) (bound fill
     Trial = trial_by steps words A points bound fill
 
     trial_runs : IsRun words A Trial (filled (device_of words) fill)
-    trial_runs = run_by Picks Leaves words A bound (pick_bytes (has_masks A) fill byte) (pick_legal words A (has_masks A) fill) steps points Start
+    trial_runs = run_by Picks Leaves words A bound (pick_bytes (reads_masks (device_of words) A) fill byte) (pick_legal words A (reads_masks (device_of words) A) fill) steps points Start
 
     depth_is : (machine_after words A Trial Start).depth ≡ depth_of words A Trial (filled (device_of words) fill)
     depth_is = depth_from_reset law words A fill Start Trial (machine_after words A Trial Start) (machine_after words A Trial Start).depth refl trial_runs refl refl

@@ -7,7 +7,7 @@ use Rattle.basics.specs.Numbers.{most_from_start}
 use Rattle.avr_model.specs.declared.choice.Choice.{Choice}
 use Rattle.avr_model.specs.declared.choice.Stop.TheVariants as stop
 use Rattle.avr_model.specs.declared.assumption.Entry.{Entry}
-use Rattle.avr_model.specs.Assumptions.{has_masks}
+use Rattle.avr_model.specs.Masks.{reads_masks}
 use Rattle.avr_model.specs.Devices.{Program, device_of, ramend}
 use Rattle.avr_model.specs.State.{State, filled}
 use Rattle.avr_model.specs.Run.{IsRun, starting, depth_of, stop_of}
@@ -35,11 +35,11 @@ whole steps words A points bound fill is = ap (λ (n : ℕ). trial_by n words A 
 
 pub few_choices : (steps : ℕ) (words : Program) (A : List Entry) (points : List Waypoint) (bound fill : ℕ) (cs : List Choice) → steps ≡ most_choices
     → cs ≡ trial_by steps words A points bound fill → length cs ≤ 16777216
-few_choices steps words A points bound fill cs most is = omega (arith, few (pick_due (has_masks A) fill) (due_left (has_masks A)) words A bound steps points (starting (filled (device_of words) fill)), ap length is, most, steps_are)
+few_choices steps words A points bound fill cs most is = omega (arith, few (pick_due (reads_masks (device_of words) A) fill) (due_left (reads_masks (device_of words) A)) words A bound steps points (starting (filled (device_of words) fill)), ap length is, most, steps_are)
 
 pub short : TrialsAreShort
 unfolding trial_of
-short words A points bound fill = omega (arith, few (pick_due (has_masks A) fill) (due_left (has_masks A)) words A bound most_choices points (starting (filled (device_of words) fill)), steps_are)
+short words A points bound fill = omega (arith, few (pick_due (reads_masks (device_of words) A) fill) (due_left (reads_masks (device_of words) A)) words A bound most_choices points (starting (filled (device_of words) fill)), steps_are)
 
 -- ---- a trial that reaches the bound
 
@@ -51,7 +51,7 @@ module _ (law : DepthIsKept) (words : Program) (A : List Entry) where
       (sym is)
       (λ run deep.
       let e = law words A (trial_by steps words A points bound fill) (starting (filled (device_of words) fill)) (omega arith) run ∙ most_from_start (ramend (device_of words)) (depth_of words A (trial_by steps words A points bound fill) (filled (device_of words) fill)) ∙ deep in
-      ends_well (pick_due (has_masks A) fill) (due_left (has_masks A)) words A bound steps points (starting (filled (device_of words) fill)) (omega (arith, e)))
+      ends_well (pick_due (reads_masks (device_of words) A) fill) (due_left (reads_masks (device_of words) A)) words A bound steps points (starting (filled (device_of words) fill)) (omega (arith, e)))
 
   replays : (bound : ℕ) (cs : List Choice) (m : State) → IsRun words A cs m → depth_of words A cs m ≡ bound → stop_of words A cs m ≡ stop.End
       → IsOkAnd (replay_from words A cs m) (λ r. (r.stop ≡ stop.End) × (r.depth ≡ bound))
@@ -77,7 +77,7 @@ module _ (words : Program) (A : List Entry) (points : List Waypoint) (bound : �
       short (ap (λ (xs : List Choice). depth_of words A xs (filled (device_of words) fill)) (whole steps words A points bound fill most) ∙ h)
 
   pub tried : (steps fill : ℕ) (cs : List Choice) (plan : Plan) → steps ≡ most_choices → cs ≡ trial_by steps words A points bound fill → Succeeds words A points bound fill
-      → plan.fill ≡ fill → choices_of plan.runs ≡ cs → IsSchedule plan → IsTried words A points bound fill (Some plan)
+      → plan.fill ≡ fill → choices_of plan.runs ≡ cs → IsSchedule (device_of words) plan → IsTried words A points bound fill (Some plan)
   tried steps fill cs plan most is reached filling choices fits = (
     filling,
     reached,

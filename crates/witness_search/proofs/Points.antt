@@ -2,7 +2,8 @@
 use Rattle.std.proofs.Common.{◌≡◌, refl, ap, ◌∙◌, ℕ, ◌+◌, ◌==◌, ◌&&◌, ◌||◌, not, Bool, true, false, if◌then◌else◌, IsTrue, List, [], ◌∷◌}
 use Rattle.basics.specs.Booleans.{last_of_four}
 use Rattle.avr_model.specs.declared.choice.Choice.TheVariants.{Go}
-use Rattle.avr_model.specs.Vectors.{is_enabled, WATCHDOG}
+use Rattle.avr_model.specs.declared.device.Device.{Device}
+use Rattle.avr_model.specs.Vectors.{is_enabled, watchdog}
 use Rattle.avr_model.specs.State.{State, i_flag}
 use Rattle.avr_model.specs.Step.{may_take}
 use Rattle.avr_machine.specs.declared.menu.Menu.{Menu}
@@ -19,7 +20,9 @@ regrouped false i delay clears watchdog = refl
 
 legal_as : (menu : Menu) (m : State) (w : Waypoint) → IsMenuOf menu m → has_choice menu (interrupt_of w) ≡ may_take m w.vector w.clears
 legal_as menu m w is =
-    ap (λ (t : Bool). t && (not w.clears || (w.vector == WATCHDOG))) (is.takes w.vector) ∙ regrouped (is_enabled m.enables w.vector) (i_flag m) m.delay w.clears (w.vector == WATCHDOG)
+    ap (λ (t : Bool). t && (not w.clears || (w.vector == watchdog menu.device))) (is.takes w.vector)
+    ∙ ap (λ (device : Device). may_take m w.vector false && (not w.clears || (w.vector == watchdog device))) is.device
+    ∙ regrouped (is_enabled m.device m.enables w.vector) (i_flag m) m.delay w.clears (w.vector == watchdog m.device)
 
 due_as : (may : Bool) (menu : Menu) (m : State) (w : Waypoint) → IsMenuOf menu m → is_due may w menu ≡ due_at may w m
 due_as may menu m w is =

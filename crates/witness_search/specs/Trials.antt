@@ -2,7 +2,7 @@
 use Rattle.std.specs.Prelude.{ℕ, ◌≡◌, List, [], ◌∷◌, ◌++◌, Option, Some, None, Contains}
 use Rattle.avr_model.specs.declared.choice.Choice.{Choice}
 use Rattle.avr_model.specs.declared.assumption.Entry.{Entry}
-use Rattle.avr_model.specs.Assumptions.{has_masks}
+use Rattle.avr_model.specs.Masks.{reads_masks}
 use Rattle.avr_model.specs.Devices.{Program, device_of}
 use Rattle.avr_model.specs.State.{filled}
 use Rattle.avr_model.specs.Run.{starting, depth_of}
@@ -18,7 +18,8 @@ fills = 0x00 ∷ 0xFF ∷ 0x55 ∷ 0xAA ∷ 0x01 ∷ 0x80 ∷ 0x7F ∷ 0xFE ∷ 
 
 -- The choices of the trial with this fill byte, from reset until the depth is at least the bound, or a stop, or this many steps.
 abbrev pub trial_by : ℕ → Program → List Entry → List Waypoint → ℕ → ℕ → List Choice
-trial_by steps words A points bound fill = choices_by (pick_due (has_masks A) fill) (due_left (has_masks A)) words A bound steps points (starting (filled (device_of words) fill))
+trial_by steps words A points bound fill =
+    choices_by (pick_due (reads_masks (device_of words) A) fill) (due_left (reads_masks (device_of words) A)) words A bound steps points (starting (filled (device_of words) fill))
 
 unfoldable pub trial_of : Program → List Entry → List Waypoint → ℕ → ℕ → List Choice
 trial_of words A points bound fill = trial_by most_choices words A points bound fill
@@ -32,7 +33,7 @@ NoneSucceeds words A points bound ts = (fill : ℕ) → Contains ts fill → Suc
 
 -- a schedule of the trial with its fill byte
 pub record IsTrial (words : Program) (A : List Entry) (points : List Waypoint) (bound : ℕ) (plan : Plan) : Type 0 where
-  pub fits : IsSchedule plan
+  pub fits : IsSchedule (device_of words) plan
   pub choices : choices_of plan.runs ≡ trial_of words A points bound plan.fill
 
 -- the result of one trial: a schedule if it succeeds

@@ -57,8 +57,9 @@ fn attempt(
     ensures { IfOk result (IsAttempted steps task.now.flash.now task.now.assumptions.now points.now bound fill) }
 {
     depth_is_kept();
-    let may = task.assumptions.has_masks();
-    let mut machine = Machine::start(task.flash.device(), fill);
+    let device = task.flash.device();
+    let may = task.assumptions.reads_masks(device);
+    let mut machine = Machine::start(device, fill);
     let mut rest = points;
     let mut choices = Vec::new(task.alloc);
     let mut mark = Mark::new(0, &machine, rest);
@@ -97,7 +98,8 @@ fn try_fill(
     let Some(choices) = attempt(task, points, bound, fill, most_choices())? else {
         return Ok(None);
     };
-    let schedule = Schedule::from_trace(task.alloc, fill, choices.as_slice())?;
+    let device = task.flash.device();
+    let schedule = Schedule::from_trace(task.alloc, device, fill, choices.as_slice())?;
     Ok(Some(schedule))
 }
 

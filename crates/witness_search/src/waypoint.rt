@@ -17,7 +17,7 @@ pub struct Waypoint {
     pub depth: u16,
     /// The stack pointer's place at reset: the last address of the device's SRAM.
     pub end: u16,
-    /// The vector, 2 to 26.
+    /// The vector.
     pub vector: u8,
     /// Whether the vector's own enable bit is cleared then.
     pub clears: bool,

@@ -1,7 +1,10 @@
 //! What is said of the certificate that is found for a small firmware, worked by hand: which nodes are clear, where a step may be flagged and
 //! for what, which vectors may be taken though they are assumed never to be, and the deepest chain.
 
-ghost use Rattle.std.specs.Prelude.{[]};
+ghost use Rattle.std.specs.Prelude.{[], ◌≡◌, true};
+ghost use Rattle.std.specs.List.{All};
+ghost use Rattle.avr_model.specs.Devices.{device_of};
+ghost use Rattle.vector_table.specs.Entries.{fits_device};
 ghost use Rattle.certificate.specs.Valid.{IsSound};
 
 use super::Worked;
@@ -161,7 +164,9 @@ fn is_explained(
     }
 }
 
-fn is_under(alloc: Global, flash: &Flash, list: &Assumptions, row: &Row) -> bool {
+fn is_under(alloc: Global, flash: &Flash, list: &Assumptions, row: &Row) -> bool
+    requires { All (λ e. fits_device (device_of flash.now) e ≡ true) list.now }
+{
     match solve(alloc, flash, list, None) {
         Ok(certificate) => {
             is_flagged(alloc, flash, list, &certificate, row)

@@ -1,6 +1,7 @@
 //! Families of small firmwares, worked by hand: the successors of nodes, or their faults.
 
-ghost use Rattle.std.specs.Prelude.{◌<◌, false, length};
+ghost use Rattle.std.specs.Prelude.{◌≡◌, ◌<◌, false, length, IfSome};
+ghost use Rattle.avr_model.specs.Devices.{device_of};
 ghost use Rattle.edge_rules.specs.Expansion.{AreSeeds};
 ghost use Rattle.edge_laws.specs.Expansions.{AreSeedsAscending};
 
@@ -92,7 +93,7 @@ fn is_missing(due: &Due, missing: u32) -> bool {
 
 // Whether the family of these nodes is as expected.
 fn is_family(alloc: Global, flash: &Flash, nodes: &SeedList, at: usize, due: &Due) -> bool
-    requires seeds { AreSeeds false nodes.now.items.items }
+    requires seeds { AreSeeds (device_of flash.now) false nodes.now.items.items }
     requires ascending { AreSeedsAscending nodes.now.items.items }
 {
     let none = Assumptions::empty(alloc);
@@ -109,15 +110,17 @@ fn is_family(alloc: Global, flash: &Flash, nodes: &SeedList, at: usize, due: &Du
 }
 
 fn is_on(alloc: Global, flash: &Flash, row: &Row) -> bool {
-    match seeds_of(alloc, row.2) {
+    match seeds_of(alloc, flash.device(), row.2) {
         Ok(Some(nodes)) => is_family(alloc, flash, &nodes, row.3, &row.4),
         _ => false,
     }
 }
 
 // The flash of a device that begins with these bytes.
-pub(crate) fn flash_on(alloc: Global, device: Device, bytes: &[u8]) -> Option<Flash> {
-    match Flash::from_raw(alloc, bytes) {
+pub(crate) fn flash_on(alloc: Global, device: Device, bytes: &[u8]) -> Option<Flash>
+    ensures { IfSome result (λ flash. device_of flash ≡ device) }
+{
+    match Flash::from_raw(alloc, device, bytes) {
         Ok(whole) => whole.narrow(device).ok(),
         Err(_) => None,
     }

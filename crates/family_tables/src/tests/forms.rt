@@ -1,12 +1,14 @@
 //! Families of small firmwares, worked by hand: states that are left out.
 
 ghost use Rattle.std.specs.Prelude.{◌≤◌, false, length};
+ghost use Rattle.avr_model.specs.Devices.{device_of};
 ghost use Rattle.edge_rules.specs.Expansion.{AreSeeds};
 ghost use Rattle.edge_laws.specs.Expansions.{AreSeedsAscending};
 ghost use Rattle.call_graph.specs.Landings.{AreLandings};
 
 use super::Worked;
 use crate::tests::seeds::{Plan, SeedList, seeds_of};
+use avr_model::device::Device;
 use call_graph::{Expanded, Filled, Leaving, NodeForm, Task, Worked as Family, exits, expand};
 use fixpoint::forming::forms;
 use flash_image::Flash;
@@ -61,7 +63,7 @@ fn is_formed(task: &Task<'_>, nodes: Filled, due: &[Option<u32>]) -> bool
 
 // Whether the family of these nodes is written as expected.
 fn is_family(alloc: Global, flash: &Flash, nodes: &SeedList, due: &[Option<u32>]) -> bool
-    requires seeds { AreSeeds false nodes.now.items.items }
+    requires seeds { AreSeeds (device_of flash.now) false nodes.now.items.items }
     requires ascending { AreSeedsAscending nodes.now.items.items }
 {
     let none = Assumptions::empty(alloc);
@@ -77,7 +79,7 @@ fn is_family(alloc: Global, flash: &Flash, nodes: &SeedList, due: &[Option<u32>]
 }
 
 fn is_on(alloc: Global, flash: &Flash, row: &Row) -> bool {
-    match seeds_of(alloc, row.1) {
+    match seeds_of(alloc, flash.device(), row.1) {
         Ok(Some(nodes)) => is_family(alloc, flash, &nodes, row.2),
         _ => false,
     }
@@ -85,7 +87,7 @@ fn is_on(alloc: Global, flash: &Flash, row: &Row) -> bool {
 
 impl Worked for Row {
     fn holds(&self, alloc: Global) -> bool {
-        match Flash::from_raw(alloc, self.0) {
+        match Flash::from_raw(alloc, Device::M328, self.0) {
             Ok(flash) => is_on(alloc, &flash, self),
             Err(_) => false,
         }

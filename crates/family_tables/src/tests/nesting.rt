@@ -5,6 +5,7 @@ ghost use Rattle.nesting_bound.specs.Graph.{IsGraph};
 ghost use Rattle.nesting_bound.specs.Least.{IsLeast};
 
 use super::Worked;
+use avr_model::device::SIZE;
 use avr_model::listed::Listed;
 use mask_states::{EdgeKind, InstKey, Kind};
 use nesting_bound::{
@@ -139,7 +140,7 @@ fn has_chain(alloc: Global, graph: &Graph, composed: &Composed, wanted: &Least) 
     requires least { IsLeast graph.now.instances composed.now.ranks composed.now.needs }
     requires places { HavePlaces graph.now.instances }
 {
-    if composed.need(0) > 2_048 {
+    if composed.need(0) > u32::from(SIZE) {
         return false;
     }
     match chain(alloc, graph, composed) {
@@ -330,9 +331,9 @@ pub static ROWS: [(&str, &[Row]); 1] = [(
             &[(NONE, 0, &[(0, 0)], &[(0, 0, CALL, 1)])],
             Wanted::Shapeless,
         ),
-        Row(&[(NONE, 0, &[(0, 2_049)], &[])], Wanted::Shapeless),
+        Row(&[(NONE, 0, &[(0, 16_385)], &[])], Wanted::Shapeless),
         Row(
-            &[(NONE, 0, &[(0, 0)], &[(0, 2_049, CALL, 0)])],
+            &[(NONE, 0, &[(0, 0)], &[(0, 16_385, CALL, 0)])],
             Wanted::Shapeless,
         ),
         Row(&[(NONE, 0, &[], &[])], Wanted::Placeless),

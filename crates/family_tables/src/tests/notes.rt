@@ -11,6 +11,9 @@ use mask_states::{NodeKey, SpForm};
 use round_nesting::{Nesting, NestingVerdict};
 use std::alloc::{AllocError, Global};
 
+// The number of bytes of SRAM of the ATmega328P.
+const SRAM: u16 = 2_048;
+
 // The kind of an instance's entry, and the entry: 0 is the root, 1 a call, and any other number a vector.
 type Inst = (u8, u16);
 
@@ -113,13 +116,13 @@ pub struct Row(u16, &'static [Note], NestingVerdict);
 pub static ROWS: [(&str, &[Row]); 1] = [(
     "nesting",
     &[
-        Row(SIZE, &[Note::Node(ROOT, 0)], NestingVerdict::Nests),
-        // a need of exactly the least SRAM, and one more; then of the greatest
+        Row(SRAM, &[Note::Node(ROOT, 0)], NestingVerdict::Nests),
+        // a need of exactly the SRAM of the ATmega48PA, and one more; then of exactly that of the ATmega328P
         Row(512, &[Note::Node(ROOT, 512)], NestingVerdict::Nests),
         Row(512, &[Note::Node(ROOT, 513)], NestingVerdict::TooDeep(513)),
-        Row(SIZE, &[Note::Node(ROOT, 2_048)], NestingVerdict::Nests),
+        Row(SRAM, &[Note::Node(ROOT, 2_048)], NestingVerdict::Nests),
         Row(
-            SIZE,
+            SRAM,
             &[
                 Note::Node(ROOT, 0),
                 Note::Entrance(ROOT, 46, FUNCTION),
@@ -128,7 +131,7 @@ pub static ROWS: [(&str, &[Row]); 1] = [(
             NestingVerdict::Nests,
         ),
         Row(
-            SIZE,
+            SRAM,
             &[
                 Note::Node(ROOT, 0),
                 Note::Entrance(ROOT, 46, FUNCTION),
@@ -138,12 +141,12 @@ pub static ROWS: [(&str, &[Row]); 1] = [(
         ),
         // an entered instance without nodes needs nothing
         Row(
-            SIZE,
+            SRAM,
             &[Note::Node(ROOT, 0), Note::Entrance(ROOT, 2_046, FUNCTION)],
             NestingVerdict::Nests,
         ),
         Row(
-            SIZE,
+            SRAM,
             &[
                 Note::Node(ROOT, 0),
                 Note::Entrance(ROOT, 2_047, FUNCTION),
@@ -153,7 +156,7 @@ pub static ROWS: [(&str, &[Row]); 1] = [(
         ),
         // a handler below a function below the root, with a return address for each
         Row(
-            SIZE,
+            SRAM,
             &[
                 Note::Node(ROOT, 10),
                 Note::Entrance(ROOT, 1_000, FUNCTION),
@@ -165,7 +168,7 @@ pub static ROWS: [(&str, &[Row]); 1] = [(
         ),
         // two instances enter a third, each at its own depth
         Row(
-            SIZE,
+            SRAM,
             &[
                 Note::Node(ROOT, 0),
                 Note::Entrance(ROOT, 2_000, LEAF),
@@ -178,7 +181,7 @@ pub static ROWS: [(&str, &[Row]); 1] = [(
         ),
         // a recursive function, and one that is recursive through another
         Row(
-            SIZE,
+            SRAM,
             &[
                 Note::Node(ROOT, 0),
                 Note::Entrance(ROOT, 0, FUNCTION),
@@ -188,7 +191,7 @@ pub static ROWS: [(&str, &[Row]); 1] = [(
             NestingVerdict::Recursion(40),
         ),
         Row(
-            SIZE,
+            SRAM,
             &[
                 Note::Node(ROOT, 0),
                 Note::Entrance(ROOT, 0, FUNCTION),
@@ -201,7 +204,7 @@ pub static ROWS: [(&str, &[Row]); 1] = [(
         ),
         // two handlers that enter each other: the lesser vector is named
         Row(
-            SIZE,
+            SRAM,
             &[
                 Note::Node(ROOT, 0),
                 Note::Entrance(ROOT, 0, LATER),
@@ -214,7 +217,7 @@ pub static ROWS: [(&str, &[Row]); 1] = [(
         ),
         // a handler is named before a function
         Row(
-            SIZE,
+            SRAM,
             &[
                 Note::Node(ROOT, 0),
                 Note::Entrance(ROOT, 0, LEAF),
@@ -228,7 +231,7 @@ pub static ROWS: [(&str, &[Row]); 1] = [(
         ),
         // a cycle comes before the depth, also if the root is noted last
         Row(
-            SIZE,
+            SRAM,
             &[
                 Note::Node(FUNCTION, 2_048),
                 Note::Entrance(FUNCTION, 0, FUNCTION),
@@ -248,5 +251,5 @@ impl Worked for Row {
 
 /// Whether forty functions below each other nest.
 pub fn is_chain(alloc: Global) -> bool {
-    is_row(alloc, SIZE, &chain(), &NestingVerdict::Nests)
+    is_row(alloc, SRAM, &chain(), &NestingVerdict::Nests)
 }

@@ -1,7 +1,8 @@
 //! Families of small firmwares, node by node.
 
-ghost use Rattle.std.specs.Prelude.{ℕ, ◌≡◌, ◌<◌, false, length, slice_get, Some, None, IsTrue, IfOk, IfSome, OnOk};
+ghost use Rattle.std.specs.Prelude.{ℕ, ◌≡◌, ◌<◌, ◌^◌, false, length, slice_get, Some, None, IsTrue, IfOk, IfSome, OnOk};
 ghost use Rattle.std.specs.declared.cmp.Ordering.TheVariants.{Less};
+ghost use Rattle.avr_model.specs.Vectors.{enable_count};
 ghost use Rattle.mask_states.specs.declared.keys.NodeKey as node_key;
 ghost use Rattle.mask_states.specs.declared.keys.SpForm.TheVariants.{Closed};
 ghost use Rattle.mask_states.specs.Order.{node_cmp};
@@ -10,7 +11,7 @@ ghost use Rattle.edge_rules.specs.Expansion.{AreSeeds};
 ghost use Rattle.edge_laws.specs.Expansions.{AreSeedsAscending};
 
 use abs_state::AbsState;
-use avr_model::device::WORDS;
+use avr_model::device::Device;
 use call_graph::{NodeForm, Seed, Seeded};
 use edge_rules::HeldState;
 use mask_states::{InstKey, Kind, NodeKey, SpForm};
@@ -47,12 +48,24 @@ impl Seeded for SeedList {
 #[derive(Clone, Copy)]
 pub(crate) struct Plan(pub Kind, pub u16, pub bool, pub u16, pub Option<(u32, u16)>);
 
+// Vectors 2 and 7 of the device enabled, or none.
+fn masks_of(device: Device, on: bool) -> Masks
+    ensures { result < 2 ^ enable_count device }
+{
+    if !on || device.last_vector() < 7 {
+        return Masks::none();
+    }
+    let second = Masks::none().with(device, 2, true);
+    second.with(device, 7, true)
+}
+
 // The node's key; in the root I is set if vectors are enabled.
-fn key_of(plan: &Plan, offset: u16) -> NodeKey
+fn key_of(device: Device, plan: &Plan, offset: u16) -> NodeKey
+    ensures masks { result.masks < 2 ^ enable_count device }
     ensures closed { result.sp ≡ Closed offset }
     ensures unpicked { result.pick ≡ None }
 {
-    let masks = Masks::none().with(2, plan.2).with(7, plan.2);
+    let masks = masks_of(device, plan.2);
     let is_root = plan.0 == Kind::Root;
     NodeKey {
         inst: InstKey {
@@ -97,18 +110,19 @@ fn may_follow(items: &[(NodeKey, NodeForm)], key: &NodeKey) -> bool
 // A node with the state at reset, if it may follow.
 fn add_own(
     alloc: Global,
+    device: Device,
     items: &mut Vec<(NodeKey, NodeForm)>,
     key: NodeKey,
 ) -> Result<bool, AllocError>
+    requires masks { key.masks < 2 ^ enable_count device }
     requires closed { key.sp ≡ Closed 0 }
     requires unpicked { key.pick ≡ None }
-    requires seeds { AreSeeds false items.old.items }
+    requires seeds { AreSeeds device false items.old.items }
     requires ascending { AreSeedsAscending items.old.items }
-    ensures seeds { OnOk result (AreSeeds false items.new.items) }
+    ensures seeds { OnOk result (AreSeeds device false items.new.items) }
     ensures ascending { OnOk result (AreSeedsAscending items.new.items) }
 {
-    let _ = key.masks.bits();
-    if key.pc >= WORDS || !may_follow(items, &key) {
+    if u32::from(key.pc) >= device.limit() || !may_follow(items, &key) {
         return Ok(false);
     }
     let held = HeldState::new(alloc, AbsState::root(alloc))?;
@@ -118,13 +132,14 @@ fn add_own(
 
 // A node that comes from an earlier one, if it may follow.
 fn add_from(
+    device: Device,
     items: &mut Vec<(NodeKey, NodeForm)>,
     key: NodeKey,
     from: u32,
 ) -> Result<bool, AllocError>
-    requires seeds { AreSeeds false items.old.items }
+    requires seeds { AreSeeds device false items.old.items }
     requires ascending { AreSeedsAscending items.old.items }
-    ensures seeds { OnOk result (AreSeeds false items.new.items) }
+    ensures seeds { OnOk result (AreSeeds device false items.new.items) }
     ensures ascending { OnOk result (AreSeedsAscending items.new.items) }
 {
     if from as usize >= items.len() || !may_follow(items, &key) {
@@ -135,25 +150,34 @@ fn add_from(
 }
 
 // One more node, if it may follow.
-fn add(alloc: Global, items: &mut Vec<(NodeKey, NodeForm)>, plan: &Plan) -> Result<bool, AllocError>
-    requires seeds { AreSeeds false items.old.items }
+fn add(
+    alloc: Global,
+    device: Device,
+    items: &mut Vec<(NodeKey, NodeForm)>,
+    plan: &Plan,
+) -> Result<bool, AllocError>
+    requires seeds { AreSeeds device false items.old.items }
     requires ascending { AreSeedsAscending items.old.items }
-    ensures seeds { OnOk result (AreSeeds false items.new.items) }
+    ensures seeds { OnOk result (AreSeeds device false items.new.items) }
     ensures ascending { OnOk result (AreSeedsAscending items.new.items) }
 {
     match plan.4 {
-        None => add_own(alloc, items, key_of(plan, 0)),
-        Some((from, offset)) => add_from(items, key_of(plan, offset), from),
+        None => add_own(alloc, device, items, key_of(device, plan, 0)),
+        Some((from, offset)) => add_from(device, items, key_of(device, plan, offset), from),
     }
 }
 
-// The nodes, if they are in a valid order.
-pub(crate) fn seeds_of(alloc: Global, plans: &[Plan]) -> Result<Option<SeedList>, AllocError>
-    ensures { IfOk result (λ found. IfSome found (λ s. AreSeeds false s.items.items × AreSeedsAscending s.items.items)) }
+// The nodes on a device, if they are in a valid order.
+pub(crate) fn seeds_of(
+    alloc: Global,
+    device: Device,
+    plans: &[Plan],
+) -> Result<Option<SeedList>, AllocError>
+    ensures { IfOk result (λ found. IfSome found (λ s. AreSeeds device false s.items.items × AreSeedsAscending s.items.items)) }
 {
     let mut items = Vec::new(alloc);
     for at in 0..plans.len() {
-        if !add(alloc, &mut items, &plans[at])? {
+        if !add(alloc, device, &mut items, &plans[at])? {
             return Ok(None);
         }
     }

@@ -60,7 +60,8 @@ fn is_due(flash: &Flash, assumptions: &Assumptions, schedule: &Schedule, row: &R
 fn is_tried(alloc: Global, flash: &Flash, assumptions: &Assumptions, row: &Row) -> bool {
     let points = [Waypoint {
         pc: 7,
-        masks: Masks::none().with(2, true),
+        // the enable bit of vector 2
+        masks: Masks::from_bits(1),
         depth: row.1,
         end: Device::M328.ramend(),
         vector: 2,
@@ -74,7 +75,7 @@ fn is_tried(alloc: Global, flash: &Flash, assumptions: &Assumptions, row: &Row) 
 }
 
 fn is_on(alloc: Global, bytes: &[u8], row: &Row) -> bool {
-    match Flash::from_raw(alloc, bytes) {
+    match Flash::from_raw(alloc, Device::M328, bytes) {
         Ok(flash) => is_tried(alloc, &flash, &Assumptions::empty(alloc), row),
         Err(_) => false,
     }

@@ -1,6 +1,7 @@
 //! Verdicts on a small firmware, worked by hand: a call, a jump to itself after it, and the callee's return.
 
 ghost use Rattle.std.specs.Prelude.{◌≡◌, IfOk};
+ghost use Rattle.avr_model.specs.Devices.{device_of};
 ghost use Rattle.edge_rules.specs.Examples.{callee};
 ghost use Rattle.family_tables.specs.Examples.{form_by, nodes_by, insts_by};
 
@@ -125,13 +126,21 @@ fn instances(alloc: Global, rank: u16, need: u16) -> Result<Vec<Inst>, AllocErro
 }
 
 // The row's certificate.
-fn certificate(alloc: Global, row: &Row) -> Result<Certificate, AllocError> {
+fn certificate(alloc: Global, row: &Row) -> Result<Certificate, AllocError>
+    ensures { IfOk result (λ c. c.device ≡ row.now.device) }
+{
     let bound = row.bound.min(2048);
     let rank = row.rank.min(2048);
     let need = row.need.min(2048);
     let instances = instances(alloc, rank, need)?;
     let nodes = nodes(alloc, row.from)?;
-    Ok(Certificate::build(bound, Assumptions::empty(alloc), instances, nodes))
+    Ok(Certificate::build(
+        row.device,
+        bound,
+        Assumptions::empty(alloc),
+        instances,
+        nodes,
+    ))
 }
 
 // The verdict on a certificate in numbers, whether or not a schedule attains its bound.
@@ -140,7 +149,9 @@ fn verdict_in_numbers(
     flash: &Flash,
     assumptions: &Assumptions,
     certificate: &Certificate,
-) -> Result<(u8, u32, u32), AllocError> {
+) -> Result<(u8, u32, u32), AllocError>
+    requires { certificate.now.device ≡ device_of flash.now }
+{
     match judge(alloc, flash, assumptions, certificate) {
         Ok(verdict) if is_attained(flash, assumptions, certificate) => Ok(told(&verdict)),
         Ok(_) => Ok((8, 0, 0)),
@@ -158,7 +169,9 @@ fn assumptions(alloc: Global, assumed: bool) -> Assumptions {
 }
 
 // Whether the verdict on this certificate is that of the row.
-fn is_judged(alloc: Global, flash: &Flash, certificate: &Certificate, row: &Row) -> bool {
+fn is_judged(alloc: Global, flash: &Flash, certificate: &Certificate, row: &Row) -> bool
+    requires { certificate.now.device ≡ device_of flash.now }
+{
     let assumptions = assumptions(alloc, row.assumed);
     match verdict_in_numbers(alloc, flash, &assumptions, certificate) {
         Ok(verdict) => verdict == row.verdict,
@@ -166,7 +179,9 @@ fn is_judged(alloc: Global, flash: &Flash, certificate: &Certificate, row: &Row)
     }
 }
 
-fn is_on(alloc: Global, flash: &Flash, row: &Row) -> bool {
+fn is_on(alloc: Global, flash: &Flash, row: &Row) -> bool
+    requires { row.now.device ≡ device_of flash.now }
+{
     match certificate(alloc, row) {
         Ok(certificate) => is_judged(alloc, flash, &certificate, row),
         Err(_) => false,

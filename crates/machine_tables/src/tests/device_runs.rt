@@ -1,6 +1,7 @@
 //! Texts of devices. Refused texts, and runs that devices choose, are in tests/end_to_end.
 
 use super::Worked;
+use avr_model::device::Device;
 use device_hooks::Devices;
 use std::alloc::Global;
 
@@ -21,7 +22,7 @@ pub static TEXTS: [(&str, &[Text]); 1] = [(
 
 impl Worked for Text {
     fn holds(&self, alloc: Global) -> bool {
-        match Devices::read(alloc, self.0) {
+        match Devices::read(alloc, Device::M328, self.0) {
             Ok(devices) => devices.count() == self.1,
             Err(_) => false,
         }

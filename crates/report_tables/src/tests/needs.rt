@@ -107,7 +107,7 @@ fn are_reports(
 // Whether both reports of the row's own certificate are the row's.
 fn is_row(alloc: Global, row: &Row) -> Result<bool, Fail> {
     let text = certificate_text(alloc, row)?;
-    let certificate = read(alloc, text.as_bytes()).map_err(|_| "no certificate")?;
+    let certificate = read(alloc, row.device, text.as_bytes()).map_err(|_| "no certificate")?;
     let mut names = Names::new(alloc);
     match add_name(&mut names, row) {
         Ok(()) => Ok(are_reports(alloc, row, &certificate, &names)?),

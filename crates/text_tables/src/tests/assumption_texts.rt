@@ -1,6 +1,7 @@
 //! Texts with answers that were worked out by hand, written lists, and targets.
 
 use super::Worked;
+use avr_model::device::Device;
 use bit_domain::TriByte;
 use indirect_targets::{AssumeText, entry_of, read, targets, write};
 use sb_base::LineWriter;
@@ -332,7 +333,7 @@ fn is_written(alloc: Global, list: &Assumptions, text: &[u8]) -> bool {
 }
 
 fn is_answer(alloc: Global, text: &[u8], due: &Result<usize, AssumeText>) -> bool {
-    match read(alloc, text) {
+    match read(alloc, Device::M328, text) {
         Ok(list) => is_written(alloc, &list, text) && *due == Ok(list.entries().len()),
         Err(fault) => *due == Err(fault),
     }
@@ -366,7 +367,7 @@ pub static ALONE: [(&str, &[Alone]); 1] = [(
 
 impl Worked for Alone {
     fn holds(&self, alloc: Global) -> bool {
-        match entry_of(alloc, self.0) {
+        match entry_of(alloc, Device::M328, self.0) {
             Ok(entry) => entry.is_some() == self.1,
             Err(_) => false,
         }
@@ -404,7 +405,7 @@ impl Worked for Targets {
     fn holds(&self, _alloc: Global) -> bool {
         let low = TriByte::new(self.0[0], self.0[1]);
         let high = TriByte::new(self.0[2], self.0[3]);
-        match targets(&low, &high) {
+        match targets(Device::M328, &low, &high) {
             Ok(words) => self.1 == Some(words.as_slice()),
             Err(_) => self.1.is_none(),
         }
@@ -413,7 +414,7 @@ impl Worked for Targets {
 
 /// Whether six unknown bits give 64 targets.
 pub fn are_sixty_four() -> bool {
-    match targets(&TriByte::new(0xC0, 0x40), &TriByte::of(0x01)) {
+    match targets(Device::M328, &TriByte::new(0xC0, 0x40), &TriByte::of(0x01)) {
         Ok(targets) => {
             let words = targets.as_slice();
             words.len() == 64 && (words[0], words[63]) == (0x0140, 0x017F)

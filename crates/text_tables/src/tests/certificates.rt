@@ -3,6 +3,7 @@
 
 use super::Worked;
 use super::second_version::{LATER, PAIRS, has_its_facts, has_later_values};
+use avr_model::device::Device;
 use cert_format::{CertFault, Certificate, Limit, read, write};
 use edge_rules::NodeForm;
 use mask_states::Kind;
@@ -153,7 +154,7 @@ fn is_written(alloc: Global, certificate: &Certificate, text: &[u8]) -> bool {
 }
 
 fn is_read(alloc: Global, text: &[u8], version: &Version) -> bool {
-    match read(alloc, text) {
+    match read(alloc, Device::M328, text) {
         Ok(certificate) => {
             is_written(alloc, &certificate, text) && has_values(&certificate, version) == Some(true)
         }
@@ -181,7 +182,7 @@ pub static CELLS: [(&str, &[Cells]); 1] = [(
 )];
 
 fn is_refused(alloc: Global, text: &[u8], due: &Option<CertFault>) -> bool {
-    match read(alloc, text) {
+    match read(alloc, Device::M328, text) {
         Ok(_) => due.is_none(),
         Err(fault) => *due == Some(fault),
     }

@@ -2,6 +2,7 @@
 
 use super::Worked;
 use avr_model::choice::Choice;
+use avr_model::device::Device;
 use sb_base::{LineReader, LineWriter};
 use std::alloc::Global;
 use witness_replay::{Schedule, ScheduleFault};
@@ -70,7 +71,7 @@ fn is_written(alloc: Global, schedule: &Schedule, text: &[u8], end: usize) -> bo
 
 // Whether the reader is after the schedule, or at the refused line.
 fn is_read(alloc: Global, reader: &mut LineReader<'_>, row: &Text) -> bool {
-    match (Schedule::read(alloc, reader), row.1) {
+    match (Schedule::read(alloc, Device::M328, reader), row.1) {
         (Ok(schedule), Ok(end)) => {
             reader.offset() == end && is_written(alloc, &schedule, row.0, end)
         }
@@ -90,7 +91,7 @@ impl Worked for Text {
 pub fn is_within(alloc: Global) -> bool {
     let mut reader = LineReader::new(b"first\nschedule 1\nfill 7F\ngo 0 00 00\nend\n");
     reader.next();
-    let answer = Schedule::read(alloc, &mut reader);
+    let answer = Schedule::read(alloc, Device::M328, &mut reader);
     answer.err() == Some(ScheduleFault::Malformed(25)) && reader.offset() == 25
 }
 
@@ -116,7 +117,7 @@ fn is_run(alloc: Global, schedule: &Schedule) -> bool {
 
 /// Whether equal choices in a row become runs.
 pub fn are_runs(alloc: Global) -> bool {
-    match Schedule::from_trace(alloc, 0x5A, &CHOICES) {
+    match Schedule::from_trace(alloc, Device::M328, 0x5A, &CHOICES) {
         Ok(schedule) => is_run(alloc, &schedule),
         Err(_) => false,
     }

@@ -92,13 +92,14 @@ pub fn misput_in_pieces(alloc: Global) -> Option<usize> {
 }
 
 /// Digits, how many are read, and the answer.
-pub struct Hexadecimal(&'static [u8], usize, Result<u32, DigitFault>);
+pub struct Hexadecimal(&'static [u8], usize, Result<u64, DigitFault>);
 
 pub static HEXADECIMAL: [(&str, &[Hexadecimal]); 1] = [(
     "hexadecimal",
     &[
         Hexadecimal(b"940C", 4, Ok(37900)),
         Hexadecimal(b"FFFFFFFF", 8, Ok(4294967295)),
+        Hexadecimal(b"FFFFFFFFFFFFFFFF", 16, Ok(u64::MAX)),
         Hexadecimal(b"940c", 4, Err(DigitFault::BadDigit(3))),
         Hexadecimal(b"94", 4, Err(DigitFault::WrongLength(2))),
     ],
@@ -106,7 +107,7 @@ pub static HEXADECIMAL: [(&str, &[Hexadecimal]); 1] = [(
 
 impl Worked for Hexadecimal {
     fn holds(&self, _alloc: Global) -> bool {
-        self.1 >= 1 && self.1 <= 8 && read_hex(self.0, self.1) == self.2
+        self.1 >= 1 && self.1 <= 16 && read_hex(self.0, self.1) == self.2
     }
 }
 

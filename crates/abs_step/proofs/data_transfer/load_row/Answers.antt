@@ -9,5 +9,5 @@ pub returns-in-None : goal.returns-in-None
 returns-in-None c =
     let nodes = c.args.nodes.now in
     let site = c.args.site.now in
-    let told = c.read_pointed.ensures ∙ (λ i. read_pointed site.device (c.has_masks-may.ensures i) site.key.now site.state.now (c.point-pointed.ensures i)) in
+    let told = c.read_pointed.ensures ∙ (λ i. read_pointed site.device (c.reads_masks-may.ensures i) site.key.now site.state.now (c.point-pointed.ensures i)) in
     subst (λ read. AreNodesAdded nodes nodes (loading site.device site.key.now site.state.now c.args.registers.now c.args.d read)) (sym c.in-None.is ∙ told) (none_added nodes)

@@ -1,4 +1,4 @@
-use Rattle.std.proofs.Common.{◌≡◌, ◌∙◌, sym, ap, ℕ, ◌-◌, arith}
+use Rattle.std.proofs.Common.{◌∙◌, sym, ap, ℕ, ◌-◌, arith}
 use Rattle.avr_model.specs.Devices.{image}
 use Rattle.avr_model.specs.Image.{word_at}
 use Rattle.avr_model.specs.Table.{length_of}

@@ -1,4 +1,5 @@
 use Rattle.std.proofs.Common.{◌≡◌, refl, length, arith}
+use Rattle.avr_model.specs.Devices.{device_of}
 use Rattle.edge_rules.specs.Seeds.{form_of}
 use Rattle.edge_laws.proofs.ExpansionLaws.{filled_lists_are_shown}
 use Rattle.call_graph.proofs.Working.{numbered, gives_missing, gives_more, gives_whole}
@@ -23,10 +24,12 @@ loop-at-preserved g c =
 
 pub new-requires : goal.new-requires
 new-requires g c =
-    let full : c.loop-at.at ≡ length (g.S.Seeded.nodes c.args.nodes.now) = omega (arith, c.loop-at-test.false, c.loop-at.auto.at-end, c.count-at-end.ensures) in
-    filled_lists_are_shown.shown c.args.task.now.flash.now c.args.task.now.assumptions.now (g.S.Seeded.nodes c.args.nodes.now) c.loop-at.done.items
-    (gives_whole c.args.task.now.flash.now c.args.task.now.assumptions.now (g.S.Seeded.nodes c.args.nodes.now) c.loop-at.at c.loop-at.done.items c.loop-at.invariant
-    c.loop-at.done.items refl full) c.requires.ascending
+    let full : c.loop-at.at ≡ length (g.S.Seeded.nodes c.args.nodes.now) = omega (arith, c.loop-at-test.false, c.loop-at.auto.at-end, c.count-at-end.ensures) in (
+      device_of c.args.task.now.flash.now,
+      filled_lists_are_shown.shown c.args.task.now.flash.now c.args.task.now.assumptions.now (g.S.Seeded.nodes c.args.nodes.now) c.loop-at.done.items
+          (gives_whole c.args.task.now.flash.now c.args.task.now.assumptions.now (g.S.Seeded.nodes c.args.nodes.now) c.loop-at.at c.loop-at.done.items c.loop-at.invariant
+          c.loop-at.done.items refl full) c.requires.ascending,
+    )
 
 pub returns : goal.returns
 returns g c =

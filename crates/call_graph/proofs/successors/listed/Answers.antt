@@ -1,10 +1,8 @@
 use Rattle.call_graph.proofs.Shown.{node_there}
 use Rattle.call_graph.proofs.successors.listed.Goals as goal
 
-pub local-requires-clause-word : goal.local-requires-clause-word
-local-requires-clause-word c =
-    (node_there c.args.nodes.now c.args.at c.key-key.result.now c.state-state.result.now c.count-count.ensures.shown c.key-key.ensures c.state-state.ensures).word
-
-pub local-requires-clause-sized : goal.local-requires-clause-sized
-local-requires-clause-sized c =
-    (node_there c.args.nodes.now c.args.at c.key-key.result.now c.state-state.result.now c.count-count.ensures.shown c.key-key.ensures c.state-state.ensures).formed.count_slots
+pub local-requires : goal.local-requires
+local-requires c =
+    record {
+      sized = (node_there c.args.nodes.now c.args.at c.key-key.result.now c.state-state.result.now c.count-count.ensures.shown c.key-key.ensures c.state-state.ensures).formed.count_slots;
+    }

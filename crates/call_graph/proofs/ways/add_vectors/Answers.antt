@@ -1,4 +1,6 @@
 use Rattle.std.proofs.Common.{◌≡◌, ◌∙◌, ap, ◌++◌, arith}
+use Rattle.avr_model.specs.Devices.{device_of}
+use Rattle.avr_model.specs.Vectors.{enable_count, last_vector}
 use Rattle.call_graph.specs.Ways.{vectors_below}
 use Rattle.call_graph.proofs.Vectors.{no_vectors, one_vector_more}
 use Rattle.call_graph.proofs.ways.add_vectors.Goals as goal
@@ -12,5 +14,5 @@ loop-n-preserved c =
 
 pub returns : goal.returns
 returns c =
-    let done : c.loop-n.n ≡ 25 = omega arith in
+    let done : c.loop-n.n ≡ enable_count (device_of c.args.task.now.flash.now) = omega (arith, ap last_vector c.device.ensures) in
     c.loop-n.invariant ∙ ap (λ n. c.args.ways.now.items ++ vectors_below c.args.task.now.flash.now c.args.task.now.assumptions.now c.args.key.now n) done

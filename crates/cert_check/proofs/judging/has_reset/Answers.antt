@@ -1,12 +1,12 @@
 use Rattle.std.proofs.Common.{subst₂}
 use Rattle.std.specs.Prelude.{◌↔◌, IsTrue}
 use Rattle.cert_check.specs.Reading.{LandsOpen}
-use Rattle.cert_check.proofs.Verdicts.{reset_is_node, reset_is}
+use Rattle.cert_check.proofs.Verdicts.{reset_slots, reset_is}
 use Rattle.cert_check.proofs.judging.has_reset.Goals as goal
 
-pub lands-requires-clause-node : goal.lands-requires-clause-node
-lands-requires-clause-node c =
-    reset_is_node c.args.task.now.assumptions.now c.root.result c.entry-key.result c.in_ok-state.state c.root.ensures c.entry-key.ensures c.in_ok-state.ensures
+pub lands-requires-clause-slots : goal.lands-requires-clause-slots
+lands-requires-clause-slots c =
+    reset_slots c.args.task.now.assumptions.now c.root.result c.entry-key.result c.in_ok-state.state c.root.ensures c.entry-key.ensures c.in_ok-state.ensures
 
 pub returns : goal.returns
 returns c =

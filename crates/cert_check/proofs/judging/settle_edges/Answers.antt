@@ -5,11 +5,14 @@ use Rattle.cert_check.specs.Demands.{AreDemandsInside, IsGathering, IsWeighed, D
 use Rattle.cert_check.proofs.Demands.{landed_belongs, all_inside}
 use Rattle.cert_check.proofs.Asking.{decided}
 use Rattle.cert_check.proofs.One.{are_instances}
-use Rattle.cert_check.proofs.Verdicts.{few_nodes, beside, nodes_belong, node_fits}
+use Rattle.cert_check.proofs.Verdicts.{few_nodes, shown, beside, nodes_belong, node_fits}
 use Rattle.cert_check.proofs.judging.settle_edges.Goals as goal
 
 pub gather-requires-clause-few : goal.gather-requires-clause-few
 gather-requires-clause-few c = few_nodes c.args.task.now.flash.now c.args.task.now.assumptions.now c.args.certificate.now c.args.nodes.now c.requires.claim c.requires.filled
+
+pub gather-requires-clause-shown : goal.gather-requires-clause-shown
+gather-requires-clause-shown c = shown c.args.task.now.flash.now c.args.task.now.assumptions.now c.args.certificate.now c.args.nodes.now c.requires.claim c.requires.filled
 
 pub gather-requires-clause-instances : goal.gather-requires-clause-instances
 gather-requires-clause-instances c = are_instances c.args.certificate.now c.requires.claim
@@ -54,7 +57,7 @@ returns-in-Accepted c =
     let nodes = c.args.nodes.now in
     let belong = nodes_belong words A claim nodes c.requires.claim c.requires.filled in
     let found = subst (IsGathering words A claim.nodes claim.instances nodes) c.in-All.is c.in_ok-at.ensures in
-    let all = decided words A claim nodes (are_instances claim c.requires.claim) belong found.0 c.in-All.field-0.demands.items found.1 c.requires.reset c.requires.taken.faultless
+    let all = decided words A claim nodes (are_instances claim c.requires.claim) belong found.0 c.in-All.field-0.demands.items found.1 c.requires.device c.requires.reset c.requires.taken.faultless
     c.weigh.result (subst (λ ds. IsWeighed words claim A ds c.weigh.result) c.deref.ensures.value c.weigh.ensures) in
     let met = subst (Decides words A claim nodes) c.in-Accepted.is all in
     (met.0, found.2)
@@ -67,6 +70,6 @@ returns c =
     let nodes = c.args.nodes.now in
     let belong = nodes_belong words A claim nodes c.requires.claim c.requires.filled in
     let found = subst (IsGathering words A claim.nodes claim.instances nodes) c.in-All.is c.in_ok-at.ensures in
-    let all = decided words A claim nodes (are_instances claim c.requires.claim) belong found.0 c.in-All.field-0.demands.items found.1 c.requires.reset c.requires.taken.faultless
+    let all = decided words A claim nodes (are_instances claim c.requires.claim) belong found.0 c.in-All.field-0.demands.items found.1 c.requires.device c.requires.reset c.requires.taken.faultless
     c.weigh.result (subst (λ ds. IsWeighed words claim A ds c.weigh.result) c.deref.ensures.value c.weigh.ensures) in
     subst (Decides words A claim nodes) c.in-Rejected.is all

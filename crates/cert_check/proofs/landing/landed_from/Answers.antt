@@ -7,8 +7,8 @@ use Rattle.cert_check.proofs.Covering.{lesser_keys}
 use Rattle.cert_check.proofs.Gathered.{gathered_more}
 use Rattle.cert_check.proofs.landing.landed_from.Goals as goal
 
-pub note-requires-clause-node : goal.note-requires-clause-node
-note-requires-clause-node c =
+pub note-requires-clause-slots : goal.note-requires-clause-slots
+note-requires-clause-slots c =
     let e = c.index-edges-at.result in
     c.requires.targets e (read_in c.args.edges.now c.loop-at.at e e c.loop-at-test.true c.index-edges-at.is)
 

@@ -14,7 +14,7 @@ prove-unreachable-requires c =
 
 pub le-requires : goal.le-requires
 le-requires c =
-    same_slots c.args.site.now.nodes.now c.args.key.now c.args.state.now c.in-Some.at c.state.result.now c.count-count.ensures.shown (sym c.requires.place ∙ c.in-Some.is) c.state.ensures c.requires.node
+    same_slots c.args.site.now.nodes.now c.args.key.now c.args.state.now c.in-Some.at c.state.result.now c.count-count.ensures.shown.1 (sym c.requires.place ∙ c.in-Some.is) c.state.ensures c.requires.slots
 
 pub is_open-requires-clause-inside : goal.is_open-requires-clause-inside
 is_open-requires-clause-inside c =
@@ -23,18 +23,18 @@ is_open-requires-clause-inside c =
     slice_get_within own c.in-Some.at (c.args.key.now, has.0) has.1
 
 pub is_open-requires-clause-ascending : goal.is_open-requires-clause-ascending
-is_open-requires-clause-ascending c = subst (IsStrictlySortedBy node_cmp) c.requires.beside c.count-count.ensures.shown.ascending
+is_open-requires-clause-ascending c = subst (IsStrictlySortedBy node_cmp) c.requires.beside c.count-count.ensures.shown.1.ascending
 
 pub returns-then-le : goal.returns-then-le
 returns-then-le c =
-    let both = covered_at c.args.site.now.nodes.now c.args.key.now c.args.state.now c.in-Some.at c.state.result.now c.count-count.ensures.shown (sym c.requires.place ∙ c.in-Some.is) c.state.ensures in
+    let both = covered_at c.args.site.now.nodes.now c.args.key.now c.args.state.now c.in-Some.at c.state.result.now c.count-count.ensures.shown.1 (sym c.requires.place ∙ c.in-Some.is) c.state.ensures in
     let has = key_found c.args.site.now.certificate.now.nodes c.args.site.now.nodes.now c.args.key.now c.in-Some.at c.requires.beside (sym c.requires.place ∙ c.in-Some.is) in
     let opens = c.is_open.ensures c.args.key.now has in
     (λ h. (both.0 (c.le.ensures.0 c.if-le.true), opens.0 h), λ h. opens.1 h.1)
 
 pub returns-else-le : goal.returns-else-le
 returns-else-le c =
-    let both = covered_at c.args.site.now.nodes.now c.args.key.now c.args.state.now c.in-Some.at c.state.result.now c.count-count.ensures.shown (sym c.requires.place ∙ c.in-Some.is) c.state.ensures in
+    let both = covered_at c.args.site.now.nodes.now c.args.key.now c.args.state.now c.in-Some.at c.state.result.now c.count-count.ensures.shown.1 (sym c.requires.place ∙ c.in-Some.is) c.state.ensures in
     (λ h. let f = c.if-le.false in absurd (cc), λ h. c.le.ensures.1 (both.1 h.0))
 
 pub returns-in-None : goal.returns-in-None

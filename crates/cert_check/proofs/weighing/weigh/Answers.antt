@@ -1,8 +1,9 @@
 use Rattle.std.proofs.Common.{◌≡◌, sym, ap, ◌∙◌, subst, Some, arith}
 use Rattle.mask_states.specs.Keys.{root_inst}
 use Rattle.certificate.specs.Insts.{need_in}
-use Rattle.cert_check.specs.Demands.{AreDemandsInside, IsLeastOffered, MeetsRank, LowRank, PairBelow, MeetsNeed, LowNeed, NumberBelow, RanksFall, AllMet, need_at}
+use Rattle.cert_check.specs.Demands.{AreInstances, AreDemandsInside, IsLeastOffered, MeetsRank, LowRank, PairBelow, MeetsNeed, LowNeed, NumberBelow, RanksFall, AllMet, need_at}
 use Rattle.cert_check.proofs.Insts.{need_there}
+use Rattle.cert_check.proofs.One.{are_instances}
 use Rattle.cert_check.proofs.Verdicts.{inst_fits, need_fits}
 use Rattle.cert_check.proofs.weighing.weigh.Goals as goal
 
@@ -26,6 +27,15 @@ returns-in-Some c = subst (λ i. IsLeastOffered (MeetsRank i) (LowRank i) PairBe
 
 pub low_need-requires-clause-inside : goal.low_need-requires-clause-inside
 low_need-requires-clause-inside c = subst (λ i. AreDemandsInside i c.args.demands.now) (sym c.instances-instances.ensures) c.requires.inside
+
+pub low_need-requires-clause-instances : goal.low_need-requires-clause-instances
+low_need-requires-clause-instances c = subst AreInstances (sym c.instances-instances.ensures) (are_instances c.args.certificate.now c.requires.claim)
+
+pub number_of-requires-clause-instances : goal.number_of-requires-clause-instances
+number_of-requires-clause-instances c = subst AreInstances (sym c.instances-instances.ensures) (are_instances c.args.certificate.now c.requires.claim)
+
+pub need_at-need-requires-clause-instances : goal.need_at-need-requires-clause-instances
+need_at-need-requires-clause-instances c = subst AreInstances (sym c.instances-instances.ensures) (are_instances c.args.certificate.now c.requires.claim)
 
 pub overflow_cast-result-in-Some-low_need : goal.overflow_cast-result-in-Some-low_need
 overflow_cast-result-in-Some-low_need c =

@@ -4,4 +4,4 @@ use Rattle.cert_writing.proofs.lines.write_insts.Goals as goal
 
 pub loop-inst-preserved : goal.loop-inst-preserved
 loop-inst-preserved c =
-    lines_next inst_words c.appending_laws.ensures c.args.out.now c.loop-inst.out c.write_inst.new.out c.args.insts.now c.loop-inst.inst-index c.inst-item.result c.loop-inst-test.true c.inst-item.is c.loop-inst.invariant c.in_ok-write_inst.ensures
+    lines_next (inst_words c.args.device) c.appending_laws.ensures c.args.out.now c.loop-inst.out c.write_inst.new.out c.args.insts.now c.loop-inst.inst-index c.inst-item.result c.loop-inst-test.true c.inst-item.is c.loop-inst.invariant c.in_ok-write_inst.ensures

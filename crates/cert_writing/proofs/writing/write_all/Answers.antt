@@ -9,7 +9,7 @@ returns c =
     (rw (c.entries.ensures.value, c.assumptions-assumptions.ensures) at c.in_ok-write_numbered.ensures)
     (rw c.assumptions-assumptions.ensures at c.in_ok-write.ensures.written)
     (rw c.instances-instances.ensures at c.in_ok-write_numbered-2.ensures)
-    (rw c.instances-instances.ensures at c.in_ok-write_insts.ensures)
+    (rw (c.device-device.ensures, c.instances-instances.ensures) at c.in_ok-write_insts.ensures)
     (rw c.nodes-nodes.ensures.value at c.in_ok-write_numbered-3.ensures)
-    (rw (c.version-version.ensures, c.instances-instances.ensures, c.nodes-nodes.ensures.value) at c.in_ok-write_nodes.ensures)
+    (rw (c.device-device.ensures, c.version-version.ensures, c.instances-instances.ensures, c.nodes-nodes.ensures.value) at c.in_ok-write_nodes.ensures)
     c.in_ok-write_witness.ensures c.in_ok-word.ensures.written c.in_ok-end_line.ensures.written

@@ -1,4 +1,6 @@
 use Rattle.std.proofs.Common.{arith, ap, length, subst, sym}
+use Rattle.avr_model.proofs.AllLaws.{devices_are_alike}
+use Rattle.edge_laws.proofs.ExpansionLaws.{filled_lists_are_shown}
 use Rattle.chain_explain.specs.Moves.{AreThere}
 use Rattle.chain_explain.proofs.Edges.{are_moves}
 use Rattle.chain_explain.proofs.Conditions.{meets_reached, peopled}
@@ -7,6 +9,14 @@ use Rattle.chain_explain.proofs.Stepped.{reset_has}
 use Rattle.chain_explain.proofs.Explained.{sums, nests, least}
 use Rattle.chain_explain.proofs.Marks.{kept_few, reached_given}
 use Rattle.chain_explain.proofs.explaining.explain_family.Goals as goal
+
+pub marks_of-requires-clause-shown : goal.marks_of-requires-clause-shown
+marks_of-requires-clause-shown c =
+    filled_lists_are_shown.shown c.args.task.now.flash.now c.args.task.now.assumptions.now c.args.certificate.now.nodes c.args.family.now.nodes c.requires.filled c.requires.claim.nodes_ascend
+
+pub parts-requires-clause-shown : goal.parts-requires-clause-shown
+parts-requires-clause-shown c =
+    filled_lists_are_shown.shown c.args.task.now.flash.now c.args.task.now.assumptions.now c.args.certificate.now.nodes c.args.family.now.nodes c.requires.filled c.requires.claim.nodes_ascend
 
 pub kept_ways-requires-clause-peopled : goal.kept_ways-requires-clause-peopled
 kept_ways-requires-clause-peopled c = peopled c.args.task.now.flash.now c.args.task.now.assumptions.now c.args.family.now.nodes c.requires.meets.edges
@@ -26,7 +36,9 @@ deepest_chain-requires-clause-meets c =
 
 pub parts-requires-clause-moves : goal.parts-requires-clause-moves
 parts-requires-clause-moves c =
-    are_moves c.args.task.now.flash.now c.args.task.now.assumptions.now c.args.family.now.nodes c.count-count.ensures.shown c.args.family.now.landings c.requires.landings
+    let shown =
+    filled_lists_are_shown.shown c.args.task.now.flash.now c.args.task.now.assumptions.now c.args.certificate.now.nodes c.args.family.now.nodes c.requires.filled c.requires.claim.nodes_ascend in
+    are_moves c.args.task.now.flash.now c.args.task.now.assumptions.now c.args.family.now.nodes shown c.args.family.now.landings c.requires.landings
     (omega (arith, c.requires.filled.count, c.requires.claim.few_nodes)) c.requires.meets.edges c.requires.meets.reset
 
 pub parts-requires-clause-there : goal.parts-requires-clause-there
@@ -58,3 +70,7 @@ returns-clause-least c =
     least c.args.task.now.flash.now c.args.task.now.assumptions.now c.args.certificate.now c.args.family.now.nodes c.requires.filled c.in_ok-reached.reached are c.in_ok-deepest.deepest.need
     c.in_ok-deepest.deepest.links c.in_ok-deepest.ensures.deepest c.in_ok-deepest.ensures.root c.as_slice.result.now c.as_slice.ensures c.in_ok-parts.parts c.in_ok-parts.ensures
     c.filled_or_missing.ensures c.rounds_are_reached.ensures (reset_has c.args.task.now.assumptions.now c.args.family.now.nodes c.requires.meets.reset) c.in_ok-deepest.ensures.bounded
+
+pub overflow_cast-result : goal.overflow_cast-result
+overflow_cast-result c =
+    omega (arith, c.in_ok-deepest.ensures.bounded, c.requires.claim.bound_fits, devices_are_alike.most_depth c.args.certificate.now.device)

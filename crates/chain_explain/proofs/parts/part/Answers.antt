@@ -1,6 +1,8 @@
-use Rattle.std.proofs.Common.{◌≡◌, sym, ap, ◌∙◌, subst, ◌≤◌}
+use Rattle.std.proofs.Common.{◌≡◌, sym, ap, ◌∙◌, subst, ◌≤◌, arith}
 use Rattle.basics.specs.Items.{place_of_contained, contained_at}
+use Rattle.avr_model.specs.Devices.{device_of}
 use Rattle.avr_model.specs.State.{SIZE}
+use Rattle.avr_model.proofs.AllLaws.{devices_are_alike}
 use Rattle.mask_states.specs.declared.keys.InstKey.{InstKey}
 use Rattle.mask_states.specs.declared.keys.NodeKey.{NodeKey}
 use Rattle.mask_states.specs.Keys.{offset_of}
@@ -26,7 +28,9 @@ pub adds-requires : goal.adds-requires
 adds-requires c =
     let w = key_there c.args.reached.now c.args.link.now.node c.key-key.result.now c.key-key.ensures in
     let of = (c.requires.reached.exact w.0).0 (contained_at c.args.reached.now c.args.link.now.node w.0 w.1.0) in
-    subst (λ (k : NodeKey). offset_of k.sp ≤ SIZE) w.1.1 (c.count-count.ensures.shown.all w.0 of.0).small
+    let small = (c.requires.shown.all w.0 of.0).small in
+    let low : offset_of w.0.key.sp ≤ SIZE = omega (arith, small, devices_are_alike.most_depth (device_of c.args.task.now.flash.now)) in
+    subst (λ (k : NodeKey). offset_of k.sp ≤ SIZE) w.1.1 low
 
 pub returns : goal.returns
 returns c =

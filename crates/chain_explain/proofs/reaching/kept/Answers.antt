@@ -27,4 +27,5 @@ loop-at-preserved c =
 pub new-requires : goal.new-requires
 new-requires c =
     let whole = kept_whole c.args.marks.now c.args.nodes.now c.loop-at.kept.items c.loop-at.at (omega (arith, c.loop-at-test.false, c.count-at-end.ensures.count)) c.loop-at.invariant in
-    kept_shown c.args.marks.now c.args.nodes.now c.loop-at.kept.items whole c.count-at-end.ensures.shown
+    let shown = c.count-at-end.ensures.shown in
+    (shown.0, kept_shown c.args.marks.now c.args.nodes.now c.loop-at.kept.items whole shown.1)

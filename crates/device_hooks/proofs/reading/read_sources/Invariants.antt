@@ -4,7 +4,7 @@ use Rattle.device_hooks.specs.Reading.{sources_from, with_front}
 use Rattle.device_hooks.proofs.reading.read_sources.Given as goal
 
 abbrev pub invariant-loop-source : goal.invariant-loop-source
-invariant-loop-source l = with_front l.sources.items (sources_from l.left l.reader.at l.reader.rest) ≡ sources_from most_sources l.initial.reader.at l.initial.reader.rest
+invariant-loop-source l = with_front l.sources.items (sources_from l.device l.left l.reader.at l.reader.rest) ≡ sources_from l.device most_sources l.initial.reader.at l.initial.reader.rest
 
 abbrev pub decreases-loop-source : goal.decreases-loop-source
 decreases-loop-source l = length l.reader.rest

@@ -1,4 +1,5 @@
 use Rattle.std.proofs.Common.{arith, ◌≤◌, slice_index}
+use Rattle.avr_model.proofs.AllLaws.{devices_are_alike}
 use Rattle.family_graph.proofs.Conditions.{peopled, some_node, ranked, places, root_bound, root_first}
 use Rattle.family_graph.proofs.deepest.deepest_chain.Goals as goal
 
@@ -18,7 +19,7 @@ chain-requires-clause-bound c =
     let need : slice_index c.in_ok-composed.composed.needs 0 ≤ c.args.certificate.now.bound =
     root_bound c.args.task.now.flash.now c.args.task.now.assumptions.now c.args.certificate.now c.args.nodes.now c.requires.meets c.in_ok-graph.graph.instances c.in_ok-graph.ensures.family
     c.in_ok-composed.composed.ranks c.in_ok-composed.composed.needs c.in_ok-composed.ensures c.in_ok-graph.ensures.graph.some in
-    omega (arith, need, c.requires.claim.bound_fits)
+    omega (arith, need, c.requires.claim.bound_fits, devices_are_alike.most_depth c.args.certificate.now.device)
 
 pub chain-requires-clause-places : goal.chain-requires-clause-places
 chain-requires-clause-places c =

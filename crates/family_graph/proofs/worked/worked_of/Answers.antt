@@ -1,6 +1,7 @@
-use Rattle.std.proofs.Common.{List, arith, length, subst, sym, ◌≤◌}
+use Rattle.std.proofs.Common.{List, arith, length, subst, subst₂, sym, ◌≤◌}
 use Rattle.std.proofs.lemmas.Result.{IfOk-weaker}
 use Rattle.avr_model.specs.declared.assumption.Entry.{Entry}
+use Rattle.avr_model.specs.declared.device.Device.{Device}
 use Rattle.avr_model.specs.Assumptions.{has_pairs}
 use Rattle.edge_rules.specs.Expansion.{AreSeeds, IsFilled, IsMissing}
 use Rattle.call_graph.specs.Expanding.{IsExpanded}
@@ -11,7 +12,7 @@ use Rattle.family_graph.proofs.worked.worked_of.Goals as goal
 
 pub expand-requires-clause-seeds : goal.expand-requires-clause-seeds
 expand-requires-clause-seeds c =
-    subst (λ (A : List Entry). AreSeeds (has_pairs A) c.args.certificate.now.nodes) c.requires.meets.assumptions
+    subst₂ (λ (device : Device) (A : List Entry). AreSeeds device (has_pairs A) c.args.certificate.now.nodes) c.requires.meets.device c.requires.meets.assumptions
     (c.claims_are_seeds.ensures c.args.certificate.now c.nodes-nodes.ensures.kept)
 
 pub expand-requires-clause-ascending : goal.expand-requires-clause-ascending

@@ -1,5 +1,6 @@
 use Rattle.std.proofs.Common.{List, sym, subst, take, arith}
 use Rattle.std.proofs.lemmas.List.{take_all}
+use Rattle.avr_model.specs.Devices.{device_of}
 use Rattle.avr_model.specs.Assumptions.{has_pairs}
 use Rattle.mask_states.specs.declared.keys.NodeKey.{NodeKey}
 use Rattle.round_steps.proofs.Besides.{pushed}
@@ -28,7 +29,7 @@ loop-at-preserved c =
     (more_land c.args.task.now.flash.now c.args.task.now.assumptions.now c.args.table.now (take c.loop-at.at c.args.keys.now) c.index-keys-at.result c.loop-at.invariant
     (edges_land c.args.task.now.flash.now c.args.task.now.assumptions.now c.args.table.now c.requires.formed c.args.notes.now c.requires.known c.index-keys-at.result c.in_ok-seen.seen
     c.in_ok-nodes.nodes.items c.in_ok-seen.ensures
-    (c.in_ok-nodes.ensures (has_pairs c.args.task.now.assumptions.now)
+    (c.in_ok-nodes.ensures (device_of c.args.task.now.flash.now) (has_pairs c.args.task.now.assumptions.now)
     (targets_are_nodes c.args.task.now.flash.now c.args.task.now.assumptions.now c.args.table.now c.requires.formed c.args.notes.now c.requires.known c.in_ok-seen.seen.looks.items
     c.in_ok-seen.ensures.looks))
     (none_left c.in_ok-nodes.nodes.items c.is_empty-lands.result _ c.is_empty-lands.ensures (omega (arith, c.in_ok-nodes.nodes.ok.0)) c.if-not-lands.false)))

@@ -27,5 +27,5 @@ loop-at-preserved c =
     let are =
     ways_of_at words A nodes c.args.family.now.landings c.requires.landings c.loop-at.at n.0 n.1 c.index-landings-at.result c.as_slice.result.now
     (c.index-landings-at.is ∙ ap (λ (xs : List (List Landing)). get_or xs c.loop-at.at c.index-landings-at.result) c.as_slice-landings.ensures) c.as_slice.ensures in
-    led_written words A nodes c.count-at-end.ensures.shown c.loop-at.at n.0 n.1 c.as_slice.result.now are c.loop-at.leads.items c.note_all.new.leads c.as_mut_slice.result.now
+    led_written words A nodes c.count-at-end.ensures.shown.1 c.loop-at.at n.0 n.1 c.as_slice.result.now are c.loop-at.leads.items c.note_all.new.leads c.as_mut_slice.result.now
     c.loop-at.leads.len c.loop-at.invariant c.as_mut_slice.ensures.value c.note_all.ensures c.loop-at.leads.ok.0

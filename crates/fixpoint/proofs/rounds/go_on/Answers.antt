@@ -1,4 +1,5 @@
 use Rattle.std.proofs.Common.{arith}
+use Rattle.avr_model.specs.Devices.{device_of}
 use Rattle.avr_model.specs.Assumptions.{has_pairs}
 use Rattle.round_rules.specs.declared.refusal.Refusal.TheVariants.{Memory}
 use Rattle.round_rules.specs.Solutions.{IsWhyNot}
@@ -27,6 +28,7 @@ returns-in_err-told-clause-why_not c =
 
 pub join_all-requires-clause-fit : goal.join_all-requires-clause-fit
 join_all-requires-clause-fit c = record {
+  device = device_of c.args.task.now.flash.now;
   followed = has_pairs c.args.task.now.assumptions.now;
   formed = formed c.args.task.now.flash.now c.args.task.now.assumptions.now c.args.steps c.rounds.left c.rounds.table c.rounds.counted c.rounds.work.items c.rounds.notes c.rounds.invariant;
   nodes = c.in_ok-told.ensures.ready.round.formed;

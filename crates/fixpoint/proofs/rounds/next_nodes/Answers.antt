@@ -1,4 +1,5 @@
 use Rattle.std.proofs.Common.{◌≢◌}
+use Rattle.avr_model.specs.Devices.{device_of}
 use Rattle.avr_model.specs.Assumptions.{has_pairs}
 use Rattle.round_steps.proofs.Gathers.{formed_own, nodes_own}
 use Rattle.round_rules.specs.declared.refusal.Refusal.TheVariants.{Memory}
@@ -54,7 +55,7 @@ returns c = record {
       (all_known c.args.task.now.flash.now c.args.task.now.assumptions.now c.args.table.now c.args.work.now c.args.notes.now c.note_seen.new.notes c.in_ok-seen.seen c.requires.turn
       c.in_ok-seen.ensures c.in_default.ensures.none c.in_default.ensures.noted)
       c.in_default-check_nesting.ensures.nests c.in_default-check_nesting.ensures.same c.in_default-check_nesting.ensures.once
-      (c.in_ok-nodes.ensures (has_pairs c.args.task.now.assumptions.now)
+      (c.in_ok-nodes.ensures (device_of c.args.task.now.flash.now) (has_pairs c.args.task.now.assumptions.now)
       (targets_fit c.args.task.now.flash.now c.args.task.now.assumptions.now c.args.table.now c.args.work.now c.args.notes.now c.note_seen.new.notes c.check_nesting.new.nesting c.in_ok-seen.seen
       c.requires.formed c.in_ok-check_size.ensures.fits c.requires.turn c.in_ok-seen.ensures c.in_default.ensures.none
       (all_known c.args.task.now.flash.now c.args.task.now.assumptions.now c.args.table.now c.args.work.now c.args.notes.now c.note_seen.new.notes c.in_ok-seen.seen c.requires.turn

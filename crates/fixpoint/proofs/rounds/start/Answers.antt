@@ -1,4 +1,5 @@
 use Rattle.std.proofs.Common.{◌∙◌, sym, ap, subst}
+use Rattle.avr_model.specs.Devices.{device_of}
 use Rattle.avr_model.specs.Assumptions.{has_pairs}
 use Rattle.round_rules.specs.Families.{Family, AreFormed, cells}
 use Rattle.round_laws.specs.Steps.{raised_all}
@@ -12,12 +13,14 @@ join_all-requires-clause-count c = sym (ap cells c.requires ∙ no_cells)
 pub join_all-requires-clause-fit : goal.join_all-requires-clause-fit
 join_all-requires-clause-fit c =
     let A = c.args.task.now.assumptions.now in
+    let device = device_of c.args.task.now.flash.now in
     let followed = has_pairs A in
     record {
+      device = device;
       followed = followed;
-      formed = subst (AreFormed followed) (sym c.requires) (no_nodes followed);
+      formed = subst (AreFormed device followed) (sym c.requires) (no_nodes device followed);
       nodes =
-          root_nodes A c.push.new.self.items
+          root_nodes device A c.push.new.self.items
           (pushed_root A c.push.new.self.items c.new-nodes.result.items c.entry.result c.root.result c.in_ok-state.state c.in_ok-push.ensures.items c.new-nodes.ensures.items
           c.entry.ensures c.root.ensures c.in_ok-state.ensures);
     }

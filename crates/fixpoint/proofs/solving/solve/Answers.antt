@@ -11,8 +11,8 @@ returns-in_err-table-clause-none c = λ none.
     handed_on c.from_residual.result c.in_err-table.field-0.0 (λ r. r ≢ Memory → (other : Claim) → IsShown c.args.flash.now c.args.assumptions.now other → ⊥)
     c.from_residual.ensures.1 (none_shown c.args.flash.now c.args.assumptions.now c.args.steps c.in_err-table.field-0.0 c.in_err-table.ensures.why_not none)
 
-pub certificate_of-requires : goal.certificate_of-requires
-certificate_of-requires c = record { solved = (c.in_ok-table.ensures.found.number, c.in_ok-table.ensures.found.solved) }
+pub certificate_of-requires-clause-solved : goal.certificate_of-requires-clause-solved
+certificate_of-requires-clause-solved c = (c.in_ok-table.ensures.found.number, c.in_ok-table.ensures.found.solved)
 
 pub returns : goal.returns
 returns c =

@@ -1,4 +1,4 @@
-use Rattle.std.proofs.Common.{◌+◌, subst, sym, arith}
+use Rattle.std.proofs.Common.{◌+◌, subst, sym}
 use Rattle.flash_image.proofs.Listed.{AreListedBelow, listed_more, listed_same}
 use Rattle.flash_image.proofs.mark_table.listed.Goals.{then-table-at+in_ok-push, else-table-at}
 use Rattle.flash_image.proofs.mark_table.listed.Goals as goal

@@ -1,6 +1,11 @@
 use Rattle.std.proofs.Common.{sym, ◌∙◌}
-use Rattle.guided_trials.proofs.Completed.{copied_as, none_as, with_found, attained_where, valid_with}
+use Rattle.guided_trials.specs.Guides.{guide_of}
+use Rattle.guided_trials.proofs.Completed.{copied_as, none_as, found_fits, with_found, attained_where, valid_with}
 use Rattle.guided_trials.proofs.attaining.attain.Goals as goal
+
+pub with_witness-requires : goal.with_witness-requires
+with_witness-requires c =
+    found_fits c.args.flash.now c.args.assumptions.now (guide_of c.args.flash.now c.args.assumptions.now c.args.certificate) c.args.trials c.args.certificate.device c.in_ok-schedule.schedule c.requires c.in_ok-schedule.ensures.first
 
 pub returns-clause-attained : goal.returns-clause-attained
 returns-clause-attained c =

@@ -5,8 +5,8 @@ use Rattle.local_rules.specs.Flow.{words_on}
 use Rattle.local_reads.proofs.Permitted.{none_above, low_decides, high_decides}
 use Rattle.local_reads.proofs.flow.is_target.Goals as goal
 
-pub returns-then-word-words : goal.returns-then-word-words
-returns-then-word-words c =
+pub returns-then-from-words : goal.returns-then-from-words
+returns-then-from-words c =
     let low = c.pair.ensures.low ∙ ap (value c.args.state.now) c.base_register.ensures in
     let high = c.pair.ensures.high ∙ ap (λ r. value c.args.state.now (r + 1)) c.base_register.ensures in
     none_above c.args.device c.pair.result.0.bits c.pair.result.1.bits c.args.word (omega arith)

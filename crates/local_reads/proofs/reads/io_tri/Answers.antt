@@ -1,10 +1,8 @@
-use Rattle.std.proofs.Common.{◌∙◌, sym, ap, Bool}
-use Rattle.std.specs.Int.{from_bool}
-use Rattle.local_rules.specs.Reads.{enable_read}
-use Rattle.local_reads.proofs.Enabled.{enabled_bit}
+use Rattle.std.proofs.Common.{◌∙◌, sym, ap, Option, ℕ}
+use Rattle.local_rules.specs.Reads.{enable_read, io_tri}
 use Rattle.local_reads.proofs.reads.io_tri.Goals as goal
 
 pub returns-in-Some : goal.returns-in-Some
 returns-in-Some c =
-    c.enable_read.ensures ∙ ap (λ (on : Bool). enable_read c.args.may (from_bool on)) c.has.ensures
-    ∙ enabled_bit c.args.may c.args.address c.args.bit c.in-Some.vector c.args.masks (sym c.enable_of.ensures ∙ c.in-Some.is)
+    c.enable_read.ensures ∙ ap (enable_read c.args.may) c.is_on.ensures
+    ∙ ap (λ (o : Option ℕ). io_tri c.args.free c.args.may o c.args.masks) (sym c.in-Some.is)

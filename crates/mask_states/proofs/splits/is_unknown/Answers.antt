@@ -1,7 +1,17 @@
-use Rattle.avr_model.specs.Vectors.{row_of}
-use Rattle.mask_states.proofs.Rows.{coded_bit}
+use Rattle.std.proofs.Common.{◌∙◌, sym, ap, Option}
+use Rattle.std.specs.Int.{from_bool}
+use Rattle.avr_model.specs.declared.rows.Place.{Place}
+use Rattle.mask_states.specs.Splits.{is_any, enable_in}
+use Rattle.mask_states.proofs.Steps.{stuck_known, free_any}
 use Rattle.mask_states.proofs.splits.is_unknown.Goals as goal
-use Rattle.std.proofs.Common.{◌∙◌, sym, refl}
 
-pub bit-requires : goal.bit-requires
-bit-requires c = coded_bit c.args.v (row_of c.args.v) c.in-Some.row refl (sym c.in-Some.is ∙ c.row.ensures)
+pub returns-then-stays : goal.returns-then-stays
+returns-then-stays c =
+    sym (ap (λ (o : Option Place). is_any (enable_in o c.args.value.now (from_bool c.args.old))) c.in-Some.is
+    ∙ stuck_known c.in-Some.place c.args.value.now (from_bool c.args.old) (sym c.stays.ensures ∙ c.if-stays.true))
+
+pub returns-else-stays : goal.returns-else-stays
+returns-else-stays c =
+    c.is_common_unknown.ensures
+    ∙ sym (ap (λ (o : Option Place). is_any (enable_in o c.args.value.now (from_bool c.args.old))) c.in-Some.is
+    ∙ free_any c.in-Some.place c.args.value.now (from_bool c.args.old) (sym c.stays.ensures ∙ c.if-stays.false))

@@ -1,7 +1,6 @@
-use Rattle.std.proofs.Common.{◌∙◌, sym, refl}
-use Rattle.avr_model.specs.Vectors.{row_of}
-use Rattle.mask_states.proofs.Rows.{coded_bit}
+use Rattle.std.proofs.Common.{◌∙◌, arith}
+use Rattle.mask_states.proofs.Commons.{may_coded}
 use Rattle.mask_states.proofs.waking.may_enable.Goals as goal
 
-pub bit-requires : goal.bit-requires
-bit-requires c = coded_bit c.args.v (row_of c.args.v) c.in-Some.row refl (sym c.in-Some.is ∙ c.row.ensures)
+pub returns : goal.returns
+returns c = c.has_common.ensures ∙ may_coded c.args.value.now c.args.place.now.mask (omega arith)

@@ -1,43 +1,61 @@
-use Rattle.std.proofs.Common.{◌≡◌, ◌∙◌, ap, sym, subst, ℕ, ◌+◌, ◌-◌, ◌&&◌, arith, take, Bool, false}
+use Rattle.std.proofs.Common.{◌≡◌, ◌∙◌, sym, ap, ◌≤◌, ◌==◌, arith, eq-eqb, ne_eqb, get_or, take, length, Bool, false, ◌&&◌}
 use Rattle.std.specs.List.{list_any}
-use Rattle.std.proofs.lemmas.Bool.{and_from}
-use Rattle.basics.specs.Booleans.{and_with_false}
+use Rattle.std.proofs.lemmas.List.{take_all}
+use Rattle.std.proofs.lemmas.List.Folds.{list_any_at, list_any_more}
+use Rattle.std.proofs.lemmas.Bool.{or_from}
+use Rattle.basics.specs.Booleans.{all_three}
+use Rattle.avr_model.specs.declared.rows.Place.{Place}
+use Rattle.avr_model.specs.declared.rows.Enable.TheVariants.{Bit}
 use Rattle.avr_model.specs.Masks.{is_barred}
-use Rattle.avr_model.specs.Vectors.{vectors, row_of}
-use Rattle.mask_states.specs.Wakes.{may_enable_barred, may_enable_there}
-use Rattle.mask_states.proofs.Woken.{may_wake_barred, test_here}
-use Rattle.vector_table.proofs.AllLaws.{any_here, none_here, none_left}
+use Rattle.mask_states.specs.Wakes.{may_enable, may_enable_barred}
+use Rattle.vector_table.proofs.AllLaws.{item_vector}
 use Rattle.mask_states.proofs.waking.may_enable_barred.Goals as goal
-use Rattle.mask_states.proofs.waking.may_enable_barred.Goals.{else-may_enable-via-then-may_enable+else-is_barred, else-may_enable-via-else-may_enable}
+use Rattle.mask_states.proofs.waking.may_enable_barred.Goals.{else-place-address-via-then-place-address+then-may_enable+else-is_barred, else-place-address-via-then-place-address+else-may_enable, else-place-address-via-else-place-address}
+
+abbrev nowhere : Place
+nowhere = record { vector = 0; address = 0; mask = 0; enable = Bit }
+
+none_by : (a b d : Bool) → a ≡ false → (a && b && d) ≡ false
+none_by a b d h = grind arith
+
+none_by_bit : (a b d : Bool) → b ≡ false → (a && b && d) ≡ false
+none_by_bit a b d h = grind arith
+
+none_by_word : (a b d : Bool) → d ≡ false → (a && b && d) ≡ false
+none_by_word a b d h = grind arith
+
+pub is_barred-requires : goal.is_barred-requires
+is_barred-requires c = record { vector = item_vector c.args.device c.places-place-items.result.now c.loop-place.place-index _ c.places-place-items.ensures c.loop-place-test.true }
 
 pub returns-then-is_barred : goal.returns-then-is_barred
 unfolding may_enable_barred
 returns-then-is_barred c =
-    let k : ℕ = c.loop-v.v - 2 in
-    sym (any_here (may_wake_barred c.args.device c.args.assumptions.now c.args.address c.args.value.now) k (omega arith)
-    (sym (test_here c.args.device c.args.assumptions.now c.args.address c.args.value.now c.loop-v.v c.loop-v.invariant.least c.loop-v-test.true)
-    ∙ and_from _ _ (sym c.may_enable.ensures ∙ c.if-may_enable.true) (sym c.is_barred.ensures ∙ c.if-is_barred.true)))
+    let ps = c.places-place-items.result.now in
+    let q : Place → Bool = λ (p : Place). (p.address == c.args.address) && may_enable c.args.value.now p && is_barred c.args.device c.args.assumptions.now p.vector in
+    sym (ap (list_any q) (sym c.places-place-items.ensures)
+    ∙ list_any_at q ps c.loop-place.place-index _ c.loop-place-test.true
+    (all_three _ _ _ (eq-eqb _ c.args.address c.if-place-address.true) (sym c.may_enable.ensures ∙ c.if-may_enable.true) (sym c.is_barred.ensures ∙ c.if-is_barred.true)))
 
-pub loop-v-preserved : goal.loop-v-preserved
-loop-v-preserved c =
-    let next : c.loop-v.v - 2 + 1 ≡ c.loop-v.v + 1 - 2 = omega arith in
-    let test = may_wake_barred c.args.device c.args.assumptions.now c.args.address c.args.value.now in
-    record {
-      least = omega arith;
-      none =
-          subst (λ (n : ℕ). list_any test (take n vectors) ≡ false) next
-          (none_here test (c.loop-v.v - 2) (omega arith) c.loop-v.invariant.none
-          (sym (test_here c.args.device c.args.assumptions.now c.args.address c.args.value.now c.loop-v.v c.loop-v.invariant.least c.loop-v-test.true)
-          ∙ elim c.else-may_enable.branch [
-            | else-may_enable-via-then-may_enable+else-is_barred w ↦
-                ap (λ (b : Bool). may_enable_there (row_of c.loop-v.v) c.args.address c.args.value.now && b) (sym w.is_barred.ensures ∙ w.if-is_barred.false)
-                ∙ and_with_false (may_enable_there (row_of c.loop-v.v) c.args.address c.args.value.now)
-            | else-may_enable-via-else-may_enable w ↦
-                ap (λ (b : Bool). b && is_barred c.args.device c.args.assumptions.now c.loop-v.v) (sym c.may_enable.ensures ∙ w.if-may_enable.false)
-          ]));
-    }
+pub loop-place-preserved : goal.loop-place-preserved
+loop-place-preserved c =
+    let ps = c.places-place-items.result.now in
+    let p : Place = get_or ps c.loop-place.place-index nowhere in
+    let here : Bool = p.address == c.args.address in
+    let common : Bool = may_enable c.args.value.now p in
+    let barred : Bool = is_barred c.args.device c.args.assumptions.now p.vector in
+    let q : Place → Bool = λ (p : Place). (p.address == c.args.address) && may_enable c.args.value.now p && is_barred c.args.device c.args.assumptions.now p.vector in
+    list_any_more q ps c.loop-place.place-index nowhere c.loop-place-test.true
+    ∙ or_from (list_any q (take c.loop-place.place-index ps)) (q p) c.loop-place.invariant
+    (elim c.else-place-address.branch [
+      | else-place-address-via-then-place-address+then-may_enable+else-is_barred w ↦ none_by_word here common barred (sym w.is_barred.ensures ∙ w.if-is_barred.false)
+      | else-place-address-via-then-place-address+else-may_enable w ↦ none_by_bit here common barred (sym w.may_enable.ensures ∙ w.if-may_enable.false)
+      | else-place-address-via-else-place-address w ↦ none_by here common barred (ne_eqb p.address c.args.address w.if-place-address.false)
+    ])
 
 pub returns : goal.returns
 unfolding may_enable_barred
 returns c =
-    sym (none_left (may_wake_barred c.args.device c.args.assumptions.now c.args.address c.args.value.now) (c.loop-v.v - 2) (omega arith) c.loop-v.invariant.none)
+    let ps = c.places-place-items.result.now in
+    let q : Place → Bool = λ (p : Place). (p.address == c.args.address) && may_enable c.args.value.now p && is_barred c.args.device c.args.assumptions.now p.vector in
+    let last : length ps ≤ c.loop-place.place-index = omega (arith, c.loop-place-test.false) in
+    sym (ap (list_any q) (sym c.places-place-items.ensures ∙ sym (take_all c.loop-place.place-index ps last)) ∙ c.loop-place.invariant)

@@ -4,7 +4,7 @@ use Rattle.nesting_bound.proofs.Table.{no_place}
 use Rattle.nesting_bound.proofs.shape.are_low.Goals as goal
 
 pub loop-place-preserved : goal.loop-place-preserved
-loop-place-preserved c = all_up_to (λ p. p.offset ≤ 2048) c.args.places.now c.loop-place.place-index no_place c.loop-place-test.true c.loop-place.invariant c.if-place-gt-GREATEST_OFFSET.false
+loop-place-preserved c = all_up_to (λ p. p.offset ≤ 16384) c.args.places.now c.loop-place.place-index no_place c.loop-place-test.true c.loop-place.invariant c.if-place-gt-GREATEST_OFFSET.false
 
 pub returns-clause-yes : goal.returns-clause-yes
-returns-clause-yes c = λ _. all_taken (λ p. p.offset ≤ 2048) c.args.places.now c.loop-place.place-index c.loop-place-test.false c.loop-place.invariant
+returns-clause-yes c = λ _. all_taken (λ p. p.offset ≤ 16384) c.args.places.now c.loop-place.place-index c.loop-place-test.false c.loop-place.invariant

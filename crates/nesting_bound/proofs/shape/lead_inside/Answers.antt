@@ -4,7 +4,7 @@ use Rattle.nesting_bound.proofs.Table.{no_entry}
 use Rattle.nesting_bound.proofs.shape.lead_inside.Goals as goal
 
 pub loop-entered-preserved : goal.loop-entered-preserved
-loop-entered-preserved c = all_up_to (λ e. (e.offset ≤ 2048) × (e.into < c.args.count)) c.args.edges.now c.loop-entered.entered-index no_entry c.loop-entered-test.true c.loop-entered.invariant (c.if-entered-gt-GREATEST_OFFSET.false, c.if-entered-count.false)
+loop-entered-preserved c = all_up_to (λ e. (e.offset ≤ 16384) × (e.into < c.args.count)) c.args.edges.now c.loop-entered.entered-index no_entry c.loop-entered-test.true c.loop-entered.invariant (c.if-entered-gt-GREATEST_OFFSET.false, c.if-entered-count.false)
 
 pub returns-clause-yes : goal.returns-clause-yes
-returns-clause-yes c = λ _. all_taken (λ e. (e.offset ≤ 2048) × (e.into < c.args.count)) c.args.edges.now c.loop-entered.entered-index c.loop-entered-test.false c.loop-entered.invariant
+returns-clause-yes c = λ _. all_taken (λ e. (e.offset ≤ 16384) × (e.into < c.args.count)) c.args.edges.now c.loop-entered.entered-index c.loop-entered-test.false c.loop-entered.invariant

@@ -4,4 +4,4 @@ use Rattle.nesting_bound.specs.declared.graph.Entered.{Entered}
 use Rattle.nesting_bound.proofs.shape.lead_inside.Given as goal
 
 abbrev pub invariant-loop-entered : goal.invariant-loop-entered
-invariant-loop-entered l = (e : Entered) → Contains (take l.entered-index l.edges) e → (e.offset ≤ 2048) × (e.into < l.count)
+invariant-loop-entered l = (e : Entered) → Contains (take l.entered-index l.edges) e → (e.offset ≤ 16384) × (e.into < l.count)

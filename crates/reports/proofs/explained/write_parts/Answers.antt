@@ -4,4 +4,4 @@ use Rattle.reports.proofs.explained.write_parts.Goals as goal
 
 pub loop-at-preserved : goal.loop-at-preserved
 loop-at-preserved c =
-    text_after (part_text c.args.names.now) c.args.out.now c.loop-at.out c.write_part.new.out c.args.explanation.now.parts c.loop-at.at c.part.result.now c.part.ensures c.loop-at.invariant c.in_ok-write_part.ensures
+    text_after (part_text c.args.device c.args.names.now) c.args.out.now c.loop-at.out c.write_part.new.out c.args.explanation.now.parts c.loop-at.at c.part.result.now c.part.ensures c.loop-at.invariant c.in_ok-write_part.ensures

@@ -5,4 +5,4 @@ use Rattle.reports.specs.Explained.{part_text}
 use Rattle.reports.proofs.explained.write_parts.Given as goal
 
 abbrev pub invariant-loop-at : goal.invariant-loop-at
-invariant-loop-at l = l.out ≡ with_text l.initial.out (flat_map (part_text l.names) (take l.at l.explanation.parts))
+invariant-loop-at l = l.out ≡ with_text l.initial.out (flat_map (part_text l.device l.names) (take l.at l.explanation.parts))

@@ -5,7 +5,7 @@ use Rattle.reports.specs.Report.{sram_end}
 use Rattle.reports.proofs.room.fits.Goals as goal
 
 pub overflow_add-ramend : goal.overflow_add-ramend
-overflow_add-ramend c = let most = devices_are_alike.most_bytes c.args.device in omega (arith, most, c.ramend.ensures)
+overflow_add-ramend c = omega (arith, devices_are_alike.most_bytes c.args.device, devices_are_alike.most_io c.args.device, c.ramend.ensures)
 
 pub returns : goal.returns
 returns c =

@@ -35,5 +35,5 @@ loop-node-preserved c =
     c.in_ok-join_one.ensures.joined c.in_ok-join_one.ensures.count c.in_ok-join_one.ensures.key
 
 pub returns-clause-formed : goal.returns-clause-formed
-returns-clause-formed c = λ followed formed nodes.
-    (c.loop-node.invariant.formed followed formed (subst (AreNodesIn followed) (sym c.into_iter-node-iterator.ensures.into_iter_gives.0) nodes)).0
+returns-clause-formed c = λ device followed formed nodes.
+    (c.loop-node.invariant.formed device followed formed (subst (AreNodesIn device followed) (sym c.into_iter-node-iterator.ensures.into_iter_gives.0) nodes)).0

@@ -14,7 +14,7 @@ use Rattle.round_steps.proofs.targets.gather.Goals as goal
 pub loop-node-init : goal.loop-node-init
 loop-node-init c = (
   subst AreOwnNodes (sym c.into_iter-node-iterator.ensures.into_iter_gives.0) c.requires,
-  λ followed before nodes are. subst (λ (l : List Node). AreTargetsGathered followed c.args.table.now l c.args.next.now) (sym (append-nil before)) are,
+  λ device followed before nodes are. subst (λ (l : List Node). AreTargetsGathered device followed c.args.table.now l c.args.next.now) (sym (append-nil before)) are,
 )
 
 pub gather_one-requires : goal.gather_one-requires
@@ -26,18 +26,18 @@ loop-node-preserved c =
     let left = into_iter_items c.next.new.self in
     let nodes = subst AreOwnNodes c.in-Some.ensures.steps.0 c.loop-node.invariant.0 in (
       λ n i. nodes n (further_in c.in-Some.node n left i),
-      λ followed before are_nodes are.
-          subst (λ (l : List Node). AreTargetsGathered followed c.args.table.now l c.gather_one.new.next) (append_assoc before c.loop-node.yielded (c.in-Some.node ∷ []))
-          (one_gathered followed c.args.table.now c.loop-node.next (before ++ c.loop-node.yielded) c.in-Some.node
+      λ device followed before are_nodes are.
+          subst (λ (l : List Node). AreTargetsGathered device followed c.args.table.now l c.gather_one.new.next) (append_assoc before c.loop-node.yielded (c.in-Some.node ∷ []))
+          (one_gathered device followed c.args.table.now c.loop-node.next (before ++ c.loop-node.yielded) c.in-Some.node
           (are_nodes c.in-Some.node (Contains-push c.loop-node.yielded c.in-Some.node))
-          (c.loop-node.invariant.1 followed before (λ n i. are_nodes n (Contains-append_left c.loop-node.yielded (c.in-Some.node ∷ []) n i)) are) c.gather_one.new.next c.in_ok-gather_one.ensures),
+          (c.loop-node.invariant.1 device followed before (λ n i. are_nodes n (Contains-append_left c.loop-node.yielded (c.in-Some.node ∷ []) n i)) are) c.gather_one.new.next c.in_ok-gather_one.ensures),
     )
 
 pub returns : goal.returns
-returns c = λ followed before nodes are.
+returns c = λ device followed before nodes are.
     let gives = c.into_iter-node-iterator.ensures.into_iter_gives in
     let road = YieldsList-from_vec {s = c.into_iter-node-iterator.result} c.args.nodes.items gives.0 (gives.1 ∙ c.args.nodes.ok.0) in
     let end = YieldsList-end road c.loop-node.yielded c.loop-node.node-iterator c.loop-node.yielded_by c.next.result c.next.new.self c.in-None.is c.next.ensures.steps in
     let all = sym (map-id c.loop-node.yielded) ∙ end.0 in
-    subst (λ (l : List Node). AreTargetsGathered followed c.args.table.now (before ++ l) c.loop-node.next) all
-    (c.loop-node.invariant.1 followed before (subst (AreNodesIn followed) (sym all) nodes) are)
+    subst (λ (l : List Node). AreTargetsGathered device followed c.args.table.now (before ++ l) c.loop-node.next) all
+    (c.loop-node.invariant.1 device followed before (subst (AreNodesIn device followed) (sym all) nodes) are)

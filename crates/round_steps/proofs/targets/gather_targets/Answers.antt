@@ -16,6 +16,6 @@ returns-in-Ok c =
     let f = c.args.family.now.table.now in
     let more = targets_of f c.args.family.now.notes.now c.args.x in
     let found = c.in-Ok.ensures ∙ ap (λ (ns : List Node). ns ++ more) c.new-nodes.ensures.items in
-    λ followed before nodes are.
-    on_ok c.gather.result (c.gather.ensures followed before (subst (AreNodesIn followed) (sym found) nodes) are)
-    (subst (λ (l : List Node). AreTargetsGathered followed f l c.gather.new.next) (ap (λ (ns : List Node). before ++ ns) found))
+    λ device followed before nodes are.
+    on_ok c.gather.result (c.gather.ensures device followed before (subst (AreNodesIn device followed) (sym found) nodes) are)
+    (subst (λ (l : List Node). AreTargetsGathered device followed f l c.gather.new.next) (ap (λ (ns : List Node). before ++ ns) found))

@@ -13,3 +13,6 @@ returns c =
     IfOk-weaker c.write.result _ _
     (λ v told. attain_reply c.args.task.now.flash.now c.args.task.now.assumptions.now c.args.trials c.args.certificate c.in_ok-whole.whole v.items c.in_ok-whole.ensures.completed (c.in_ok-whole.ensures.valid bounded c.requires) told)
     c.write.ensures.text
+
+pub attain-requires : goal.attain-requires
+attain-requires c = c.requires.sound.meets.device

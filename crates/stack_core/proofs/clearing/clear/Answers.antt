@@ -8,10 +8,10 @@ use Rattle.stack_core.proofs.Replies.{accepted_result}
 use Rattle.stack_core.proofs.clearing.clear.Goals as goal
 
 pub cleared-requires-clause-family : goal.cleared-requires-clause-family
-cleared-requires-clause-family c = (subst (IsJudgedAs c.args.flash.now c.empty-assumptions.result (certificate_in c.args.text.now)) c.in-Accepted.is c.in_ok-certificate.ensures).1
+cleared-requires-clause-family c = (subst (IsJudgedAs c.args.flash.now c.empty-assumptions.result (certificate_in c.args.flash.now.device c.args.text.now)) c.in-Accepted.is c.in_ok-certificate.ensures).1
 
 pub returns-in-Accepted : goal.returns-in-Accepted
 returns-in-Accepted c =
-    accepted_result c.args.flash.now [] (ClearReply c.args.flash.now) (certificate_in c.args.text.now) c.in-Accepted.certificate c.cleared.result
-    (subst (λ (A : List Entry). IsJudgedAs c.args.flash.now A (certificate_in c.args.text.now) (judged.Accepted c.in-Accepted.certificate c.in-Accepted.family)) c.empty-assumptions.ensures
-    (subst (IsJudgedAs c.args.flash.now c.empty-assumptions.result (certificate_in c.args.text.now)) c.in-Accepted.is c.in_ok-certificate.ensures)).0 c.cleared.ensures
+    accepted_result c.args.flash.now [] (ClearReply c.args.flash.now) (certificate_in c.args.flash.now.device c.args.text.now) c.in-Accepted.certificate c.cleared.result
+    (subst (λ (A : List Entry). IsJudgedAs c.args.flash.now A (certificate_in c.args.flash.now.device c.args.text.now) (judged.Accepted c.in-Accepted.certificate c.in-Accepted.family)) c.empty-assumptions.ensures
+    (subst (IsJudgedAs c.args.flash.now c.empty-assumptions.result (certificate_in c.args.flash.now.device c.args.text.now)) c.in-Accepted.is c.in_ok-certificate.ensures)).0 c.cleared.ensures

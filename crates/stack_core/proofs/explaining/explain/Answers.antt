@@ -6,9 +6,9 @@ use Rattle.stack_core.proofs.Replies.{accepted_result}
 use Rattle.stack_core.proofs.explaining.explain.Goals as goal
 
 pub explained-requires : goal.explained-requires
-explained-requires c = (subst (IsJudgedAs c.args.task.now.flash.now c.args.task.now.assumptions.now (certificate_in c.args.text.now)) c.in-Accepted.is c.in_ok-certificate.ensures).1
+explained-requires c = (subst (IsJudgedAs c.args.task.now.flash.now c.args.task.now.assumptions.now (certificate_in c.args.task.now.flash.now.device c.args.text.now)) c.in-Accepted.is c.in_ok-certificate.ensures).1
 
 pub returns-in-Accepted : goal.returns-in-Accepted
 returns-in-Accepted c =
-    accepted_result c.args.task.now.flash.now c.args.task.now.assumptions.now (ExplainReply c.args.names.now c.args.task.now.flash.now c.args.task.now.assumptions.now) (certificate_in c.args.text.now) c.in-Accepted.certificate c.explained.result
-    (subst (IsJudgedAs c.args.task.now.flash.now c.args.task.now.assumptions.now (certificate_in c.args.text.now)) c.in-Accepted.is c.in_ok-certificate.ensures).0 c.explained.ensures
+    accepted_result c.args.task.now.flash.now c.args.task.now.assumptions.now (ExplainReply c.args.names.now c.args.task.now.flash.now c.args.task.now.assumptions.now) (certificate_in c.args.task.now.flash.now.device c.args.text.now) c.in-Accepted.certificate c.explained.result
+    (subst (IsJudgedAs c.args.task.now.flash.now c.args.task.now.assumptions.now (certificate_in c.args.task.now.flash.now.device c.args.text.now)) c.in-Accepted.is c.in_ok-certificate.ensures).0 c.explained.ensures

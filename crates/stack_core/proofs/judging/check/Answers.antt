@@ -10,6 +10,6 @@ use Rattle.stack_core.proofs.judging.check.Goals as goal
 
 pub returns-in-Accepted : goal.returns-in-Accepted
 returns-in-Accepted c =
-    accepted_result c.args.task.now.flash.now c.args.task.now.assumptions.now (λ d. Says exit.Done (accepted d.bound (is_some d.witness))) (certificate_in c.args.text.now) c.in-Accepted.certificate c.checked.result
-    (subst (IsJudgedAs c.args.task.now.flash.now c.args.task.now.assumptions.now (certificate_in c.args.text.now)) c.in-Accepted.is c.in_ok-certificate.ensures).0
+    accepted_result c.args.task.now.flash.now c.args.task.now.assumptions.now (λ d. Says exit.Done (accepted d.bound (is_some d.witness))) (certificate_in c.args.task.now.flash.now.device c.args.text.now) c.in-Accepted.certificate c.checked.result
+    (subst (IsJudgedAs c.args.task.now.flash.now c.args.task.now.assumptions.now (certificate_in c.args.task.now.flash.now.device c.args.text.now)) c.in-Accepted.is c.in_ok-certificate.ensures).0
     c.checked.ensures

@@ -1,5 +1,7 @@
-use Rattle.std.proofs.Common.{subst}
+use Rattle.std.proofs.Common.{ap, ◌∙◌, subst}
+use Rattle.avr_model.specs.declared.device.Device.{Device}
 use Rattle.cert_check.specs.Verdict.{IsJudgement}
+use Rattle.replies.specs.Texts.{rejected}
 use Rattle.stack_core.specs.Answering.{nothing}
 use Rattle.stack_core.proofs.Replies.{missed_judged, rejected_judged}
 use Rattle.stack_core.proofs.judging.weighed.Goals as goal
@@ -14,4 +16,4 @@ pub returns-in_ok-rejected-in-Rejected : goal.returns-in_ok-rejected-in-Rejected
 returns-in_ok-rejected-in-Rejected c =
     rejected_judged c.args.task.now.flash.now c.args.task.now.assumptions.now nothing c.args.certificate.now c.in-Rejected.reason c.in_ok-rejected-in-Rejected.field-0.items
     (subst (IsJudgement c.args.task.now.flash.now c.args.task.now.assumptions.now c.args.certificate.now) c.in-Rejected.is c.in_ok-family.ensures.exact)
-    c.in_ok-rejected-in-Rejected.ensures
+    (c.in_ok-rejected-in-Rejected.ensures ∙ ap (λ (device : Device). rejected device c.in-Rejected.reason) c.device.ensures)

@@ -10,10 +10,10 @@ use Rattle.stack_core.proofs.loading.whole.Goals as goal
 pub returns-in-Ok : goal.returns-in-Ok
 returns-in-Ok c =
     let elf : is_elf c.args.bytes.now ≡ true = sym c.is_elf.ensures ∙ c.if-not-is_elf.false in
-    subst (λ e. LoadsBy e c.args.bytes.now (Loaded c.in-Ok.loaded)) (sym elf) (record {
+    subst (λ e. LoadsBy c.args.device e c.args.bytes.now (Loaded c.in-Ok.loaded)) (sym elf) (record {
       loads = ap (option_map elf_refused) c.in-Ok.ensures.refusal;
       size = c.in-Ok.ensures.image.size;
-      words = one_elf c.args.bytes.now _ c.in-Ok.ensures.image;
+      words = one_elf c.args.device c.args.bytes.now _ c.in-Ok.ensures.image;
       names = c.in-Ok.ensures.names;
       static_end = c.in-Ok.ensures.static_end;
     })

@@ -1,4 +1,5 @@
 use Rattle.std.proofs.Common.{◌∙◌, ◌+◌, ◌<◌, ℕ, List, Bool, true, set, ap, subst, sym, length, arith}
+use Rattle.avr_model.specs.Devices.{io_end}
 use Rattle.store_clear.specs.Takes.{AreMarkedBeside}
 use Rattle.store_clear.specs.Causing.{IsProtectedBelow}
 use Rattle.store_clear.proofs.Causing.{addresses_none, addresses_more, addresses_same}
@@ -13,7 +14,7 @@ loop-address-preserved c =
     let words = c.args.store.now.flash.now in
     let A = c.args.store.now.assumptions.now in
     let n = c.loop-address.address in
-    let lt : n < length c.loop-address.marks = omega (arith, c.loop-address-test.true, c.loop-address.invariant.same, c.requires) in
+    let lt : n < length c.loop-address.marks = omega (arith, c.loop-address-test.true, c.loop-address.invariant.same, c.requires, ap io_end c.device.ensures) in
     elim c.if-may_write_protected.branch [
       | then-may_write_protected w ↦
           subst (λ (xs : List Bool). AreMarkedBeside (IsProtectedBelow words A c.args.store.now.pc c.args.store.now.state.now c.args.store.now.instr.now (n + 1)) c.args.marks.now xs)

@@ -1,5 +1,6 @@
 use Rattle.std.proofs.Common.{◌∙◌, ap, length, arith}
 use Rattle.std.proofs.lemmas.Result.{IfOk-weaker}
+use Rattle.avr_model.specs.Image.{WORDS}
 use Rattle.store_clear.proofs.Lists.{written_back}
 use Rattle.store_clear.proofs.Taken.{nevers_given}
 use Rattle.store_clear.proofs.clearing.never_takes_in.Goals as goal
@@ -14,6 +15,6 @@ returns c =
       exact = IfOk-weaker c.places.result _ _
           (λ nevers are claim filled.
           nevers_given c.args.task.now.flash.now c.args.task.now.assumptions.now claim c.args.nodes.now filled c.in_ok-marks.marks.items c.as_mut_slice.result.now c.mark_takes.new.marks
-          c.deref.result.now _ nevers (c.in_ok-marks.ensures.items_if_clones_equal (λ y e. e)) c.as_mut_slice.ensures.value c.mark_takes.ensures back are)
+          c.deref.result.now WORDS nevers (c.in_ok-marks.ensures.items_if_clones_equal (λ y e. e)) c.as_mut_slice.ensures.value c.mark_takes.ensures back are)
           c.places.ensures;
     }

@@ -1,4 +1,5 @@
-use Rattle.std.proofs.Common.{sym, ◌∙◌}
+use Rattle.std.proofs.Common.{sym, ap, ◌∙◌, ◌+◌, ◌<◌, arith}
+use Rattle.avr_model.specs.Devices.{device_of, io_end}
 use Rattle.clear_laws.specs.Causes.{may_write_protected}
 use Rattle.clear_laws.proofs.AllLaws.{any_found}
 use Rattle.store_clear.proofs.Scans.{any_none, any_more}
@@ -9,7 +10,8 @@ loop-address-init c = any_none (may_write_protected c.args.store.now.flash.now c
 
 pub returns-then-may_write_protected : goal.returns-then-may_write_protected
 returns-then-may_write_protected c =
-    sym (any_found (may_write_protected c.args.store.now.flash.now c.args.store.now.assumptions.now c.args.store.now.pc c.args.store.now.state.now c.args.store.now.instr.now) c.loop-address.address 256 c.loop-address-test.true
+    let lt : c.loop-address.address < io_end (device_of c.args.store.now.flash.now) + 1 = omega (arith, c.loop-address-test.true, ap io_end c.device.ensures) in
+    sym (any_found (may_write_protected c.args.store.now.flash.now c.args.store.now.assumptions.now c.args.store.now.pc c.args.store.now.state.now c.args.store.now.instr.now) c.loop-address.address _ lt
     (sym c.may_write_protected.ensures ∙ c.if-may_write_protected.true))
 
 pub loop-address-preserved : goal.loop-address-preserved

@@ -9,6 +9,6 @@ returns-in-Ok c =
     let list = c.args.list.now in
     let text : c.deref.result.now ≡ text_of list =
     c.deref.ensures.value ∙ c.finish-text.ensures ∙ ap (λ (w : Written). w.bytes) c.in_ok-write.ensures.written ∙ ap (λ (w : Written). w.bytes ++ text_of list) c.new-out.ensures in
-    let due : IsListReading c.deref.result.now list = record { fits = c.entries-entries.ensures.kept; bytes = text } in
+    let due : IsListReading c.args.device c.deref.result.now list = record { fits = record { are = c.entries-entries.ensures.kept; fit = c.requires }; bytes = text } in
     let same = c.in-Ok.ensures.due (Ok list) due in
     cc

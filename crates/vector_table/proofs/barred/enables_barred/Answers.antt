@@ -1,12 +1,19 @@
-use Rattle.std.proofs.Common.{◌≡◌, ◌∙◌, sym, ℕ, ◌+◌, ◌==◌, arith, eqb, eq-eqb, ne_eqb, get_or, Bool, true, false, ◌&&◌}
-use Rattle.std.specs.Int.{bit_at}
-use Rattle.std.proofs.lemmas.Nat.Bits.{shr_and_one}
+use Rattle.std.proofs.Common.{◌≡◌, ◌∙◌, sym, ap, ◌≤◌, ◌==◌, arith, eq-eqb, ne_eqb, get_or, take, length, Bool, false, ◌&&◌}
+use Rattle.std.specs.List.{list_any}
+use Rattle.std.proofs.lemmas.List.{take_all}
+use Rattle.std.proofs.lemmas.List.Folds.{list_any_at, list_any_more}
+use Rattle.std.proofs.lemmas.Bool.{or_from}
 use Rattle.basics.specs.Booleans.{all_three}
+use Rattle.avr_model.specs.declared.rows.Place.{Place}
+use Rattle.avr_model.specs.declared.rows.Enable.TheVariants.{Bit}
 use Rattle.avr_model.specs.Masks.{is_barred, enables_barred}
-use Rattle.vector_table.specs.Rows.{places}
-use Rattle.vector_table.proofs.EachVector.{any_here, none_here, none_left}
+use Rattle.avr_model.specs.Vectors.{has_common}
+use Rattle.vector_table.proofs.Places.{item_vector}
 use Rattle.vector_table.proofs.barred.enables_barred.Goals as goal
-use Rattle.vector_table.proofs.barred.enables_barred.Goals.{else-at-address-via-then-at-address+then-byte-bit-eq1+else-is_barred, else-at-address-via-then-at-address+else-byte-bit-eq1, else-at-address-via-else-at-address}
+use Rattle.vector_table.proofs.barred.enables_barred.Goals.{else-place-address-via-then-place-address+then-has_common+else-is_barred, else-place-address-via-then-place-address+else-has_common, else-place-address-via-else-place-address}
+
+abbrev nowhere : Place
+nowhere = record { vector = 0; address = 0; mask = 0; enable = Bit }
 
 none_by : (a b d : Bool) → a ≡ false → (a && b && d) ≡ false
 none_by a b d h = grind arith
@@ -17,37 +24,38 @@ none_by_bit a b d h = grind arith
 none_by_word : (a b d : Bool) → d ≡ false → (a && b && d) ≡ false
 none_by_word a b d h = grind arith
 
+pub is_barred-requires : goal.is_barred-requires
+is_barred-requires c = record { vector = item_vector c.args.device c.places-place-items.result.now c.loop-place.place-index _ c.places-place-items.ensures c.loop-place-test.true }
+
 pub returns-then-is_barred : goal.returns-then-is_barred
 unfolding enables_barred
 returns-then-is_barred c =
-    let k : ℕ = c.loop-k.k in
-    let at : ℕ = (get_or places k (0, 0)).0 in
-    let bit : ℕ = (get_or places k (0, 0)).1 in
-    let one : bit_at c.args.byte bit ≡ 1 = sym (shr_and_one c.args.byte bit) ∙ c.if-byte-bit-eq1.true in
-    let barred : is_barred c.args.device c.args.assumptions.now (k + 2) ≡ true = sym c.is_barred.ensures ∙ c.if-is_barred.true in
-    sym (any_here (λ r. (r.address == c.args.address) && (bit_at c.args.byte r.bit == 1) && is_barred c.args.device c.args.assumptions.now r.number) k c.loop-k-test.true
-    (all_three (eqb at c.args.address) (eqb (bit_at c.args.byte bit) 1) (is_barred c.args.device c.args.assumptions.now (k + 2))
-    (eq-eqb at c.args.address c.if-at-address.true) (eq-eqb (bit_at c.args.byte bit) 1 one) barred))
+    let ps = c.places-place-items.result.now in
+    let q : Place → Bool = λ (p : Place). (p.address == c.args.address) && has_common c.args.byte p.mask && is_barred c.args.device c.args.assumptions.now p.vector in
+    sym (ap (list_any q) (sym c.places-place-items.ensures)
+    ∙ list_any_at q ps c.loop-place.place-index _ c.loop-place-test.true
+    (all_three _ _ _ (eq-eqb _ c.args.address c.if-place-address.true) (sym c.has_common.ensures ∙ c.if-has_common.true) (sym c.is_barred.ensures ∙ c.if-is_barred.true)))
 
-pub loop-k-preserved : goal.loop-k-preserved
-loop-k-preserved c =
-    let k : ℕ = c.loop-k.k in
-    let at : ℕ = (get_or places k (0, 0)).0 in
-    let bit : ℕ = (get_or places k (0, 0)).1 in
-    let here : Bool = eqb at c.args.address in
-    let set : Bool = eqb (bit_at c.args.byte bit) 1 in
-    let barred : Bool = is_barred c.args.device c.args.assumptions.now (k + 2) in
-    none_here (λ r. (r.address == c.args.address) && (bit_at c.args.byte r.bit == 1) && is_barred c.args.device c.args.assumptions.now r.number) k c.loop-k-test.true
-    c.loop-k.invariant
-    (elim c.else-at-address.branch [
-      | else-at-address-via-then-at-address+then-byte-bit-eq1+else-is_barred w ↦ none_by_word here set barred (sym w.is_barred.ensures ∙ w.if-is_barred.false)
-      | else-at-address-via-then-at-address+else-byte-bit-eq1 w ↦
-          none_by_bit here set barred (ne_eqb (bit_at c.args.byte bit) 1 (λ one. w.if-byte-bit-eq1.false (shr_and_one c.args.byte bit ∙ one)))
-      | else-at-address-via-else-at-address w ↦ none_by here set barred (ne_eqb at c.args.address w.if-at-address.false)
+pub loop-place-preserved : goal.loop-place-preserved
+loop-place-preserved c =
+    let ps = c.places-place-items.result.now in
+    let p : Place = get_or ps c.loop-place.place-index nowhere in
+    let here : Bool = p.address == c.args.address in
+    let common : Bool = has_common c.args.byte p.mask in
+    let barred : Bool = is_barred c.args.device c.args.assumptions.now p.vector in
+    let q : Place → Bool = λ (p : Place). (p.address == c.args.address) && has_common c.args.byte p.mask && is_barred c.args.device c.args.assumptions.now p.vector in
+    list_any_more q ps c.loop-place.place-index nowhere c.loop-place-test.true
+    ∙ or_from (list_any q (take c.loop-place.place-index ps)) (q p) c.loop-place.invariant
+    (elim c.else-place-address.branch [
+      | else-place-address-via-then-place-address+then-has_common+else-is_barred w ↦ none_by_word here common barred (sym w.is_barred.ensures ∙ w.if-is_barred.false)
+      | else-place-address-via-then-place-address+else-has_common w ↦ none_by_bit here common barred (sym w.has_common.ensures ∙ w.if-has_common.false)
+      | else-place-address-via-else-place-address w ↦ none_by here common barred (ne_eqb p.address c.args.address w.if-place-address.false)
     ])
 
 pub returns : goal.returns
 unfolding enables_barred
 returns c =
-    sym (none_left (λ r. (r.address == c.args.address) && (bit_at c.args.byte r.bit == 1) && is_barred c.args.device c.args.assumptions.now r.number) c.loop-k.k (omega arith)
-    c.loop-k.invariant)
+    let ps = c.places-place-items.result.now in
+    let q : Place → Bool = λ (p : Place). (p.address == c.args.address) && has_common c.args.byte p.mask && is_barred c.args.device c.args.assumptions.now p.vector in
+    let last : length ps ≤ c.loop-place.place-index = omega (arith, c.loop-place-test.false) in
+    sym (ap (list_any q) (sym c.places-place-items.ensures ∙ sym (take_all c.loop-place.place-index ps last)) ∙ c.loop-place.invariant)

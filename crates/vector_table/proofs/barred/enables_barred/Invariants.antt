@@ -1,11 +1,11 @@
 use Rattle.std.proofs.Common.{◌≡◌, ◌==◌, ◌&&◌, false, take}
-use Rattle.std.specs.Int.{bit_at}
 use Rattle.std.specs.List.{list_any}
+use Rattle.avr_model.specs.declared.rows.Place.{Place}
 use Rattle.avr_model.specs.Masks.{is_barred}
-use Rattle.avr_model.specs.Vectors.{vectors}
+use Rattle.avr_model.specs.Vectors.{has_common}
 use Rattle.vector_table.proofs.barred.enables_barred.Given as goal
 
--- the byte enables none of the first k vectors that are barred
-abbrev pub invariant-loop-k : goal.invariant-loop-k
-invariant-loop-k l =
-    list_any (λ r. (r.address == l.address) && (bit_at l.byte r.bit == 1) && is_barred l.device l.assumptions r.number) (take l.k vectors) ≡ false
+-- the byte enables no barred vector at the places so far
+abbrev pub invariant-loop-place : goal.invariant-loop-place
+invariant-loop-place l =
+    list_any (λ (p : Place). (p.address == l.address) && has_common l.byte p.mask && is_barred l.device l.assumptions p.vector) (take l.place-index l.place-items) ≡ false

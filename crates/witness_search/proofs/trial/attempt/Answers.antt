@@ -1,6 +1,7 @@
 use Rattle.std.proofs.Common.{arith, refl, ap, sym, ◌∙◌, ◌≡◌, ◌+◌, ◌<◌, inl, inr, length, Bool}
 use Rattle.avr_model.specs.declared.choice.StepResult.TheVariants as answer
-use Rattle.avr_model.specs.Assumptions.{has_masks}
+use Rattle.avr_model.specs.Devices.{device_of}
+use Rattle.avr_model.specs.Masks.{reads_masks}
 use Rattle.avr_model.specs.Step.{step, result_of}
 use Rattle.stimulus.specs.Driving.{IsMenuOf}
 use Rattle.witness_search.specs.Waypoints.{taken, left_after, pick_due, due_left}
@@ -26,8 +27,8 @@ returns-in_default c =
     let byte : c.args.fill < 256 = omega arith in
     let low : c.loop-at.machine.depth < c.args.bound = omega arith in
     let room : length c.loop-at.choices.items < c.args.steps = omega arith in
-    let menu : IsMenuOf c.menu.result c.loop-at.machine.state = record { pc = c.menu.ensures.pc; sp = c.menu.ensures.sp; masks = c.menu.ensures.masks; takes = c.menu.ensures.takes } in
-    let picks : c.next-choice.result.0 ≡ pick_due (has_masks c.args.task.now.assumptions.now) c.args.fill c.loop-at.rest.now c.loop-at.machine.state = c.next-choice.ensures.choice ∙ ap (λ (may : Bool). taken may c.args.fill c.loop-at.rest.now c.menu.result) c.has_masks-may.ensures ∙ taken_is (has_masks c.args.task.now.assumptions.now) c.args.fill c.loop-at.rest.now c.menu.result c.loop-at.machine.state menu in
+    let menu : IsMenuOf c.menu.result c.loop-at.machine.state = record { device = c.menu.ensures.device; pc = c.menu.ensures.pc; sp = c.menu.ensures.sp; masks = c.menu.ensures.masks; takes = c.menu.ensures.takes } in
+    let picks : c.next-choice.result.0 ≡ pick_due (reads_masks (device_of c.args.task.now.flash.now) c.args.task.now.assumptions.now) c.args.fill c.loop-at.rest.now c.loop-at.machine.state = c.next-choice.ensures.choice ∙ ap (λ (may : Bool). taken may c.args.fill c.loop-at.rest.now c.menu.result) (c.reads_masks-may.ensures ∙ ap (λ device. reads_masks device c.args.task.now.assumptions.now) c.device-device.ensures) ∙ taken_is (reads_masks (device_of c.args.task.now.flash.now) c.args.task.now.assumptions.now) c.args.fill c.loop-at.rest.now c.menu.result c.loop-at.machine.state menu in
     stopped c.args.task.now.flash.now c.args.task.now.assumptions.now c.args.points.now c.args.bound c.args.fill c.depth_is_kept.ensures c.args.steps byte c.loop-at.choices.items c.loop-at.rest.now c.loop-at.machine c.step.new.self c.next-choice.result.0 c.push.new.self.items c.found-in_default.result
     c.loop-at.invariant.0 room low picks (λ done. c.in_default.not-Done (c.step.ensures.answer ∙ done)) c.step.ensures.state c.in_ok-push.ensures.items c.found-in_default.ensures.some c.found-in_default.ensures.none
 
@@ -35,18 +36,18 @@ pub returns-then-is_met : goal.returns-then-is_met
 returns-then-is_met c =
     let byte : c.args.fill < 256 = omega arith in
     let low : c.loop-at.machine.depth < c.args.bound = omega arith in
-    let menu : IsMenuOf c.menu.result c.loop-at.machine.state = record { pc = c.menu.ensures.pc; sp = c.menu.ensures.sp; masks = c.menu.ensures.masks; takes = c.menu.ensures.takes } in
-    let picks : c.next-choice.result.0 ≡ pick_due (has_masks c.args.task.now.assumptions.now) c.args.fill c.loop-at.rest.now c.loop-at.machine.state = c.next-choice.ensures.choice ∙ ap (λ (may : Bool). taken may c.args.fill c.loop-at.rest.now c.menu.result) c.has_masks-may.ensures ∙ taken_is (has_masks c.args.task.now.assumptions.now) c.args.fill c.loop-at.rest.now c.menu.result c.loop-at.machine.state menu in
-    let leaves : c.next-choice.result.1.now ≡ due_left (has_masks c.args.task.now.assumptions.now) c.loop-at.rest.now c.loop-at.machine.state = c.next-choice.ensures.left ∙ ap (λ (may : Bool). left_after may c.loop-at.rest.now c.menu.result) c.has_masks-may.ensures ∙ left_is (has_masks c.args.task.now.assumptions.now) c.loop-at.rest.now c.menu.result c.loop-at.machine.state menu in
+    let menu : IsMenuOf c.menu.result c.loop-at.machine.state = record { device = c.menu.ensures.device; pc = c.menu.ensures.pc; sp = c.menu.ensures.sp; masks = c.menu.ensures.masks; takes = c.menu.ensures.takes } in
+    let picks : c.next-choice.result.0 ≡ pick_due (reads_masks (device_of c.args.task.now.flash.now) c.args.task.now.assumptions.now) c.args.fill c.loop-at.rest.now c.loop-at.machine.state = c.next-choice.ensures.choice ∙ ap (λ (may : Bool). taken may c.args.fill c.loop-at.rest.now c.menu.result) (c.reads_masks-may.ensures ∙ ap (λ device. reads_masks device c.args.task.now.assumptions.now) c.device-device.ensures) ∙ taken_is (reads_masks (device_of c.args.task.now.flash.now) c.args.task.now.assumptions.now) c.args.fill c.loop-at.rest.now c.menu.result c.loop-at.machine.state menu in
+    let leaves : c.next-choice.result.1.now ≡ due_left (reads_masks (device_of c.args.task.now.flash.now) c.args.task.now.assumptions.now) c.loop-at.rest.now c.loop-at.machine.state = c.next-choice.ensures.left ∙ ap (λ (may : Bool). left_after may c.loop-at.rest.now c.menu.result) (c.reads_masks-may.ensures ∙ ap (λ device. reads_masks device c.args.task.now.assumptions.now) c.device-device.ensures) ∙ left_is (reads_masks (device_of c.args.task.now.flash.now) c.args.task.now.assumptions.now) c.loop-at.rest.now c.menu.result c.loop-at.machine.state menu in
     repeated c.args.task.now.flash.now c.args.task.now.assumptions.now c.args.points.now c.args.bound c.args.fill c.depth_is_kept.ensures c.args.steps byte c.loop-at.mark.machine c.loop-at.machine c.step.new.self c.loop-at.mark.left c.loop-at.rest.now c.next-choice.result.1.now c.next-choice.result.0
     c.loop-at.invariant.1 low picks leaves (sym c.step.ensures.answer ∙ c.in-Done.is) c.step.ensures.state (c.if-is_met.ensures.state refl) (c.if-is_met.ensures.left refl)
 
 pub loop-at-preserved : goal.loop-at-preserved
 loop-at-preserved c =
     let low : c.loop-at.machine.depth < c.args.bound = omega arith in
-    let menu : IsMenuOf c.menu.result c.loop-at.machine.state = record { pc = c.menu.ensures.pc; sp = c.menu.ensures.sp; masks = c.menu.ensures.masks; takes = c.menu.ensures.takes } in
-    let picks : c.next-choice.result.0 ≡ pick_due (has_masks c.args.task.now.assumptions.now) c.args.fill c.loop-at.rest.now c.loop-at.machine.state = c.next-choice.ensures.choice ∙ ap (λ (may : Bool). taken may c.args.fill c.loop-at.rest.now c.menu.result) c.has_masks-may.ensures ∙ taken_is (has_masks c.args.task.now.assumptions.now) c.args.fill c.loop-at.rest.now c.menu.result c.loop-at.machine.state menu in
-    let leaves : c.next-choice.result.1.now ≡ due_left (has_masks c.args.task.now.assumptions.now) c.loop-at.rest.now c.loop-at.machine.state = c.next-choice.ensures.left ∙ ap (λ (may : Bool). left_after may c.loop-at.rest.now c.menu.result) c.has_masks-may.ensures ∙ left_is (has_masks c.args.task.now.assumptions.now) c.loop-at.rest.now c.menu.result c.loop-at.machine.state menu in
+    let menu : IsMenuOf c.menu.result c.loop-at.machine.state = record { device = c.menu.ensures.device; pc = c.menu.ensures.pc; sp = c.menu.ensures.sp; masks = c.menu.ensures.masks; takes = c.menu.ensures.takes } in
+    let picks : c.next-choice.result.0 ≡ pick_due (reads_masks (device_of c.args.task.now.flash.now) c.args.task.now.assumptions.now) c.args.fill c.loop-at.rest.now c.loop-at.machine.state = c.next-choice.ensures.choice ∙ ap (λ (may : Bool). taken may c.args.fill c.loop-at.rest.now c.menu.result) (c.reads_masks-may.ensures ∙ ap (λ device. reads_masks device c.args.task.now.assumptions.now) c.device-device.ensures) ∙ taken_is (reads_masks (device_of c.args.task.now.flash.now) c.args.task.now.assumptions.now) c.args.fill c.loop-at.rest.now c.menu.result c.loop-at.machine.state menu in
+    let leaves : c.next-choice.result.1.now ≡ due_left (reads_masks (device_of c.args.task.now.flash.now) c.args.task.now.assumptions.now) c.loop-at.rest.now c.loop-at.machine.state = c.next-choice.ensures.left ∙ ap (λ (may : Bool). left_after may c.loop-at.rest.now c.menu.result) (c.reads_masks-may.ensures ∙ ap (λ device. reads_masks device c.args.task.now.assumptions.now) c.device-device.ensures) ∙ left_is (reads_masks (device_of c.args.task.now.flash.now) c.args.task.now.assumptions.now) c.loop-at.rest.now c.menu.result c.loop-at.machine.state menu in
     let done : result_of (step c.args.task.now.flash.now c.args.task.now.assumptions.now c.loop-at.machine.state c.next-choice.result.0) ≡ answer.Done = sym c.step.ensures.answer ∙ c.in-Done.is in
     let goes = goes_on c.args.task.now.flash.now c.args.task.now.assumptions.now c.args.points.now c.args.bound c.args.fill c.args.points.now _ c.loop-at.choices.items c.loop-at.rest.now c.loop-at.machine c.step.new.self c.next-choice.result.0 c.next-choice.result.1.now c.push.new.self.items
     c.loop-at.invariant.0 low picks leaves done c.step.ensures.state c.in_ok-push.ensures.items in (

@@ -1,5 +1,8 @@
-use Rattle.std.proofs.Common.{sym, subst, ◌∙◌}
+use Rattle.std.proofs.Common.{refl, sym, subst, ◌∙◌}
 use Rattle.std.specs.List.{All}
+use Rattle.avr_model.specs.declared.device.Device.{Device}
+use Rattle.avr_model.specs.Devices.{device_of}
+use Rattle.witness_replay.specs.Spelling.{IsSchedule}
 use Rattle.witness_replay.specs.Tracing.{IsTaken}
 use Rattle.trial_runs.proofs.AllLaws.{run_taken}
 use Rattle.witness_search.specs.Attempts.{IsAttempt, IsAttempted}
@@ -22,7 +25,9 @@ pub from_trace-requires-clause-taken : goal.from_trace-requires-clause-taken
 from_trace-requires-clause-taken c =
     let a : IsAttempt c.most_choices.result c.args.task.now.flash.now c.args.task.now.assumptions.now c.args.points.now c.args.bound c.args.fill c.in-Some.choices =
     subst (IsAttempted c.most_choices.result c.args.task.now.flash.now c.args.task.now.assumptions.now c.args.points.now c.args.bound c.args.fill) c.in-Some.is c.in_ok-choices.ensures in
-    subst (All IsTaken) (sym c.as_slice.ensures) (run_taken c.args.task.now.flash.now c.args.task.now.assumptions.now c.in-Some.choices _ a.run)
+    subst (λ (device : Device). All (IsTaken device) c.as_slice.result.now) (sym c.device-device.ensures)
+    (subst (All (IsTaken (device_of c.args.task.now.flash.now))) (sym c.as_slice.ensures)
+    (run_taken c.args.task.now.flash.now c.args.task.now.assumptions.now (device_of c.args.task.now.flash.now) c.in-Some.choices _ refl a.run))
 
 pub returns-clause-tried : goal.returns-clause-tried
 returns-clause-tried c =
@@ -30,7 +35,8 @@ returns-clause-tried c =
     subst (IsAttempted c.most_choices.result c.args.task.now.flash.now c.args.task.now.assumptions.now c.args.points.now c.args.bound c.args.fill) c.in-Some.is c.in_ok-choices.ensures in
     tried c.args.task.now.flash.now c.args.task.now.assumptions.now c.args.points.now c.args.bound c.most_choices.result c.args.fill c.in-Some.choices c.in_ok-schedule.schedule
     c.most_choices.ensures a.are (succeeds c.args.task.now.flash.now c.args.task.now.assumptions.now c.args.points.now c.args.bound c.most_choices.result c.args.fill c.in-Some.choices c.most_choices.ensures a)
-    c.in_ok-schedule.ensures.fill (c.in_ok-schedule.ensures.choices ∙ c.as_slice.ensures) c.in_ok-schedule.ensures.fit
+    c.in_ok-schedule.ensures.fill (c.in_ok-schedule.ensures.choices ∙ c.as_slice.ensures)
+    (subst (λ (device : Device). IsSchedule device c.in_ok-schedule.schedule) c.device-device.ensures c.in_ok-schedule.ensures.fit)
 
 pub returns-clause-attained : goal.returns-clause-attained
 returns-clause-attained c =

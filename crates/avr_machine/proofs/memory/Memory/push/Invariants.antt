@@ -5,6 +5,7 @@ use Rattle.avr_machine.proofs.memory.Memory.push.Given as goal
 
 abbrev pub invariant-loop-write : goal.invariant-loop-write
 invariant-loop-write l =
-    (written l.initial.self.bytes l.writes ≡ written l.self.bytes (drop l.write-index l.writes))
-    × ((if l.guarded then with_live l.initial.self.live l.writes else l.initial.self.live) ≡ (if l.guarded then with_live l.self.live (drop l.write-index l.writes) else l.self.live))
+    (l.self.below ≡ l.initial.self.below)
+    × (written l.initial.self.below l.initial.self.bytes l.writes ≡ written l.initial.self.below l.self.bytes (drop l.write-index l.writes))
+    × ((if l.guarded then with_live l.initial.self.below l.initial.self.live l.writes else l.initial.self.live) ≡ (if l.guarded then with_live l.initial.self.below l.self.live (drop l.write-index l.writes) else l.self.live))
     × (length l.self.bytes ≡ length l.initial.self.bytes)

@@ -3,7 +3,8 @@ use Rattle.std.proofs.lemmas.Option.{slice_get_read}
 use Rattle.std.proofs.lemmas.List.Sorted.{IsPartitionPoint-from_clause}
 use Rattle.basics.specs.Booleans.{never_both}
 use Rattle.local_rules.specs.declared.local.Node.{Node}
-use Rattle.edge_rules.specs.Views.{AreShown, place_of}
+use Rattle.edge_rules.specs.Views.{place_of}
+use Rattle.call_graph.specs.Shown.{AreOfSomeDevice}
 use Rattle.call_graph.proofs.Places.{is_below_key, parted_by_key, place_there, place_none, place_past}
 use Rattle.call_graph.proofs.filled.Filled.find.Goals.{else-at-nodes-via-then-at-nodes+else-eq, else-at-nodes-via-else-at-nodes}
 use Rattle.call_graph.proofs.filled.Filled.find.Goals as goal
@@ -13,7 +14,7 @@ returns-then-eq c =
     let nodes = c.as_slice-nodes.result.now in
     let k = c.args.key.now in
     let at = c.partition_point-at.result in
-    let shown : AreShown nodes = subst AreShown (sym c.as_slice-nodes.ensures.value) c.self.invariant in
+    let shown : AreOfSomeDevice nodes = subst AreOfSomeDevice (sym c.as_slice-nodes.ensures.value) c.self.invariant in
     let point = IsPartitionPoint-from_clause (is_below_key k) nodes at c.partition_point-at.ensures.partitioned (parted_by_key nodes k shown) (λ a r q h. search rules) in
     let there = slice_get_read nodes (length nodes) at c.index-nodes-at.result refl c.if-at-nodes.true c.index-nodes-at.is in
     place_there nodes k at shown point c.index-nodes-at.result there (ap (λ (n : Node). n.key) c.index-nodes-at.is ∙ c.eq.ensures.same.0 c.if-eq.true)
@@ -24,7 +25,7 @@ returns c =
     let nodes = c.as_slice-nodes.result.now in
     let k = c.args.key.now in
     let at = c.partition_point-at.result in
-    let shown : AreShown nodes = subst AreShown (sym c.as_slice-nodes.ensures.value) c.self.invariant in
+    let shown : AreOfSomeDevice nodes = subst AreOfSomeDevice (sym c.as_slice-nodes.ensures.value) c.self.invariant in
     let point = IsPartitionPoint-from_clause (is_below_key k) nodes at c.partition_point-at.ensures.partitioned (parted_by_key nodes k shown) (λ a r q h. search rules) in
     elim c.else-at-nodes.branch [
       | else-at-nodes-via-then-at-nodes+else-eq w ↦

@@ -7,5 +7,5 @@ use Rattle.cert_format.proofs.gathered.AssumptionsGathered.add.Goals as goal
 
 pub returns-in-Ok-clause-same : goal.returns-in-Ok-clause-same
 returns-in-Ok-clause-same c =
-    let by : Bool → ℕ → List ℕ → Option Entry = λ third at. entry_by third in
+    let by : Bool → ℕ → List ℕ → Option Entry = λ third at. entry_by c.args.device third in
     ap by (ap has_pairs c.in-Ok.ensures.ok ∙ mode_kept c.args.self.now c.in-Some.entry (sym c.is_admitted.ensures ∙ c.if-not-is_admitted.false))

@@ -14,7 +14,7 @@ returns-clause-seeds c =
     let xs = c.args.items.now.items in
     let few = subst (λ (ys : Seeds). length ys < 65536) c.deref.ensures.value (c.may_follow.ensures.room c.if-not-may_follow.false) in
     let below : c.args.from < length xs = omega (arith, c.if-from-len.false, c.len.ensures) in
-    subst (AreSeeds false) (sym c.in_ok-push.ensures.items) (with_from xs c.args.key c.args.from c.requires.seeds few below)
+    subst (AreSeeds c.args.device false) (sym c.in_ok-push.ensures.items) (with_from c.args.device xs c.args.key c.args.from c.requires.seeds few below)
 
 pub returns-clause-ascending : goal.returns-clause-ascending
 returns-clause-ascending c =

@@ -5,4 +5,4 @@ use Rattle.family_tables.proofs.Growing.{none_given}
 use Rattle.family_tables.proofs.tests.seeds.seeds_of.Goals as goal
 
 pub loop-at-init : goal.loop-at-init
-loop-at-init c = subst (λ (xs : Seeds). AreSeeds false xs × AreSeedsAscending xs) (sym c.new-items.ensures.items) none_given
+loop-at-init c = subst (λ (xs : Seeds). AreSeeds c.args.device false xs × AreSeedsAscending xs) (sym c.new-items.ensures.items) (none_given c.args.device)

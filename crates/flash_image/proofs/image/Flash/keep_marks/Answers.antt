@@ -1,7 +1,7 @@
-use Rattle.std.proofs.Common.{ℕ, List, false, replicate, ap, sym, ◌∙◌, subst}
+use Rattle.std.proofs.Common.{false, replicate, ap, sym, ◌∙◌}
 use Rattle.avr_model.specs.Marks.{marks}
 use Rattle.avr_model.specs.Devices.{Program, image}
-use Rattle.flash_image.specs.Marked.{marked, AreListed}
+use Rattle.flash_image.specs.Marked.{marked}
 use Rattle.flash_image.proofs.Marked.{table_of}
 use Rattle.flash_image.proofs.image.Flash.keep_marks.Goals as goal
 

@@ -1,0 +1,229 @@
+-- Places of a device don't meet.
+use Rattle.std.proofs.Common.{◌≡◌, refl, sym, ap, ap₂, ◌∙◌, ℕ, zero, suc, ◌^◌, ◌<◌, ◌≤◌, Bool, true, false, ◌==◌, ◌&&◌, ◌||◌, not, nat_le, nat_lt, List, [], ◌∷◌, length, ◌⊎◌, inl, inr, ⊎_elim, eq-eqb, arith}
+use Rattle.std.specs.Prelude.{slice_index_or, Contains, if◌then◌else◌}
+use Rattle.std.specs.List.{list_all, All}
+use Rattle.std.specs.Int.{bit_at}
+use Rattle.std.proofs.lemmas.Bool.{and_parts, cases_lt}
+use Rattle.std.proofs.lemmas.Bool.Decides.{nat_tests}
+use Rattle.basics.specs.Numbers.{less_from_test, at_most_from_test}
+use Rattle.avr_model.specs.declared.device.Device.{Device}
+use Rattle.avr_model.specs.declared.rows.Place.{Place}
+use Rattle.avr_model.specs.declared.rows.TheConstants.{FAMILY_0, FAMILY_1, FAMILY_2, FAMILY_3, FAMILY_4, FAMILY_5, FAMILY_6, FAMILY_7, FAMILY_8, FAMILY_9, FAMILY_10, FAMILY_11, FAMILY_12, FAMILY_13, FAMILY_14, FAMILY_15, FAMILY_16, FAMILY_17, FAMILY_18, FAMILY_19, FAMILY_20, FAMILY_21, FAMILY_22, FAMILY_23, FAMILY_24, FAMILY_25, FAMILY_26, FAMILY_27, FAMILY_28, FAMILY_29, FAMILY_30, FAMILY_31, FAMILY_32, FAMILY_33, FAMILY_34, FAMILY_35, FAMILY_36, FAMILY_37, FAMILY_38, FAMILY_39}
+use Rattle.avr_model.specs.Families.{family_of}
+use Rattle.avr_model.specs.Devices.{device_row, io_end}
+use Rattle.avr_model.specs.Bits.{any_below}
+use Rattle.avr_model.specs.Vectors.{last_vector, is_vector, places, covers, is_bit, is_core, has_common}
+use Rattle.avr_model.specs.Laws.{PlacesAreApart}
+use Rattle.avr_model.proofs.Below.{some_below, any_found}
+use Rattle.avr_model.proofs.Facts.{passes}
+
+-- ---- pairs of items of a list
+
+abbrev pairwise : {X : Type 0} → (X → X → Bool) → List X → Bool
+pairwise R [] = true
+pairwise R (x ∷ xs) = list_all (R x) xs && pairwise R xs
+
+one_of : {X : Type 0} (p : X → Bool) (xs : List X) (k : ℕ) (d : X) → list_all p xs ≡ true → k < length xs → p (slice_index_or xs k d) ≡ true
+one_of p [] k d all lt = absurd (omega arith)
+one_of p (x ∷ xs) zero d all lt = (and_parts (p x) (list_all p xs) all).0
+one_of p (x ∷ xs) (suc k) d all lt = one_of p xs k d (and_parts (p x) (list_all p xs) all).1 (omega arith)
+
+two_of : {X : Type 0} (R : X → X → Bool) (xs : List X) (i j : ℕ) (d e : X) → pairwise R xs ≡ true → i < j → j < length xs → R (slice_index_or xs i d) (slice_index_or xs j e) ≡ true
+two_of R [] i j d e all lt in_list = absurd (omega arith)
+two_of R (x ∷ xs) i zero d e all lt in_list = absurd (omega arith)
+two_of R (x ∷ xs) zero (suc j) d e all lt in_list = one_of (R x) xs j e (and_parts (list_all (R x) xs) (pairwise R xs) all).0 (omega arith)
+two_of R (x ∷ xs) (suc i) (suc j) d e all lt in_list = two_of R xs i j d e (and_parts (list_all (R x) xs) (pairwise R xs) all).1 (omega arith) (omega arith)
+
+any_default : {X : Type 0} (xs : List X) (k : ℕ) (d e : X) → k < length xs → slice_index_or xs k d ≡ slice_index_or xs k e
+any_default [] k d e lt = absurd (omega arith)
+any_default (x ∷ xs) zero d e lt = refl
+any_default (x ∷ xs) (suc k) d e lt = any_default xs k d e (omega arith)
+
+-- two items are one, or pass the test in one order
+one_or_two : {X : Type 0} (R : X → X → Bool) (xs : List X) (p q : X) → pairwise R xs ≡ true → Contains xs p → Contains xs q → (p ≡ q) ⊎ ((R p q ≡ true) ⊎ (R q p ≡ true))
+one_or_two R xs p q all (i, li, pi) (j, lj, qj) =
+    ⊎_elim
+    (λ (lt : i < j). inr (inl (ap₂ R (sym pi) (sym qj) ∙ two_of R xs i j p q all lt lj)))
+    (λ (le : j ≤ i). ⊎_elim
+    (λ (lt : j < i). inr (inr (ap₂ R (sym qj) (sym pi) ∙ two_of R xs j i q p all lt li)))
+    (λ (ge : i ≤ j). inl (sym pi ∙ any_default xs i p q li ∙ (let same : i ≡ j = omega arith in ap (λ (k : ℕ). slice_index_or xs k q) same) ∙ qj))
+    (cases_lt j i))
+    (cases_lt i j)
+
+-- ---- the places of the table
+
+abbrev is_place : Place → Bool
+is_place p = nat_le 2 p.vector && (not (is_core p.address) && (nat_lt p.mask 256 && (not (is_bit p.enable) || any_below 8 (λ b. p.mask == 2 ^ b))))
+
+-- no common bit, and another place of the vector has another address; the place of an enable bit is its vector's only one
+abbrev are_apart : Place → Place → Bool
+are_apart p q =
+    not ((p.address == q.address) && (has_common p.mask q.mask || has_common q.mask p.mask))
+    && not ((p.vector == q.vector) && ((p.address == q.address) || (is_bit p.enable || is_bit q.enable)))
+
+either : (test : List Place → Bool) (b : Bool) (x y : List Place) → test x ≡ true → test y ≡ true → test (if b then x else y) ≡ true
+either test true x y h g = h
+either test false x y h g = g
+
+-- a test that each list passes
+each_family : (test : List Place → Bool) → (n : ℕ) → test FAMILY_0 ≡ true → test FAMILY_1 ≡ true → test FAMILY_2 ≡ true → test FAMILY_3 ≡ true → test FAMILY_4 ≡ true → test FAMILY_5 ≡ true → test FAMILY_6 ≡ true → test FAMILY_7 ≡ true → test FAMILY_8 ≡ true → test FAMILY_9 ≡ true → test FAMILY_10 ≡ true → test FAMILY_11 ≡ true → test FAMILY_12 ≡ true → test FAMILY_13 ≡ true → test FAMILY_14 ≡ true → test FAMILY_15 ≡ true → test FAMILY_16 ≡ true → test FAMILY_17 ≡ true → test FAMILY_18 ≡ true → test FAMILY_19 ≡ true → test FAMILY_20 ≡ true → test FAMILY_21 ≡ true → test FAMILY_22 ≡ true → test FAMILY_23 ≡ true → test FAMILY_24 ≡ true → test FAMILY_25 ≡ true → test FAMILY_26 ≡ true → test FAMILY_27 ≡ true → test FAMILY_28 ≡ true → test FAMILY_29 ≡ true → test FAMILY_30 ≡ true → test FAMILY_31 ≡ true → test FAMILY_32 ≡ true → test FAMILY_33 ≡ true → test FAMILY_34 ≡ true → test FAMILY_35 ≡ true → test FAMILY_36 ≡ true → test FAMILY_37 ≡ true → test FAMILY_38 ≡ true → test FAMILY_39 ≡ true → test (family_of n) ≡ true
+each_family test n e0 e1 e2 e3 e4 e5 e6 e7 e8 e9 e10 e11 e12 e13 e14 e15 e16 e17 e18 e19 e20 e21 e22 e23 e24 e25 e26 e27 e28 e29 e30 e31 e32 e33 e34 e35 e36 e37 e38 e39 =
+    (either test (n == 0) FAMILY_0 _ e0
+    (either test (n == 1) FAMILY_1 _ e1
+    (either test (n == 2) FAMILY_2 _ e2
+    (either test (n == 3) FAMILY_3 _ e3
+    (either test (n == 4) FAMILY_4 _ e4
+    (either test (n == 5) FAMILY_5 _ e5
+    (either test (n == 6) FAMILY_6 _ e6
+    (either test (n == 7) FAMILY_7 _ e7
+    (either test (n == 8) FAMILY_8 _ e8
+    (either test (n == 9) FAMILY_9 _ e9
+    (either test (n == 10) FAMILY_10 _ e10
+    (either test (n == 11) FAMILY_11 _ e11
+    (either test (n == 12) FAMILY_12 _ e12
+    (either test (n == 13) FAMILY_13 _ e13
+    (either test (n == 14) FAMILY_14 _ e14
+    (either test (n == 15) FAMILY_15 _ e15
+    (either test (n == 16) FAMILY_16 _ e16
+    (either test (n == 17) FAMILY_17 _ e17
+    (either test (n == 18) FAMILY_18 _ e18
+    (either test (n == 19) FAMILY_19 _ e19
+    (either test (n == 20) FAMILY_20 _ e20
+    (either test (n == 21) FAMILY_21 _ e21
+    (either test (n == 22) FAMILY_22 _ e22
+    (either test (n == 23) FAMILY_23 _ e23
+    (either test (n == 24) FAMILY_24 _ e24
+    (either test (n == 25) FAMILY_25 _ e25
+    (either test (n == 26) FAMILY_26 _ e26
+    (either test (n == 27) FAMILY_27 _ e27
+    (either test (n == 28) FAMILY_28 _ e28
+    (either test (n == 29) FAMILY_29 _ e29
+    (either test (n == 30) FAMILY_30 _ e30
+    (either test (n == 31) FAMILY_31 _ e31
+    (either test (n == 32) FAMILY_32 _ e32
+    (either test (n == 33) FAMILY_33 _ e33
+    (either test (n == 34) FAMILY_34 _ e34
+    (either test (n == 35) FAMILY_35 _ e35
+    (either test (n == 36) FAMILY_36 _ e36
+    (either test (n == 37) FAMILY_37 _ e37
+    (either test (n == 38) FAMILY_38 _ e38 e39)))))))))))))))))))))))))))))))))))))))
+
+each_place : (n : ℕ) → list_all is_place (family_of n) ≡ true
+unfolding any_below
+each_place n = each_family (list_all is_place) n refl refl refl refl refl refl refl refl refl refl refl refl refl refl refl refl refl refl refl refl refl refl refl refl refl refl refl refl refl refl refl refl refl refl refl refl refl refl refl refl
+
+each_pair : (n : ℕ) → pairwise are_apart (family_of n) ≡ true
+unfolding has_common any_below
+each_pair n = each_family (pairwise are_apart) n refl refl refl refl refl refl refl refl refl refl refl refl refl refl refl refl refl refl refl refl refl refl refl refl refl refl refl refl refl refl refl refl refl refl refl refl refl refl refl refl
+
+-- ---- what follows
+
+one : (d : Device) (p : Place) → Contains (places d) p → is_place p ≡ true
+unfolding places
+one d p (k, lt, is) = ap is_place (sym is) ∙ one_of is_place (places d) k p (each_place (device_row d).family) lt
+
+in_row : (d : Device) (p : Place) → Contains (places d) p → (nat_le p.vector (last_vector d) && nat_le p.address (io_end d)) ≡ true
+unfolding places
+in_row d p (k, lt, is) =
+    let test = λ (q : Place). nat_le q.vector (last_vector d) && nat_le q.address (io_end d) in
+    ap test (sym is) ∙ one_of test (places d) k p (passes d 10) lt
+
+two : (d : Device) (p q : Place) → Contains (places d) p → Contains (places d) q → (p ≡ q) ⊎ ((are_apart p q ≡ true) ⊎ (are_apart q p ≡ true))
+unfolding places
+two d p q a b = one_or_two are_apart (places d) p q (each_pair (device_row d).family) a b
+
+-- if neither order passes the test, the places are one
+meet : (d : Device) (p q : Place) → Contains (places d) p → Contains (places d) q → are_apart p q ≡ false → are_apart q p ≡ false → p ≡ q
+meet d p q a b first second = by (two d p q a b)
+  where
+    true_and_false : (t : Bool) → t ≡ true → t ≡ false → ⊥
+    true_and_false t a b = absurd (cc)
+
+    by : (p ≡ q) ⊎ ((are_apart p q ≡ true) ⊎ (are_apart q p ≡ true)) → p ≡ q
+    by (inl same) = same
+    by (inr (inl is)) = absurd (true_and_false (are_apart p q) is first)
+    by (inr (inr is)) = absurd (true_and_false (are_apart q p) is second)
+
+both : (p q : ℕ) (m : Bool) → p ≡ q → m ≡ true → ((p == q) && m) ≡ true
+both p q m is e = grind (arith, nat_tests)
+
+not_apart_by_bits : (x y : Bool) → x ≡ true → (not x && y) ≡ false
+not_apart_by_bits true y e = refl
+not_apart_by_bits false y e = absurd (cc)
+
+not_apart_by_vector : (x y : Bool) → y ≡ true → (x && not y) ≡ false
+not_apart_by_vector true true e = refl
+not_apart_by_vector false true e = refl
+not_apart_by_vector x false e = absurd (cc)
+
+either_left : (a b : Bool) → a ≡ true → (a || b) ≡ true
+either_left true b e = refl
+either_left false b e = absurd (cc)
+
+either_right : (a b : Bool) → b ≡ true → (a || b) ≡ true
+either_right true b e = refl
+either_right false b e = e
+
+same_address : (address bit : ℕ) (p q : Place) → covers address bit p ≡ true → covers address bit q ≡ true → p.address ≡ q.address
+same_address address bit p q a b = grind (arith, nat_tests)
+
+common : (address bit : ℕ) (p q : Place) → bit < 8 → covers address bit p ≡ true → covers address bit q ≡ true → has_common p.mask q.mask ≡ true
+unfolding has_common
+common address bit p q lt a b = some_below 8 (λ k. (bit_at p.mask k == 1) && (bit_at q.mask k == 1)) bit lt (grind (arith, nat_tests))
+
+bits : (d : Device) (address bit : ℕ) (p q : Place) → bit < 8 → Contains (places d) p → Contains (places d) q → covers address bit p ≡ true → covers address bit q ≡ true → p ≡ q
+bits d address bit p q lt a b h g =
+    meet d p q a b
+    (not_apart_by_bits _ _ (both p.address q.address _ (same_address address bit p q h g) (either_left _ _ (common address bit p q lt h g))))
+    (not_apart_by_bits _ _ (both q.address p.address _ (same_address address bit q p g h) (either_left _ _ (common address bit q p lt g h))))
+
+vectors : (d : Device) (p q : Place) → Contains (places d) p → Contains (places d) q → p.address ≡ q.address → p.vector ≡ q.vector → p ≡ q
+vectors d p q a b at v =
+    meet d p q a b
+    (not_apart_by_vector _ _ (both p.vector q.vector _ v (either_left _ _ (eq-eqb p.address q.address at))))
+    (not_apart_by_vector _ _ (both q.vector p.vector _ (sym v) (either_left _ _ (eq-eqb q.address p.address (sym at)))))
+
+held : (d : Device) (p q : Place) → Contains (places d) p → Contains (places d) q → is_bit p.enable ≡ true → q.vector ≡ p.vector → p ≡ q
+held d p q a b is v =
+    meet d p q a b
+    (not_apart_by_vector _ _ (both p.vector q.vector _ (sym v) (either_right (p.address == q.address) _ (either_left _ _ is))))
+    (not_apart_by_vector _ _ (both q.vector p.vector _ v (either_right (q.address == p.address) _ (either_right (is_bit q.enable) _ is))))
+
+vector_test : (v last : ℕ) → nat_le 2 v ≡ true → nat_le v last ≡ true → (nat_le 2 v && nat_le v last) ≡ true
+vector_test v last a b = grind (arith, nat_tests)
+
+not_core : (t : Bool) → not t ≡ true → t ≡ false
+not_core true e = absurd (cc)
+not_core false e = refl
+
+parts : (d : Device) (p : Place) → is_place p ≡ true → (nat_le p.vector (last_vector d) && nat_le p.address (io_end d)) ≡ true
+    → (is_vector d p.vector ≡ true) × ((is_core p.address ≡ false) × ((p.address ≤ io_end d) × (p.mask < 256)))
+parts d p h g =
+    let third = nat_lt p.mask 256 && (not (is_bit p.enable) || any_below 8 (λ b. p.mask == 2 ^ b)) in
+    let a = and_parts (nat_le 2 p.vector) (not (is_core p.address) && third) h in
+    let b = and_parts (not (is_core p.address)) third a.1 in
+    let c = and_parts (nat_lt p.mask 256) (not (is_bit p.enable) || any_below 8 (λ k. p.mask == 2 ^ k)) b.1 in
+    let e = and_parts (nat_le p.vector (last_vector d)) (nat_le p.address (io_end d)) g in
+    (vector_test p.vector (last_vector d) a.0 e.0, (not_core (is_core p.address) b.0, (at_most_from_test p.address (io_end d) e.1, less_from_test p.mask 256 c.0)))
+
+each : (d : Device) → All (λ (p : Place). (is_vector d p.vector ≡ true) × ((is_core p.address ≡ false) × ((p.address ≤ io_end d) × (p.mask < 256)))) (places d)
+each d k default lt = let p = slice_index_or (places d) k default in let there : Contains (places d) p = (k, lt, any_default (places d) k p default lt) in parts d p (one d p there) (in_row d p there)
+
+equal_if : (x y : ℕ) → (x == y) ≡ true → x ≡ y
+equal_if x y e = grind (arith, nat_tests)
+
+other : (a b : Bool) → (not a || b) ≡ true → a ≡ true → b ≡ true
+other true b h e = h
+other false b h e = absurd (cc)
+
+one_bit : (d : Device) (p : Place) → Contains (places d) p → is_bit p.enable ≡ true → (b : ℕ) × ((b < 8) × (p.mask ≡ 2 ^ b))
+one_bit d p there is =
+    let last = not (is_bit p.enable) || any_below 8 (λ b. p.mask == 2 ^ b) in
+    let a = and_parts (nat_le 2 p.vector) (not (is_core p.address) && (nat_lt p.mask 256 && last)) (one d p there) in
+    let b = and_parts (not (is_core p.address)) (nat_lt p.mask 256 && last) a.1 in
+    let c = and_parts (nat_lt p.mask 256) last b.1 in
+    let f = any_found 8 (λ k. p.mask == 2 ^ k) (other (is_bit p.enable) (any_below 8 (λ k. p.mask == 2 ^ k)) c.1 is) in
+    (f.0, (f.1, equal_if p.mask (2 ^ f.0) f.2))
+
+pub places_are_apart : PlacesAreApart
+places_are_apart = record { each = each; bits = bits; vectors = vectors; held = held; one_bit = one_bit }

@@ -1,0 +1,152 @@
+//! What names of devices mean.
+
+use super::Worked;
+use avr_model::device::Device;
+use avr_model::naming::{class_of, device_named, device_of_class};
+use std::alloc::Global;
+
+/// A name, the name in texts and the device's numbers; names that aren't known have none of these.
+pub struct Named(&'static str, &'static str, Numbers);
+
+// Words, last I/O address, bytes of SRAM, last vector, watchdog, limit, depth; whether `jmp`, multiplication, `elpm` and `break` are
+// instructions, and the word at which vector 2 is entered.
+type Numbers = [u32; 12];
+
+const NONE: Numbers = [0; 12];
+
+/// Names of devices. Source: the data sheets.
+pub static NAMES: [(&str, &[Named]); 1] = [(
+    "name",
+    &[
+        Named(
+            "atmega48pa",
+            "atmega48pa",
+            [2048, 0xFF, 512, 26, 7, 16384, 2048, 0, 1, 0, 1, 1],
+        ),
+        Named(
+            "atmega48",
+            "atmega48pa",
+            [2048, 0xFF, 512, 26, 7, 16384, 2048, 0, 1, 0, 1, 1],
+        ),
+        Named(
+            "atmega48p",
+            "atmega48pa",
+            [2048, 0xFF, 512, 26, 7, 16384, 2048, 0, 1, 0, 1, 1],
+        ),
+        Named(
+            "atmega328",
+            "atmega328p",
+            [16384, 0xFF, 2048, 26, 7, 16384, 2048, 1, 1, 0, 1, 2],
+        ),
+        Named(
+            "atmega8",
+            "atmega8",
+            [4096, 0x5F, 1024, 19, 0, 16384, 2048, 0, 1, 0, 0, 1],
+        ),
+        Named(
+            "atmega163",
+            "atmega163",
+            [8192, 0x5F, 1024, 18, 0, 16384, 2048, 1, 1, 0, 0, 2],
+        ),
+        Named(
+            "attiny85",
+            "attiny85",
+            [4096, 0x5F, 512, 15, 13, 16384, 2048, 0, 0, 0, 1, 1],
+        ),
+        Named(
+            "attiny861a",
+            "attiny861",
+            [4096, 0x5F, 512, 19, 13, 16384, 2048, 0, 0, 0, 1, 1],
+        ),
+        Named(
+            "attiny1634",
+            "attiny1634",
+            [8192, 0xFF, 1024, 28, 6, 16384, 2048, 1, 0, 0, 1, 2],
+        ),
+        Named(
+            "atmega16u2",
+            "at90usb162",
+            [8192, 0xFF, 512, 29, 0, 16384, 2048, 1, 0, 0, 1, 2],
+        ),
+        Named(
+            "atmega32u4",
+            "atmega32u4",
+            [16384, 0xFF, 2560, 43, 13, 16384, 2560, 1, 1, 0, 1, 2],
+        ),
+        Named(
+            "atmega64a",
+            "atmega64",
+            [32768, 0xFF, 4096, 35, 0, 32768, 4096, 1, 1, 0, 1, 2],
+        ),
+        Named(
+            "atmega128",
+            "atmega128",
+            [65536, 0xFF, 4096, 35, 0, 65536, 4096, 1, 1, 1, 1, 2],
+        ),
+        Named(
+            "atmega1280",
+            "atmega1280",
+            [65536, 0x1FF, 8192, 57, 13, 65536, 8192, 1, 1, 1, 1, 2],
+        ),
+        Named(
+            "atmega1284",
+            "atmega1284p",
+            [65536, 0xFF, 16384, 35, 9, 65536, 16384, 1, 1, 1, 1, 2],
+        ),
+        // as long as a name of the table can be
+        Named(
+            "atmega3290pa",
+            "atmega3290p",
+            [16384, 0xFF, 2048, 25, 0, 16384, 2048, 1, 1, 0, 1, 2],
+        ),
+        // the last of the table
+        Named(
+            "attiny88",
+            "attiny88",
+            [4096, 0xFF, 512, 20, 8, 16384, 2048, 0, 0, 0, 1, 1],
+        ),
+        Named("", "", NONE),
+        Named("attiny13", "", NONE),
+        Named("atmega", "", NONE),
+        Named("atmega328p ", "", NONE),
+        Named(" atmega328p", "", NONE),
+        Named("atmega328p\0", "", NONE),
+        Named("atmega328pb", "", NONE),
+        Named("ATmega328P", "", NONE),
+        Named("atmega2560", "", NONE),
+        Named("atmega3290pa\0", "", NONE),
+    ],
+)];
+
+fn numbers(device: Device) -> Numbers {
+    [
+        device.words(),
+        u32::from(device.io_end()),
+        u32::from(device.size()),
+        u32::from(device.last_vector()),
+        u32::from(device.watchdog()),
+        device.limit(),
+        u32::from(device.depth()),
+        u32::from(device.has_jmp()),
+        u32::from(device.has_mul()),
+        u32::from(device.has_elpm()),
+        u32::from(device.has_break()),
+        u32::from(device.vector_word(2)),
+    ]
+}
+
+impl Worked for Named {
+    // The device has this class, whose name in texts means it again; another name means none there.
+    fn holds(&self, _alloc: Global) -> bool {
+        let own = device_of_class(self.0.as_bytes());
+        match device_named(self.0.as_bytes()) {
+            Some(device) => {
+                class_of(device) == self.1.as_bytes()
+                    && numbers(device) == self.2
+                    && device_of_class(class_of(device)) == Some(device)
+                    && own.is_some() == (self.0 == self.1)
+            }
+            None => self.1.is_empty() && own.is_none(),
+        }
+    }
+}
