@@ -3,7 +3,8 @@ use Rattle.std.specs.Prelude.{ℕ, ◌≡◌, ◌==◌, ◌&&◌, not, nat_le, B
 use Rattle.std.specs.Option.{option_map}
 use Rattle.std.specs.Str.{bytes_eq}
 use Rattle.avr_model.specs.declared.device.Device.{Device}
-use Rattle.avr_model.specs.Devices.{M48, M88, M168, M328}
+use Rattle.avr_model.specs.Devices.{M328}
+use Rattle.avr_model.specs.Names.{device_named}
 use Rattle.sb_base.specs.declared.digits.DigitFault.{DigitFault}
 use Rattle.sb_base.specs.Digits.{dec_answer}
 use Rattle.commands.specs.Options.{Valued}
@@ -209,19 +210,10 @@ size_in word = positive (decimal_in word 2000)
 
 -- ---- devices
 
--- the device with this name
-abbrev pub device_called : List ℕ → Option Device
-device_called word =
-    if bytes_eq word (codes "atmega48pa") then Some M48
-    else (if bytes_eq word (codes "atmega88pa") then Some M88
-    else (if bytes_eq word (codes "atmega168pa") then Some M168
-    else (if bytes_eq word (codes "atmega328p") then Some M328
-    else None)))
-
 -- the device by its name, the ATmega328P by default
 abbrev pub device_in : Option (List ℕ) → Option Device
 device_in None = Some M328
-device_in (Some word) = device_called word
+device_in (Some word) = device_named word
 
 -- ---- commands
 

@@ -8,6 +8,7 @@ ghost use Rattle.commands.specs.Views.{text_of, line_of, command_seen};
 use crate::line::CommandLine;
 use crate::size::{ChoiceCount, Size};
 use avr_model::device::Device;
+use avr_model::naming::device_named;
 use sb_base::read_dec;
 
 /// What the program does, for which device, with the names of the files.
@@ -233,19 +234,9 @@ fn size_in(word: &str) -> Option<Size>
 fn device_in(word: Option<&str>) -> Option<Device>
     ensures { result ≡ device_in (text_of word.entry) }
 {
-    let Some(word) = word else {
-        return Some(Device::M328);
-    };
-    if word == "atmega48pa" {
-        Some(Device::M48)
-    } else if word == "atmega88pa" {
-        Some(Device::M88)
-    } else if word == "atmega168pa" {
-        Some(Device::M168)
-    } else if word == "atmega328p" {
-        Some(Device::M328)
-    } else {
-        None
+    match word {
+        Some(word) => device_named(word.as_bytes()),
+        None => Some(Device::M328),
     }
 }
 
