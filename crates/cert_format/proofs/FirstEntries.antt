@@ -1,4 +1,5 @@
--- The line `pairs` in lists of entries: it is the first in a list of the third version, and in no other list.
+-- The line `pairs` in lists of entries: it is the first in a list of the third version, and in no other list. Where the text says its
+-- device, any list may have it.
 use Rattle.std.proofs.Common.{◌≡◌, ◌||◌, List, [], ◌∷◌, ◌++◌, length, Bool, true, false, refl, ap, sym, ◌∙◌, arith}
 use Rattle.std.specs.List.{AllByRecursion}
 use Rattle.std.proofs.lemmas.Bool.{false≢true, and_parts, and_from}
@@ -12,8 +13,8 @@ use Rattle.indirect_targets.specs.Exact.{AreEntriesOf}
 use Rattle.indirect_targets.proofs.AllLaws.{pushed, none_are_entries}
 use Rattle.certificate.specs.declared.version.Version.{Version}
 use Rattle.certificate.specs.declared.version.Version.TheVariants.{One, Two, Three}
-use Rattle.certificate.specs.Versions.{is_third}
-use Rattle.cert_format.specs.Reading.{is_admitted, least_entries}
+use Rattle.certificate.specs.Versions.{is_first, is_third, written_by}
+use Rattle.cert_format.specs.Reading.{is_admitted, least_entries, version_with}
 
 -- ---- one entry more
 
@@ -41,6 +42,11 @@ mode_kept es (Prove site) h = other_pushed es (Prove site) refl
 mode_kept es (Free site) h = other_pushed es (Free site) refl
 mode_kept es (Never site) h = other_pushed es (Never site) refl
 mode_kept es (Frame site) h = other_pushed es (Frame site) refl
+
+-- where the text says its device, each list may have it
+pub mode_stays : (says : Bool) (es : List Entry) (e : Entry) → is_admitted (says || has_pairs es) e ≡ true → (says || has_pairs (es ++ e ∷ [])) ≡ (says || has_pairs es)
+mode_stays true es e h = refl
+mode_stays false es e h = mode_kept es e h
 
 -- ---- the first line
 
@@ -83,11 +89,16 @@ any_entry (Free site) = refl
 any_entry (Never site) = refl
 any_entry (Frame site) = refl
 
-all_entries : (es : List Entry) → AllByRecursion (λ e. is_admitted true e ≡ true) es
+pub all_entries : (es : List Entry) → AllByRecursion (λ e. is_admitted true e ≡ true) es
 all_entries [] = tt
 all_entries (e ∷ es) = (any_entry e, all_entries es)
 
 -- ---- by the version
+
+-- The version that is read from the first line of a text. Where the text says its device, that is the second.
+abbrev pub version_read : Bool → Version → Version
+version_read true version = Two
+version_read false version = version
 
 -- the first entries of a version
 abbrev pub firsts : Version → List Entry
@@ -115,12 +126,12 @@ firsts_are device One = none_are_entries device
 firsts_are device Two = none_are_entries device
 firsts_are device Three = pushed device [] Pairs (none_are_entries device) (record { room = omega arith; formed = and_from (is_entry Pairs) (fits_device device Pairs) refl (pairs_fit device); above = refl })
 
-pub record BeginsWith (version : Version) (es : List Entry) : Type 0 where
+pub record BeginsWith (paired : Bool) (version : Version) (es : List Entry) : Type 0 where
   pub rest : List Entry
   pub all : es ≡ firsts version ++ rest
-  pub admitted : AllByRecursion (λ e. is_admitted (is_third version) e ≡ true) rest
+  pub admitted : AllByRecursion (λ e. is_admitted paired e ≡ true) rest
 
-behind_first : (x : Entry) (xs : List Entry) → are_in_order (x ∷ xs) ≡ true → has_line 0 (x ∷ xs) 0 ≡ true → BeginsWith Three (x ∷ xs)
+behind_first : (x : Entry) (xs : List Entry) → are_in_order (x ∷ xs) ≡ true → has_line 0 (x ∷ xs) 0 ≡ true → BeginsWith true Three (x ∷ xs)
 behind_first Pairs xs order e = record { rest = xs; all = refl; admitted = all_entries xs }
 behind_first Masks xs order e = absurd (false≢true (sym (none_behind Masks xs order) ∙ e))
 behind_first (Jump site words) xs order e = absurd (false≢true (sym (none_behind (Jump site words) xs order) ∙ e))
@@ -130,13 +141,43 @@ behind_first (Free site) xs order e = absurd (false≢true (sym (none_behind (Fr
 behind_first (Never site) xs order e = absurd (false≢true (sym (none_behind (Never site) xs order) ∙ e))
 behind_first (Frame site) xs order e = absurd (false≢true (sym (none_behind (Frame site) xs order) ∙ e))
 
-third_begins : (es : List Entry) → are_in_order es ≡ true → has_line 0 es 0 ≡ true → BeginsWith Three es
+third_begins : (es : List Entry) → are_in_order es ≡ true → has_line 0 es 0 ≡ true → BeginsWith true Three es
 third_begins [] order e = absurd (false≢true e)
 third_begins (x ∷ xs) order e = behind_first x xs order e
 
 -- a list of a version begins with these entries
-pub begins : (version : Version) (es : List Entry) → AreEntries es → is_third version ≡ has_pairs es → BeginsWith version es
+begins : (version : Version) (es : List Entry) → AreEntries es → is_third version ≡ has_pairs es → BeginsWith (is_third version) version es
 unfolding has_pairs
 begins One es h mode = record { rest = es; all = refl; admitted = all_other es (sym mode) }
 begins Two es h mode = record { rest = es; all = refl; admitted = all_other es (sym mode) }
 begins Three es h mode = third_begins es h.in_order (sym mode)
+
+-- the version that is read before the list
+pub begins_read : (says : Bool) (version : Version) (es : List Entry) → AreEntries es → is_third version ≡ has_pairs es → BeginsWith (says || is_third (version_read says version)) (version_read says version) es
+begins_read true version es h mode = record { rest = es; all = refl; admitted = all_entries es }
+begins_read false version es h mode = begins version es h mode
+
+-- ---- the version by the list
+
+third_by : (paired : Bool) → is_third (written_by paired) ≡ paired
+third_by true = refl
+third_by false = refl
+
+not_first : (paired : Bool) → is_first (written_by paired) ≡ false
+not_first true = refl
+not_first false = refl
+
+pub with_mode : (says : Bool) (version : Version) (es : List Entry) → (says ≡ false → is_third version ≡ has_pairs es) → is_third (version_with says version es) ≡ has_pairs es
+with_mode true version es h = third_by (has_pairs es)
+with_mode false version es h = h refl
+
+pub with_later : (says : Bool) (version : Version) (es : List Entry) → says ≡ true → is_first (version_with says version es) ≡ false
+with_later true version es e = not_first (has_pairs es)
+with_later false version es e = absurd (false≢true e)
+
+-- the version of a certificate is the one that is read
+pub version_settled : (says : Bool) (version : Version) (es : List Entry) → is_third version ≡ has_pairs es → (says ≡ true → is_first version ≡ false) → version_with says (version_read says version) es ≡ version
+version_settled true One es mode later = absurd (false≢true (sym (later refl)))
+version_settled true Two es mode later = ap written_by (sym mode)
+version_settled true Three es mode later = ap written_by (sym mode)
+version_settled false version es mode later = refl

@@ -58,32 +58,33 @@ if_none b f e = rw e refl
 abbrev pub FitsEntry : Device → Entry → Type 0
 FitsEntry device e = is_entry_of device e ≡ true
 
--- one of the third version, or of another
+-- one of a list that may have the line `pairs`, or of another
 abbrev pub EntryOf : Device → Bool → ℕ → Entry → Type 0
-EntryOf device third at e = FitsEntry device e × (is_admitted third e ≡ true)
+EntryOf device paired at e = FitsEntry device e × (is_admitted paired e ≡ true)
 
 pub entry_steady : Steady refused_entry
 entry_steady es e a b h = if_none (is_above_last es e) (fault.Order b) (none_if (is_above_last es e) (fault.Order a) h)
 
-abbrev AreFew : Device → List Entry → Type 0
+abbrev pub AreFew : Device → List Entry → Type 0
 AreFew device es = length es ≤ most_entries → AreEntriesOf device es
 
-pub record EntriesKeep (device : Device) (third : Bool) (es : List Entry) : Type 0 where
-  pub are : AreFew device es
-  pub mode : has_pairs es ≡ third
+entry_pushed : (device : Device) (paired : Bool) (es : List Entry) (e : Entry) → AreFew device es → EntryOf device paired (length es) e → ((at : ℕ) → refused_entry es e at ≡ None) → AreFew device (es ++ e ∷ [])
+entry_pushed device paired es e h f none =
+    λ few. let n = length-append es (e ∷ []) in
+    pushed device es e (h (omega arith)) (record { room = omega arith; formed = f.0; above = none_if (is_above_last es e) (fault.Order 0) (none 0) })
 
-entry_pushed : (device : Device) (third : Bool) (es : List Entry) (e : Entry) → EntriesKeep device third es → EntryOf device third (length es) e → ((at : ℕ) → refused_entry es e at ≡ None) → EntriesKeep device third (es ++ e ∷ [])
-entry_pushed device third es e h f none =
-    let P : Bool → Type 0 = λ b. is_admitted b e ≡ true in
-    record {
-      are = λ few.
-          let n = length-append es (e ∷ []) in
-          pushed device es e (h.are (omega arith)) (record { room = omega arith; formed = f.0; above = none_if (is_above_last es e) (fault.Order 0) (none 0) });
-      mode = mode_kept es e (subst P (sym h.mode) f.1) ∙ h.mode;
-    }
+pub entries_kept : (device : Device) (paired : Bool) (front es : List Entry) → AreFew device front → Admitted (EntryOf device paired) refused_entry front es → AreFew device (front ++ es)
+entries_kept device paired front es q h = kept_by (EntryOf device paired) refused_entry (AreFew device) (entry_pushed device paired) front es q h
 
-pub entries_kept : (device : Device) (third : Bool) (front es : List Entry) → EntriesKeep device third front → Admitted (EntryOf device third) refused_entry front es → EntriesKeep device third (front ++ es)
-entries_kept device third front es q h = kept_by (EntryOf device third) refused_entry (EntriesKeep device third) (entry_pushed device third) front es q h
+abbrev HasMode : Bool → List Entry → Type 0
+HasMode third es = has_pairs es ≡ third
+
+mode_pushed : (device : Device) (third : Bool) (es : List Entry) (e : Entry) → HasMode third es → EntryOf device third (length es) e → ((at : ℕ) → refused_entry es e at ≡ None) → HasMode third (es ++ e ∷ [])
+mode_pushed device third es e h f none = let P : Bool → Type 0 = λ b. is_admitted b e ≡ true in mode_kept es e (subst P (sym h) f.1) ∙ h
+
+-- where only some lists may have the line `pairs`
+pub modes_kept : (device : Device) (third : Bool) (front es : List Entry) → HasMode third front → Admitted (EntryOf device third) refused_entry front es → HasMode third (front ++ es)
+modes_kept device third front es q h = kept_by (EntryOf device third) refused_entry (HasMode third) (mode_pushed device third) front es q h
 
 entry_follows : (device : Device) (es : List Entry) (e : Entry) (more : List Entry) → AreEntriesOf device (es ++ e ∷ more) → (at : ℕ) → refused_entry es e at ≡ None
 entry_follows device es e more h at = if_none (is_above_last es e) (fault.Order at) (follows device es e more h).above

@@ -1,12 +1,12 @@
 -- Reading and spelling of the parts of a certificate are inverse.
-use Rattle.std.proofs.Common.{nat_le, ℕ, ◌+◌, ◌<◌, ◌≤◌, ◌^◌, ◌≡◌, ◌==◌, ◌&&◌, inl, inr, List, [], ◌∷◌, ◌++◌, length, map, codes, Bool, true, false, not, refl, ap, sym, ◌∙◌, arith, Option, Some, None, Result, Ok, Err, subst, lit<, append_assoc}
-use Rattle.std.specs.Prelude.{IfSome}
+use Rattle.std.proofs.Common.{nat_le, ℕ, ◌+◌, ◌<◌, ◌≤◌, ◌^◌, ◌≡◌, ◌==◌, ◌&&◌, ◌⊎◌, inl, inr, List, [], ◌∷◌, ◌++◌, length, map, codes, Bool, true, false, not, refl, ap, sym, ◌∙◌, arith, Option, Some, None, Result, Ok, Err, subst, lit<, append_assoc}
+use Rattle.std.specs.Prelude.{IfSome, ◌≢◌}
 use Rattle.std.specs.List.{AllByRecursion, flat_map}
 use Rattle.std.specs.Fmt.{decimal}
 use Rattle.std.specs.Str.{bytes_eq}
 use Rattle.std.proofs.lemmas.List.{map-append}
 use Rattle.std.proofs.lemmas.Slice.Eq.{bytes_eq-Decides}
-use Rattle.std.proofs.lemmas.Bool.{not-true, and_parts}
+use Rattle.std.proofs.lemmas.Bool.{false≢true, not-true, and_parts}
 use Rattle.basics.specs.Lists.{chosen}
 use Rattle.basics.specs.Numbers.{at_most_from_test, test_from_at_most}
 use Rattle.std.proofs.lemmas.Option.{same_Some, none-some, cond_some}
@@ -17,9 +17,9 @@ use Rattle.sb_base.specs.Digits.{dec_answer}
 use Rattle.sb_base.specs.declared.digits.DigitFault.{DigitFault}
 use Rattle.sb_base.specs.declared.digits.DigitFault.TheVariants.{WrongLength, BadDigit, TooGreat}
 use Rattle.sb_base.specs.Lines.{TextLine, Place, Lacks, lines_of, words_of, spaced, line}
-use Rattle.line_reading.specs.Reading.{dec_at, word_at, is_over, number_and, this_by, line_by}
+use Rattle.line_reading.specs.Reading.{dec_at, word_at, word_by, is_over, number_and, this_by, line_by}
 use Rattle.line_reading.specs.Words.{IsWord, whole, sizes, Passes, WordLaws}
-use Rattle.line_reading.proofs.AllLaws.{bind_some, no_words, line_takes, line_again, passes_more, passes_split, sizes_append, number_of}
+use Rattle.line_reading.proofs.AllLaws.{bind_some, map_some, no_words, line_takes, line_again, passes_none, passes_end, passes_more, passes_split, sizes_append, number_of}
 use Rattle.witness_replay.specs.Spelling.{Plan, IsSchedule, schedule_lines, text_of as schedule_text}
 use Rattle.witness_replay.specs.Reading.{schedule_at}
 use Rattle.witness_replay.specs.Exact.{TextIsReading, ReadScheduleIsSpelled as ScheduleIsSpelled, SpelledScheduleIsRead as ScheduleIsRead}
@@ -28,9 +28,12 @@ use Rattle.cert_format.specs.declared.fault.CertFault.TheVariants as fault
 use Rattle.certificate.specs.Claims.{most_nodes}
 use Rattle.certificate.specs.declared.version.Version.{Version}
 use Rattle.certificate.specs.declared.version.Version.TheVariants.{One, Two, Three}
-use Rattle.cert_words.specs.Text.{numbered, version_line, heading, open_line, attained_line, witness_lines, end_line}
-use Rattle.cert_format.specs.Reading.{formed, numbered_in, numbered_by, counted, count_at, count_in, count_by, limited, version_by, ending_by, items_from, heading_at, plan_if, witness_at, if_last, end_at}
-use Rattle.cert_words.proofs.AllLaws.{depth_room, same_text, word_take, dec_take}
+use Rattle.avr_model.specs.Names.{class_of, device_of_class}
+use Rattle.certificate.specs.Versions.{is_first, says_device}
+use Rattle.cert_words.specs.Text.{numbered, version_line, device_line, device_lines, heading, open_line, attained_line, witness_lines, end_line}
+use Rattle.cert_format.specs.Reading.{formed, numbered_in, numbered_by, counted, count_at, count_in, count_by, limited, version_by, other_by, device_in, device_by, for_this, device_at, ending_by, items_from, heading_at, plan_if, witness_at, if_last, end_at}
+use Rattle.cert_words.proofs.AllLaws.{depth_room, same_text, word_take, dec_take, word_by_take, class_word, class_named}
+use Rattle.cert_format.proofs.FirstEntries.{version_read}
 use Rattle.cert_format.proofs.Lists.{ok_is, err_ok, then_ok, formed_ok, Admitted, Steady, Spells, Reads, items_take, items_again}
 
 -- ---- places
@@ -197,53 +200,162 @@ list_again by words P refused reads name xs p q few fit h =
     let s = passes_split p q (whole (numbered name (length xs))) (map whole (map words xs)) h in
     (s.0, s.1, items_again by words P refused reads [] xs (length xs) s.0 q (omega (arith, few)) fit refl s.2)
 
--- ---- the heading
+-- ---- the version
 
-version_is : (t : List ℕ) (version : Version) → version_by t ≡ Some version → t ≡ spaced (version_line version)
+version_is : (says : Bool) (t : List ℕ) (version : Version) → version_by says t ≡ Some version → t ≡ spaced (version_line says version)
 unfolding version_by
-version_is t version e =
-    let P : Version → Type 0 = λ x. t ≡ spaced (version_line x) in
-    elim (chosen (bytes_eq t (spaced (version_line One))) _ _ (Some version) e) [
-      | inl h ↦ subst P (same_Some One version h.1) ((bytes_eq-Decides t (spaced (version_line One))).0 h.0)
-      | inr h ↦ elim (chosen (bytes_eq t (spaced (version_line Two))) _ _ (Some version) h.1) [
-        | inl f ↦ subst P (same_Some Two version f.1) ((bytes_eq-Decides t (spaced (version_line Two))).0 f.0)
-        | inr f ↦ let g = cond_some (bytes_eq t (spaced (version_line Three))) Three version f.1 in subst P g.1 ((bytes_eq-Decides t (spaced (version_line Three))).0 g.0)
+version_is true t version e =
+    let g = cond_some (bytes_eq t (spaced (version_line true Two))) Two version e in
+    (bytes_eq-Decides t (spaced (version_line true Two))).0 g.0
+version_is false t version e =
+    let P : Version → Type 0 = λ x. t ≡ spaced (version_line false x) in
+    elim (chosen (bytes_eq t (spaced (version_line false One))) _ _ (Some version) e) [
+      | inl h ↦ subst P (same_Some One version h.1) ((bytes_eq-Decides t (spaced (version_line false One))).0 h.0)
+      | inr h ↦ elim (chosen (bytes_eq t (spaced (version_line false Two))) _ _ (Some version) h.1) [
+        | inl f ↦ subst P (same_Some Two version f.1) ((bytes_eq-Decides t (spaced (version_line false Two))).0 f.0)
+        | inr f ↦ let g = cond_some (bytes_eq t (spaced (version_line false Three))) Three version f.1 in subst P g.1 ((bytes_eq-Decides t (spaced (version_line false Three))).0 g.0)
       ]
     ]
 
-pub version_again : (version : Version) → version_by (spaced (version_line version)) ≡ Some version
+-- where the text says its device
+later_by : (says : Bool) (t : List ℕ) (version : Version) → version_by says t ≡ Some version → says ≡ true → version ≡ Two
 unfolding version_by
-version_again One = refl
-version_again Two = refl
-version_again Three = refl
+later_by true t version e h = sym (cond_some (bytes_eq t (spaced (version_line true Two))) Two version e).1
+later_by false t version e h = absurd (false≢true h)
 
-pub version_take : (p : Place) (z : Version × Place) → formed (line_by version_by p) ≡ Ok z → Stand p (version_line z.0 ∷ []) z.1
-version_take p z e =
-    let l = line_takes version_by p z.0 z.1 (formed_ok (line_by version_by p) z e) in
-    as_words version_by p z.0 z.1 l (version_line z.0) (version_is l.text z.0 l.read)
+pub version_again : (says : Bool) (version : Version) → version_by says (spaced (version_line says version)) ≡ Some (version_read says version)
+unfolding version_by
+version_again true version = refl
+version_again false One = refl
+version_again false Two = refl
+version_again false Three = refl
 
-pub version_plain : (version : Version) → AllByRecursion IsWord (version_line version)
-version_plain One = plain (version_line One) refl
-version_plain Two = plain (version_line Two) refl
-version_plain Three = plain (version_line Three) refl
+pub version_take : (says : Bool) (p : Place) (z : Version × Place) → formed (line_by (version_by says) p) ≡ Ok z → Stand p (version_line says z.0 ∷ []) z.1 × (says ≡ true → z.0 ≡ Two)
+version_take says p z e =
+    let l = line_takes (version_by says) p z.0 z.1 (formed_ok (line_by (version_by says) p) z e) in
+    (as_words (version_by says) p z.0 z.1 l (version_line says z.0) (version_is says l.text z.0 l.read), later_by says l.text z.0 l.read)
 
-pub heading_take : (device : Device) → WordLaws → (p : Place) (z : (Version × ℕ) × Place) → heading_at device p ≡ Ok z → Stand p (heading z.0.0 z.0.1) z.1 × (z.0.1 ≤ depth_of device)
+pub version_plain : (says : Bool) (version : Version) → AllByRecursion IsWord (version_line says version)
+version_plain true version = plain (version_line true version) refl
+version_plain false One = plain (version_line false One) refl
+version_plain false Two = plain (version_line false Two) refl
+version_plain false Three = plain (version_line false Three) refl
+
+-- ---- the device
+
+-- the name of this device, or of another one that has a name in texts
+pub other_is : (device : Device) (name : List ℕ) (o : Option Device) → other_by device name ≡ Some o
+    → ((o ≡ None) × (name ≡ class_of device)) ⊎ ((other : Device) × (o ≡ Some other) × (device_of_class name ≡ Some other) × (name ≢ class_of device))
+unfolding other_by
+other_is device name o e = elim (chosen (bytes_eq name (class_of device)) _ _ (Some o) e) [
+  | inl h ↦ inl (sym (same_Some None o h.1), (bytes_eq-Decides name (class_of device)).0 h.0)
+  | inr h ↦
+      let t = map_some (λ (d : Device). Some d) (device_of_class name) o h.1 in
+      inr (t.0, sym t.2, t.1, λ same. false≢true (sym h.0 ∙ (bytes_eq-Decides name (class_of device)).1 same))
+]
+
+pub device_is : (device : Device) (ws : List (List ℕ)) (o : Option Device) → device_in device ws ≡ Some o → (name : List ℕ) × (ws ≡ device_line name) × (other_by device name ≡ Some o)
+unfolding device_in
+device_is device ws o e =
+    let w = bind_some (word_at (codes "device") ws) _ o e in
+    let d = bind_some (word_by (other_by device) w.0.1) _ o w.2 in
+    let last = cond_some (is_over d.0.1) d.0.0 o d.2 in
+    let t = word_by_take (other_by device) w.0.1 d.0 d.1 in
+    (
+      t.0,
+      word_take (codes "device") ws w.0 w.1 ∙ ap (λ (xs : List (List ℕ)). codes "device" ∷ xs) (t.1 ∙ ap (λ (xs : List (List ℕ)). t.0 ∷ xs) (no_words d.0.1 last.0)),
+      t.2 ∙ ap (λ (x : Option Device). Some x) last.1,
+    )
+
+pub device_reads : (device : Device) (name : List ℕ) (o : Option Device) → other_by device name ≡ Some o → device_in device (device_line name) ≡ Some o
+unfolding device_in
+device_reads device name o e = rw (same_text (codes "device"), e) refl
+
+-- this device's name
+own_name : (device : Device) → other_by device (class_of device) ≡ Some None
+unfolding other_by
+own_name device = rw (same_text (class_of device)) refl
+
+pub decided : (b : Bool) → (b ≡ true) ⊎ (b ≡ false)
+decided true = inl refl
+decided false = inr refl
+
+-- another device's name
+pub other_name : (device other : Device) (name : List ℕ) → device_of_class name ≡ Some other → (o : Option Device) × (other_by device name ≡ Some o)
+unfolding other_by
+other_name device other name e = elim (decided (bytes_eq name (class_of device))) [
+  | inl h ↦ (None, rw h refl)
+  | inr h ↦ (Some other, rw (h, e) refl)
+]
+
+-- a name in texts is one word
+pub named_word : (other : Device) (name : List ℕ) → device_of_class name ≡ Some other → IsWord name
+named_word other name e = subst IsWord (class_named other name e) (class_word other)
+
+pub name_words : (name : List ℕ) → IsWord name → AllByRecursion IsWord (device_line name)
+name_words name h = ((plain (codes "device" ∷ []) refl).0, (h, tt))
+
+for_this_ok : (d : Result (Option Device × Place) CertFault) (z : Unit {0} × Place) → for_this d ≡ Ok z → d ≡ Ok (None, z.1)
+for_this_ok (Ok (None, q)) z e = ap (λ (y : Unit {0} × Place). Ok (None, y.1)) (ok_is {A = Unit {0} × Place} (tt, q) z e)
+for_this_ok (Ok (Some other, q)) z e = absurd (err_ok _ z e)
+for_this_ok (Err f) z e = absurd (err_ok f z e)
+
+pub device_take : WordLaws → (says : Bool) (device : Device) (p : Place) (z : Unit {0} × Place) → device_at says device p ≡ Ok z → Stand p (device_lines says device) z.1
+unfolding device_at
+device_take k true device p z e =
+    let l = line_takes (device_by device) p None z.1 (formed_ok (line_by (device_by device) p) (None, z.1) (for_this_ok (formed (line_by (device_by device) p)) z e)) in
+    let t = device_is device (words_of l.text) None l.read in
+    let own : t.0 ≡ class_of device = elim (other_is device t.0 None t.2) [
+      | inl h ↦ h.1
+      | inr h ↦ absurd (none-some h.0 h.1)
+    ] in
+    as_words (device_by device) p None z.1 l (device_line (class_of device)) (sym (k.line_words l.text) ∙ ap spaced (t.1 ∙ ap device_line own))
+device_take k false device p z e = let P : Unit {0} × Place → Type 0 = λ y. Stand p [] y.1 in subst P (ok_is {A = Unit {0} × Place} (tt, p) z e) (passes_none p)
+
+device_again : WordLaws → (says : Bool) (device : Device) (p q : Place) → Stand p (device_lines says device) q → device_at says device p ≡ Ok (tt, q)
+unfolding device_at
+device_again k true device p q h =
+    let name = class_of device in
+    ap (λ (d : Result (Option Device × Place) Place). for_this (formed d)) (line_again (device_by device) p q (spaced (device_line name)) None
+    (ap (device_in device) (k.words_stand (codes "device") (name ∷ []) (name_words name (class_word device))) ∙ device_reads device name None (own_name device)) h)
+device_again k false device p q h = ap (λ (r : Place). Ok (tt, r)) (passes_end p q h)
+
+-- ---- the heading
+
+pub record HeadingPart (device : Device) (p : Place) (z : (Version × ℕ) × Place) : Type 0 where
+  pub lines : Stand p (heading device z.0.0 z.0.1) z.1
+  pub small : z.0.1 ≤ depth_of device
+  pub later : says_device device ≡ true → z.0.0 ≡ Two
+
+pub heading_take : (device : Device) → WordLaws → (p : Place) (z : (Version × ℕ) × Place) → heading_at device p ≡ Ok z → HeadingPart device p z
 unfolding heading_at
 heading_take device k p z e =
-    let v = then_ok (formed (line_by version_by p)) _ z e in
-    let n = then_ok (formed (line_by (numbered_by (codes "bound") 0 (depth_of device)) v.0.1)) _ z v.2 in
-    let b = number_take k (codes "bound") 0 (depth_of device) v.0.1 n.0 (depth_room device) n.1 in
-    let P : (Version × ℕ) × Place → Type 0 = λ y. Stand p (heading y.0.0 y.0.1) y.1 × (y.0.1 ≤ depth_of device) in
-    subst P (ok_is {A = (Version × ℕ) × Place} ((v.0.0, n.0.0), n.0.1) z n.2)
-    (passes_more p v.0.1 n.0.1 (whole (version_line v.0.0) ∷ []) (whole (numbered (codes "bound") n.0.0) ∷ []) (version_take p v.0 v.1) b.0, b.2)
+    let says = says_device device in
+    let v = then_ok (formed (line_by (version_by says) p)) _ z e in
+    let d = then_ok (device_at says device v.0.1) _ z v.2 in
+    let n = then_ok (formed (line_by (numbered_by (codes "bound") 0 (depth_of device)) d.0.1)) _ z d.2 in
+    let b = number_take k (codes "bound") 0 (depth_of device) d.0.1 n.0 (depth_room device) n.1 in
+    let first = version_take says p v.0 v.1 in
+    let second = stand_more v.0.1 d.0.1 n.0.1 (device_lines says device) (numbered (codes "bound") n.0.0 ∷ []) (device_take k says device v.0.1 d.0 d.1) b.0 in
+    let P : (Version × ℕ) × Place → Type 0 = λ y. HeadingPart device p y in
+    subst P (ok_is {A = (Version × ℕ) × Place} ((v.0.0, n.0.0), n.0.1) z n.2) (record {
+      lines = stand_more p v.0.1 n.0.1 (version_line says v.0.0 ∷ []) (device_lines says device ++ numbered (codes "bound") n.0.0 ∷ []) first.0 second;
+      small = b.2;
+      later = first.1;
+    })
 
-pub heading_again : (device : Device) → WordLaws → (p : Place) (version : Version) (n : ℕ) (q : Place) → n ≤ depth_of device → Stand p (heading version n) q → heading_at device p ≡ Ok ((version, n), q)
+pub heading_again : (device : Device) → WordLaws → (p : Place) (version : Version) (n : ℕ) (q : Place) → n ≤ depth_of device → Stand p (heading device version n) q → heading_at device p ≡ Ok ((version_read (says_device device) version, n), q)
 unfolding heading_at
 heading_again device k p version n q small h =
-    let s = passes_split p q (whole (version_line version)) (whole (numbered (codes "bound") n) ∷ []) h in
-    let first : formed (line_by version_by p) ≡ Ok (version, s.0) = ap formed (line_again version_by p s.0 (spaced (version_line version)) version (version_again version) s.1) in
-    let second = number_line k (codes "bound") 0 (depth_of device) n s.0 q (plain (codes "bound" ∷ []) refl).0 (depth_room device) (omega arith) small s.2 in
-    rw (first, second) refl
+    let says = says_device device in
+    let last : List (List (List ℕ)) = numbered (codes "bound") n ∷ [] in
+    let s = stand_cut p q (version_line says version ∷ []) (device_lines says device ++ last) h in
+    let t = stand_cut s.0 q (device_lines says device) last s.2 in
+    let first : formed (line_by (version_by says) p) ≡ Ok (version_read says version, s.0) =
+    ap formed (line_again (version_by says) p s.0 (spaced (version_line says version)) (version_read says version) (version_again says version) s.1) in
+    let second = device_again k says device s.0 t.0 t.1 in
+    let third = number_line k (codes "bound") 0 (depth_of device) n t.0 q (plain (codes "bound" ∷ []) refl).0 (depth_room device) (omega arith) small t.2 in
+    rw (first, second, third) refl
 
 -- ---- the schedule
 

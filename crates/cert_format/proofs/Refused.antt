@@ -1,5 +1,5 @@
 -- Each refusal is due: the text before it begins a certificate, and the line there has the reason.
-use Rattle.std.proofs.Common.{◌-◌, length-append, ℕ, ◌+◌, ◌<◌, ◌≤◌, ◌^◌, ◌≡◌, List, [], ◌∷◌, ◌++◌, length, map, codes, Bool, true, false, refl, ap, sym, ◌∙◌, arith, Option, Some, None, Result, Ok, Err, ◌⊎◌, inl, inr, cond, subst, lit<, nat_le}
+use Rattle.std.proofs.Common.{◌-◌, length-append, ℕ, ◌+◌, ◌<◌, ◌≤◌, ◌^◌, ◌≡◌, ◌||◌, List, [], ◌∷◌, ◌++◌, length, map, codes, Bool, true, false, refl, ap, sym, ◌∙◌, arith, Option, Some, None, Result, Ok, Err, ◌⊎◌, inl, inr, cond, subst, lit<, nat_le}
 use Rattle.std.specs.Prelude.{◌≢◌, ⊤}
 use Rattle.std.specs.List.{AllByRecursion}
 use Rattle.std.specs.List.Sorted.{IsStrictlySortedBy}
@@ -14,6 +14,7 @@ use Rattle.avr_model.specs.declared.assumption.Entry.TheVariants.{Pairs}
 use Rattle.avr_model.specs.Assumptions.{has_pairs}
 use Rattle.avr_model.specs.declared.device.Device.{Device}
 use Rattle.avr_model.specs.Devices.{depth_of}
+use Rattle.avr_model.specs.Names.{class_of, device_of_class}
 use Rattle.sb_base.specs.Answers.{Answers}
 use Rattle.sb_base.specs.Lines.{TextLine, Place, words_of, spaced}
 use Rattle.line_reading.specs.Reading.{first_by, this_by, line_by}
@@ -34,25 +35,25 @@ use Rattle.witness_replay.specs.Exact.{RefusedScheduleIsStuck}
 use Rattle.certificate.specs.declared.instance.Inst.{Inst}
 use Rattle.certificate.specs.declared.version.Version.{Version}
 use Rattle.certificate.specs.declared.version.Version.TheVariants.{One, Two, Three}
-use Rattle.certificate.specs.Versions.{is_third}
+use Rattle.certificate.specs.Versions.{is_first, is_third, says_device}
 use Rattle.certificate.specs.Insts.{IsInst, inst_keys}
 use Rattle.certificate.specs.Claims.{Claim, IsClaim, IsCertificate, most_instances, most_nodes, most_cells, cells_of, node_keys}
-use Rattle.cert_words.specs.Text.{numbered, version_line, heading, entry_lines, inst_lines, node_lines, inst_words, node_words, open_line, attained_line, witness_lines, end_line, front_lines}
+use Rattle.cert_words.specs.Text.{numbered, version_line, device_line, device_lines, heading, entry_lines, inst_lines, node_lines, inst_words, node_words, open_line, attained_line, witness_lines, end_line, front_lines}
 use Rattle.cert_format.specs.declared.fault.CertFault.{CertFault}
 use Rattle.cert_format.specs.declared.fault.CertFault.TheVariants as fault
 use Rattle.certificate.specs.declared.limit.Limit.{Limit}
 use Rattle.certificate.specs.declared.limit.Limit.TheVariants as limit
-use Rattle.cert_format.specs.Reading.{entry_by, inst_by, node_by, numbered_in, numbered_by, count_in, count_by, version_by, ending_by, formed, limited, last_in, is_inst_above, is_node_above, refused_entry, refused_inst, refused_node, heading_at, least_entries, first_at, entries_at, insts_at, nodes_at, plan_if, witness_at, if_last, end_at, claim_at, claim_alone, certificate_in}
-use Rattle.cert_format.specs.Refusals.{Part, Begin, Bound, Assume, FirstEntry, AnEntry, Instances, AnInst, Nodes, ANode, Ending, End, Nothing, StandsBefore, IsNextLine, IsNumbered, IsNodesLine, IsLow, IsTooMuch, IsStopped, IsCertificateRefused, IsCertificateDue, IsCertificateDueUnlessMemory, ReadCertificateIsDue, start}
+use Rattle.cert_format.specs.Reading.{entry_by, inst_by, node_by, numbered_in, numbered_by, count_in, count_by, version_by, other_by, device_in, device_by, for_this, device_at, is_admitted, is_paired, version_with, ending_by, formed, limited, last_in, is_inst_above, is_node_above, refused_entry, refused_inst, refused_node, heading_at, least_entries, first_at, entries_at, insts_at, nodes_at, plan_if, witness_at, if_last, end_at, claim_at, claim_alone, certificate_in}
+use Rattle.cert_format.specs.Refusals.{Part, Begin, Named, IsNaming, Bound, Assume, FirstEntry, AnEntry, Instances, AnInst, Nodes, ANode, Ending, End, Nothing, StandsBefore, IsNextLine, IsNumbered, IsNodesLine, IsLow, IsTooMuch, IsStopped, IsCertificateRefused, IsCertificateDue, IsCertificateDueUnlessMemory, ReadCertificateIsDue, start}
 use Rattle.cert_words.proofs.AllLaws.{depth_room}
 use Rattle.cert_format.proofs.Numbers.{decimal_word, nodes_count, too_many}
 use Rattle.cert_format.proofs.Lists.{err_ok, formed_ok, AllFrom, all_of_any, admitted_all, sorted_at, sorted_push, lines}
 use Rattle.cert_format.proofs.Items.{cells_more}
-use Rattle.cert_format.proofs.FirstEntries.{firsts, firsts_count, firsts_mode, firsts_are}
+use Rattle.cert_format.proofs.FirstEntries.{version_read, firsts, firsts_count, firsts_mode, firsts_are, with_later}
 use Rattle.cert_format.proofs.Kept.{EntryOf, entry_steady, entry_spells, entry_reads, AnyInst, inst_steady, insts_kept, inst_spells, inst_reads, inst_above_is, FitsNode, node_steady, NodesKeep, nodes_kept, node_spells, node_reads, node_above_is, keys_append}
-use Rattle.cert_format.proofs.Parts.{Stand, stand_more, plain, numbered_again, numbered_plain, number_take, nodes_take, this_again, this_take, version_again, version_take, heading_take, witness_part, ending_again, ending_words, ending_is}
+use Rattle.cert_format.proofs.Parts.{Stand, stand_more, plain, numbered_again, numbered_plain, number_take, nodes_take, this_again, this_take, version_again, version_take, decided, other_is, device_is, device_reads, other_name, name_words, named_word, device_take, heading_take, witness_part, ending_again, ending_words, ending_is}
 use Rattle.cert_format.proofs.Stops.{err_is, then_stop, formed_err, line_stop, not_next, is_next, Stop, ItemRefused, ItemsStop, items_stop}
-use Rattle.cert_format.proofs.Whole.{LowerLaws, first_take, some_keep, some_stand, entries_take, insts_take, nodes_part, claim_of, fitting_nodes, read_is_spelled}
+use Rattle.cert_format.proofs.Whole.{LowerLaws, first_take, same_line, some_keep, some_mode, some_stand, entries_take, insts_take, nodes_part, claim_of, fitting_nodes, read_is_spelled}
 
 -- ---- claims of the parts that are read
 
@@ -67,20 +68,31 @@ no_nodes = record { ascend = tt; few = omega arith }
 abbrev claim_to : Device → Version → ℕ → List Entry → List Inst → Seeds → Option Plan → Claim
 claim_to device version n es xs ns w = record { device = device; version = version; bound = n; assumptions = es; instances = xs; nodes = ns; witness = w }
 
-certificate_of : (device : Device) (version : Version) (n : ℕ) (es : List Entry) (xs : List Inst) (ns : Seeds) → n ≤ depth_of device → AreEntriesOf device es → is_third version ≡ has_pairs es → AllByRecursion (IsInst device) xs → IsStrictlySortedBy inst_cmp (inst_keys xs) → length xs ≤ most_instances
+certificate_of : (device : Device) (version : Version) (n : ℕ) (es : List Entry) (xs : List Inst) (ns : Seeds) → n ≤ depth_of device → AreEntriesOf device es → is_third version ≡ has_pairs es → (says_device device ≡ true → is_first version ≡ false) → AllByRecursion (IsInst device) xs → IsStrictlySortedBy inst_cmp (inst_keys xs) → length xs ≤ most_instances
     → AllFrom (FitsNode device version xs) 0 ns → NodesKeep ns → length ns ≤ most_nodes → IsCertificate (claim_to device version n es xs ns None)
-certificate_of device version n es xs ns small he mode hx ax few hn kn most = record { claim = claim_of device version n es xs ns None small he mode hx ax few hn kn most; schedule = tt }
+certificate_of device version n es xs ns small he mode later hx ax few hn kn most = record { claim = claim_of device version n es xs ns None small he mode later hx ax few hn kn most; schedule = tt }
 
-with_entries : (device : Device) (version : Version) (n : ℕ) (es : List Entry) → n ≤ depth_of device → AreEntriesOf device es → is_third version ≡ has_pairs es → IsCertificate (claim_to device version n es [] [] None)
-with_entries device version n es small h mode = certificate_of device version n es [] [] small h mode tt no_insts (omega arith) tt no_nodes (omega arith)
+with_entries : (device : Device) (version : Version) (n : ℕ) (es : List Entry) → n ≤ depth_of device → AreEntriesOf device es → is_third version ≡ has_pairs es → (says_device device ≡ true → is_first version ≡ false) → IsCertificate (claim_to device version n es [] [] None)
+with_entries device version n es small h mode later = certificate_of device version n es [] [] small h mode later tt no_insts (omega arith) tt no_nodes (omega arith)
 
 -- the bound, and the first entries of the version
-bound_only : (device : Device) (version : Version) (n : ℕ) → n ≤ depth_of device → IsCertificate (claim_to device version n (firsts version) [] [] None)
-bound_only device version n small = with_entries device version n (firsts version) small (firsts_are device version) (firsts_mode version)
+bound_only : (device : Device) (version : Version) (n : ℕ) → n ≤ depth_of device → (says_device device ≡ true → is_first version ≡ false) → IsCertificate (claim_to device version n (firsts version) [] [] None)
+bound_only device version n small later = with_entries device version n (firsts version) small (firsts_are device version) (firsts_mode version) later
 
-with_insts : (device : Device) (version : Version) (n : ℕ) (es : List Entry) (xs : List Inst) → n ≤ depth_of device → AreEntriesOf device es → is_third version ≡ has_pairs es → AllByRecursion (IsInst device) xs → IsStrictlySortedBy inst_cmp (inst_keys xs) → length xs ≤ most_instances
+with_insts : (device : Device) (version : Version) (n : ℕ) (es : List Entry) (xs : List Inst) → n ≤ depth_of device → AreEntriesOf device es → is_third version ≡ has_pairs es → (says_device device ≡ true → is_first version ≡ false) → AllByRecursion (IsInst device) xs → IsStrictlySortedBy inst_cmp (inst_keys xs) → length xs ≤ most_instances
     → IsCertificate (claim_to device version n es xs [] None)
-with_insts device version n es xs small h mode hx ax few = certificate_of device version n es xs [] small h mode hx ax few tt no_nodes (omega arith)
+with_insts device version n es xs small h mode later hx ax few = certificate_of device version n es xs [] small h mode later hx ax few tt no_nodes (omega arith)
+
+-- the version by the assumptions, where these decide it
+
+settled_heading : (device : Device) (version : Version) (n : ℕ) (es : List Entry) (p q : Place) → Stand p (heading device version n) q → Stand p (heading device (version_with (says_device device) version es) n) q
+settled_heading device version n es p q h =
+    let P : List (List ℕ) → Type 0 = λ l. Stand p (l ∷ (device_lines (says_device device) device ++ numbered (codes "bound") n ∷ [])) q in
+    subst P (same_line (says_device device) version es) h
+
+paired_settled : (says : Bool) (version : Version) (es : List Entry) → (says || is_third version) ≡ (says || is_third (version_with says version es))
+paired_settled true version es = refl
+paired_settled false version es = refl
 
 -- ---- a line that isn't of its form
 
@@ -104,23 +116,79 @@ no_this line ls none ws next h = not_next (this_by (spaced line)) ls ws tt none 
 
 -- ---- the heading
 
-no_version : (ls : List TextLine) → first_by version_by ls ≡ None → (ws : List (List ℕ)) → IsNextLine ls ws → (version : Version) × (ws ≡ version_line version) → ⊥
-no_version ls none ws next h = not_next version_by ls ws h.0 none next (ap (λ (xs : List (List ℕ)). version_by (spaced xs)) h.1 ∙ version_again h.0)
+no_version : (says : Bool) (ls : List TextLine) → first_by (version_by says) ls ≡ None → (ws : List (List ℕ)) → IsNextLine ls ws → (version : Version) × (ws ≡ version_line says version) → ⊥
+no_version says ls none ws next h = not_next (version_by says) ls ws (version_read says h.0) none next (ap (λ (xs : List (List ℕ)). version_by says (spaced xs)) h.1 ∙ version_again says h.0)
+
+-- ---- the device
+
+for_this_err : (d : Result (Option Device × Place) CertFault) (g : CertFault) → for_this d ≡ Err g → (d ≡ Err g) ⊎ ((q : Place) × (other : Device) × (d ≡ Ok (Some other, q)) × (g ≡ fault.Other other))
+for_this_err (Ok (None, q)) g e = absurd (err_ok {A = Unit {0} × Place} g (tt, q) (sym e))
+for_this_err (Ok (Some other, q)) g e = inr (q, other, refl, sym (err_is {A = Unit {0} × Place} (fault.Other other) g e))
+for_this_err (Err f) g e = inl (ap (λ (x : CertFault). Err x) (err_is {A = Unit {0} × Place} f g e))
+
+no_name : (device : Device) → WordLaws → (ls : List TextLine) → first_by (device_by device) ls ≡ None → (ws : List (List ℕ)) → IsNextLine ls ws → IsNaming (λ name other. ⊤) ws → ⊥
+no_name device k ls none ws next h =
+    let t = other_name device h.1 h.0 h.2 in
+    not_next (device_by device) ls ws t.0 none next (ap (λ (xs : List (List ℕ)). device_by device (spaced xs)) h.3
+    ∙ ap (device_in device) (k.words_stand (codes "device") (h.0 ∷ []) (name_words h.0 (named_word h.1 h.0 h.2))) ∙ device_reads device h.0 t.0 t.1)
+
+-- where the text says its device, this claim stands before it
+device_stops : (device : Device) → WordLaws → (says : Bool) → says_device device ≡ says → (version : Version) (p v : Place) (g : CertFault) → (says ≡ true → version ≡ Two) → Stand p (version_line (says_device device) version ∷ []) v → device_at says device v ≡ Err g
+    → IsCertificateRefused device p g
+unfolding device_at
+device_stops device k false is version p v g later lines e = absurd (err_ok {A = Unit {0} × Place} g (tt, v) (sym e))
+device_stops device k true is version p v g later lines e =
+    let P : CertFault → Type 0 = λ f. IsCertificateRefused device p f in
+    let c = claim_to device version 0 (firsts version) [] [] None in
+    let stands : StandsBefore device p c Named v = record { is = refl; fits = bound_only device version 0 (omega arith) (λ s. ap is_first (later refl)); room = is; lines = lines } in
+    elim (for_this_err (formed (line_by (device_by device) v)) g e) [
+      | inl f ↦ let t = line_stop (device_by device) v g f in malformed device p c Named v g stands (no_name device k v.rest t.0) t.1
+      | inr m ↦
+          let l = line_takes (device_by device) v (Some m.1) m.0 (formed_ok (line_by (device_by device) v) (Some m.1, m.0) m.2) in
+          let t = device_is device (words_of l.text) (Some m.1) l.read in
+          let names : IsNaming (λ name other. (other ≡ m.1) × (name ≢ class_of device)) (words_of l.text) = elim (other_is device t.0 (Some m.1) t.2) [
+            | inl h ↦ absurd (none-some m.1 (sym h.0))
+            | inr h ↦ (t.0, h.0, h.2, t.1, sym (same_Some m.1 h.0 h.1), h.3)
+          ] in
+          subst P (sym m.3) (record {
+            claim = c;
+            place = v;
+            words = words_of l.text;
+            stands = stands;
+            next = is_next v (words_of l.text) m.0 (as_words (device_by device) v (Some m.1) m.0 l (words_of l.text) (sym (k.line_words l.text)));
+            names = names;
+          })
+    ]
+
+-- ---- the heading
 
 heading_stops : (device : Device) → WordLaws → (p : Place) (g : CertFault) → heading_at device p ≡ Err g → IsCertificateRefused device p g
 unfolding heading_at
-heading_stops device k p g e = elim (then_stop (formed (line_by version_by p)) _ g e) [
-  | inl h ↦
-      let t = line_stop version_by p g h in
-      malformed device p (claim_to device Two 0 [] [] [] None) Begin p g (record { is = refl; fits = bound_only device Two 0 (omega arith); room = tt; lines = passes_none p }) (no_version p.rest t.0) t.1
-  | inr v ↦ elim (then_stop (formed (line_by (numbered_by (codes "bound") 0 (depth_of device)) v.0.1)) _ g v.2) [
-    | inl h ↦
-        let t = line_stop (numbered_by (codes "bound") 0 (depth_of device)) v.0.1 g h in
-        malformed device p (claim_to device v.0.0 0 (firsts v.0.0) [] [] None) Bound v.0.1 g (record { is = refl; fits = bound_only device v.0.0 0 (omega arith); room = tt; lines = version_take p v.0 v.1 })
-        (no_number k (codes "bound") 0 (depth_of device) v.0.1.rest (plain (codes "bound" ∷ []) refl).0 (depth_room device) t.0) t.1
-    | inr b ↦ absurd (err_ok {A = (Version × ℕ) × Place} g ((v.0.0, b.0.0), b.0.1) (sym b.2))
-  ]
-]
+heading_stops device k p g e =
+    let says = says_device device in
+    elim (then_stop (formed (line_by (version_by says) p)) _ g e) [
+      | inl h ↦
+          let t = line_stop (version_by says) p g h in
+          malformed device p (claim_to device Two 0 [] [] [] None) Begin p g (record { is = refl; fits = bound_only device Two 0 (omega arith) (λ s. refl); room = tt; lines = passes_none p }) (no_version says p.rest t.0) t.1
+      | inr v ↦
+          let first = version_take says p v.0 v.1 in
+          elim (then_stop (device_at says device v.0.1) _ g v.2) [
+            | inl h ↦ device_stops device k says refl v.0.0 p v.0.1 g first.1 first.0 h
+            | inr d ↦ elim (then_stop (formed (line_by (numbered_by (codes "bound") 0 (depth_of device)) d.0.1)) _ g d.2) [
+              | inl h ↦
+                  let t = line_stop (numbered_by (codes "bound") 0 (depth_of device)) d.0.1 g h in
+                  malformed device p (claim_to device v.0.0 0 (firsts v.0.0) [] [] None) Bound d.0.1 g
+                  (record {
+                    is = refl;
+                    fits = bound_only device v.0.0 0 (omega arith) (λ s. ap is_first (first.1 s));
+                    room = tt;
+                    lines = stand_more p v.0.1 d.0.1 (version_line says v.0.0 ∷ []) (device_lines says device) first.0 (device_take k says device v.0.1 d.0 d.1);
+                  })
+                  (no_number k (codes "bound") 0 (depth_of device) d.0.1.rest (plain (codes "bound" ∷ []) refl).0 (depth_room device) t.0) t.1
+              | inr b ↦ absurd (err_ok {A = (Version × ℕ) × Place} g ((v.0.0, b.0.0), b.0.1) (sym b.2))
+            ]
+          ]
+    ]
 
 -- ---- a list
 
@@ -148,63 +216,78 @@ out_of_order device p c part q ws g h next low e =
 
 -- ---- assumptions
 
-entry_stops : (device : Device) → LowerLaws → (p : Place) (c : Claim) (n : ℕ) (q : Place) (g : CertFault) → StandsBefore device p c (AnEntry n) q → Stop (λ at. entry_by c.device (is_third c.version)) entry_words (EntryOf c.device (is_third c.version)) refused_entry c.assumptions q g → IsCertificateRefused device p g
-entry_stops device b p c n q g h stop = elim stop [
+entry_stops : (device : Device) → LowerLaws → (p : Place) (c : Claim) (paired : Bool) (n : ℕ) (q : Place) (g : CertFault) → paired ≡ is_paired c.device c.version → StandsBefore device p c (AnEntry n) q → Stop (λ at. entry_by c.device paired) entry_words (EntryOf c.device paired) refused_entry c.assumptions q g → IsCertificateRefused device p g
+entry_stops device b p c paired n q g is h stop = elim stop [
   | inl f ↦ malformed device p c (AnEntry n) q g h
-      (λ ws next form. not_next (entry_by c.device (is_third c.version)) q.rest ws form.0 f.0 next
-      (ap (λ (xs : List (List ℕ)). entry_by c.device (is_third c.version) (spaced xs)) form.3 ∙ entry_reads c.device b.words b.entries (is_third c.version) 0 form.0 (omega arith) (form.1, form.2))) f.1
-  | inr r ↦ let low = entry_low c.assumptions r.item q.at g r.refuses in out_of_order device p c (AnEntry n) q (entry_words r.item) g h r.next (r.item, r.fits.0, r.fits.1, refl, low.0) low.1
+      (λ ws next form. not_next (entry_by c.device paired) q.rest ws form.0 f.0 next
+      (ap (λ (xs : List (List ℕ)). entry_by c.device paired (spaced xs)) form.3
+      ∙ entry_reads c.device b.words b.entries paired 0 form.0 (omega arith) (form.1, ap (λ (x : Bool). is_admitted x form.0) is ∙ form.2))) f.1
+  | inr r ↦
+      let low = entry_low c.assumptions r.item q.at g r.refuses in
+      out_of_order device p c (AnEntry n) q (entry_words r.item) g h r.next (r.item, r.fits.0, ap (λ (x : Bool). is_admitted x r.item) (sym is) ∙ r.fits.1, refl, low.0) low.1
+]
+
+three_two : Three ≢ Two
+three_two e = cc
+
+-- a text whose version is read as the third says no device
+silent : (device : Device) → (says_device device ≡ true → Three ≡ Two) → says_device device ≡ false
+silent device later = elim (decided (says_device device)) [
+  | inl h ↦ absurd (three_two (later h))
+  | inr h ↦ h
 ]
 
 -- the first line of the third version
-first_stops : (device : Device) (version : Version) (p a m : Place) (n count : ℕ) (g : CertFault) → n ≤ depth_of device → Stand p (heading version n) a → Stand a (numbered (codes "assume") count ∷ []) m → least_entries version ≤ count → count ≤ most_entries
+first_stops : (device : Device) (version : Version) (p a m : Place) (n count : ℕ) (g : CertFault) → n ≤ depth_of device → (says_device device ≡ true → version ≡ Two) → Stand p (heading device version n) a → Stand a (numbered (codes "assume") count ∷ []) m → least_entries version ≤ count → count ≤ most_entries
     → first_at version m ≡ Err g → IsCertificateRefused device p g
 unfolding first_at
-first_stops device One p a m n count g small h k least most e = absurd (err_ok {A = List Entry × Place} g ([], m) (sym e))
-first_stops device Two p a m n count g small h k least most e = absurd (err_ok {A = List Entry × Place} g ([], m) (sym e))
-first_stops device Three p a m n count g small h k least most e = elim (then_stop (formed (line_by (this_by (spaced (entry_words Pairs))) m)) _ g e) [
+first_stops device One p a m n count g small later h k least most e = absurd (err_ok {A = List Entry × Place} g ([], m) (sym e))
+first_stops device Two p a m n count g small later h k least most e = absurd (err_ok {A = List Entry × Place} g ([], m) (sym e))
+first_stops device Three p a m n count g small later h k least most e = elim (then_stop (formed (line_by (this_by (spaced (entry_words Pairs))) m)) _ g e) [
   | inl f ↦
       let t = line_stop (this_by (spaced (entry_words Pairs))) m g f in
       malformed device p (claim_to device Three n (firsts Three) [] [] None) (FirstEntry count) m g
-      (record { is = refl; fits = bound_only device Three n small; room = (refl, least, most); lines = stand_more p a m (heading Three n) (numbered (codes "assume") count ∷ []) h k }) (no_this (entry_words Pairs) m.rest t.0) t.1
+      (record { is = refl; fits = bound_only device Three n small (λ s. refl); room = (silent device later, refl, least, most); lines = stand_more p a m (heading device Three n) (numbered (codes "assume") count ∷ []) h k }) (no_this (entry_words Pairs) m.rest t.0) t.1
   | inr u ↦ absurd (err_ok {A = List Entry × Place} g (Pairs ∷ [], u.0.1) (sym u.2))
 ]
 
 abbrev EntriesStop : Device → Version → List Entry → ℕ → Place → CertFault → Type 0
-EntriesStop device version front n p g = ItemsStop (λ at. entry_by device (is_third version)) entry_words (EntryOf device (is_third version)) refused_entry front n p g
+EntriesStop device version front n p g = ItemsStop (λ at. entry_by device (is_paired device version)) entry_words (EntryOf device (is_paired device version)) refused_entry front n p g
 
 -- a line after the first ones
-further_stops : (device : Device) → LowerLaws → (version : Version) (p a m f : Place) (n count : ℕ) (g : CertFault) → n ≤ depth_of device → Stand p (heading version n) a → Stand a (numbered (codes "assume") count ∷ []) m → least_entries version ≤ count → count ≤ most_entries
+further_stops : (device : Device) → LowerLaws → (version : Version) (p a m f : Place) (n count : ℕ) (g : CertFault) → n ≤ depth_of device → (says_device device ≡ true → version ≡ Two) → Stand p (heading device version n) a → Stand a (numbered (codes "assume") count ∷ []) m → least_entries version ≤ count → count ≤ most_entries
     → Stand m (map entry_words (firsts version)) f → EntriesStop device version (firsts version) (count - least_entries version) f g → IsCertificateRefused device p g
-further_stops device b version p a m f n count g small h k least most first s =
+further_stops device b version p a m f n count g small later h k least most first s =
+    let says = says_device device in
     let all : List Entry = firsts version ++ s.items in
     let number : length all < count = omega (arith, length-append (firsts version) s.items, firsts_count version, s.fewer, least) in
-    let keep = some_keep device version s.items s.fit in
+    let settled = version_with says version all in
     let some = some_stand version m f s.place s.items first s.passes in
-    entry_stops device b p (claim_to device version n all [] [] None) count s.place g
+    entry_stops device b p (claim_to device settled n all [] [] None) (is_paired device version) count s.place g (paired_settled says version all)
     (record {
       is = refl;
-      fits = with_entries device version n all small (keep.are (omega (arith, number, most))) (sym keep.mode);
+      fits = with_entries device settled n all small (some_keep device version s.items s.fit (omega (arith, number, most))) (some_mode device version s.items s.fit) (with_later says version all);
       room = (number, most);
-      lines = behind entry_words (codes "assume") (heading version n) p a m s.place count all h k some;
+      lines = behind entry_words (codes "assume") (heading device settled n) p a m s.place count all (settled_heading device version n all p a h) k some;
     }) s.stop
 
-entries_stops : (device : Device) → LowerLaws → (version : Version) (p a : Place) (n : ℕ) (g : CertFault) → n ≤ depth_of device → Stand p (heading version n) a → entries_at device version a ≡ Err g → IsCertificateRefused device p g
+entries_stops : (device : Device) → LowerLaws → (version : Version) (p a : Place) (n : ℕ) (g : CertFault) → n ≤ depth_of device → (says_device device ≡ true → version ≡ Two) → Stand p (heading device version n) a → entries_at device version a ≡ Err g → IsCertificateRefused device p g
 unfolding entries_at
-entries_stops device b version p a n g small h e = elim (then_stop (formed (line_by (numbered_by (codes "assume") (least_entries version) most_entries) a)) _ g e) [
+entries_stops device b version p a n g small later h e = elim (then_stop (formed (line_by (numbered_by (codes "assume") (least_entries version) most_entries) a)) _ g e) [
   | inl f ↦
       let t = line_stop (numbered_by (codes "assume") (least_entries version) most_entries) a g f in
-      malformed device p (claim_to device version n (firsts version) [] [] None) Assume a g (record { is = refl; fits = bound_only device version n small; room = tt; lines = h })
+      malformed device p (claim_to device version n (firsts version) [] [] None) Assume a g (record { is = refl; fits = bound_only device version n small (λ s. ap is_first (later s)); room = tt; lines = h })
       (no_number b.words (codes "assume") (least_entries version) most_entries a.rest (plain (codes "assume" ∷ []) refl).0 (lit< tt) t.0) t.1
   | inr m ↦
       let count = number_take b.words (codes "assume") (least_entries version) most_entries a m.0 (lit< tt) m.1 in
       elim (then_stop (first_at version m.0.1) _ g m.2) [
-        | inl f ↦ first_stops device version p a m.0.1 n m.0.0 g small h count.0 count.1 count.2 f
+        | inl f ↦ first_stops device version p a m.0.1 n m.0.0 g small later h count.0 count.1 count.2 f
         | inr f ↦
             let first = first_take version m.0.1 f.0 f.1 in
-            let s = items_stop (λ at. entry_by device (is_third version)) entry_words (EntryOf device (is_third version)) refused_entry (entry_spells device b.words b.entries (is_third version)) entry_steady f.0.0 (m.0.0 - least_entries version) f.0.1 g f.2 in
+            let paired = is_paired device version in
+            let s = items_stop (λ at. entry_by device paired) entry_words (EntryOf device paired) refused_entry (entry_spells device b.words b.entries paired) entry_steady f.0.0 (m.0.0 - least_entries version) f.0.1 g f.2 in
             let P : List Entry → Type 0 = λ front. EntriesStop device version front (m.0.0 - least_entries version) f.0.1 g in
-            further_stops device b version p a m.0.1 f.0.1 n m.0.0 g small h count.0 count.1 count.2 first.lines (subst P first.all s)
+            further_stops device b version p a m.0.1 f.0.1 n m.0.0 g small later h count.0 count.1 count.2 first.lines (subst P first.all s)
       ]
 ]
 
@@ -223,14 +306,14 @@ inst_stops device b p c n q g h stop = elim stop [
   | inr r ↦ let low = inst_low c.instances r.item q.at g r.refuses in out_of_order device p c (AnInst n) q (inst_words c.device r.item) g h r.next (r.item, r.fits, refl, not_ascending c.instances r.item low.0) low.1
 ]
 
-insts_stops : (device : Device) → LowerLaws → (version : Version) (p a d : Place) (n : ℕ) (es : List Entry) (g : CertFault) → n ≤ depth_of device → AreEntriesOf device es → is_third version ≡ has_pairs es → Stand p (heading version n) a → Stand a (entry_lines es) d → insts_at device d ≡ Err g → IsCertificateRefused device p g
+insts_stops : (device : Device) → LowerLaws → (version : Version) (p a d : Place) (n : ℕ) (es : List Entry) (g : CertFault) → n ≤ depth_of device → AreEntriesOf device es → is_third version ≡ has_pairs es → (says_device device ≡ true → is_first version ≡ false) → Stand p (heading device version n) a → Stand a (entry_lines es) d → insts_at device d ≡ Err g → IsCertificateRefused device p g
 unfolding insts_at
-insts_stops device b version p a d n es g small he mode h k e =
-    let front = stand_more p a d (heading version n) (entry_lines es) h k in
+insts_stops device b version p a d n es g small he mode later h k e =
+    let front = stand_more p a d (heading device version n) (entry_lines es) h k in
     elim (then_stop (formed (line_by (numbered_by (codes "instances") 0 most_instances) d)) _ g e) [
       | inl f ↦
           let t = line_stop (numbered_by (codes "instances") 0 most_instances) d g f in
-          malformed device p (claim_to device version n es [] [] None) Instances d g (record { is = refl; fits = with_entries device version n es small he mode; room = tt; lines = front })
+          malformed device p (claim_to device version n es [] [] None) Instances d g (record { is = refl; fits = with_entries device version n es small he mode later; room = tt; lines = front })
           (no_number b.words (codes "instances") 0 most_instances d.rest (plain (codes "instances" ∷ []) refl).0 (lit< tt) t.0) t.1
       | inr m ↦
           let count = number_take b.words (codes "instances") 0 most_instances d m.0 (lit< tt) m.1 in
@@ -240,9 +323,9 @@ insts_stops device b version p a d n es g small he mode h k e =
           inst_stops device b p (claim_to device version n es s.items [] None) m.0.0 s.place g
           (record {
             is = refl;
-            fits = with_insts device version n es s.items small he mode fit (insts_kept device b.keys s.items s.fit) (omega (arith, s.fewer, count.2));
+            fits = with_insts device version n es s.items small he mode later fit (insts_kept device b.keys s.items s.fit) (omega (arith, s.fewer, count.2));
             room = (s.fewer, count.2);
-            lines = stand_more p a s.place (heading version n) (entry_lines es ++ numbered (codes "instances") m.0.0 ∷ map (inst_words device) s.items) h some;
+            lines = stand_more p a s.place (heading device version n) (entry_lines es ++ numbered (codes "instances") m.0.0 ∷ map (inst_words device) s.items) h some;
           }) s.stop
     ]
 
@@ -323,13 +406,13 @@ count_stops device b p c q g h e =
           })
     ]
 
-nodes_stops : (device : Device) → LowerLaws → (version : Version) (p a d f : Place) (n : ℕ) (es : List Entry) (xs : List Inst) (g : CertFault) → n ≤ depth_of device → AreEntriesOf device es → is_third version ≡ has_pairs es → AllByRecursion (IsInst device) xs → IsStrictlySortedBy inst_cmp (inst_keys xs) → length xs ≤ most_instances
-    → Stand p (heading version n) a → Stand a (entry_lines es) d → Stand d (inst_lines device xs) f → nodes_at device version xs f ≡ Err g → IsCertificateRefused device p g
+nodes_stops : (device : Device) → LowerLaws → (version : Version) (p a d f : Place) (n : ℕ) (es : List Entry) (xs : List Inst) (g : CertFault) → n ≤ depth_of device → AreEntriesOf device es → is_third version ≡ has_pairs es → (says_device device ≡ true → is_first version ≡ false) → AllByRecursion (IsInst device) xs → IsStrictlySortedBy inst_cmp (inst_keys xs) → length xs ≤ most_instances
+    → Stand p (heading device version n) a → Stand a (entry_lines es) d → Stand d (inst_lines device xs) f → nodes_at device version xs f ≡ Err g → IsCertificateRefused device p g
 unfolding nodes_at
-nodes_stops device b version p a d f n es xs g small he mode hx ax few h k j e =
-    let front = stand_more p a f (heading version n) (entry_lines es ++ inst_lines device xs) h (stand_more a d f (entry_lines es) (inst_lines device xs) k j) in
+nodes_stops device b version p a d f n es xs g small he mode later hx ax few h k j e =
+    let front = stand_more p a f (heading device version n) (entry_lines es ++ inst_lines device xs) h (stand_more a d f (entry_lines es) (inst_lines device xs) k j) in
     elim (then_stop (limited (formed (line_by count_by f))) _ g e) [
-      | inl l ↦ count_stops device b p (claim_to device version n es xs [] None) f g (record { is = refl; fits = with_insts device version n es xs small he mode hx ax few; room = tt; lines = front }) l
+      | inl l ↦ count_stops device b p (claim_to device version n es xs [] None) f g (record { is = refl; fits = with_insts device version n es xs small he mode later hx ax few; room = tt; lines = front }) l
       | inr m ↦
           let count = nodes_take b.words f m.0 m.1 in
           let s = items_stop (node_by device version xs) (node_words device version xs) (FitsNode device version xs) refused_node (node_spells device b.words b.nodes b.keys version xs ax) node_steady [] m.0.0 m.0.1 g m.2 in
@@ -337,9 +420,9 @@ nodes_stops device b version p a d f n es xs g small he mode hx ax few h k j e =
           node_stops device b p (claim_to device version n es xs s.items None) m.0.0 s.place g
           (record {
             is = refl;
-            fits = certificate_of device version n es xs s.items small he mode hx ax few (admitted_all (FitsNode device version xs) refused_node [] s.items s.fit) (nodes_kept device b.keys version xs s.items s.fit) (omega (arith, s.fewer, count.1));
+            fits = certificate_of device version n es xs s.items small he mode later hx ax few (admitted_all (FitsNode device version xs) refused_node [] s.items s.fit) (nodes_kept device b.keys version xs s.items s.fit) (omega (arith, s.fewer, count.1));
             room = (s.fewer, count.1);
-            lines = stand_more p a s.place (heading version n) (entry_lines es ++ (inst_lines device xs ++ numbered (codes "nodes") m.0.0 ∷ map (node_words device version xs) s.items)) h
+            lines = stand_more p a s.place (heading device version n) (entry_lines es ++ (inst_lines device xs ++ numbered (codes "nodes") m.0.0 ∷ map (node_words device version xs) s.items)) h
                 (stand_more a d s.place (entry_lines es) (inst_lines device xs ++ numbered (codes "nodes") m.0.0 ∷ map (node_words device version xs) s.items) k some);
           }) s.stop
     ]
@@ -398,7 +481,7 @@ behind_nodes device b version p n es xs ns q g h front r e f =
     let w = witness_part device b.schedule_spelled q (r.1, r.0) e in
     end_stops device p (claim_to device version n es xs ns r.1) q r.0 g refl
     (record {
-      claim = claim_of device version n es xs ns r.1 h.claim.bound_fits (record { are = h.claim.entries_fit; fit = h.claim.entries_of_device }) h.claim.of_list h.claim.insts_fit h.claim.insts_ascend h.claim.few_insts (fitting_nodes (claim_to device version n es xs ns None) h.claim)
+      claim = claim_of device version n es xs ns r.1 h.claim.bound_fits (record { are = h.claim.entries_fit; fit = h.claim.entries_of_device }) h.claim.of_list h.claim.of_device h.claim.insts_fit h.claim.insts_ascend h.claim.few_insts (fitting_nodes (claim_to device version n es xs ns None) h.claim)
           (record { ascend = h.claim.nodes_ascend; few = h.claim.few_cells }) h.claim.few_nodes;
       schedule = w.schedule;
     }) front w.lines f
@@ -410,31 +493,34 @@ claim_stops device k stuck p g e = elim (then_stop (heading_at device p) _ g e) 
   | inr b ↦
       let top = heading_take device k.words p b.0 b.1 in
       elim (then_stop (entries_at device b.0.0.0 b.0.1) _ g b.2) [
-        | inl h ↦ entries_stops device k b.0.0.0 p b.0.1 b.0.0.1 g top.1 top.0 h
+        | inl h ↦ entries_stops device k b.0.0.0 p b.0.1 b.0.0.1 g top.small top.later top.lines h
         | inr a ↦
             let entries = entries_take device k b.0.0.0 b.0.1 a.0 a.1 in
             let are = entries.are in
             let mode = entries.mode in
+            let version = version_with (says_device device) b.0.0.0 a.0.0 in
+            let later = with_later (says_device device) b.0.0.0 a.0.0 in
+            let top_lines = settled_heading device b.0.0.0 b.0.0.1 a.0.0 p b.0.1 top.lines in
             elim (then_stop (insts_at device a.0.1) _ g a.2) [
-              | inl h ↦ insts_stops device k b.0.0.0 p b.0.1 a.0.1 b.0.0.1 a.0.0 g top.1 are mode top.0 entries.lines h
+              | inl h ↦ insts_stops device k version p b.0.1 a.0.1 b.0.0.1 a.0.0 g top.small are mode later top_lines entries.lines h
               | inr i ↦
                   let insts = insts_take device k a.0.1 i.0 i.1 in
                   let ascend = insts_kept device k.keys i.0.0 insts.fit in
                   let fit = all_of_any (IsInst device) 0 i.0.0 (admitted_all (AnyInst device) refused_inst [] i.0.0 insts.fit) in
-                  elim (then_stop (nodes_at device b.0.0.0 i.0.0 i.0.1) _ g i.2) [
-                    | inl h ↦ nodes_stops device k b.0.0.0 p b.0.1 a.0.1 i.0.1 b.0.0.1 a.0.0 i.0.0 g top.1 are mode fit ascend insts.few top.0 entries.lines insts.lines h
+                  elim (then_stop (nodes_at device version i.0.0 i.0.1) _ g i.2) [
+                    | inl h ↦ nodes_stops device k version p b.0.1 a.0.1 i.0.1 b.0.0.1 a.0.0 i.0.0 g top.small are mode later fit ascend insts.few top_lines entries.lines insts.lines h
                     | inr n ↦
-                        let nodes = nodes_part device k b.0.0.0 i.0.0 ascend i.0.1 n.0 n.1 in
-                        let c = claim_to device b.0.0.0 b.0.0.1 a.0.0 i.0.0 n.0.0 None in
+                        let nodes = nodes_part device k version i.0.0 ascend i.0.1 n.0 n.1 in
+                        let c = claim_to device version b.0.0.1 a.0.0 i.0.0 n.0.0 None in
                         let whole_claim =
-                        certificate_of device b.0.0.0 b.0.0.1 a.0.0 i.0.0 n.0.0 top.1 are mode fit ascend insts.few (admitted_all (FitsNode device b.0.0.0 i.0.0) refused_node [] n.0.0 nodes.fit) (nodes_kept device k.keys b.0.0.0 i.0.0 n.0.0 nodes.fit) nodes.few in
-                        let front = stand_more p b.0.1 n.0.1 (heading b.0.0.0 b.0.0.1) (entry_lines a.0.0 ++ (inst_lines device i.0.0 ++ node_lines device b.0.0.0 i.0.0 n.0.0)) top.0
-                        (stand_more b.0.1 a.0.1 n.0.1 (entry_lines a.0.0) (inst_lines device i.0.0 ++ node_lines device b.0.0.0 i.0.0 n.0.0) entries.lines (stand_more a.0.1 i.0.1 n.0.1 (inst_lines device i.0.0) (node_lines device b.0.0.0 i.0.0 n.0.0) insts.lines nodes.lines)) in
+                        certificate_of device version b.0.0.1 a.0.0 i.0.0 n.0.0 top.small are mode later fit ascend insts.few (admitted_all (FitsNode device version i.0.0) refused_node [] n.0.0 nodes.fit) (nodes_kept device k.keys version i.0.0 n.0.0 nodes.fit) nodes.few in
+                        let front = stand_more p b.0.1 n.0.1 (heading device version b.0.0.1) (entry_lines a.0.0 ++ (inst_lines device i.0.0 ++ node_lines device version i.0.0 n.0.0)) top_lines
+                        (stand_more b.0.1 a.0.1 n.0.1 (entry_lines a.0.0) (inst_lines device i.0.0 ++ node_lines device version i.0.0 n.0.0) entries.lines (stand_more a.0.1 i.0.1 n.0.1 (inst_lines device i.0.0) (node_lines device version i.0.0 n.0.0) insts.lines nodes.lines)) in
                         elim (then_stop (witness_at device n.0.1) _ g n.2) [
                           | inl h ↦ witness_stops device stuck p c n.0.1 g refl whole_claim front h
                           | inr w ↦ elim (then_stop (end_at w.0.1) _ g w.2) [
-                            | inl h ↦ behind_nodes device k b.0.0.0 p b.0.0.1 a.0.0 i.0.0 n.0.0 n.0.1 g whole_claim front (w.0.1, w.0.0) w.1 h
-                            | inr d ↦ absurd (err_ok {A = Claim × Place} g (claim_to device b.0.0.0 b.0.0.1 a.0.0 i.0.0 n.0.0 w.0.0, d.0.1) (sym d.2))
+                            | inl h ↦ behind_nodes device k version p b.0.0.1 a.0.0 i.0.0 n.0.0 n.0.1 g whole_claim front (w.0.1, w.0.0) w.1 h
+                            | inr d ↦ absurd (err_ok {A = Claim × Place} g (claim_to device version b.0.0.1 a.0.0 i.0.0 n.0.0 w.0.0, d.0.1) (sym d.2))
                           ]
                         ]
                   ]
@@ -465,11 +551,15 @@ not_order at e = cc
 not_limit : (l : Limit) → fault.Limit l ≢ fault.Memory
 not_limit l e = cc
 
+not_other : (other : Device) → fault.Other other ≢ fault.Memory
+not_other other e = cc
+
 err_due : (device : Device) (text : List ℕ) (f : CertFault) → ReadCertificateIsDue → (f ≢ fault.Memory → certificate_in device text ≡ Err f) → IsCertificateDueUnlessMemory device text (Err f)
 err_due device text fault.Memory due h = tt
 err_due device text (fault.Malformed at) due h = let P : Result Claim CertFault → Type 0 = λ r. IsCertificateDue device text r in subst P (h (not_malformed at)) (due device text)
 err_due device text (fault.Order at) due h = let P : Result Claim CertFault → Type 0 = λ r. IsCertificateDue device text r in subst P (h (not_order at)) (due device text)
 err_due device text (fault.Limit l) due h = let P : Result Claim CertFault → Type 0 = λ r. IsCertificateDue device text r in subst P (h (not_limit l)) (due device text)
+err_due device text (fault.Other other) due h = let P : Result Claim CertFault → Type 0 = λ r. IsCertificateDue device text r in subst P (h (not_other other)) (due device text)
 
 pub told : (device : Device) → ReadCertificateIsDue → (text : List ℕ) (r : Result Claim CertFault) → Answers (λ c. c) fault.Memory r (certificate_in device text) → IsCertificateDueUnlessMemory device text r
 told device due text (Ok c) h = let P : Result Claim CertFault → Type 0 = λ r. IsCertificateDue device text r in subst P h (due device text)

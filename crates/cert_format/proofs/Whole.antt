@@ -1,5 +1,5 @@
 -- Reading and spelling of certificates are inverse.
-use Rattle.std.proofs.Common.{true, ◌-◌, length-append, ℕ, ◌+◌, ◌≤◌, ◌≡◌, List, [], ◌∷◌, ◌++◌, length, map, codes, refl, ap, ap₂, sym, ◌∙◌, arith, Option, None, Result, Ok, Err, subst, append-nil, lit<}
+use Rattle.std.proofs.Common.{Bool, true, false, ◌||◌, ◌-◌, length-append, ℕ, ◌+◌, ◌≤◌, ◌≡◌, List, [], ◌∷◌, ◌++◌, length, map, codes, refl, ap, ap₂, sym, ◌∙◌, arith, Option, None, Result, Ok, Err, subst, append-nil, lit<}
 use Rattle.std.specs.Prelude.{IfOk}
 use Rattle.std.specs.List.{AllByRecursion, flat_map}
 use Rattle.std.specs.List.Sorted.{IsStrictlySortedBy}
@@ -26,24 +26,25 @@ use Rattle.witness_replay.specs.Exact.{TextIsReading, ReadScheduleIsSpelled as S
 use Rattle.certificate.specs.declared.instance.Inst.{Inst}
 use Rattle.certificate.specs.declared.version.Version.{Version}
 use Rattle.certificate.specs.declared.version.Version.TheVariants.{One, Two, Three}
-use Rattle.certificate.specs.Versions.{is_third}
+use Rattle.certificate.specs.Versions.{is_first, is_third, says_device}
 use Rattle.cert_format.specs.declared.fault.CertFault.{CertFault}
 use Rattle.cert_format.specs.declared.fault.CertFault.TheVariants as fault
 use Rattle.certificate.specs.Insts.{IsInst, inst_keys}
 use Rattle.certificate.specs.Claims.{Claim, AreFrom, IsClaim, IsCertificate, most_instances, most_nodes}
 use Rattle.cert_format.specs.LineLaws.{InstLines, NodeLines}
-use Rattle.cert_words.specs.Text.{numbered, inst_words, node_words, heading, entry_lines, inst_lines, node_lines, witness_lines, end_line, front_lines, certificate_lines, text_of}
-use Rattle.cert_format.specs.Reading.{entry_by, inst_by, node_by, refused_entry, refused_inst, refused_node, formed, numbered_by, count_by, limited, heading_at, is_admitted, least_entries, first_at, entries_at, insts_at, nodes_at, witness_at, end_at, claim_at, claim_alone, certificate_in}
+use Rattle.avr_model.specs.Names.{class_of}
+use Rattle.cert_words.specs.Text.{numbered, version_line, device_lines, inst_words, node_words, heading, entry_lines, inst_lines, node_lines, witness_lines, end_line, front_lines, certificate_lines, text_of}
+use Rattle.cert_format.specs.Reading.{entry_by, inst_by, node_by, refused_entry, refused_inst, refused_node, formed, numbered_by, count_by, limited, heading_at, is_admitted, is_paired, version_with, least_entries, first_at, entries_at, insts_at, nodes_at, witness_at, end_at, claim_at, claim_alone, certificate_in}
 use Rattle.cert_format.specs.Exact.{ReadCertificateIsSpelled, SpelledCertificateIsRead, CertificatesHaveOneText, PartsMakeClaims}
 use Rattle.std.proofs.lemmas.Bool.{and_from}
-use Rattle.cert_words.proofs.AllLaws.{depth_room}
+use Rattle.cert_words.proofs.AllLaws.{depth_room, class_word}
 use Rattle.line_reading.specs.Reading.{this_by, line_by}
 use Rattle.line_reading.proofs.AllLaws.{passes_none, passes_end}
 use Rattle.cert_format.proofs.Lists.{ok_is, err_ok, then_ok, AllFrom, all_of_any, Admitted, admitted_all, ItemsRead, items_take, items_again}
-use Rattle.cert_format.proofs.FirstEntries.{firsts, firsts_count, firsts_mode, firsts_are, begins}
-use Rattle.cert_format.proofs.Kept.{FitsEntry, EntryOf, EntriesKeep, entry_steady, entries_kept, entries_admitted, entry_spells, entry_reads, AnyInst, inst_steady, insts_kept, insts_admitted, inst_spells, inst_reads, FitsNode, node_steady, NodesKeep, nodes_kept, nodes_admitted, node_spells, node_reads, node_is_plain, all_from, all_belong, all_of_version, all_fit}
+use Rattle.cert_format.proofs.FirstEntries.{version_read, firsts, firsts_count, firsts_mode, firsts_are, begins_read, with_mode, with_later, version_settled}
+use Rattle.cert_format.proofs.Kept.{FitsEntry, EntryOf, AreFew, entry_steady, entries_kept, modes_kept, entries_admitted, entry_spells, entry_reads, AnyInst, inst_steady, insts_kept, insts_admitted, inst_spells, inst_reads, FitsNode, node_steady, NodesKeep, nodes_kept, nodes_admitted, node_spells, node_reads, node_is_plain, all_from, all_belong, all_of_version, all_fit}
 use Rattle.cert_format.proofs.Versions.{each_of, are_of}
-use Rattle.cert_format.proofs.Parts.{Stand, stand_more, stand_cut, before, stand, plain, numbered_plain, this_take, this_line, number_take, number_line, nodes_take, nodes_line, ListPart, list_take, list_again, version_plain, heading_take, heading_again, witness_part, witness_again, end_part, end_again}
+use Rattle.cert_format.proofs.Parts.{Stand, stand_more, stand_cut, before, stand, plain, numbered_plain, this_take, this_line, number_take, number_line, nodes_take, nodes_line, ListPart, list_take, list_again, version_plain, heading_take, heading_again, name_words, witness_part, witness_again, end_part, end_again}
 
 -- the laws of the lower crates
 pub record LowerLaws : Type 0 where
@@ -79,12 +80,20 @@ first_again Three p q h = rw (this_line (entry_words Pairs) p q h) refl
 
 pub record EntriesPart (device : Device) (version : Version) (p : Place) (z : List Entry × Place) : Type 0 where
   pub are : AreEntriesOf device z.0
-  pub mode : is_third version ≡ has_pairs z.0
+  pub mode : is_third (version_with (says_device device) version z.0) ≡ has_pairs z.0
   pub lines : Stand p (entry_lines z.0) z.1
 
+abbrev pub SomeAdmitted : Device → Version → List Entry → Type 0
+SomeAdmitted device version items = Admitted (EntryOf device (is_paired device version)) refused_entry (firsts version) items
+
 -- the first entries of a version, and some more
-pub some_keep : (device : Device) (version : Version) (items : List Entry) → Admitted (EntryOf device (is_third version)) refused_entry (firsts version) items → EntriesKeep device (is_third version) (firsts version ++ items)
-some_keep device version items h = entries_kept device (is_third version) (firsts version) items (record { are = λ _. firsts_are device version; mode = sym (firsts_mode version) }) h
+pub some_keep : (device : Device) (version : Version) (items : List Entry) → SomeAdmitted device version items → AreFew device (firsts version ++ items)
+some_keep device version items h = entries_kept device (is_paired device version) (firsts version) items (λ _. firsts_are device version) h
+
+pub some_mode : (device : Device) (version : Version) (items : List Entry) → SomeAdmitted device version items → is_third (version_with (says_device device) version (firsts version ++ items)) ≡ has_pairs (firsts version ++ items)
+some_mode device version items h =
+    let P : Bool → Type 0 = λ b. Admitted (EntryOf device (b || is_third version)) refused_entry (firsts version) items in
+    with_mode (says_device device) version (firsts version ++ items) (λ none. sym (modes_kept device (is_third version) (firsts version) items (sym (firsts_mode version)) (subst P none h)))
 
 pub some_stand : (version : Version) (m s q : Place) (items : List Entry) → Stand m (map entry_words (firsts version)) s → Stand s (map entry_words items) q → Stand m (map entry_words (firsts version ++ items)) q
 some_stand version m s q items h g =
@@ -95,28 +104,28 @@ some_count : (version : Version) (items : List Entry) (n : ℕ) → least_entrie
 some_count version items n least e = omega (arith, length-append (firsts version) items, firsts_count version, least, e)
 
 entries_part : (device : Device) (version : Version) (p m s : Place) (n : ℕ) (z : List Entry × Place) → Stand p (numbered (codes "assume") n ∷ []) m → least_entries version ≤ n → n ≤ most_entries → Stand m (map entry_words (firsts version)) s
-    → ItemsRead entry_words (EntryOf device (is_third version)) refused_entry (firsts version) (n - least_entries version) s z → EntriesPart device version p z
+    → ItemsRead entry_words (EntryOf device (is_paired device version)) refused_entry (firsts version) (n - least_entries version) s z → EntriesPart device version p z
 entries_part device version p m s n z count least most first r =
     let all : List Entry = firsts version ++ r.items in
     let number : length all ≡ n = some_count version r.items n least r.number in
-    let keep = some_keep device version r.items r.fit in
     let P : ℕ → Type 0 = λ i. Stand p (numbered (codes "assume") i ∷ []) m in
     let Q : List Entry → Type 0 = λ es. EntriesPart device version p (es, z.1) in
     subst Q r.all (record {
-      are = keep.are (omega (arith, number, most));
-      mode = sym keep.mode;
+      are = some_keep device version r.items r.fit (omega (arith, number, most));
+      mode = some_mode device version r.items r.fit;
       lines = stand_more p m z.1 (numbered (codes "assume") (length all) ∷ []) (map entry_words all) (subst P (sym number) count) (some_stand version m s z.1 r.items first r.passes);
     })
 
 pub entries_take : (device : Device) → LowerLaws → (version : Version) (p : Place) (z : List Entry × Place) → entries_at device version p ≡ Ok z → EntriesPart device version p z
 unfolding entries_at
 entries_take device b version p z e =
+    let paired = is_paired device version in
     let n = then_ok (formed (line_by (numbered_by (codes "assume") (least_entries version) most_entries) p)) _ z e in
     let count = number_take b.words (codes "assume") (least_entries version) most_entries p n.0 (lit< tt) n.1 in
     let f = then_ok (first_at version n.0.1) _ z n.2 in
     let first = first_take version n.0.1 f.0 f.1 in
-    let r = items_take (λ at. entry_by device (is_third version)) entry_words (EntryOf device (is_third version)) refused_entry (entry_spells device b.words b.entries (is_third version)) entry_steady f.0.0 (n.0.0 - least_entries version) f.0.1 z f.2 in
-    let P : List Entry → Type 0 = λ front. ItemsRead entry_words (EntryOf device (is_third version)) refused_entry front (n.0.0 - least_entries version) f.0.1 z in
+    let r = items_take (λ at. entry_by device paired) entry_words (EntryOf device paired) refused_entry (entry_spells device b.words b.entries paired) entry_steady f.0.0 (n.0.0 - least_entries version) f.0.1 z f.2 in
+    let P : List Entry → Type 0 = λ front. ItemsRead entry_words (EntryOf device paired) refused_entry front (n.0.0 - least_entries version) f.0.1 z in
     entries_part device version p n.0.1 f.0.1 n.0.0 z count.0 count.1 count.2 first.lines (subst P first.all r)
 
 all_behind : {A : Type 0} (P : A → Type 0) (front xs : List A) → AllByRecursion P (front ++ xs) → AllByRecursion P xs
@@ -128,7 +137,7 @@ all_fitting : (device : Device) (es : List Entry) → AllByRecursion (λ e. is_e
 all_fitting device [] h g = tt
 all_fitting device (e ∷ es) h g = (and_from (is_entry e) (fits_device device e) h.0 g.0, all_fitting device es h.1 g.1)
 
-entries_of : (device : Device) → LowerLaws → (version : Version) (p : Place) (rest : List Entry) (q : Place) → AreEntriesOf device (firsts version ++ rest) → AllByRecursion (λ e. is_admitted (is_third version) e ≡ true) rest
+entries_of : (device : Device) → LowerLaws → (version : Version) (p : Place) (rest : List Entry) (q : Place) → AreEntriesOf device (firsts version ++ rest) → AllByRecursion (λ e. is_admitted (is_paired device version) e ≡ true) rest
     → Stand p (entry_lines (firsts version ++ rest)) q → entries_at device version p ≡ Ok (firsts version ++ rest, q)
 unfolding entries_at
 entries_of device b version p rest q h admitted s =
@@ -140,16 +149,19 @@ entries_of device b version p rest q h admitted s =
     let d = stand_cut c.0 q (map entry_words (firsts version)) (map entry_words rest) (subst P (map-append entry_words (firsts version) rest) c.2) in
     let number = number_line b.words (codes "assume") (least_entries version) most_entries (length all) p c.0 (plain (codes "assume" ∷ []) refl).0 (lit< tt) (omega (arith, size)) few c.1 in
     let fits = all_behind (FitsEntry device) (firsts version) rest (all_fitting device all (recursion_from_All (λ e. is_entry e ≡ true) all h.are.each) (recursion_from_All (λ e. fits_device device e ≡ true) all h.fit)) in
-    let items = items_again (λ at. entry_by device (is_third version)) entry_words (EntryOf device (is_third version)) refused_entry (entry_reads device b.words b.entries (is_third version)) (firsts version) rest (length all - least_entries version) d.0 q
-    (omega (arith, size, few, firsts_count version)) (entries_admitted device (is_third version) (firsts version) rest h fits admitted) (omega (arith, size)) d.2 in
+    let paired = is_paired device version in
+    let items = items_again (λ at. entry_by device paired) entry_words (EntryOf device paired) refused_entry (entry_reads device b.words b.entries paired) (firsts version) rest (length all - least_entries version) d.0 q
+    (omega (arith, size, few, firsts_count version)) (entries_admitted device paired (firsts version) rest h fits admitted) (omega (arith, size)) d.2 in
     rw (number, first_again version c.0 d.0 d.1) items
 
-entries_again : (device : Device) → LowerLaws → (version : Version) (p : Place) (es : List Entry) (q : Place) → AreEntriesOf device es → is_third version ≡ has_pairs es → Stand p (entry_lines es) q → entries_at device version p ≡ Ok (es, q)
+entries_again : (device : Device) → LowerLaws → (version : Version) (p : Place) (es : List Entry) (q : Place) → AreEntriesOf device es → is_third version ≡ has_pairs es → Stand p (entry_lines es) q
+    → entries_at device (version_read (says_device device) version) p ≡ Ok (es, q)
 entries_again device b version p es q h mode s =
-    let t = begins version es h.are mode in
+    let read = version_read (says_device device) version in
+    let t = begins_read (says_device device) version es h.are mode in
     let P : List Entry → Type 0 = λ xs. Stand p (entry_lines xs) q in
-    let Q : List Entry → Type 0 = λ xs. entries_at device version p ≡ Ok (xs, q) in
-    subst Q (sym t.all) (entries_of device b version p t.rest q (subst (AreEntriesOf device) t.all h) t.admitted (subst P t.all s))
+    let Q : List Entry → Type 0 = λ xs. entries_at device read p ≡ Ok (xs, q) in
+    subst Q (sym t.all) (entries_of device b read p t.rest q (subst (AreEntriesOf device) t.all h) t.admitted (subst P t.all s))
 
 pub insts_take : (device : Device) → LowerLaws → (p : Place) (z : List Inst × Place) → insts_at device p ≡ Ok z → ListPart (codes "instances") most_instances (inst_words device) (AnyInst device) refused_inst p z
 unfolding insts_at
@@ -183,9 +195,14 @@ nodes_again device b version insts few p ns q keep all most s =
 
 -- ---- what is read is spelled so
 
-pub claim_of : (device : Device) (version : Version) (n : ℕ) (es : List Entry) (xs : List Inst) (ns : Seeds) (w : Option Plan) → n ≤ depth_of device → AreEntriesOf device es → is_third version ≡ has_pairs es → AllByRecursion (IsInst device) xs → IsStrictlySortedBy inst_cmp (inst_keys xs) → length xs ≤ most_instances
+-- where the text says its device, its first line is that of every version
+pub same_line : (says : Bool) (version : Version) (es : List Entry) → version_line says version ≡ version_line says (version_with says version es)
+same_line true version es = refl
+same_line false version es = refl
+
+pub claim_of : (device : Device) (version : Version) (n : ℕ) (es : List Entry) (xs : List Inst) (ns : Seeds) (w : Option Plan) → n ≤ depth_of device → AreEntriesOf device es → is_third version ≡ has_pairs es → (says_device device ≡ true → is_first version ≡ false) → AllByRecursion (IsInst device) xs → IsStrictlySortedBy inst_cmp (inst_keys xs) → length xs ≤ most_instances
     → AllFrom (FitsNode device version xs) 0 ns → NodesKeep ns → length ns ≤ most_nodes → IsClaim (record { device = device; version = version; bound = n; assumptions = es; instances = xs; nodes = ns; witness = w })
-claim_of device version n es xs ns w small he mode hx ax few hn kn most = record {
+claim_of device version n es xs ns w small he mode later hx ax few hn kn most = record {
   bound_fits = small;
   entries_fit = he.are;
   entries_of_device = he.fit;
@@ -199,16 +216,19 @@ claim_of device version n es xs ns w small he mode hx ax few hn kn most = record
   few_cells = kn.few;
   of_version = are_of version ns (all_of_version device version xs 0 ns hn);
   of_list = mode;
+  of_device = later;
 }
 
-claim_by : (device : Device) → LowerLaws → (version : Version) (n : ℕ) (a c d : Place) (es : List Entry × Place) (xs : List Inst × Place) (ns : Seeds × Place) (w : Option Plan) → n ≤ depth_of device → entries_at device version a ≡ Ok es → insts_at device c ≡ Ok xs → nodes_at device version xs.0 d ≡ Ok ns
-    → IsClaim (record { device = device; version = version; bound = n; assumptions = es.0; instances = xs.0; nodes = ns.0; witness = w })
-claim_by device b version n a c d es xs ns w small e f g =
-    let entries = entries_take device b version a es e in
+claim_by : (device : Device) → LowerLaws → (read : Version) (n : ℕ) (a c d : Place) (es : List Entry × Place) (xs : List Inst × Place) (ns : Seeds × Place) (w : Option Plan) → n ≤ depth_of device → entries_at device read a ≡ Ok es → insts_at device c ≡ Ok xs
+    → nodes_at device (version_with (says_device device) read es.0) xs.0 d ≡ Ok ns
+    → IsClaim (record { device = device; version = version_with (says_device device) read es.0; bound = n; assumptions = es.0; instances = xs.0; nodes = ns.0; witness = w })
+claim_by device b read n a c d es xs ns w small e f g =
+    let version = version_with (says_device device) read es.0 in
+    let entries = entries_take device b read a es e in
     let insts = insts_take device b c xs f in
     let ascend = insts_kept device b.keys xs.0 insts.fit in
     let nodes = nodes_part device b version xs.0 ascend d ns g in
-    claim_of device version n es.0 xs.0 ns.0 w small entries.are entries.mode (all_of_any (IsInst device) 0 xs.0 (admitted_all (AnyInst device) refused_inst [] xs.0 insts.fit)) ascend insts.few
+    claim_of device version n es.0 xs.0 ns.0 w small entries.are entries.mode (with_later (says_device device) read es.0) (all_of_any (IsInst device) 0 xs.0 (admitted_all (AnyInst device) refused_inst [] xs.0 insts.fit)) ascend insts.few
     (admitted_all (FitsNode device version xs.0) refused_node [] ns.0 nodes.fit) (nodes_kept device b.keys version xs.0 ns.0 nodes.fit) nodes.few
 
 record ClaimRead (device : Device) (p : Place) (z : Claim × Place) : Type 0 where
@@ -223,24 +243,27 @@ claim_take device k p z e =
     let b = then_ok (heading_at device p) _ z e in
     let a = then_ok (entries_at device b.0.0.0 b.0.1) _ z b.2 in
     let i = then_ok (insts_at device a.0.1) _ z a.2 in
-    let n = then_ok (nodes_at device b.0.0.0 i.0.0 i.0.1) _ z i.2 in
+    let says = says_device device in
+    let version = version_with says b.0.0.0 a.0.0 in
+    let n = then_ok (nodes_at device version i.0.0 i.0.1) _ z i.2 in
     let w = then_ok (witness_at device n.0.1) _ z n.2 in
     let d = then_ok (end_at w.0.1) _ z w.2 in
     let top = heading_take device k.words p b.0 b.1 in
     let entries = entries_take device k b.0.0.0 b.0.1 a.0 a.1 in
     let insts = insts_take device k a.0.1 i.0 i.1 in
-    let nodes = nodes_part device k b.0.0.0 i.0.0 (insts_kept device k.keys i.0.0 insts.fit) i.0.1 n.0 n.1 in
+    let nodes = nodes_part device k version i.0.0 (insts_kept device k.keys i.0.0 insts.fit) i.0.1 n.0 n.1 in
     let witness = witness_part device k.schedule_spelled n.0.1 w.0 w.1 in
     let end = end_part w.0.1 d.0 d.1 in
     let last = stand_more n.0.1 w.0.1 d.0.1 (witness_lines w.0.0) (end_line ∷ []) witness.lines end.lines in
-    let third = stand_more a.0.1 i.0.1 n.0.1 (inst_lines device i.0.0) (node_lines device b.0.0.0 i.0.0 n.0.0) insts.lines nodes.lines in
-    let second = stand_more b.0.1 a.0.1 n.0.1 (entry_lines a.0.0) (inst_lines device i.0.0 ++ node_lines device b.0.0.0 i.0.0 n.0.0) entries.lines third in
-    let first = stand_more p b.0.1 n.0.1 (heading b.0.0.0 b.0.0.1) (entry_lines a.0.0 ++ (inst_lines device i.0.0 ++ node_lines device b.0.0.0 i.0.0 n.0.0)) top.0 second in
-    let all = stand_more p n.0.1 d.0.1 (heading b.0.0.0 b.0.0.1 ++ (entry_lines a.0.0 ++ (inst_lines device i.0.0 ++ node_lines device b.0.0.0 i.0.0 n.0.0))) (witness_lines w.0.0 ++ end_line ∷ []) first last in
+    let third = stand_more a.0.1 i.0.1 n.0.1 (inst_lines device i.0.0) (node_lines device version i.0.0 n.0.0) insts.lines nodes.lines in
+    let second = stand_more b.0.1 a.0.1 n.0.1 (entry_lines a.0.0) (inst_lines device i.0.0 ++ node_lines device version i.0.0 n.0.0) entries.lines third in
+    let H : List (List ℕ) → Type 0 = λ l. Stand p (l ∷ (device_lines says device ++ numbered (codes "bound") b.0.0.1 ∷ [])) b.0.1 in
+    let first = stand_more p b.0.1 n.0.1 (heading device version b.0.0.1) (entry_lines a.0.0 ++ (inst_lines device i.0.0 ++ node_lines device version i.0.0 n.0.0)) (subst H (same_line says b.0.0.0 a.0.0) top.lines) second in
+    let all = stand_more p n.0.1 d.0.1 (heading device version b.0.0.1 ++ (entry_lines a.0.0 ++ (inst_lines device i.0.0 ++ node_lines device version i.0.0 n.0.0))) (witness_lines w.0.0 ++ end_line ∷ []) first last in
     let P : Claim × Place → Type 0 = λ y. ClaimRead device p y in
-    subst P (ok_is {A = Claim × Place} (record { device = device; version = b.0.0.0; bound = b.0.0.1; assumptions = a.0.0; instances = i.0.0; nodes = n.0.0; witness = w.0.0 }, d.0.1) z d.2) (record {
+    subst P (ok_is {A = Claim × Place} (record { device = device; version = version; bound = b.0.0.1; assumptions = a.0.0; instances = i.0.0; nodes = n.0.0; witness = w.0.0 }, d.0.1) z d.2) (record {
       is = refl;
-      certificate = record { claim = claim_by device k b.0.0.0 b.0.0.1 b.0.1 a.0.1 i.0.1 a.0 i.0 n.0 w.0.0 top.1 a.1 i.1 n.1; schedule = witness.schedule };
+      certificate = record { claim = claim_by device k b.0.0.0 b.0.0.1 b.0.1 a.0.1 i.0.1 a.0 i.0 n.0 w.0.0 top.small a.1 i.1 n.1; schedule = witness.schedule };
       lines = all;
       over = end.over;
     })
@@ -277,6 +300,11 @@ node_plain_all : (device : Device) → LowerLaws → (version : Version) (insts 
 node_plain_all device b version insts few at [] most h = tt
 node_plain_all device b version insts few at (n ∷ ns) most h = (node_is_plain device b.nodes b.keys version insts few at n (omega (arith, most)) h.0, node_plain_all device b version insts few (at + 1) ns (omega (arith, most)) h.1)
 
+heading_plain : (says : Bool) (device : Device) (version : Version) (n : ℕ) → AllByRecursion IsWord (numbered (codes "bound") n)
+    → AllByRecursion (AllByRecursion IsWord) (version_line says version ∷ (device_lines says device ++ numbered (codes "bound") n ∷ []))
+heading_plain true device version n h = (version_plain true version, (name_words (class_of device) (class_word device), (h, tt)))
+heading_plain false device version n h = (version_plain false version, (h, tt))
+
 pub fitting_nodes : (c : Claim) → IsClaim c → AllFrom (FitsNode c.device c.version c.instances) 0 c.nodes
 fitting_nodes c h = all_fit c.device c.version c.instances 0 c.nodes (subst (λ followed. AreFrom c.device followed 0 c.nodes) (sym h.of_list) h.nodes_fit) h.nodes_belong (each_of c.version c.nodes h.of_version)
 
@@ -293,12 +321,12 @@ front_plain b c h =
       numbered_plain k (codes "nodes") (length c.nodes) (plain (codes "nodes" ∷ []) refl).0 (omega (arith, h.few_nodes)),
       node_plain_all c.device b c.version c.instances h.few_insts 0 c.nodes (omega (arith, h.few_nodes)) (fitting_nodes c h),
     ) in
-    (version_plain c.version, (bound, joined_plain (entry_lines c.assumptions) (inst_lines c.device c.instances ++ node_lines c.device c.version c.instances c.nodes) entries (joined_plain (inst_lines c.device c.instances) (node_lines c.device c.version c.instances c.nodes) insts nodes)))
+    joined_plain (heading c.device c.version c.bound) (entry_lines c.assumptions ++ (inst_lines c.device c.instances ++ node_lines c.device c.version c.instances c.nodes)) (heading_plain (says_device c.device) c.device c.version c.bound bound) (joined_plain (entry_lines c.assumptions) (inst_lines c.device c.instances ++ node_lines c.device c.version c.instances c.nodes) entries (joined_plain (inst_lines c.device c.instances) (node_lines c.device c.version c.instances c.nodes) insts nodes))
 
 again_at : LowerLaws → (c : Claim) → IsClaim c → (p q : Place) → Stand p (front_lines c) q
-    → (a : Place) × (d : Place) × (f : Place) × (heading_at c.device p ≡ Ok ((c.version, c.bound), a)) × (entries_at c.device c.version a ≡ Ok (c.assumptions, d)) × (insts_at c.device d ≡ Ok (c.instances, f)) × (nodes_at c.device c.version c.instances f ≡ Ok (c.nodes, q))
+    → (a : Place) × (d : Place) × (f : Place) × (heading_at c.device p ≡ Ok ((version_read (says_device c.device) c.version, c.bound), a)) × (entries_at c.device (version_read (says_device c.device) c.version) a ≡ Ok (c.assumptions, d)) × (insts_at c.device d ≡ Ok (c.instances, f)) × (nodes_at c.device c.version c.instances f ≡ Ok (c.nodes, q))
 again_at b c h p q s =
-    let x = stand_cut p q (heading c.version c.bound) (entry_lines c.assumptions ++ (inst_lines c.device c.instances ++ node_lines c.device c.version c.instances c.nodes)) s in
+    let x = stand_cut p q (heading c.device c.version c.bound) (entry_lines c.assumptions ++ (inst_lines c.device c.instances ++ node_lines c.device c.version c.instances c.nodes)) s in
     let y = stand_cut x.0 q (entry_lines c.assumptions) (inst_lines c.device c.instances ++ node_lines c.device c.version c.instances c.nodes) x.2 in
     let z = stand_cut y.0 q (inst_lines c.device c.instances) (node_lines c.device c.version c.instances c.nodes) y.2 in (
       x.0,
@@ -325,7 +353,8 @@ claim_again b c h =
     let r = again_at b c h.claim p m (stand b.words (front_lines c) 0 text (front_plain b c h.claim)) in
     let witness = witness_again c.device b.words b.schedule_text b.schedule_read c.witness (0 + length (flat_map line (front_lines c))) (flat_map line (end_line ∷ [])) h.schedule in
     let end = end_again b.words witness.0 in
-    (before end.0 [], rw (r.3, r.4, r.5, r.6, witness.1, end.1) refl)
+    let settled = version_settled (says_device c.device) c.version c.assumptions h.claim.of_list h.claim.of_device in
+    (before end.0 [], rw (r.3, r.4, r.5, settled, r.6, witness.1, end.1) refl)
 
 pub spelled_is_read : LowerLaws → SpelledCertificateIsRead
 unfolding certificate_in

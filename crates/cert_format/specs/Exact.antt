@@ -8,8 +8,9 @@ use Rattle.edge_rules.specs.Expansion.{Seeds}
 use Rattle.certificate.specs.declared.instance.Inst.{Inst}
 use Rattle.certificate.specs.declared.version.Version.{Version}
 use Rattle.certificate.specs.Claims.{Claim, IsClaim, IsCertificate}
+use Rattle.certificate.specs.Versions.{says_device}
 use Rattle.cert_words.specs.Text.{text_of}
-use Rattle.cert_format.specs.Reading.{entries_at, insts_at, nodes_at, certificate_in}
+use Rattle.cert_format.specs.Reading.{version_with, entries_at, insts_at, nodes_at, certificate_in}
 
 -- what is read is a certificate for the device, and the text is its text
 abbrev pub ReadCertificateIsSpelled : Type 0
@@ -26,5 +27,6 @@ CertificatesHaveOneText = (a b : Claim) → IsCertificate a → IsCertificate b 
 -- the parts that are read form a claim
 abbrev pub PartsMakeClaims : Type 0
 PartsMakeClaims =
-    (device : Device) (version : Version) (a b c d : Place) (n : ℕ) (es : List Entry) (xs : List Inst) (ns : Seeds) → n ≤ depth_of device → entries_at device version a ≡ Ok (es, b) → insts_at device b ≡ Ok (xs, c) → nodes_at device version xs c ≡ Ok (ns, d)
-    → IsClaim (record { device = device; version = version; bound = n; assumptions = es; instances = xs; nodes = ns; witness = None })
+    (device : Device) (version : Version) (a b c d : Place) (n : ℕ) (es : List Entry) (xs : List Inst) (ns : Seeds) → n ≤ depth_of device
+    → entries_at device version a ≡ Ok (es, b) → insts_at device b ≡ Ok (xs, c) → nodes_at device (version_with (says_device device) version es) xs c ≡ Ok (ns, d)
+    → IsClaim (record { device = device; version = version_with (says_device device) version es; bound = n; assumptions = es; instances = xs; nodes = ns; witness = None })

@@ -1,17 +1,18 @@
 -- Reads a certificate for a device forward, line by line. A refusal has a kind and the offset of the first refused line. Of several kinds
 -- at one line, form comes before order and order before limit.
-use Rattle.std.specs.Prelude.{ℕ, zero, suc, ◌+◌, ◌-◌, ◌&&◌, nat_le, Bool, true, false, List, [], ◌∷◌, ◌++◌, length, codes, slice_get, Option, Some, None, Result, Ok, Err, if◌then◌else◌}
+use Rattle.std.specs.Prelude.{ℕ, zero, suc, ◌+◌, ◌-◌, ◌&&◌, ◌||◌, nat_le, Bool, true, false, List, [], ◌∷◌, ◌++◌, length, codes, slice_get, Option, Some, None, Result, Ok, Err, if◌then◌else◌}
 use Rattle.std.specs.Ordering.{is_lt}
 use Rattle.std.specs.Str.{bytes_eq}
 use Rattle.avr_model.specs.declared.assumption.Entry.{Entry}
 use Rattle.avr_model.specs.declared.assumption.Entry.TheVariants.{Pairs, Masks, Jump, Store, Prove, Free, Never, Frame}
 use Rattle.avr_model.specs.declared.device.Device.{Device}
+use Rattle.avr_model.specs.Names.{class_of, device_of_class}
 use Rattle.avr_model.specs.Devices.{depth_of}
 use Rattle.sb_base.specs.Digits.{dec_answer}
 use Rattle.sb_base.specs.declared.digits.DigitFault.{DigitFault}
 use Rattle.sb_base.specs.declared.digits.DigitFault.TheVariants.{WrongLength, BadDigit, TooGreat}
 use Rattle.sb_base.specs.Lines.{TextLine, Place, lines_of, words_of}
-use Rattle.line_reading.specs.Reading.{◌>>=◌, dec_at, word_at, is_over, then_at, this_by, line_by}
+use Rattle.line_reading.specs.Reading.{◌>>=◌, dec_at, word_at, word_by, is_over, then_at, this_by, line_by}
 use Rattle.vector_table.specs.Entries.{is_above_last, most_entries}
 use Rattle.mask_states.specs.Keys.{offset_of}
 use Rattle.mask_states.specs.Order.{inst_cmp, node_cmp}
@@ -24,7 +25,7 @@ use Rattle.witness_replay.specs.Reading.{schedule_at}
 use Rattle.certificate.specs.declared.instance.Inst.{Inst}
 use Rattle.certificate.specs.declared.version.Version.{Version}
 use Rattle.certificate.specs.declared.version.Version.TheVariants.{One, Two, Three}
-use Rattle.certificate.specs.Versions.{is_third}
+use Rattle.certificate.specs.Versions.{is_third, says_device, written_version}
 use Rattle.certificate.specs.Claims.{Claim, most_instances, most_nodes, most_cells, cells_of, node_keys}
 use Rattle.certificate.specs.declared.limit.Limit.TheVariants as limit
 use Rattle.cert_format.specs.declared.fault.CertFault.{CertFault}
@@ -66,20 +67,20 @@ count_in ws = word_at (codes "nodes") ws >>= λ w. count_at w.1
 abbrev pub count_by : List ℕ → Option (Option ℕ)
 count_by text = count_in (words_of text)
 
--- only the third version has the line `pairs`
+-- Only some lists may have the line `pairs`.
 abbrev pub is_admitted : Bool → Entry → Bool
-is_admitted third Pairs = third
-is_admitted third Masks = true
-is_admitted third (Jump site words) = true
-is_admitted third (Store site addresses) = true
-is_admitted third (Prove site) = true
-is_admitted third (Free site) = true
-is_admitted third (Never site) = true
-is_admitted third (Frame site) = true
+is_admitted paired Pairs = paired
+is_admitted paired Masks = true
+is_admitted paired (Jump site words) = true
+is_admitted paired (Store site addresses) = true
+is_admitted paired (Prove site) = true
+is_admitted paired (Free site) = true
+is_admitted paired (Never site) = true
+is_admitted paired (Frame site) = true
 
--- an entry of the third version, or of another
+-- an entry of a list that may have the line `pairs`, or of another
 abbrev pub entry_by : Device → Bool → List ℕ → Option Entry
-entry_by device third text = entry_in device (words_of text) >>= λ e. if is_admitted third e then Some e else None
+entry_by device paired text = entry_in device (words_of text) >>= λ e. if is_admitted paired e then Some e else None
 
 abbrev pub inst_by : Device → List ℕ → Option Inst
 inst_by device text = inst_in device (words_of text)
@@ -88,11 +89,25 @@ inst_by device text = inst_in device (words_of text)
 abbrev pub node_by : Device → Version → List Inst → ℕ → List ℕ → Option (NodeKey × NodeForm)
 node_by device version insts at text = node_in device version insts at (words_of text)
 
--- the version of a text
-unfoldable pub version_by : List ℕ → Option Version
-version_by text =
+-- The version by a text's first line. Where the text says its device, the second stands until the assumptions are read.
+unfoldable pub version_by : Bool → List ℕ → Option Version
+version_by true text = if bytes_eq text (codes "stackcert 4") then Some Two else None
+version_by false text =
     if bytes_eq text (codes "stackcert 1") then Some One
     else (if bytes_eq text (codes "stackcert 2") then Some Two else (if bytes_eq text (codes "stackcert 3") then Some Three else None))
+
+-- whether a name is that of another device than this one, and of which
+unfoldable pub other_by : Device → List ℕ → Option (Option Device)
+other_by device name = if bytes_eq name (class_of device) then Some None else option_map (λ d. Some d) (device_of_class name)
+
+unfoldable pub device_in : Device → List (List ℕ) → Option (Option Device)
+device_in device ws = do
+  w ← word_at (codes "device") ws
+  d ← word_by (other_by device) w.1
+  if is_over d.1 then Some d.0 else None
+
+abbrev pub device_by : Device → List ℕ → Option (Option Device)
+device_by device text = device_in device (words_of text)
 
 -- whether a schedule follows
 unfoldable pub ending_by : List ℕ → Option Bool
@@ -158,10 +173,23 @@ items_from by refused xs (suc n) p = then_at (longer_at by refused xs p) (λ x. 
 
 -- ---- parts of several lines
 
--- the version and the bound
+-- a certificate for another device is refused
+abbrev pub for_this : Result (Option Device × Place) CertFault → Result (Unit {0} × Place) CertFault
+for_this (Ok (None, q)) = Ok (tt, q)
+for_this (Ok (Some other, q)) = Err (fault.Other other)
+for_this (Err f) = Err f
+
+-- the line that says the device, if there is one
+unfoldable pub device_at : Bool → Device → Place → Result (Unit {0} × Place) CertFault
+device_at true device p = for_this (formed (line_by (device_by device) p))
+device_at false device p = Ok (tt, p)
+
+-- the version, the device and the bound
 unfoldable pub heading_at : Device → Place → Result ((Version × ℕ) × Place) CertFault
 heading_at device p =
-    then_at (formed (line_by version_by p)) (λ v. then_at (formed (line_by (numbered_by (codes "bound") 0 (depth_of device)) v.1)) (λ b. Ok ((v.0, b.0), b.1)))
+    then_at (formed (line_by (version_by (says_device device)) p)) (λ v.
+    then_at (device_at (says_device device) device v.1) (λ d.
+    then_at (formed (line_by (numbered_by (codes "bound") 0 (depth_of device)) d.1)) (λ b. Ok ((v.0, b.0), b.1))))
 
 -- the least number of entries: the third version has `pairs`
 abbrev pub least_entries : Version → ℕ
@@ -175,10 +203,19 @@ first_at One p = Ok ([], p)
 first_at Two p = Ok ([], p)
 first_at Three p = then_at (formed (line_by (this_by (codes "pairs")) p)) (λ u. Ok (Pairs ∷ [], u.1))
 
+-- whether a list may have the line `pairs`: where the text says its device, each may
+abbrev pub is_paired : Device → Version → Bool
+is_paired device version = says_device device || is_third version
+
 unfoldable pub entries_at : Device → Version → Place → Result (List Entry × Place) CertFault
 entries_at device version p =
     then_at (formed (line_by (numbered_by (codes "assume") (least_entries version) most_entries) p)) (λ n.
-    then_at (first_at version n.1) (λ f. items_from (λ at. entry_by device (is_third version)) refused_entry f.0 (n.0 - least_entries version) f.1))
+    then_at (first_at version n.1) (λ f. items_from (λ at. entry_by device (is_paired device version)) refused_entry f.0 (n.0 - least_entries version) f.1))
+
+-- the version with these assumptions: where the text says its device, they decide it
+abbrev pub version_with : Bool → Version → List Entry → Version
+version_with true version entries = written_version entries
+version_with false version entries = version
 
 unfoldable pub insts_at : Device → Place → Result (List Inst × Place) CertFault
 insts_at device p = then_at (formed (line_by (numbered_by (codes "instances") 0 most_instances) p)) (λ n. items_from (λ at. inst_by device) refused_inst [] n.0 n.1)
@@ -213,9 +250,9 @@ claim_at device p =
     then_at (heading_at device p) (λ b.
     then_at (entries_at device b.0.0 b.1) (λ a.
     then_at (insts_at device a.1) (λ i.
-    then_at (nodes_at device b.0.0 i.0 i.1) (λ n.
+    then_at (nodes_at device (version_with (says_device device) b.0.0 a.0) i.0 i.1) (λ n.
     then_at (witness_at device n.1) (λ w.
-    then_at (end_at w.1) (λ e. Ok (record { device = device; version = b.0.0; bound = b.0.1; assumptions = a.0; instances = i.0; nodes = n.0; witness = w.0 }, e.1)))))))
+    then_at (end_at w.1) (λ e. Ok (record { device = device; version = version_with (says_device device) b.0.0 a.0; bound = b.0.1; assumptions = a.0; instances = i.0; nodes = n.0; witness = w.0 }, e.1)))))))
 
 abbrev pub claim_alone : Result (Claim × Place) CertFault → Result Claim CertFault
 claim_alone (Ok x) = Ok x.0

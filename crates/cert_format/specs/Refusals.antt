@@ -1,12 +1,13 @@
 -- The refusals of texts that are no certificates for a device, by the spelling alone: the text before the refused line begins a
 -- certificate, and the line has the wrong form, is not above the last one, or passes a limit.
-use Rattle.std.specs.Prelude.{◌≡◌, ◌≢◌, ◌<◌, ◌≤◌, ◌⊎◌, ℕ, List, [], ◌∷◌, ◌++◌, map, length, codes, None, Result, Ok, Err, ⊤, true, false, not}
+use Rattle.std.specs.Prelude.{◌≡◌, ◌≢◌, ◌<◌, ◌≤◌, ◌⊎◌, ℕ, List, [], ◌∷◌, ◌++◌, map, length, codes, Some, None, Result, Ok, Err, ⊤, true, false, not}
 use Rattle.std.specs.List.{position}
 use Rattle.std.specs.List.Sorted.{IsStrictlySortedBy}
 use Rattle.avr_model.specs.declared.assumption.Entry.{Entry}
 use Rattle.avr_model.specs.declared.assumption.Entry.TheVariants.{Pairs}
 use Rattle.avr_model.specs.declared.device.Device.{Device}
 use Rattle.avr_model.specs.Devices.{depth_of}
+use Rattle.avr_model.specs.Names.{class_of, device_of_class}
 use Rattle.sb_base.specs.Digits.{is_dec, number_from, has_extra_zero}
 use Rattle.sb_base.specs.Lines.{TextLine, Place, lines_of}
 use Rattle.line_reading.specs.Words.{whole, Passes}
@@ -21,19 +22,21 @@ use Rattle.certificate.specs.declared.instance.Inst.{Inst}
 use Rattle.certificate.specs.declared.version.Version.{Version}
 use Rattle.certificate.specs.Insts.{IsInst, inst_keys}
 use Rattle.certificate.specs.Claims.{Claim, IsClaim, IsCertificate, FitsAt, Belongs, most_instances, most_nodes, most_cells, cells_of, node_keys}
-use Rattle.certificate.specs.Versions.{NodeIsOf, is_third}
-use Rattle.cert_words.specs.Text.{numbered, version_line, heading, entry_lines, inst_lines, inst_words, node_words, open_line, attained_line, witness_lines, end_line, front_lines, certificate_lines, text_of}
+use Rattle.certificate.specs.Versions.{NodeIsOf, is_third, says_device}
+use Rattle.cert_words.specs.Text.{numbered, version_line, device_line, device_lines, heading, entry_lines, inst_lines, inst_words, node_words, open_line, attained_line, witness_lines, end_line, front_lines, certificate_lines, text_of}
 use Rattle.certificate.specs.declared.limit.Limit.{Limit}
 use Rattle.certificate.specs.declared.limit.Limit.TheVariants as limit
 use Rattle.cert_format.specs.declared.fault.CertFault.{CertFault}
 use Rattle.cert_format.specs.declared.fault.CertFault.TheVariants as fault
-use Rattle.cert_format.specs.Reading.{is_admitted, least_entries, certificate_in}
+use Rattle.cert_format.specs.Reading.{is_admitted, is_paired, least_entries, certificate_in}
 
 -- ---- how far the lines of a certificate go
 
--- the next part; for a list, with the announced number of items. In the third version the first entry is `pairs`.
+-- The next part; for a list, with the announced number of items. Some texts say the device, and in the others of the third version the
+-- first entry is `pairs`.
 pub data Part : Type 0 where
   Begin : Part
+  Named : Part
   Bound : Part
   Assume : Part
   FirstEntry : ℕ → Part
@@ -49,21 +52,23 @@ pub data Part : Type 0 where
 -- the lines of a certificate before this part, with the items read so far
 abbrev pub lines_to : Claim → Part → List (List (List ℕ))
 lines_to c Begin = []
-lines_to c Bound = version_line c.version ∷ []
-lines_to c Assume = heading c.version c.bound
-lines_to c (FirstEntry n) = heading c.version c.bound ++ numbered (codes "assume") n ∷ []
-lines_to c (AnEntry n) = heading c.version c.bound ++ numbered (codes "assume") n ∷ map entry_words c.assumptions
-lines_to c Instances = heading c.version c.bound ++ entry_lines c.assumptions
-lines_to c (AnInst n) = heading c.version c.bound ++ (entry_lines c.assumptions ++ numbered (codes "instances") n ∷ map (inst_words c.device) c.instances)
-lines_to c Nodes = heading c.version c.bound ++ (entry_lines c.assumptions ++ inst_lines c.device c.instances)
-lines_to c (ANode n) = heading c.version c.bound ++ (entry_lines c.assumptions ++ (inst_lines c.device c.instances ++ numbered (codes "nodes") n ∷ map (node_words c.device c.version c.instances) c.nodes))
+lines_to c Named = version_line (says_device c.device) c.version ∷ []
+lines_to c Bound = version_line (says_device c.device) c.version ∷ device_lines (says_device c.device) c.device
+lines_to c Assume = heading c.device c.version c.bound
+lines_to c (FirstEntry n) = heading c.device c.version c.bound ++ numbered (codes "assume") n ∷ []
+lines_to c (AnEntry n) = heading c.device c.version c.bound ++ numbered (codes "assume") n ∷ map entry_words c.assumptions
+lines_to c Instances = heading c.device c.version c.bound ++ entry_lines c.assumptions
+lines_to c (AnInst n) = heading c.device c.version c.bound ++ (entry_lines c.assumptions ++ numbered (codes "instances") n ∷ map (inst_words c.device) c.instances)
+lines_to c Nodes = heading c.device c.version c.bound ++ (entry_lines c.assumptions ++ inst_lines c.device c.instances)
+lines_to c (ANode n) = heading c.device c.version c.bound ++ (entry_lines c.assumptions ++ (inst_lines c.device c.instances ++ numbered (codes "nodes") n ∷ map (node_words c.device c.version c.instances) c.nodes))
 lines_to c Ending = front_lines c
 lines_to c End = front_lines c ++ witness_lines c.witness
 lines_to c Nothing = certificate_lines c
 
--- fewer items than announced, and no more announced than permitted
+-- the text has the part; fewer items than announced, and no more announced than permitted
 abbrev pub HasRoomFor : Claim → Part → Type 0
-HasRoomFor c (FirstEntry n) = (is_third c.version ≡ true) × (1 ≤ n) × (n ≤ most_entries)
+HasRoomFor c Named = says_device c.device ≡ true
+HasRoomFor c (FirstEntry n) = (says_device c.device ≡ false) × (is_third c.version ≡ true) × (1 ≤ n) × (n ≤ most_entries)
 HasRoomFor c (AnEntry n) = (length c.assumptions < n) × (n ≤ most_entries)
 HasRoomFor c (AnInst n) = (length c.instances < n) × (n ≤ most_instances)
 HasRoomFor c (ANode n) = (length c.nodes < n) × (n ≤ most_nodes)
@@ -96,7 +101,7 @@ IsNumbered name least most ws = (n : ℕ) × (least ≤ n) × (n ≤ most) × (w
 -- the words of some entry, instance or node of a certificate of this device and version, with this property
 
 abbrev pub IsEntryWith : Device → Version → (Entry → Type 0) → List (List ℕ) → Type 0
-IsEntryWith device version P ws = (e : Entry) × (is_entry_of device e ≡ true) × (is_admitted (is_third version) e ≡ true) × (ws ≡ entry_words e) × P e
+IsEntryWith device version P ws = (e : Entry) × (is_entry_of device e ≡ true) × (is_admitted (is_paired device version) e ≡ true) × (ws ≡ entry_words e) × P e
 
 abbrev pub IsInstWith : Device → (Inst → Type 0) → List (List ℕ) → Type 0
 IsInstWith device P ws = (x : Inst) × IsInst device x × (ws ≡ inst_words device x) × P x
@@ -107,9 +112,14 @@ IsNodeWith c P ws = (n : NodeKey × NodeForm) × FitsAt c.device (is_third c.ver
 abbrev pub IsNodesLine : (List ℕ → Type 0) → List (List ℕ) → Type 0
 IsNodesLine P ws = (w : List ℕ) × IsDecimal w × (ws ≡ codes "nodes" ∷ w ∷ []) × P w
 
+-- the line of a device with a name in texts, and this property
+abbrev pub IsNaming : (List ℕ → Device → Type 0) → List (List ℕ) → Type 0
+IsNaming P ws = (name : List ℕ) × (device : Device) × (device_of_class name ≡ Some device) × (ws ≡ device_line name) × P name device
+
 -- words of the form of this part
 abbrev pub IsOfForm : Claim → Part → List (List ℕ) → Type 0
-IsOfForm c Begin ws = (version : Version) × (ws ≡ version_line version)
+IsOfForm c Begin ws = (version : Version) × (ws ≡ version_line (says_device c.device) version)
+IsOfForm c Named ws = IsNaming (λ name device. ⊤) ws
 IsOfForm c Bound ws = IsNumbered (codes "bound") 0 (depth_of c.device) ws
 IsOfForm c Assume ws = IsNumbered (codes "assume") (least_entries c.version) most_entries ws
 IsOfForm c (FirstEntry n) ws = ws ≡ entry_words Pairs
@@ -186,11 +196,21 @@ pub record IsOverLimit (device : Device) (p : Place) (l : Limit) : Type 0 where
   pub next : IsNextLine place.rest words
   pub past : IsPast claim part l words
 
+-- the line that says the device says another one
+pub record IsForOther (device : Device) (p : Place) (other : Device) : Type 0 where
+  pub claim : Claim
+  pub place : Place
+  pub words : List (List ℕ)
+  pub stands : StandsBefore device p claim Named place
+  pub next : IsNextLine place.rest words
+  pub names : IsNaming (λ name named. (named ≡ other) × (name ≢ class_of device)) words
+
 -- the due refusal from this place on
 abbrev pub IsCertificateRefused : Device → Place → CertFault → Type 0
 IsCertificateRefused device p (fault.Malformed at) = IsCertificateMalformed device p at
 IsCertificateRefused device p (fault.Order at) = IsCertificateOutOfOrder device p at
 IsCertificateRefused device p (fault.Limit l) = IsOverLimit device p l
+IsCertificateRefused device p (fault.Other other) = IsForOther device p other
 IsCertificateRefused device p fault.Memory = ⊥
 
 abbrev pub start : List ℕ → Place

@@ -1,12 +1,14 @@
 //! Faults of the text of a certificate.
 
+use avr_model::device::Device;
 use certificate::Limit;
 use line_reading::Malformed;
 use std::alloc::AllocError;
+use std::fmt;
 use thiserror::Error;
 
 /// Why a text is not read as a certificate. Places are offsets of lines.
-#[derive(Clone, Copy, Debug, PartialEq, Eq, Drop, Error)]
+#[derive(Clone, Copy, PartialEq, Eq, Drop, Error)]
 pub enum CertFault {
     /// The first line with the wrong form is at this offset; or a line is missing, and this is the text's length.
     #[error("certificate malformed at {0}")]
@@ -17,9 +19,18 @@ pub enum CertFault {
     /// A limit is passed.
     #[error("certificate limit")]
     Limit(Limit),
+    /// The certificate is for this device, and not for the one that was asked for.
+    #[error("certificate device")]
+    Other(Device),
     /// Out of memory.
     #[error("out of memory")]
     Memory,
+}
+
+impl fmt::Debug for CertFault {
+    fn fmt<W: fmt::Write>(&self, f: &mut fmt::Formatter<W>) -> fmt::Result {
+        fmt::Display::fmt(self, f)
+    }
 }
 
 impl From<Malformed> for CertFault {

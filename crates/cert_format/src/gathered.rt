@@ -1,11 +1,12 @@
 //! The lists of a certificate: one reader for a given number of lines, and what each list does with a line.
 
-ghost use Rattle.std.specs.Prelude.{◌≡◌, ◌≤◌, ◌<◌, ◌+◌, ℕ, List, [], Option, length};
+ghost use Rattle.std.specs.Prelude.{◌≡◌, ◌≤◌, ◌<◌, ◌+◌, ◌||◌, ℕ, List, [], Option, length};
 ghost use Rattle.avr_model.specs.State.{SIZE};
 ghost use Rattle.avr_model.specs.Assumptions.{has_pairs};
 ghost use Rattle.sb_base.specs.Answers.{Answers};
 ghost use Rattle.avr_model.specs.declared.device.Device as device_type;
 ghost use Rattle.mask_states.specs.Keys.{offset_of};
+ghost use Rattle.certificate.specs.Versions.{says_device};
 ghost use Rattle.cert_format.specs.declared.fault.CertFault.{CertFault};
 ghost use Rattle.cert_format.specs.declared.fault.CertFault.TheVariants as fault;
 ghost use Rattle.cert_format.specs.Reading.{is_admitted, last_in, is_node_above, refused_node, with_item, with_text, longer_at, items_from};
@@ -14,7 +15,7 @@ use crate::fault::CertFault;
 use crate::lines::{instance_of, node_of};
 use avr_model::assumption::Entry;
 use avr_model::device::Device;
-use certificate::{Inst, Limit, Version};
+use certificate::{Inst, Limit, Version, says_device};
 use edge_rules::NodeForm;
 use indirect_targets::entry_of;
 use mask_states::NodeKey;
@@ -93,12 +94,12 @@ pub(crate) fn read_each<G: Gathered>(
     Ok(())
 }
 
-// Whether an entry may follow these: `pairs` may not follow entries without it.
-fn is_admitted(list: &Assumptions, entry: &Entry) -> bool
-    ensures { result ≡ is_admitted (has_pairs list.now) entry.now }
+// Whether an entry may be in a list that begins so: where the text says no device, `pairs` may be only where it is already.
+fn is_admitted(device: Device, list: &Assumptions, entry: &Entry) -> bool
+    ensures { result ≡ is_admitted (says_device device || has_pairs list.now) entry.now }
 {
     match entry {
-        Entry::Pairs => list.has_pairs(),
+        Entry::Pairs => says_device(device) || list.has_pairs(),
         Entry::Masks => true,
         Entry::Jump(_, _) | Entry::Store(_, _) => true,
         Entry::Prove(_) | Entry::Free(_) | Entry::Never(_) | Entry::Frame(_) => true,
@@ -115,7 +116,7 @@ impl Gathered for Assumptions {
 
     ghost most = { most_entries };
 
-    ghost by = { λ device list at. entry_by device (has_pairs list) };
+    ghost by = { λ device list at. entry_by device (says_device device || has_pairs list) };
 
     ghost refused = { refused_entry };
 
@@ -129,7 +130,7 @@ impl Gathered for Assumptions {
         let Some(entry) = entry_of(alloc, device, text)? else {
             return Err(CertFault::Malformed(at));
         };
-        if !is_admitted(self, &entry) {
+        if !is_admitted(device, self, &entry) {
             drop(entry);
             return Err(CertFault::Malformed(at));
         }

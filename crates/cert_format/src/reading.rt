@@ -8,17 +8,18 @@ ghost use Rattle.sb_base.specs.Answers.{Answers};
 ghost use Rattle.line_reading.specs.Reading.{first_by, line_by};
 ghost use Rattle.cert_format.specs.declared.fault.CertFault.TheVariants as fault;
 ghost use Rattle.certificate.specs.Claims.{Claim, IsCertificate, most_nodes};
-ghost use Rattle.certificate.specs.Versions.{is_third};
+ghost use Rattle.certificate.specs.Versions.{is_third, says_device};
 ghost use Rattle.witness_replay.specs.Spelling.{IsSchedule};
 ghost use Rattle.cert_words.specs.Text.{text_of};
-ghost use Rattle.cert_format.specs.Reading.{formed, version_by, numbered_in, numbered_by, count_in, count_by, ending_by, heading_at, least_entries, first_at, entries_at, insts_at, limited, nodes_at, witness_at, end_at, claim_at, certificate_in};
+ghost use Rattle.cert_format.specs.Reading.{formed, version_by, other_by, device_in, device_by, device_at, version_with, numbered_in, numbered_by, count_in, count_by, ending_by, heading_at, least_entries, first_at, entries_at, insts_at, limited, nodes_at, witness_at, end_at, claim_at, certificate_in};
 ghost use Rattle.cert_format.specs.Refusals.{IsCertificateDueUnlessMemory};
 
 use crate::fault::CertFault;
 use crate::gathered::{NodeList, read_each};
 use crate::laws::certificate_texts;
 use avr_model::device::Device;
-use certificate::{Certificate, Inst, Limit, Version};
+use avr_model::naming::{class_of, device_of_class};
+use certificate::{Certificate, Inst, Limit, Version, says_device, written_version};
 use edge_rules::NodeForm;
 use line_reading::{dec_word, expect_word, is_over, peek_text, take_line, take_text};
 use mask_states::NodeKey;
@@ -225,12 +226,18 @@ fn read_witness(
     }
 }
 
-// The version in the next line.
+// The version in the next line of a text that says its device, or doesn't.
 #[tactic(auto, unfolding(crate::specs::Reading::version_by))]
-fn version_of(reader: &LineReader<'_>) -> Option<Version>
-    ensures { result ≡ first_by version_by reader.now.rest }
+fn version_of(reader: &LineReader<'_>, says: bool) -> Option<Version>
+    ensures { result ≡ first_by (version_by says) reader.now.rest }
 {
     let text = peek_text(reader)?;
+    if says {
+        if text == b"stackcert 4".as_slice() {
+            return Some(Version::Two);
+        }
+        return None;
+    }
     if text == b"stackcert 1".as_slice() {
         Some(Version::One)
     } else if text == b"stackcert 2".as_slice() {
@@ -242,14 +249,62 @@ fn version_of(reader: &LineReader<'_>) -> Option<Version>
     }
 }
 
-// Reads the version and the bound.
+// Whether a name is that of another device than this one, and of which.
+#[tactic(auto, unfolding(crate::specs::Reading::other_by))]
+fn other_of(device: Device, name: &[u8]) -> Option<Option<Device>>
+    ensures { result ≡ other_by device name.now }
+{
+    if name == class_of(device) {
+        return Some(None);
+    }
+    match device_of_class(name) {
+        Some(other) => Some(Some(other)),
+        None => None,
+    }
+}
+
+// Whether the next line says another device than this one, and which.
+#[tactic(auto, unfolding(crate::specs::Reading::device_in))]
+fn said_other(reader: &LineReader<'_>, device: Device) -> Option<Option<Device>>
+    ensures { result ≡ first_by (device_by device) reader.now.rest }
+{
+    let mut words = Words::new(peek_text(reader)?);
+    let (Some(()), Some(name)) = (expect_word(&mut words, b"device"), words.next()) else {
+        return None;
+    };
+    let other = other_of(device, name)?;
+    if is_over(&mut words) {
+        Some(other)
+    } else {
+        None
+    }
+}
+
+// Reads the line that says the device, if there is one.
+#[tactic(auto, unfolding(crate::specs::Reading::device_at, line_reading::specs::Reading::line_by))]
+fn read_device(device: Device, says: bool, reader: &mut LineReader<'_>) -> Result<(), CertFault>
+    ensures { Answers (λ u. (u, reader.new)) fault.Memory result (device_at says device reader.old) }
+{
+    if !says {
+        return Ok(());
+    }
+    let found = said_other(reader, device);
+    match take_line(reader, found)? {
+        Some(other) => Err(CertFault::Other(other)),
+        None => Ok(()),
+    }
+}
+
+// Reads the version, the device and the bound.
 #[tactic(auto, unfolding(crate::specs::Reading::heading_at, line_reading::specs::Reading::line_by))]
 fn read_heading(device: Device, reader: &mut LineReader<'_>) -> Result<(Version, u64), CertFault>
     ensures exact { Answers (λ h. (h, reader.new)) fault.Memory result (heading_at device reader.old) }
     ensures small { IfOk result (λ h. h.1 ≤ depth_of device) }
 {
-    let found = version_of(reader);
+    let says = says_device(device);
+    let found = version_of(reader, says);
     let version = take_line(reader, found)?;
+    read_device(device, says, reader)?;
     let bound = read_numbered(reader, b"bound", 0, u64::from(device.depth()))?;
     Ok((version, bound))
 }
@@ -266,6 +321,17 @@ fn read_end(reader: &mut LineReader<'_>) -> Result<(), CertFault>
     }
 }
 
+// The version with these assumptions: where the text says its device, they decide it.
+fn version_with(device: Device, version: Version, assumptions: &Assumptions) -> Version
+    ensures { result ≡ version_with (says_device device) version assumptions.now }
+{
+    if says_device(device) {
+        written_version(assumptions)
+    } else {
+        version
+    }
+}
+
 // Reads all parts.
 #[tactic(auto, unfolding(crate::specs::Reading::claim_at))]
 fn read_claim(
@@ -279,6 +345,7 @@ fn read_claim(
     let (version, bound) = read_heading(device, reader)?;
     let assumptions = read_entries(alloc, device, reader, version)?;
     let instances = read_instances(alloc, device, reader)?;
+    let version = version_with(device, version, &assumptions);
     let nodes = read_nodes(alloc, device, reader, version, &instances)?;
     let witness = read_witness(alloc, device, reader)?;
     read_end(reader)?;
@@ -293,10 +360,10 @@ fn read_claim(
     Ok(claim.with_witness(witness))
 }
 
-/// Reads a certificate for a device, which the text doesn't say. The inverse of `cert_writing::writing::write`.
+/// Reads a certificate for a device, which the text says unless it is one of four. The inverse of `cert_writing::writing::write`.
 ///
 /// A text of no certificate is refused at its first bad line: as `Malformed` if it has the wrong form or is missing, else as `Order` if
-/// it is not above the last one, else as `Limit` if a limit is passed.
+/// it is not above the last one, else as `Limit` if a limit is passed. A text that says another device is refused as `Other`.
 pub fn read(alloc: Global, device: Device, text: &[u8]) -> Result<Certificate, CertFault>
     ensures exact { Answers (λ c. c) fault.Memory result (certificate_in device text.now) }
     ensures for_device { IfOk result (λ c. c.device ≡ device) }

@@ -10,7 +10,7 @@ use Rattle.basics.specs.Lists.{chosen, same_head_and_tail}
 use Rattle.basics.specs.Numbers.{less_from_test, at_most_from_test}
 use Rattle.avr_model.specs.declared.device.Device.{Device}
 use Rattle.avr_model.specs.Devices.{limit_of}
-use Rattle.avr_model.specs.Vectors.{last_vector, is_vector}
+use Rattle.avr_model.specs.Vectors.{last_vector, is_vector, vector_word}
 use Rattle.avr_model.proofs.AllLaws.{devices_are_alike}
 use Rattle.witness_replay.proofs.Runs.{bit_word}
 use Rattle.sb_base.specs.Digits.{hex_digits}
@@ -22,6 +22,7 @@ use Rattle.witness_replay.specs.Spelling.{bit}
 use Rattle.mask_states.specs.declared.keys.Kind.{Kind}
 use Rattle.mask_states.specs.declared.keys.Kind.TheVariants.{Root, Call, Vector}
 use Rattle.mask_states.specs.declared.keys.InstKey.{InstKey}
+use Rattle.certificate.specs.Versions.{says_device}
 use Rattle.certificate.specs.Insts.{is_vector_word, fits_kind}
 use Rattle.cert_words.specs.KeySpelling.{kind_word, masks_digits, inst_key_words}
 use Rattle.cert_words.specs.KeyReading.{masks_at, flag_at, vector_in, kind_in, inst_key_at}
@@ -81,18 +82,21 @@ either : (a b : Bool) → a || b ≡ true → (a ≡ true) ⊎ (b ≡ true)
 either true b e = inl refl
 either false b e = inr e
 
-vector_low : (v entry : ℕ) → v ≤ 64 → is_vector_word v entry ≡ true → entry < 65536
-vector_low v entry most e = elim (either (entry == 2 * (v - 1)) (entry == v - 1) e) [
-  | inl h ↦ omega (arith, most, eqb-true entry (2 * (v - 1)) h)
-  | inr h ↦ omega (arith, most, eqb-true entry (v - 1) h)
+vector_low : (device : Device) (v entry : ℕ) → v ≤ last_vector device → is_vector_word device v entry ≡ true → entry < 65536
+vector_low device v entry most e = elim (chosen (says_device device) _ _ true e) [
+  | inl says ↦ omega (arith, eqb-true entry (vector_word device v) says.1, devices_are_alike.vectors device v most, devices_are_alike.most_words device)
+  | inr none ↦ elim (either (entry == 2 * (v - 1)) (entry == v - 1) none.1) [
+    | inl h ↦ omega (arith, most, devices_are_alike.most_vectors device, eqb-true entry (2 * (v - 1)) h)
+    | inr h ↦ omega (arith, most, devices_are_alike.most_vectors device, eqb-true entry (v - 1) h)
+  ]
 ]
 
 vector_fits : (device : Device) (v entry masks : ℕ) (i : Bool) → fits_kind device (Vector v) entry masks i ≡ true → (v ≤ last_vector device) × (entry < 65536)
 vector_fits device v entry masks i e =
-    let a = and_parts (is_vector device v && is_vector_word v entry) (not i) e in
-    let b = and_parts (is_vector device v) (is_vector_word v entry) a.0 in
+    let a = and_parts (is_vector device v && is_vector_word device v entry) (not i) e in
+    let b = and_parts (is_vector device v) (is_vector_word device v entry) a.0 in
     let most : v ≤ last_vector device = at_most_from_test v (last_vector device) (and_parts (nat_le 2 v) (nat_le v (last_vector device)) b.0).1 in
-    (most, vector_low v entry (omega (arith, most, devices_are_alike.most_vectors device)) b.1)
+    (most, vector_low device v entry most b.1)
 
 numbered : (device : Device) (kd : Kind) (entry masks : ℕ) (i : Bool) → fits_kind device kd entry masks i ≡ true → IsKindNumbered device kd
 numbered device Root entry masks i e = tt

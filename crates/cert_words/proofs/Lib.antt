@@ -1,4 +1,5 @@
 pub mod Limits
+pub mod Classes
 pub mod Pieces
 pub mod PairHulls
 pub mod Any

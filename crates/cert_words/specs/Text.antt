@@ -1,9 +1,10 @@
--- The one text of a certificate. It does not say the device, which its reader has to know. Source: own.
-use Rattle.std.specs.Prelude.{ℕ, ◌+◌, List, [], ◌∷◌, ◌++◌, map, length, codes, Option, Some, None, if◌then◌else◌}
+-- The one text of a certificate. For four devices it does not say the device, which its reader has to know. Source: own.
+use Rattle.std.specs.Prelude.{ℕ, Bool, true, false, ◌+◌, List, [], ◌∷◌, ◌++◌, map, length, codes, Option, Some, None, if◌then◌else◌}
 use Rattle.std.specs.List.{flat_map}
 use Rattle.std.specs.Fmt.{decimal}
 use Rattle.avr_model.specs.declared.assumption.Entry.{Entry}
 use Rattle.avr_model.specs.declared.device.Device.{Device}
+use Rattle.avr_model.specs.Names.{class_of}
 use Rattle.sb_base.specs.Lines.{line}
 use Rattle.mask_states.specs.declared.keys.InstKey.{InstKey}
 use Rattle.mask_states.specs.declared.keys.NodeKey.{NodeKey}
@@ -14,6 +15,7 @@ use Rattle.indirect_targets.specs.Spelling.{entry_words}
 use Rattle.witness_replay.specs.Spelling.{Plan, schedule_lines}
 use Rattle.certificate.specs.declared.instance.Inst.{Inst}
 use Rattle.certificate.specs.Claims.{Claim}
+use Rattle.certificate.specs.Versions.{says_device}
 use Rattle.certificate.specs.declared.version.Version.{Version}
 use Rattle.certificate.specs.declared.version.Version.TheVariants.{One, Two, Three}
 use Rattle.cert_words.specs.KeySpelling.{inst_key_words, place_words, form_words}
@@ -42,13 +44,23 @@ node_words device version insts n = node_words_at device version (inst_number n.
 
 -- ---- parts
 
-abbrev pub version_line : Version → List (List ℕ)
-version_line One = codes "stackcert" ∷ codes "1" ∷ []
-version_line Two = codes "stackcert" ∷ codes "2" ∷ []
-version_line Three = codes "stackcert" ∷ codes "3" ∷ []
+-- the first line: of a text that says its device, or by the version
+abbrev pub version_line : Bool → Version → List (List ℕ)
+version_line true version = codes "stackcert" ∷ codes "4" ∷ []
+version_line false One = codes "stackcert" ∷ codes "1" ∷ []
+version_line false Two = codes "stackcert" ∷ codes "2" ∷ []
+version_line false Three = codes "stackcert" ∷ codes "3" ∷ []
 
-abbrev pub heading : Version → ℕ → List (List (List ℕ))
-heading version bound = version_line version ∷ numbered (codes "bound") bound ∷ []
+abbrev pub device_line : List ℕ → List (List ℕ)
+device_line name = codes "device" ∷ name ∷ []
+
+-- the line that says the device, if there is one
+abbrev pub device_lines : Bool → Device → List (List (List ℕ))
+device_lines true device = device_line (class_of device) ∷ []
+device_lines false device = []
+
+abbrev pub heading : Device → Version → ℕ → List (List (List ℕ))
+heading device version bound = version_line (says_device device) version ∷ (device_lines (says_device device) device ++ numbered (codes "bound") bound ∷ [])
 
 abbrev pub entry_lines : List Entry → List (List (List ℕ))
 entry_lines entries = numbered (codes "assume") (length entries) ∷ map entry_words entries
@@ -78,7 +90,7 @@ end_line = codes "end" ∷ []
 -- the lines before the schedule
 abbrev pub front_lines : Claim → List (List (List ℕ))
 front_lines c =
-    heading c.version c.bound ++ (entry_lines c.assumptions ++ (inst_lines c.device c.instances ++ node_lines c.device c.version c.instances c.nodes))
+    heading c.device c.version c.bound ++ (entry_lines c.assumptions ++ (inst_lines c.device c.instances ++ node_lines c.device c.version c.instances c.nodes))
 
 -- the lines of a certificate, each by its words
 abbrev pub certificate_lines : Claim → List (List (List ℕ))

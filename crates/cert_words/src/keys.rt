@@ -3,7 +3,7 @@
 ghost use Rattle.std.specs.Prelude.{◌≡◌, ◌≤◌, IfSome};
 ghost use Rattle.std.specs.Option.{option_map};
 ghost use Rattle.avr_model.specs.Devices.{depth_of};
-ghost use Rattle.avr_model.specs.Vectors.{is_vector};
+ghost use Rattle.avr_model.specs.Vectors.{is_vector, last_vector};
 ghost use Rattle.mask_states.specs.Keys.{offset_of};
 ghost use Rattle.certificate.specs.Insts.{is_vector_word, fits_kind};
 ghost use Rattle.cert_words.specs.KeySpelling.{masks_digits};
@@ -11,7 +11,7 @@ ghost use Rattle.cert_words.specs.KeyReading.{masks_at, flag_at, kind_in, inst_k
 
 use crate::values::sp_form_of;
 use avr_model::device::Device;
-use certificate::Version;
+use certificate::{Version, says_device};
 use line_reading::{Letters, dec_word, hex_word};
 use mask_states::{InstKey, Kind, NodeKey};
 use sb_base::{Words, read_dec, read_hex};
@@ -68,13 +68,18 @@ fn kind_of(device: Device, word: &[u8]) -> Option<Kind>
     }
 }
 
-// Whether the vector begins at this word, for vectors of two words or of one.
-fn is_vector_word(vector: u8, entry: u16) -> bool
-    requires { 2 ≤ vector }
-    ensures { result ≡ is_vector_word vector entry }
+// Whether the vector begins at this word; where the text doesn't say the device, with vectors of two words or of one.
+fn is_vector_word(device: Device, vector: u8, entry: u16) -> bool
+    requires least { 2 ≤ vector }
+    requires most { vector ≤ last_vector device }
+    ensures { result ≡ is_vector_word device vector entry }
 {
-    let before = u16::from(vector) - 1;
-    entry == 2 * before || entry == before
+    if says_device(device) {
+        entry == device.vector_word(vector)
+    } else {
+        let before = u16::from(vector) - 1;
+        entry == 2 * before || entry == before
+    }
 }
 
 // Whether an instance of this kind may have this entry, these enable bits and this I.
@@ -84,7 +89,7 @@ fn fits_kind(device: Device, kind: Kind, entry: u16, masks: Masks, i: bool) -> b
     match kind {
         Kind::Root => entry == 0 && masks.bits() == 0 && !i,
         Kind::Call => u32::from(entry) < device.limit(),
-        Kind::Vector(v) => v >= 2 && v <= device.last_vector() && is_vector_word(v, entry) && !i,
+        Kind::Vector(v) => v >= 2 && v <= device.last_vector() && is_vector_word(device, v, entry) && !i,
     }
 }
 

@@ -51,12 +51,15 @@ use Rattle.indirect_targets.specs.Spelling.{number_words, entry_words}
 use Rattle.certificate.specs.declared.instance.Inst.{Inst}
 use Rattle.certificate.specs.declared.version.Version.{Version}
 use Rattle.certificate.specs.declared.version.Version.TheVariants.{One, Two, Three}
+use Rattle.avr_model.specs.Names.{class_of}
+use Rattle.cert_words.proofs.AllLaws.{class_short}
+use Rattle.certificate.specs.Versions.{says_device}
 use Rattle.certificate.specs.Insts.{is_vector_word, fits_kind, IsInst}
 use Rattle.certificate.specs.Claims.{Claim, IsClaim, FitsAt, AreFrom, cells_of, node_keys}
 use Rattle.cert_words.specs.Spelling.{bits_text, tag_text, range_text, value_word, flags_word, carry_word, slot_word, high_text, form_word}
 use Rattle.certificate.specs.Hulls.{hulls_of}
 use Rattle.cert_words.specs.KeySpelling.{masks_digits, kind_word, pick_word, pick_words, place_words, pairs_words, state_words, form_words}
-use Rattle.cert_words.specs.Text.{numbered, version_line, heading, entry_lines, inst_words, inst_lines, inst_number, node_words, node_lines, attained_line, witness_lines, end_line, front_lines}
+use Rattle.cert_words.specs.Text.{numbered, version_line, device_line, device_lines, heading, entry_lines, inst_words, inst_lines, inst_number, node_words, node_lines, attained_line, witness_lines, end_line, front_lines}
 use Rattle.line_reading.proofs.AllLaws.{length_hex}
 use Rattle.cert_writing.specs.Sizes.{HasFewChoices, TextsFit}
 
@@ -217,8 +220,8 @@ kind_short : (device : Device) (kind : Kind) (entry masks : ℕ) (i : Bool) → 
 kind_short device Root entry masks i e = omega arith
 kind_short device Call entry masks i e = omega arith
 kind_short device (Vector v) entry masks i e =
-    let a = and_parts (is_vector device v && is_vector_word v entry) (not i) e in
-    let b = and_parts (is_vector device v) (is_vector_word v entry) a.0 in
+    let a = and_parts (is_vector device v && is_vector_word device v entry) (not i) e in
+    let b = and_parts (is_vector device v) (is_vector_word device v entry) a.0 in
     let most = at_most v (last_vector device) (and_parts (nat_le 2 v) (nat_le v (last_vector device)) b.0).1 in
     omega (arith, number_short v (omega (arith, most, devices_are_alike.most_vectors device)))
 
@@ -289,18 +292,25 @@ both_long xs ys = ap length (flat_map-append line xs ys) ∙ length-append (flat
 line_more : (l : List (List ℕ)) (ls : List (List (List ℕ))) → length (flat_map line (l ∷ ls)) ≤ taken l + 1 + length (flat_map line ls)
 line_more l ls = omega (arith, length-append (line l) (flat_map line ls), line_short l)
 
-version_short : (version : Version) → taken (version_line version) ≤ 12
-version_short One = omega arith
-version_short Two = omega arith
-version_short Three = omega arith
+version_short : (says : Bool) (version : Version) → taken (version_line says version) ≤ 12
+version_short true version = omega arith
+version_short false One = omega arith
+version_short false Two = omega arith
+version_short false Three = omega arith
 
 abbrev size : List (List (List ℕ)) → ℕ
 size ls = length (flat_map line ls)
 
-heading_short : (version : Version) (bound : ℕ) → bound ≤ 16384 → size (heading version bound) ≤ 100
-heading_short version bound h =
+device_short : (says : Bool) (device : Device) (ls : List (List (List ℕ))) → size (device_lines says device ++ ls) ≤ size ls + 25
+device_short true device ls = omega (arith, line_more (device_line (class_of device)) ls, class_short device)
+device_short false device ls = omega arith
+
+heading_short : (device : Device) (version : Version) (bound : ℕ) → bound ≤ 16384 → size (heading device version bound) ≤ 100
+heading_short device version bound h =
+    let says = says_device device in
+    let last : List (List (List ℕ)) = numbered (codes "bound") bound ∷ [] in
     let number = line_more (numbered (codes "bound") bound) [] in
-    omega (arith, line_more (version_line version) (numbered (codes "bound") bound ∷ []), version_short version, number, number_short bound (omega (arith, h)))
+    omega (arith, line_more (version_line says version) (device_lines says device ++ last), version_short says version, device_short says device last, number, number_short bound (omega (arith, h)))
 
 -- a list with its count
 list_short : (name : List ℕ) (n most : ℕ) (ls : List (List (List ℕ))) → length name ≤ 9 → n ≤ 65536 → size ls ≤ most → size (numbered name n ∷ ls) ≤ most + 100
@@ -327,8 +337,8 @@ front_short c h =
     (nodes_short c.device (has_pairs c.assumptions) c.version c.instances 0 c.nodes h.few_insts (omega (arith, h.few_nodes)) h.nodes_fit) in
     let third = both_long (inst_lines c.device c.instances) (node_lines c.device c.version c.instances c.nodes) in
     let second = both_long (entry_lines c.assumptions) (inst_lines c.device c.instances ++ node_lines c.device c.version c.instances c.nodes) in
-    let first = both_long (heading c.version c.bound) (entry_lines c.assumptions ++ (inst_lines c.device c.instances ++ node_lines c.device c.version c.instances c.nodes)) in
-    omega (arith, first, second, third, heading_short c.version c.bound (omega (arith, h.bound_fits, devices_are_alike.most_depth c.device)), entries, insts, nodes, h.entries_fit.few, h.few_insts, h.few_nodes, h.few_cells)
+    let first = both_long (heading c.device c.version c.bound) (entry_lines c.assumptions ++ (inst_lines c.device c.instances ++ node_lines c.device c.version c.instances c.nodes)) in
+    omega (arith, first, second, third, heading_short c.device c.version c.bound (omega (arith, h.bound_fits, devices_are_alike.most_depth c.device)), entries, insts, nodes, h.entries_fit.few, h.few_insts, h.few_nodes, h.few_cells)
 
 pub texts_fit : TextsFit
 texts_fit c h few =

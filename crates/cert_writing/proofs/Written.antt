@@ -21,7 +21,9 @@ use Rattle.certificate.specs.declared.version.Version.TheVariants.{Two}
 use Rattle.certificate.specs.Claims.{Claim}
 use Rattle.cert_words.specs.Spelling.{tag_text, bits_text, range_text, value_word, flags_word, carry_word, slot_word}
 use Rattle.cert_words.specs.KeySpelling.{pairs_words, state_words}
-use Rattle.cert_words.specs.Text.{numbered, version_line, heading, entry_lines, inst_words, inst_lines, node_words, node_lines, front_lines, open_line, attained_line, witness_lines, end_line, text_of}
+use Rattle.avr_model.specs.Names.{class_of}
+use Rattle.certificate.specs.Versions.{says_device}
+use Rattle.cert_words.specs.Text.{numbered, version_line, device_line, device_lines, heading, entry_lines, inst_words, inst_lines, node_words, node_lines, front_lines, open_line, attained_line, witness_lines, end_line, text_of}
 
 -- the word of a value from its three parts
 pub spelled : (v : AbsByte) (ts bs rs : List ℕ) → tag_text v.tag ≡ ts → bits_text v.bits ≡ bs → range_text Two v ≡ rs → ts ++ (bs ++ rs) ≡ value_word Two v
@@ -83,8 +85,21 @@ one_line l = append-nil (line l)
 entries_written : (w v u : Written) (es : List Entry) → v ≡ with_text w (line (numbered (codes "assume") (length es))) → u ≡ with_text v (entries_text es) → u ≡ with_text w (flat_map line (entry_lines es))
 entries_written w v u es e f = more_text w v u (line (numbered (codes "assume") (length es))) (flat_map line (map entry_words es)) e (f ∙ ap (with_text v) (entry_text es))
 
-pub heading_written : (version : Version) (w v u : Written) (n : ℕ) → v ≡ with_text w (line (version_line version)) → u ≡ with_text v (line (numbered (codes "bound") n)) → u ≡ with_text w (flat_map line (heading version n))
-heading_written version w v u n e f = more_text w v u (line (version_line version)) (flat_map line (numbered (codes "bound") n ∷ [])) e (f ∙ ap (with_text v) (sym (one_line (numbered (codes "bound") n))))
+pub joined_text : (xs ys : List (List (List ℕ))) → flat_map line (xs ++ ys) ≡ flat_map line xs ++ flat_map line ys
+joined_text xs ys = flat_map-append line xs ys
+
+pub device_written : (device : Device) (w v : Written) → v ≡ with_text w (line (device_line (class_of device))) → v ≡ with_text w (flat_map line (device_lines true device))
+device_written device w v e = e ∙ ap (with_text w) (sym (one_line (device_line (class_of device))))
+
+pub heading_written : (device : Device) (version : Version) (w v d u : Written) (n : ℕ) → v ≡ with_text w (line (version_line (says_device device) version)) → d ≡ with_text v (flat_map line (device_lines (says_device device) device))
+    → u ≡ with_text d (line (numbered (codes "bound") n)) → u ≡ with_text w (flat_map line (heading device version n))
+heading_written device version w v d u n e f g =
+    let says = says_device device in
+    let bound : List (List (List ℕ)) = numbered (codes "bound") n ∷ [] in
+    let last : u ≡ with_text d (flat_map line bound) = g ∙ ap (with_text d) (sym (one_line (numbered (codes "bound") n))) in
+    let behind : u ≡ with_text v (flat_map line (device_lines says device ++ bound)) =
+    more_text v d u (flat_map line (device_lines says device)) (flat_map line bound) f last ∙ ap (with_text v) (sym (joined_text (device_lines says device) bound)) in
+    more_text w v u (line (version_line says version)) (flat_map line (device_lines says device ++ bound)) e behind
 
 insts_written : (device : Device) (w v u : Written) (xs : List Inst) → v ≡ with_text w (line (numbered (codes "instances") (length xs))) → u ≡ with_text v (flat_map line (map (inst_words device) xs)) → u ≡ with_text w (flat_map line (inst_lines device xs))
 insts_written device w v u xs e f = more_text w v u (line (numbered (codes "instances") (length xs))) (flat_map line (map (inst_words device) xs)) e f
@@ -92,16 +107,13 @@ insts_written device w v u xs e f = more_text w v u (line (numbered (codes "inst
 nodes_written : (device : Device) (version : Version) (w v u : Written) (xs : List Inst) (ns : Seeds) → v ≡ with_text w (line (numbered (codes "nodes") (length ns))) → u ≡ with_text v (flat_map line (map (node_words device version xs) ns)) → u ≡ with_text w (flat_map line (node_lines device version xs ns))
 nodes_written device version w v u xs ns e f = more_text w v u (line (numbered (codes "nodes") (length ns))) (flat_map line (map (node_words device version xs) ns)) e f
 
-joined_text : (xs ys : List (List (List ℕ))) → flat_map line (xs ++ ys) ≡ flat_map line xs ++ flat_map line ys
-joined_text xs ys = flat_map-append line xs ys
-
 both_written : (w v u : Written) (xs ys : List (List (List ℕ))) → v ≡ with_text w (flat_map line xs) → u ≡ with_text v (flat_map line ys) → u ≡ with_text w (flat_map line (xs ++ ys))
 both_written w v u xs ys e f = more_text w v u (flat_map line xs) (flat_map line ys) e f ∙ ap (with_text w) (sym (joined_text xs ys))
 
-front_written : (w a b d u : Written) (c : Claim) → a ≡ with_text w (flat_map line (heading c.version c.bound)) → b ≡ with_text a (flat_map line (entry_lines c.assumptions)) → d ≡ with_text b (flat_map line (inst_lines c.device c.instances)) → u ≡ with_text d (flat_map line (node_lines c.device c.version c.instances c.nodes))
+front_written : (w a b d u : Written) (c : Claim) → a ≡ with_text w (flat_map line (heading c.device c.version c.bound)) → b ≡ with_text a (flat_map line (entry_lines c.assumptions)) → d ≡ with_text b (flat_map line (inst_lines c.device c.instances)) → u ≡ with_text d (flat_map line (node_lines c.device c.version c.instances c.nodes))
     → u ≡ with_text w (flat_map line (front_lines c))
 front_written w a b d u c e f g h =
-    both_written w a u (heading c.version c.bound) (entry_lines c.assumptions ++ (inst_lines c.device c.instances ++ node_lines c.device c.version c.instances c.nodes)) e
+    both_written w a u (heading c.device c.version c.bound) (entry_lines c.assumptions ++ (inst_lines c.device c.instances ++ node_lines c.device c.version c.instances c.nodes)) e
     (both_written a b u (entry_lines c.assumptions) (inst_lines c.device c.instances ++ node_lines c.device c.version c.instances c.nodes) f (both_written b d u (inst_lines c.device c.instances) (node_lines c.device c.version c.instances c.nodes) g h))
 
 pub attained_written : (w v u : Written) (plan : Plan) → v ≡ with_text w (line attained_line) → u ≡ with_text v (schedule_text plan) → u ≡ with_text w (flat_map line (witness_lines (Some plan)))
@@ -116,7 +128,7 @@ all_written w a b u c e f g =
     (both_written a b u (witness_lines c.witness) (end_line ∷ []) f (g ∙ ap (with_text b) (sym (one_line end_line))))
 
 -- all parts, one after the other
-pub parts_written : AppendingLaws → (w h a e n i m x t v u : Written) (c : Claim) → h ≡ with_text w (flat_map line (heading c.version c.bound))
+pub parts_written : AppendingLaws → (w h a e n i m x t v u : Written) (c : Claim) → h ≡ with_text w (flat_map line (heading c.device c.version c.bound))
     → a ≡ with_text h (line (numbered (codes "assume") (length c.assumptions))) → e ≡ with_text a (entries_text c.assumptions)
     → n ≡ with_text e (line (numbered (codes "instances") (length c.instances))) → i ≡ with_text n (flat_map line (map (inst_words c.device) c.instances))
     → m ≡ with_text i (line (numbered (codes "nodes") (length c.nodes))) → x ≡ with_text m (flat_map line (map (node_words c.device c.version c.instances) c.nodes))

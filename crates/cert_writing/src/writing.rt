@@ -5,10 +5,12 @@ ghost use Rattle.std.specs.List.{flat_map};
 ghost use Rattle.sb_base.specs.Lines.{line};
 ghost use Rattle.line_reading.specs.Appending.{with_text};
 ghost use Rattle.certificate.specs.Claims.{IsCertificate};
-ghost use Rattle.cert_words.specs.Text.{numbered, heading, witness_lines, end_line, text_of};
+ghost use Rattle.cert_words.specs.Text.{numbered, version_line, device_lines, heading, witness_lines, end_line, text_of};
 
 use crate::lines::{write_insts, write_nodes};
-use certificate::{Certificate, Version};
+use avr_model::device::Device;
+use avr_model::naming::class_of;
+use certificate::{Certificate, Version, says_device};
 use line_reading::laws::appending_laws;
 use sb_base::LineWriter;
 use std::alloc::{AllocError, Global};
@@ -35,18 +37,47 @@ fn write_pair(out: &mut LineWriter, first: &[u8], second: &[u8]) -> Result<(), A
     out.end_line()
 }
 
-// Writes the version and the bound.
-#[tactic(auto, using(crate::proofs::Written::heading_written))]
-fn write_heading(out: &mut LineWriter, version: Version, bound: u16) -> Result<(), AllocError>
+// Writes the line of the version, for a text that says its device or not.
+fn write_version(out: &mut LineWriter, says: bool, version: Version) -> Result<(), AllocError>
     requires { out.old.begun ≡ false }
-    ensures { OnOk result (out.new ≡ with_text out.old (flat_map line (heading version bound))) }
+    ensures { OnOk result (out.new ≡ with_text out.old (line (version_line says version))) }
 {
-    let number = match version {
-        Version::One => b"1",
-        Version::Two => b"2",
-        Version::Three => b"3",
+    let number = match (says, version) {
+        (true, _) => b"4",
+        (false, Version::One) => b"1",
+        (false, Version::Two) => b"2",
+        (false, Version::Three) => b"3",
     };
-    write_pair(out, b"stackcert", number)?;
+    write_pair(out, b"stackcert", number)
+}
+
+// Writes the line of the device, if the text says it.
+#[tactic(auto, using(crate::proofs::Written::device_written))]
+fn write_device(out: &mut LineWriter, says: bool, device: Device) -> Result<(), AllocError>
+    requires { out.old.begun ≡ false }
+    ensures { OnOk result (out.new ≡ with_text out.old (flat_map line (device_lines says device))) }
+{
+    if says {
+        write_pair(out, b"device", class_of(device))
+    } else {
+        Ok(())
+    }
+}
+
+// Writes the version, the device and the bound.
+#[tactic(auto, using(crate::proofs::Written::heading_written))]
+fn write_heading(
+    out: &mut LineWriter,
+    device: Device,
+    version: Version,
+    bound: u16,
+) -> Result<(), AllocError>
+    requires { out.old.begun ≡ false }
+    ensures { OnOk result (out.new ≡ with_text out.old (flat_map line (heading device version bound))) }
+{
+    let says = says_device(device);
+    write_version(out, says, version)?;
+    write_device(out, says, device)?;
     write_numbered(out, b"bound", u64::from(bound))?;
     Ok(())
 }
@@ -79,7 +110,7 @@ fn write_all(
     appending_laws();
     let device = certificate.device();
     let version = certificate.version();
-    write_heading(out, version, certificate.bound())?;
+    write_heading(out, device, version, certificate.bound())?;
     let assumptions = certificate.assumptions();
     write_numbered(out, b"assume", assumptions.entries().len() as u64)?;
     indirect_targets::write(assumptions, out)?;
@@ -102,7 +133,7 @@ fn keeps(certificate: &Certificate)
     let _nodes = certificate.nodes();
 }
 
-/// The text of the certificate, which doesn't say the device. The inverse of `cert_format::read`. Fails if memory runs out.
+/// The text of the certificate, which says the device unless it is one of four. The inverse of `cert_format::read`. Fails if memory runs out.
 pub fn write(alloc: Global, certificate: &Certificate) -> Result<Vec<u8>, AllocError>
     ensures text { IfOk result (λ v. v.items ≡ text_of certificate.now) }
     ensures kept { IsCertificate certificate.now }

@@ -26,6 +26,7 @@ claim_kept c w h = record {
   few_cells = h.few_cells;
   of_version = h.of_version;
   of_list = h.of_list;
+  of_device = h.of_device;
 }
 
 -- another schedule keeps the invariants

@@ -1,5 +1,5 @@
 -- The parts of a certificate, and the invariants of its type. Source: own.
-use Rattle.std.specs.Prelude.{ℕ, Bool, ◌+◌, ◌≡◌, ◌≤◌, ◌<◌, ⊤, true, List, [], ◌∷◌, map, length, Option, Contains, IfSome}
+use Rattle.std.specs.Prelude.{ℕ, Bool, ◌+◌, ◌≡◌, ◌≤◌, ◌<◌, ⊤, true, false, List, [], ◌∷◌, map, length, Option, Contains, IfSome}
 use Rattle.std.specs.List.{All, AllByRecursion}
 use Rattle.std.specs.List.Sorted.{IsStrictlySortedBy}
 use Rattle.avr_model.specs.declared.assumption.Entry.{Entry}
@@ -18,7 +18,7 @@ use Rattle.witness_replay.specs.Spelling.{Plan, IsSchedule}
 use Rattle.certificate.specs.declared.instance.Inst.{Inst}
 use Rattle.certificate.specs.declared.version.Version.{Version}
 use Rattle.certificate.specs.Insts.{IsInst, inst_keys}
-use Rattle.certificate.specs.Versions.{AreOf, is_third}
+use Rattle.certificate.specs.Versions.{AreOf, is_first, is_third, says_device}
 
 -- The device, the version of its text, the bound, the assumptions, the instances and nodes that every run stays in, and the schedule. A
 -- node has a state, or the number of an earlier node that determines it.
@@ -81,6 +81,8 @@ pub record IsClaim (c : Claim) : Type 0 where
   pub few_cells : cells_of (node_keys c.nodes) ≤ most_cells
   pub of_version : AreOf c.version c.nodes
   pub of_list : is_third c.version ≡ has_pairs c.assumptions
+  -- the first version's text says no device
+  pub of_device : says_device c.device ≡ true → is_first c.version ≡ false
 
 -- a claim with a schedule that is valid for the device, if it has one
 pub record IsCertificate (c : Claim) : Type 0 where

@@ -1,9 +1,12 @@
--- What each version of a certificate's text can say. The first has no ranges, no carry tags of registers or sums, and no picks. The third
--- is for certificates whose assumptions have the line `pairs`, and only for these; it has facts on pairs. Source: own.
+-- What each version of a certificate can say. The first has no ranges, no carry tags of registers or sums, and no picks. The third is for
+-- certificates whose assumptions have the line `pairs`, and only for these; it has facts on pairs. For most devices the text says the
+-- device, and its first line isn't that of the version but of both. Source: own.
 use Rattle.std.specs.Prelude.{ℕ, Bool, true, false, ◌≡◌, ⊤, List, Option, None}
 use Rattle.std.specs.List.{AllByRecursion}
 use Rattle.avr_model.specs.declared.assumption.Entry.{Entry}
 use Rattle.avr_model.specs.Assumptions.{has_pairs}
+use Rattle.avr_model.specs.declared.device.Device.{Device}
+use Rattle.avr_model.specs.Devices.{device_row}
 use Rattle.bit_domain.specs.Ranges.{set_of_bits}
 use Rattle.sp_domain.specs.declared.tags.CarryTag.{CarryTag}
 use Rattle.sp_domain.specs.declared.tags.CarryTag.TheVariants as carry
@@ -67,10 +70,19 @@ AreOf One nodes = AllByRecursion (NodeIsOf One) nodes
 AreOf Two nodes = ⊤
 AreOf Three nodes = ⊤
 
+abbrev pub is_first : Version → Bool
+is_first One = true
+is_first Two = false
+is_first Three = false
+
 abbrev pub is_third : Version → Bool
 is_third One = false
 is_third Two = false
 is_third Three = true
+
+-- whether the text of a certificate for this device says it: not for the four whose lists are read without `masks`
+abbrev pub says_device : Device → Bool
+says_device device = (device_row device).reads_masks
 
 -- the version of a certificate with these assumptions
 abbrev pub written_by : Bool → Version

@@ -13,4 +13,4 @@ pub use edge_rules::{HeldState, NodeForm, Seed, Seeded};
 pub use hulls::hulls_of;
 pub use instance::Inst;
 pub use limit::Limit;
-pub use version::{Version, written_version};
+pub use version::{Version, says_device, written_version};

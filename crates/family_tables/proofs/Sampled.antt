@@ -95,6 +95,7 @@ module _ (device : Device) (bound rank need : ℕ) (from : Bool) (b : bound ≤ 
     few_cells = omega arith;
     of_version = tt;
     of_list = refl;
+    of_device = λ says. refl;
   }
 
   pub sample_claim : (A : List Entry) (insts : List Inst) (nodes : Seeds) → A ≡ [] → insts ≡ insts_by rank need → nodes ≡ nodes_by from

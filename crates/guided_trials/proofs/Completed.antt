@@ -31,6 +31,7 @@ claim_with c found h =
       few_cells = h.few_cells;
       of_version = h.of_version;
       of_list = h.of_list;
+      of_device = h.of_device;
     }
 
 pub sound_with : (words : Program) (A : List Entry) (c : Claim) (found : Option Plan) → IsSound words A c → IsSound words A (record c { witness = found })

@@ -13,6 +13,7 @@ use Rattle.avr_model.specs.declared.choice.Stop.{Stop}
 use Rattle.avr_model.specs.declared.choice.Stop.TheVariants as stop
 use Rattle.avr_model.specs.declared.device.Device.{Device}
 use Rattle.avr_model.specs.Devices.{Program, device_of}
+use Rattle.avr_model.specs.Names.{class_of}
 use Rattle.indirect_targets.specs.declared.fault.AssumeText.{AssumeText}
 use Rattle.indirect_targets.specs.declared.fault.AssumeText.TheVariants as assume
 use Rattle.certificate.specs.Claims.{Claim}
@@ -95,11 +96,13 @@ abbrev pub limit_word : Limit → List ℕ
 limit_word limit.Nodes = codes "nodes"
 limit_word limit.Cells = codes "cells"
 
--- the offset of the line of a certificate that is refused, or the limit that is passed; running out of memory has no text
+-- the offset of the line of a certificate that is refused, the limit that is passed, or the device that it is for; running out of memory
+-- has no text
 abbrev pub certificate_words : CertFault → Option (List (List ℕ))
 certificate_words (cert.Malformed at) = Some (codes "malformed" ∷ codes "at" ∷ decimal at ∷ [])
 certificate_words (cert.Order at) = Some (codes "order" ∷ codes "at" ∷ decimal at ∷ [])
 certificate_words (cert.Limit l) = Some (codes "limit" ∷ limit_word l ∷ [])
+certificate_words (cert.Other device) = Some (codes "device" ∷ class_of device ∷ [])
 certificate_words cert.Memory = None
 
 abbrev pub certificate_refused : CertFault → Option (List ℕ)

@@ -10,6 +10,7 @@ ghost use Rattle.replies.specs.Texts.{told, usage, read_fault, too_long, raw_fau
 use crate::raw::RawRefusal;
 use avr_model::choice::{Flag, Stop};
 use avr_model::device::Device;
+use avr_model::naming::class_of;
 use cert_check::Reason;
 use cert_format::{CertFault, Limit};
 use cert_writing::write_key;
@@ -190,6 +191,7 @@ fn put_certificate_fault(line: &mut LineWriter, fault: &CertFault) -> Result<(),
         CertFault::Malformed(at) => put_two_and_number(line, b"malformed", b"at", at as u64),
         CertFault::Order(at) => put_two_and_number(line, b"order", b"at", at as u64),
         CertFault::Limit(limit) => put_two(line, b"limit", limit_word(limit)),
+        CertFault::Other(device) => put_two(line, b"device", class_of(device)),
         CertFault::Memory => Err(AllocError),
     }
 }

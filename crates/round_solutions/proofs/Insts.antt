@@ -26,6 +26,7 @@ use Rattle.edge_rules.specs.Edges.{raw_of, Enters, by_call, by_interrupt, IsEdge
 use Rattle.edge_laws.specs.Laws.{with_state}
 use Rattle.edge_laws.proofs.AllLaws.{edges_lead_to_nodes, edges_grow}
 use Rattle.certificate.specs.Insts.{is_vector_word, fits_kind}
+use Rattle.certificate.specs.Versions.{says_device}
 use Rattle.certificate.specs.Valid.{reset_node}
 use Rattle.round_rules.specs.Families.{Family, nodes_of, Lands, Below, AreFormed, FamilyHasInst, HasNoFault, IsClosed}
 use Rattle.round_rules.specs.Refusals.{IsSolved}
@@ -44,12 +45,17 @@ none_fits : (end : ℕ) → 0 < end → nat_lt 0 end ≡ true
 none_fits end some = grind (arith, nat_tests)
 
 -- a vector's word on each device is a valid entry
-vector_is : (device : Device) (v : ℕ) → is_vector_word v (vector_word device v) ≡ true
+word_by : (says : Bool) (entry : ℕ) (other : Bool) → other ≡ true → cond says (entry == entry) other ≡ true
+word_by true entry other h = eq-eqb entry entry refl
+word_by false entry other h = h
+
+vector_is : (device : Device) (v : ℕ) → is_vector_word device v (vector_word device v) ≡ true
 vector_is device v =
-    ⊎_elim
+    word_by (says_device device) (vector_word device v) _
+    (⊎_elim
     (λ (short : vector_word device v ≡ v - 1). or_right (vector_word device v == 2 * (v - 1)) (vector_word device v == v - 1) (eq-eqb (vector_word device v) (v - 1) short))
     (λ (long : vector_word device v ≡ 2 * (v - 1)). or_left (vector_word device v == 2 * (v - 1)) (vector_word device v == v - 1) (eq-eqb (vector_word device v) (2 * (v - 1)) long))
-    (devices_are_alike.steps device v)
+    (devices_are_alike.steps device v))
 
 fits_if : (is word : Bool) (masks end : ℕ) → is ≡ true → word ≡ true → masks < end → ((is && word && not false) && nat_lt masks end) ≡ true
 fits_if is word masks end e t b = grind (arith, nat_tests)
@@ -58,7 +64,7 @@ vector_fits : (device : Device) (enables v masks : ℕ) → is_enabled device en
     → fits_kind device (Vector v) (vector_word device v) masks false && nat_lt masks (2 ^ enable_count device) ≡ true
 unfolding is_enabled
 vector_fits device enables v masks e b =
-    fits_if (is_vector device v) (is_vector_word v (vector_word device v)) masks (2 ^ enable_count device) (left_of_and (is_vector device v) _ e) (vector_is device v) b
+    fits_if (is_vector device v) (is_vector_word device v (vector_word device v)) masks (2 ^ enable_count device) (left_of_and (is_vector device v) _ e) (vector_is device v) b
 
 -- an entered instance fits
 entered_fits : {followed : Bool} (words : Program) (A : List Entry) (n : Node) (way : EdgeKind) (inst : InstKey) (back : ℕ) → IsNodeIn (device_of words) followed n.key n.state → Enters words A n way inst back → fits (device_of words) inst ≡ true

@@ -36,7 +36,7 @@ use Rattle.round_laws.specs.Graphs.{IsGraphOver, valued}
 use Rattle.round_laws.proofs.GraphLaws.{graphs_tell, valued_at}
 use Rattle.certificate.specs.declared.instance.Inst.{Inst}
 use Rattle.certificate.specs.Insts.{fits_kind, IsInst, inst_keys, rank_in, need_in}
-use Rattle.certificate.specs.Versions.{written_by, is_third, AreOf}
+use Rattle.certificate.specs.Versions.{written_by, is_first, is_third, AreOf}
 use Rattle.certificate.specs.Claims.{node_keys, cells_of, FitsAt, AreFrom, Belongs, IsClaim}
 use Rattle.round_rules.specs.Families.{Family, node_of, nodes_of, FamilyHasInst}
 use Rattle.round_rules.specs.Rounds.{AreRanks, AreNeeds, IsRootNeed}
@@ -122,6 +122,10 @@ fits_both false masks end e = absurd (cc)
 written_third : (followed : Bool) → is_third (written_by followed) ≡ followed
 written_third false = refl
 written_third true = refl
+
+written_later : (followed : Bool) → is_first (written_by followed) ≡ false
+written_later false = refl
+written_later true = refl
 
 are_of : (followed : Bool) (seeds : Seeds) → AreOf (written_by followed) seeds
 are_of false seeds = tt
@@ -261,6 +265,7 @@ module _ (words : Program) (A : List Entry) (n : ℕ) (f : Family) (insts : List
     few_cells = subst (λ (l : List NodeKey). cells_of l ≤ 8388608) (sym (are_node_keys ∙ keys_of_nodes (entries f))) solved.passes.fits.few_cells;
     of_version = are_of (has_pairs A) seeds;
     of_list = written_third (has_pairs A);
+    of_device = λ says. written_later (has_pairs A);
   }
 
   pub solution : IsSolution words A f (claim_of (device_of words) (slice_index parts.needs 0) A insts seeds)
