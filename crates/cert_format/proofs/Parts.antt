@@ -260,8 +260,7 @@ device_is device ws o e =
     let w = bind_some (word_at (codes "device") ws) _ o e in
     let d = bind_some (word_by (other_by device) w.0.1) _ o w.2 in
     let last = cond_some (is_over d.0.1) d.0.0 o d.2 in
-    let t = word_by_take (other_by device) w.0.1 d.0 d.1 in
-    (
+    let t = word_by_take (other_by device) w.0.1 d.0 d.1 in (
       t.0,
       word_take (codes "device") ws w.0 w.1 ∙ ap (λ (xs : List (List ℕ)). codes "device" ∷ xs) (t.1 ∙ ap (λ (xs : List (List ℕ)). t.0 ∷ xs) (no_words d.0.1 last.0)),
       t.2 ∙ ap (λ (x : Option Device). Some x) last.1,

@@ -89,7 +89,10 @@ fn fits_kind(device: Device, kind: Kind, entry: u16, masks: Masks, i: bool) -> b
     match kind {
         Kind::Root => entry == 0 && masks.bits() == 0 && !i,
         Kind::Call => u32::from(entry) < device.limit(),
-        Kind::Vector(v) => v >= 2 && v <= device.last_vector() && is_vector_word(device, v, entry) && !i,
+        Kind::Vector(v) => v >= 2
+            && v <= device.last_vector()
+            && is_vector_word(device, v, entry)
+            && !i,
     }
 }
 

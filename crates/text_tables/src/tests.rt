@@ -3,6 +3,7 @@
 mod assumption_texts;
 mod certificates;
 mod command_words;
+mod said_devices;
 mod schedules;
 mod second_version;
 mod words;
@@ -74,6 +75,8 @@ fn tell_texts(told: &mut Told, alloc: Global) {
     tell(told, alloc, &schedules::TEXTS);
     tell(told, alloc, &certificates::VERSIONS);
     tell(told, alloc, &certificates::CELLS);
+    tell(told, alloc, &said_devices::SAID);
+    tell(told, alloc, &said_devices::UNREAD);
 }
 
 // Facts outside the tables.

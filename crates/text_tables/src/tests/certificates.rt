@@ -57,7 +57,7 @@ fn append(text: &mut Vec<u8>, piece: &Piece) -> Result<(), AllocError> {
 }
 
 // All pieces.
-fn append_all(text: &mut Vec<u8>, pieces: &[Piece]) -> Result<(), AllocError> {
+pub(crate) fn append_all(text: &mut Vec<u8>, pieces: &[Piece]) -> Result<(), AllocError> {
     for piece in pieces {
         append(text, piece)?;
     }
@@ -146,7 +146,7 @@ fn has_values(certificate: &Certificate, version: &Version) -> Option<bool> {
 }
 
 // Whether it is written as it was read.
-fn is_written(alloc: Global, certificate: &Certificate, text: &[u8]) -> bool {
+pub(crate) fn is_written(alloc: Global, certificate: &Certificate, text: &[u8]) -> bool {
     match write(alloc, certificate) {
         Ok(again) => again.as_slice() == text,
         Err(_) => false,

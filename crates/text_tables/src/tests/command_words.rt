@@ -75,6 +75,10 @@ pub static ROWS: [(&str, &[Row]); 1] = [(
             ("analyse", Device::M48, None, None, None, false),
         ),
         Row(
+            &["analyse", "a", "--device", "atmega168"],
+            ("analyse", Device::M168, None, None, None, false),
+        ),
+        Row(
             &["analyse", "a", "--device", "atmega168pa", "--steps", "0"],
             ("analyse", Device::M168, None, None, Some(0), false),
         ),
@@ -87,7 +91,8 @@ pub struct Refused(&'static [&'static str]);
 pub static REFUSED: [(&str, &[Refused]); 1] = [(
     "no command",
     &[
-        Refused(&["analyse", "a", "--device", "atmega8"]),
+        Refused(&["analyse", "a", "--device", "attiny13"]),
+        Refused(&["analyse", "a", "--device", "ATmega328P"]),
         Refused(&["demo", "1", "--device", "atmega88pa"]),
         Refused(&[
             "check",
