@@ -5,6 +5,7 @@ ghost use Rattle.avr_model.specs.Devices.{limit_of};
 
 use abs_state::{AbsByte, AbsFlags, AbsState};
 use avr_model::device::Device;
+use avr_model::naming::device_named;
 use bit_domain::TriByte;
 use flash_image::Flash;
 use mask_states::{High, InstKey, Kind, NodeKey, SpForm};
@@ -33,20 +34,6 @@ fn number(text: &str) -> Option<u16> {
 
 fn decimal(text: &str) -> Option<u16> {
     u16::from_str_radix(text, 10).ok()
-}
-
-fn device(text: &str) -> Option<Device> {
-    if text == "atmega48pa" {
-        Some(Device::M48)
-    } else if text == "atmega88pa" {
-        Some(Device::M88)
-    } else if text == "atmega168pa" {
-        Some(Device::M168)
-    } else if text == "atmega328p" {
-        Some(Device::M328)
-    } else {
-        None
-    }
 }
 
 // `root`, `call`, or `v` and a vector's number.
@@ -186,7 +173,7 @@ impl Row {
         } else if name == "masks" {
             self.key.masks = Masks::from_bits(u64::from_str_radix(text, 16).ok()?);
         } else if name == "device" {
-            self.device = device(text)?;
+            self.device = device_named(text.as_bytes())?;
         } else if name == "pick" {
             self.key.pick = Some(u8::from_str_radix(text, 16).ok()?);
         } else if name == "flags" {
