@@ -250,7 +250,7 @@ unfolding other_by
 other_is device name o e = elim (chosen (bytes_eq name (class_of device)) _ _ (Some o) e) [
   | inl h ↦ inl (sym (same_Some None o h.1), (bytes_eq-Decides name (class_of device)).0 h.0)
   | inr h ↦
-      let t = map_some (λ (d : Device). Some d) (device_of_class name) o h.1 in
+      let t = map_some (device_of_class name) (λ (d : Device). Some d) o h.1 in
       inr (t.0, sym t.2, t.1, λ same. false≢true (sym h.0 ∙ (bytes_eq-Decides name (class_of device)).1 same))
 ]
 

@@ -15,11 +15,11 @@ use Rattle.line_reading.proofs.AllLaws.{map_some}
 use Rattle.sb_base.specs.Lines.{Lacks}
 use Rattle.line_reading.specs.Words.{IsWord}
 
-lacks : ℕ → List ℕ → Bool
+abbrev lacks : ℕ → List ℕ → Bool
 lacks c bs = list_all (λ b. not (b == c)) bs
 
 -- one word, of at most twelve bytes
-is_class : List ℕ → Bool
+abbrev is_class : List ℕ → Bool
 is_class bs = (lacks 32 bs && lacks 10 bs) && nat_le (length bs) 12
 
 abbrev passes : List ℕ → Bool
@@ -68,8 +68,8 @@ at_first p k (x ∷ xs) place d e = elim (chosen (p x) _ _ (Some place) e) [
       let none : place - k ≡ 0 = omega (arith, same) in
       (omega (arith, same), ap (λ (n : ℕ). p (slice_index_or (x ∷ xs) n d)) none ∙ h.0)
   | inr h ↦
-      let t = at_first p (suc k) xs place d h.1 in
-      let more : place - k ≡ suc (place - suc k) = omega (arith, t.0) in
+      let t = at_first p (k + 1) xs place d h.1 in
+      let more : place - k ≡ suc (place - (k + 1)) = omega (arith, t.0) in
       (omega (arith, t.0), ap (λ (n : ℕ). p (slice_index_or (x ∷ xs) n d)) more ∙ t.1)
 ]
 
@@ -77,7 +77,8 @@ at_first p k (x ∷ xs) place d e = elim (chosen (p x) _ _ (Some place) e) [
 pub class_named : (device : Device) (name : List ℕ) → device_of_class name ≡ Some device → class_of device ≡ name
 unfolding device_of_class class_of
 class_named device name e =
-    let t = map_some (λ (place : ℕ). record { place = place }) (position_from (λ class. bytes_eq (trimmed class) name) 0 CLASSES) device e in
+    let at : ℕ → Device = λ place. record { place = place } in
+    let t = map_some (position_from (λ class. bytes_eq (trimmed class) name) 0 CLASSES) at device e in
     let s = at_first (λ class. bytes_eq (trimmed class) name) 0 CLASSES t.0 LAST_CLASS t.1 in
     let same : t.0 - 0 ≡ device.place = omega (arith, ap (λ (d : Device). d.place) t.2) in
     ap (λ (n : ℕ). trimmed (slice_index_or CLASSES n LAST_CLASS)) (sym same) ∙ (bytes_eq-Decides (trimmed (slice_index_or CLASSES (t.0 - 0) LAST_CLASS)) name).0 s.1
