@@ -268,7 +268,7 @@ device_is device ws o e =
 
 pub device_reads : (device : Device) (name : List ℕ) (o : Option Device) → other_by device name ≡ Some o → device_in device (device_line name) ≡ Some o
 unfolding device_in
-device_reads device name o e = rw (same_text (codes "device"), e) refl
+device_reads device name o e = rw e refl
 
 -- this device's name
 own_name : (device : Device) → other_by device (class_of device) ≡ Some None

@@ -148,7 +148,7 @@ device_stops device k true is version p v g later lines e =
           let t = device_is device (words_of l.text) (Some m.1) l.read in
           let names : IsNaming (λ name other. (other ≡ m.1) × (name ≢ class_of device)) (words_of l.text) = elim (other_is device t.0 (Some m.1) t.2) [
             | inl h ↦ absurd (none-some m.1 (sym h.0))
-            | inr h ↦ (t.0, h.0, h.2, t.1, sym (same_Some m.1 h.0 h.1), h.3)
+            | inr h ↦ (t.0, h.0, h.2, t.1, (sym (same_Some m.1 h.0 h.1), h.3))
           ] in
           subst P (sym m.3) (record {
             claim = c;

@@ -342,10 +342,10 @@ fn read_claim(
     ensures { Answers (λ c. (c, reader.new)) fault.Memory result (claim_at device reader.old) }
 {
     certificate_texts();
-    let (version, bound) = read_heading(device, reader)?;
-    let assumptions = read_entries(alloc, device, reader, version)?;
+    let (first, bound) = read_heading(device, reader)?;
+    let assumptions = read_entries(alloc, device, reader, first)?;
     let instances = read_instances(alloc, device, reader)?;
-    let version = version_with(device, version, &assumptions);
+    let version = version_with(device, first, &assumptions);
     let nodes = read_nodes(alloc, device, reader, version, &instances)?;
     let witness = read_witness(alloc, device, reader)?;
     read_end(reader)?;
