@@ -99,7 +99,7 @@ fn second_cap(command: &Command<'_>) -> usize
     let Command::On(request) = command else {
         return CERTIFICATE_CAP;
     };
-    match request.work {
+    match &request.work {
         Work::Run { .. } => SCHEDULE_CAP,
         Work::Simulate { .. } => DEVICES_CAP,
         _ => CERTIFICATE_CAP,
