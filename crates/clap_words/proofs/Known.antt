@@ -1,5 +1,5 @@
 -- What each command's level has, and what it hasn't.
-use Rattle.std.proofs.Common.{◌≡◌, ℕ, suc, ◌&&◌, ◌||◌, List, [], ◌∷◌, Bool, true, false, not, nat_lt, refl, ap, sym, subst, ◌∙◌, codes, Option, Some, None, is_some}
+use Rattle.std.proofs.Common.{◌≡◌, ℕ, suc, ◌&&◌, ◌||◌, List, [], ◌∷◌, Bool, true, false, not, nat_lt, refl, ap, sym, subst, codes, Some, is_some}
 use Rattle.std.specs.Prelude.{if◌then◌else◌, fold}
 use Rattle.std.specs.Str.{bytes_eq}
 use Rattle.std.proofs.lemmas.Slice.Eq.{bytes_eq-Decides}
@@ -7,7 +7,7 @@ use Rattle.std.proofs.lemmas.Bool.{and_from}
 use Rattle.clap.specs.Words.{Shape, Text, Rule, Row, Kinds}
 use Rattle.clap.specs.Kinds.{or_else}
 use Rattle.clap.specs.declared.error.kind.ErrorKind.TheVariants as fault
-use Rattle.clap.specs.Walk.{has_row, arg_by_id, arg_by_index, arg_by_long, reading_by, values_or_missing, next_position, most_values, with_default}
+use Rattle.clap.specs.Walk.{has_row, arg_by_id, arg_by_index, arg_by_long, reading_by, values_or_missing, next_position, with_default}
 use Rattle.clap.specs.Simple.{built, filled, with_index}
 use Rattle.clap.specs.Takes.{values_pass, is_given}
 use Rattle.clap.proofs.OnLiterals.{clap_on_literals}
@@ -17,7 +17,7 @@ use Rattle.commands.specs.Commands.{Line, no_options, device_option, plain_optio
 use Rattle.clap_words.specs.Lines.{name_rule, value_rule, flag_rule, judging_app, analyse_app, report_app, clear_app, premises_app, attain_app, simulate_app, demo_app, line_app, is_refused}
 use Rattle.clap_words.proofs.Levels.{below, IsLevelNamed, named_check, named_analyse, named_run, named_report, named_explain, named_clear, named_premises, named_attain, named_simulate, named_demo}
 use Rattle.clap_words.proofs.Pieces.{Mark, Json, Why, option_name, mark_name}
-use Rattle.clap_words.proofs.Going.{IsPositional, IsOption, IsFlag, IsUsable, IsStrict, AllowsWords, IsWordLevel}
+use Rattle.clap_words.proofs.Going.{IsPositional, IsOption, IsFlag, IsStrict, AllowsWords, IsWordLevel}
 use Rattle.clap_words.proofs.Shown.{Shows, Tells, tells, tells_default, no_defaults}
 
 -- ---- what each command has

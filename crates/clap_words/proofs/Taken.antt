@@ -8,7 +8,7 @@ use Rattle.std.proofs.lemmas.Bool.{or_parts}
 use Rattle.clap.specs.Words.{Text, Row, Kinds, takes, fault_of, is_simple, is_simple_and_free, subcommand_of}
 use Rattle.std.specs.Prelude.{find, option_map}
 use Rattle.clap.specs.Kinds.{or_else}
-use Rattle.clap.specs.Walk.{nothing_held, walk_from, rows_after, idle, answers_to, subcommand_met, subcommand_or_other}
+use Rattle.clap.specs.Walk.{nothing_held, walk_from, rows_after, idle, answers_to, subcommand_or_other}
 use Rattle.clap.specs.Faults.{walk_fault, turn_fault, other_fault, step_fault}
 use Rattle.clap.specs.Simple.{built, names_of, Shape}
 use Rattle.clap.proofs.OnLiterals.{clap_on_literals}
@@ -17,13 +17,13 @@ use Rattle.commands.specs.declared.line.Permitted.{Permitted}
 use Rattle.commands.specs.Commands.{Work, Command, Line, empty_line, then_words, device_in, no_options, device_option, plain_options, steps_options, trials_options, json_options, why_options, permits, asks, work_in, measured, called, whole, command_of}
 use Rattle.clap_words.specs.Lines.{line_app, is_option, is_refused, TellsLine}
 use Rattle.clap_words.proofs.Levels.{built_takes_named, level_fails, level_found, none_of, both_none}
-use Rattle.clap_words.proofs.Pieces.{Piece, Named, Given, Marked, Mark, Json, Why, option_name, spelled, mark_name, mark_spelled, value_of, is_marked, all_words, AreFit, Cut, cut_words}
+use Rattle.clap_words.proofs.Pieces.{Piece, Named, Given, Marked, Mark, Json, Why, spelled, mark_spelled, value_of, is_marked, all_words, AreFit, Cut, cut_words}
 use Rattle.clap_words.proofs.Steps.{level_goes}
 use Rattle.clap_words.proofs.Going.{AllowsWords, IsWanted, ShowsRows, goes_on}
 use Rattle.clap_words.proofs.Known.{allows, judging, reporting, telling, analysing, attains, simulating, clearing, measuring, IsKnown, known_check, known_analyse, known_run, known_report, known_explain, known_clear, known_premises, known_attain, known_simulate, known_demo}
 use Rattle.clap_words.proofs.Wanted.{both, wanted, requested_has, measured_has}
 use Rattle.clap_words.proofs.Shown.{Tells}
-use Rattle.clap_words.proofs.Sound.{Class, Plain, Takes, Alone, class, Reads, sound, name_passed, strays}
+use Rattle.clap_words.proofs.Sound.{Class, Plain, Takes, Alone, class, sound, name_passed, strays}
 
 -- ---- all
 

@@ -1,6 +1,5 @@
 -- A line that is a command has what the command wants.
-use Rattle.std.proofs.Common.{◌≡◌, ◌&&◌, List, [], ◌∷◌, Bool, true, false, not, refl, Option, Some, None, is_some}
-use Rattle.std.specs.Option.{option_map}
+use Rattle.std.proofs.Common.{◌≡◌, ◌&&◌, Bool, true, false, refl, Option, Some, None, is_some}
 use Rattle.std.proofs.lemmas.Option.{none-some}
 use Rattle.clap.specs.Words.{Text}
 use Rattle.avr_model.specs.declared.device.Device.{Device as Chip}

@@ -36,7 +36,7 @@ use Rattle.replies.specs.Firmware.{firmware_image, firmware_fault, firmware_name
 use Rattle.replies.specs.Texts.{too_long, assumptions_refused, certificate_refused, schedule_malformed, schedule_illegal, devices_refused, rejected, witness_rejected, run_text}
 use Rattle.replies.specs.Places.{clear_text, unclear_text, premises_text, why_text}
 use Rattle.replies.specs.Reading.{Seen, Unread, Whole, Long}
-use Rattle.replies.specs.Reply.{Reply, Says, Refuses, WithFile, WithBytes, WithOptional, ImageBy, WithImage, ListBy, WithList, attains, AttainedBy, WitnessReply, VerdictReply, JudgedReply, CertificateReply, RunReply, EndsBefore, ScheduleReply, told_of, ExplainReply, ClearSays, ClearReply, PremisesReply, WhyReply, PlacesReply, AcceptedReply, SimulateReply, FlashReply, ImageReply, WorkReply}
+use Rattle.replies.specs.Reply.{Reply, Says, Refuses, WithFile, WithBytes, WithOptional, ImageBy, ListBy, WithList, attains, AttainedBy, WitnessReply, VerdictReply, JudgedReply, CertificateReply, RunReply, EndsBefore, ScheduleReply, told_of, ExplainReply, ClearSays, ClearReply, PremisesReply, WhyReply, PlacesReply, AcceptedReply, SimulateReply, FlashReply, ImageReply, WorkReply}
 use Rattle.replies.specs.Headline.{RepliesAreOne}
 use Rattle.replies.proofs.Analysing.{analyse_one, demo_one}
 use Rattle.replies.proofs.Attaining.{attain_one}

@@ -1,6 +1,6 @@
 -- Replies by their parts.
-use Rattle.std.proofs.Common.{◌≡◌, ◌≢◌, ℕ, Bool, true, false, List, [], take, Option, Some, None, Result, Ok, Err, refl, sym, ap, ◌∙◌, subst}
-use Rattle.std.specs.Option.{option_copied, option_map, is_some}
+use Rattle.std.proofs.Common.{◌≡◌, ◌≢◌, ℕ, Bool, true, false, List, [], Option, Some, None, Result, Ok, Err, refl, sym, ap, ◌∙◌, subst}
+use Rattle.std.specs.Option.{option_copied, is_some}
 use Rattle.std.specs.Prelude.{◌↔◌, IfOk, IsTrue}
 use Rattle.std.proofs.lemmas.Bool.{false_from_ne_true}
 use denote.Ref.{Bor}
@@ -13,15 +13,12 @@ use Rattle.indirect_targets.specs.Reading.{entries_in}
 use Rattle.witness_replay.specs.Spelling.{Plan}
 use Rattle.witness_replay.specs.Replay.{replay_of}
 use Rattle.flash_image.specs.Naming.{Named, SayTheSame}
-use Rattle.flash_image.specs.Narrowing.{NarrowingIsExact}
-use Rattle.elf_load.specs.Elf.{is_elf}
 use Rattle.elf_load.specs.declared.Loaded.{Loaded}
 use Rattle.certificate.specs.Claims.{Claim}
 use Rattle.reports.specs.Laws.{NamesThatSayTheSame, ExplanationsSayTheSame}
 use Rattle.commands.specs.Commands.{Work, Check, Analyse, Run, Report, Explain, Clear, Premises, Attain, Simulate}
 use Rattle.certificate.specs.Valid.{IsAttained, IsValid}
 use Rattle.cert_format.specs.declared.fault.CertFault.{CertFault}
-use Rattle.cert_format.specs.declared.fault.CertFault.TheVariants as fault
 use Rattle.cert_format.specs.Reading.{certificate_in}
 use Rattle.call_graph.specs.declared.worked.Worked.{Worked}
 use Rattle.cert_check.specs.declared.verdict.Reason.{Reason}
@@ -31,18 +28,16 @@ use Rattle.basics.specs.Booleans.{never_both}
 use Rattle.cert_check.specs.declared.verdict.Verdict.TheVariants.{Accepted, Rejected}
 use Rattle.replies.specs.declared.status.Status.{Status}
 use Rattle.replies.specs.declared.status.Status.TheVariants as exit
-use Rattle.replies.specs.Firmware.{words_by, outside_fault, fault_or, firmware_fault, firmware_image, firmware_names, firmware_end}
-use Rattle.replies.specs.Texts.{firmware_outside, witness_rejected, rejected, assumptions_refused, certificate_refused}
+use Rattle.replies.specs.Firmware.{firmware_fault, firmware_image, firmware_names, firmware_end}
+use Rattle.replies.specs.Texts.{witness_rejected, rejected, assumptions_refused}
 use Rattle.replies.specs.Reply.{Reply, Says, Refuses, ListBy, WithList, attains, AttainedBy, WitnessReply, VerdictReply, JudgedReply, CertificateReply, report_by, ExplainReply, PremisesReply, WhyReply, PlacesReply, AttainReply, AcceptedReply, FlashReply, ImageReply}
 use Rattle.replies.specs.Headline.{PlacesSayTheSame, CausesSayTheSame}
 use Rattle.cert_words.specs.Text.{text_of}
 use Rattle.guided_trials.specs.Attaining.{IsCompleted}
 use Rattle.replies.proofs.AllLaws.{attained_by, witness_zero, by_none}
-use Rattle.stack_core.specs.Answering.{GivesAs, GivesOn, NarrowedTo, LoadsOn, ReadsAs, IsJudgedAs, LoadedReply}
+use Rattle.stack_core.specs.Answering.{GivesOn, ReadsAs, IsJudgedAs, LoadedReply}
 use Rattle.stack_core.specs.declared.reply.Reply.{Reply as Answered}
 use Rattle.stack_core.specs.declared.judging.Judged.{Judged}
-use Rattle.stack_core.specs.declared.loading.Image.{Image}
-use Rattle.stack_core.specs.declared.loading.Image.TheVariants.{Loaded as OnFlash, Refused}
 use Rattle.stack_core.specs.declared.loading.Listing.TheVariants.{Unlisted}
 
 -- ---- simulate
