@@ -1,5 +1,5 @@
 -- What each command's level has, and what it hasn't.
-use Rattle.std.proofs.Common.{◌≡◌, ℕ, suc, ◌&&◌, ◌||◌, List, [], ◌∷◌, Bool, true, false, not, nat_lt, refl, ap, sym, subst, ◌∙◌, codes, Option, Some, None, is_some}
+use Rattle.std.proofs.Common.{◌≡◌, ℕ, suc, ◌&&◌, ◌||◌, List, [], ◌∷◌, Bool, true, false, not, nat_lt, refl, ap, sym, subst, codes, Some, is_some}
 use Rattle.std.specs.Prelude.{if◌then◌else◌, fold}
 use Rattle.std.specs.Str.{bytes_eq}
 use Rattle.std.proofs.lemmas.Slice.Eq.{bytes_eq-Decides}
@@ -7,81 +7,58 @@ use Rattle.std.proofs.lemmas.Bool.{and_from}
 use Rattle.clap.specs.Words.{Shape, Text, Rule, Row, Kinds}
 use Rattle.clap.specs.Kinds.{or_else}
 use Rattle.clap.specs.declared.error.kind.ErrorKind.TheVariants as fault
-use Rattle.clap.specs.Walk.{has_row, arg_by_id, arg_by_index, arg_by_long, reading_by, values_or_missing, next_position, most_values, with_default}
+use Rattle.clap.specs.Walk.{has_row, arg_by_id, arg_by_index, arg_by_long, reading_by, values_or_missing, next_position, with_default}
 use Rattle.clap.specs.Simple.{built, filled, with_index}
 use Rattle.clap.specs.Takes.{values_pass, is_given}
 use Rattle.clap.proofs.OnLiterals.{clap_on_literals}
 use Rattle.commands.specs.Options.{Valued, Assume, Steps, Device, Trials}
-use Rattle.commands.specs.Commands.{Line}
+use Rattle.commands.specs.declared.line.Permitted.{Permitted}
+use Rattle.commands.specs.Commands.{Line, no_options, device_option, plain_options, steps_options, trials_options, json_options, why_options}
 use Rattle.clap_words.specs.Lines.{name_rule, value_rule, flag_rule, judging_app, analyse_app, report_app, clear_app, premises_app, attain_app, simulate_app, demo_app, line_app, is_refused}
 use Rattle.clap_words.proofs.Levels.{below, IsLevelNamed, named_check, named_analyse, named_run, named_report, named_explain, named_clear, named_premises, named_attain, named_simulate, named_demo}
 use Rattle.clap_words.proofs.Pieces.{Mark, Json, Why, option_name, mark_name}
-use Rattle.clap_words.proofs.Going.{IsPositional, IsOption, IsFlag, IsUsable, IsStrict, AllowsWords, IsWordLevel}
+use Rattle.clap_words.proofs.Going.{IsPositional, IsOption, IsFlag, IsStrict, AllowsWords, IsWordLevel}
 use Rattle.clap_words.proofs.Shown.{Shows, Tells, tells, tells_default, no_defaults}
 
 -- ---- what each command has
 
-abbrev pub two_options : Valued → Bool
-two_options Assume = true
-two_options Steps = false
-two_options Device = true
-two_options Trials = false
+abbrev has_option : Permitted → Valued → Bool
+has_option options Assume = options.assume
+has_option options Steps = options.steps
+has_option options Device = options.device
+has_option options Trials = options.trials
 
-abbrev pub device_option : Valued → Bool
-device_option Assume = false
-device_option Steps = false
-device_option Device = true
-device_option Trials = false
+abbrev has_mark : Permitted → Mark → Bool
+has_mark options Json = options.json
+has_mark options Why = options.why
 
-abbrev pub step_options : Valued → Bool
-step_options Assume = true
-step_options Steps = true
-step_options Device = true
-step_options Trials = false
-
-abbrev pub trial_options : Valued → Bool
-trial_options Assume = true
-trial_options Steps = false
-trial_options Device = true
-trial_options Trials = true
-
-abbrev pub no_options : Valued → Bool
-no_options _ = false
-
-abbrev pub no_marks : Mark → Bool
-no_marks _ = false
-
-abbrev pub json_mark : Mark → Bool
-json_mark Json = true
-json_mark Why = false
-
-abbrev pub why_mark : Mark → Bool
-why_mark Json = false
-why_mark Why = true
+-- a second name or none, and these options
+abbrev pub allows : Bool → Permitted → AllowsWords
+allows second options = record { second = second; given = has_option options; marked = has_mark options }
 
 abbrev pub judging : AllowsWords
-judging = record { second = true; given = two_options; marked = no_marks }
+judging = allows true plain_options
 
 abbrev pub reporting : AllowsWords
-reporting = record { second = true; given = two_options; marked = json_mark }
+reporting = allows true json_options
 
 abbrev pub telling : AllowsWords
-telling = record { second = true; given = two_options; marked = why_mark }
+telling = allows true why_options
 
 abbrev pub analysing : AllowsWords
-analysing = record { second = false; given = step_options; marked = no_marks }
+analysing = allows false steps_options
 
 abbrev pub attains : AllowsWords
-attains = record { second = true; given = trial_options; marked = no_marks }
+attains = allows true trials_options
 
 abbrev pub simulating : AllowsWords
-simulating = record { second = true; given = step_options; marked = no_marks }
+simulating = allows true steps_options
 
 abbrev pub clearing : AllowsWords
-clearing = record { second = true; given = device_option; marked = no_marks }
+clearing = allows true device_option
 
 abbrev pub measuring : AllowsWords
-measuring = record { second = false; given = no_options; marked = no_marks }
+measuring = allows false no_options
 
 -- ---- arguments
 

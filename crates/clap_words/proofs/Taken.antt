@@ -8,21 +8,22 @@ use Rattle.std.proofs.lemmas.Bool.{or_parts}
 use Rattle.clap.specs.Words.{Text, Row, Kinds, takes, fault_of, is_simple, is_simple_and_free, subcommand_of}
 use Rattle.std.specs.Prelude.{find, option_map}
 use Rattle.clap.specs.Kinds.{or_else}
-use Rattle.clap.specs.Walk.{nothing_held, walk_from, rows_after, idle, answers_to, subcommand_met, subcommand_or_other}
+use Rattle.clap.specs.Walk.{nothing_held, walk_from, rows_after, idle, answers_to, subcommand_or_other}
 use Rattle.clap.specs.Faults.{walk_fault, turn_fault, other_fault, step_fault}
 use Rattle.clap.specs.Simple.{built, names_of, Shape}
 use Rattle.clap.proofs.OnLiterals.{clap_on_literals}
 use Rattle.commands.specs.Options.{Valued, Assume, Steps, Device, Trials}
-use Rattle.commands.specs.Commands.{Command, Line, empty_line, then_words, check_of, analyse_of, run_of, report_of, explain_of, clear_of, premises_of, attain_of, simulate_of, demo_of, called, whole, command_of}
+use Rattle.commands.specs.declared.line.Permitted.{Permitted}
+use Rattle.commands.specs.Commands.{Work, Command, Line, empty_line, then_words, device_in, no_options, device_option, plain_options, steps_options, trials_options, json_options, why_options, permits, asks, work_in, measured, called, whole, command_of}
 use Rattle.clap_words.specs.Lines.{line_app, is_option, is_refused, TellsLine}
 use Rattle.clap_words.proofs.Levels.{built_takes_named, level_fails, level_found, none_of, both_none}
-use Rattle.clap_words.proofs.Pieces.{Piece, Named, Given, Marked, Mark, Json, Why, option_name, spelled, mark_name, mark_spelled, value_of, is_marked, all_words, AreFit, Cut, cut_words}
+use Rattle.clap_words.proofs.Pieces.{Piece, Named, Given, Marked, Mark, Json, Why, spelled, mark_spelled, value_of, is_marked, all_words, AreFit, Cut, cut_words}
 use Rattle.clap_words.proofs.Steps.{level_goes}
 use Rattle.clap_words.proofs.Going.{AllowsWords, IsWanted, ShowsRows, goes_on}
-use Rattle.clap_words.proofs.Known.{judging, reporting, telling, analysing, attains, simulating, clearing, measuring, IsKnown, known_check, known_analyse, known_run, known_report, known_explain, known_clear, known_premises, known_attain, known_simulate, known_demo}
-use Rattle.clap_words.proofs.Wanted.{check_wanted, analyse_wanted, run_wanted, report_wanted, explain_wanted, clear_wanted, premises_wanted, attain_wanted, simulate_wanted, demo_wanted}
+use Rattle.clap_words.proofs.Known.{allows, judging, reporting, telling, analysing, attains, simulating, clearing, measuring, IsKnown, known_check, known_analyse, known_run, known_report, known_explain, known_clear, known_premises, known_attain, known_simulate, known_demo}
+use Rattle.clap_words.proofs.Wanted.{both, wanted, requested_has, measured_has}
 use Rattle.clap_words.proofs.Shown.{Tells}
-use Rattle.clap_words.proofs.Sound.{Class, Plain, Takes, Alone, class, Reads, sound, name_passed, strays}
+use Rattle.clap_words.proofs.Sound.{Class, Plain, Takes, Alone, class, sound, name_passed, strays}
 
 -- ---- all
 
@@ -72,24 +73,33 @@ good name has k word words l waits e is n =
       free = ap₂ (λ (x y : Bool). x || y) k.free (pieces_free c.pieces c.fit);
     })
 
--- the command with this name, or one of the others
-either : {G : Type 0} (b : Bool) (first rest : Option Command) (x : Command) → (b ≡ true → first ≡ Some x → G) → (rest ≡ Some x → G) → cond b first rest ≡ Some x → G
+-- a value under a condition, or another
+either : {X G : Type 0} (b : Bool) (first rest : Option X) (x : X) → (b ≡ true → first ≡ Some x → G) → (rest ≡ Some x → G) → cond b first rest ≡ Some x → G
 either true first rest x here later h = here refl h
 either false first rest x here later h = later h
 
 called_good : (word : List ℕ) (words : List (List ℕ)) (l : Line) (x : Command) → l.waits ≡ None → then_words (Some empty_line) words ≡ Some l → called word l ≡ Some x → IsGood (word ∷ words)
 called_good word words l x waits e h =
-    either (bytes_eq word (codes "check")) (check_of l) _ x (λ is k. good (codes "check") judging known_check word words l waits e is (check_wanted l x k))
-    (either (bytes_eq word (codes "analyse")) (analyse_of l) _ x (λ is k. good (codes "analyse") analysing known_analyse word words l waits e is (analyse_wanted l x k))
-    (either (bytes_eq word (codes "run")) (run_of l) _ x (λ is k. good (codes "run") judging known_run word words l waits e is (run_wanted l x k))
-    (either (bytes_eq word (codes "report")) (report_of l) _ x (λ is k. good (codes "report") reporting known_report word words l waits e is (report_wanted l x k))
-    (either (bytes_eq word (codes "explain")) (explain_of l) _ x (λ is k. good (codes "explain") judging known_explain word words l waits e is (explain_wanted l x k))
-    (either (bytes_eq word (codes "clear")) (clear_of l) _ x (λ is k. good (codes "clear") clearing known_clear word words l waits e is (clear_wanted l x k))
-    (either (bytes_eq word (codes "premises")) (premises_of l) _ x (λ is k. good (codes "premises") telling known_premises word words l waits e is (premises_wanted l x k))
-    (either (bytes_eq word (codes "attain")) (attain_of l) _ x (λ is k. good (codes "attain") attains known_attain word words l waits e is (attain_wanted l x k))
-    (either (bytes_eq word (codes "simulate")) (simulate_of l) _ x (λ is k. good (codes "simulate") simulating known_simulate word words l waits e is (simulate_wanted l x k))
-    (either (bytes_eq word (codes "demo")) (demo_of l) _ x (λ is k. good (codes "demo") measuring known_demo word words l waits e is (demo_wanted l x k))
-    (λ k. absurd (none-some x k))))))))))) h
+    either (asks word l (codes "demo") no_options) (measured l.first l.second) _ x (λ is k. let m = measured_has l.first l.second x k in at (codes "demo") false no_options known_demo m.0 m.1 is)
+    (λ k. let r = requested_has (device_in l.device) l.first l.assume (work_in word l l.second) x k in work_good l.second refl r.0 r.1.0 r.1.1) h where
+      at : (name : Text) (second : Bool) (options : Permitted) → IsKnown name (allows second options) → is_some l.first ≡ true → is_some l.second ≡ second → asks word l name options ≡ true → IsGood (word ∷ words)
+      at name second options k first has is =
+          let p : (bytes_eq word name ≡ true) × (permits options l ≡ true) = both _ _ is in
+          good name (allows second options) k word words l waits e p.0 (wanted second options l first has p.1)
+
+      work_good : (second : Option Text) → l.second ≡ second → is_some l.first ≡ true → (w : Work) → work_in word l second ≡ Some w → IsGood (word ∷ words)
+      work_good None is first w k =
+          either (asks word l (codes "analyse") steps_options) _ None w (λ a j. at (codes "analyse") false steps_options known_analyse first (ap is_some is) a) (λ j. absurd (none-some w j)) k
+      work_good (Some s) is first w k =
+          either (asks word l (codes "check") plain_options) _ _ w (λ a j. at (codes "check") true plain_options known_check first (ap is_some is) a)
+          (either (asks word l (codes "run") plain_options) _ _ w (λ a j. at (codes "run") true plain_options known_run first (ap is_some is) a)
+          (either (asks word l (codes "report") json_options) _ _ w (λ a j. at (codes "report") true json_options known_report first (ap is_some is) a)
+          (either (asks word l (codes "explain") plain_options) _ _ w (λ a j. at (codes "explain") true plain_options known_explain first (ap is_some is) a)
+          (either (asks word l (codes "clear") device_option) _ _ w (λ a j. at (codes "clear") true device_option known_clear first (ap is_some is) a)
+          (either (asks word l (codes "premises") why_options) _ _ w (λ a j. at (codes "premises") true why_options known_premises first (ap is_some is) a)
+          (either (asks word l (codes "attain") trials_options) _ _ w (λ a j. at (codes "attain") true trials_options known_attain first (ap is_some is) a)
+          (either (asks word l (codes "simulate") steps_options) _ _ w (λ a j. at (codes "simulate") true steps_options known_simulate first (ap is_some is) a)
+          (λ j. absurd (none-some w j))))))))) k
 
 whole_good : (word : List ℕ) (words : List (List ℕ)) (o : Option Line) (x : Command) → then_words (Some empty_line) words ≡ o → whole word o ≡ Some x → IsGood (word ∷ words)
 whole_good word words None x e h = absurd (none-some x h)

@@ -4,5 +4,5 @@
 mod line;
 mod words;
 
-pub use commands::{ChoiceCount, Command, Size};
+pub use commands::{ChoiceCount, Command, Size, Work};
 pub use words::command_of;

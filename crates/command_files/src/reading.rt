@@ -5,7 +5,7 @@ ghost use Rattle.commands.specs.Views.{text_of, command_seen};
 ghost use Rattle.replies.specs.Reading as caps;
 ghost use Rattle.command_files.specs.Reading.{IsFetched, IsUnfetched, AreFetched, IsFetchedUnder, IsUnfetchedUnder, bytes_of, IsGathered, IsUngathered};
 
-use commands::Command;
+use commands::{Command, Work};
 use sb_base::{FileFault, Files};
 use std::alloc::Global;
 
@@ -96,17 +96,13 @@ fn fetch_optional<'a, F: Files>(
 fn second_cap(command: &Command<'_>) -> usize
     ensures { result ≡ caps.second_cap (command_seen command.now) }
 {
-    match command {
-        Command::Check { .. } => CERTIFICATE_CAP,
-        Command::Analyse { .. } => CERTIFICATE_CAP,
-        Command::Run { .. } => SCHEDULE_CAP,
-        Command::Report { .. } => CERTIFICATE_CAP,
-        Command::Explain { .. } => CERTIFICATE_CAP,
-        Command::Clear { .. } => CERTIFICATE_CAP,
-        Command::Premises { .. } => CERTIFICATE_CAP,
-        Command::Attain { .. } => CERTIFICATE_CAP,
-        Command::Simulate { .. } => DEVICES_CAP,
-        Command::Demo { .. } => CERTIFICATE_CAP,
+    let Command::On(request) = command else {
+        return CERTIFICATE_CAP;
+    };
+    match &request.work {
+        Work::Run { .. } => SCHEDULE_CAP,
+        Work::Simulate { .. } => DEVICES_CAP,
+        _ => CERTIFICATE_CAP,
     }
 }
 

@@ -1,5 +1,5 @@
 -- The commands, their files, and the words of a command. Source: own.
-use Rattle.std.specs.Prelude.{ℕ, ◌≡◌, ◌==◌, ◌&&◌, not, nat_le, Bool, true, false, List, [], ◌∷◌, Option, Some, None, Result, Ok, Err, is_none, codes, if◌then◌else◌}
+use Rattle.std.specs.Prelude.{ℕ, ◌≡◌, ◌==◌, ◌&&◌, ◌||◌, not, nat_le, Bool, true, false, List, [], ◌∷◌, Option, Some, None, Result, Ok, Err, is_none, is_some, codes, if◌then◌else◌}
 use Rattle.std.specs.Option.{option_map}
 use Rattle.std.specs.Str.{bytes_eq}
 use Rattle.avr_model.specs.declared.device.Device.{Device}
@@ -7,36 +7,40 @@ use Rattle.avr_model.specs.Devices.{M328}
 use Rattle.avr_model.specs.Names.{device_named}
 use Rattle.sb_base.specs.declared.digits.DigitFault.{DigitFault}
 use Rattle.sb_base.specs.Digits.{dec_answer}
+use Rattle.commands.specs.declared.line.Permitted.{Permitted}
 use Rattle.commands.specs.Options.{Valued}
 use Rattle.commands.specs.Options as option
 
--- A command, with its device and the names of its files: judge a certificate; write the least one, within a number of rounds if given;
--- replay a schedule; judge a certificate and report it, or the origin of its bound, or whether no step can be flagged, or where a step
--- may be, possibly with causes; judge it and write it with the schedule that trials find; simulate devices for a number of choices;
--- measure the analysis on a generated image.
+-- The work of a request, with the name of its second file and its own options: judge a certificate; write the least one, within a number
+-- of rounds if given; replay a schedule; judge a certificate and report it, or the origin of its bound, or whether no step can be flagged,
+-- or where a step may be, possibly with causes; judge it and write it with the schedule that trials find; simulate devices for a number of
+-- choices.
+pub data Work : Type 0 where
+  Check : (certificate : List ℕ) → Work
+  Analyse : (steps : Option ℕ) → Work
+  Run : (schedule : List ℕ) → Work
+  Report : (certificate : List ℕ) (json : Bool) → Work
+  Explain : (certificate : List ℕ) → Work
+  Clear : (certificate : List ℕ) → Work
+  Premises : (certificate : List ℕ) (why : Bool) → Work
+  Attain : (certificate : List ℕ) (trials : ℕ) → Work
+  Simulate : (devices : List ℕ) (steps : ℕ) → Work
+
+-- work on a firmware for a device, with the names of the firmware and of the assumption file
+pub record Request : Type 0 where
+  pub device : Device
+  pub firmware : List ℕ
+  pub assume : Option (List ℕ)
+  pub work : Work
+
+-- A command: a request, or to measure the analysis on a generated image.
 pub data Command : Type 0 where
-  Check : (device : Device) (firmware certificate : List ℕ) (assume : Option (List ℕ)) → Command
-  Analyse : (device : Device) (firmware : List ℕ) (assume : Option (List ℕ)) (steps : Option ℕ) → Command
-  Run : (device : Device) (firmware schedule : List ℕ) (assume : Option (List ℕ)) → Command
-  Report : (device : Device) (firmware certificate : List ℕ) (assume : Option (List ℕ)) (json : Bool) → Command
-  Explain : (device : Device) (firmware certificate : List ℕ) (assume : Option (List ℕ)) → Command
-  Clear : (device : Device) (firmware certificate : List ℕ) → Command
-  Premises : (device : Device) (firmware certificate : List ℕ) (assume : Option (List ℕ)) (why : Bool) → Command
-  Attain : (device : Device) (firmware certificate : List ℕ) (assume : Option (List ℕ)) (trials : ℕ) → Command
-  Simulate : (device : Device) (firmware devices : List ℕ) (assume : Option (List ℕ)) (steps : ℕ) → Command
+  On : (request : Request) → Command
   Demo : (size : ℕ) → Command
 
 -- the device of the command; `demo` has the ATmega328P
 abbrev pub device_for : Command → Device
-device_for (Check device firmware certificate assume) = device
-device_for (Analyse device firmware assume steps) = device
-device_for (Run device firmware schedule assume) = device
-device_for (Report device firmware certificate assume json) = device
-device_for (Explain device firmware certificate assume) = device
-device_for (Clear device firmware certificate) = device
-device_for (Premises device firmware certificate assume why) = device
-device_for (Attain device firmware certificate assume trials) = device
-device_for (Simulate device firmware devices assume steps) = device
+device_for (On request) = request.device
 device_for (Demo size) = M328
 
 -- ---- files
@@ -47,35 +51,28 @@ pub data Role : Type 0 where
   Second : Role
   Assumptions : Role
 
+-- the name of the second file: certificate, schedule or devices
+abbrev pub file_of : Work → Option (List ℕ)
+file_of (Check certificate) = Some certificate
+file_of (Analyse steps) = None
+file_of (Run schedule) = Some schedule
+file_of (Report certificate json) = Some certificate
+file_of (Explain certificate) = Some certificate
+file_of (Clear certificate) = Some certificate
+file_of (Premises certificate why) = Some certificate
+file_of (Attain certificate trials) = Some certificate
+file_of (Simulate devices steps) = Some devices
+
+-- the name of the assumption file, which `clear` does not have
+abbrev pub assume_of : Work → Option (List ℕ) → Option (List ℕ)
+assume_of (Clear certificate) assume = None
+assume_of work assume = assume
+
 -- the name of a command's file of this role, if it has one
 abbrev pub name_of : Command → Role → Option (List ℕ)
-name_of (Check device firmware certificate assume) Firmware = Some firmware
-name_of (Check device firmware certificate assume) Second = Some certificate
-name_of (Check device firmware certificate assume) Assumptions = assume
-name_of (Analyse device firmware assume steps) Firmware = Some firmware
-name_of (Analyse device firmware assume steps) Second = None
-name_of (Analyse device firmware assume steps) Assumptions = assume
-name_of (Run device firmware schedule assume) Firmware = Some firmware
-name_of (Run device firmware schedule assume) Second = Some schedule
-name_of (Run device firmware schedule assume) Assumptions = assume
-name_of (Report device firmware certificate assume json) Firmware = Some firmware
-name_of (Report device firmware certificate assume json) Second = Some certificate
-name_of (Report device firmware certificate assume json) Assumptions = assume
-name_of (Explain device firmware certificate assume) Firmware = Some firmware
-name_of (Explain device firmware certificate assume) Second = Some certificate
-name_of (Explain device firmware certificate assume) Assumptions = assume
-name_of (Clear device firmware certificate) Firmware = Some firmware
-name_of (Clear device firmware certificate) Second = Some certificate
-name_of (Clear device firmware certificate) Assumptions = None
-name_of (Premises device firmware certificate assume why) Firmware = Some firmware
-name_of (Premises device firmware certificate assume why) Second = Some certificate
-name_of (Premises device firmware certificate assume why) Assumptions = assume
-name_of (Attain device firmware certificate assume trials) Firmware = Some firmware
-name_of (Attain device firmware certificate assume trials) Second = Some certificate
-name_of (Attain device firmware certificate assume trials) Assumptions = assume
-name_of (Simulate device firmware devices assume steps) Firmware = Some firmware
-name_of (Simulate device firmware devices assume steps) Second = Some devices
-name_of (Simulate device firmware devices assume steps) Assumptions = assume
+name_of (On request) Firmware = Some request.firmware
+name_of (On request) Second = file_of request.work
+name_of (On request) Assumptions = assume_of request.work request.assume
 name_of (Demo size) role = None
 
 -- this is the name of the command's file of this role
@@ -217,119 +214,86 @@ device_in (Some word) = device_named word
 
 -- ---- commands
 
--- no options but `--assume`, `--device` and `--steps`
-abbrev pub is_stepping : Line → Bool
-is_stepping line = is_none line.trials && (not line.json && not line.why)
-
--- no options but `--assume` and `--device`
-abbrev pub is_plain : Line → Bool
-is_plain line = is_none line.steps && is_stepping line
-
 -- no options
-abbrev pub is_bare : Line → Bool
-is_bare line = is_none line.assume && is_none line.device && is_plain line
+abbrev pub no_options : Permitted
+no_options = record { assume = false; steps = false; device = false; trials = false; json = false; why = false }
 
--- the command for a device, if there is one
-abbrev pub on_device : Option Device → (Device → Option Command) → Option Command
-on_device None command = None
-on_device (Some device) command = command device
+-- `--device`
+abbrev pub device_option : Permitted
+device_option = record no_options { device = true }
 
--- the command of two names, or of one name alone
-abbrev pub with_two : Option (List ℕ) → Option (List ℕ) → (List ℕ → List ℕ → Command) → Option Command
-with_two (Some firmware) (Some second) command = Some (command firmware second)
-with_two _ _ command = None
+-- `--assume` and `--device`
+abbrev pub plain_options : Permitted
+plain_options = record device_option { assume = true }
 
-abbrev pub with_both : Option (List ℕ) → Option (List ℕ) → (List ℕ → List ℕ → Option Command) → Option Command
-with_both (Some firmware) (Some second) command = command firmware second
-with_both _ _ command = None
+-- with one more
+abbrev pub steps_options : Permitted
+steps_options = record plain_options { steps = true }
 
-abbrev pub analysed : Device → List ℕ → Option (List ℕ) → Option (Option ℕ) → Option Command
-analysed device firmware assume None = None
-analysed device firmware assume (Some steps) = Some (Analyse device firmware assume steps)
+abbrev pub trials_options : Permitted
+trials_options = record plain_options { trials = true }
 
-abbrev pub with_one : Option (List ℕ) → Option (List ℕ) → (List ℕ → Option Command) → Option Command
-with_one (Some word) None command = command word
-with_one _ _ command = None
+abbrev pub json_options : Permitted
+json_options = record plain_options { json = true }
 
-abbrev pub check_of : Line → Option Command
-check_of line =
-    if is_plain line
-    then on_device (device_in line.device) (λ device. with_two line.first line.second (λ firmware certificate. Check device firmware certificate line.assume))
-    else None
+abbrev pub why_options : Permitted
+why_options = record plain_options { why = true }
 
-abbrev pub analyse_of : Line → Option Command
-analyse_of line =
-    if is_stepping line
-    then on_device (device_in line.device) (λ device. with_one line.first line.second (λ firmware. analysed device firmware line.assume (steps_in line.steps)))
-    else None
+-- an option stands only if it is permitted
+abbrev pub fits : Bool → Bool → Bool
+fits permitted stands = permitted || not stands
 
-abbrev pub run_of : Line → Option Command
-run_of line =
-    if is_plain line
-    then on_device (device_in line.device) (λ device. with_two line.first line.second (λ firmware schedule. Run device firmware schedule line.assume))
-    else None
+-- the line has no options with a number but these
+abbrev pub permits_numbers : Permitted → Line → Bool
+permits_numbers options line = fits options.steps (is_some line.steps) && fits options.trials (is_some line.trials)
 
-abbrev pub report_of : Line → Option Command
-report_of line =
-    if is_none line.steps && (is_none line.trials && not line.why)
-    then on_device (device_in line.device) (λ device. with_two line.first line.second (λ firmware certificate. Report device firmware certificate line.assume line.json))
-    else None
+-- the line has no options without a value but these
+abbrev pub permits_marks : Permitted → Line → Bool
+permits_marks options line = fits options.json line.json && fits options.why line.why
 
-abbrev pub explain_of : Line → Option Command
-explain_of line =
-    if is_plain line
-    then on_device (device_in line.device) (λ device. with_two line.first line.second (λ firmware certificate. Explain device firmware certificate line.assume))
-    else None
+-- the line has no options but these
+abbrev pub permits : Permitted → Line → Bool
+permits options line =
+    fits options.assume (is_some line.assume) && (fits options.device (is_some line.device) && (permits_numbers options line && permits_marks options line))
 
-abbrev pub clear_of : Line → Option Command
-clear_of line =
-    if is_none line.assume && is_plain line
-    then on_device (device_in line.device) (λ device. with_two line.first line.second (λ firmware certificate. Clear device firmware certificate))
-    else None
+-- the word is this name, and the line has no options but these
+abbrev pub asks : List ℕ → Line → List ℕ → Permitted → Bool
+asks word line name options = bytes_eq word name && permits options line
 
-abbrev pub premises_of : Line → Option Command
-premises_of line =
-    if is_none line.steps && (is_none line.trials && not line.json)
-    then on_device (device_in line.device) (λ device. with_two line.first line.second (λ firmware certificate. Premises device firmware certificate line.assume line.why))
-    else None
+-- the work of this name with a second file
+abbrev pub paired : List ℕ → Line → List ℕ → Option Work
+paired word line second =
+    if asks word line (codes "check") plain_options then Some (Check second)
+    else (if asks word line (codes "run") plain_options then Some (Run second)
+    else (if asks word line (codes "report") json_options then Some (Report second line.json)
+    else (if asks word line (codes "explain") plain_options then Some (Explain second)
+    else (if asks word line (codes "clear") device_option then Some (Clear second)
+    else (if asks word line (codes "premises") why_options then Some (Premises second line.why)
+    else (if asks word line (codes "attain") trials_options then option_map (Attain second) (trials_in line.trials)
+    else (if asks word line (codes "simulate") steps_options then option_map (Simulate second) (choices_in line.steps)
+    else None)))))))
 
-abbrev pub attaining : Device → List ℕ → List ℕ → Option (List ℕ) → Option ℕ → Option Command
-attaining device firmware certificate assume None = None
-attaining device firmware certificate assume (Some trials) = Some (Attain device firmware certificate assume trials)
+-- the work of this name with a second file, or without
+abbrev pub work_in : List ℕ → Line → Option (List ℕ) → Option Work
+work_in word line (Some second) = paired word line second
+work_in word line None = if asks word line (codes "analyse") steps_options then option_map Analyse (steps_in line.steps) else None
 
-abbrev pub attain_of : Line → Option Command
-attain_of line =
-    if is_none line.steps && (not line.json && not line.why)
-    then on_device (device_in line.device) (λ device. with_both line.first line.second (λ firmware certificate. attaining device firmware certificate line.assume (trials_in line.trials)))
-    else None
+-- the request of these parts, if there are all
+abbrev pub requested : Option Device → Option (List ℕ) → Option (List ℕ) → Option Work → Option Command
+requested (Some device) (Some firmware) assume (Some work) = Some (On (record { device = device; firmware = firmware; assume = assume; work = work }))
+requested _ _ assume _ = None
 
-abbrev pub simulated : Device → List ℕ → List ℕ → Option (List ℕ) → Option ℕ → Option Command
-simulated device firmware devices assume None = None
-simulated device firmware devices assume (Some steps) = Some (Simulate device firmware devices assume steps)
-
-abbrev pub simulate_of : Line → Option Command
-simulate_of line =
-    if is_stepping line
-    then on_device (device_in line.device) (λ device. with_both line.first line.second (λ firmware devices. simulated device firmware devices line.assume (choices_in line.steps)))
-    else None
-
-abbrev pub demo_of : Line → Option Command
-demo_of line = if is_bare line then with_one line.first line.second (λ word. option_map Demo (size_in word)) else None
+-- the measurement of one number alone
+abbrev pub measured : Option (List ℕ) → Option (List ℕ) → Option Command
+measured (Some count) None = option_map Demo (size_in count)
+measured _ _ = None
 
 -- the command of this name
 abbrev pub called : List ℕ → Line → Option Command
 called word line =
-    if bytes_eq word (codes "check") then check_of line
-    else (if bytes_eq word (codes "analyse") then analyse_of line
-    else (if bytes_eq word (codes "run") then run_of line
-    else (if bytes_eq word (codes "report") then report_of line
-    else (if bytes_eq word (codes "explain") then explain_of line
-    else (if bytes_eq word (codes "clear") then clear_of line
-    else (if bytes_eq word (codes "premises") then premises_of line
-    else (if bytes_eq word (codes "attain") then attain_of line
-    else (if bytes_eq word (codes "simulate") then simulate_of line
-    else (if bytes_eq word (codes "demo") then demo_of line
-    else None)))))))))
+    if asks word line (codes "demo") no_options
+    then measured line.first line.second
+    else requested (device_in line.device) line.first line.assume (work_in word line line.second)
 
 -- no option lacks its value
 abbrev pub whole : List ℕ → Option Line → Option Command

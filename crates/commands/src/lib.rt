@@ -3,8 +3,10 @@
 
 mod command;
 mod line;
+mod reading;
 mod size;
 
-pub use command::{Command, called};
+pub use command::{Command, Request, Work};
 pub use line::CommandLine;
+pub use reading::called;
 pub use size::{ChoiceCount, Size};

@@ -41,14 +41,14 @@ use Rattle.clear_laws.specs.CertificateLaws.{ClearVerdictsAreOne, ClearFirmwares
 use Rattle.clear_laws.specs.ListLaws.{ClearWhereNoSites}
 use Rattle.cert_writing.specs.Sizes.{TextsFit}
 use Rattle.guided_trials.specs.Laws.{TrialsAreLed}
-use Rattle.commands.specs.Commands.{Command, Check, Analyse, Run, Report, Explain, Clear, Premises, Attain, Simulate, Demo, device_for}
+use Rattle.commands.specs.Commands.{Work, Check, Analyse, Run, Report, Explain, Clear, Premises, Attain, Simulate, Command, On, Demo}
 use Rattle.replies.specs.declared.status.Status.{Status}
 use Rattle.replies.specs.declared.status.Status.TheVariants as exit
 use Rattle.replies.specs.Firmware.{IsFirmware, firmware_image, firmware_names}
 use Rattle.replies.specs.Texts.{devices_refused, accepted, run_text}
 use Rattle.replies.specs.Reading.{Whole, Contents, certificate_cap}
 use Rattle.replies.specs.Reply.{Reply, WithOptional, WithImage, WithList, ClearSays, ClearReply, PlacesReply, AcceptedReply, AnalyseReply, SimulateReply, DemoReply, IsReply}
-use Rattle.replies.specs.Headline.{AreLoaded, IsListOf, StandFor, Shows, HoldsAsRead, IsLeastAsRead, IsAttainedAsRead, IsSimulatedAsRead, IsMeasured, SaysWhether, AcceptsExactly, AnswersRounds, AnswersDevices, AcceptingRepliesHold, RepliesAreExact}
+use Rattle.replies.specs.Headline.{AreLoaded, IsListOf, StandFor, Shows, HoldsAsRead, IsLeastAsRead, IsAttainedAsRead, IsSimulatedAsRead, IsMeasured, WorkHeadline, SaysWhether, AcceptsExactly, AnswersRounds, AnswersDevices, IsWorkExact, AcceptingRepliesHold, RepliesAreExact}
 use Rattle.replies.proofs.Accepting.{zero_file, zero_optional, zero_image, zero_list, zero_refused, not_rejected, IsJudged, file_read, optional_read, Accepting, IsReplyJudged, HoldsOf, judgement_holds, image_read, list_read, judged_by, valid_judged}
 use Rattle.replies.proofs.Attaining.{written_attained}
 use Rattle.replies.proofs.Least.{AnalysesFit, analysis_best, best_bounds, Ends, analyse_ends, says_ends, not_written}
@@ -80,6 +80,9 @@ no_words : (places : List FlaggedPlace) → map word_of places ≡ [] → places
 no_words [] e = refl
 no_words (p ∷ ps) e = absurd (cc)
 
+abbrev request : Device → List ℕ → Option (List ℕ) → Work → Command
+request device fw assume work = On (record { device = device; firmware = fw; assume = assume; work = work })
+
 module _
     (raw : (device : Device) (bytes words : List ℕ) → IsRawImage device bytes words → words ≡ raw_words device bytes)
     (images : (device : Device) (bytes : List ℕ) → length bytes % 2 ≡ 0 → length bytes ≤ 2 * limit_of device → IsRawImage device bytes (raw_words device bytes))
@@ -103,12 +106,9 @@ module _
     (texts_fit : TextsFit) where
   -- ---- commands that judge
 
-  abbrev check_next : Device → List ℕ → List ℕ → Option (List ℕ) → List ℕ → Program → List Entry → Claim → Reply
-  check_next device fw cert assume = AcceptedReply (Check device fw cert assume)
-
-  holds_as : (command : Command) (assume : Option (List ℕ)) (seen : Contents) (text : List ℕ) (h : HoldsOf raw images narrowing lists read spelled bounds (device_for command) (AcceptedReply command) assume seen text)
-      → Shows command h.firmware h.words h.A h.claim text → HoldsAsRead command assume seen text
-  holds_as command assume seen text h shows =
+  holds_as : (device : Device) (work : Work) (assume : Option (List ℕ)) (seen : Contents) (text : List ℕ) (h : HoldsOf raw images narrowing lists read spelled bounds device (AcceptedReply device work) assume seen text)
+      → Shows device work h.firmware h.words h.A h.claim text → HoldsAsRead device work assume seen text
+  holds_as device work assume seen text h shows =
       record {
         firmware = h.firmware;
         certificate = h.certificate;
@@ -117,10 +117,10 @@ module _
         holds = record { words = h.words; claim = h.claim; assumptions = h.A; stand = h.stand; bounded = h.bounded; told = h.told; shows = shows };
       }
 
-  explained_as : (device : Device) (fw cert : List ℕ) (assume : Option (List ℕ)) (seen : Contents) (text : List ℕ)
-      → HoldsOf raw images narrowing lists read spelled bounds device (AcceptedReply (Explain device fw cert assume)) assume seen text → HoldsAsRead (Explain device fw cert assume) assume seen text
-  explained_as device fw cert assume seen text h =
-      holds_as (Explain device fw cert assume) assume seen text h
+  explained_as : (device : Device) (cert : List ℕ) (assume : Option (List ℕ)) (seen : Contents) (text : List ℕ)
+      → HoldsOf raw images narrowing lists read spelled bounds device (AcceptedReply device (Explain cert)) assume seen text → HoldsAsRead device (Explain cert) assume seen text
+  explained_as device cert assume seen text h =
+      holds_as device (Explain cert) assume seen text h
       (record {
         explanation = h.told.explanation;
         is = h.told.is;
@@ -128,9 +128,9 @@ module _
         told = h.told.says.1;
       })
 
-  attained_as : (device : Device) (fw cert : List ℕ) (assume : Option (List ℕ)) (trials : ℕ) (seen : Contents) (text : List ℕ)
-      → HoldsOf raw images narrowing lists read spelled bounds device (AcceptedReply (Attain device fw cert assume trials)) assume seen text → IsAttainedAsRead device fw cert assume trials seen text
-  attained_as device fw cert assume trials seen text h =
+  attained_as : (device : Device) (cert : List ℕ) (assume : Option (List ℕ)) (trials : ℕ) (seen : Contents) (text : List ℕ)
+      → HoldsOf raw images narrowing lists read spelled bounds device (AcceptedReply device (Attain cert trials)) assume seen text → IsAttainedAsRead device cert assume trials seen text
+  attained_as device cert assume trials seen text h =
       let shows = written_attained led texts_fit h.words h.A trials h.claim runs text h.told h.stand.fits h.valid in
       let stand : StandFor device h.firmware text h.list h.words shows.claim h.A = record { mean = h.stand.mean; made_for = ap (λ (x : Claim). x.device) shows.completed.same ∙ h.stand.made_for; fits = shows.fits; bytes = shows.told } in
       record {
@@ -142,7 +142,7 @@ module _
           holds = record { words = h.words; claim = h.claim; assumptions = h.A; stand = h.stand; bounded = h.bounded; told = h.told; shows = shows };
         };
         again = λ name other.
-            valid_judged raw images narrowing lists read spelled bounds device (check_next device name other assume) name other assume (record seen { second = Whole text }) h.firmware text h.list h.words shows.claim h.A
+            valid_judged raw images narrowing lists read spelled bounds device (AcceptedReply device (Check other)) name other assume (record seen { second = Whole text }) h.firmware text h.list h.words shows.claim h.A
             (record { loaded = record { firmware_read = h.are_read.loaded.firmware_read; list_read = h.are_read.loaded.list_read }; second_read = refl }) stand exit.Done (accepted shows.claim.bound (is_some shows.claim.witness)) shows.valid (refl, refl);
       }
 
@@ -160,14 +160,14 @@ module _
   accepts_by words A next c status text zero (inr h) =
       record { accepted = (λ e. absurd (not_rejected (sym e ∙ h.1)), λ v. absurd (h.0 v)); unclear = λ e. rejected_apart_from_unclear (sym h.1 ∙ e); rejected = (λ e. h.0, λ n. h.1) }
 
-  accepts_valid : (command : Command) (fw cert : List ℕ) (assume : Option (List ℕ)) (seen : Contents) (status : Status) (text : List ℕ)
-      → ((bytes : List ℕ) (words : Program) (A : List Entry) (c : Claim) (s : Status) (t : List ℕ) → AcceptedReply command bytes words A c s t → s ≡ exit.Done)
-      → ((words : Program) (A : List Entry) (c : Claim) (s : Status) → SaysValid words A c s → SaysWhether command words A c s)
-      → IsReplyJudged (device_for command) (AcceptedReply command) fw cert assume seen status text → AcceptsExactly command assume seen status
-  accepts_valid command fw cert assume seen status text zero says h firmware certificate list words claim A are stand =
+  accepts_valid : (device : Device) (work : Work) (fw cert : List ℕ) (assume : Option (List ℕ)) (seen : Contents) (status : Status) (text : List ℕ)
+      → ((bytes : List ℕ) (words : Program) (A : List Entry) (c : Claim) (s : Status) (t : List ℕ) → AcceptedReply device work bytes words A c s t → s ≡ exit.Done)
+      → ((words : Program) (A : List Entry) (c : Claim) (s : Status) → SaysValid words A c s → SaysWhether work words A c s)
+      → IsReplyJudged device (AcceptedReply device work) fw cert assume seen status text → AcceptsExactly device work assume seen status
+  accepts_valid device work fw cert assume seen status text zero says h firmware certificate list words claim A are stand =
       says words A claim status
-      (accepts_by words A (AcceptedReply command firmware words A) claim status text (zero firmware words A claim)
-      (judged_by raw images narrowing lists read spelled bounds (device_for command) (AcceptedReply command) fw cert assume seen firmware certificate list words claim A are stand verdicts status text h))
+      (accepts_by words A (AcceptedReply device work firmware words A) claim status text (zero firmware words A claim)
+      (judged_by raw images narrowing lists read spelled bounds device (AcceptedReply device work) fw cert assume seen firmware certificate list words claim A are stand verdicts status text h))
 
   -- ---- clear and premises
 
@@ -175,8 +175,8 @@ module _
   none_apart node pc e = cc
 
   clear_by : (words : Program) (c : Claim) (status : Status) (text : List ℕ) (v : ClearVerdict) → IsClearVerdict words c v → ClearSays words c v status text → IsValid words [] c
-      → (device : Device) (fw cert : List ℕ) → SaysWhether (Clear device fw cert) words [] c status
-  clear_by words c status text clear.Clear is says valid device fw cert =
+      → (cert : List ℕ) → SaysWhether (Clear cert) words [] c status
+  clear_by words c status text clear.Clear is says valid cert =
       record {
         accepted = (λ e. (valid, is), λ a. says.0);
         unclear = (
@@ -185,16 +185,16 @@ module _
         );
         rejected = (λ e. absurd (not_rejected (sym says.0 ∙ e)), λ n. absurd (n valid));
       }
-  clear_by words c status text (clear.Unclear node pc) is says valid device fw cert =
+  clear_by words c status text (clear.Unclear node pc) is says valid cert =
       record {
         accepted = (λ e. absurd (not_unclear (sym e ∙ says.0)), λ a. absurd (none_apart node pc (told_clear.one words c clear.Clear (clear.Unclear node pc) a.1 is)));
         unclear = (λ e. (valid, (node, pc, is)), λ b. says.0);
         rejected = (λ e. absurd (rejected_apart_from_unclear (sym e ∙ says.0)), λ n. absurd (n valid));
       }
 
-  clear_says : (words : Program) (c : Claim) (status : Status) (text : List ℕ) (device : Device) (fw cert : List ℕ) → IsJudged words [] (ClearReply words) c status text → SaysWhether (Clear device fw cert) words [] c status
-  clear_says words c status text device fw cert (inl h) = clear_by words c status text h.1.verdict h.1.is h.1.says h.0 device fw cert
-  clear_says words c status text device fw cert (inr h) =
+  clear_says : (words : Program) (c : Claim) (status : Status) (text cert : List ℕ) → IsJudged words [] (ClearReply words) c status text → SaysWhether (Clear cert) words [] c status
+  clear_says words c status text cert (inl h) = clear_by words c status text h.1.verdict h.1.is h.1.says h.0 cert
+  clear_says words c status text cert (inr h) =
       record {
         accepted = (λ e. absurd (not_rejected (sym e ∙ h.1)), λ a. absurd (h.0 a.0));
         unclear = (λ e. absurd (rejected_apart_from_unclear (sym h.1 ∙ e)), λ b. absurd (h.0 b.0));
@@ -205,35 +205,35 @@ module _
   no_list device None A e h = sym h
   no_list device (Some bytes) A e h = absurd (let wrong = e in cc)
 
-  clear_read : (device : Device) (fw cert : List ℕ) (seen : Contents) (status : Status) (text : List ℕ) → IsReplyJudged device (AcceptedReply (Clear device fw cert)) fw cert None seen status text
-      → AcceptsExactly (Clear device fw cert) None seen status
+  clear_read : (device : Device) (fw cert : List ℕ) (seen : Contents) (status : Status) (text : List ℕ) → IsReplyJudged device (AcceptedReply device (Clear cert)) fw cert None seen status text
+      → AcceptsExactly device (Clear cert) None seen status
   clear_read device fw cert seen status text h firmware certificate list words claim A are stand =
       let empty : [] ≡ A = no_list device list A are.loaded.list_read stand.mean.assumptions in
-      let judged = judged_by raw images narrowing lists read spelled bounds device (AcceptedReply (Clear device fw cert)) fw cert None seen firmware certificate list words claim A are stand verdicts status text h in
-      subst (λ B. SaysWhether (Clear device fw cert) words B claim status) empty
-      (clear_says words claim status text device fw cert (subst (λ B. IsJudged words B (ClearReply words) claim status text) (sym empty) judged))
+      let judged = judged_by raw images narrowing lists read spelled bounds device (AcceptedReply device (Clear cert)) fw cert None seen firmware certificate list words claim A are stand verdicts status text h in
+      subst (λ B. SaysWhether (Clear cert) words B claim status) empty
+      (clear_says words claim status text cert (subst (λ B. IsJudged words B (ClearReply words) claim status text) (sym empty) judged))
 
   all_clear : (words : Program) (c : Claim) (text : List ℕ) (v : ClearVerdict) → IsClearVerdict words c v → ClearSays words c v exit.Done text → AreAllClear words [] c
   all_clear words c text clear.Clear is says = is
   all_clear words c text (clear.Unclear node pc) is says = absurd (not_unclear says.0)
 
-  clear_as : (device : Device) (fw cert : List ℕ) (seen : Contents) (text : List ℕ)
-      → HoldsOf raw images narrowing lists read spelled bounds device (AcceptedReply (Clear device fw cert)) None seen text → HoldsAsRead (Clear device fw cert) None seen text
-  clear_as device fw cert seen text h =
+  clear_as : (device : Device) (cert : List ℕ) (seen : Contents) (text : List ℕ)
+      → HoldsOf raw images narrowing lists read spelled bounds device (AcceptedReply device (Clear cert)) None seen text → HoldsAsRead device (Clear cert) None seen text
+  clear_as device cert seen text h =
       let empty : [] ≡ h.A = no_list device h.list h.A h.are_read.loaded.list_read h.stand.mean.assumptions in
-      holds_as (Clear device fw cert) None seen text h
+      holds_as device (Clear cert) None seen text h
       (told_clear.never h.words h.claim h.fit h.stand.fits.claim (subst (λ B. IsSound h.words B h.claim) (sym empty) h.valid.sound) (all_clear h.words h.claim text h.told.verdict h.told.is h.told.says))
 
   none_ends : (words : Program) (A : List Entry) (m : State) (choices : List Choice) (word : ℕ) → Contains [] word ⊎ EndsByTakeAt words A [] m choices → ⊥
   none_ends words A m choices word (inl h) = none_in word h
   none_ends words A m choices word (inr h) = none_in (vector_word (device_of words) h.vector) h.word
 
-  premises_as : (device : Device) (fw cert : List ℕ) (assume : Option (List ℕ)) (seen : Contents) (text : List ℕ)
-      → HoldsOf raw images narrowing lists read spelled bounds device (AcceptedReply (Premises device fw cert assume false)) assume seen text
-      → HoldsAsRead (Premises device fw cert assume false) assume seen text
-  premises_as device fw cert assume seen text h =
+  premises_as : (device : Device) (cert : List ℕ) (assume : Option (List ℕ)) (seen : Contents) (text : List ℕ)
+      → HoldsOf raw images narrowing lists read spelled bounds device (AcceptedReply device (Premises cert false)) assume seen text
+      → HoldsAsRead device (Premises cert false) assume seen text
+  premises_as device cert assume seen text h =
       let ends = told_clear.ends h.words h.A h.claim h.told.sites h.told.nevers h.fit h.stand.fits.claim h.valid.sound h.told.are h.told.are_nevers in
-      holds_as (Premises device fw cert assume false) assume seen text h
+      holds_as device (Premises cert false) assume seen text h
       (record {
         sites = h.told.sites;
         nevers = h.told.nevers;
@@ -254,12 +254,12 @@ module _
   none_told words A m choices flag places nevers no_places no_nevers (inr h) =
       none_in (vector_word (device_of words) h.vector) (subst (λ (xs : List ℕ). Contains xs (vector_word (device_of words) h.vector)) no_nevers h.word)
 
-  causes_as : (device : Device) (fw cert : List ℕ) (assume : Option (List ℕ)) (seen : Contents) (text : List ℕ)
-      → HoldsOf raw images narrowing lists read spelled bounds device (AcceptedReply (Premises device fw cert assume true)) assume seen text
-      → HoldsAsRead (Premises device fw cert assume true) assume seen text
-  causes_as device fw cert assume seen text h =
+  causes_as : (device : Device) (cert : List ℕ) (assume : Option (List ℕ)) (seen : Contents) (text : List ℕ)
+      → HoldsOf raw images narrowing lists read spelled bounds device (AcceptedReply device (Premises cert true)) assume seen text
+      → HoldsAsRead device (Premises cert true) assume seen text
+  causes_as device cert assume seen text h =
       let ends = told_clear.places.ends h.words h.A h.claim h.told.places h.told.nevers h.fit h.stand.fits.claim h.valid.sound h.told.are h.told.are_nevers in
-      holds_as (Premises device fw cert assume true) assume seen text h
+      holds_as device (Premises cert true) assume seen text h
       (record {
         places = h.told.places;
         nevers = h.told.nevers;
@@ -280,11 +280,11 @@ module _
   places_zero false names words A c status text k = k.says.0
   places_zero true names words A c status text k = k.says.0
 
-  places_as : (why : Bool) (device : Device) (fw cert : List ℕ) (assume : Option (List ℕ)) (seen : Contents) (text : List ℕ)
-      → HoldsOf raw images narrowing lists read spelled bounds device (AcceptedReply (Premises device fw cert assume why)) assume seen text
-      → HoldsAsRead (Premises device fw cert assume why) assume seen text
-  places_as false device fw cert assume seen text h = premises_as device fw cert assume seen text h
-  places_as true device fw cert assume seen text h = causes_as device fw cert assume seen text h
+  places_as : (why : Bool) (device : Device) (cert : List ℕ) (assume : Option (List ℕ)) (seen : Contents) (text : List ℕ)
+      → HoldsOf raw images narrowing lists read spelled bounds device (AcceptedReply device (Premises cert why)) assume seen text
+      → HoldsAsRead device (Premises cert why) assume seen text
+  places_as false device cert assume seen text h = premises_as device cert assume seen text h
+  places_as true device cert assume seen text h = causes_as device cert assume seen text h
 
   no_reply : Accepting
   no_reply bytes words A c status text = ⊥
@@ -317,12 +317,12 @@ module _
           short = subst (λ (t : List ℕ). length t ≤ certificate_cap) (sym h.says.1) (fit (firmware_image device firmware) A steps h.claim h.analysis best.fits);
         };
         again = λ fw cert.
-            valid_judged raw images narrowing lists read spelled bounds device (check_next device fw cert assume) fw cert assume (record seen { second = Whole text }) firmware text list (firmware_image device firmware) h.claim A
+            valid_judged raw images narrowing lists read spelled bounds device (AcceptedReply device (Check cert)) fw cert assume (record seen { second = Whole text }) firmware text list (firmware_image device firmware) h.claim A
             (record { loaded = record { firmware_read = loaded.firmware_read; list_read = loaded.list_read }; second_read = refl }) stand exit.Done (accepted h.claim.bound (is_some h.claim.witness)) best.valid (refl, refl);
       }
 
   zero_analysis : (device : Device) (fw : List ℕ) (assume : Option (List ℕ)) (steps : Option ℕ) (seen : Contents) (text : List ℕ) → ((firmware : List ℕ) → seen.firmware ≡ Whole firmware → AreWords (firmware_image device firmware))
-      → IsReply (Analyse device fw assume steps) seen exit.Done text → IsLeastAsRead device assume seen text
+      → IsReply (request device fw assume (Analyse steps)) seen exit.Done text → IsLeastAsRead device assume seen text
   zero_analysis device fw assume steps seen text has h =
       let first = zero_file fw seen.firmware _ text h in
       let second = zero_optional assume seen.assumptions (AfterAnalysis device steps first.0) text first.2 in
@@ -330,7 +330,7 @@ module _
       let list = zero_list lists device second.0 (λ B. AnalyseReply (firmware_image device first.0) B steps) text image.1 in
       least_text device assume steps seen text first.0 second.0 list.0 (record { firmware_read = first.1; list_read = second.1 }) image.0 list.1 (has first.0 first.1) list.2
 
-  analysis_read : (device : Device) (fw : List ℕ) (assume : Option (List ℕ)) (steps : Option ℕ) (seen : Contents) (status : Status) (text : List ℕ) → IsReply (Analyse device fw assume steps) seen status text → AnswersRounds device assume steps seen status
+  analysis_read : (device : Device) (fw : List ℕ) (assume : Option (List ℕ)) (steps : Option ℕ) (seen : Contents) (status : Status) (text : List ℕ) → IsReply (request device fw assume (Analyse steps)) seen status text → AnswersRounds device assume steps seen status
   analysis_read device fw assume steps seen status text h firmware list words A loaded mean =
       let first : WithOptional assume seen.assumptions (AfterAnalysis device steps firmware) status text = file_read fw seen.firmware firmware (λ b. WithOptional assume seen.assumptions (AfterAnalysis device steps b)) status text loaded.firmware_read h in
       let second = optional_read assume seen.assumptions list (AfterAnalysis device steps firmware) status text loaded.list_read first in
@@ -350,7 +350,7 @@ module _
   zero_setup words A steps (Ok setup) text h = (setup, refl, h.1)
 
   zero_simulation : (device : Device) (fw dev : List ℕ) (assume : Option (List ℕ)) (steps : ℕ) (seen : Contents) (text : List ℕ) → ((firmware : List ℕ) → seen.firmware ≡ Whole firmware → AreWords (firmware_image device firmware))
-      → IsReply (Simulate device fw dev assume steps) seen exit.Done text → IsSimulatedAsRead device assume steps seen text
+      → IsReply (request device fw assume (Simulate dev steps)) seen exit.Done text → IsSimulatedAsRead device assume steps seen text
   zero_simulation device fw dev assume steps seen text has h =
       let first = zero_file fw seen.firmware _ text h in
       let second = zero_file dev seen.second _ text first.2 in
@@ -382,7 +382,7 @@ module _
     λ s. (subst (λ x. SimulateReply words A steps x status text) (devices.spelled (device_of words) bytes s.0 s.1) h).0,
   )
 
-  simulation_read : (device : Device) (fw dev : List ℕ) (assume : Option (List ℕ)) (steps : ℕ) (seen : Contents) (status : Status) (text : List ℕ) → IsReply (Simulate device fw dev assume steps) seen status text → AnswersDevices device assume seen status
+  simulation_read : (device : Device) (fw dev : List ℕ) (assume : Option (List ℕ)) (steps : ℕ) (seen : Contents) (status : Status) (text : List ℕ) → IsReply (request device fw assume (Simulate dev steps)) seen status text → AnswersDevices device assume seen status
   simulation_read device fw dev assume steps seen status text h firmware devices list words A are mean =
       let first = file_read fw seen.firmware firmware _ status text are.loaded.firmware_read h in
       let second = file_read dev seen.second devices _ status text are.second_read first in
@@ -404,44 +404,51 @@ module _
 
   -- ---- all
 
+  -- a work whose reply is by the verdict on its certificate
+  judged_holds : (device : Device) (fw cert : List ℕ) (assume : Option (List ℕ)) (work : Work) (seen : Contents) (status : Status) (text : List ℕ) → IsReplyJudged device (AcceptedReply device work) fw cert assume seen status text
+      → (status ≡ exit.Done → (firmware : List ℕ) → seen.firmware ≡ Whole firmware → AreWords (firmware_image device firmware)) → status ≡ exit.Done
+      → HoldsOf raw images narrowing lists read spelled bounds device (AcceptedReply device work) assume seen text
+  judged_holds device fw cert assume work seen status text h has zero =
+      judgement_holds raw images narrowing lists read spelled bounds device (AcceptedReply device work) fw cert assume seen text (has zero) (subst (λ s. IsReplyJudged device (AcceptedReply device work) fw cert assume seen s text) zero h)
+
+  work_holds : (device : Device) (fw : List ℕ) (assume : Option (List ℕ)) (work : Work) (seen : Contents) (status : Status) (text : List ℕ) → IsReply (request device fw assume work) seen status text
+      → (status ≡ exit.Done → (firmware : List ℕ) → seen.firmware ≡ Whole firmware → AreWords (firmware_image device firmware)) → WorkHeadline device assume work seen status text
+  work_holds device fw assume (Check cert) seen status text h has = λ zero. holds_as device (Check cert) assume seen text (judged_holds device fw cert assume (Check cert) seen status text h has zero) tt
+  work_holds device fw assume (Analyse steps) seen status text h has =
+      λ zero. zero_analysis device fw assume steps seen text (has zero) (subst (λ s. IsReply (request device fw assume (Analyse steps)) seen s text) zero h)
+  work_holds device fw assume (Run schedule) seen status text h has = tt
+  work_holds device fw assume (Report cert json) seen status text h has =
+      λ zero. holds_as device (Report cert json) assume seen text (judged_holds device fw cert assume (Report cert json) seen status text h has zero) tt
+  work_holds device fw assume (Explain cert) seen status text h has = λ zero. explained_as device cert assume seen text (judged_holds device fw cert assume (Explain cert) seen status text h has zero)
+  work_holds device fw assume (Clear cert) seen status text h has = λ zero. clear_as device cert seen text (judged_holds device fw cert None (Clear cert) seen status text h has zero)
+  work_holds device fw assume (Premises cert why) seen status text h has =
+      λ zero. places_as why device cert assume seen text (judged_holds device fw cert assume (Premises cert why) seen status text h has zero)
+  work_holds device fw assume (Attain cert trials) seen status text h has =
+      λ zero. attained_as device cert assume trials seen text (judged_holds device fw cert assume (Attain cert trials) seen status text h has zero)
+  work_holds device fw assume (Simulate dev steps) seen status text h has =
+      λ zero. zero_simulation device fw dev assume steps seen text (has zero) (subst (λ s. IsReply (request device fw assume (Simulate dev steps)) seen s text) zero h)
+
   pub replies_hold : AcceptingRepliesHold
-  replies_hold (Check device fw cert assume) seen status text h has =
-      λ zero. holds_as (Check device fw cert assume) assume seen text
-      (judgement_holds raw images narrowing lists read spelled bounds device (AcceptedReply (Check device fw cert assume)) fw cert assume seen text (has zero) (subst (λ s. IsReply (Check device fw cert assume) seen s text) zero h)) tt
-  replies_hold (Analyse device fw assume steps) seen status text h has =
-      λ zero. zero_analysis device fw assume steps seen text (has zero) (subst (λ s. IsReply (Analyse device fw assume steps) seen s text) zero h)
-  replies_hold (Run device fw schedule assume) seen status text h has = tt
-  replies_hold (Report device fw cert assume json) seen status text h has =
-      λ zero. holds_as (Report device fw cert assume json) assume seen text
-      (judgement_holds raw images narrowing lists read spelled bounds device (AcceptedReply (Report device fw cert assume json)) fw cert assume seen text (has zero) (subst (λ s. IsReply (Report device fw cert assume json) seen s text) zero h)) tt
-  replies_hold (Explain device fw cert assume) seen status text h has =
-      λ zero. explained_as device fw cert assume seen text
-      (judgement_holds raw images narrowing lists read spelled bounds device (AcceptedReply (Explain device fw cert assume)) fw cert assume seen text (has zero) (subst (λ s. IsReply (Explain device fw cert assume) seen s text) zero h))
-  replies_hold (Clear device fw cert) seen status text h has =
-      λ zero. clear_as device fw cert seen text
-      (judgement_holds raw images narrowing lists read spelled bounds device (AcceptedReply (Clear device fw cert)) fw cert None seen text (has zero) (subst (λ s. IsReply (Clear device fw cert) seen s text) zero h))
-  replies_hold (Premises device fw cert assume why) seen status text h has =
-      λ zero. places_as why device fw cert assume seen text
-      (judgement_holds raw images narrowing lists read spelled bounds device (AcceptedReply (Premises device fw cert assume why)) fw cert assume seen text (has zero) (subst (λ s. IsReply (Premises device fw cert assume why) seen s text) zero h))
-  replies_hold (Attain device fw cert assume trials) seen status text h has =
-      λ zero. attained_as device fw cert assume trials seen text
-      (judgement_holds raw images narrowing lists read spelled bounds device (AcceptedReply (Attain device fw cert assume trials)) fw cert assume seen text (has zero) (subst (λ s. IsReply (Attain device fw cert assume trials) seen s text) zero h))
-  replies_hold (Simulate device fw dev assume steps) seen status text h has =
-      λ zero. zero_simulation device fw dev assume steps seen text (has zero) (subst (λ s. IsReply (Simulate device fw dev assume steps) seen s text) zero h)
+  replies_hold (On r) seen status text h has = work_holds r.device r.firmware r.assume r.work seen status text h has
   replies_hold (Demo size) seen status text h has = λ zero. measured size text (subst (λ s. IsReply (Demo size) seen s text) zero h)
 
+  work_is_exact : (device : Device) (fw : List ℕ) (assume : Option (List ℕ)) (work : Work) (seen : Contents) (status : Status) (text : List ℕ) → IsReply (request device fw assume work) seen status text
+      → IsWorkExact device assume work seen status
+  work_is_exact device fw assume (Check cert) seen status text h =
+      accepts_valid device (Check cert) fw cert assume seen status text (λ bytes ws B c s t k. k.0) (λ ws B c s k. record { accepted = k.accepted; unclear = (k.unclear, λ b. absurd b); rejected = k.rejected }) h
+  work_is_exact device fw assume (Analyse steps) seen status text h = analysis_read device fw assume steps seen status text h
+  work_is_exact device fw assume (Run schedule) seen status text h = tt
+  work_is_exact device fw assume (Report cert json) seen status text h =
+      accepts_valid device (Report cert json) fw cert assume seen status text (λ bytes ws B c s t k. k.0) (λ ws B c s k. record { accepted = k.accepted; unclear = (k.unclear, λ b. absurd b); rejected = k.rejected }) h
+  work_is_exact device fw assume (Explain cert) seen status text h =
+      accepts_valid device (Explain cert) fw cert assume seen status text (λ bytes ws B c s t k. k.says.0) (λ ws B c s k. record { accepted = k.accepted; unclear = (k.unclear, λ b. absurd b); rejected = k.rejected }) h
+  work_is_exact device fw assume (Clear cert) seen status text h = clear_read device fw cert seen status text h
+  work_is_exact device fw assume (Premises cert why) seen status text h =
+      accepts_valid device (Premises cert why) fw cert assume seen status text (λ bytes ws B c s t k. places_zero why (firmware_names device bytes) ws B c s t k) (λ ws B c s k. record { accepted = k.accepted; unclear = (k.unclear, λ b. absurd b); rejected = k.rejected }) h
+  work_is_exact device fw assume (Attain cert trials) seen status text h =
+      accepts_valid device (Attain cert trials) fw cert assume seen status text (λ bytes ws B c s t k. k.says.0) (λ ws B c s k. record { accepted = k.accepted; unclear = (k.unclear, λ b. absurd b); rejected = k.rejected }) h
+  work_is_exact device fw assume (Simulate dev steps) seen status text h = simulation_read device fw dev assume steps seen status text h
+
   pub replies_are_exact : RepliesAreExact
-  replies_are_exact (Check device fw cert assume) seen status text h = accepts_valid (Check device fw cert assume) fw cert assume seen status text (λ bytes ws B c s t k. k.0) (λ ws B c s k. record { accepted = k.accepted; unclear = (k.unclear, λ b. absurd b); rejected = k.rejected }) h
-  replies_are_exact (Analyse device fw assume steps) seen status text h = analysis_read device fw assume steps seen status text h
-  replies_are_exact (Run device fw schedule assume) seen status text h = tt
-  replies_are_exact (Report device fw cert assume json) seen status text h =
-      accepts_valid (Report device fw cert assume json) fw cert assume seen status text (λ bytes ws B c s t k. k.0) (λ ws B c s k. record { accepted = k.accepted; unclear = (k.unclear, λ b. absurd b); rejected = k.rejected }) h
-  replies_are_exact (Explain device fw cert assume) seen status text h =
-      accepts_valid (Explain device fw cert assume) fw cert assume seen status text (λ bytes ws B c s t k. k.says.0) (λ ws B c s k. record { accepted = k.accepted; unclear = (k.unclear, λ b. absurd b); rejected = k.rejected }) h
-  replies_are_exact (Clear device fw cert) seen status text h = clear_read device fw cert seen status text h
-  replies_are_exact (Premises device fw cert assume why) seen status text h =
-      accepts_valid (Premises device fw cert assume why) fw cert assume seen status text (λ bytes ws B c s t k. places_zero why (firmware_names device bytes) ws B c s t k) (λ ws B c s k. record { accepted = k.accepted; unclear = (k.unclear, λ b. absurd b); rejected = k.rejected }) h
-  replies_are_exact (Attain device fw cert assume trials) seen status text h =
-      accepts_valid (Attain device fw cert assume trials) fw cert assume seen status text (λ bytes ws B c s t k. k.says.0) (λ ws B c s k. record { accepted = k.accepted; unclear = (k.unclear, λ b. absurd b); rejected = k.rejected }) h
-  replies_are_exact (Simulate device fw dev assume steps) seen status text h = simulation_read device fw dev assume steps seen status text h
+  replies_are_exact (On r) seen status text h = work_is_exact r.device r.firmware r.assume r.work seen status text h
   replies_are_exact (Demo size) seen status text h = says_ends answers rounds solutions bounds runs (demo_program size) [] None status text (demo_ends size status text h)

@@ -29,14 +29,14 @@ use Rattle.device_hooks.specs.declared.devices.DevicesFault.{DevicesFault}
 use Rattle.device_hooks.specs.Spelling.{Setup}
 use Rattle.device_hooks.specs.Reading.{setup_in}
 use Rattle.device_hooks.specs.Simulating.{simulation_of}
-use Rattle.commands.specs.Commands.{Command, Check, Analyse, Run, Report, Explain, Clear, Premises, Attain, Simulate, Demo, Firmware, Second, Assumptions, device_for, name_of}
+use Rattle.commands.specs.Commands.{Work, Check, Analyse, Run, Report, Explain, Clear, Premises, Attain, Simulate, Command, On, Demo, Firmware, Second, Assumptions, name_of}
 use Rattle.replies.specs.declared.status.Status.{Status}
 use Rattle.replies.specs.declared.status.Status.TheVariants as exit
 use Rattle.replies.specs.Firmware.{firmware_image, firmware_fault, firmware_names}
 use Rattle.replies.specs.Texts.{too_long, assumptions_refused, certificate_refused, schedule_malformed, schedule_illegal, devices_refused, rejected, witness_rejected, run_text}
 use Rattle.replies.specs.Places.{clear_text, unclear_text, premises_text, why_text}
 use Rattle.replies.specs.Reading.{Seen, Unread, Whole, Long}
-use Rattle.replies.specs.Reply.{Reply, Says, Refuses, WithFile, WithBytes, WithOptional, ImageBy, WithImage, ListBy, WithList, attains, AttainedBy, WitnessReply, VerdictReply, JudgedReply, CertificateReply, RunReply, EndsBefore, ScheduleReply, told_of, ExplainReply, ClearSays, ClearReply, PremisesReply, WhyReply, PlacesReply, AcceptedReply, SimulateReply, FlashReply, WorkReply}
+use Rattle.replies.specs.Reply.{Reply, Says, Refuses, WithFile, WithBytes, WithOptional, ImageBy, ListBy, WithList, attains, AttainedBy, WitnessReply, VerdictReply, JudgedReply, CertificateReply, RunReply, EndsBefore, ScheduleReply, told_of, ExplainReply, ClearSays, ClearReply, PremisesReply, WhyReply, PlacesReply, AcceptedReply, SimulateReply, FlashReply, ImageReply, WorkReply}
 use Rattle.replies.specs.Headline.{RepliesAreOne}
 use Rattle.replies.proofs.Analysing.{analyse_one, demo_one}
 use Rattle.replies.proofs.Attaining.{attain_one}
@@ -149,38 +149,29 @@ module _ (read : ReadCertificateIsSpelled) (one : VerdictsAreOne) (answers : Ans
   places_one false names words A c claim s t a b h k = premises_one names words A c claim s t a b h k
   places_one true names words A c claim s t a b h k = why_one names words A c claim s t a b h k
 
-  flash_one : (command : Command) (firmware bytes : List ℕ) (words : Program) (A : List Entry) → IsOneAnswer (FlashReply command firmware bytes words A)
-  flash_one (Check device fw cert assume) firmware bytes words A =
-      read_one words A (AcceptedReply (Check device fw cert assume) firmware words A) bytes (λ c claim. says_one exit.Done (told_of (Check device fw cert assume) firmware c))
-  flash_one (Analyse device fw assume steps) firmware bytes words A = analyse_one answers chains words A steps
-  flash_one (Run device fw schedule assume) firmware bytes words A = schedule_one words A (schedule_in (device_of words) _)
-  flash_one (Report device fw cert assume json) firmware bytes words A =
-      read_one words A (AcceptedReply (Report device fw cert assume json) firmware words A) bytes (λ c claim. says_one exit.Done (told_of (Report device fw cert assume json) firmware c))
-  flash_one (Explain device fw cert assume) firmware bytes words A =
-      read_one words A (AcceptedReply (Explain device fw cert assume) firmware words A) bytes (explain_one (firmware_names device firmware) words A)
-  flash_one (Clear device fw cert) firmware bytes words A = read_one words [] (ClearReply words) bytes (clear_one words)
-  flash_one (Premises device fw cert assume why) firmware bytes words A =
-      read_one words A (AcceptedReply (Premises device fw cert assume why) firmware words A) bytes (places_one why (firmware_names device firmware) words A)
-  flash_one (Attain device fw cert assume trials) firmware bytes words A =
-      read_one words A (AcceptedReply (Attain device fw cert assume trials) firmware words A) bytes (λ c claim. attain_one words A trials c)
-  flash_one (Simulate device fw devices assume steps) firmware bytes words A = simulate_one words A steps (setup_in (device_of words) bytes)
-  flash_one (Demo size) firmware bytes words A = demo_one answers chains size
+  flash_one : (device : Device) (work : Work) (firmware bytes : List ℕ) (words : Program) (A : List Entry) → IsOneAnswer (FlashReply device work firmware bytes words A)
+  flash_one device (Check cert) firmware bytes words A =
+      read_one words A (AcceptedReply device (Check cert) firmware words A) bytes (λ c claim. says_one exit.Done (told_of device (Check cert) firmware c))
+  flash_one device (Analyse steps) firmware bytes words A = analyse_one answers chains words A steps
+  flash_one device (Run schedule) firmware bytes words A = schedule_one words A (schedule_in (device_of words) _)
+  flash_one device (Report cert json) firmware bytes words A =
+      read_one words A (AcceptedReply device (Report cert json) firmware words A) bytes (λ c claim. says_one exit.Done (told_of device (Report cert json) firmware c))
+  flash_one device (Explain cert) firmware bytes words A =
+      read_one words A (AcceptedReply device (Explain cert) firmware words A) bytes (explain_one (firmware_names device firmware) words A)
+  flash_one device (Clear cert) firmware bytes words A = read_one words [] (ClearReply words) bytes (clear_one words)
+  flash_one device (Premises cert why) firmware bytes words A =
+      read_one words A (AcceptedReply device (Premises cert why) firmware words A) bytes (places_one why (firmware_names device firmware) words A)
+  flash_one device (Attain cert trials) firmware bytes words A =
+      read_one words A (AcceptedReply device (Attain cert trials) firmware words A) bytes (λ c claim. attain_one words A trials c)
+  flash_one device (Simulate devices steps) firmware bytes words A = simulate_one words A steps (setup_in (device_of words) bytes)
 
-  on_flash_one : (command : Command) (firmware second : List ℕ) (list : Option (List ℕ)) → IsOneAnswer (WithImage (device_for command) firmware (λ words. WithList (device_for command) list (λ A. FlashReply command firmware second words A)))
-  on_flash_one command firmware second list =
-      image_one (firmware_fault (device_for command) firmware) (WithList (device_for command) list (λ A. FlashReply command firmware second (firmware_image (device_for command) firmware) A))
-      (with_list_one (device_for command) list (λ A. FlashReply command firmware second (firmware_image (device_for command) firmware) A) (flash_one command firmware second (firmware_image (device_for command) firmware)))
+  on_image_one : (device : Device) (work : Work) (firmware second : List ℕ) (list : Option (List ℕ)) → IsOneAnswer (ImageReply device work firmware second list)
+  on_image_one device work firmware second list =
+      image_one (firmware_fault device firmware) (WithList device list (λ A. FlashReply device work firmware second (firmware_image device firmware) A))
+      (with_list_one device list (λ A. FlashReply device work firmware second (firmware_image device firmware) A) (flash_one device work firmware second (firmware_image device firmware)))
 
   work_one : (command : Command) (firmware second : List ℕ) (list : Option (List ℕ)) → IsOneAnswer (WorkReply command firmware second list)
-  work_one (Check device fw cert assume) firmware second list = on_flash_one (Check device fw cert assume) firmware second list
-  work_one (Analyse device fw assume steps) firmware second list = on_flash_one (Analyse device fw assume steps) firmware second list
-  work_one (Run device fw schedule assume) firmware second list = on_flash_one (Run device fw schedule assume) firmware second list
-  work_one (Report device fw cert assume json) firmware second list = on_flash_one (Report device fw cert assume json) firmware second list
-  work_one (Explain device fw cert assume) firmware second list = on_flash_one (Explain device fw cert assume) firmware second list
-  work_one (Clear device fw cert) firmware second list = on_flash_one (Clear device fw cert) firmware second list
-  work_one (Premises device fw cert assume why) firmware second list = on_flash_one (Premises device fw cert assume why) firmware second list
-  work_one (Attain device fw cert assume trials) firmware second list = on_flash_one (Attain device fw cert assume trials) firmware second list
-  work_one (Simulate device fw devices assume steps) firmware second list = on_flash_one (Simulate device fw devices assume steps) firmware second list
+  work_one (On request) firmware second list = on_image_one request.device request.work firmware second list
   work_one (Demo size) firmware second list = demo_one answers chains size
 
   pub replies_are_one : RepliesAreOne

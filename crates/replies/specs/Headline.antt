@@ -33,7 +33,7 @@ use Rattle.demo_image.specs.Image.{demo_program}
 use Rattle.device_hooks.specs.Spelling.{Setup}
 use Rattle.device_hooks.specs.Exact.{IsSetupReading as IsDevices}
 use Rattle.device_hooks.specs.Simulating.{simulation_of}
-use Rattle.commands.specs.Commands.{Command, Check, Analyse, Run, Report, Explain, Clear, Premises, Attain, Simulate, Demo, device_for}
+use Rattle.commands.specs.Commands.{Work, Check, Analyse, Run, Explain, Clear, Premises, Attain, Simulate, Command, On, Demo}
 use Rattle.local_rules.specs.Machine.{AreWords}
 use Rattle.replies.specs.declared.status.Status.{Status}
 use Rattle.replies.specs.declared.status.Status.TheVariants as exit
@@ -140,33 +140,33 @@ pub record IsWrittenAttained (words : Program) (A : List Entry) (trials : ℕ) (
   pub reached : is_some claim.witness ≡ true → IsDepthReached words A claim.bound
   pub short : length (text_of c) ≤ certificate_cap → length text ≤ certificate_cap
 
--- what a text states of an accepted certificate besides its bound, for a firmware of these bytes with these words
-abbrev pub Shows : Command → List ℕ → Program → List Entry → Claim → List ℕ → Type 0
-Shows (Explain device firmware certificate assume) bytes words A c text = IsExplained (firmware_names device bytes) words A c text
-Shows (Clear device firmware certificate) bytes words A c text = IsBoundedAndClear words c.bound
-Shows (Premises device firmware certificate assume why) bytes words A c text = TellsPlaces why (firmware_names device bytes) words A c text
-Shows (Attain device firmware certificate assume trials) bytes words A c text = IsWrittenAttained words A trials c text
-Shows command bytes words A c text = ⊤
+-- what a text of a work states of an accepted certificate besides its bound, for a firmware of these bytes on the device with these words
+abbrev pub Shows : Device → Work → List ℕ → Program → List Entry → Claim → List ℕ → Type 0
+Shows device (Explain certificate) bytes words A c text = IsExplained (firmware_names device bytes) words A c text
+Shows device (Clear certificate) bytes words A c text = IsBoundedAndClear words c.bound
+Shows device (Premises certificate why) bytes words A c text = TellsPlaces why (firmware_names device bytes) words A c text
+Shows device (Attain certificate trials) bytes words A c text = IsWrittenAttained words A trials c text
+Shows device work bytes words A c text = ⊤
 
--- No run of the firmware's words on the command's device, from reset, is deeper than the bound of the certificate with this text. This
--- holds whatever memory held, whatever interrupts are taken and whatever bytes are read, up to the first step that is flagged under the
--- assumption file. The printed text is the command's answer on this certificate, with its bound, and states what else it should.
-pub record Holds (command : Command) (firmware certificate : List ℕ) (list : Option (List ℕ)) (text : List ℕ) : Type 0 where
+-- No run of the firmware's words on the device, from reset, is deeper than the bound of the certificate with this text. This holds
+-- whatever memory held, whatever interrupts are taken and whatever bytes are read, up to the first step that is flagged under the
+-- assumption file. The printed text is the work's answer on this certificate, with its bound, and states what else it should.
+pub record Holds (device : Device) (work : Work) (firmware certificate : List ℕ) (list : Option (List ℕ)) (text : List ℕ) : Type 0 where
   pub words : Program
   pub claim : Claim
   pub assumptions : List Entry
-  pub stand : StandFor (device_for command) firmware certificate list words claim assumptions
+  pub stand : StandFor device firmware certificate list words claim assumptions
   pub bounded : Bounded words assumptions claim.bound
-  pub told : AcceptedReply command firmware words assumptions claim exit.Done text
-  pub shows : Shows command firmware words assumptions claim text
+  pub told : AcceptedReply device work firmware words assumptions claim exit.Done text
+  pub shows : Shows device work firmware words assumptions claim text
 
--- all files of a command that judges a certificate were read, and the bound holds of their bytes
-pub record HoldsAsRead (command : Command) (assume : Option (List ℕ)) (seen : Contents) (text : List ℕ) : Type 0 where
+-- all files of a work that judges a certificate were read, and the bound holds of their bytes
+pub record HoldsAsRead (device : Device) (work : Work) (assume : Option (List ℕ)) (seen : Contents) (text : List ℕ) : Type 0 where
   pub firmware : List ℕ
   pub certificate : List ℕ
   pub list : Option (List ℕ)
   pub read : AreRead assume seen firmware certificate list
-  pub holds : Holds command firmware certificate list text
+  pub holds : Holds device work firmware certificate list text
 
 -- ---- a certificate that is written
 
@@ -189,7 +189,7 @@ pub record IsLeastCertificate (device : Device) (firmware : List ℕ) (list : Op
 -- `check` of this text accepts, with the same device, firmware and assumptions
 abbrev pub IsAcceptedAgain : Device → Option (List ℕ) → Contents → List ℕ → Claim → Type 0
 IsAcceptedAgain device assume seen text c =
-    (firmware certificate : List ℕ) → IsReply (Check device firmware certificate assume) (record seen { second = Whole text }) exit.Done (accepted c.bound (is_some c.witness))
+    (firmware certificate : List ℕ) → IsReply (On (record { device = device; firmware = firmware; assume = assume; work = Check certificate })) (record seen { second = Whole text }) exit.Done (accepted c.bound (is_some c.witness))
 
 -- all files of an analysis were read, and its text is that of their least certificate
 pub record IsLeastAsRead (device : Device) (assume : Option (List ℕ)) (seen : Contents) (text : List ℕ) : Type 0 where
@@ -200,8 +200,8 @@ pub record IsLeastAsRead (device : Device) (assume : Option (List ℕ)) (seen : 
   pub again : IsAcceptedAgain device assume seen text certificate.claim
 
 -- all files of `attain` were read, the bound holds of their bytes, and `check` accepts what is written
-pub record IsAttainedAsRead (device : Device) (firmware certificate : List ℕ) (assume : Option (List ℕ)) (trials : ℕ) (seen : Contents) (text : List ℕ) : Type 0 where
-  pub holds : HoldsAsRead (Attain device firmware certificate assume trials) assume seen text
+pub record IsAttainedAsRead (device : Device) (certificate : List ℕ) (assume : Option (List ℕ)) (trials : ℕ) (seen : Contents) (text : List ℕ) : Type 0 where
+  pub holds : HoldsAsRead device (Attain certificate trials) assume seen text
   pub again : IsAcceptedAgain device assume seen text holds.holds.shows.claim
 
 -- ---- a run that is simulated
@@ -239,43 +239,41 @@ pub record IsMeasured (size : ℕ) (text : List ℕ) : Type 0 where
 -- If a certificate is accepted, the bound holds, an explanation accounts for its bytes, no step is flagged if all nodes are clear, and
 -- steps are flagged only at listed words with listed causes. If one is written, it is the least, or the accepted one with a schedule that
 -- reaches its bound. A simulated run stays within each accepted bound. The numbers of an image are those of its rounds.
+abbrev pub WorkHeadline : Device → Option (List ℕ) → Work → Contents → Status → List ℕ → Type 0
+WorkHeadline device assume (Analyse steps) seen status text = status ≡ exit.Done → IsLeastAsRead device assume seen text
+WorkHeadline device assume (Run schedule) seen status text = ⊤
+WorkHeadline device assume (Clear certificate) seen status text = status ≡ exit.Done → HoldsAsRead device (Clear certificate) None seen text
+WorkHeadline device assume (Attain certificate trials) seen status text = status ≡ exit.Done → IsAttainedAsRead device certificate assume trials seen text
+WorkHeadline device assume (Simulate devices steps) seen status text = status ≡ exit.Done → IsSimulatedAsRead device assume steps seen text
+WorkHeadline device assume work seen status text = status ≡ exit.Done → HoldsAsRead device work assume seen text
+
 abbrev pub Headline : Command → Contents → Status → List ℕ → Type 0
-Headline (Check device firmware certificate assume) seen status text = status ≡ exit.Done → HoldsAsRead (Check device firmware certificate assume) assume seen text
-Headline (Analyse device firmware assume steps) seen status text = status ≡ exit.Done → IsLeastAsRead device assume seen text
-Headline (Run device firmware schedule assume) seen status text = ⊤
-Headline (Report device firmware certificate assume json) seen status text =
-    status ≡ exit.Done → HoldsAsRead (Report device firmware certificate assume json) assume seen text
-Headline (Explain device firmware certificate assume) seen status text = status ≡ exit.Done → HoldsAsRead (Explain device firmware certificate assume) assume seen text
-Headline (Clear device firmware certificate) seen status text = status ≡ exit.Done → HoldsAsRead (Clear device firmware certificate) None seen text
-Headline (Premises device firmware certificate assume why) seen status text =
-    status ≡ exit.Done → HoldsAsRead (Premises device firmware certificate assume why) assume seen text
-Headline (Attain device firmware certificate assume trials) seen status text = status ≡ exit.Done → IsAttainedAsRead device firmware certificate assume trials seen text
-Headline (Simulate device firmware devices assume steps) seen status text = status ≡ exit.Done → IsSimulatedAsRead device assume steps seen text
+Headline (On request) seen status text = WorkHeadline request.device request.assume request.work seen status text
 Headline (Demo size) seen status text = status ≡ exit.Done → IsMeasured size text
 
 -- ---- when the answers come
 
--- the certificate that a command accepts, for these words under these assumptions: it is valid, and for `clear` all nodes are clear
-abbrev pub Accepts : Command → Program → List Entry → Claim → Type 0
-Accepts (Clear device firmware certificate) words A c = IsValid words A c × AreAllClear words A c
-Accepts command words A c = IsValid words A c
+-- the certificate that a work accepts, for these words under these assumptions: it is valid, and for `clear` all nodes are clear
+abbrev pub Accepts : Work → Program → List Entry → Claim → Type 0
+Accepts (Clear certificate) words A c = IsValid words A c × AreAllClear words A c
+Accepts work words A c = IsValid words A c
 
--- the certificate has a node that isn't clear, for a command that asks
-abbrev pub Blames : Command → Program → List Entry → Claim → Type 0
-Blames (Clear device firmware certificate) words A c = IsValid words A c × ((node pc : ℕ) × IsFirstUnclear words A c node pc)
-Blames command words A c = ⊥
+-- the certificate has a node that isn't clear, for a work that asks
+abbrev pub Blames : Work → Program → List Entry → Claim → Type 0
+Blames (Clear certificate) words A c = IsValid words A c × ((node pc : ℕ) × IsFirstUnclear words A c node pc)
+Blames work words A c = ⊥
 
 -- the status says whether the certificate is accepted, has a node that isn't clear, or isn't valid
-pub record SaysWhether (command : Command) (words : Program) (A : List Entry) (c : Claim) (status : Status) : Type 0 where
-  pub accepted : (status ≡ exit.Done) ↔ Accepts command words A c
-  pub unclear : (status ≡ exit.Unclear) ↔ Blames command words A c
+pub record SaysWhether (work : Work) (words : Program) (A : List Entry) (c : Claim) (status : Status) : Type 0 where
+  pub accepted : (status ≡ exit.Done) ↔ Accepts work words A c
+  pub unclear : (status ≡ exit.Unclear) ↔ Blames work words A c
   pub rejected : (status ≡ exit.Rejected) ↔ (IsValid words A c → ⊥)
 
 -- `SaysWhether` for the files of a command, if they are well-formed
-abbrev pub AcceptsExactly : Command → Option (List ℕ) → Contents → Status → Type 0
-AcceptsExactly command assume seen status =
+abbrev pub AcceptsExactly : Device → Work → Option (List ℕ) → Contents → Status → Type 0
+AcceptsExactly device work assume seen status =
     (firmware certificate : List ℕ) (list : Option (List ℕ)) (words : Program) (claim : Claim) (A : List Entry)
-    → AreRead assume seen firmware certificate list → StandFor (device_for command) firmware certificate list words claim A → SaysWhether command words A claim status
+    → AreRead assume seen firmware certificate list → StandFor device firmware certificate list words claim A → SaysWhether work words A claim status
 
 -- some certificate is valid for the words and the assumptions
 abbrev pub HasValid : Program → List Entry → Type 0
@@ -302,16 +300,15 @@ AnswersDevices device assume seen status =
     (firmware devices : List ℕ) (list : Option (List ℕ)) (words : Program) (A : List Entry)
     → AreRead assume seen firmware devices list → Mean device firmware list words A → (status ≡ exit.Done) ↔ ((setup : Setup) × IsDevices device devices setup)
 
+abbrev pub IsWorkExact : Device → Option (List ℕ) → Work → Contents → Status → Type 0
+IsWorkExact device assume (Analyse steps) seen status = AnswersRounds device assume steps seen status
+IsWorkExact device assume (Run schedule) seen status = ⊤
+IsWorkExact device assume (Clear certificate) seen status = AcceptsExactly device (Clear certificate) None seen status
+IsWorkExact device assume (Simulate devices steps) seen status = AnswersDevices device assume seen status
+IsWorkExact device assume work seen status = AcceptsExactly device work assume seen status
+
 abbrev pub IsExact : Command → Contents → Status → Type 0
-IsExact (Check device firmware certificate assume) seen status = AcceptsExactly (Check device firmware certificate assume) assume seen status
-IsExact (Analyse device firmware assume steps) seen status = AnswersRounds device assume steps seen status
-IsExact (Run device firmware schedule assume) seen status = ⊤
-IsExact (Report device firmware certificate assume json) seen status = AcceptsExactly (Report device firmware certificate assume json) assume seen status
-IsExact (Explain device firmware certificate assume) seen status = AcceptsExactly (Explain device firmware certificate assume) assume seen status
-IsExact (Clear device firmware certificate) seen status = AcceptsExactly (Clear device firmware certificate) None seen status
-IsExact (Premises device firmware certificate assume why) seen status = AcceptsExactly (Premises device firmware certificate assume why) assume seen status
-IsExact (Attain device firmware certificate assume trials) seen status = AcceptsExactly (Attain device firmware certificate assume trials) assume seen status
-IsExact (Simulate device firmware devices assume steps) seen status = AnswersDevices device assume seen status
+IsExact (On request) seen status = IsWorkExact request.device request.assume request.work seen status
 IsExact (Demo size) seen status = SaysHowRoundsEnd (demo_program size) [] None status
 
 -- ---- laws
@@ -322,8 +319,8 @@ RepliesAreOne = (command : Command) (seen : Contents) (s t : Status) (a b : List
 
 -- the words of a command's firmware have 16 bits
 abbrev pub HasWords : Command → List ℕ → Type 0
+HasWords (On request) firmware = AreWords (firmware_image request.device firmware)
 HasWords (Demo size) firmware = ⊤
-HasWords command firmware = AreWords (firmware_image (device_for command) firmware)
 
 -- `HasWords` for the firmware that was read
 abbrev pub ReadsWords : Command → Contents → Type 0

@@ -39,7 +39,7 @@ use Rattle.cert_format.specs.Reading.{certificate_in}
 use Rattle.cert_check.specs.Verdict.{IsVerdict}
 use Rattle.cert_check.specs.declared.verdict.Verdict.{Verdict}
 use Rattle.cert_check.specs.declared.verdict.Verdict.TheVariants.{Accepted, Rejected}
-use Rattle.commands.specs.Commands.{Command, Analyse, Run, Report, Explain, Clear, Premises, Attain, Simulate, Demo, Firmware, Second, Assumptions, device_for, name_of}
+use Rattle.commands.specs.Commands.{Work, Analyse, Run, Report, Explain, Clear, Premises, Attain, Simulate, Command, On, Demo, Firmware, Second, Assumptions, name_of}
 use Rattle.replies.specs.declared.status.Status.{Status}
 use Rattle.replies.specs.declared.status.Status.TheVariants as exit
 use Rattle.replies.specs.Firmware.{firmware_image, firmware_fault, firmware_names, firmware_end}
@@ -126,9 +126,9 @@ report_by true device names end c = json_text device c names end
 report_by false device names end c = plain_text device c names end
 
 -- what a command prints of a certificate that it accepts, for a firmware of these bytes
-abbrev pub told_of : Command → List ℕ → Claim → List ℕ
-told_of (Report device firmware certificate assume json) bytes c = report_by json device (firmware_names device bytes) (firmware_end device bytes) c
-told_of command bytes c = accepted c.bound (is_some c.witness)
+abbrev pub told_of : Device → Work → List ℕ → Claim → List ℕ
+told_of device (Report certificate json) bytes c = report_by json device (firmware_names device bytes) (firmware_end device bytes) c
+told_of device work bytes c = accepted c.bound (is_some c.witness)
 
 -- the answer is the explanation of a certificate, with these names of words
 pub record ExplainReply (names : List Named) (words : Program) (A : List Entry) (c : Claim) (status : Status) (text : List ℕ) : Type 0 where
@@ -175,13 +175,13 @@ pub record AttainReply (words : Program) (A : List Entry) (trials : ℕ) (c : Cl
   pub attained : IsAttained words A c.bound claim.witness
   pub says : Says exit.Done (text_of claim) status text
 
--- the answer of a command that accepts a certificate, for a firmware of these bytes with these words, under these assumptions
-abbrev pub AcceptedReply : Command → List ℕ → Program → List Entry → Claim → Reply
-AcceptedReply (Explain device firmware certificate assume) bytes words A c = ExplainReply (firmware_names device bytes) words A c
-AcceptedReply (Clear device firmware certificate) bytes words A c = ClearReply words c
-AcceptedReply (Premises device firmware certificate assume why) bytes words A c = PlacesReply why (firmware_names device bytes) words A c
-AcceptedReply (Attain device firmware certificate assume trials) bytes words A c = AttainReply words A trials c
-AcceptedReply command bytes words A c = Says exit.Done (told_of command bytes c)
+-- the answer of a work that accepts a certificate, for a firmware of these bytes on the device with these words, under these assumptions
+abbrev pub AcceptedReply : Device → Work → List ℕ → Program → List Entry → Claim → Reply
+AcceptedReply device (Explain certificate) bytes words A c = ExplainReply (firmware_names device bytes) words A c
+AcceptedReply device (Clear certificate) bytes words A c = ClearReply words c
+AcceptedReply device (Premises certificate why) bytes words A c = PlacesReply why (firmware_names device bytes) words A c
+AcceptedReply device (Attain certificate trials) bytes words A c = AttainReply words A trials c
+AcceptedReply device work bytes words A c = Says exit.Done (told_of device work bytes c)
 
 -- ---- run
 
@@ -234,19 +234,23 @@ DemoReply size status text = MeasuredReply size status text ⊎ WhyNotReply (dem
 
 -- ---- all
 
--- The answer for the words of a firmware of these bytes, the bytes of its second file, and these assumptions. `clear` has none.
-abbrev pub FlashReply : Command → List ℕ → List ℕ → Program → List Entry → Reply
-FlashReply (Analyse device name assume steps) firmware bytes words A = AnalyseReply words A steps
-FlashReply (Run device name schedule assume) firmware bytes words A = ScheduleReply words A (schedule_in (device_of words) (record { at = 0; rest = lines_of bytes }))
-FlashReply (Simulate device name devices assume steps) firmware bytes words A = SimulateReply words A steps (setup_in (device_of words) bytes)
-FlashReply (Demo size) firmware bytes words A = DemoReply size
-FlashReply (Clear device name certificate) firmware bytes words A = CertificateReply words [] (ClearReply words) (certificate_in (device_of words) bytes)
-FlashReply command firmware bytes words A = CertificateReply words A (AcceptedReply command firmware words A) (certificate_in (device_of words) bytes)
+-- The answer of a work for the words of a firmware of these bytes on the device, the bytes of its second file, and these assumptions. `clear`
+-- has none.
+abbrev pub FlashReply : Device → Work → List ℕ → List ℕ → Program → List Entry → Reply
+FlashReply device (Analyse steps) firmware bytes words A = AnalyseReply words A steps
+FlashReply device (Run schedule) firmware bytes words A = ScheduleReply words A (schedule_in (device_of words) (record { at = 0; rest = lines_of bytes }))
+FlashReply device (Simulate devices steps) firmware bytes words A = SimulateReply words A steps (setup_in (device_of words) bytes)
+FlashReply device (Clear certificate) firmware bytes words A = CertificateReply words [] (ClearReply words) (certificate_in (device_of words) bytes)
+FlashReply device work firmware bytes words A = CertificateReply words A (AcceptedReply device work firmware words A) (certificate_in (device_of words) bytes)
 
--- Firmware, assumptions and the second file are examined in this order. `demo` has none of them.
+-- the answer of a work for the bytes of a firmware, its second file and an assumption file, which are examined in this order
+abbrev pub ImageReply : Device → Work → List ℕ → List ℕ → Option (List ℕ) → Reply
+ImageReply device work firmware second list = WithImage device firmware (λ words. WithList device list (λ A. FlashReply device work firmware second words A))
+
+-- `demo` has no files.
 abbrev pub WorkReply : Command → List ℕ → List ℕ → Option (List ℕ) → Reply
+WorkReply (On request) firmware second list = ImageReply request.device request.work firmware second list
 WorkReply (Demo size) firmware second list = DemoReply size
-WorkReply command firmware second list = WithImage (device_for command) firmware (λ words. WithList (device_for command) list (λ A. FlashReply command firmware second words A))
 
 -- The status and the text answer a command whose files have these contents. Files are read in this order before any is examined.
 abbrev pub IsReply : Command → Contents → Reply

@@ -1,7 +1,6 @@
 -- The answer, by the outcome of reading the files.
-use Rattle.std.proofs.Common.{◌≡◌, ◌≢◌, inl, inr, ℕ, Bool, true, false, List, [], ◌∷◌, Option, Some, None, Result, Ok, Err, refl, sym, ap, ◌∙◌, subst}
+use Rattle.std.proofs.Common.{◌≡◌, ◌≢◌, inl, inr, ℕ, Bool, true, false, List, [], ◌∷◌, Option, Some, None, Result, Ok, Err, sym, ◌∙◌, subst}
 use Rattle.std.specs.Prelude.{IfOk, MatchResult}
-use Rattle.std.proofs.lemmas.List.{append-nil}
 use Rattle.avr_model.specs.declared.assumption.Entry.{Entry}
 use Rattle.avr_model.specs.declared.device.Device.{Device}
 use Rattle.avr_model.specs.Devices.{Program, device_of}
@@ -25,14 +24,14 @@ use Rattle.clear_laws.specs.declared.verdict.ClearVerdict.TheVariants as clear
 use Rattle.device_hooks.specs.declared.devices.DevicesFault.{DevicesFault}
 use Rattle.device_hooks.specs.Spelling.{Setup}
 use Rattle.device_hooks.specs.Reading.{setup_in}
-use Rattle.commands.specs.Commands.{Command, Check, Analyse, Run, Report, Explain, Clear, Premises, Attain, Simulate, Demo, Firmware, Second, Assumptions, device_for, name_of}
+use Rattle.commands.specs.Commands.{Work, Check, Analyse, Run, Report, Explain, Clear, Premises, Attain, Simulate, Command, On, Demo, Firmware, Second, Assumptions, name_of}
 use Rattle.replies.specs.declared.status.Status.{Status}
 use Rattle.replies.specs.declared.status.Status.TheVariants as exit
 use Rattle.replies.specs.Firmware.{firmware_image, firmware_fault}
 use Rattle.replies.specs.Texts.{read_fault, assumptions_refused, certificate_refused, devices_refused, why_not_status, why_not_text}
 use Rattle.replies.specs.Reading as read
 use Rattle.replies.specs.Reading.{Seen, Unread, Whole, Long}
-use Rattle.replies.specs.Reply.{Reply, Says, Refuses, WithFile, WithBytes, WithOptional, ImageBy, WithImage, ListBy, WithList, attains, AttainedBy, WitnessReply, VerdictReply, CertificateReply, told_of, ClearSays, ClearReply, AcceptedReply, RunReply, EndsBefore, ScheduleReply, WhyNotReply, AnalyseReply, SimulateReply, DemoReply, FlashReply, WorkReply, IsReply}
+use Rattle.replies.specs.Reply.{Reply, Says, Refuses, WithFile, WithBytes, WithOptional, ImageBy, ListBy, WithList, attains, AttainedBy, WitnessReply, VerdictReply, CertificateReply, told_of, ClearSays, ClearReply, AcceptedReply, RunReply, EndsBefore, ScheduleReply, WhyNotReply, AnalyseReply, SimulateReply, DemoReply, FlashReply, ImageReply, WorkReply, IsReply}
 use Rattle.replies.specs.Headline.{HasWords, ReadsWords, AcceptingRepliesHold, RepliesAreExact}
 use Rattle.stack_core.specs.declared.reply.Reply.{Reply as Answered}
 use Rattle.command_files.specs.Reading.{seen_under, seen_whole, AreBytes}
@@ -178,40 +177,30 @@ schedule_apart : (words : Program) (A : List Entry) (x : Result (Plan × Place) 
 schedule_apart words A (Err place) s t h = at exit.BadSchedule s schedule_plain h.0
 schedule_apart words A (Ok r) s t h = ends_apart r.1.rest r.1.at (RunReply (replay_of words A r.0)) (run_apart (replay_of words A r.0)) s t h
 
-flash_apart : (c : Command) (firmware bytes : List ℕ) (words : Program) (A : List Entry) → IsPlainApart (FlashReply c firmware bytes words A)
-flash_apart (Check device f k a) firmware bytes words A =
-    certificate_apart words A (AcceptedReply (Check device f k a) firmware words A) (certificate_in (device_of words) bytes) (accepted_apart (told_of (Check device f k a) firmware))
-flash_apart (Analyse device f a steps) firmware bytes words A = analyse_apart words A steps
-flash_apart (Run device f k a) firmware bytes words A = schedule_apart words A (schedule_in (device_of words) _)
-flash_apart (Report device f k a json) firmware bytes words A =
-    certificate_apart words A (AcceptedReply (Report device f k a json) firmware words A) (certificate_in (device_of words) bytes) (accepted_apart (told_of (Report device f k a json) firmware))
-flash_apart (Explain device f k a) firmware bytes words A =
-    certificate_apart words A (AcceptedReply (Explain device f k a) firmware words A) (certificate_in (device_of words) bytes) (λ c s t h. at exit.Done s done_plain h.says.0)
-flash_apart (Clear device f k) firmware bytes words A = certificate_apart words [] (ClearReply words) (certificate_in (device_of words) bytes) (λ c s t h. clear_apart words c h.verdict s t h.says)
-flash_apart (Premises device f k a false) firmware bytes words A =
-    certificate_apart words A (AcceptedReply (Premises device f k a false) firmware words A) (certificate_in (device_of words) bytes) (λ c s t h. at exit.Done s done_plain h.says.0)
-flash_apart (Premises device f k a true) firmware bytes words A =
-    certificate_apart words A (AcceptedReply (Premises device f k a true) firmware words A) (certificate_in (device_of words) bytes) (λ c s t h. at exit.Done s done_plain h.says.0)
-flash_apart (Attain device f k a trials) firmware bytes words A =
-    certificate_apart words A (AcceptedReply (Attain device f k a trials) firmware words A) (certificate_in (device_of words) bytes) (λ c s t h. at exit.Done s done_plain h.says.0)
-flash_apart (Simulate device f k a steps) firmware bytes words A = simulate_apart words A steps (setup_in (device_of words) bytes)
-flash_apart (Demo size) firmware bytes words A = demo_apart size
+flash_apart : (device : Device) (work : Work) (firmware bytes : List ℕ) (words : Program) (A : List Entry) → IsPlainApart (FlashReply device work firmware bytes words A)
+flash_apart device (Check k) firmware bytes words A = certificate_apart words A (AcceptedReply device (Check k) firmware words A) (certificate_in (device_of words) bytes) (accepted_apart (told_of device (Check k) firmware))
+flash_apart device (Analyse steps) firmware bytes words A = analyse_apart words A steps
+flash_apart device (Run k) firmware bytes words A = schedule_apart words A (schedule_in (device_of words) _)
+flash_apart device (Report k json) firmware bytes words A =
+    certificate_apart words A (AcceptedReply device (Report k json) firmware words A) (certificate_in (device_of words) bytes) (accepted_apart (told_of device (Report k json) firmware))
+flash_apart device (Explain k) firmware bytes words A =
+    certificate_apart words A (AcceptedReply device (Explain k) firmware words A) (certificate_in (device_of words) bytes) (λ c s t h. at exit.Done s done_plain h.says.0)
+flash_apart device (Clear k) firmware bytes words A = certificate_apart words [] (ClearReply words) (certificate_in (device_of words) bytes) (λ c s t h. clear_apart words c h.verdict s t h.says)
+flash_apart device (Premises k false) firmware bytes words A =
+    certificate_apart words A (AcceptedReply device (Premises k false) firmware words A) (certificate_in (device_of words) bytes) (λ c s t h. at exit.Done s done_plain h.says.0)
+flash_apart device (Premises k true) firmware bytes words A =
+    certificate_apart words A (AcceptedReply device (Premises k true) firmware words A) (certificate_in (device_of words) bytes) (λ c s t h. at exit.Done s done_plain h.says.0)
+flash_apart device (Attain k trials) firmware bytes words A =
+    certificate_apart words A (AcceptedReply device (Attain k trials) firmware words A) (certificate_in (device_of words) bytes) (λ c s t h. at exit.Done s done_plain h.says.0)
+flash_apart device (Simulate k steps) firmware bytes words A = simulate_apart words A steps (setup_in (device_of words) bytes)
 
-on_image_apart : (c : Command) (firmware second : List ℕ) (list : Option (List ℕ)) → IsPlainApart (WithImage (device_for c) firmware (λ words. WithList (device_for c) list (λ A. FlashReply c firmware second words A)))
-on_image_apart c firmware second list =
-    image_apart (firmware_fault (device_for c) firmware) (WithList (device_for c) list (λ A. FlashReply c firmware second (firmware_image (device_for c) firmware) A))
-    (with_list_apart (device_for c) list (λ A. FlashReply c firmware second (firmware_image (device_for c) firmware) A) (flash_apart c firmware second (firmware_image (device_for c) firmware)))
+image_is_apart : (device : Device) (work : Work) (firmware second : List ℕ) (list : Option (List ℕ)) → IsPlainApart (ImageReply device work firmware second list)
+image_is_apart device work firmware second list =
+    image_apart (firmware_fault device firmware) (WithList device list (λ A. FlashReply device work firmware second (firmware_image device firmware) A))
+    (with_list_apart device list (λ A. FlashReply device work firmware second (firmware_image device firmware) A) (flash_apart device work firmware second (firmware_image device firmware)))
 
 work_apart : (c : Command) (firmware second : List ℕ) (list : Option (List ℕ)) → IsPlainApart (WorkReply c firmware second list)
-work_apart (Check device f k a) firmware second list = on_image_apart (Check device f k a) firmware second list
-work_apart (Analyse device f a steps) firmware second list = on_image_apart (Analyse device f a steps) firmware second list
-work_apart (Run device f k a) firmware second list = on_image_apart (Run device f k a) firmware second list
-work_apart (Report device f k a json) firmware second list = on_image_apart (Report device f k a json) firmware second list
-work_apart (Explain device f k a) firmware second list = on_image_apart (Explain device f k a) firmware second list
-work_apart (Clear device f k) firmware second list = on_image_apart (Clear device f k) firmware second list
-work_apart (Premises device f k a why) firmware second list = on_image_apart (Premises device f k a why) firmware second list
-work_apart (Attain device f k a trials) firmware second list = on_image_apart (Attain device f k a trials) firmware second list
-work_apart (Simulate device f k a steps) firmware second list = on_image_apart (Simulate device f k a steps) firmware second list
+work_apart (On r) firmware second list = image_is_apart r.device r.work firmware second list
 work_apart (Demo size) firmware second list = demo_apart size
 
 reply_apart : (c : Command) (seen : read.Contents) → IsPlainApart (IsReply c seen)

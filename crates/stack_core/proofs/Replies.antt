@@ -1,6 +1,6 @@
 -- Replies by their parts.
-use Rattle.std.proofs.Common.{◌≡◌, ◌≢◌, ℕ, Bool, true, false, List, [], take, Option, Some, None, Result, Ok, Err, refl, sym, ap, ◌∙◌, subst}
-use Rattle.std.specs.Option.{option_copied, option_map, is_some}
+use Rattle.std.proofs.Common.{◌≡◌, ◌≢◌, ℕ, Bool, true, false, List, [], Option, Some, None, Result, Ok, Err, refl, sym, ap, ◌∙◌, subst}
+use Rattle.std.specs.Option.{option_copied, is_some}
 use Rattle.std.specs.Prelude.{◌↔◌, IfOk, IsTrue}
 use Rattle.std.proofs.lemmas.Bool.{false_from_ne_true}
 use denote.Ref.{Bor}
@@ -13,16 +13,12 @@ use Rattle.indirect_targets.specs.Reading.{entries_in}
 use Rattle.witness_replay.specs.Spelling.{Plan}
 use Rattle.witness_replay.specs.Replay.{replay_of}
 use Rattle.flash_image.specs.Naming.{Named, SayTheSame}
-use Rattle.flash_image.specs.Narrowing.{NarrowingIsExact}
-use Rattle.elf_load.specs.Elf.{is_elf}
-use Rattle.local_rules.specs.Machine.{AreWords}
 use Rattle.elf_load.specs.declared.Loaded.{Loaded}
 use Rattle.certificate.specs.Claims.{Claim}
 use Rattle.reports.specs.Laws.{NamesThatSayTheSame, ExplanationsSayTheSame}
-use Rattle.commands.specs.Commands.{Command, Check, Analyse, Run, Report, Explain, Clear, Premises, Attain, Simulate, Demo, device_for}
+use Rattle.commands.specs.Commands.{Work, Check, Analyse, Run, Report, Explain, Clear, Premises, Attain, Simulate}
 use Rattle.certificate.specs.Valid.{IsAttained, IsValid}
 use Rattle.cert_format.specs.declared.fault.CertFault.{CertFault}
-use Rattle.cert_format.specs.declared.fault.CertFault.TheVariants as fault
 use Rattle.cert_format.specs.Reading.{certificate_in}
 use Rattle.call_graph.specs.declared.worked.Worked.{Worked}
 use Rattle.cert_check.specs.declared.verdict.Reason.{Reason}
@@ -32,18 +28,16 @@ use Rattle.basics.specs.Booleans.{never_both}
 use Rattle.cert_check.specs.declared.verdict.Verdict.TheVariants.{Accepted, Rejected}
 use Rattle.replies.specs.declared.status.Status.{Status}
 use Rattle.replies.specs.declared.status.Status.TheVariants as exit
-use Rattle.replies.specs.Firmware.{words_by, outside_fault, fault_or, firmware_fault, firmware_image, firmware_names, firmware_end}
-use Rattle.replies.specs.Texts.{firmware_outside, witness_rejected, rejected, assumptions_refused, certificate_refused}
-use Rattle.replies.specs.Reply.{Reply, Says, Refuses, ListBy, WithList, attains, AttainedBy, WitnessReply, VerdictReply, JudgedReply, CertificateReply, report_by, ExplainReply, PremisesReply, WhyReply, PlacesReply, AttainReply, AcceptedReply, FlashReply}
-use Rattle.replies.specs.Headline.{HasWords, PlacesSayTheSame, CausesSayTheSame}
+use Rattle.replies.specs.Firmware.{firmware_fault, firmware_image, firmware_names, firmware_end}
+use Rattle.replies.specs.Texts.{witness_rejected, rejected, assumptions_refused}
+use Rattle.replies.specs.Reply.{Reply, Says, Refuses, ListBy, WithList, attains, AttainedBy, WitnessReply, VerdictReply, JudgedReply, CertificateReply, report_by, ExplainReply, PremisesReply, WhyReply, PlacesReply, AttainReply, AcceptedReply, FlashReply, ImageReply}
+use Rattle.replies.specs.Headline.{PlacesSayTheSame, CausesSayTheSame}
 use Rattle.cert_words.specs.Text.{text_of}
 use Rattle.guided_trials.specs.Attaining.{IsCompleted}
 use Rattle.replies.proofs.AllLaws.{attained_by, witness_zero, by_none}
-use Rattle.stack_core.specs.Answering.{GivesAs, GivesOn, NarrowedTo, LoadsOn, ReadsAs, IsJudgedAs, LoadedReply, ImageReply}
+use Rattle.stack_core.specs.Answering.{GivesOn, ReadsAs, IsJudgedAs, LoadedReply}
 use Rattle.stack_core.specs.declared.reply.Reply.{Reply as Answered}
 use Rattle.stack_core.specs.declared.judging.Judged.{Judged}
-use Rattle.stack_core.specs.declared.loading.Image.{Image}
-use Rattle.stack_core.specs.declared.loading.Image.TheVariants.{Loaded as OnFlash, Refused}
 use Rattle.stack_core.specs.declared.loading.Listing.TheVariants.{Unlisted}
 
 -- ---- simulate
@@ -130,25 +124,6 @@ attain_reply words A n c d text h valid told =
 pub refused_by : (n : Status) (o : Option (List ℕ)) (status : Status) (text : List ℕ) → status ≡ n → o ≡ Some text → Refuses n o status text
 refused_by n o status text s t = subst (λ x. Refuses n x status text) (sym t) (s, refl)
 
--- ---- the words of a firmware
-
-has_words : (command : Command) (firmware : List ℕ) → AreWords (firmware_image (device_for command) firmware) → HasWords command firmware
-has_words (Check device name cert assume) firmware h = h
-has_words (Analyse device name assume steps) firmware h = h
-has_words (Run device name schedule assume) firmware h = h
-has_words (Report device name cert assume json) firmware h = h
-has_words (Explain device name cert assume) firmware h = h
-has_words (Clear device name cert) firmware h = h
-has_words (Premises device name cert assume why) firmware h = h
-has_words (Attain device name cert assume trials) firmware h = h
-has_words (Simulate device name devices assume steps) firmware h = h
-has_words (Demo size) firmware h = tt
-
-pub result_has_words : {E : Type 0} (x : Result Answered E) (command : Command) (firmware : List ℕ) → IfOk x (λ r. r.status ≡ exit.Done → AreWords (firmware_image (device_for command) firmware))
-    → IfOk x (λ r. r.status ≡ exit.Done → HasWords command firmware)
-result_has_words (Err e) command firmware h = tt
-result_has_words (Ok r) command firmware h = λ zero. has_words command firmware (h zero)
-
 -- ---- an assumption file
 
 pub unlisted : (device : Device) (bytes : List ℕ) (f : AssumeText) (r : Answered) → (f ≢ assume.Memory → entries_in device bytes ≡ Err f) → r.status ≡ exit.BadAssumptions → assumptions_refused f ≡ Some r.text.items → ReadsAs device bytes (Unlisted r)
@@ -194,24 +169,23 @@ places_alike : PlacesSayTheSame → CausesSayTheSame → (why : Bool) (names oth
 places_alike places causes false names others words A same c status text h = premises_alike places names others words A same c status text h
 places_alike places causes true names others words A same c status text h = why_alike causes names others words A same c status text h
 
-flash_alike : (laws : NamesThatSayTheSame) (texts : ExplanationsSayTheSame) (places : PlacesSayTheSame) (causes : CausesSayTheSame) (command : Command) (firmware bytes : List ℕ) (loaded : Loaded) (A : List Entry) (status : Status) (text : List ℕ) → SayTheSame loaded.names (firmware_names (device_for command) firmware)
-    → loaded.static_end ≡ firmware_end (device_for command) firmware → LoadedReply command loaded bytes A status text → FlashReply command firmware bytes loaded.flash A status text
-flash_alike laws texts places causes (Check device name cert assume) firmware bytes loaded A status text names end h = h
-flash_alike laws texts places causes (Analyse device name assume steps) firmware bytes loaded A status text names end h = h
-flash_alike laws texts places causes (Run device name schedule assume) firmware bytes loaded A status text names end h = h
-flash_alike laws texts places causes (Report device name cert assume json) firmware bytes loaded A status text names end h =
-    told_alike loaded.flash A (λ c. Says exit.Done (report_by json device loaded.names loaded.static_end c)) (AcceptedReply (Report device name cert assume json) firmware loaded.flash A) (certificate_in (device_of loaded.flash) bytes) status text
+flash_alike : (laws : NamesThatSayTheSame) (texts : ExplanationsSayTheSame) (places : PlacesSayTheSame) (causes : CausesSayTheSame) (device : Device) (work : Work) (firmware bytes : List ℕ) (loaded : Loaded) (A : List Entry) (status : Status) (text : List ℕ) → SayTheSame loaded.names (firmware_names device firmware)
+    → loaded.static_end ≡ firmware_end device firmware → LoadedReply device work loaded bytes A status text → FlashReply device work firmware bytes loaded.flash A status text
+flash_alike laws texts places causes device (Check cert) firmware bytes loaded A status text names end h = h
+flash_alike laws texts places causes device (Analyse steps) firmware bytes loaded A status text names end h = h
+flash_alike laws texts places causes device (Run schedule) firmware bytes loaded A status text names end h = h
+flash_alike laws texts places causes device (Report cert json) firmware bytes loaded A status text names end h =
+    told_alike loaded.flash A (λ c. Says exit.Done (report_by json device loaded.names loaded.static_end c)) (AcceptedReply device (Report cert json) firmware loaded.flash A) (certificate_in (device_of loaded.flash) bytes) status text
     (λ c k. (k.0, k.1 ∙ report_alike laws json device loaded.names (firmware_names device firmware) loaded.static_end (firmware_end device firmware) names end c)) h
-flash_alike laws texts places causes (Explain device name cert assume) firmware bytes loaded A status text names end h =
-    told_alike loaded.flash A (ExplainReply loaded.names loaded.flash A) (AcceptedReply (Explain device name cert assume) firmware loaded.flash A) (certificate_in (device_of loaded.flash) bytes) status text
+flash_alike laws texts places causes device (Explain cert) firmware bytes loaded A status text names end h =
+    told_alike loaded.flash A (ExplainReply loaded.names loaded.flash A) (AcceptedReply device (Explain cert) firmware loaded.flash A) (certificate_in (device_of loaded.flash) bytes) status text
     (λ c k. explain_alike texts loaded.names (firmware_names device firmware) loaded.flash A names c status text k) h
-flash_alike laws texts places causes (Clear device name cert) firmware bytes loaded A status text names end h = h
-flash_alike laws texts places causes (Premises device name cert assume why) firmware bytes loaded A status text names end h =
-    told_alike loaded.flash A (PlacesReply why loaded.names loaded.flash A) (AcceptedReply (Premises device name cert assume why) firmware loaded.flash A) (certificate_in (device_of loaded.flash) bytes) status text
+flash_alike laws texts places causes device (Clear cert) firmware bytes loaded A status text names end h = h
+flash_alike laws texts places causes device (Premises cert why) firmware bytes loaded A status text names end h =
+    told_alike loaded.flash A (PlacesReply why loaded.names loaded.flash A) (AcceptedReply device (Premises cert why) firmware loaded.flash A) (certificate_in (device_of loaded.flash) bytes) status text
     (λ c k. places_alike places causes why loaded.names (firmware_names device firmware) loaded.flash A names c status text k) h
-flash_alike laws texts places causes (Attain device name cert assume trials) firmware bytes loaded A status text names end h = h
-flash_alike laws texts places causes (Simulate device name devices assume steps) firmware bytes loaded A status text names end h = h
-flash_alike laws texts places causes (Demo size) firmware bytes loaded A status text names end h = h
+flash_alike laws texts places causes device (Attain cert trials) firmware bytes loaded A status text names end h = h
+flash_alike laws texts places causes device (Simulate devices steps) firmware bytes loaded A status text names end h = h
 
 list_alike : (x : Result (List Entry) AssumeText) (next other : List Entry → Reply) (status : Status) (text : List ℕ) → ((A : List Entry) → next A status text → other A status text) → ListBy x next status text → ListBy x other status text
 list_alike (Ok A) next other status text f h = f A h
@@ -221,10 +195,10 @@ next_alike : (device : Device) (list : Option (List ℕ)) (next other : List Ent
 next_alike device None next other status text f h = f [] h
 next_alike device (Some bytes) next other status text f h = list_alike (entries_in device bytes) next other status text f h
 
-pub loaded_reply : (laws : NamesThatSayTheSame) (texts : ExplanationsSayTheSame) (places : PlacesSayTheSame) (causes : CausesSayTheSame) (command : Command) (firmware second : List ℕ) (list : Option (List ℕ)) (loaded : Loaded) (status : Status) (text : List ℕ) → GivesOn (device_for command) firmware loaded
-    → WithList (device_of loaded.flash) list (λ A. LoadedReply command loaded second A) status text → ImageReply command firmware second list status text
-loaded_reply laws texts places causes command firmware second list loaded status text g h =
-    let there : WithList (device_of loaded.flash) list (λ A. FlashReply command firmware second loaded.flash A) status text =
-    next_alike (device_of loaded.flash) list (λ A. LoadedReply command loaded second A) (λ A. FlashReply command firmware second loaded.flash A) status text (λ A k. flash_alike laws texts places causes command firmware second loaded A status text g.names g.static_end k) h in
-    by_none (firmware_fault (device_for command) firmware) (WithList (device_for command) list (λ A. FlashReply command firmware second (firmware_image (device_for command) firmware) A)) status text g.loads
-    (subst (λ ws. WithList (device_of ws) list (λ A. FlashReply command firmware second ws A) status text) g.words there)
+pub loaded_reply : (laws : NamesThatSayTheSame) (texts : ExplanationsSayTheSame) (places : PlacesSayTheSame) (causes : CausesSayTheSame) (device : Device) (work : Work) (firmware second : List ℕ) (list : Option (List ℕ)) (loaded : Loaded) (status : Status) (text : List ℕ) → GivesOn device firmware loaded
+    → WithList (device_of loaded.flash) list (λ A. LoadedReply device work loaded second A) status text → ImageReply device work firmware second list status text
+loaded_reply laws texts places causes device work firmware second list loaded status text g h =
+    let there : WithList (device_of loaded.flash) list (λ A. FlashReply device work firmware second loaded.flash A) status text =
+    next_alike (device_of loaded.flash) list (λ A. LoadedReply device work loaded second A) (λ A. FlashReply device work firmware second loaded.flash A) status text (λ A k. flash_alike laws texts places causes device work firmware second loaded A status text g.names g.static_end k) h in
+    by_none (firmware_fault device firmware) (WithList device list (λ A. FlashReply device work firmware second (firmware_image device firmware) A)) status text g.loads
+    (subst (λ ws. WithList (device_of ws) list (λ A. FlashReply device work firmware second ws A) status text) g.words there)

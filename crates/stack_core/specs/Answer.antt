@@ -7,7 +7,7 @@ use Rattle.sb_base.specs.Outside.{Held, Bytes, Blamed, Rose, grown, GrewByPrefix
 use Rattle.certificate.specs.Claims.{Claim}
 use Rattle.device_hooks.specs.Spelling.{Setup}
 use Rattle.device_hooks.specs.Exact.{IsSetupReading as IsDevices}
-use Rattle.commands.specs.Commands.{Command, Check, Analyse, Report, Explain, Clear, Premises, Attain, Simulate, device_for}
+use Rattle.commands.specs.Commands.{Work, Check, Analyse, Report, Explain, Clear, Premises, Attain, Simulate, Request, Command, On, assume_of}
 use Rattle.replies.specs.declared.status.Status.{Status}
 use Rattle.replies.specs.declared.status.Status.TheVariants as exit
 use Rattle.replies.specs.Texts.{usage, read_fault}
@@ -85,45 +85,43 @@ AreHeld holds None list = list ≡ None
 AreHeld holds (Some name) None = ⊥
 AreHeld holds (Some name) (Some bytes) = (holds name ≡ Bytes bytes) × (length bytes ≤ assumption_cap)
 
--- the command judges the certificate for the firmware and the assumptions, by their names
-pub data Judges : Command → (firmware certificate : List ℕ) (assume : Option (List ℕ)) → Type 0 where
-  checks : (device : Device) (firmware certificate : List ℕ) (assume : Option (List ℕ)) → Judges (Check device firmware certificate assume) firmware certificate assume
-  reports : (device : Device) (firmware certificate : List ℕ) (assume : Option (List ℕ)) (json : Bool) → Judges (Report device firmware certificate assume json) firmware certificate assume
-  clears : (device : Device) (firmware certificate : List ℕ) → Judges (Clear device firmware certificate) firmware certificate None
-  lists_premises : (device : Device) (firmware certificate : List ℕ) (assume : Option (List ℕ)) (why : Bool) → Judges (Premises device firmware certificate assume why) firmware certificate assume
-  explains : (device : Device) (firmware certificate : List ℕ) (assume : Option (List ℕ)) → Judges (Explain device firmware certificate assume) firmware certificate assume
-  completes : (device : Device) (firmware certificate : List ℕ) (assume : Option (List ℕ)) (trials : ℕ) → Judges (Attain device firmware certificate assume trials) firmware certificate assume
+-- the work judges the certificate of this name
+pub data Judges : Work → (certificate : List ℕ) → Type 0 where
+  checks : (certificate : List ℕ) → Judges (Check certificate) certificate
+  reports : (certificate : List ℕ) (json : Bool) → Judges (Report certificate json) certificate
+  clears : (certificate : List ℕ) → Judges (Clear certificate) certificate
+  lists_premises : (certificate : List ℕ) (why : Bool) → Judges (Premises certificate why) certificate
+  explains : (certificate : List ℕ) → Judges (Explain certificate) certificate
+  completes : (certificate : List ℕ) (trials : ℕ) → Judges (Attain certificate trials) certificate
 
--- The words are this command, which judges, and these bytes are held under its names, within the caps.
-pub record IsJudging (command : Option Command) (judge : Command) (holds : List ℕ → Held) (firmware certificate : List ℕ) (list : Option (List ℕ)) : Type 0 where
-  pub firmware_name : List ℕ
+-- The words are this request, which judges, and these bytes are held under its names, within the caps.
+pub record IsJudging (command : Option Command) (judge : Request) (holds : List ℕ → Held) (firmware certificate : List ℕ) (list : Option (List ℕ)) : Type 0 where
   pub certificate_name : List ℕ
-  pub assume : Option (List ℕ)
-  pub named : command ≡ Some judge
-  pub judges : Judges judge firmware_name certificate_name assume
-  pub firmware_held : holds firmware_name ≡ Bytes firmware
+  pub named : command ≡ Some (On judge)
+  pub judges : Judges judge.work certificate_name
+  pub firmware_held : holds judge.firmware ≡ Bytes firmware
   pub firmware_fits : length firmware ≤ firmware_cap
   pub certificate_held : holds certificate_name ≡ Bytes certificate
   pub certificate_fits : length certificate ≤ certificate_cap
-  pub list_held : AreHeld holds assume list
+  pub list_held : AreHeld holds (assume_of judge.work judge.assume) list
 
 -- if a command on held bytes accepts a certificate, the bound holds of them and is printed
 abbrev pub HeldHeadline : Option Command → (List ℕ → Held) → Status → Option (List ℕ) → Option (List ℕ) → Type 0
 HeldHeadline command holds status before after =
-    (judge : Command) (firmware certificate : List ℕ) (list : Option (List ℕ)) → IsJudging command judge holds firmware certificate list → status ≡ exit.Done
-    → (text : List ℕ) × Holds judge firmware certificate list text × (after ≡ grown before text)
+    (judge : Request) (firmware certificate : List ℕ) (list : Option (List ℕ)) → IsJudging command judge holds firmware certificate list → status ≡ exit.Done
+    → (text : List ℕ) × Holds judge.device judge.work firmware certificate list text × (after ≡ grown before text)
 
 -- if held bytes are well-formed, it accepts exactly if the certificate is valid, and for `clear` all nodes are clear
 abbrev pub IsHeldExact : Option Command → (List ℕ → Held) → Status → Type 0
 IsHeldExact command holds status =
-    (judge : Command) (firmware certificate : List ℕ) (list : Option (List ℕ)) (words : Program) (claim : Claim) (A : List Entry)
-    → IsJudging command judge holds firmware certificate list → StandFor (device_for judge) firmware certificate list words claim A → SaysWhether judge words A claim status
+    (judge : Request) (firmware certificate : List ℕ) (list : Option (List ℕ)) (words : Program) (claim : Claim) (A : List Entry)
+    → IsJudging command judge holds firmware certificate list → StandFor judge.device firmware certificate list words claim A → SaysWhether judge.work words A claim status
 
 -- The words are an analysis for this device with this budget, and these bytes are held under its names, within the caps.
 pub record IsAnalysing (command : Option Command) (device : Device) (steps : Option ℕ) (holds : List ℕ → Held) (firmware : List ℕ) (list : Option (List ℕ)) : Type 0 where
   pub firmware_name : List ℕ
   pub assume : Option (List ℕ)
-  pub named : command ≡ Some (Analyse device firmware_name assume steps)
+  pub named : command ≡ Some (On (record { device = device; firmware = firmware_name; assume = assume; work = Analyse steps }))
   pub firmware_held : holds firmware_name ≡ Bytes firmware
   pub firmware_fits : length firmware ≤ firmware_cap
   pub list_held : AreHeld holds assume list
@@ -145,7 +143,7 @@ pub record IsSimulating (command : Option Command) (device : Device) (steps : �
   pub firmware_name : List ℕ
   pub devices_name : List ℕ
   pub assume : Option (List ℕ)
-  pub named : command ≡ Some (Simulate device firmware_name devices_name assume steps)
+  pub named : command ≡ Some (On (record { device = device; firmware = firmware_name; assume = assume; work = Simulate devices_name steps }))
   pub firmware_held : holds firmware_name ≡ Bytes firmware
   pub firmware_fits : length firmware ≤ firmware_cap
   pub devices_held : holds devices_name ≡ Bytes devices

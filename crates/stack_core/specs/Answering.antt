@@ -20,12 +20,12 @@ use Rattle.cert_check.specs.Verdict.{IsFamilyOf}
 use Rattle.cert_words.specs.Text.{text_of}
 use Rattle.cert_format.specs.declared.fault.CertFault.{CertFault}
 use Rattle.cert_format.specs.Reading.{certificate_in}
-use Rattle.commands.specs.Commands.{Command, Report, Explain, Premises, device_for}
+use Rattle.commands.specs.Commands.{Work, Report, Explain, Premises}
 use Rattle.replies.specs.declared.status.Status.TheVariants as exit
 use Rattle.replies.specs.Texts.{assumptions_refused}
 use Rattle.replies.specs.Firmware.{words_by, fault_by, names_by, end_by, outside_fault, firmware_image, firmware_fault, firmware_names, firmware_end}
 use Rattle.replies.specs.Analysis.{TrialsFind}
-use Rattle.replies.specs.Reply.{Reply, Says, WithImage, WithList, report_by, ExplainReply, PlacesReply, CertificateReply, FlashReply}
+use Rattle.replies.specs.Reply.{Reply, Says, report_by, ExplainReply, PlacesReply, CertificateReply, FlashReply}
 use Rattle.stack_core.specs.declared.loading.Image.{Image}
 use Rattle.stack_core.specs.declared.loading.Image.TheVariants.{Loaded, Refused}
 use Rattle.stack_core.specs.declared.loading.Listing.{Listing}
@@ -112,12 +112,9 @@ pub record IsWitnessedText (words : Program) (A : List Entry) (least : Claim) (t
   pub is : text ≡ text_of claim
 
 -- the answer for a loaded firmware, with its names and static data
-abbrev pub LoadedReply : Command → Firmware → List ℕ → List Entry → Reply
-LoadedReply (Report device name certificate assume json) loaded bytes A =
+abbrev pub LoadedReply : Device → Work → Firmware → List ℕ → List Entry → Reply
+LoadedReply device (Report certificate json) loaded bytes A =
     CertificateReply loaded.flash A (λ c. Says exit.Done (report_by json device loaded.names loaded.static_end c)) (certificate_in (device_of loaded.flash) bytes)
-LoadedReply (Explain device name certificate assume) loaded bytes A = CertificateReply loaded.flash A (ExplainReply loaded.names loaded.flash A) (certificate_in (device_of loaded.flash) bytes)
-LoadedReply (Premises device name certificate assume why) loaded bytes A = CertificateReply loaded.flash A (PlacesReply why loaded.names loaded.flash A) (certificate_in (device_of loaded.flash) bytes)
-LoadedReply command loaded bytes A = FlashReply command [] bytes loaded.flash A
-
-abbrev pub ImageReply : Command → List ℕ → List ℕ → Option (List ℕ) → Reply
-ImageReply command firmware second list = WithImage (device_for command) firmware (λ words. WithList (device_for command) list (λ A. FlashReply command firmware second words A))
+LoadedReply device (Explain certificate) loaded bytes A = CertificateReply loaded.flash A (ExplainReply loaded.names loaded.flash A) (certificate_in (device_of loaded.flash) bytes)
+LoadedReply device (Premises certificate why) loaded bytes A = CertificateReply loaded.flash A (PlacesReply why loaded.names loaded.flash A) (certificate_in (device_of loaded.flash) bytes)
+LoadedReply device work loaded bytes A = FlashReply device work [] bytes loaded.flash A

@@ -4,14 +4,13 @@ ghost use Rattle.std.specs.Prelude.{◌≡◌, true, IfOk};
 ghost use Rattle.std.specs.List.{All};
 ghost use Rattle.vector_table.specs.Entries.{fits_device};
 ghost use Rattle.local_rules.specs.Machine.{AreWords};
-ghost use Rattle.commands.specs.Commands.{device_for};
-ghost use Rattle.commands.specs.Views.{command_seen};
+ghost use Rattle.commands.specs.Views.{command_seen, work_seen};
 ghost use Rattle.replies.specs.declared.status.Status.TheVariants as exit;
 ghost use Rattle.replies.specs.Firmware.{firmware_image};
-ghost use Rattle.replies.specs.Reply.{WithList, WorkReply};
+ghost use Rattle.replies.specs.Reply.{WithList, ImageReply, WorkReply};
 ghost use Rattle.replies.specs.Headline.{HasWords};
 ghost use Rattle.command_files.specs.Reading.{bytes_of};
-ghost use Rattle.stack_core.specs.Answering.{LoadedReply, ImageReply};
+ghost use Rattle.stack_core.specs.Answering.{LoadedReply};
 
 use crate::analysing::{analyse, demo};
 use crate::attaining::attain;
@@ -23,7 +22,7 @@ use crate::reply::Reply;
 use crate::running::run;
 use crate::simulating::simulate;
 use call_graph::Task;
-use commands::Command;
+use commands::{Command, Request, Work};
 use elf_load::Loaded;
 use local_rules::laws::words_have_16_bits;
 use replies::laws::same_names_give_same_places;
@@ -34,13 +33,13 @@ use vector_table::Assumptions;
 // The answer for a loaded firmware and a list.
 fn on_flash(
     alloc: Global,
-    command: &Command<'_>,
+    request: &Request<'_>,
     loaded: &Loaded,
     assumptions: &Assumptions,
     second: &[u8],
 ) -> Result<Reply, AllocError>
     requires { All (λ e. fits_device loaded.now.flash.device e ≡ true) assumptions.now }
-    ensures { IfOk result (λ r. LoadedReply (command_seen command.now) loaded.now second.now assumptions.now r.status r.text.items) }
+    ensures { IfOk result (λ r. LoadedReply request.now.device (work_seen request.now.work) loaded.now second.now assumptions.now r.status r.text.items) }
 {
     let flash = &loaded.flash;
     let task = Task {
@@ -48,32 +47,31 @@ fn on_flash(
         flash,
         assumptions,
     };
-    match command {
-        Command::Check { .. } => check(&task, second),
-        Command::Analyse { steps, .. } => analyse(&task, *steps),
-        Command::Run { .. } => run(&task, second),
-        Command::Report { device, json, .. } => report(&task, second, *device, loaded, *json),
-        Command::Explain { .. } => explain(&task, second, &loaded.names),
-        Command::Clear { .. } => clear(alloc, flash, second),
-        Command::Premises { why, .. } => premises(&task, second, &loaded.names, *why),
-        Command::Attain { trials, .. } => attain(&task, second, *trials),
-        Command::Simulate { steps, .. } => simulate(&task, *steps, second),
-        Command::Demo { size } => demo(alloc, size),
+    match &request.work {
+        Work::Check { .. } => check(&task, second),
+        Work::Analyse { steps } => analyse(&task, *steps),
+        Work::Run { .. } => run(&task, second),
+        Work::Report { json, .. } => report(&task, second, request.device, loaded, *json),
+        Work::Explain { .. } => explain(&task, second, &loaded.names),
+        Work::Clear { .. } => clear(alloc, flash, second),
+        Work::Premises { why, .. } => premises(&task, second, &loaded.names, *why),
+        Work::Attain { trials, .. } => attain(&task, second, *trials),
+        Work::Simulate { steps, .. } => simulate(&task, *steps, second),
     }
 }
 
 // The answer for a loaded firmware.
 fn under_list(
     alloc: Global,
-    command: &Command<'_>,
+    request: &Request<'_>,
     loaded: &Loaded,
     second: &[u8],
     list: &Option<Vec<u8>>,
 ) -> Result<Reply, AllocError>
-    ensures { IfOk result (λ r. WithList loaded.now.flash.device (bytes_of list.now) (λ A. LoadedReply (command_seen command.now) loaded.now second.now A) r.status r.text.items) }
+    ensures { IfOk result (λ r. WithList loaded.now.flash.device (bytes_of list.now) (λ A. LoadedReply request.now.device (work_seen request.now.work) loaded.now second.now A) r.status r.text.items) }
 {
     match listed(alloc, loaded.flash.device(), list)? {
-        Listing::Listed(assumptions) => on_flash(alloc, command, loaded, &assumptions, second),
+        Listing::Listed(assumptions) => on_flash(alloc, request, loaded, &assumptions, second),
         Listing::Unlisted(reply) => Ok(reply),
     }
 }
@@ -81,20 +79,20 @@ fn under_list(
 // The answer for the bytes of a firmware's file and of the other files.
 fn on_image(
     alloc: Global,
-    command: &Command<'_>,
+    request: &Request<'_>,
     firmware: &[u8],
     second: &[u8],
     list: &Option<Vec<u8>>,
 ) -> Result<Reply, AllocError>
-    ensures reply { IfOk result (λ r. ImageReply (command_seen command.now) firmware.now second.now (bytes_of list.now) r.status r.text.items) }
-    ensures words { IfOk result (λ r. r.status ≡ exit.Done → AreWords (firmware_image (device_for (command_seen command.now)) firmware.now)) }
+    ensures reply { IfOk result (λ r. ImageReply request.now.device (work_seen request.now.work) firmware.now second.now (bytes_of list.now) r.status r.text.items) }
+    ensures words { IfOk result (λ r. r.status ≡ exit.Done → AreWords (firmware_image request.now.device firmware.now)) }
 {
     same_names_give_same_reports();
     same_names_give_same_places();
-    match loaded(alloc, command.device(), firmware)? {
+    match loaded(alloc, request.device, firmware)? {
         Image::Loaded(loaded) => {
             words_have_16_bits(loaded.flash.words());
-            let reply = under_list(alloc, command, &loaded, second, list)?;
+            let reply = under_list(alloc, request, &loaded, second, list)?;
             Ok(reply)
         }
         Image::Refused(reply) => Ok(reply),
@@ -113,15 +111,7 @@ pub fn work(
     ensures words { IfOk result (λ r. r.status ≡ exit.Done → HasWords (command_seen command.now) firmware.now) }
 {
     match command {
-        Command::Check { .. } => on_image(alloc, command, firmware, second, list),
-        Command::Analyse { .. } => on_image(alloc, command, firmware, second, list),
-        Command::Run { .. } => on_image(alloc, command, firmware, second, list),
-        Command::Report { .. } => on_image(alloc, command, firmware, second, list),
-        Command::Explain { .. } => on_image(alloc, command, firmware, second, list),
-        Command::Clear { .. } => on_image(alloc, command, firmware, second, list),
-        Command::Premises { .. } => on_image(alloc, command, firmware, second, list),
-        Command::Attain { .. } => on_image(alloc, command, firmware, second, list),
-        Command::Simulate { .. } => on_image(alloc, command, firmware, second, list),
+        Command::On(request) => on_image(alloc, request, firmware, second, list),
         Command::Demo { size } => demo(alloc, size),
     }
 }

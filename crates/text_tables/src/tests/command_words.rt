@@ -2,7 +2,7 @@
 
 use super::Worked;
 use avr_model::device::Device;
-use clap_words::{Command, command_of};
+use clap_words::{Command, Work, command_of};
 use std::alloc::Global;
 
 // The compared parts of a command: its name, the device, the second file, the assumption file, its number, and whether it answers as
@@ -123,20 +123,27 @@ pub static REFUSED: [(&str, &[Refused]); 1] = [(
     ],
 )];
 
-// A command's name and its number; commands without a row have none.
-fn named<'a>(command: &Command<'a>) -> (&'static str, Option<u64>) {
-    match command {
-        Command::Check { .. } => ("check", None),
-        Command::Analyse { steps, .. } => ("analyse", *steps),
-        Command::Run { .. } => ("run", None),
-        Command::Report { .. } => ("report", None),
-        Command::Demo { size } => ("demo", Some(u64::from(size.get()))),
+// A work's name and its number; works without a row have none.
+fn named(work: &Work<'_>) -> (&'static str, Option<u64>) {
+    match work {
+        Work::Check { .. } => ("check", None),
+        Work::Analyse { steps } => ("analyse", *steps),
+        Work::Run { .. } => ("run", None),
+        Work::Report { .. } => ("report", None),
         _ => ("", None),
     }
 }
 
-fn is_json(command: &Command<'_>) -> bool {
-    matches!(command, Command::Report { json: true, .. })
+// A command's name, its number, and whether it answers as JSON.
+fn told_of(command: &Command<'_>) -> (&'static str, Option<u64>, bool) {
+    match command {
+        Command::On(request) => {
+            let (name, number) = named(&request.work);
+            let json = matches!(request.work, Work::Report { json: true, .. });
+            (name, number, json)
+        }
+        Command::Demo { size } => ("demo", Some(u64::from(size.get())), false),
+    }
 }
 
 // Whether all but `demo` have the firmware `a`.
@@ -148,14 +155,14 @@ fn has_firmware(command: &Command<'_>, name: &str) -> bool {
 }
 
 fn is_told(command: &Command<'_>, told: &Told) -> bool {
-    let (name, number) = named(command);
+    let (name, number, json) = told_of(command);
     let found = (
         name,
         command.device(),
         command.second(),
         command.assume(),
         number,
-        is_json(command),
+        json,
     );
     has_firmware(command, name) && found == *told
 }
