@@ -50,11 +50,13 @@ class Analysis:
         return status == OK, text
 
     def trials(self, folder: str) -> Trials:
-        """Trial runs that take each vector that has a handler, and each that a `never` line of this tool names, as far as a run takes so many."""
+        """Trial runs that take each vector that has a handler, and each that a `never` line of this tool names, as far as a run takes so many. One
+        that no known bit enables isn't taken without a handler: that it may come says nothing of the firmware."""
         has_handler, vectors = handled(self.elf, self.device), []
         for vector in self.device.vectors:
             word = self.device.vector_word(vector)
-            if not self.lines.is_given(word, "never") and (vector in has_handler or self.lines.has(word, "never")):
+            is_tried = self.lines.has(word, "never") and not self.device.is_open(vector)
+            if not self.lines.is_given(word, "never") and (vector in has_handler or is_tried):
                 vectors.append(vector)
         vectors = sorted(sorted(vectors, key=lambda it: it not in has_handler)[:DEVICE_LINES])
         return Trials(self.program(), folder, self.elf, self.device, vectors)

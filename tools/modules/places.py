@@ -154,8 +154,9 @@ def put(outcome, nodes, entry, word):
 def entry_of_vector(outcome, word):
     """The entry of a vector that a `never` line names."""
     vector = outcome.firmware.handler(outcome.firmware.device.vector_at(word))
-    is_given = outcome.own.is_given(word, "never")
-    entry = Place(vector, f"{vector}: " + ("a `never` line says that it isn't entered" if is_given else "it has no handler, and may be enabled"))
+    is_given, device = outcome.own.is_given(word, "never"), outcome.firmware.device
+    why = "no header names its enable bit" if device.is_open(device.vector_at(word)) else "may be enabled"
+    entry = Place(vector, f"{vector}: " + ("a `never` line says that it isn't entered" if is_given else f"it has no handler, and {why}"))
     entry.kinds[word] = GIVEN if is_given else VECTORS
     return entry
 
