@@ -1,7 +1,6 @@
 """The call graph of a certificate that was accepted: instances, what their own frames take, and where each enters others."""
 
 import opcodes
-from devices import VECTORS
 
 RETURN = 2  # bytes of a return address
 
@@ -85,17 +84,19 @@ class Graph:
                 instance.enter(other, offset + RETURN, False)
 
     def interrupts(self, instance, enables, offset):
-        for vector in VECTORS:
-            if enables >> vector - 2 & 1:
-                entry = self.outcome.firmware.device.vector_word(vector)
+        device = self.outcome.firmware.device
+        for vector in device.vectors:
+            if enables >> vector - 2 & 1 or device.is_open(vector):
+                entry = device.vector_word(vector)
                 for number in self.handlers(vector, entry, enables):
                     if self.fits(instance, number, offset):
                         instance.enter(number, offset + RETURN, True)
 
     def handlers(self, vector, entry, enables):
         """The instances of a handler that may be entered under these enables: WDT clears its own bit, as it may have been set to."""
-        for held in {enables, enables & ~(1 << vector - 2) if VECTORS[vector] == "WDT_vect" else enables}:
-            number = self.by_key.get((f"v{vector}", entry, f"{held:07X}", "0"))
+        device = self.outcome.firmware.device
+        for held in {enables, enables & ~(1 << vector - 2) if vector == device.watchdog else enables}:
+            number = self.by_key.get((f"v{vector}", entry, device.enables_text(held), "0"))
             if number is not None:
                 yield number
 

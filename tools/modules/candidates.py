@@ -4,7 +4,6 @@ import copy
 import functools
 
 import opcodes
-from devices import VECTORS
 from elf import Symbol
 from names import SpecFault
 from targets import addresses_loaded, constructors, slots, starts, tables, taken, taken_elsewhere, words_in_data
@@ -54,7 +53,7 @@ def addressed(elf, device):
     if elf.code:
         return taken(elf)
     begins = {after for words in code(elf) for (_, opcode), (after, _) in zip(words, words[1:]) if opcodes.ends(opcode)}
-    handlers = {opcodes.jump_target(elf, device.vector_word(it)) for it in VECTORS}
+    handlers = {opcodes.jump_target(elf, device.vector_word(it)) for it in device.vectors}
     whole = with_whole(elf)
     return (begins - handlers) & {*addresses_loaded(whole), *words_in_data(whole)}
 

@@ -3,7 +3,6 @@
 import os
 import re
 
-from devices import NAME_OF
 from telling import line_of_spec
 
 TOLD = re.compile(r" in \S+(?: protected((?: [0-9A-F]{4})+)( \.\.)?)?( live)?( transfer)?$")
@@ -11,10 +10,11 @@ MOST_TRIED = 4  # places at which a line is tried
 
 
 class Cause:
-    """`addresses` of protected registers that may be written, and whether there are `more`; `live`: a pushed byte may be; `transfer`: to an unlisted word."""
+    """`addresses` of protected registers of a `device` that may be written, and whether there are `more`; `live`: a pushed byte may be; `transfer`:
+    to an unlisted word. The device is None where there are no addresses."""
 
-    def __init__(self, addresses=(), more=False, live=False, transfer=False):
-        self.addresses, self.more, self.live, self.transfer = set(addresses), more, live, transfer
+    def __init__(self, device=None, addresses=(), more=False, live=False, transfer=False):
+        self.device, self.addresses, self.more, self.live, self.transfer = device, set(addresses), more, live, transfer
 
     def __bool__(self):
         return bool(self.addresses or self.live or self.transfer)
@@ -24,28 +24,28 @@ class Cause:
         return bool(self.addresses) and not (self.more or self.live or self.transfer)
 
     def join(self, other):
-        self.addresses |= other.addresses
+        self.device, self.addresses = self.device or other.device, self.addresses | other.addresses
         self.more, self.live, self.transfer = self.more or other.more, self.live or other.live, self.transfer or other.transfer
 
     def __str__(self):
-        names = " ".join(NAME_OF.get(it, f"0x{it:02X}") for it in sorted(self.addresses)) + (" .." if self.more else "")
+        names = " ".join(self.device.register_name(it) for it in sorted(self.addresses)) + (" .." if self.more else "")
         written = [f"a protected register ({names})"] * bool(self.addresses) + ["a pushed byte"] * self.live
         told = ["may write " + ", or ".join(written)] * bool(written) + ["may go to a word that its `jump` line doesn't list"] * self.transfer
         return ", and ".join(told)
 
 
-def of_line(line):
+def of_line(device, line):
     """What a line of `premises --why` tells of its place; nothing where it tells none."""
     found = TOLD.search(line)
     if not found:
-        return Cause()
+        return Cause(device)
     addresses, more, live, transfer = found.groups()
-    return Cause((int(it, 16) for it in (addresses or "").split()), more is not None, live is not None, transfer is not None)
+    return Cause(device, (int(it, 16) for it in (addresses or "").split()), more is not None, live is not None, transfer is not None)
 
 
-def by_word(lines):
+def by_word(device, lines):
     """The causes of the places, by their words."""
-    return {int(line.split()[1], 16): of_line(line) for line in lines if line.startswith("at ")}
+    return {int(line.split()[1], 16): of_line(device, line) for line in lines if line.startswith("at ")}
 
 
 def without(work, lines, folder):

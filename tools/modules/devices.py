@@ -1,82 +1,137 @@
-"""The four devices of stackbound, and the names of their vectors and protected registers as avr-libc has them."""
+"""The devices of stackbound: their names, flash, SRAM and vectors, and the registers that enable vectors, as avr-libc calls them."""
 
+import difflib
+import functools
+from typing import Any, Dict, Iterator, List, NamedTuple, Optional, Tuple
 
-class Device:
-    """Words of flash, the first and the last byte of SRAM, and how many words a vector has."""
+from device_table import CLASSES, VECTORS
 
-    def __init__(self, name, words, last, vector_words):
-        self.name, self.words, self.first, self.last, self.vector_words = name, words, 0x0100, last, vector_words
-
-    def sram(self):
-        return self.last + 1 - self.first
-
-    def vector_word(self, vector):
-        return (vector - 1) * self.vector_words
-
-    def vector_at(self, word):
-        """The vector whose word this is; None where it is that of none."""
-        vector = word // self.vector_words + 1
-        return vector if vector in VECTORS and self.vector_word(vector) == word else None
-
-
-DEVICES = {it.name: it for it in (
-    Device("atmega48pa", 2048, 0x02FF, 1),
-    Device("atmega88pa", 4096, 0x04FF, 1),
-    Device("atmega168pa", 8192, 0x04FF, 2),
-    Device("atmega328p", 16384, 0x08FF, 2),
-)}
+FIRST = ("atmega48pa", "atmega88pa", "atmega168pa", "atmega328p")  # those of certificates without a device's name
+DEFAULT = "atmega328p"  # the one that stackbound takes without --device
+MOST_NEAR, ALIKE = 4, 0.85
+CORE = {**{f"r{n}": n for n in range(32)}, "SPL": 0x5D, "SPH": 0x5E, "SREG": 0x5F}  # protected registers of all devices, with their data addresses
 
 
 class Misuse(Exception):
     """The words or the firmware aren't as a tool takes them."""
 
 
-# What a file may be linked for, and the device as which it is taken: chips of one family, alike in flash, SRAM, vectors and registers. Those
-# without a letter, of the older process, are so too by avr-libc's <avr/io.h>; those of
-# letters PB have a vector more.
-LINKED_FOR = {
-    **{f"atmega{size}{letters}": f"atmega{size}pa" for size in (48, 88, 168) for letters in ("", "a", "p", "pa")},
-    "atmega328": "atmega328p", "atmega328p": "atmega328p",
-}
+class Place(NamedTuple):
+    """Bits of a register, by its name and data address."""
 
-# By number, from 2 on, as <avr/io.h> calls them.
-VECTORS = dict(enumerate([
-    "INT0_vect", "INT1_vect", "PCINT0_vect", "PCINT1_vect", "PCINT2_vect", "WDT_vect", "TIMER2_COMPA_vect", "TIMER2_COMPB_vect",
-    "TIMER2_OVF_vect", "TIMER1_CAPT_vect", "TIMER1_COMPA_vect", "TIMER1_COMPB_vect", "TIMER1_OVF_vect", "TIMER0_COMPA_vect",
-    "TIMER0_COMPB_vect", "TIMER0_OVF_vect", "SPI_STC_vect", "USART_RX_vect", "USART_UDRE_vect", "USART_TX_vect", "ADC_vect",
-    "EE_READY_vect", "ANALOG_COMP_vect", "TWI_vect", "SPM_READY_vect",
-], start=2))
-
-# Protected registers by name, with their data addresses.
-REGISTERS = {
-    "EIMSK": 0x3D, "EECR": 0x3F, "SPCR": 0x4C, "ACSR": 0x50, "SPMCSR": 0x57, "SPL": 0x5D, "SPH": 0x5E, "SREG": 0x5F, "WDTCSR": 0x60,
-    "PCICR": 0x68, "TIMSK0": 0x6E, "TIMSK1": 0x6F, "TIMSK2": 0x70, "ADCSRA": 0x7A, "TWCR": 0xBC, "UCSR0B": 0xC1,
-    **{f"r{n}": n for n in range(32)},
-}
-NAME_OF = {address: name for name, address in REGISTERS.items()}
-
-# The register and the bit that enable each vector: from INT0 on, by number.
-ENABLES = dict(enumerate([
-    ("EIMSK", 0), ("EIMSK", 1), ("PCICR", 0), ("PCICR", 1), ("PCICR", 2), ("WDTCSR", 6), ("TIMSK2", 1), ("TIMSK2", 2), ("TIMSK2", 0), ("TIMSK1", 5),
-    ("TIMSK1", 1), ("TIMSK1", 2), ("TIMSK1", 0), ("TIMSK0", 1), ("TIMSK0", 2), ("TIMSK0", 0), ("SPCR", 7), ("UCSR0B", 7), ("UCSR0B", 5), ("UCSR0B", 6),
-    ("ADCSRA", 3), ("EECR", 3), ("ACSR", 3), ("TWCR", 0), ("SPMCSR", 7),
-], start=2))
-MASKS = frozenset(REGISTERS[name] for name, _ in ENABLES.values())  # addresses of registers that enable interrupts
-MCUCR, IVSEL = 0x55, 1  # the register that moves the vectors, and its bit
-WITHOUT_IVSEL = ("atmega48pa",)
+    register: str
+    address: int
+    mask: int
 
 
-def device_of(elf, path, asked):
-    """The device that the file was linked for, and the one as which it is taken."""
-    linked_for = elf.device()
-    if asked and asked not in DEVICES:
-        raise Misuse(f"--device is one of {', '.join(DEVICES)}")
-    if linked_for is None:
-        if not asked:
-            raise Misuse(f"{path} doesn't say for which device it was linked: give --device")
-        return None, DEVICES[asked]
-    if linked_for not in LINKED_FOR:
-        raise Misuse(f"{path} was linked for {linked_for}, and stackbound knows {', '.join(DEVICES)} alone")
-    if asked not in (None, LINKED_FOR[linked_for]):
+def place(text: str) -> Place:
+    """A place of the table: `TIMSK0=006E.02`."""
+    name, _, where = text.partition("=")
+    address, _, mask = where.partition(".")
+    return Place(name, int(address, 16), int(mask, 16))
+
+
+class Vector:
+    """An interrupt's vector: its names, the places of its enable bit, and whether it stays enabled once it was. Without a place it counts as
+    always enabled."""
+
+    def __init__(self, how: str, names: List[str]) -> None:
+        self.names = [f"{it}_vect" for it in names]
+        self.stays = how.startswith("~")
+        self.places: Tuple[Place, ...] = () if how == "open" else tuple(place(it) for it in how.lstrip("~").split(","))
+
+
+class Device:
+    """A class of equal devices, by a line of the table: `words` of flash, the `first` and the `last` byte of SRAM, how many words a vector has,
+    the `last_vector`, and the vector of the `watchdog`. `vectors` has the name of each vector that may come, by number; `registers` the
+    protected addresses by name; `enabling` those of registers that enable interrupts; `handlers` the functions of handlers by their vectors'
+    names; `moving` the bit that moves the vectors."""
+
+    def __init__(self, row: List[str]) -> None:
+        self.name, self.words, self.vector_words, self.last_vector = row[0], int(row[1]), int(row[4]), int(row[6])
+        self.first, self.last = int(row[2], 16), int(row[3], 16)
+        self.groups = frozenset(row[5].split(","))
+        self.watchdog = None if row[7] == "-" else int(row[7])
+        self.moving = None if row[8] == "-" else place(row[8])
+        self.rows = {int(number): Vector(how, names) for number, how, *names in map(str.split, VECTORS[int(row[9])].splitlines())}
+        self.vectors = {number: it.names[0] for number, it in self.rows.items()}
+        self.handlers = {name: f"__vector_{number - 1}" for number, it in self.rows.items() for name in it.names}
+        places = [it for row in self.rows.values() for it in row.places]
+        self.enabling = frozenset(it.address for it in places)
+        self.registers = {**{it.register: it.address for it in places}, **CORE}
+        if self.moving and self.moving.address in self.enabling:
+            self.registers[self.moving.register] = self.moving.address
+        self.names = {address: name for name, address in self.registers.items()}
+
+    def is_first(self) -> bool:
+        """Whether it is one of the four whose chips start with SP at the end of SRAM, and whose assumption files are read as they are written.
+        All others are read as with the line `masks`."""
+        return self.name in FIRST
+
+    def sram(self) -> int:
+        return self.last + 1 - self.first
+
+    def vector_word(self, vector: int) -> int:
+        return (vector - 1) * self.vector_words
+
+    def vector_at(self, word: int) -> Optional[int]:
+        """The vector whose word this is; None where it is that of none."""
+        vector = word // self.vector_words + 1
+        return vector if vector in self.vectors and self.vector_word(vector) == word else None
+
+    def vector_named(self, name: str) -> Optional[int]:
+        """The vector that one of avr-libc's headers calls so."""
+        return next((number for number, it in self.rows.items() if name in it.names), None)
+
+    def register_name(self, address: int) -> str:
+        return self.names.get(address, f"0x{address:02X}")
+
+    def is_open(self, vector: int) -> bool:
+        """Whether no known bit enables a vector, which then counts as enabled."""
+        return not self.rows[vector].places
+
+    def enables_text(self, enables: int) -> str:
+        """Enable bits as a certificate writes them, whose lowest is that of vector 2."""
+        return f"{enables:0{(self.last_vector + 2) // 4}X}"
+
+
+def table() -> Iterator[Tuple[str, List[str]]]:
+    """Yields each name that the compiler takes, with the words of its line of the table."""
+    for line in CLASSES.splitlines():
+        row = line.split()
+        yield from ((name, row) for name in (row[0], *row[10:]))
+
+
+NAMES = dict(table())
+
+
+@functools.lru_cache(maxsize=None)
+def of_class(name: str) -> Device:
+    return Device(NAMES[name])
+
+
+def named(name: Optional[str]) -> Optional[Device]:
+    """The device that a name means; None of a name that is in no row."""
+    return of_class(NAMES[name][0]) if name in NAMES else None
+
+
+def unknown(name: str) -> str:
+    """What is told of a name that is in no row: names that are near, and where all are."""
+    near = difflib.get_close_matches(name.lower(), NAMES, MOST_NEAR, ALIKE)
+    return f"{len(NAMES)} names but not this one" + (f"; near: {', '.join(near)}" if near else "") + "; docs/DEVICES.md lists them all"
+
+
+def device_of(elf: Any, path: str, asked: Optional[str]) -> Tuple[Optional[str], Device]:
+    """The name for which the file was linked, and the device as which it is taken: its code is read as that device's from then on."""
+    linked_for, wanted = elf.device(), named(asked)
+    if asked and not wanted:
+        raise Misuse(f"--device {asked}: stackbound knows {unknown(asked)}")
+    if linked_for is None and not wanted:
+        raise Misuse(f"{path} doesn't say for which device it was linked: give --device")
+    device = wanted if linked_for is None else named(linked_for)
+    if device is None:
+        raise Misuse(f"{path} was linked for {linked_for}, and stackbound knows {unknown(linked_for)}")
+    if wanted not in (None, device):
         raise Misuse(f"{path} was linked for {linked_for}, and not for {asked}")
-    return linked_for, DEVICES[LINKED_FOR[linked_for]]
+    elf.take_for(device)
+    return linked_for, device

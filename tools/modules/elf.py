@@ -4,9 +4,12 @@ import bisect
 import re
 import struct
 
-FLASH = 0x8000  # bytes
+from devices import DEFAULT, Device, named
+
+FLASH = 0x20000  # bytes of the largest device
+LEAST_WORDS = 0x4000  # below which no word address goes round
 CODE_END = 0x800000  # from here on addresses are of data
-SRAM, EEPROM = 0x800100, 0x810000  # where sections of data in SRAM begin, and what lies behind them
+EEPROM = 0x810000  # behind the sections of data in SRAM
 ALLOCATED = 2  # a flag of sections that take memory
 OBJECT, FUNCTION, FILE_NAME = 1, 2, 4  # types of symbols
 ABSOLUTE = 0xFFF1  # the section number of symbols that are no place in a section
@@ -48,8 +51,9 @@ def what_else(data):
 
 
 class Elf:
-    """`path` is the file's name, `flash` has 32,768 bytes (FF where nothing is placed), `code` the symbols of code by address, `all` the addresses of all names,
-    `objects` address and size of those of data."""
+    """`path` is the file's name, `flash` has 131,072 bytes (FF where nothing is placed), `code` the symbols of code by address, `all` the addresses of all names,
+    `objects` address and size of those of data, `chip` the device as whose code it is read: that of its note, and else the one that stackbound
+    takes."""
 
     def __init__(self, path):
         self.path, self.lines, self.inlined = path, None, None
@@ -80,6 +84,15 @@ class Elf:
             names = self.headers[head[9]][4]
             self.sections = {text_at(self.data, names + it[0]): it for it in self.headers}
         self.read_symbols()
+        self.take_for(named(self.device()) or named(DEFAULT))
+
+    def take_for(self, chip: Device):
+        """Reads the code as that of a device from now on."""
+        self.chip, self.around = chip, max(chip.words, LEAST_WORDS)
+
+    def sram(self):
+        """Where sections of data in SRAM begin."""
+        return CODE_END + self.chip.first
 
     def section(self, name):
         """The bytes of the section of this name; none where there is no such section."""
@@ -138,7 +151,7 @@ class Elf:
 
     def static_end(self):
         """The data address behind the last section of data in SRAM, `.bss` among them; None where there is none, or no section headers."""
-        ends = [it[3] + it[5] - CODE_END for it in self.headers if it[2] & ALLOCATED and it[5] and SRAM <= it[3] < EEPROM]
+        ends = [it[3] + it[5] - CODE_END for it in self.headers if it[2] & ALLOCATED and it[5] and self.sram() <= it[3] < EEPROM]
         return max(ends, default=None)
 
     def device(self):
@@ -154,4 +167,4 @@ class Elf:
         return None
 
     def word(self, word):
-        return struct.unpack_from("<H", self.flash, 2 * (word % (FLASH // 2)))[0]
+        return struct.unpack_from("<H", self.flash, 2 * (word % self.around))[0]

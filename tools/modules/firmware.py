@@ -4,7 +4,7 @@ from typing import Dict, Optional, Set
 
 from cxx_names import written
 from debug_lines import Lines
-from devices import VECTORS, Device, device_of
+from devices import Device, device_of
 from elf import Elf, Symbol
 from names import base, shown
 from opcodes import jump_target
@@ -45,13 +45,14 @@ class Firmware:
     def vector_of(self, name: str) -> Optional[str]:
         """`TIMER0_OVF_vect` of `__vector_16`; None of another name."""
         number = name[len("__vector_"):] if name.startswith("__vector_") else ""
-        return VECTORS.get(int(number) + 1) if number.isdecimal() else None
+        return self.device.vectors.get(int(number) + 1) if number.isdecimal() else None
 
     def handler(self, vector: int) -> str:
         """The name of a vector, and the function that its word jumps to."""
         target = jump_target(self.elf, self.device.vector_word(vector))
         symbol = self.elf.symbol_at(2 * target) if target is not None else None
-        return f"{VECTORS[vector]} ({symbol.name})" if symbol else VECTORS[vector]
+        name = self.device.vectors[vector]
+        return f"{name} ({symbol.name})" if symbol else name
 
     def place_of_line(self, kind: str, word: int) -> str:
         """Where a line of an assumption file or of `premises` stands: a `never` line at a vector, each other one at its site."""

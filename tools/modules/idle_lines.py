@@ -1,6 +1,5 @@
 """Lines `store` of a spec that name no store which the analysis lets write their register: they say something of another place than was meant."""
 
-from devices import NAME_OF
 from names import SpecFault
 from node_values import Nodes
 
@@ -12,6 +11,6 @@ def check(outcome, spec):
     for line in lines:
         for address in sorted(line.items):
             if not any(nodes.may_write(word, address) for word in line.places):
-                name = NAME_OF.get(address, f"0x{address:02X}")
+                name = outcome.firmware.device.register_name(address)
                 raise SpecFault(f"line {line.number}: no store that `{line.text}` names may write {name}: it names another store than was meant, "
                                 "or one that never runs (where the compiler has put it into other functions, -gdwarf-2 tells)")

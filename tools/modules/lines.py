@@ -1,7 +1,6 @@
 """The lines of an assumption file by site and kind, and the line of a spec that says the same by names."""
 
 import opcodes
-from devices import NAME_OF, VECTORS
 from names import SpecFault, function, shown
 from sites import SITES, STORES
 from spec import KINDS, MASKS, MOST_ITEMS, NOWHERE, PAIRS, Spec, assumption_line, words_of
@@ -89,7 +88,7 @@ def name_of(elf, symbol):
 def item_of(elf, kind, item):
     """A register or a function by its name; None where a function has none of its own, or where no function begins."""
     if kind == "store":
-        return NAME_OF.get(item, f"0x{item:02X}")
+        return elf.chip.register_name(item)
     symbol = elf.symbol_at(2 * item)
     return name_of(elf, symbol) if symbol and symbol.address == 2 * item else None
 
@@ -98,7 +97,7 @@ def spec_line(elf, device, lines, site, kind, names=None):
     """The line of a spec that makes this line of an assumption file, with the items by these names, else by their own; None where there is none."""
     symbol = elf.symbol_at(2 * site)
     if kind == "never":
-        text = f"never {VECTORS[device.vector_at(site)]}"
+        text = f"never {device.vectors[device.vector_at(site)]}"
     elif symbol:
         words = [names] if names else [item_of(elf, kind, it) for it in sorted(lines.of(site, kind))]
         found = opcodes.sites(elf, symbol, SITES.get(kind, STORES)[0])

@@ -1,6 +1,6 @@
 """Looks for the lines of an assumption file under which a firmware has a bound that no trial run shows to be empty.
 
-Each line is safe: `pairs`, `masks` and `frame` assume nothing; a run that leaves the targets of a `jump` line, writes a register that no `store`
+Each line is safe: `pairs`, `masks` and `frame` assume nothing (and on all devices but the first four a list is read as with `masks` anyway); a run that leaves the targets of a `jump` line, writes a register that no `store`
 line lists, or takes the vector of a `never` line is flagged there, and `premises` lists these places; a line that lists too much costs bytes of
 the bound at most.
 `at_refusal` says which function writes lines for which refusal, `add_own` which lines a list of places asks for.
@@ -13,14 +13,13 @@ import candidates
 import causes
 import opcodes
 from cures import REFUSAL
-from devices import MASKS as ENABLING, VECTORS
 from firmware import Firmware
 from lines import Lines
 from node_values import Nodes
 from program import DEVICES, OK, REFUSED, NoProgram, Program
 from sites import frames_of
 from spec import MASKS, NOWHERE, is_unhandled
-from trials import Run, Stop, Trials, handled
+from trials import DEVICE_LINES, Run, Stop, Trials, handled
 
 ROUNDS = 64
 MOST_TRIED = 8  # lines that are tried one by one where they aren't accepted together
@@ -51,12 +50,15 @@ class Analysis:
         return status == OK, text
 
     def trials(self, folder: str) -> Trials:
-        """Trial runs that take each vector that has a handler, and each that a `never` line of this tool names."""
+        """Trial runs that take each vector that has a handler, and each that a `never` line of this tool names, as far as a run takes so many. One
+        that no known bit enables isn't taken without a handler: that it may come says nothing of the firmware."""
         has_handler, vectors = handled(self.elf, self.device), []
-        for vector in VECTORS:
+        for vector in self.device.vectors:
             word = self.device.vector_word(vector)
-            if not self.lines.is_given(word, "never") and (vector in has_handler or self.lines.has(word, "never")):
+            is_tried = self.lines.has(word, "never") and not self.device.is_open(vector)
+            if not self.lines.is_given(word, "never") and (vector in has_handler or is_tried):
                 vectors.append(vector)
+        vectors = sorted(sorted(vectors, key=lambda it: it not in has_handler)[:DEVICE_LINES])
         return Trials(self.program(), folder, self.elf, self.device, vectors)
 
     def admit(self, stop: Stop) -> Optional[str]:
@@ -111,8 +113,12 @@ class Mending(Analysis):
                 self.without_masks()
         else:
             self.mend()
-        if self.certificate and not self.lines.has_masks():
+        if self.certificate and not self.reads_masks():
             self.trim()
+
+    def reads_masks(self) -> bool:
+        """Whether a store through a pointer may write registers that enable interrupts: by the line `masks`, or by the device."""
+        return self.lines.has_masks() or not self.device.is_first()
 
     def analyse_once(self) -> bool:
         is_accepted, text = self.analyse()
@@ -142,30 +148,35 @@ class Mending(Analysis):
             self.certificate = None
 
     def begin_with_masks(self) -> bool:
-        """Writes `masks`, with `never` lines for the vectors that have no handler, where the program knows the line; whether it does."""
-        if self.lines.has_masks():
+        """Writes `masks`, where the device doesn't make it needless, with `never` lines for the vectors that have no handler; whether that was done:
+        the program has to know the line, and it mustn't be given."""
+        if self.lines.has_masks() and self.device.is_first():
             return False
         self.before_masks = self.lines.copy()
-        self.lines.add(NOWHERE, MASKS)
         self.add_never()
+        if not self.device.is_first():
+            return True
+        self.lines.add(NOWHERE, MASKS)
         status, _ = self.program().call("simulate", os.devnull)  # which reads the assumption file first
         if status != DEVICES:
             self.lines = self.before_masks
         return status == DEVICES
 
     def without_masks(self) -> None:
-        """Where the line `masks` alone leads to a refusal: takes it back at the stores that lead there, or leaves it out."""
+        """Where the line `masks` alone leads to a refusal: takes it back at the stores that lead there, or leaves it out where the device lets it."""
         plain = self.copy()
-        plain.lines, plain.tried = self.before_masks.copy(), set()
-        plain.certificate = plain.refusal = None
-        plain.mend()
-        if plain.refusal:
-            self.use(plain)
-            return
-        wild = set(plain.wild_stores())
+        if self.device.is_first():
+            plain.lines, plain.tried = self.before_masks.copy(), set()
+            plain.certificate = plain.refusal = None
+            plain.mend()
+            if plain.refusal:
+                self.use(plain)
+                return
+        wild = set(plain.wild_stores()) if self.device.is_first() else self.open_stores()
         for sites in self.groups(wild):
             partly = plain.copy()
-            partly.lines.add(NOWHERE, MASKS)
+            if self.device.is_first():
+                partly.lines.add(NOWHERE, MASKS)
             partly.add_never()
             for site in sites:
                 partly.lines.add(site, "store", {R0})
@@ -181,7 +192,7 @@ class Mending(Analysis):
         found = REFUSAL.match(self.refusal or "")
         entry = opcodes.jump_target(self.elf, int(found[4], 16)) if found and found[1] == "3" and found[4] else None
         entries = [] if entry is None else [{entry}]
-        entries.append({it for it in (opcodes.jump_target(self.elf, self.device.vector_word(vector)) for vector in VECTORS) if it is not None})
+        entries.append({it for it in (opcodes.jump_target(self.elf, self.device.vector_word(vector)) for vector in self.device.vectors) if it is not None})
         last: Set[int] = set()
         for begins in entries:
             reached = set(begins).union(*(candidates.reached(self.elf, it) for it in begins))
@@ -206,11 +217,17 @@ class Mending(Analysis):
 
     def wild_stores(self) -> List[int]:
         """The words of stores that may write a register that enables interrupts."""
-        return [word for word, it in causes.by_word(self.told() or []).items() if it.addresses and (it.more or it.addresses & ENABLING)]
+        told = causes.by_word(self.device, self.told() or [])
+        return [word for word, it in told.items() if it.addresses and (it.more or it.addresses & self.device.enabling)]
+
+    def open_stores(self) -> Set[int]:
+        """The words of all stores through pointers of which no line speaks."""
+        found = {at for words in candidates.code(self.elf) for at, opcode in words if opcodes.is_pointer_store(opcode)}
+        return {it for it in found if not any(self.lines.has(it, kind) for kind in ("store", "prove", "free"))}
 
     def add_own(self) -> bool:
         """Adds lines that the list of places asks for: `prove` where a pointer is one constant, `store` where it may be few registers; whether one was."""
-        told = causes.by_word(self.told() or [])
+        told = causes.by_word(self.device, self.told() or [])
         if not told:
             return False
         nodes = Nodes(self.elf, self.certificate)
@@ -218,7 +235,7 @@ class Mending(Analysis):
         if self.add_all(fixed, "prove", {}):
             return True
         few = {word: it.addresses for word, it in told.items()
-               if it.is_few() and (len(it.addresses) == 1 or it.addresses <= ENABLING) and self.is_open(word, "store", it.addresses)}
+               if it.is_few() and (len(it.addresses) == 1 or it.addresses <= self.device.enabling) and self.is_open(word, "store", it.addresses)}
         return self.add_all(sorted(few), "store", few)
 
     def is_open(self, word: int, kind: str, items: Iterable[int] = ()) -> bool:
@@ -350,7 +367,7 @@ class Mending(Analysis):
 
     def add_never(self) -> bool:
         """A `never` line for each vector that leads to the compiler's default, which begins the program anew."""
-        found = [self.device.vector_word(it) for it in VECTORS if is_unhandled(self.elf, self.device, it)]
+        found = [self.device.vector_word(it) for it in self.device.vectors if is_unhandled(self.elf, self.device, it)]
         return any([self.lines.add(it, "never") for it in found])
 
     def add_frames(self) -> bool:

@@ -4,9 +4,7 @@ import difflib
 import re
 
 from cxx_names import qualified, without_parameters, written
-from devices import VECTORS
 
-HANDLERS = {name: f"__vector_{number - 1}" for number, name in VECTORS.items()}  # the functions of handlers, by the names of their vectors
 CLONE = re.compile(r"(\.(part|constprop|isra|lto_priv|cold)(\.\d+)?|\.\d+)+$")  # what the compiler puts behind the name of a function that it has copied or cut
 
 
@@ -67,7 +65,7 @@ def of_cxx(elf, name):
 
 def named(elf, name):
     """The symbols that a name means, and its clones: those of this name, else those of C++ that are written so. A vector's name means its handler."""
-    name = HANDLERS.get(name, name)
+    name = elf.chip.handlers.get(name, name)
     found = elf.named(name)
     file, _, own = name.rpartition(":") if "::" not in name else ("", "", name)
     clones = [it for it in elf.code if it.name != own and base(it.name) == own and (not file or it.file in (file, ""))]

@@ -107,7 +107,7 @@ class Nodes:
     """The nodes of a certificate by their words, with the values of the registers that each begins with."""
 
     def __init__(self, elf: Elf, certificate: str) -> None:
-        self.elf, self.has_pairs = elf, certificate.startswith("stackcert 3\n") or certificate.startswith("stackcert 4\n")
+        self.elf, self.has_pairs = elf, "\npairs\n" in certificate
         self.lines: List[List[str]] = []
         self.at: Dict[int, List[int]] = {}
         for line in certificate.splitlines():

@@ -77,10 +77,10 @@ def sites(elf, symbol, test):
 def target(elf, word, far, near):
     opcode = elf.word(word)
     if opcode & 0xFE0E == far:
-        return elf.word(word + 1) % 0x4000
+        return elf.word(word + 1) % elf.chip.words
     if opcode & 0xF000 == near:
         step = opcode & 0xFFF
-        return (word + 1 + step - (0x1000 if step & 0x800 else 0)) % 0x4000
+        return (word + 1 + step - (0x1000 if step & 0x800 else 0)) % elf.chip.words
     return None
 
 
@@ -94,6 +94,35 @@ def call_target(elf, word):
     return target(elf, word, 0x940E, 0xD000)
 
 
+def io_address(opcode):
+    """The data address that an `in` or `out` names."""
+    return (opcode & 15 | opcode >> 5 & 0x30) + 0x20
+
+
+def uses_stack(opcode):
+    """`push`, a call, `ret`, `reti`, or `sei`, behind which an interrupt may push."""
+    return opcode & 0xFE0F == 0x920F or opcode & 0xFE0E == 0x940E or opcode & 0xF000 == 0xD000 or opcode in (ICALL, 0x9508, 0x9518, SEI)
+
+
+def is_skip(opcode):
+    """`cpse`, `sbrc`, `sbrs`, `sbic` or `sbis`."""
+    return opcode & 0xFC00 == 0x1000 or opcode & 0xFC08 == 0xFC00 or opcode & 0xFD00 == 0x9900
+
+
+def following(elf, word):
+    """The words at which a run may go on behind an instruction that is no call and no return; none behind `ijmp`."""
+    opcode = elf.word(word)
+    after = word + length(opcode)
+    if opcode == IJMP:
+        return []
+    if (to := jump_target(elf, word)) is not None:
+        return [to]
+    if opcode & 0xF800 == 0xF000:
+        step = opcode >> 3 & 0x7F
+        return [after, after + step - (0x80 if step & 0x40 else 0)]
+    return [after, after + length(elf.word(after))] if is_skip(opcode) else [after]
+
+
 def pair_loaded(elf, word):
     """The number that `subi r30`, `sbci r31` at a word add to the pair r31:r30; None where these aren't there."""
     low, high = elf.word(word), elf.word(word + 1)
@@ -104,7 +133,8 @@ def pair_loaded(elf, word):
 
 
 def is_lpm(opcode):
-    return opcode == 0x95C8 or opcode & 0xFE0E == 0x9004
+    """`lpm` or `elpm`."""
+    return opcode in (0x95C8, 0x95D8) or opcode & 0xFE0C == 0x9004
 
 
 def is_lds(opcode, register):

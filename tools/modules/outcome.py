@@ -63,7 +63,7 @@ class Accepted:
     premises: Optional[List[str]] = None
     causes: Dict[int, Any] = field(default_factory=dict)
     closers: Dict[int, str] = field(default_factory=dict)
-    warnings: Dict[int, str] = field(default_factory=dict)
+    warnings: List[warnings_of_words.Warned] = field(default_factory=list)
     graph: Any = None
     table: List[Any] = field(default_factory=list)
     entries: List[Any] = field(default_factory=list)
@@ -130,7 +130,7 @@ def tell_premises(found: Accepted, program: Any, certificate: str) -> None:
     if lines is None:
         lines = program.lines("premises", certificate)
     if lines is not None:
-        found.premises, found.causes = lines[1:], causes.by_word(lines[1:])
+        found.premises, found.causes = lines[1:], causes.by_word(found.firmware.device, lines[1:])
     for line in found.assumed.splitlines():
         kind, *words = line.split()
         if kind not in UNASSUMED:
@@ -181,7 +181,7 @@ def take(firmware: Firmware, spec: str, given: str, work: Mending, words: Any, f
         tell_premises(found, program, certificate)
     finally:
         program.end()
-    found.warnings = warnings_of_words.moved_vectors(firmware, found.certificate)
+    found.warnings = warnings_of_words.warnings(firmware, found.certificate)
     found.closers = causes.closers(firmware, work, found.causes, folder)
     return found
 

@@ -9,20 +9,21 @@ import os
 import debug_lines
 import sites
 from causes import Cause
-from devices import MASKS
-from elf import CODE_END, SRAM
+from elf import CODE_END
 from node_values import Nodes
 from names import shown
 from spec import START_UP
+from warnings_of_words import MOVES, UNSET
 
 MOST_WORDS = 4  # word addresses that one entry prints
 START = ("__do_clear_bss", "__do_copy_data")
 ST_X_R1, ST_X_R0 = 0x921D, 0x920D
 XL, XH = 26, 27
-CALLS, STORES, VECTORS, MOVES = "calls", "stores", "vectors", "moves"  # kinds of ordinary places
+CALLS, STORES, VECTORS = "calls", "stores", "vectors"  # kinds of ordinary places, beside those of warnings
 SAFETY, GIVEN = "memory safety", "given"
-ORDINARY = (CALLS, STORES, VECTORS, MOVES)
-WORDS = {CALLS: "call", STORES: "store", VECTORS: "vector", MOVES: "write of MCUCR", SAFETY: "memory safety", GIVEN: "given line"}
+ORDINARY = (CALLS, STORES, VECTORS, MOVES, UNSET)
+WORDS = {CALLS: "call", STORES: "store", VECTORS: "vector", MOVES: "write of {moving}", UNSET: "use of the stack before SPL is written", SAFETY: "memory safety",
+         GIVEN: "given line"}
 
 
 class Place:
@@ -88,7 +89,7 @@ def loaded(elf, word, register):
 def section_at(elf, address):
     """The name of the section of data at a data address, with a space behind; nothing where none is told."""
     for name, it in elf.sections.items():
-        if SRAM <= it[3] <= address + CODE_END < it[3] + it[5]:
+        if elf.sram() <= it[3] <= address + CODE_END < it[3] + it[5]:
             return name + " "
     return ""
 
@@ -123,7 +124,8 @@ def entry_of(outcome, word, found):
 
 def may_enable(nodes, word, cause):
     """Whether a store may write a register that enables interrupts, as far as the list or the certificate tells."""
-    return bool(cause.addresses & MASKS) or cause.more and any(nodes.may_write(word, it) for it in sorted(MASKS))
+    enabling = nodes.elf.chip.enabling
+    return bool(cause.addresses & enabling) or cause.more and any(nodes.may_write(word, it) for it in sorted(enabling))
 
 
 def kind_of(outcome, nodes, word):
@@ -135,7 +137,8 @@ def kind_of(outcome, nodes, word):
         return SAFETY
     if lines.is_given(word, "store"):
         return GIVEN
-    return SAFETY if lines.has_masks() and not lines.has(word, "store") else STORES
+    follows = lines.has_masks() or not outcome.firmware.device.is_first()
+    return SAFETY if follows and not lines.has(word, "store") else STORES
 
 
 def put(outcome, nodes, entry, word):
@@ -151,14 +154,15 @@ def put(outcome, nodes, entry, word):
 def entry_of_vector(outcome, word):
     """The entry of a vector that a `never` line names."""
     vector = outcome.firmware.handler(outcome.firmware.device.vector_at(word))
-    is_given = outcome.own.is_given(word, "never")
-    entry = Place(vector, f"{vector}: " + ("a `never` line says that it isn't entered" if is_given else "it has no handler, and may be enabled"))
+    is_given, device = outcome.own.is_given(word, "never"), outcome.firmware.device
+    why = "no header names its enable bit" if device.is_open(device.vector_at(word)) else "may be enabled"
+    entry = Place(vector, f"{vector}: " + ("a `never` line says that it isn't entered" if is_given else f"it has no handler, and {why}"))
     entry.kinds[word] = GIVEN if is_given else VECTORS
     return entry
 
 
 def entries(outcome):
-    """The entries of what `premises` lists, in the order of their first words, and of writes that move the vectors."""
+    """The entries of what `premises` lists, in the order of their first words, and of what no flag tells."""
     found, nodes = {}, Nodes(outcome.firmware.elf, outcome.certificate)
     for line in outcome.premises or ():
         kind, word = line.split()[:2]
@@ -168,11 +172,11 @@ def entries(outcome):
             put(outcome, nodes, entry_of(outcome, int(word, 16), found), int(word, 16))
         else:
             found[line] = Place(line, line)
-    for word, text in outcome.warnings.items():
-        entry = entry_of(outcome, word, found)
-        entry.words += [] if word in entry.words else [word]
-        entry.kinds[word] = MOVES
-        entry.warned.append(text)
+    for it in outcome.warnings:
+        entry = entry_of(outcome, it.word, found)
+        entry.words += [] if it.word in entry.words else [it.word]
+        entry.kinds[it.word] = it.kind
+        entry.warned.append(it.text)
     return list(found.values())
 
 
@@ -215,10 +219,16 @@ def unjudged(outcome, is_strict):
     return [it for it in outcome.entries if not it.judged and (is_strict or it.is_ordinary())]
 
 
+def moving(outcome):
+    """The register whose writes may move the vectors."""
+    device = outcome.firmware.device
+    return device.moving.register if device.moving else ""
+
+
 def counted(outcome):
     """How many places of each kind there are."""
-    kinds = [(kind, count_of(outcome, (kind,))) for kind in WORDS]
-    told = [f"{count} of memory safety" if kind == SAFETY else f"{count} {WORDS[kind]}{'' if count == 1 else 's'}" for kind, count in kinds if count]
+    kinds = [(kind, count_of(outcome, (kind,)), WORDS[kind].format(moving=moving(outcome))) for kind in WORDS]
+    told = [f"{count} of memory safety" if kind == SAFETY else f"{count} {text}{'' if count == 1 else 's'}" for kind, count, text in kinds if count]
     return f" ({', '.join(told)})" if told else ""
 
 

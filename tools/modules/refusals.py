@@ -5,7 +5,7 @@ from typing import Any, Dict, Iterator, List, Optional, Set, Tuple
 import candidates
 import opcodes
 from cures import REFUSAL
-from devices import ENABLES, REGISTERS, VECTORS
+from devices import Device
 from firmware import Firmware
 from telling import line_of_spec
 from trials import handled
@@ -14,6 +14,7 @@ OUT_SREG, RETI, SBI = 0xBE0F, 0x9518, 0x9A00
 MOST_REASONS, NEAR, GUARD = 8, 5, 6
 SET_AGAIN = ("its own enable bit is set again before it ends, while interrupts are let in",
              "set the bit again only behind its `cli()`, or where it can't run; a bound asks that no step does so meanwhile, whatever variables say")
+STAYS = ("it lets interrupts in while its own vector counts as enabled, which nothing in the handler changes", "let no interrupts in while this handler runs")
 
 
 class Step:
@@ -83,36 +84,37 @@ def written_address(firmware: Firmware, work: Any, word: int) -> Optional[int]:
     if opcode & 0xFE0F == 0x9200:
         return firmware.elf.word(word + 1)
     if opcode & 0xF800 == 0xB800:
-        return (opcode & 15 | opcode >> 5 & 0x30) + 0x20
+        return opcodes.io_address(opcode)
     if opcode & 0xFF00 == SBI:
         return (opcode >> 3 & 31) + 0x20
     listed = work.lines.of(word, "store")
     return min(listed) if len(listed) == 1 else None
 
 
-def may_set(elf: Any, word: int, bit: int, begin: int) -> bool:
-    """Whether a write may set a bit, by what was done to the register just before: `ori`, `andi` or `ldi`."""
+def may_set(elf: Any, word: int, mask: int, begin: int) -> bool:
+    """Whether a write may set a bit of a mask, by what was done to the register just before: `ori`, `andi` or `ldi`."""
     opcode = elf.word(word)
     if opcode & 0xFF00 == SBI:
-        return opcode & 7 == bit
+        return bool(mask >> (opcode & 7) & 1)
     register = opcode >> 4 & 31
     for at, other in candidates.before(elf, word, NEAR):
         if at < begin:
             break
         byte, is_same = other & 15 | other >> 4 & 0xF0, 16 + (other >> 4 & 15) == register
-        if is_same and (0xE000 == other & 0xF000 or byte >> bit & 1 and other & 0xF000 == 0x6000 or not byte >> bit & 1 and other & 0xF000 == 0x7000):
-            return other & 0xF000 != 0x7000 and bool(byte >> bit & 1)
+        if is_same and (0xE000 == other & 0xF000 or byte & mask and other & 0xF000 == 0x6000 or not byte & mask and other & 0xF000 == 0x7000):
+            return other & 0xF000 != 0x7000 and bool(byte & mask)
     return register != 1  # r1 is 0 in compiled code
 
 
-def setters(firmware: Firmware, work: Any, functions: Set[int], vector: int) -> Iterator[int]:
-    """The words in some functions that may set a vector's enable bit."""
-    name, bit = ENABLES[vector]
+def setters(firmware: Firmware, work: Any, functions: Set[int], vector: int) -> Iterator[Tuple[int, str]]:
+    """The words in some functions that may set a vector's enable bit, with the registers."""
+    places = {it.address: it for it in firmware.device.rows[vector].places}
     for symbol in firmware.elf.code:
         if symbol.address // 2 in functions:
             for at, _ in opcodes.words_of(firmware.elf, symbol):
-                if written_address(firmware, work, at) == REGISTERS[name] and may_set(firmware.elf, at, bit, symbol.address // 2):
-                    yield at
+                found = places.get(written_address(firmware, work, at))
+                if found and may_set(firmware.elf, at, found.mask, symbol.address // 2):
+                    yield at, found.register
 
 
 def openers(firmware: Firmware, functions: Set[int], entry: int) -> Iterator[Tuple[int, str]]:
@@ -145,26 +147,38 @@ def is_guarded(elf: Any, word: int) -> bool:
     return any(0xF000 <= words[n - back][1] < 0xF800 for n in loads for back in range(1, GUARD) if n - back >= 0)
 
 
+def stays_enabled(device: Device, vector: int) -> str:
+    """Why a vector stays enabled whatever a handler does; nothing where its enable bit is known."""
+    row = device.rows[vector]
+    if device.is_open(vector):
+        return f"no enable bit of {device.vectors[vector]} is known, so that it counts as always enabled"
+    names = " and ".join(it.register for it in row.places)
+    return f"{device.vectors[vector]} has several enable bits ({names}), so that it counts as enabled once one was set, also where it is cleared" if row.stays else ""
+
+
 def of_re_entry(firmware: Firmware, work: Any, vector: int) -> Iterator[str]:
     """Each place that lets interrupts in while a handler runs, and each that may set its enable bit then: in the handler, or in one that comes meanwhile."""
     elf, device = firmware.elf, firmware.device
     entry = opcodes.jump_target(elf, device.vector_word(vector))
     if entry is None:
         return
-    graph, name = steps(firmware, work), ENABLES[vector][0]
+    graph = steps(firmware, work)
     own = reached(graph, entry)
     opened = list(openers(firmware, own, entry))
     yield from (f"{firmware.function(at)} lets interrupts in (`{text}`) at {firmware.place(at)}" for at, text in opened)
-    sets = [(at, "") for at in setters(firmware, work, own, vector)]
+    if stays := stays_enabled(device, vector):
+        yield stays
+        return
+    sets = [(at, name, "") for at, name in setters(firmware, work, own, vector)]
     for other in handled(elf, device):
         target = opcodes.jump_target(elf, device.vector_word(other))
         if other != vector and target is not None:
-            sets += [(at, VECTORS[other]) for at in setters(firmware, work, reached(graph, target) - own, vector)]
-    for at, other in sets:
+            sets += [(at, name, device.vectors[other]) for at, name in setters(firmware, work, reached(graph, target) - own, vector)]
+    for at, name, by in sets:
         function = firmware.function(at)
-        why = "" if not other else ", which may come meanwhile," if function == other else f", called by {other}, which may come meanwhile,"
+        why = "" if not by else ", which may come meanwhile," if function == by else f", called by {by}, which may come meanwhile,"
         yield f"{function}{why} sets {name} again at {firmware.place(at)}"
-    if any(is_guarded(elf, at) for at in [*(at for at, _ in opened), *(at for at, _ in sets)]):
+    if any(is_guarded(elf, at) for at in [*(at for at, _ in opened), *(at for at, *_ in sets)]):
         yield "values of variables aren't followed, so a flag that guards this doesn't count"
 
 
@@ -184,4 +198,6 @@ def reasons(firmware: Firmware, work: Any, refusal: str) -> List[str]:
 
 def overriding(name: str, told: List[str]) -> Optional[Tuple[str, str]]:
     """Cause and cure where the places tell more than the usual row does."""
+    if name in ("re-entry", "noblock") and any(" counts as " in it for it in told):
+        return STAYS
     return SET_AGAIN if name == "re-entry" and any(" again at " in it for it in told) else None

@@ -10,7 +10,7 @@ import interrupts
 import machine_report
 import needs
 import places
-from devices import VECTORS, Misuse
+from devices import Misuse
 from outcome import Refused
 from page import html
 from spec import Spec
@@ -43,8 +43,9 @@ def check_words(words):
 
 def assumed(certificate):
     """The assumption file under which a certificate was accepted."""
-    lines = certificate.splitlines()[2:]
-    return "".join(f"{it}\n" for it in lines[1:1 + int(lines[0].split()[1])])
+    lines = certificate.splitlines()
+    begin = next(n for n, line in enumerate(lines) if line.startswith("assume "))
+    return "".join(f"{it}\n" for it in lines[begin + 1:begin + 1 + int(lines[begin].split()[1])])
 
 
 def complete(outcome, words, folder):
@@ -58,7 +59,7 @@ def complete(outcome, words, folder):
     outcome.entries = places.entries(outcome)
     outcome.idle_keeps = places.judge(outcome, spec.keeps)
     if words.interrupts:
-        vectors = [it for it in VECTORS if any(other.kind == f"v{it}" for other in outcome.graph.instances)]
+        vectors = [it for it in outcome.firmware.device.vectors if any(other.kind == f"v{it}" for other in outcome.graph.instances)]
         outcome.costs = interrupts.costs(outcome, assumed(outcome.certificate), vectors, folder)
     if words.diff:
         outcome.difference = needs.Difference(words.diff, outcome.bound, outcome.table)

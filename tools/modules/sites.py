@@ -6,7 +6,7 @@ import re
 import debug_lines
 import opcodes
 from inlined import copies
-from names import HANDLERS, SpecFault, base, forms, function, functions, named, plain
+from names import SpecFault, base, forms, function, functions, named, plain
 
 NEAR = 4  # how many instructions before a write of the stack pointer its byte is moved, at most
 AT_LINE = re.compile(r"(.+):(\d+)$")
@@ -16,7 +16,7 @@ STORES = opcodes.is_pointer_store, "pointer store"
 
 def copies_of(elf, name):
     """The spans of byte addresses where a function's code stands within others, as the debug information tells."""
-    name = HANDLERS.get(name, name)
+    name = elf.chip.handlers.get(name, name)
     wanted = plain(name if "::" in name else name.rpartition(":")[2])
     return [span for key, parts in copies(elf).items() if base(key) == wanted or wanted in forms(base(key)) for span in parts]
 

@@ -4,7 +4,6 @@ import re
 
 import opcodes
 import sites
-from devices import REGISTERS, VECTORS
 from names import Missing, SpecFault
 from sites import AT_LINE
 from targets import targets
@@ -42,15 +41,15 @@ class Keep:
         return "" if self.name == START_UP else " *" if self.line is None else f":{self.line}"
 
 
-def register(word):
-    """The data address of a protected register, by its name in avr-libc, r0 to r31, or 0x and digits."""
-    if word in REGISTERS:
-        return REGISTERS[word]
+def register(device, word):
+    """The data address of a protected register of a device, by its name in avr-libc, r0 to r31, or 0x and digits."""
+    if word in device.registers:
+        return device.registers[word]
     try:
         address = int(word, 16) if word.startswith("0x") else -1
     except ValueError:
         address = -1
-    if address not in REGISTERS.values():
+    if address not in device.registers.values():
         raise SpecFault(f"{word} is no protected register")
     return address
 
@@ -70,11 +69,11 @@ def vectors(elf, device, name):
     if device is None:
         raise SpecFault("the file doesn't say for which device it was linked: give --device")
     if name == "@unhandled":
-        found = {it for it in VECTORS if is_unhandled(elf, device, it)}
+        found = {it for it in device.vectors if is_unhandled(elf, device, it)}
         if not found:
             raise SpecFault("each vector has a handler")
     else:
-        found = {it for it in VECTORS if VECTORS[it] == name}
+        found = {device.vector_named(name)} - {None}
         if not found:
             raise SpecFault(f"{name} is no vector")
     return {device.vector_word(it) for it in found}
@@ -122,7 +121,7 @@ def read_line(elf, device, words):
     places, rest = sites_of(elf, kind, rest)
     if kind == "jump":
         return kind, places, targets(elf, rest)
-    return kind, places, {register(word) for word in rest}
+    return kind, places, {register(elf.chip, word) for word in rest}
 
 
 def read_keep(elf, number, words, why):
@@ -133,9 +132,12 @@ def read_keep(elf, number, words, why):
     if not why:
         raise SpecFault("a line `keeps` says behind # why the place keeps the bound")
     name, line = (rest[0], None) if rest[-1] in ("*", START_UP) else AT_LINE.match(rest[0]).groups()
+    vector = elf.chip.vector_named(name)
     if line is not None:
         sites.file_of(elf, name)
-    elif name != START_UP and name not in VECTORS.values():
+    elif vector is not None:
+        name = elf.chip.vectors[vector]
+    elif name != START_UP:
         sites.words_of(elf, name)
     return Keep(number, name, int(line) if line else None, why)
 

@@ -4,7 +4,6 @@ import functools
 import struct
 
 import opcodes
-from elf import SRAM
 from names import SpecFault, base, function
 
 NEAR = 4  # how many instructions the two halves of an address are apart, at most
@@ -75,7 +74,7 @@ def words_in_data(elf, but=()):
     """Numbers of two bytes at each place of the image of initialised data, and of what stands in flash between the vectors and the code; those
     that begin within one of some spans of addresses are left out."""
     for address, size, offset in elf.loaded:
-        if SRAM <= address < SRAM + 0x10000:
+        if elf.sram() <= address < elf.sram() + 0x10000:
             data = elf.data[offset:offset + size]
             yield from (struct.unpack_from("<H", data, at)[0] for at in range(len(data) - 1)
                         if not any(begin <= address + at < end for begin, end in but))

@@ -2,7 +2,6 @@
 
 import candidates
 import opcodes
-from devices import NAME_OF, VECTORS
 from lines import Lines, spec_line
 from spec import MASKS, NOWHERE, PAIRS, UNASSUMED, is_unhandled
 from targets import constructors, tables
@@ -37,7 +36,7 @@ def line_of_spec(firmware, lines, site, kind):
 def own_never(firmware, lines):
     """The vectors of the `never` lines that weren't given, by number; and whether they are all that have no handler."""
     found = [firmware.device.vector_at(site) for site, kind in lines.written() if kind == "never"]
-    return found, found == [it for it in VECTORS if is_unhandled(firmware.elf, firmware.device, it)]
+    return found, found == [it for it in firmware.device.vectors if is_unhandled(firmware.elf, firmware.device, it)]
 
 
 def written(firmware, lines):
@@ -63,7 +62,8 @@ def written(firmware, lines):
 def text_of_stop(firmware, stop):
     """A flagged step: its kind, the word, the address or target, and the place."""
     other = f" {stop.other:04X}" if stop.other is not None else ""
-    name = f" ({NAME_OF[stop.other]})" if stop.kind == "protected" else f" ({firmware.place(stop.other)})" if stop.kind == "transfer" else ""
+    register = firmware.device.register_name(stop.other) if stop.kind == "protected" else ""
+    name = f" ({register})" if register else f" ({firmware.place(stop.other)})" if stop.kind == "transfer" else ""
     return f"{stop.kind} {stop.word:04X}{other}{name} at {firmware.place(stop.word)}"
 
 
@@ -85,7 +85,7 @@ def flagged(firmware, work):
     stop = work.stop
     if stop.kind == "transfer" and work.lines.has(stop.other, "never") and not work.lines.is_given(stop.other, "never"):
         vector = firmware.device.vector_at(stop.other)
-        return (f"FLAGGED: a trial run takes {VECTORS[vector]}, which is enabled and has no handler, at {firmware.place(stop.word)}: the program begins "
+        return (f"FLAGGED: a trial run takes {firmware.device.vectors[vector]}, which is enabled and has no handler, at {firmware.place(stop.word)}: the program begins "
                 "anew there, and the bound speaks of what comes before; write a handler, or don't enable it")
     told = f"FLAGGED: a trial run ends with {text_of_stop(firmware, stop)}; the bound speaks of what comes before; "
     found = line_that_admits(firmware, work, stop)

@@ -2,7 +2,7 @@
 
 import sys
 
-from devices import LINKED_FOR, Misuse, device_of
+from devices import Misuse, device_of, named
 from elf import Elf, NoElf
 from habits import Words, in_words
 from spec import SpecFault, assumptions
@@ -18,7 +18,7 @@ def main():
     words = words.parse_args()
     try:
         elf = Elf(words.firmware)
-        is_told = words.device or elf.device() in LINKED_FOR
+        is_told = words.device or named(elf.device())
         device = device_of(elf, words.firmware, words.device)[1] if is_told else None
         with open(words.spec, encoding="utf8") as file:
             text = file.read()

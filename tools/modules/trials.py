@@ -6,7 +6,7 @@ from typing import Iterator, List, NamedTuple, Optional, Tuple
 
 import opcodes
 from candidates import start
-from devices import VECTORS, Device
+from devices import Device
 from elf import Elf
 from program import OK, SCHEDULE, USAGE, Program
 
@@ -67,7 +67,7 @@ class Run(NamedTuple):
 def handled(elf: Elf, device: Device) -> List[int]:
     """The vectors that don't lead to the compiler's default."""
     default = {it.address for it in elf.named("__bad_interrupt")}
-    return [it for it in VECTORS if (target := opcodes.jump_target(elf, device.vector_word(it))) is not None and target != start(elf) and 2 * target not in default]
+    return [it for it in device.vectors if (target := opcodes.jump_target(elf, device.vector_word(it))) is not None and target != start(elf) and 2 * target not in default]
 
 
 def told_apart(elf: Elf, device: Device) -> List[int]:
@@ -85,9 +85,9 @@ def told_apart(elf: Elf, device: Device) -> List[int]:
     return sorted(found)
 
 
-def is_receiver(vector: int) -> bool:
+def is_receiver(device: Device, vector: int) -> bool:
     """Whether a vector's interrupt comes from outside, with a byte."""
-    return not VECTORS[vector].startswith(("TIMER", "WDT"))
+    return not device.vectors[vector].startswith(("TIM", "WDT", "WATCHDOG"))
 
 
 class Trials:
@@ -95,7 +95,7 @@ class Trials:
     where none was done."""
 
     def __init__(self, program: Program, folder: str, elf: Elf, device: Device, vectors: List[int]) -> None:
-        self.program, self.folder, self.vectors = program, folder, vectors
+        self.program, self.folder, self.device, self.vectors = program, folder, device, vectors
         self.has_simulate = True
         self.deepest: Optional[int] = None
         self.deepest_run: Optional[Run] = None
@@ -115,7 +115,7 @@ class Trials:
             self.deepest, self.deepest_run = int(found[2]), run
         return Stop(found[3], int(found[4], 16), int(found[5], 16) if found[5] else None) if found[3] in FLAGGED else None
 
-    def devices(self, fill: int, lines: List[str], steps: int) -> Optional[Stop]:
+    def simulation(self, fill: int, lines: List[str], steps: int) -> Optional[Stop]:
         """The stop of a run with these timers and receivers; None also where the program has no `simulate`."""
         text = "\n".join(["devices 1", f"fill {fill:02X}", *lines[:DEVICE_LINES], "end", ""])
         run = Run("simulate", text, ("--steps", str(steps)))
@@ -126,7 +126,7 @@ class Trials:
     def simulated(self, byte: int) -> Iterator[Optional[Stop]]:
         """Yields the stops of runs that take each vector whenever it may be taken: by `simulate`, where the program has it."""
         for first in (0, 50, 1000):
-            yield self.devices(byte, [f"timer {vector} {first + 7 * n} {23 + 10 * n}" for n, vector in enumerate(self.vectors)], LONG)
+            yield self.simulation(byte, [f"timer {vector} {first + 7 * n} {23 + 10 * n}" for n, vector in enumerate(self.vectors)], LONG)
             if not self.has_simulate:
                 return
 
@@ -199,11 +199,11 @@ class Trials:
         received = " ".join(f"{found[n % len(found)]:02X}" for n in range(MOST_RECEIVED))
         for n, vector in enumerate(self.vectors):
             first, period = kind.first + 7 * n, kind.period + 10 * n
-            if kind.what == "bytes" and is_receiver(vector):
+            if kind.what == "bytes" and is_receiver(self.device, vector):
                 lines.append(f"bytes {vector} {first} {period} {received}")
             else:
                 lines.append(f"timer {vector} {first} {period if kind.what == 'timers' else 3 * period}")
-        return self.devices(found[0], lines, kind.steps)
+        return self.simulation(found[0], lines, kind.steps)
 
     def short(self, number: int) -> Optional[Stop]:
         """The stop of a run of those behind a bound, by its number."""

@@ -3,21 +3,23 @@
 from typing import Any, List
 
 from outcome import Accepted, Outcome, Refused
-from places import CALLS, GIVEN, MOVES, ORDINARY, SAFETY, STORES, VECTORS, count_of, unjudged
+from places import CALLS, GIVEN, MOVES, ORDINARY, SAFETY, STORES, UNSET, VECTORS, count_of, moving, unjudged
 
 KEPT, PASSED, REFUSED, MISUSE, FLAGGED, UNJUDGED = 0, 1, 2, 3, 4, 5  # statuses
 CONDITIONS = {
     CALLS: ("{} call{s} below {stay} within {its} list{s}", "stays", "stay", "its", "their"),
     STORES: ("{} store{s} below {stay} clear of the registers that enable interrupts", "stays", "stay", "", ""),
     VECTORS: ("{} vector{s} without a handler {stay} off", "stays", "stay", "", ""),
-    MOVES: ("{} write{s} of MCUCR below {stay} the vectors where they are", "leaves", "leave", "", ""),
+    MOVES: ("{} write{s} of {moving} below {stay} the vectors where they are", "leaves", "leave", "", ""),
+    UNSET: ("the chip starts with SP at {last:04X}", "", "", "", ""),
 }
 
 
-def condition(kind: str, count: int) -> str:
+def condition(outcome: Accepted, kind: str, count: int) -> str:
     text, one, many, its, their = CONDITIONS[kind]
     is_one = count == 1
-    return text.format(count, s="" if is_one else "s", stay=one if is_one else many, its=its if is_one else their)
+    return text.format(count, s="" if is_one else "s", stay=one if is_one else many, its=its if is_one else their, moving=moving(outcome),
+                       last=outcome.firmware.device.last)
 
 
 def safety(outcome: Accepted, count: int) -> str:
@@ -30,7 +32,7 @@ def holds(outcome: Accepted) -> str:
     """Of which runs the bound holds."""
     if outcome.premises is None:
         return "for every run up to its first flagged step; this stackbound doesn't list where that may be"
-    conditions = [condition(kind, count) for kind in ORDINARY if (count := count_of(outcome, (kind,)))]
+    conditions = [condition(outcome, kind, count) for kind in ORDINARY if (count := count_of(outcome, (kind,)))]
     count = count_of(outcome, (SAFETY,))
     given = " that keeps to the lines of the spec" if count_of(outcome, (GIVEN,)) else ""
     if conditions:
