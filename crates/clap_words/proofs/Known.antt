@@ -146,12 +146,6 @@ each_mark : (P : Mark → Type 0) → P Json → P Why → (m : Mark) → P m
 each_mark P j w Json = j
 each_mark P j w Why = w
 
--- the options of a level, and its marks
-options_of : (s : Shape) (w : AllowsWords) → s.args_override_self ≡ false
-    → ((v : Valued) → w.given v ≡ true → (arg_by_long s.rules (option_name v) ≡ Some (option_rule (option_name v))) × (arg_by_id s.rules (option_name v) ≡ Some (option_rule (option_name v))))
-    → (v : Valued) → w.given v ≡ true → IsOption s (option_name v)
-options_of s w once found v e = option_is s (option_name v) once (found v e).0 (found v e).1
-
 -- ---- levels
 
 -- a command's level takes what the command has and nothing else, and its defaults change no text

@@ -86,9 +86,6 @@ long_settles c again h (Some a) e = by (takes_values a) e where
 
 -- ---- the turn of a word
 
-abbrev names_none : List (Text × List Text)
-names_none = []
-
 option_fault_is : (s : Shape) (h : Held) (waits : Waiting) (v : Valued) → word_fault s [] false waits (spelled v) h ≡ long_fault s.rules s.args_override_self (arg_by_long s.rules (option_name v)) None h
 option_fault_is s h idle Assume = refl
 option_fault_is s h idle Steps = refl

@@ -62,9 +62,6 @@ module _ {may : Bool} (m : State) (o : Origin) (k : NodeKey) (s : AbsState) (at 
   pub going_covered : (pc pc' : ℕ) → wrapped m.device pc ≡ pc' → FollowsWhere may m o s.facts k guarded b1 b2 (going_to m pc) (node_going_to k s pc')
   going_covered pc pc' is = only m o k s at guarded b1 b2 (going_to m pc) (record { key = at_word k pc'; state = s }) refl (goes_to m o k s at guarded pc pc' is)
 
-  turning_covered : (pc pc' : ℕ) → wrapped m.device pc ≡ pc' → FollowsWhere may m o s.facts k guarded b1 b2 (going_to m pc) (turning_to k s pc')
-  turning_covered pc pc' is = only m o k s at guarded b1 b2 (going_to m pc) (record { key = off_table k pc'; state = s }) refl (turns_to m o k s at guarded pc pc' is)
-
   pub further_is : (n : ℕ) → further m n ≡ node_further m.device k n
   further_is n = ap (λ pc. wrapped m.device (pc + n)) at.place.pc
 

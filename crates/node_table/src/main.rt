@@ -31,8 +31,7 @@ fn show(rt: &HostRuntime, row: &Row, lines: &Assumptions) -> io::Result<()> {
     }
 }
 
-// Prints a line: an assumption is kept for the next row, and a row gets its answer. Assumptions are read as those of the ATmega328P: the
-// four devices admit the same.
+// Prints a line: an assumption is kept for the next row, and a row gets its answer. Assumptions are read as those of the ATmega328P.
 fn show_line(rt: &HostRuntime, line: &str, lines: &mut Assumptions) -> io::Result<()> {
     println!(rt; "{line}")?;
     if line.is_empty() || line.starts_with('#') {

@@ -96,9 +96,6 @@ count_small d = let most = devices_are_alike.most_vectors d in let some = device
 pub place_vector : (d : Device) (p : Place) → Contains (places d) p → is_vector d p.vector ≡ true
 place_vector d p (k, lt, is) = ap (λ (q : Place). is_vector d q.vector) (sym is) ∙ (places_are_apart.each d k p lt).0
 
-place_mask : (d : Device) (p : Place) → Contains (places d) p → p.mask < 256
-place_mask d p (k, lt, is) = subst (λ (q : Place). q.mask < 256) is (places_are_apart.each d k p lt).1.1.1
-
 not_core : (d : Device) (p : Place) → Contains (places d) p → is_core p.address ≡ false
 not_core d p (k, lt, is) = ap (λ (q : Place). is_core q.address) (sym is) ∙ (places_are_apart.each d k p lt).1.0
 
