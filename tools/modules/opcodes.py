@@ -132,9 +132,13 @@ def pair_loaded(elf, word):
     return None
 
 
+def is_elpm(opcode):
+    return opcode == 0x95D8 or opcode & 0xFE0E == 0x9006
+
+
 def is_lpm(opcode):
     """`lpm` or `elpm`."""
-    return opcode in (0x95C8, 0x95D8) or opcode & 0xFE0C == 0x9004
+    return opcode == 0x95C8 or opcode & 0xFE0E == 0x9004 or is_elpm(opcode)
 
 
 def is_lds(opcode, register):
