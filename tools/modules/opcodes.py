@@ -136,6 +136,13 @@ def is_elpm(opcode):
     return opcode == 0x95D8 or opcode & 0xFE0E == 0x9006
 
 
+def group(opcode):
+    """The group of an instruction that not all devices have; None of one that all have."""
+    if opcode & 0xFC00 == 0x9C00 or opcode & 0xFE00 == 0x0200:  # with muls, mulsu, fmul, fmuls, fmulsu
+        return "mul"
+    return "elpm" if is_elpm(opcode) else "break" if opcode == 0x9598 else None
+
+
 def is_lpm(opcode):
     """`lpm` or `elpm`."""
     return opcode == 0x95C8 or opcode & 0xFE0E == 0x9004 or is_elpm(opcode)
