@@ -36,6 +36,11 @@ def is_adc(opcode):
     return opcode & 0xFC00 == 0x1C00
 
 
+def is_clr(opcode):
+    """`eor` of a register with itself."""
+    return opcode & 0xFC00 == 0x2400 and destination(opcode) == opcode & 15 | opcode >> 5 & 16
+
+
 def is_frame_site(opcode):
     """`add`, `adc`, `sub`, `subi`, `inc` or `dec`, for which a `frame` line may say something."""
     return is_add(opcode) or is_adc(opcode) or opcode & 0xFC00 == 0x1800 or opcode & 0xF000 == 0x5000 or opcode & 0xFE0F in (0x9403, 0x940A)
