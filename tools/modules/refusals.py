@@ -112,7 +112,8 @@ def setters(firmware: Firmware, work: Any, functions: Set[int], vector: int) -> 
     for symbol in firmware.elf.code:
         if symbol.address // 2 in functions:
             for at, _ in opcodes.words_of(firmware.elf, symbol):
-                found = places.get(written_address(firmware, work, at))
+                address = written_address(firmware, work, at)
+                found = None if address is None else places.get(address)
                 if found and may_set(firmware.elf, at, found.mask, symbol.address // 2):
                     yield at, found.register
 
