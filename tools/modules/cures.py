@@ -84,6 +84,10 @@ CURES = {
         "`refused 5 .. opcode 940C` or `940E`",
         "`jmp` or `call` on a device that has none: the file was linked for another one",
         "`--device` with the device that it was linked for"),
+    "group": (
+        "`refused 5` with an opcode of `mul`, `elpm` or `break`, which the device lacks",
+        "a library or assembly for another device, or the file was linked for one",
+        "libraries and assembly for this device; `--device` with the device that it was linked for"),
     "unsupported": (
         "`refused 5` with another opcode",
         "the code runs on into data, as behind a function that is said not to return and does",
@@ -163,9 +167,12 @@ def is_joined(elf, lines):
     return any(not lines.has(it, "jump") for it in candidates.indirect(elf))
 
 
-def of_opcode(elf, lines, text):
+def of_opcode(elf, device, lines, text):
     known = {"opcode 95E8": "written flash", "opcode 940C": "device", "opcode 940E": "device"}.get(text)
-    return known or ("joined" if is_joined(elf, lines) else "unsupported")
+    if known or is_joined(elf, lines):
+        return known or "joined"
+    group = opcodes.group(int(text.partition(" ")[2] or "0", 16))
+    return "group" if group and group not in device.groups and not device.is_first() else "unsupported"
 
 
 def goes_through_tables(elf, lines):
@@ -186,7 +193,7 @@ def cure(elf, device, refusal, lines):
     if number == "3":
         return of_re_entry(elf, word), word
     if number == "5":
-        return of_opcode(elf, lines, text), word
+        return of_opcode(elf, device, lines, text), word
     if number == "7":
         return "masks", word
     if number == "8":

@@ -17,18 +17,18 @@ class Misuse(Exception):
 
 
 class Place(NamedTuple):
-    """Bits of a register, by its name and data address."""
+    """Bits of a register: its names, its data address, and the mask."""
 
-    register: str
+    registers: Tuple[str, ...]
     address: int
     mask: int
 
 
 def place(text: str) -> Place:
     """A place of the table: `TIMSK0=006E.02`."""
-    name, _, where = text.partition("=")
+    names, _, where = text.partition("=")
     address, _, mask = where.partition(".")
-    return Place(name, int(address, 16), int(mask, 16))
+    return Place(tuple(names.split("/")), int(address, 16), int(mask, 16))
 
 
 class Vector:
@@ -58,10 +58,10 @@ class Device:
         self.handlers = {name: f"__vector_{number - 1}" for number, it in self.rows.items() for name in it.names}
         places = [it for row in self.rows.values() for it in row.places]
         self.enabling = frozenset(it.address for it in places)
-        self.registers = {**{it.register: it.address for it in places}, **CORE}
-        if self.moving and self.moving.address in self.enabling:
-            self.registers[self.moving.register] = self.moving.address
-        self.names = {address: name for name, address in self.registers.items()}
+        self.registers = {**{name: it.address for it in places for name in it.registers}, **CORE}
+        self.names = {**{address: name for name, address in CORE.items()}, **{it.address: it.registers[0] for it in places}}
+        if self.moving and self.moving.address in self.enabling:  # named as in data sheets
+            self.names[self.moving.address] = self.moving.registers[0]
 
     def is_first(self) -> bool:
         """Whether it is one of the four whose chips start with SP at the end of SRAM, and whose assumption files are read as they are written.

@@ -60,11 +60,14 @@ def with_byte(opcode: int, it: Value, byte: int) -> Value:
     return Value(it.mask | ~byte & 0xFF, it.bits & byte, 0, byte)
 
 
-def after(opcode: int, values: List[Value]) -> List[Value]:
-    """The 32 values behind an instruction, as far as they are followed here: loaded constants and copies; what else is written isn't known."""
+def after(opcode: int, values: List[Value], follows_clr: bool) -> List[Value]:
+    """The 32 values behind an instruction, as far as they are followed here: loaded constants and copies, and `clr` where that is asked for; what
+    else is written isn't known."""
     values = list(values)
     low, byte = opcode >> 4 & 15, opcode & 15 | opcode >> 4 & 0xF0
-    if opcodes.is_ldi(opcode):
+    if follows_clr and opcodes.is_clr(opcode):
+        values[opcodes.destination(opcode)] = constant(0)
+    elif opcodes.is_ldi(opcode):
         values[16 + low] = constant(byte)
     elif opcode & 0xFF00 == 0x0100:
         source = 2 * (opcode & 15)
@@ -124,7 +127,7 @@ class Nodes:
             passed.append(number)
         found = [value(it) for it in self.lines[number][8:40]]
         for it in reversed(passed):
-            found = after(self.elf.word(int(self.lines[it][2], 16)), found)
+            found = after(self.elf.word(int(self.lines[it][2], 16)), found, not self.elf.chip.is_first())
         return found
 
     def values_at(self, word: int) -> Iterator[List[Value]]:

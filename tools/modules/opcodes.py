@@ -36,6 +36,11 @@ def is_adc(opcode):
     return opcode & 0xFC00 == 0x1C00
 
 
+def is_clr(opcode):
+    """`eor` of a register with itself."""
+    return opcode & 0xFC00 == 0x2400 and destination(opcode) == opcode & 15 | opcode >> 5 & 16
+
+
 def is_frame_site(opcode):
     """`add`, `adc`, `sub`, `subi`, `inc` or `dec`, for which a `frame` line may say something."""
     return is_add(opcode) or is_adc(opcode) or opcode & 0xFC00 == 0x1800 or opcode & 0xF000 == 0x5000 or opcode & 0xFE0F in (0x9403, 0x940A)
@@ -132,9 +137,20 @@ def pair_loaded(elf, word):
     return None
 
 
+def is_elpm(opcode):
+    return opcode == 0x95D8 or opcode & 0xFE0E == 0x9006
+
+
+def group(opcode):
+    """The group of an instruction that not all devices have; None of one that all have."""
+    if opcode & 0xFC00 == 0x9C00 or opcode & 0xFE00 == 0x0200:  # with muls, mulsu, fmul, fmuls, fmulsu
+        return "mul"
+    return "elpm" if is_elpm(opcode) else "break" if opcode == 0x9598 else None
+
+
 def is_lpm(opcode):
     """`lpm` or `elpm`."""
-    return opcode in (0x95C8, 0x95D8) or opcode & 0xFE0C == 0x9004
+    return opcode == 0x95C8 or opcode & 0xFE0E == 0x9004 or is_elpm(opcode)
 
 
 def is_lds(opcode, register):

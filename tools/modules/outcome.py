@@ -14,6 +14,7 @@ from mending import Mending
 from program import OK, USAGE, NoProgram
 from spec import UNASSUMED, assumptions
 from telling import flagged, lines_for, others, written
+from trials import INPUTS, reads_inputs
 
 
 class Part:
@@ -138,6 +139,8 @@ def tell_premises(found: Accepted, program: Any, certificate: str) -> None:
     if found.written:
         found.rests_on.append(f"lines of its own (--plain leaves them out, --write-spec FILE keeps them): {len(found.written)}")
         found.rests_on += [f"assumed: {it}" for it in found.written]
+    if reads_inputs(found.firmware.elf, found.firmware.device):
+        found.rests_on.append(INPUTS)
     if lines is None:
         found.rests_on.append("This stackbound doesn't list the places where a step may be flagged; the tool `flagged` finds some.")
 

@@ -222,7 +222,7 @@ def unjudged(outcome, is_strict):
 def moving(outcome):
     """The register whose writes may move the vectors."""
     device = outcome.firmware.device
-    return device.moving.register if device.moving else ""
+    return device.moving.registers[0] if device.moving else ""
 
 
 def counted(outcome):

@@ -112,9 +112,10 @@ def setters(firmware: Firmware, work: Any, functions: Set[int], vector: int) -> 
     for symbol in firmware.elf.code:
         if symbol.address // 2 in functions:
             for at, _ in opcodes.words_of(firmware.elf, symbol):
-                found = places.get(written_address(firmware, work, at))
+                address = written_address(firmware, work, at)
+                found = None if address is None else places.get(address)
                 if found and may_set(firmware.elf, at, found.mask, symbol.address // 2):
-                    yield at, found.register
+                    yield at, firmware.device.register_name(found.address)
 
 
 def openers(firmware: Firmware, functions: Set[int], entry: int) -> Iterator[Tuple[int, str]]:
@@ -152,7 +153,7 @@ def stays_enabled(device: Device, vector: int) -> str:
     row = device.rows[vector]
     if device.is_open(vector):
         return f"no enable bit of {device.vectors[vector]} is known, so that it counts as always enabled"
-    names = " and ".join(it.register for it in row.places)
+    names = " and ".join(device.register_name(it.address) for it in row.places)
     return f"{device.vectors[vector]} has several enable bits ({names}), so that it counts as enabled once one was set, also where it is cleared" if row.stays else ""
 
 

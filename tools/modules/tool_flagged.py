@@ -9,7 +9,7 @@ from lines import Lines
 from mending import Analysis
 from spec import SpecFault, assumptions
 from telling import line_of_spec, text_of_stop, why_not
-from trials import Trials, handled
+from trials import INPUTS, Trials, handled, reads_inputs
 
 DOCUMENT = ""  # the text of the tool, which its script gives
 
@@ -68,5 +68,7 @@ def main():
     except (*FAULTS, SpecFault) as fault:
         print(f"flagged: {in_words(fault)}", file=sys.stderr)
         return 3
+    if reads_inputs(firmware.elf, firmware.device):
+        print(INPUTS)
     print(f"{count} found by trying; this tool finds some places, and not all")
     return 1 if count else 0

@@ -5,7 +5,7 @@ import re
 from typing import Iterator, List, NamedTuple, Optional, Tuple
 
 import opcodes
-from candidates import start
+from candidates import code, start
 from devices import Device
 from elf import Elf
 from program import OK, SCHEDULE, USAGE, Program
@@ -15,6 +15,7 @@ FLAGGED = ("live", "protected", "transfer")
 BYTES = (0x00, 0xFF, 0x55, 0xAA, 0x01, 0x20)
 LONG = 60_000  # steps of a run of the tool `flagged`
 MOST_TAKES = 40
+INPUTS = "trial runs read bytes of inputs where `elpm` reads flash, so that a step that they flag isn't told"
 DEVICE_LINES, MOST_RECEIVED = 32, 64
 
 
@@ -85,6 +86,12 @@ def told_apart(elf: Elf, device: Device) -> List[int]:
     return sorted(found)
 
 
+def reads_inputs(elf: Elf, device: Device) -> bool:
+    """Whether runs read bytes of inputs where the firmware reads flash by `elpm`: initialised data, tables of `switch`. What is flagged behind that
+    says nothing of the firmware."""
+    return "elpm" in device.groups and any(opcodes.is_elpm(opcode) for words in code(elf) for _, opcode in words)
+
+
 def is_receiver(device: Device, vector: int) -> bool:
     """Whether a vector's interrupt comes from outside, with a byte."""
     return not device.vectors[vector].startswith(("TIM", "WDT", "WATCHDOG"))
@@ -99,7 +106,7 @@ class Trials:
         self.has_simulate = True
         self.deepest: Optional[int] = None
         self.deepest_run: Optional[Run] = None
-        self.bytes = told_apart(elf, device)
+        self.bytes, self.reads_inputs = told_apart(elf, device), reads_inputs(elf, device)
 
     def answer(self, run: Run) -> Tuple[int, str]:
         path = os.path.join(self.folder, run.command)
@@ -113,7 +120,14 @@ class Trials:
             return None
         if self.deepest is None or int(found[2]) > self.deepest:
             self.deepest, self.deepest_run = int(found[2]), run
-        return Stop(found[3], int(found[4], 16), int(found[5], 16) if found[5] else None) if found[3] in FLAGGED else None
+        if found[3] not in FLAGGED:
+            return None
+        stop = Stop(found[3], int(found[4], 16), int(found[5], 16) if found[5] else None)
+        return stop if not self.reads_inputs or self.is_entry(stop) else None
+
+    def is_entry(self, stop: Stop) -> bool:
+        """Whether a step that was flagged is the entry of an interrupt."""
+        return stop.kind == "transfer" and stop.other is not None and self.device.vector_at(stop.other) is not None
 
     def simulation(self, fill: int, lines: List[str], steps: int) -> Optional[Stop]:
         """The stop of a run with these timers and receivers; None also where the program has no `simulate`."""

@@ -1,6 +1,6 @@
 """What no flag tells of a firmware: writes that move the interrupt vectors, a stack that is used before SP is set, and a heap that shares the room."""
 
-from typing import Iterator, List, NamedTuple, Optional
+from typing import Iterator, List, NamedTuple, Optional, Set
 
 import opcodes
 from candidates import before
@@ -71,7 +71,8 @@ def moved_vectors(firmware: Firmware, certificate: str) -> Iterator[Warned]:
 
 def first_use(elf: Elf, nodes: Nodes) -> Optional[int]:
     """The word of a first instruction on a way from reset that uses the stack or lets interrupts in before SPL is written; None if there is none."""
-    seen, left = set(), [0]
+    seen: Set[int] = set()
+    left = [0]
     while left:
         word = left.pop(0) % elf.chip.words
         if word in seen or writes(elf, nodes, word, SPL):
