@@ -183,9 +183,20 @@ class Mending(Analysis):
             partly.certificate = partly.refusal = None
             partly.mend()
             if not partly.refusal:
+                if not self.device.is_first():
+                    partly.spare(sites)
                 self.use(partly)
                 return
         self.use(plain)
+
+    def spare(self, sites: Set[int]) -> None:
+        """Drops the lines that say of a store that it enables no interrupt, where there is a bound without them."""
+        def drop(site: int) -> Callable[[Lines], None]:
+            return lambda lines: lines.drop(site, "store")
+
+        for site in sorted(sites)[:MOST_TRIED]:
+            if self.lines.of(site, "store") == {R0}:
+                self.attempt(drop(site))
 
     def groups(self, wild: Set[int]) -> Iterable[Set[int]]:
         """Stores that may lead to a refusal of handlers: those of the handler that is named with what it calls, then those of all handlers."""
