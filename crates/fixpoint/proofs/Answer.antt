@@ -28,11 +28,7 @@ module _ (words : Program) (A : List Entry) where
   pub none_shown : (steps : Option ℕ) (r : Refusal) → IsWhyNot words A steps r → steps ≡ None → r ≢ refusal.Memory → (other : Claim) → IsShown words A other → ⊥
   none_shown steps (refusal.Spent n) why none real other shown = absurd (let never = sym none in let e = why.0 in cc)
   none_shown steps refusal.Memory why none real other shown = absurd (real refl)
-  none_shown steps (refusal.UnresolvedJump pc) why none real other shown = never_shown steps (refusal.UnresolvedJump pc) why other shown
+  none_shown steps (refusal.Node x) why none real other shown = never_shown steps (refusal.Node x) why other shown
   none_shown steps (refusal.Recursion word) why none real other shown = never_shown steps (refusal.Recursion word) why other shown
   none_shown steps (refusal.ReEntry v word) why none real other shown = never_shown steps (refusal.ReEntry v word) why other shown
-  none_shown steps (refusal.UntrackedSp pc) why none real other shown = never_shown steps (refusal.UntrackedSp pc) why other shown
-  none_shown steps (refusal.Unsupported pc) why none real other shown = never_shown steps (refusal.Unsupported pc) why other shown
-  none_shown steps (refusal.TooDeep pc d) why none real other shown = never_shown steps (refusal.TooDeep pc d) why other shown
   none_shown steps (refusal.TooLarge limit) why none real other shown = never_shown steps (refusal.TooLarge limit) why other shown
-  none_shown steps (refusal.UnknownPointer pc) why none real other shown = never_shown steps (refusal.UnknownPointer pc) why other shown

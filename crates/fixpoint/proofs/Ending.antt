@@ -13,7 +13,6 @@ use Rattle.mask_states.specs.declared.keys.NodeKey.{NodeKey}
 use Rattle.mask_states.specs.Keys.{root_inst, entry_key}
 use Rattle.mask_states.specs.Order.{node_cmp}
 use Rattle.local_rules.specs.declared.local.Node.{Node}
-use Rattle.local_rules.specs.declared.local.NodeFault.TheVariants as fault
 use Rattle.local_rules.specs.Cover.{IsNodeIn}
 use Rattle.local_laws.specs.Laws.{AreNodesIn}
 use Rattle.local_laws.proofs.AllLaws.{each_of}
@@ -98,12 +97,7 @@ module _ (words : Program) (A : List Entry) where
 
   never_spent : (n : ℕ) (t : Test) → refusal.Spent n ≡ refusal_of t → ⊥
   never_spent n (over limit) e = absurd cc
-  never_spent n (faulty (fault.UnresolvedJump pc)) e = absurd cc
-  never_spent n (faulty (fault.UntrackedSp pc)) e = absurd cc
-  never_spent n (faulty (fault.Unsupported pc)) e = absurd cc
-  never_spent n (faulty (fault.TooDeep pc offset)) e = absurd cc
-  never_spent n (faulty (fault.UnknownPointer pc)) e = absurd cc
-  never_spent n (faulty fault.Memory) e = absurd cc
+  never_spent n (faulty x) e = absurd cc
   never_spent n (re_entry v word) e = absurd cc
   never_spent n (recursion word) e = absurd cc
   never_spent n (too_deep d) e = absurd cc
@@ -116,14 +110,10 @@ module _ (words : Program) (A : List Entry) where
   refused_by steps n f (refusal.Spent m) within comes refused stopped =
       let s = stopped (spent_no_memory m) in absurd (never_spent m s.test s.is)
   refused_by steps n f refusal.Memory within comes refused stopped = tt
-  refused_by steps n f (refusal.UnresolvedJump pc) within comes refused stopped = refused (λ e. let never = e in cc)
+  refused_by steps n f (refusal.Node x) within comes refused stopped = refused (λ e. let never = e in cc)
   refused_by steps n f (refusal.Recursion word) within comes refused stopped = refused (λ e. let never = e in cc)
   refused_by steps n f (refusal.ReEntry v word) within comes refused stopped = refused (λ e. let never = e in cc)
-  refused_by steps n f (refusal.UntrackedSp pc) within comes refused stopped = refused (λ e. let never = e in cc)
-  refused_by steps n f (refusal.Unsupported pc) within comes refused stopped = refused (λ e. let never = e in cc)
-  refused_by steps n f (refusal.TooDeep pc d) within comes refused stopped = refused (λ e. let never = e in cc)
   refused_by steps n f (refusal.TooLarge limit) within comes refused stopped = refused (λ e. let never = e in cc)
-  refused_by steps n f (refusal.UnknownPointer pc) within comes refused stopped = refused (λ e. let never = e in cc)
 
   module _ (steps left : Option ℕ) (f : Family) (count : ℕ) (work : List NodeKey) (notes : Notes) (p : RoundsProgress words A steps left f count work notes) where
     within : IsWithinBudget steps p.number

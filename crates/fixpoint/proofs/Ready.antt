@@ -16,10 +16,10 @@ use Rattle.round_nesting.specs.declared.verdict.NestingVerdict.{NestingVerdict}
 use Rattle.round_nesting.specs.declared.verdict.NestingVerdict.TheVariants as verdicts
 use Rattle.round_nesting.proofs.AllLaws.{nestings_are_small}
 use Rattle.round_rules.specs.declared.refusal.Refusal.{Refusal}
-use Rattle.round_rules.specs.declared.refusal.Refusal.TheVariants.{Memory}
+use Rattle.round_rules.specs.declared.refusal.Refusal.TheVariants.{Node as Faulty, Memory}
 use Rattle.round_rules.specs.Families.{Family, FamilyHasInst, AreFormed, FitsLimits}
 use Rattle.round_rules.specs.Rounds.{PassesTests}
-use Rattle.round_rules.specs.Refusals.{over, faulty, re_entry, recursion, too_deep, fault_refusal}
+use Rattle.round_rules.specs.Refusals.{over, faulty, re_entry, recursion, too_deep}
 use Rattle.round_steps.specs.declared.looking.Look.{Look}
 use Rattle.round_steps.specs.declared.looking.Seen.{Seen}
 use Rattle.round_steps.specs.declared.noting.Notes.{Notes}
@@ -48,7 +48,7 @@ module _ (words : Program) (A : List Entry) where
   too_large f r h = record { test = over h.limit; holds = h.over; is = h.is }
 
   pub has_fault : (f : Family) (work : List NodeKey) (notes : Notes) (seen : Seen) (b : NodeFault) (r : Refusal) → FitsLimits f → Turn words A f work notes
-      → AreSeen words A f work seen → seen.worst ≡ Some b → r ≡ fault_refusal b → AreRoundsStopped words A f r
+      → AreSeen words A f work seen → seen.worst ≡ Some b → r ≡ Faulty b → AreRoundsStopped words A f r
   has_fault f work notes seen b r fits turn are worst is = record { test = faulty b; holds = (fits, least_fault words A f work notes seen turn are b worst); is = is }
 
   -- all visits are at offsets that nodes have

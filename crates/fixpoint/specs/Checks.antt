@@ -5,14 +5,15 @@ use Rattle.avr_model.specs.Devices.{Program}
 use Rattle.certificate.specs.declared.limit.Limit.{Limit}
 use Rattle.local_rules.specs.declared.local.Node.{Node}
 use Rattle.local_rules.specs.declared.local.NodeFault.{NodeFault}
+use Rattle.local_rules.specs.declared.local.NodeFault.TheVariants.{TooDeep}
 use Rattle.round_nesting.specs.Nestings.{Noted, AreOnce, TellsAll}
 use Rattle.round_nesting.specs.declared.verdict.NestingVerdict.{NestingVerdict}
 use Rattle.round_nesting.specs.declared.verdict.NestingVerdict.TheVariants as verdicts
 use Rattle.round_rules.specs.declared.refusal.Refusal.{Refusal}
-use Rattle.round_rules.specs.declared.refusal.Refusal.TheVariants.{TooLarge, ReEntry, Recursion, TooDeep, Memory}
+use Rattle.round_rules.specs.declared.refusal.Refusal.TheVariants.{Node as Faulty, TooLarge, ReEntry, Recursion, Memory}
 use Rattle.round_rules.specs.Families.{Family}
 use Rattle.round_rules.specs.Rounds.{PassesTests}
-use Rattle.round_rules.specs.Refusals.{Test, IsOverSize, FirstHolds, refusal_of, fault_refusal}
+use Rattle.round_rules.specs.Refusals.{Test, IsOverSize, FirstHolds, refusal_of}
 use Rattle.round_laws.specs.Steps.{IsRoundOf, HaveOwnKeys}
 use Rattle.round_steps.specs.declared.noting.Notes.{Notes}
 use Rattle.round_steps.specs.Joins.{AreNew}
@@ -28,13 +29,13 @@ pub record IsTooLarge (f : Family) (r : Refusal) : Type 0 where
 pub record IsFaulty (worst : Option NodeFault) (r : Refusal) : Type 0 where
   pub fault : NodeFault
   pub found : worst ≡ Some fault
-  pub is : r ≡ fault_refusal fault
+  pub is : r ≡ Faulty fault
 
 abbrev pub nesting_refusal : NestingVerdict → Refusal
 nesting_refusal verdicts.Nests = Memory
 nesting_refusal (verdicts.ReEntry v word) = ReEntry v word
 nesting_refusal (verdicts.Recursion word) = Recursion word
-nesting_refusal (verdicts.TooDeep need) = TooDeep 0 need
+nesting_refusal (verdicts.TooDeep need) = Faulty (TooDeep 0 need)
 
 -- the refusal is the verdict on the nesting, for a device with this many bytes of SRAM
 pub record IsVerdictTold (size : ℕ) (n : Noted) (r : Refusal) : Type 0 where

@@ -10,7 +10,6 @@ ghost use Rattle.round_nesting.specs.Nestings.{AreAlike, AreOnce, TellsAll};
 ghost use Rattle.round_nesting.specs.declared.verdict.NestingVerdict.TheVariants.{Nests};
 ghost use Rattle.round_rules.specs.declared.refusal.Refusal.TheVariants.{Memory};
 ghost use Rattle.round_rules.specs.Families.{cells, FitsLimits};
-ghost use Rattle.round_rules.specs.Refusals.{fault_refusal};
 ghost use Rattle.round_steps.specs.declared.looking.Look as look_type;
 ghost use Rattle.round_steps.specs.Notings.{AreNoted};
 ghost use Rattle.fixpoint.specs.Checks.{IsTooLarge, IsFaulty, IsVerdictTold};
@@ -44,20 +43,6 @@ pub fn check_size(table: &Table, counted: u64) -> Result<(), Refusal>
     Ok(())
 }
 
-// The refusal of a fault.
-fn refusal_of(fault: NodeFault) -> Refusal
-    ensures { result ≡ fault_refusal fault }
-{
-    match fault {
-        NodeFault::UnresolvedJump(pc) => Refusal::UnresolvedJump(pc),
-        NodeFault::UntrackedSp(pc) => Refusal::UntrackedSp(pc),
-        NodeFault::Unsupported(pc) => Refusal::Unsupported(pc),
-        NodeFault::TooDeep(pc, offset) => Refusal::TooDeep(pc, offset),
-        NodeFault::UnknownPointer(pc) => Refusal::UnknownPointer(pc),
-        NodeFault::Memory => Refusal::Memory,
-    }
-}
-
 /// Notes the results of visits, unless a node has a fault.
 pub fn note_seen(alloc: Global, notes: &mut Notes, seen: &Seen) -> Result<(), Refusal>
     requires small { (x : look_type.Look) → Contains seen.now.looks.items x → offset_of x.key.sp ≤ SIZE }
@@ -67,11 +52,14 @@ pub fn note_seen(alloc: Global, notes: &mut Notes, seen: &Seen) -> Result<(), Re
     ensures once { OnOk result (AreOnce notes.new.nesting.insts) }
     ensures fault { IfErr result (λ r. r ≢ Memory → IsFaulty seen.now.worst r) }
 {
-    if let Some(fault) = seen.worst {
-        return Err(refusal_of(fault));
+    match seen.worst {
+        Some(NodeFault::Memory) => Err(Refusal::Memory),
+        Some(fault) => Err(Refusal::Node(fault)),
+        None => {
+            notes.note_all(alloc, &seen.looks)?;
+            Ok(())
+        }
     }
-    notes.note_all(alloc, &seen.looks)?;
-    Ok(())
 }
 
 /// Checks that no instance is on a cycle, and that the root's need is at most the size of the device's SRAM.
@@ -86,6 +74,6 @@ pub fn check_nesting(flash: &Flash, nesting: &mut Nesting) -> Result<(), Refusal
         NestingVerdict::Nests => Ok(()),
         NestingVerdict::ReEntry(vector, word) => Err(Refusal::ReEntry(vector, word)),
         NestingVerdict::Recursion(word) => Err(Refusal::Recursion(word)),
-        NestingVerdict::TooDeep(need) => Err(Refusal::TooDeep(0, need)),
+        NestingVerdict::TooDeep(need) => Err(Refusal::Node(NodeFault::TooDeep(0, need))),
     }
 }

@@ -6,8 +6,6 @@ use Rattle.avr_model.specs.declared.choice.Stop.TheVariants as stop
 use Rattle.avr_model.specs.Run.{Bounded}
 use Rattle.avr_model.specs.declared.device.Device.{Device}
 use Rattle.avr_model.specs.Devices.{Program, device_of}
-use Rattle.local_rules.specs.declared.local.NodeFault.{NodeFault}
-use Rattle.local_rules.specs.declared.local.NodeFault.TheVariants as fault
 use Rattle.local_rules.specs.Machine.{AreWords}
 use Rattle.witness_replay.specs.Spelling.{Plan, IsSchedule}
 use Rattle.witness_replay.specs.Replay.{Report as Replayed, replay_of}
@@ -72,17 +70,9 @@ reached runs words A bound (Some plan) fits h e =
 
 -- ---- what is told in place of a certificate
 
-no_spent : (x : NodeFault) (limit : _) → refusal_of (faulty x) ≢ refusal.Spent limit
-no_spent (fault.UnresolvedJump pc) n e = cc
-no_spent (fault.UntrackedSp pc) n e = cc
-no_spent (fault.Unsupported pc) n e = cc
-no_spent (fault.TooDeep pc offset) n e = cc
-no_spent (fault.UnknownPointer pc) n e = cc
-no_spent fault.Memory n e = cc
-
 never_spent : (t : Test) (n : ℕ) → refusal_of t ≢ refusal.Spent n
 never_spent (over limit) n e = cc
-never_spent (faulty x) n e = no_spent x n e
+never_spent (faulty x) n e = cc
 never_spent (re_entry v word) n e = cc
 never_spent (recursion word) n e = cc
 never_spent (too_deep d) n e = cc
@@ -95,26 +85,18 @@ module _ (words : Program) (A : List Entry) (steps : Option ℕ) where
   IsCause r = IsRefusal words A steps r × (why_not_status r ≡ exit.NoCertificate)
 
   why_cases : (r : Refusal) → IsWhyNot words A steps r → r ≢ refusal.Memory → IsCause r ⊎ IsSpent r
-  why_cases (refusal.UnresolvedJump at) h m = inl (h, refl)
+  why_cases (refusal.Node x) h m = inl (h, refl)
   why_cases (refusal.Recursion at) h m = inl (h, refl)
   why_cases (refusal.ReEntry v at) h m = inl (h, refl)
-  why_cases (refusal.UntrackedSp at) h m = inl (h, refl)
-  why_cases (refusal.Unsupported at) h m = inl (h, refl)
-  why_cases (refusal.TooDeep at need) h m = inl (h, refl)
   why_cases (refusal.TooLarge limit) h m = inl (h, refl)
-  why_cases (refusal.UnknownPointer at) h m = inl (h, refl)
   why_cases (refusal.Spent n) h m = inr (n, refl, h.0, h.1)
   why_cases refusal.Memory h m = absurd (m refl)
 
   why_of : (r : Refusal) → IsRefusal words A steps r → r ≢ refusal.Memory → IsWhyNot words A steps r × (why_not_status r ≡ exit.NoCertificate)
-  why_of (refusal.UnresolvedJump at) h m = (h, refl)
+  why_of (refusal.Node x) h m = (h, refl)
   why_of (refusal.Recursion at) h m = (h, refl)
   why_of (refusal.ReEntry v at) h m = (h, refl)
-  why_of (refusal.UntrackedSp at) h m = (h, refl)
-  why_of (refusal.Unsupported at) h m = (h, refl)
-  why_of (refusal.TooDeep at need) h m = (h, refl)
   why_of (refusal.TooLarge limit) h m = (h, refl)
-  why_of (refusal.UnknownPointer at) h m = (h, refl)
   why_of (refusal.Spent n) h m = absurd (never_spent h.refused.test n (sym h.refused.is))
   why_of refusal.Memory h m = absurd (m refl)
 

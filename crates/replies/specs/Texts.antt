@@ -16,6 +16,9 @@ use Rattle.avr_model.specs.Devices.{Program, device_of}
 use Rattle.avr_model.specs.Names.{class_of}
 use Rattle.indirect_targets.specs.declared.fault.AssumeText.{AssumeText}
 use Rattle.indirect_targets.specs.declared.fault.AssumeText.TheVariants as assume
+use Rattle.local_rules.specs.declared.local.NodeFault.{NodeFault}
+use Rattle.local_rules.specs.declared.local.NodeFault.TheVariants as fault
+use Rattle.local_rules.specs.Faults.{cause_of}
 use Rattle.certificate.specs.Claims.{Claim}
 use Rattle.round_rules.specs.declared.refusal.Refusal.{Refusal}
 use Rattle.round_rules.specs.declared.refusal.Refusal.TheVariants as refusal
@@ -169,20 +172,25 @@ abbrev pub instruction_told : Program → ℕ → List (List ℕ)
 instruction_told words at = instruction_words (device_of words) (instruction_at words at) (word_at words at) at
 
 -- the number and name of a cause, and its word
-abbrev pub cause_at : List ℕ → List ℕ → ℕ → List (List ℕ) → Option (List (List ℕ))
-cause_at number name at more = Some (codes "refused" ∷ number ∷ name ∷ codes "at" ∷ hex_digits at 4 ∷ more)
+abbrev pub cause_at : ℕ → List ℕ → ℕ → List (List ℕ) → Option (List (List ℕ))
+cause_at number name at more = Some (codes "refused" ∷ decimal number ∷ name ∷ codes "at" ∷ hex_digits at 4 ∷ more)
+
+-- a node's fault, told of a word with what stands there; running out of memory is none
+abbrev pub fault_words : Program → NodeFault → Option (List (List ℕ))
+fault_words words (fault.UnresolvedJump at) = cause_at (cause_of (fault.UnresolvedJump at)) (codes "unresolved-jump") at (instruction_told words at)
+fault_words words (fault.UntrackedSp at) = cause_at (cause_of (fault.UntrackedSp at)) (codes "untracked-sp") at (instruction_told words at)
+fault_words words (fault.Unsupported at) = cause_at (cause_of (fault.Unsupported at)) (codes "unsupported") at (codes "opcode" ∷ hex_digits (word_at words at) 4 ∷ [])
+fault_words words (fault.TooDeep at need) = cause_at (cause_of (fault.TooDeep at need)) (codes "too-deep") at (codes "need" ∷ decimal need ∷ [])
+fault_words words (fault.UnknownPointer at) = cause_at (cause_of (fault.UnknownPointer at)) (codes "unknown-pointer") at (instruction_told words at)
+fault_words words fault.Memory = None
 
 -- The words in place of a certificate: the cause with what it names, or the number of rounds that did not suffice. Running out of memory
 -- has none.
 abbrev pub why_not_words : Program → Refusal → Option (List (List ℕ))
-why_not_words words (refusal.UnresolvedJump at) = cause_at (codes "1") (codes "unresolved-jump") at (instruction_told words at)
-why_not_words words (refusal.Recursion at) = cause_at (codes "2") (codes "recursion") at []
+why_not_words words (refusal.Node x) = fault_words words x
+why_not_words words (refusal.Recursion at) = cause_at 2 (codes "recursion") at []
 why_not_words words (refusal.ReEntry v at) = Some (codes "refused" ∷ codes "3" ∷ codes "re-entry" ∷ codes "of" ∷ decimal v ∷ codes "at" ∷ hex_digits at 4 ∷ [])
-why_not_words words (refusal.UntrackedSp at) = cause_at (codes "4") (codes "untracked-sp") at (instruction_told words at)
-why_not_words words (refusal.Unsupported at) = cause_at (codes "5") (codes "unsupported") at (codes "opcode" ∷ hex_digits (word_at words at) 4 ∷ [])
-why_not_words words (refusal.TooDeep at need) = cause_at (codes "6") (codes "too-deep") at (codes "need" ∷ decimal need ∷ [])
 why_not_words words (refusal.TooLarge limit) = Some (codes "refused" ∷ codes "7" ∷ codes "too-large" ∷ limit_word limit ∷ [])
-why_not_words words (refusal.UnknownPointer at) = cause_at (codes "8") (codes "unknown-pointer") at (instruction_told words at)
 why_not_words words (refusal.Spent n) = Some (codes "spent" ∷ decimal n ∷ [])
 why_not_words words refusal.Memory = None
 

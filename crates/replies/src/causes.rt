@@ -1,14 +1,15 @@
 //! The lines printed if there is no certificate, and the line of `demo`.
 
-ghost use Rattle.std.specs.Prelude.{◌≡◌, [], ◌∷◌, IfOk, OnOk, Some, codes};
+ghost use Rattle.std.specs.Prelude.{◌≡◌, [], ◌∷◌, IfOk, OnOk, Some, codes, decimal};
 ghost use Rattle.sb_base.specs.Digits.{hex_digits};
 ghost use Rattle.sb_base.specs.Writing.{with_words};
-ghost use Rattle.replies.specs.Texts.{AreWritten, instruction_told, limit_word, why_not_words, why_not_text, demo_text};
+ghost use Rattle.replies.specs.Texts.{AreWritten, instruction_told, limit_word, fault_words, why_not_words, why_not_text, demo_text};
 
 use crate::texts::{ended, limit_word, put_address, put_number, put_two, put_two_and_number};
 use avr_decode::text as instruction_text;
 use certificate::Certificate;
 use flash_image::Flash;
+use local_rules::NodeFault;
 use round_rules::Refusal;
 use sb_base::LineWriter;
 use std::alloc::{AllocError, Global};
@@ -32,12 +33,47 @@ pub(crate) fn put_instruction(
 }
 
 // A cause, and its word.
-fn put_cause(line: &mut LineWriter, number: &[u8], name: &[u8], at: u16) -> Result<(), AllocError>
-    ensures { OnOk result (line.new ≡ with_words line.old (codes "refused" ∷ number.now ∷ name.now ∷ codes "at" ∷ hex_digits at 4 ∷ [])) }
+fn put_cause(line: &mut LineWriter, number: u8, name: &[u8], at: u16) -> Result<(), AllocError>
+    ensures { OnOk result (line.new ≡ with_words line.old (codes "refused" ∷ decimal number ∷ name.now ∷ codes "at" ∷ hex_digits at 4 ∷ [])) }
 {
-    put_two(line, b"refused", number)?;
+    put_number(line, b"refused", u64::from(number))?;
     line.word(name)?;
     put_address(line, b"at", at)
+}
+
+// The words of a node's fault; `None` if memory runs out.
+fn put_fault(
+    alloc: Global,
+    line: &mut LineWriter,
+    flash: &Flash,
+    fault: &NodeFault,
+) -> Result<(), AllocError>
+    ensures { OnOk result (AreWritten line.old line.new (fault_words flash.now fault.now)) }
+{
+    let number = fault.cause();
+    match *fault {
+        NodeFault::UnresolvedJump(at) => {
+            put_cause(line, number, b"unresolved-jump", at)?;
+            put_instruction(alloc, line, flash, at)
+        }
+        NodeFault::UntrackedSp(at) => {
+            put_cause(line, number, b"untracked-sp", at)?;
+            put_instruction(alloc, line, flash, at)
+        }
+        NodeFault::Unsupported(at) => {
+            put_cause(line, number, b"unsupported", at)?;
+            put_address(line, b"opcode", flash.word(at))
+        }
+        NodeFault::TooDeep(at, need) => {
+            put_cause(line, number, b"too-deep", at)?;
+            put_number(line, b"need", u64::from(need))
+        }
+        NodeFault::UnknownPointer(at) => {
+            put_cause(line, number, b"unknown-pointer", at)?;
+            put_instruction(alloc, line, flash, at)
+        }
+        NodeFault::Memory => Err(AllocError),
+    }
 }
 
 // The words of a refusal; `None` if memory runs out.
@@ -50,35 +86,16 @@ fn put_why_not(
     ensures { OnOk result (AreWritten line.old line.new (why_not_words flash.now refusal.now)) }
 {
     match *refusal {
-        Refusal::UnresolvedJump(at) => {
-            put_cause(line, b"1", b"unresolved-jump", at)?;
-            put_instruction(alloc, line, flash, at)
-        }
-        Refusal::Recursion(at) => put_cause(line, b"2", b"recursion", at),
+        Refusal::Node(fault) => put_fault(alloc, line, flash, &fault),
+        Refusal::Recursion(at) => put_cause(line, 2, b"recursion", at),
         Refusal::ReEntry(vector, at) => {
             put_two(line, b"refused", b"3")?;
             put_two_and_number(line, b"re-entry", b"of", u64::from(vector))?;
             put_address(line, b"at", at)
         }
-        Refusal::UntrackedSp(at) => {
-            put_cause(line, b"4", b"untracked-sp", at)?;
-            put_instruction(alloc, line, flash, at)
-        }
-        Refusal::Unsupported(at) => {
-            put_cause(line, b"5", b"unsupported", at)?;
-            put_address(line, b"opcode", flash.word(at))
-        }
-        Refusal::TooDeep(at, need) => {
-            put_cause(line, b"6", b"too-deep", at)?;
-            put_number(line, b"need", u64::from(need))
-        }
         Refusal::TooLarge(limit) => {
             put_two(line, b"refused", b"7")?;
             put_two(line, b"too-large", limit_word(limit))
-        }
-        Refusal::UnknownPointer(at) => {
-            put_cause(line, b"8", b"unknown-pointer", at)?;
-            put_instruction(alloc, line, flash, at)
         }
         Refusal::Spent(steps) => put_number(line, b"spent", steps),
         Refusal::Memory => Err(AllocError),

@@ -85,20 +85,12 @@ FirstHolds words A f (too_deep d) = FitsLimits f × HasNoFault words A f × IsAc
 
 -- ---- refusals
 
-abbrev pub fault_refusal : NodeFault → Refusal
-fault_refusal (fault.UnresolvedJump pc) = refusal.UnresolvedJump pc
-fault_refusal (fault.UntrackedSp pc) = refusal.UntrackedSp pc
-fault_refusal (fault.Unsupported pc) = refusal.Unsupported pc
-fault_refusal (fault.TooDeep pc offset) = refusal.TooDeep pc offset
-fault_refusal (fault.UnknownPointer pc) = refusal.UnknownPointer pc
-fault_refusal fault.Memory = refusal.Memory
-
 abbrev pub refusal_of : Test → Refusal
 refusal_of (over limit) = refusal.TooLarge limit
-refusal_of (faulty x) = fault_refusal x
+refusal_of (faulty x) = refusal.Node x
 refusal_of (re_entry v word) = refusal.ReEntry v word
 refusal_of (recursion word) = refusal.Recursion word
-refusal_of (too_deep d) = refusal.TooDeep 0 d
+refusal_of (too_deep d) = refusal.Node (fault.TooDeep 0 d)
 
 -- the rounds end at family n, by this test
 pub record EndsBy (words : Program) (A : List Entry) (n : ℕ) (t : Test) : Type 0 where

@@ -113,14 +113,10 @@ data Why (words : Program) (A : List Entry) (steps : Option ℕ) (r : Refusal) :
   wanting : r ≡ refusal.Memory → Why words A steps r
 
 why : (words : Program) (A : List Entry) (steps : Option ℕ) (r : Refusal) → IsWhyNot words A steps r → Why words A steps r
-why words A steps (refusal.UnresolvedJump pc) h = refused h
+why words A steps (refusal.Node x) h = refused h
 why words A steps (refusal.Recursion pc) h = refused h
 why words A steps (refusal.ReEntry v pc) h = refused h
-why words A steps (refusal.UntrackedSp pc) h = refused h
-why words A steps (refusal.Unsupported pc) h = refused h
-why words A steps (refusal.TooDeep pc n) h = refused h
 why words A steps (refusal.TooLarge l) h = refused h
-why words A steps (refusal.UnknownPointer pc) h = refused h
 why words A steps (refusal.Spent n) h = spent n refl h
 why words A steps refusal.Memory h = wanting refl
 

@@ -143,14 +143,10 @@ simulate_apart words A steps (Err fault) s t h = refuses_apart exit.BadDevices d
 simulate_apart words A steps (Ok setup) s t h = at exit.Done s done_plain h.0
 
 why_not_plain : (r : Refusal) → IsReplyPlain (why_not_status r)
-why_not_plain (refusal.UnresolvedJump pc) = refused_plain
+why_not_plain (refusal.Node x) = refused_plain
 why_not_plain (refusal.Recursion pc) = refused_plain
 why_not_plain (refusal.ReEntry v pc) = refused_plain
-why_not_plain (refusal.UntrackedSp pc) = refused_plain
-why_not_plain (refusal.Unsupported pc) = refused_plain
-why_not_plain (refusal.TooDeep pc need) = refused_plain
 why_not_plain (refusal.TooLarge limit) = refused_plain
-why_not_plain (refusal.UnknownPointer pc) = refused_plain
 why_not_plain (refusal.Spent n) = spent_plain
 why_not_plain refusal.Memory = refused_plain
 
