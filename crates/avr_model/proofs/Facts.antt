@@ -144,7 +144,7 @@ all_behind [] k x le = refl
 all_behind (r ∷ rows) zero x le = absurd (omega arith)
 all_behind (r ∷ rows) (suc k) x le = all_behind rows k x (omega arith)
 
-pub row_behind : (d : Device) (k : ℕ) → k ≡ d.place → 73 ≤ k → LAST ≡ device_row d
+pub row_behind : (d : Device) (k : ℕ) → k ≡ d.place → length ROWS ≤ k → LAST ≡ device_row d
 unfolding device_row
 row_behind d k is le = sym (all_behind ROWS k LAST le) ∙ ap (λ (j : ℕ). slice_index_or ROWS j LAST) is
 

@@ -32,7 +32,7 @@ fn trimmed(text: &[u8; LONGEST]) -> &[u8]
 // The place of the class with this name.
 fn place_of(name: &[u8]) -> Option<usize>
     ensures place { result ≡ position_from (λ class. bytes_eq (trimmed class) name.now) 0 CLASSES }
-    ensures bound { IfSome result (λ place. place < 73) }
+    ensures bound { IfSome result (λ place. place < 256) }
 {
     CLASSES.iter().position(|class| trimmed(class) == name)
 }
