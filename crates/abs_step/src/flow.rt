@@ -135,10 +135,7 @@ fn unlisted_targets(
 {
     let (low, high) = pair(state, base_register(Base::Z));
     match targets_on(device, &low.bits, &high.bits) {
-        Ok(all) => match all.as_slice().to_vec(alloc) {
-            Ok(words) => Ok(words),
-            Err(_) => Err(NodeFault::Memory),
-        },
+        Ok(all) => Ok(all.as_slice().to_vec(alloc)?),
         Err(_) => Err(NodeFault::UnresolvedJump(pc)),
     }
 }
@@ -208,9 +205,7 @@ fn sites(alloc: Global, entries: &[u16], back: u16) -> Result<Listed<CallSite>, 
     let mut sites = Listed::empty(alloc);
     for at in 0..entries.len() {
         let entry = entries[at];
-        if sites.push(CallSite { entry, back }).is_err() {
-            return Err(NodeFault::Memory);
-        }
+        sites.push(CallSite { entry, back })?;
     }
     Ok(sites)
 }

@@ -86,8 +86,5 @@ pub fn put(nodes: &mut Nodes, key: NodeKey, left: bool, state: AbsState) -> Resu
     if !left {
         return Ok(());
     }
-    match nodes.place(Node { key, state }) {
-        Ok(()) => Ok(()),
-        Err(_) => Err(NodeFault::Memory),
-    }
+    Ok(nodes.place(Node { key, state })?)
 }

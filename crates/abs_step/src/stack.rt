@@ -25,13 +25,8 @@ fn with_slot(alloc: Global, state: &AbsState, slot: Slot<AbsByte>) -> Result<Abs
     ensures err { IfErr result (λ e. e ≡ Memory) }
 {
     let mut after = copied(alloc, state)?;
-    match after.slots.push(slot) {
-        Ok(()) => Ok(after),
-        Err(_) => {
-            drop(after);
-            Err(NodeFault::Memory)
-        }
-    }
+    after.slots.push(slot)?;
+    Ok(after)
 }
 
 /// `push`: register `r` goes to a new slot. A scratch push makes a free slot, any other a guarded one.

@@ -68,13 +68,8 @@ pub fn with_slots(alloc: Global, state: &AbsState, count: u16) -> Result<AbsStat
     ensures err { IfErr result (λ e. e ≡ Memory) }
 {
     let mut after = copied(alloc, state)?;
-    match after.slots.resize(count) {
-        Ok(()) => Ok(after),
-        Err(_) => {
-            drop(after);
-            Err(NodeFault::Memory)
-        }
-    }
+    after.slots.resize(count)?;
+    Ok(after)
 }
 
 // A write of the low byte of the stack pointer.
@@ -136,14 +131,10 @@ fn masks_written(
     ensures { Adds nodes.old nodes.new result (writes.masks_written write.now.device write.now.key write.now.state.now address write.now.value) }
 {
     let (key, bits) = (&write.key, &write.value.bits);
-    match split(alloc, write.device, key.masks, address, bits) {
-        Ok(all) => {
-            let added = add_masks(nodes, alloc, write, &all);
-            drop(all);
-            added
-        }
-        Err(_) => Err(NodeFault::Memory),
-    }
+    let all = split(alloc, write.device, key.masks, address, bits)?;
+    let added = add_masks(nodes, alloc, write, &all);
+    drop(all);
+    added
 }
 
 // The carry tag ends if it names the written register.

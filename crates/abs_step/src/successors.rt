@@ -23,10 +23,7 @@ pub fn copied(alloc: Global, state: &AbsState) -> Result<AbsState, NodeFault>
     ensures ok { IfOk result (λ s. s ≡ state.now) }
     ensures err { IfErr result (λ e. e ≡ Memory) }
 {
-    match state.copy(alloc) {
-        Ok(copy) => Ok(copy),
-        Err(_) => Err(NodeFault::Memory),
-    }
+    Ok(state.copy(alloc)?)
 }
 
 /// The state with other registers and flags.
@@ -39,15 +36,12 @@ pub fn changed(
     ensures ok { IfOk result (λ s. s ≡ record state.now { registers = registers.now; flags = flags }) }
     ensures err { IfErr result (λ e. e ≡ Memory) }
 {
-    match (state.slots.copy(alloc), state.facts.copy(alloc)) {
-        (Ok(slots), Ok(facts)) => Ok(AbsState {
-            registers: *registers,
-            flags,
-            slots,
-            facts,
-        }),
-        _ => Err(NodeFault::Memory),
-    }
+    Ok(AbsState {
+        registers: *registers,
+        flags,
+        slots: state.slots.copy(alloc)?,
+        facts: state.facts.copy(alloc)?,
+    })
 }
 
 /// The key at another word of the same instance.

@@ -201,10 +201,7 @@ fn listed(
         nodes,
         exits: known,
     };
-    match edges_of(task, &start, found, &known) {
-        Ok(edges) => Ok(edges),
-        Err(_) => Err(NodeFault::Memory),
-    }
+    Ok(edges_of(task, &start, found, &known)?)
 }
 
 /// The edges from the node of this number, in no particular order, or the node's fault that counts. `Memory` is no fault of the node. The

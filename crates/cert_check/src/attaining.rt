@@ -4,20 +4,19 @@ ghost use Rattle.std.specs.Prelude.{◌↔◌, IsTrue};
 ghost use Rattle.certificate.specs.Valid.{IsAttained};
 
 use avr_model::choice::Stop;
+use call_graph::Task;
 use certificate::Certificate;
-use flash_image::Flash;
-use vector_table::Assumptions;
 use witness_replay::replay;
 
 /// Whether the certificate's schedule attains its bound: no illegal choice is reached, the run ends without a stop, and its depth is the
 /// bound. A certificate without a schedule passes.
-pub fn is_attained(flash: &Flash, assumptions: &Assumptions, certificate: &Certificate) -> bool
-    ensures { IsTrue result ↔ IsAttained flash.now assumptions.now certificate.now.bound certificate.now.witness }
+pub fn is_attained(task: &Task<'_>, certificate: &Certificate) -> bool
+    ensures { IsTrue result ↔ IsAttained task.now.flash.now task.now.assumptions.now certificate.now.bound certificate.now.witness }
 {
     let Some(schedule) = certificate.witness() else {
         return true;
     };
-    match replay(flash, assumptions, schedule) {
+    match replay(task.flash, task.assumptions, schedule) {
         Ok(report) => report.stop == Stop::End && report.depth == certificate.bound(),
         Err(_) => false,
     }

@@ -22,7 +22,7 @@ use crate::reading::read;
 use crate::verdict::{Judgement, Reason, Verdict};
 use crate::weighing::weigh;
 use avr_model::listed::Listed;
-use call_graph::{Expanded, Filled, Landing, Leaving, Task, Worked, exits, expand, root_of};
+use call_graph::{Expanded, Filled, Landing, Leaving, Task, Worked, exits, expand};
 use certificate::Certificate;
 use flash_image::Flash;
 use local_rules::Exit;
@@ -75,7 +75,7 @@ fn has_reset(task: &Task<'_>, certificate: &Certificate, nodes: &Filled) -> Resu
     requires { AreBeside certificate.now.nodes nodes.now }
     ensures { IfOk result (λ there. IsTrue there ↔ HasReset task.now.assumptions.now certificate.now nodes.now) }
 {
-    let state = root_of(task.alloc, task.assumptions)?;
+    let state = task.root()?;
     let key = NodeKey::entry(&InstKey::root());
     let site = LandingSite {
         followed: task.assumptions.has_pairs(),

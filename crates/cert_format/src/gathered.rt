@@ -15,7 +15,7 @@ use crate::fault::CertFault;
 use crate::lines::{instance_of, node_of};
 use avr_model::assumption::Entry;
 use avr_model::device::Device;
-use certificate::{Inst, Limit, Version, says_device};
+use certificate::{Inst, Limit, MOST_CELLS, Version, says_device};
 use edge_rules::NodeForm;
 use indirect_targets::entry_of;
 use mask_states::NodeKey;
@@ -23,9 +23,6 @@ use sb_base::LineReader;
 use std::alloc::Global;
 use std::marker::Model;
 use vector_table::{AssumeFault, Assumptions};
-
-// The most cells.
-const MOST_CELLS: u32 = 8_388_608;
 
 // A list that is read line by line.
 pub(crate) trait Gathered {
@@ -243,7 +240,7 @@ impl<'a> NodeList<'a> {
             return Err(CertFault::Order(at));
         }
         let more = self.cells + (1 + u32::from(node.0.offset()));
-        if more > MOST_CELLS {
+        if u64::from(more) > MOST_CELLS {
             drop(node);
             return Err(CertFault::Limit(Limit::Cells));
         }

@@ -19,23 +19,17 @@ use crate::gathered::{NodeList, read_each};
 use crate::laws::certificate_texts;
 use avr_model::device::Device;
 use avr_model::naming::{class_of, device_of_class};
-use certificate::{Certificate, Inst, Limit, Version, says_device, written_version};
+use certificate::{
+    Certificate, Inst, Limit, MOST_INSTANCES, MOST_NODES, Version, says_device, written_version,
+};
 use edge_rules::NodeForm;
+use indirect_targets::MOST_ENTRIES;
 use line_reading::{dec_word, expect_word, is_over, peek_text, take_line, take_text};
 use mask_states::NodeKey;
 use sb_base::{DigitFault, LineReader, Words, read_dec};
 use std::alloc::Global;
 use vector_table::{Assumptions, Entry};
 use witness_replay::{Schedule, ScheduleFault};
-
-// The most assumptions.
-const MOST_ENTRIES: u64 = 4_096;
-
-// The most instances.
-const MOST_INSTANCES: u64 = 65_536;
-
-// The most nodes.
-const MOST_NODES: u64 = 65_536;
 
 // The number of the next line, if it is this name and a number in the range.
 #[tactic(auto, unfolding(crate::specs::Reading::numbered_in))]
@@ -152,7 +146,7 @@ fn read_entries(
     ensures { Answers (λ a. (a, reader.new)) fault.Memory result (entries_at device version reader.old) }
 {
     let least = least_entries(version);
-    let count = read_numbered(reader, b"assume", least, MOST_ENTRIES)?;
+    let count = read_numbered(reader, b"assume", least, MOST_ENTRIES as u64)?;
     let mut list = read_first(alloc, reader, version)?;
     read_each(alloc, device, reader, &mut list, count - least)?;
     Ok(list)

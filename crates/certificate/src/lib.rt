@@ -12,5 +12,5 @@ pub use certificate::Certificate;
 pub use edge_rules::{HeldState, NodeForm, Seed, Seeded};
 pub use hulls::hulls_of;
 pub use instance::Inst;
-pub use limit::Limit;
+pub use limit::{Limit, MOST_CELLS, MOST_INSTANCES, MOST_NODES};
 pub use version::{Version, says_device, written_version};

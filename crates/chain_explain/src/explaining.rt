@@ -15,10 +15,8 @@ use call_graph::{Task, Worked};
 use certificate::Certificate;
 use edge_laws::expansions::filled_or_missing;
 use family_graph::{deepest_chain, worked_of};
-use flash_image::Flash;
 use round_laws::laws::rounds_are_reached;
-use std::alloc::{AllocError, Global};
-use vector_table::Assumptions;
+use std::alloc::AllocError;
 
 /// Explains the bound of a certificate from its family, which meets the conditions: the deepest chain over the nodes reached from reset,
 /// each link with the bytes that it adds and a shortest path to its place. The bytes add up to the root's least need over these nodes,
@@ -53,25 +51,15 @@ pub fn explain_family(
 }
 
 /// Explains a certificate whose conditions hold except the one on its schedule. Computes its family first.
-pub fn explain(
-    alloc: Global,
-    flash: &Flash,
-    assumptions: &Assumptions,
-    certificate: &Certificate,
-) -> Result<Explanation, AllocError>
-    requires { IsSound flash.now assumptions.now certificate.now }
-    ensures exact { IfOk result (IsExplanation flash.now assumptions.now certificate.now) }
+pub fn explain(task: &Task<'_>, certificate: &Certificate) -> Result<Explanation, AllocError>
+    requires { IsSound task.now.flash.now task.now.assumptions.now certificate.now }
+    ensures exact { IfOk result (IsExplanation task.now.flash.now task.now.assumptions.now certificate.now) }
     ensures sums { IfOk result (λ x. sum_of x.parts ≡ x.least) }
     ensures bounded { IfOk result (λ x. x.least ≤ certificate.now.bound) }
-    ensures least { IfOk result (λ x. IsOfRounds flash.now assumptions.now certificate.now → x.least ≡ certificate.now.bound) }
-    ensures nests { IfOk result (λ x. Nest flash.now assumptions.now certificate.now x.parts) }
+    ensures least { IfOk result (λ x. IsOfRounds task.now.flash.now task.now.assumptions.now certificate.now → x.least ≡ certificate.now.bound) }
+    ensures nests { IfOk result (λ x. Nest task.now.flash.now task.now.assumptions.now certificate.now x.parts) }
 {
     let _nodes = certificate.nodes();
-    let task = Task {
-        alloc,
-        flash,
-        assumptions,
-    };
-    let family = worked_of(&task, certificate)?;
-    explain_family(&task, certificate, &family)
+    let family = worked_of(task, certificate)?;
+    explain_family(task, certificate, &family)
 }

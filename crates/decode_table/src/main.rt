@@ -5,23 +5,10 @@
 use avr_decode::{Device, decode, length, text};
 use std::alloc::{AllocError, Global};
 use std::io;
+use table_digest::{EMPTY, digest};
 
 // The word after each first word.
 const SECOND: u16 = 0x9ABC;
-
-// FNV-1a of 32 bits: the digest of no bytes, and the factor.
-const EMPTY: u32 = 0x811C_9DC5;
-
-const FACTOR: u32 = 0x0100_0193;
-
-// The digest with these bytes appended.
-fn digest(before: u32, bytes: &[u8]) -> u32 {
-    let mut value = before;
-    for byte in bytes {
-        value = (value ^ *byte as u32).wrapping_mul(FACTOR);
-    }
-    value
-}
 
 // The digest with the line of a first word appended, which is at twice its number in the ATmega328P's flash: its length in words and its
 // text, or `undefined` if no row of the table matches.

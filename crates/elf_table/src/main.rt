@@ -5,20 +5,15 @@
 use elf_load::{Loaded, is_elf, load};
 use flash_image::{Device, Flash};
 use std::{fs, io, str};
+use table_digest::{EMPTY, digest};
 
 const FILES: [&str; 3] = ["blink.elf", "ticks.elf", "sorted.elf"];
-
-// FNV-1a of 32 bits: the digest of no bytes, and the factor.
-const EMPTY: u32 = 0x811C_9DC5;
-
-const FACTOR: u32 = 0x0100_0193;
 
 // The digest of the bytes of flash, the low byte of each word first.
 fn digest_of(flash: &Flash) -> u32 {
     let mut value = EMPTY;
     for word in flash.words() {
-        value = (value ^ u32::from(word % 256)).wrapping_mul(FACTOR);
-        value = (value ^ u32::from(word / 256)).wrapping_mul(FACTOR);
+        value = digest(value, &word.to_le_bytes());
     }
     value
 }

@@ -14,7 +14,7 @@ ghost use Rattle.round_steps.specs.declared.looking.Look as look_type;
 ghost use Rattle.round_steps.specs.Notings.{AreNoted};
 ghost use Rattle.fixpoint.specs.Checks.{IsTooLarge, IsFaulty, IsVerdictTold};
 
-use certificate::Limit;
+use certificate::{Limit, MOST_CELLS, MOST_NODES};
 use flash_image::Flash;
 use local_rules::NodeFault;
 use round_nesting::{Nesting, NestingVerdict};
@@ -23,18 +23,13 @@ use round_steps::{Notes, Seen};
 use round_table::Table;
 use std::alloc::Global;
 
-// The most nodes and the most cells of a certificate.
-const MOST_NODES: usize = 65_536;
-
-const MOST_CELLS: u64 = 8_388_608;
-
 /// Checks that the nodes, and then the cells, are within the limits.
 pub fn check_size(table: &Table, counted: u64) -> Result<(), Refusal>
     requires { counted ≡ cells table.now }
     ensures fits { OnOk result (FitsLimits table.now) }
     ensures over { IfErr result (λ r. IsTooLarge table.now r) }
 {
-    if table.len() > MOST_NODES {
+    if table.len() as u64 > MOST_NODES {
         return Err(Refusal::TooLarge(Limit::Nodes));
     }
     if counted > MOST_CELLS {

@@ -18,6 +18,7 @@ use crate::confirming::confirm;
 use crate::rounds::{least_family, start};
 use crate::unfound::Unfound;
 use call_graph::Task;
+use certificate::MOST_INSTANCES;
 use flash_image::Flash;
 use mask_states::NodeKey;
 use round_nesting::Nesting;
@@ -106,7 +107,7 @@ fn ask_nesting(
     if nodes < *due {
         return Ok(());
     }
-    if nesting.count() > 65536 {
+    if nesting.count() as u64 > MOST_INSTANCES {
         return Err(Unfound::Stopped);
     }
     *due = nodes.saturating_add(64);

@@ -15,7 +15,7 @@ ghost use Rattle.fixpoint.specs.Progress.{Turn, IsBudgetLeft, IsSpent, AreRounds
 ghost use Rattle.fixpoint.specs.Checks.{AreRoundsStopped, IsReady};
 
 use crate::checking::{check_nesting, check_size, note_seen};
-use call_graph::{Task, root_of};
+use call_graph::Task;
 use local_rules::Node;
 use mask_states::{InstKey, NodeKey};
 use round_rules::Refusal;
@@ -65,7 +65,7 @@ pub(crate) fn start(
     ensures kept { IfOk result (λ work. KeptBut empty table.new work.items) }
 {
     *counted = 0;
-    let state = root_of(task.alloc, task.assumptions)?;
+    let state = task.root()?;
     let mut nodes = Vec::new(task.alloc);
     nodes.push(Node {
         key: NodeKey::entry(&InstKey::root()),

@@ -1,13 +1,15 @@
 //! Guided trials.
 
 ghost use Rattle.std.specs.Prelude.{◌≡◌, IfOk, IfSome};
+ghost use Rattle.std.specs.Fn.{CalledAt};
 ghost use Rattle.avr_model.specs.Devices.{device_of};
 ghost use Rattle.avr_model.specs.State.{IsReset, filled};
 ghost use Rattle.avr_model.specs.Run.{IsRun, Bounded, depth_of};
 ghost use Rattle.certificate.specs.Valid.{Attains};
+ghost use Rattle.stimulus.specs.Steady.{IsSteady};
 ghost use Rattle.trial_runs.specs.Length.{most_choices};
 ghost use Rattle.guided_trials.specs.Choosing as choosing;
-ghost use Rattle.guided_trials.specs.Trials.{fill_of, trial_by, IsGuidedTried, IsGuidedFound};
+ghost use Rattle.guided_trials.specs.Trials.{fill_of, trial_by, IsGuidedBy, IsGuidedTried, IsGuidedFound};
 
 use crate::choosing::{after, chosen};
 use crate::guide::{Guide, TrialMoment};
@@ -31,43 +33,37 @@ fn fill_of(guide: &Guide, t: u32) -> u8
 // The depth of trial `t` when it is at least the bound, or at a stop, or after this many choices. This function is separate so that its
 // loop is optimised alone and stores no choices: most trials fail.
 #[inline(never)]
-fn depth_of_trial(
+fn depth_of_trial<F: FnMut(&Menu) -> Choice + Drop>(
+    choose: F,
     flash: &Flash,
     assumptions: &Assumptions,
     guide: &Guide,
     t: u32,
     steps: u32,
 ) -> u16
+    requires steady { IsSteady F.FnMut choose }
+    requires guided { IsGuidedBy (CalledAt F.FnMut) flash.now guide.now t choose }
     ensures { result ≡ depth_of flash.now assumptions.now (trial_by steps flash.now assumptions.now guide.now t) (filled (device_of flash.now) (fill_of guide.now t)) }
 {
     depth_is_kept();
     let fill = fill_of(guide, t);
-    let mut moment = TrialMoment {
-        number: first(t),
-        byte: fill,
-    };
     let mut machine = Machine::start(flash.device(), fill);
-    let mut driver = Driver::new(
-        move |menu: &Menu| -> Choice
-            ensures choice { result ≡ choosing.picked flash.entry.now guide.entry.now t moment.entry menu.now }
-            ensures left { moment.exit ≡ choosing.left_by flash.entry.now guide.entry.now t moment.entry menu.now }
-        {
-            moment = after(flash, guide, t, moment, menu.pc);
-            chosen(flash, guide, t, moment, menu)
-        },
-    );
+    let mut driver = Driver::new(choose);
     driver.run(&mut machine, flash, assumptions, guide.bound, steps);
     machine.depth()
 }
 
 // Trial `t` with its choices.
-fn attempt(
+fn attempt<F: FnMut(&Menu) -> Choice + Drop>(
     alloc: Global,
+    choose: F,
     flash: &Flash,
     assumptions: &Assumptions,
     guide: &Guide,
     t: u32,
 ) -> Result<Trace, AllocError>
+    requires steady { IsSteady F.FnMut choose }
+    requires guided { IsGuidedBy (CalledAt F.FnMut) flash.now guide.now t choose }
     ensures reset { IsReset (device_of flash.now) (filled (device_of flash.now) (fill_of guide.now t)) }
     ensures choices { IfOk result (λ trace. trace.choices ≡ trial_by most_choices flash.now assumptions.now guide.now t) }
     ensures run { IfOk result (λ trace. IsRun flash.now assumptions.now trace.choices (filled (device_of flash.now) (fill_of guide.now t))) }
@@ -75,20 +71,8 @@ fn attempt(
 {
     depth_is_kept();
     let fill = fill_of(guide, t);
-    let mut moment = TrialMoment {
-        number: first(t),
-        byte: fill,
-    };
     let mut machine = Machine::start(flash.device(), fill);
-    let mut driver = Driver::new(
-        move |menu: &Menu| -> Choice
-            ensures choice { result ≡ choosing.picked flash.entry.now guide.entry.now t moment.entry menu.now }
-            ensures left { moment.exit ≡ choosing.left_by flash.entry.now guide.entry.now t moment.entry menu.now }
-        {
-            moment = after(flash, guide, t, moment, menu.pc);
-            chosen(flash, guide, t, moment, menu)
-        },
-    );
+    let mut driver = Driver::new(choose);
     let steps = most_choices();
     driver.drive(alloc, &mut machine, flash, assumptions, guide.bound, steps)
 }
@@ -106,12 +90,23 @@ fn try_number(
 {
     depth_is_kept();
     let steps = most_choices();
-    let depth = depth_of_trial(flash, assumptions, guide, t, steps);
+    let fill = fill_of(guide, t);
+    let mut moment = TrialMoment {
+        number: first(t),
+        byte: fill,
+    };
+    let choose = move |menu: &Menu| -> Choice
+        ensures choice { result ≡ choosing.picked flash.entry.now guide.entry.now t moment.entry menu.now }
+        ensures left { moment.exit ≡ choosing.left_by flash.entry.now guide.entry.now t moment.entry menu.now }
+    {
+        moment = after(flash, guide, t, moment, menu.pc);
+        chosen(flash, guide, t, moment, menu)
+    };
+    let depth = depth_of_trial(choose, flash, assumptions, guide, t, steps);
     if depth < guide.bound {
         return Ok(None);
     }
-    let trace = attempt(alloc, flash, assumptions, guide, t)?;
-    let fill = fill_of(guide, t);
+    let trace = attempt(alloc, choose, flash, assumptions, guide, t)?;
     let schedule = Schedule::from_trace(alloc, flash.device(), fill, trace.choices.as_slice())?;
     Ok(Some(schedule))
 }

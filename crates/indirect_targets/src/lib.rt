@@ -9,7 +9,7 @@ pub mod transfer;
 pub mod writing;
 
 pub use fault::AssumeText;
-pub use reading::{entry_of, read};
+pub use reading::{MOST_ENTRIES, entry_of, read};
 pub use target_list::{Targets, TooMany};
 pub use transfer::{targets, targets_on};
 pub use writing::write;

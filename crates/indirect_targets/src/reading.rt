@@ -24,8 +24,8 @@ use sb_base::{LineReader, Words, read_hex};
 use std::alloc::{AllocError, Global};
 use vector_table::{AssumeFault, Assumptions, is_protected};
 
-// The most entries of a list.
-const MOST_ENTRIES: usize = 4_096;
+/// The most entries of a list.
+pub const MOST_ENTRIES: usize = 4_096;
 
 // The most items of an entry.
 const MOST_ITEMS: usize = 64;

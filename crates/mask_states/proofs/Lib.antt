@@ -7,5 +7,4 @@ pub mod Steps
 pub mod Written
 pub mod Woken
 pub mod Staying
-pub mod Hashes
 pub mod AllLaws

@@ -3,10 +3,11 @@ use Rattle.std.proofs.Common.{◌≡◌, ◌∙◌, sym, ap, refl, ℕ, Bool, tr
 use Rattle.std.specs.Prelude.{◌↔◌, ◌⊎◌, Option, Some, None}
 use Rattle.std.specs.Int.{from_bool}
 use Rattle.std.specs.Cmp.{Equal-is}
-use Rattle.std.specs.Ordering.{nat_cmp, ordering_then}
+use Rattle.std.specs.Ordering.{ordering_then}
 use Rattle.std.specs.declared.cmp.Ordering.{Ordering}
 use Rattle.std.proofs.Common.{inl, inr}
-use Rattle.std.proofs.lemmas.Cmp.{ranked, tied_itself}
+use Rattle.std.proofs.lemmas.Cmp.{tied_itself}
+use Rattle.std.proofs.lemmas.Bool.Decides.{same_from_decides}
 use Rattle.basics.specs.Lists.{number_at_same, same_parts}
 use Rattle.mask_states.specs.declared.keys.Kind.{Kind}
 use Rattle.mask_states.specs.declared.keys.Kind.TheVariants.{Root, Call, Vector}
@@ -18,7 +19,7 @@ use Rattle.mask_states.specs.declared.keys.SpForm.TheVariants.{Closed, Open}
 use Rattle.mask_states.specs.declared.keys.NodeKey.{NodeKey}
 use Rattle.mask_states.specs.Keys.{kind_numbers, high_numbers, form_numbers, pick_numbers, inst_numbers, node_numbers}
 use Rattle.mask_states.specs.Order.{numbers_cmp, inst_cmp, node_cmp, same_inst, same_node}
-use Rattle.mask_states.specs.Total.{inst_total, node_total}
+use Rattle.mask_states.specs.Total.{inst_total, node_total, numbers_equal}
 use Rattle.mask_states.specs.Laws.{KeysAreTheirNumbers, KeysAreOrdered, NodesGoByInstance}
 use Rattle.mask_states.proofs.Chains.{kind_length, inst_length, form_length, rest, node_by_inst}
 
@@ -100,21 +101,6 @@ keys_are_their_numbers = record { insts = inst_from_numbers; nodes = node_from_n
 
 -- ---- the order
 
-pub both_equal : (o r : Ordering) → ordering_then o r ≡ Equal → (o ≡ Equal) × (r ≡ Equal)
-both_equal Less r e = absurd (cc)
-both_equal Equal r e = (refl, e)
-both_equal Greater r e = absurd (cc)
-
-numbers_equal : (xs ys : List ℕ) → numbers_cmp xs ys ≡ Equal → xs ≡ ys
-numbers_equal [] [] e = refl
-numbers_equal [] (y ∷ ys) e = absurd (cc)
-numbers_equal (x ∷ xs) [] e = absurd (cc)
-numbers_equal (x ∷ xs) (y ∷ ys) e =
-    let both = both_equal (nat_cmp x y) (numbers_cmp xs ys) e in
-    let head : x ≡ y = ranked x y Equal (sym both.0) in
-    let tail = numbers_equal xs ys both.1 in
-    λ i. head i ∷ tail i
-
 inst_equal_is : (a b : InstKey) → (inst_cmp a b ≡ Equal) ↔ (a ≡ b)
 unfolding inst_cmp
 inst_equal_is a b = (
@@ -141,6 +127,21 @@ unfolding same_node
 node_same_is a b =
     let decides = Equal-is (node_cmp a b) in
     (λ e. (node_equal_is a b).0 (decides.0 e), λ same. decides.1 ((node_equal_is a b).1 same))
+
+-- keys with equal fields are equal
+pub inst_is : (a b : InstKey) → a.kind ≡ b.kind → a.entry ≡ b.entry → a.masks ≡ b.masks → a.i ≡ b.i → a ≡ b
+inst_is a b kind entry masks i j = record { kind = kind j; entry = entry j; masks = masks j; i = i j }
+
+pub node_is : (a b : NodeKey) → a.inst ≡ b.inst → a.pc ≡ b.pc → a.masks ≡ b.masks → a.i ≡ b.i → a.delay ≡ b.delay → a.sp ≡ b.sp → a.pick ≡ b.pick → a ≡ b
+node_is a b inst pc masks i delay sp pick j =
+    record { inst = inst j; pc = pc j; masks = masks j; i = i j; delay = delay j; sp = sp j; pick = pick j }
+
+-- a test of fields is `==`
+pub inst_tested : (a b : InstKey) (r : Bool) → IsTrue r ↔ (a ≡ b) → r ≡ same_inst a b
+inst_tested a b r e = same_from_decides r (same_inst a b) e (inst_same_is a b)
+
+pub node_tested : (a b : NodeKey) (r : Bool) → IsTrue r ↔ (a ≡ b) → r ≡ same_node a b
+node_tested a b r e = same_from_decides r (same_node a b) e (node_same_is a b)
 
 pub keys_are_ordered : KeysAreOrdered
 keys_are_ordered = record {

@@ -1,12 +1,13 @@
 -- Laws of the order of keys.
-use Rattle.std.proofs.Common.{◌≡◌, refl}
+use Rattle.std.proofs.Common.{◌≡◌, refl, sym, ℕ, List, [], ◌∷◌, Less, Equal, Greater}
 use Rattle.std.specs.Cmp.{IsTotalOrder, IsPartialOrder, IsEquivalence, IsPartialEquivalence, partial_equiv_from_equiv, partial_order_from_total}
-use Rattle.std.specs.Ordering.{as_partial_cmp, eq_by_cmp}
-use Rattle.std.proofs.lemmas.Cmp.{on_total, nat_list_cmp_total, eq_by_cmp_equiv}
+use Rattle.std.specs.Ordering.{nat_cmp, ordering_then, as_partial_cmp, eq_by_cmp}
+use Rattle.std.specs.declared.cmp.Ordering.{Ordering}
+use Rattle.std.proofs.lemmas.Cmp.{ranked, on_total, nat_list_cmp_total, eq_by_cmp_equiv}
 use Rattle.mask_states.specs.declared.keys.InstKey.{InstKey}
 use Rattle.mask_states.specs.declared.keys.NodeKey.{NodeKey}
 use Rattle.mask_states.specs.Keys.{inst_numbers, node_numbers}
-use Rattle.mask_states.specs.Order.{inst_cmp, node_cmp, same_inst, same_node}
+use Rattle.mask_states.specs.Order.{numbers_cmp, inst_cmp, node_cmp, same_inst, same_node}
 
 pub inst_total : IsTotalOrder inst_cmp
 unfolding inst_cmp
@@ -39,3 +40,19 @@ inst_equivalence = (partial_equiv_from_equiv (eq_by_cmp_equiv inst_total), eq_by
 pub node_equivalence : IsPartialEquivalence same_node × IsEquivalence same_node
 unfolding same_node
 node_equivalence = (partial_equiv_from_equiv (eq_by_cmp_equiv node_total), eq_by_cmp_equiv node_total)
+
+pub both_equal : (o r : Ordering) → ordering_then o r ≡ Equal → (o ≡ Equal) × (r ≡ Equal)
+both_equal Less r e = absurd (cc)
+both_equal Equal r e = (refl, e)
+both_equal Greater r e = absurd (cc)
+
+-- lists that compare equal are equal
+pub numbers_equal : (xs ys : List ℕ) → numbers_cmp xs ys ≡ Equal → xs ≡ ys
+numbers_equal [] [] e = refl
+numbers_equal [] (y ∷ ys) e = absurd (cc)
+numbers_equal (x ∷ xs) [] e = absurd (cc)
+numbers_equal (x ∷ xs) (y ∷ ys) e =
+    let both = both_equal (nat_cmp x y) (numbers_cmp xs ys) e in
+    let head : x ≡ y = ranked x y Equal (sym both.0) in
+    let tail = numbers_equal xs ys both.1 in
+    λ i. head i ∷ tail i

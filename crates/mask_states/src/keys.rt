@@ -4,8 +4,10 @@ ghost use Rattle.std.specs.Prelude.{◌≡◌, ◌↔◌, IsTrue, refl};
 ghost use Rattle.std.specs.Ordering.{as_partial_cmp};
 ghost use Rattle.mask_states.specs.Order.{inst_cmp, node_cmp, same_inst, same_node};
 ghost use Rattle.mask_states.specs.Total.{inst_total, inst_equivalence, inst_partial, inst_equal, node_total, node_equivalence, node_partial, node_equal};
+ghost use Rattle.mask_states.specs.Hashes.{inst_hash, insts_alike, node_hash, nodes_alike};
 
 use std::cmp::Ordering;
+use std::hash::{Hash, Hasher};
 use vector_table::Masks;
 
 /// How an instance is entered.
@@ -172,17 +174,32 @@ impl PartialEq for InstKey {
 
     ghost laws = { inst_equivalence.0 };
 
-    /// Whether all fields are equal.
+    /// Whether all fields are equal. The word is compared first: most different instances differ in it.
+    #[tactic(auto, using(crate::proofs::SameKeys::inst_is))]
     fn eq(&self, other: &InstKey) -> bool
         ensures test { result ≡ same_inst self.now other.now }
         ensures same { IsTrue result ↔ (self.now ≡ other.now) }
     {
-        self.cmp(other).is_eq()
+        self.entry == other.entry
+            && self.masks == other.masks
+            && self.i == other.i
+            && self.kind == other.kind
     }
 }
 
 impl Eq for InstKey {
     ghost laws = { inst_equivalence.1 };
+}
+
+impl Hash for InstKey {
+    ghost hash_input = { inst_hash };
+
+    ghost respects_eq = { insts_alike };
+
+    fn hash<H: Hasher>(&self, state: &mut H) {
+        self.entry.hash(state);
+        self.masks.bits().hash(state);
+    }
 }
 
 impl Ord for NodeKey {
@@ -221,15 +238,35 @@ impl PartialEq for NodeKey {
 
     ghost laws = { node_equivalence.0 };
 
-    /// Whether all fields are equal.
+    /// Whether all fields are equal. The word is compared first: most different nodes differ in it.
+    #[tactic(auto, using(crate::proofs::SameKeys::node_is))]
     fn eq(&self, other: &NodeKey) -> bool
         ensures test { result ≡ same_node self.now other.now }
         ensures same { IsTrue result ↔ (self.now ≡ other.now) }
     {
-        self.cmp(other).is_eq()
+        self.pc == other.pc
+            && self.masks == other.masks
+            && self.i == other.i
+            && self.delay == other.delay
+            && self.sp == other.sp
+            && self.pick == other.pick
+            && self.inst == other.inst
     }
 }
 
 impl Eq for NodeKey {
     ghost laws = { node_equivalence.1 };
+}
+
+impl Hash for NodeKey {
+    ghost hash_input = { node_hash };
+
+    ghost respects_eq = { nodes_alike };
+
+    fn hash<H: Hasher>(&self, state: &mut H) {
+        self.inst.hash(state);
+        self.pc.hash(state);
+        self.masks.bits().hash(state);
+        self.offset().hash(state);
+    }
 }

@@ -7,13 +7,10 @@ mod row;
 
 use abs_step::local;
 use avr_model::device::Device;
-use indirect_targets::entry_of;
+use indirect_targets::{MOST_ENTRIES, entry_of};
 use row::Row;
 use std::{fs, io};
 use vector_table::Assumptions;
-
-// The most entries of an assumption list.
-const MOST_ENTRIES: usize = 4_096;
 
 // Prints the successors of a row's node.
 fn show(rt: &HostRuntime, row: &Row, lines: &Assumptions) -> io::Result<()> {

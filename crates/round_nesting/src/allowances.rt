@@ -3,7 +3,7 @@
 ghost use Rattle.std.specs.Prelude.{◌≡◌, ◌+◌, ◌*◌, ◌^◌, ◌<◌};
 
 use crate::drawing::number;
-use crate::notes::{NotedEntrance, NotedInst, NotedSpot};
+use crate::notes::{NotedEntrance, NotedSpot};
 use indexmap::{IndexMap, IndexSet};
 use mask_states::InstKey;
 use nesting_bound::Composed;
@@ -19,7 +19,7 @@ pub(crate) struct Allowance {
 // Allowances by instance.
 #[derive(Drop)]
 pub(crate) struct Allowances {
-    pub map: IndexMap<NotedInst, Allowance>,
+    pub map: IndexMap<InstKey, Allowance>,
 }
 
 // A number of a list, or 0.
@@ -83,7 +83,7 @@ impl Allowances {
     pub fn over(
         alloc: Global,
         composed: &Composed,
-        others: &IndexSet<NotedInst>,
+        others: &IndexSet<InstKey>,
         entrances: &IndexSet<NotedEntrance>,
         size: u16,
     ) -> Result<Allowances, AllocError> {
@@ -97,7 +97,7 @@ impl Allowances {
     fn grant_all(
         &mut self,
         composed: &Composed,
-        others: &IndexSet<NotedInst>,
+        others: &IndexSet<InstKey>,
         entrances: &IndexSet<NotedEntrance>,
         size: u16,
     ) -> Result<(), AllocError> {
@@ -106,12 +106,9 @@ impl Allowances {
         let base = left / 2;
         let share = base / (number_at(composed.ranks.as_slice(), 0) + 1);
         let room = Room { base, share };
-        let key = InstKey::root();
-        self.map.insert(NotedInst { key }, room.grant(composed, 0))?;
+        self.map.insert(InstKey::root(), room.grant(composed, 0))?;
         for (at, other) in others.as_slice().iter().enumerate() {
-            let key = other.key;
-            self.map
-                .insert(NotedInst { key }, room.grant(composed, at + 1))?;
+            self.map.insert(*other, room.grant(composed, at + 1))?;
         }
         self.leave_all(others, entrances.as_slice())
     }
@@ -119,7 +116,7 @@ impl Allowances {
     // Sets the allowance of each entered instance without nodes to the least that its entrances leave.
     fn leave_all(
         &mut self,
-        others: &IndexSet<NotedInst>,
+        others: &IndexSet<InstKey>,
         entrances: &[NotedEntrance],
     ) -> Result<(), AllocError> {
         for entrance in entrances {
@@ -144,7 +141,7 @@ impl Allowances {
             },
             None => left,
         };
-        self.map.insert(NotedInst { key }, most)?;
+        self.map.insert(key, most)?;
         Ok(())
     }
 
@@ -155,8 +152,7 @@ impl Allowances {
         let key = *entrance.into();
         match (self.of(entrance.from()), self.of(&key)) {
             (Some(from), None) => {
-                self.map
-                    .insert(NotedInst { key }, from.left(entrance.offset()))?;
+                self.map.insert(key, from.left(entrance.offset()))?;
                 Ok(())
             }
             _ => Ok(()),
@@ -167,7 +163,7 @@ impl Allowances {
     fn of(&self, inst: &InstKey) -> Option<Allowance>
         ensures { result ≡ allowed self.now.map.entries inst.now }
     {
-        self.map.get(&NotedInst { key: *inst }).copied()
+        self.map.get(inst).copied()
     }
 
     /// Whether the root's need is at most this many bytes.

@@ -6,7 +6,7 @@ ghost use Rattle.mask_states.specs.Keys.{root_inst};
 ghost use Rattle.round_nesting.specs.Nestings.{Spot};
 ghost use Rattle.round_nesting.specs.Drawn.{number_of, IsDrawn};
 
-use crate::notes::{NotedEntrance, NotedInst, NotedSpot};
+use crate::notes::{NotedEntrance, NotedSpot};
 use avr_model::listed::Listed;
 use indexmap::IndexSet;
 use mask_states::{EdgeKind, InstKey};
@@ -14,7 +14,7 @@ use nesting_bound::{Entered, Graph, GraphInst, Place};
 use std::alloc::{AllocError, Global};
 
 // The number of an instance: 0 for the root, by order for the others, and the number behind all for one without a note.
-pub(crate) fn number(others: &IndexSet<NotedInst>, inst: &InstKey) -> usize
+pub(crate) fn number(others: &IndexSet<InstKey>, inst: &InstKey) -> usize
     ensures is { result ≡ number_of (root_inst ∷ others.now.keys) inst.now }
     ensures within { result ≤ index_set_len others.now + 1 }
 {
@@ -22,7 +22,7 @@ pub(crate) fn number(others: &IndexSet<NotedInst>, inst: &InstKey) -> usize
         return 0;
     }
     let count = others.len();
-    match others.get_index_of(&NotedInst { key: *inst }) {
+    match others.get_index_of(inst) {
         Some(at) => at + 1,
         None => count + 1,
     }
@@ -40,14 +40,14 @@ fn bare(alloc: Global, key: InstKey) -> GraphInst
 }
 
 // The instances of the graph, and one more for all without a number.
-fn instances(alloc: Global, others: &IndexSet<NotedInst>) -> Result<Vec<GraphInst>, AllocError>
+fn instances(alloc: Global, others: &IndexSet<InstKey>) -> Result<Vec<GraphInst>, AllocError>
     requires { index_set_len others.now ≤ 65535 }
     ensures { IfOk result (λ gs. IsDrawn (root_inst ∷ others.now.keys) [] [] gs.items) }
 {
     let mut instances = Vec::new(alloc);
     instances.push(bare(alloc, InstKey::root()))?;
     for other in others.as_slice() {
-        instances.push(bare(alloc, other.key))?;
+        instances.push(bare(alloc, *other))?;
     }
     instances.push(bare(alloc, InstKey::root()))?;
     Ok(instances)
@@ -55,7 +55,7 @@ fn instances(alloc: Global, others: &IndexSet<NotedInst>) -> Result<Vec<GraphIns
 
 // The places of spots. Nodes of an instance are not distinguished.
 fn draw_spots(
-    others: &IndexSet<NotedInst>,
+    others: &IndexSet<InstKey>,
     spots: &[NotedSpot],
     instances: &mut [GraphInst],
 ) -> Result<(), AllocError>
@@ -76,7 +76,7 @@ fn draw_spots(
 
 // The edges of entrances. The kind of an edge does not matter.
 fn draw_entrances(
-    others: &IndexSet<NotedInst>,
+    others: &IndexSet<InstKey>,
     entrances: &[NotedEntrance],
     instances: &mut [GraphInst],
 ) -> Result<(), AllocError>
@@ -100,7 +100,7 @@ fn draw_entrances(
 // The graph of the root and these other instances.
 pub(crate) fn drawn(
     alloc: Global,
-    others: &IndexSet<NotedInst>,
+    others: &IndexSet<InstKey>,
     spots: &[NotedSpot],
     entrances: &[NotedEntrance],
 ) -> Result<Graph, AllocError>

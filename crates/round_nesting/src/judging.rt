@@ -9,7 +9,7 @@ ghost use Rattle.round_nesting.specs.Nestings.{TellsAll};
 
 use crate::allowances::Allowances;
 use crate::drawing::drawn;
-use crate::notes::{NotedEntrance, NotedInst, NotedSpot};
+use crate::notes::{NotedEntrance, NotedSpot};
 use crate::verdict::NestingVerdict;
 use indexmap::IndexSet;
 use mask_states::{InstKey, Kind};
@@ -41,7 +41,7 @@ pub(crate) struct JudgedNesting {
 fn judge_graph(
     alloc: Global,
     graph: &Graph,
-    others: &IndexSet<NotedInst>,
+    others: &IndexSet<InstKey>,
     entrances: &IndexSet<NotedEntrance>,
     size: u16,
 ) -> Result<JudgedNesting, AllocError>
@@ -76,7 +76,7 @@ fn judge_graph(
 // The verdict on a family's notes, in which the root has a node, on a device with this many bytes of SRAM.
 pub(crate) fn judge_noted(
     alloc: Global,
-    others: &IndexSet<NotedInst>,
+    others: &IndexSet<InstKey>,
     spots: &IndexSet<NotedSpot>,
     entrances: &IndexSet<NotedEntrance>,
     size: u16,

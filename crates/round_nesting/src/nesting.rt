@@ -8,7 +8,7 @@ ghost use Rattle.round_nesting.specs.Drawn.{insts_of, AreOthersApart, HasMore};
 
 use crate::allowances::Allowances;
 use crate::judging::judge_noted;
-use crate::notes::{NotedEntrance, NotedInst, NotedSpot};
+use crate::notes::{NotedEntrance, NotedSpot};
 use crate::verdict::NestingVerdict;
 use indexmap::IndexSet;
 use mask_states::{InstKey, NodeKey, SpForm};
@@ -22,7 +22,7 @@ pub struct Nesting {
     covered: bool,
     allowances: Allowances,
     has_root: bool,
-    others: IndexSet<NotedInst>,
+    others: IndexSet<InstKey>,
     spots: IndexSet<NotedSpot>,
     entrances: IndexSet<NotedEntrance>,
 }
@@ -42,7 +42,7 @@ impl Model for Nesting {
 // Notes an instance, if it is new.
 fn keep_inst(
     has_root: &mut bool,
-    others: &mut IndexSet<NotedInst>,
+    others: &mut IndexSet<InstKey>,
     inst: &InstKey,
 ) -> Result<(), AllocError>
     requires apart { AreOthersApart others.old.keys }
@@ -53,7 +53,7 @@ fn keep_inst(
         *has_root = true;
         return Ok(());
     }
-    others.insert(NotedInst { key: *inst })?;
+    others.insert(*inst)?;
     Ok(())
 }
 

@@ -2,54 +2,11 @@
 
 ghost use Rattle.std.specs.Prelude.{◌≡◌, ◌≤◌};
 ghost use Rattle.avr_model.specs.State.{SIZE};
-ghost use Rattle.mask_states.specs.Order.{same_inst};
-ghost use Rattle.mask_states.specs.Total.{inst_equivalence};
-ghost use Rattle.mask_states.specs.Hashes.{inst_hash};
-ghost use Rattle.mask_states.proofs.Hashes.{inst_alike};
 ghost use Rattle.round_nesting.specs.Hashes.{same_spot, spots_equivalence, same_entrance, entrances_equivalence, spot_hash, spot_alike, entrance_hash, entrance_alike};
 
 use mask_states::InstKey;
 use std::hash::{Hash, Hasher};
 use std::marker::Model;
-
-// An instance with a node. Seen as its key.
-#[derive(Drop)]
-pub(crate) struct NotedInst {
-    pub key: InstKey,
-}
-
-impl Model for NotedInst {
-    ghost use Rattle.mask_states.specs.declared.keys.InstKey.{InstKey};
-
-    ghost Value = { InstKey };
-
-    ghost view = { λ x. x.key };
-}
-
-impl PartialEq for NotedInst {
-    ghost eq = { same_inst };
-
-    ghost laws = { inst_equivalence.0 };
-
-    fn eq(&self, other: &NotedInst) -> bool {
-        self.key == other.key
-    }
-}
-
-impl Eq for NotedInst {
-    ghost laws = { inst_equivalence.1 };
-}
-
-impl Hash for NotedInst {
-    ghost hash_input = { inst_hash };
-
-    ghost respects_eq = { inst_alike };
-
-    fn hash<H: Hasher>(&self, state: &mut H) {
-        self.key.entry.hash(state);
-        self.key.masks.bits().hash(state);
-    }
-}
 
 // An instance with a node at this offset, at most 16,384, whose stack pointer is whole.
 #[derive(Drop)]
@@ -112,8 +69,7 @@ impl Hash for NotedSpot {
     ghost respects_eq = { spot_alike };
 
     fn hash<H: Hasher>(&self, state: &mut H) {
-        self.inst.entry.hash(state);
-        self.inst.masks.bits().hash(state);
+        self.inst.hash(state);
         self.offset.hash(state);
     }
 }
@@ -186,10 +142,8 @@ impl Hash for NotedEntrance {
     ghost respects_eq = { entrance_alike };
 
     fn hash<H: Hasher>(&self, state: &mut H) {
-        self.from.entry.hash(state);
-        self.from.masks.bits().hash(state);
-        self.into.entry.hash(state);
-        self.into.masks.bits().hash(state);
+        self.from.hash(state);
+        self.into.hash(state);
         self.offset.hash(state);
     }
 }

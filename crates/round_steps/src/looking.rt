@@ -50,17 +50,12 @@ fn found_at(task: &Task<'_>, key: &NodeKey, state: &AbsState) -> Result<Look, No
     ensures fault { IfErr result (λ e. e ≢ Memory → rows.local task.now.flash.now task.now.assumptions.now key.now state.now ≡ Err e) }
 {
     let part = local(task.alloc, task.flash, task.assumptions, key, state)?;
-    match ways(task, key, part.calls.as_slice()) {
-        Ok(ways) => Ok(Look {
-            key: *key,
-            part,
-            ways,
-        }),
-        Err(_) => {
-            drop(part);
-            Err(NodeFault::Memory)
-        }
-    }
+    let ways = ways(task, key, part.calls.as_slice())?;
+    Ok(Look {
+        key: *key,
+        part,
+        ways,
+    })
 }
 
 // The word of a fault.

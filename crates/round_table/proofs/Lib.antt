@@ -1,5 +1,4 @@
 pub mod Families
-pub mod SameKeys
 pub mod Entries
 pub mod Shared
 pub mod Keys

@@ -1,4 +1,3 @@
-pub mod Hashes
 pub mod Sized
 pub mod Shared
 pub mod Families

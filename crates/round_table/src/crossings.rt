@@ -1,11 +1,8 @@
 //! Crossings by instance: the nodes that enter or leave it.
 
 ghost use Rattle.std.specs.Prelude.{◌≡◌, ◌∷◌, [], IfSome, IfNone, IfOk, OnOk};
-ghost use Rattle.mask_states.specs.Order.{same_inst};
-ghost use Rattle.mask_states.specs.Total.{inst_equivalence};
-ghost use Rattle.mask_states.specs.Hashes.{inst_hash};
-ghost use Rattle.mask_states.proofs.Hashes.{inst_alike};
-ghost use Rattle.round_table.specs.Hashes.{key_hash, first_alike};
+ghost use Rattle.mask_states.specs.Hashes.{node_hash};
+ghost use Rattle.mask_states.specs.Hashes.{first_alike};
 ghost use Rattle.round_table.specs.Crossings.{crossings_at, IsCrossingAdded, AreCrossingsOnce};
 
 use indexmap::{IndexMap, IndexSet};
@@ -29,55 +26,12 @@ pub struct Crossing {
 }
 
 impl Hash for Crossing {
-    ghost hash_input = { λ c. key_hash c.node };
+    ghost hash_input = { λ c. node_hash c.node };
 
     ghost respects_eq = { λ a b. first_alike a.node b.node _ };
 
     fn hash<H: Hasher>(&self, state: &mut H) {
-        self.node.inst.entry.hash(state);
-        self.node.inst.masks.bits().hash(state);
-        self.node.pc.hash(state);
-        self.node.masks.bits().hash(state);
-        self.node.offset().hash(state);
-    }
-}
-
-// An instance, to be hashed. Seen as its key.
-#[derive(Drop)]
-struct HashedInst {
-    key: InstKey,
-}
-
-impl Model for HashedInst {
-    ghost use Rattle.mask_states.specs.declared.keys.InstKey.{InstKey};
-
-    ghost Value = { InstKey };
-
-    ghost view = { λ p. p.key };
-}
-
-impl PartialEq for HashedInst {
-    ghost eq = { same_inst };
-
-    ghost laws = { inst_equivalence.0 };
-
-    fn eq(&self, other: &HashedInst) -> bool {
-        self.key == other.key
-    }
-}
-
-impl Eq for HashedInst {
-    ghost laws = { inst_equivalence.1 };
-}
-
-impl Hash for HashedInst {
-    ghost hash_input = { inst_hash };
-
-    ghost respects_eq = { inst_alike };
-
-    fn hash<H: Hasher>(&self, state: &mut H) {
-        self.key.entry.hash(state);
-        self.key.masks.bits().hash(state);
+        self.node.hash(state);
     }
 }
 
@@ -93,7 +47,7 @@ fn one(alloc: Global, crossing: Crossing) -> Result<IndexSet<Crossing>, AllocErr
 /// Crossings by instance, each once. Seen as the list of instances with their crossings.
 #[derive(Drop)]
 pub struct Crossings {
-    map: IndexMap<HashedInst, IndexSet<Crossing>>,
+    map: IndexMap<InstKey, IndexSet<Crossing>>,
 }
 
 impl Model for Crossings {
@@ -123,15 +77,14 @@ impl Crossings {
     ) -> Result<(), AllocError>
         ensures { OnOk result (IsCrossingAdded self.old inst crossing self.new) }
     {
-        let place = HashedInst { key: inst };
-        match self.map.get_mut(&place) {
+        match self.map.get_mut(&inst) {
             Some(set) => {
                 set.insert(crossing)?;
                 Ok(())
             }
             None => {
                 let set = one(alloc, crossing)?;
-                self.map.insert(place, set)?;
+                self.map.insert(inst, set)?;
                 Ok(())
             }
         }
@@ -143,7 +96,7 @@ impl Crossings {
         ensures none { IfNone result (crossings_at self.now inst.now ≡ []) }
         ensures once { IfSome result (λ list. AreCrossingsOnce list.now) }
     {
-        match self.map.get(&HashedInst { key: *inst }) {
+        match self.map.get(inst) {
             Some(set) => Some(set.as_slice()),
             None => None,
         }

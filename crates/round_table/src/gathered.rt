@@ -6,10 +6,10 @@ ghost use Rattle.std.specs.FinMap.{empty};
 ghost use Rattle.mask_states.specs.Keys.{offset_of};
 ghost use Rattle.round_table.specs.Families.{raised, nodes_of, node_of};
 
-use crate::place::HashedNode;
 use abs_state::AbsState;
 use indexmap::IndexMap;
 use local_rules::Node;
+use mask_states::NodeKey;
 use std::alloc::{AllocError, Global};
 use std::marker::Model;
 
@@ -17,7 +17,7 @@ use std::marker::Model;
 /// from keys. Each state has as many slots as the offset of its key.
 #[derive(Drop)]
 pub struct GatheredStates {
-    map: IndexMap<HashedNode, AbsState>,
+    map: IndexMap<NodeKey, AbsState>,
 }
 
 impl Model for GatheredStates {
@@ -54,14 +54,13 @@ impl GatheredStates {
         requires { length node.state.slots ≡ offset_of node.key.sp }
         ensures { OnOk result (self.new ≡ raised self.old node) }
     {
-        let place = HashedNode { key: node.key };
-        match self.map.get_mut(&place) {
+        match self.map.get_mut(&node.key) {
             Some(state) => {
                 state.join_into(&node.state);
                 Ok(())
             }
             None => {
-                self.map.insert(place, node.state)?;
+                self.map.insert(node.key, node.state)?;
                 Ok(())
             }
         }
@@ -79,12 +78,11 @@ impl GatheredStates {
 }
 
 // The nodes by number.
-fn nodes_in(map: IndexMap<HashedNode, AbsState>, alloc: Global) -> Result<Vec<Node>, AllocError>
+fn nodes_in(map: IndexMap<NodeKey, AbsState>, alloc: Global) -> Result<Vec<Node>, AllocError>
     ensures { IfOk result (λ all. all.items ≡ list_map node_of map.entries) }
 {
     let mut all = Vec::new(alloc);
-    for (place, state) in map {
-        let key = place.key;
+    for (key, state) in map {
         all.push(Node { key, state })?;
     }
     Ok(all)

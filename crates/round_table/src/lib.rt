@@ -3,7 +3,6 @@
 
 pub mod crossings;
 pub mod gathered;
-mod place;
 pub mod table;
 
 pub use crossings::{Crossing, Crossings};

@@ -14,7 +14,6 @@ ghost use Rattle.state_pool.specs.Counts.{state_at, count_at, IsUsedLess};
 ghost use Rattle.round_table.specs.Families.{Lands, raised, nodes_of, node_of};
 ghost use Rattle.round_table.specs.Shared.{stated, AreCounted, IsMoved};
 
-use crate::place::HashedNode;
 use abs_state::AbsState;
 use indexmap::IndexMap;
 use local_rules::Node;
@@ -32,7 +31,7 @@ const MOST: usize = 4_294_967_294;
 #[derive(Drop)]
 pub struct Table {
     // The number of each node's state.
-    map: IndexMap<HashedNode, u32>,
+    map: IndexMap<NodeKey, u32>,
     // The states, each with as many uses as nodes.
     pool: Pool,
 }
@@ -77,7 +76,7 @@ impl Table {
     pub fn get(&self, key: &NodeKey) -> Option<&AbsState>
         ensures { option_copied result ≡ get self.now key.now }
     {
-        match self.map.get(&HashedNode { key: *key }) {
+        match self.map.get(key) {
             Some(number) => Some(self.pool.get(*number)),
             None => None,
         }
@@ -88,7 +87,7 @@ impl Table {
         requires { length node.now.state.slots ≡ offset_of node.now.key.sp }
         ensures { IsTrue result ↔ Lands self.now node.now }
     {
-        match self.map.get(&HashedNode { key: node.key }) {
+        match self.map.get(&node.key) {
             Some(number) => node.state.le(self.pool.get(*number)),
             None => false,
         }
@@ -105,8 +104,7 @@ impl Table {
         if self.map.len() > MOST || self.pool.len() > MOST {
             return Err(AllocError);
         }
-        let place = HashedNode { key: node.key };
-        match self.map.get_mut(&place) {
+        match self.map.get_mut(&node.key) {
             Some(held) => {
                 let (number, grew) = joined(&mut self.pool, alloc, *held, &node.state)?;
                 *held = number;
@@ -116,7 +114,7 @@ impl Table {
                 let Ok(number) = self.pool.intern(node.state) else {
                     return Err(AllocError);
                 };
-                match self.map.insert(place, number) {
+                match self.map.insert(node.key, number) {
                     Ok(_) => Ok(true),
                     Err(_) => {
                         self.pool.release(number);
@@ -188,12 +186,12 @@ fn taken(pool: &mut Pool, alloc: Global, number: u32) -> Result<AbsState, AllocE
 }
 
 // The keys by number.
-fn keys_in(map: &IndexMap<HashedNode, u32>, alloc: Global) -> Result<Vec<NodeKey>, AllocError>
+fn keys_in(map: &IndexMap<NodeKey, u32>, alloc: Global) -> Result<Vec<NodeKey>, AllocError>
     ensures { IfOk result (λ all. all.items ≡ keys_of map.now.entries) }
 {
     let mut all = Vec::with_capacity(alloc, map.len())?;
-    for place in map.keys() {
-        all.push(place.key)?;
+    for key in map.keys() {
+        all.push(*key)?;
     }
     Ok(all)
 }
@@ -201,7 +199,7 @@ fn keys_in(map: &IndexMap<HashedNode, u32>, alloc: Global) -> Result<Vec<NodeKey
 // Appends the nodes of the numbers.
 fn add_nodes(
     all: &mut Vec<Node>,
-    map: IndexMap<HashedNode, u32>,
+    map: IndexMap<NodeKey, u32>,
     pool: &mut Pool,
     alloc: Global,
 ) -> Result<(), AllocError>
@@ -209,8 +207,7 @@ fn add_nodes(
     ensures { OnOk result (all.new.items ≡ all.old.items ++ list_map node_of (stated pool.old map.entries)) }
 {
     all.reserve(map.len())?;
-    for (place, number) in map {
-        let key = place.key;
+    for (key, number) in map {
         let state = taken(pool, alloc, number)?;
         all.push(Node { key, state })?;
     }
@@ -218,11 +215,7 @@ fn add_nodes(
 }
 
 // The nodes by number.
-fn nodes_in(
-    map: IndexMap<HashedNode, u32>,
-    pool: Pool,
-    alloc: Global,
-) -> Result<Vec<Node>, AllocError>
+fn nodes_in(map: IndexMap<NodeKey, u32>, pool: Pool, alloc: Global) -> Result<Vec<Node>, AllocError>
     requires { AreCounted pool map.entries }
     ensures { IfOk result (λ all. all.items ≡ list_map node_of (stated pool map.entries)) }
 {

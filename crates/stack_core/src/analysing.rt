@@ -59,7 +59,7 @@ fn solved(task: &Task<'_>, certificate: Certificate) -> Result<Vec<u8>, AllocErr
     ensures claim { IfOk result (λ v. IsClaim certificate) }
 {
     claims(&certificate);
-    let found = search(task.alloc, task.flash, task.assumptions, &certificate)?;
+    let found = search(task, &certificate)?;
     write(task.alloc, &certificate.with_witness(found))
 }
 

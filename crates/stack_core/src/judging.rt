@@ -69,7 +69,7 @@ fn weighed(
 {
     match judge_family(task, certificate)? {
         Judgement::Accepted(family) => {
-            if is_attained(task.flash, task.assumptions, certificate) {
+            if is_attained(task, certificate) {
                 return Ok(Ok(family));
             }
             drop(family);

@@ -24,7 +24,6 @@ use family_graph::worked_of;
 use flash_image::Flash;
 use local_rules::laws::words_have_16_bits;
 use std::alloc::{AllocError, Global};
-use vector_table::Assumptions;
 
 /// Whether each node of a certificate's family is clear, if there are no assumptions and all conditions hold but that on the schedule. If
 /// one isn't, gives the first such node, counted from 0, and its word address. If each is clear, every run from reset stays within the
@@ -147,25 +146,15 @@ pub fn clear_sites(
 /// under these assumptions, if all conditions hold but that on its schedule. Every run from reset that ends flagged ends at one of them,
 /// or by taking a vector that is assumed never to be taken; without either, no run is flagged. Fails if memory runs out. Each edge is
 /// visited once, and once more for each slot that a condition names. Source: own.
-pub fn flagged_sites(
-    alloc: Global,
-    flash: &Flash,
-    assumptions: &Assumptions,
-    certificate: &Certificate,
-) -> Result<Listed<u16>, AllocError>
-    requires { IsSound flash.now assumptions.now certificate.now }
-    ensures exact { IfOk result (λ sites. AreSites flash.now assumptions.now certificate.now sites) }
-    ensures told { IfOk result (λ sites. (nevers : List ℕ) → AreNevers flash.now assumptions.now certificate.now nevers → EndFlaggedAt flash.now assumptions.now sites nevers) }
-    ensures clear { IfOk result (λ sites. (sites ≡ []) ↔ AreAllClear flash.now assumptions.now certificate.now) }
-    ensures never_flagged { IfOk result (λ sites. sites ≡ [] → AreNevers flash.now assumptions.now certificate.now [] → NeverFlagged flash.now assumptions.now) }
+pub fn flagged_sites(task: &Task<'_>, certificate: &Certificate) -> Result<Listed<u16>, AllocError>
+    requires { IsSound task.now.flash.now task.now.assumptions.now certificate.now }
+    ensures exact { IfOk result (λ sites. AreSites task.now.flash.now task.now.assumptions.now certificate.now sites) }
+    ensures told { IfOk result (λ sites. (nevers : List ℕ) → AreNevers task.now.flash.now task.now.assumptions.now certificate.now nevers → EndFlaggedAt task.now.flash.now task.now.assumptions.now sites nevers) }
+    ensures clear { IfOk result (λ sites. (sites ≡ []) ↔ AreAllClear task.now.flash.now task.now.assumptions.now certificate.now) }
+    ensures never_flagged { IfOk result (λ sites. sites ≡ [] → AreNevers task.now.flash.now task.now.assumptions.now certificate.now [] → NeverFlagged task.now.flash.now task.now.assumptions.now) }
 {
-    let task = Task {
-        alloc,
-        flash,
-        assumptions,
-    };
-    let family = worked_of(&task, certificate)?;
-    let sites = flagged_sites_in(&task, certificate, &family);
+    let family = worked_of(task, certificate)?;
+    let sites = flagged_sites_in(task, certificate, &family);
     drop(family);
     sites
 }
@@ -175,45 +164,28 @@ pub fn flagged_sites(
 /// each. What a run from reset is flagged for is told of the word at which it ends, unless it takes a vector that is assumed never to be
 /// taken. The error is want of memory. Beside what the words cost, each node is looked at once, and twice more if it isn't clear. Source: own.
 pub fn flagged_places(
-    alloc: Global,
-    flash: &Flash,
-    assumptions: &Assumptions,
+    task: &Task<'_>,
     certificate: &Certificate,
 ) -> Result<Listed<FlaggedPlace>, AllocError>
-    requires { IsSound flash.now assumptions.now certificate.now }
-    ensures exact { IfOk result (λ list. ArePlaces flash.now assumptions.now certificate.now list) }
-    ensures told { IfOk result (λ list. (nevers : List ℕ) → AreNevers flash.now assumptions.now certificate.now nevers → EndFlaggedAsTold flash.now assumptions.now list nevers) }
+    requires { IsSound task.now.flash.now task.now.assumptions.now certificate.now }
+    ensures exact { IfOk result (λ list. ArePlaces task.now.flash.now task.now.assumptions.now certificate.now list) }
+    ensures told { IfOk result (λ list. (nevers : List ℕ) → AreNevers task.now.flash.now task.now.assumptions.now certificate.now nevers → EndFlaggedAsTold task.now.flash.now task.now.assumptions.now list nevers) }
     ensures causes { IfOk result (λ list. AllTellCauses list) }
 {
-    let task = Task {
-        alloc,
-        flash,
-        assumptions,
-    };
-    let family = worked_of(&task, certificate)?;
-    let list = flagged_places_in(&task, certificate, &family);
+    let family = worked_of(task, certificate)?;
+    let list = flagged_places_in(task, certificate, &family);
     drop(family);
     list
 }
 
 /// The word addresses of vectors that are assumed never to be taken and that some node of a certificate may take, ascending and without
 /// repeats, if all conditions hold but that on its schedule. Taking such a vector is flagged. Fails if memory runs out. Source: own.
-pub fn never_takes(
-    alloc: Global,
-    flash: &Flash,
-    assumptions: &Assumptions,
-    certificate: &Certificate,
-) -> Result<Listed<u16>, AllocError>
-    requires { IsSound flash.now assumptions.now certificate.now }
-    ensures exact { IfOk result (λ nevers. AreNevers flash.now assumptions.now certificate.now nevers) }
+pub fn never_takes(task: &Task<'_>, certificate: &Certificate) -> Result<Listed<u16>, AllocError>
+    requires { IsSound task.now.flash.now task.now.assumptions.now certificate.now }
+    ensures exact { IfOk result (λ nevers. AreNevers task.now.flash.now task.now.assumptions.now certificate.now nevers) }
 {
-    let task = Task {
-        alloc,
-        flash,
-        assumptions,
-    };
-    let family = worked_of(&task, certificate)?;
-    let nevers = never_takes_in(&task, &family.nodes);
+    let family = worked_of(task, certificate)?;
+    let nevers = never_takes_in(task, &family.nodes);
     drop(family);
     nevers
 }

@@ -14,6 +14,7 @@ use crate::store::Store;
 use abs_state::AbsState;
 use avr_model::instruction::{Base, Instr, LowRegister};
 use bit_domain::TriByte;
+use call_graph::Task;
 use clear_laws::slots::Asks;
 use clear_laws::stores::{Aim, Reach, Span};
 use flash_image::Flash;
@@ -22,7 +23,7 @@ use local_reads::pointers::has;
 use local_rows::registers::{bits, pair};
 use local_rows::transfer::base_register;
 use mask_states::{NodeKey, may_enable_barred};
-use vector_table::{Assumptions, is_core, is_protected};
+use vector_table::{is_core, is_protected};
 
 // Whether this is `ijmp` or `icall`.
 pub(crate) fn is_indirect(instr: &Instr) -> bool
@@ -160,43 +161,31 @@ fn are_targets_listed(flash: &Flash, state: &AbsState, listed: &[u16]) -> bool
 }
 
 // Whether an indirect transfer goes to listed words only.
-fn is_transfer_listed(
-    flash: &Flash,
-    assumptions: &Assumptions,
-    pc: u16,
-    state: &AbsState,
-    instr: &Instr,
-) -> bool
-    ensures { result ≡ is_transfer_listed flash.now assumptions.now pc state.now instr.now }
+fn is_transfer_listed(task: &Task<'_>, pc: u16, state: &AbsState, instr: &Instr) -> bool
+    ensures { result ≡ is_transfer_listed task.now.flash.now task.now.assumptions.now pc state.now instr.now }
 {
     if !is_indirect(instr) {
         return true;
     }
-    match assumptions.jumps(pc) {
+    match task.assumptions.jumps(pc) {
         None => true,
-        Some(listed) => are_targets_listed(flash, state, listed),
+        Some(listed) => are_targets_listed(task.flash, state, listed),
     }
 }
 
 // A node's condition for being clear, if the stack takes at most this many bytes.
-pub(crate) fn asked_by(
-    flash: &Flash,
-    assumptions: &Assumptions,
-    bound: u16,
-    key: &NodeKey,
-    state: &AbsState,
-) -> Asks
-    requires { bound ≤ size_of (device_of flash.now) }
-    ensures { (held : ℕ → Bool) → is_clear_by flash.now assumptions.now bound key.now state.now held (instruction_at flash.now key.now.pc) ≡ meets result held }
+pub(crate) fn asked_by(task: &Task<'_>, bound: u16, key: &NodeKey, state: &AbsState) -> Asks
+    requires { bound ≤ size_of (device_of task.now.flash.now) }
+    ensures { (held : ℕ → Bool) → is_clear_by task.now.flash.now task.now.assumptions.now bound key.now state.now held (instruction_at task.now.flash.now key.now.pc) ≡ meets result held }
 {
-    match flash.instruction(key.pc) {
+    match task.flash.instruction(key.pc) {
         None => Asks::Nothing,
         Some(instr) => {
-            let aim = aim(flash.device(), key, state, &instr);
-            if is_transfer_listed(flash, assumptions, key.pc, state, &instr) {
+            let aim = aim(task.flash.device(), key, state, &instr);
+            if is_transfer_listed(task, key.pc, state, &instr) {
                 let store = Store {
-                    flash,
-                    assumptions,
+                    flash: task.flash,
+                    assumptions: task.assumptions,
                     pc: key.pc,
                     state,
                     instr: &instr,

@@ -40,7 +40,7 @@ fn asked(task: &Task<'_>, bound: u16, nodes: &Filled) -> Result<Vec<Asks>, Alloc
     let mut asks = Vec::new(task.alloc);
     for at in 0..nodes.count() {
         let (key, state) = (nodes.key(at), nodes.state(at));
-        asks.push(asked_by(task.flash, task.assumptions, bound, key, state))?;
+        asks.push(asked_by(task, bound, key, state))?;
     }
     Ok(asks)
 }

@@ -13,7 +13,7 @@ use family_graph::{deepest_chain, entered_by};
 use flash_image::Flash;
 use mask_states::EdgeKind;
 use nesting_bound::Link;
-use std::alloc::{AllocError, Global};
+use std::alloc::AllocError;
 
 // The interrupt by which the chain continues from a place, if it is one.
 fn add_interrupt(
@@ -40,17 +40,12 @@ fn add_interrupt(
 }
 
 // The interrupts of a chain.
-fn interrupts(
-    alloc: Global,
-    flash: &Flash,
-    nodes: &Filled,
-    links: &[Link],
-) -> Result<Vec<Waypoint>, AllocError>
-    ensures { IfOk result (λ points. points.items ≡ interrupts_of flash.now nodes.now links.now) }
+fn interrupts(task: &Task<'_>, nodes: &Filled, links: &[Link]) -> Result<Vec<Waypoint>, AllocError>
+    ensures { IfOk result (λ points. points.items ≡ interrupts_of task.now.flash.now nodes.now links.now) }
 {
-    let mut points = Vec::new(alloc);
+    let mut points = Vec::new(task.alloc);
     for link in links {
-        add_interrupt(flash, nodes, link, &mut points)?;
+        add_interrupt(task.flash, nodes, link, &mut points)?;
     }
     Ok(points)
 }
@@ -69,10 +64,5 @@ pub(crate) fn waypoints(
 {
     let ways = entered_by(task, family)?;
     let deepest = deepest_chain(task, certificate, &family.nodes, &ways)?;
-    interrupts(
-        task.alloc,
-        task.flash,
-        &family.nodes,
-        deepest.links.as_slice(),
-    )
+    interrupts(task, &family.nodes, deepest.links.as_slice())
 }

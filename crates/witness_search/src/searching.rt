@@ -12,9 +12,7 @@ use crate::waypoint::Waypoint;
 use call_graph::Task;
 use certificate::Certificate;
 use family_graph::worked_of;
-use flash_image::Flash;
-use std::alloc::{AllocError, Global};
-use vector_table::Assumptions;
+use std::alloc::AllocError;
 use witness_replay::Schedule;
 
 // The waypoints of a certificate whose conditions hold.
@@ -30,21 +28,11 @@ fn waypoints_of(task: &Task<'_>, certificate: &Certificate) -> Result<Vec<Waypoi
 /// A schedule whose run is as deep as the certificate's bound; all conditions but that on the schedule hold. It is that of the first of
 /// eight trials with this depth; each takes the interrupts of the deepest chain when they are due. None exactly if no trial's depth is
 /// the bound. Source: own.
-pub fn search(
-    alloc: Global,
-    flash: &Flash,
-    assumptions: &Assumptions,
-    certificate: &Certificate,
-) -> Result<Option<Schedule>, AllocError>
-    requires { IsSound flash.now assumptions.now certificate.now }
-    ensures first { IfOk result (λ found. (points : List Waypoint) × AreWaypoints flash.now assumptions.now certificate.now points × IsFound flash.now assumptions.now points certificate.now.bound found) }
-    ensures attained { IfOk result (IsAttained flash.now assumptions.now certificate.now.bound) }
+pub fn search(task: &Task<'_>, certificate: &Certificate) -> Result<Option<Schedule>, AllocError>
+    requires { IsSound task.now.flash.now task.now.assumptions.now certificate.now }
+    ensures first { IfOk result (λ found. (points : List Waypoint) × AreWaypoints task.now.flash.now task.now.assumptions.now certificate.now points × IsFound task.now.flash.now task.now.assumptions.now points certificate.now.bound found) }
+    ensures attained { IfOk result (IsAttained task.now.flash.now task.now.assumptions.now certificate.now.bound) }
 {
-    let task = Task {
-        alloc,
-        flash,
-        assumptions,
-    };
-    let points = waypoints_of(&task, certificate)?;
-    first_trial(alloc, flash, assumptions, &points, certificate.bound())
+    let points = waypoints_of(task, certificate)?;
+    first_trial(task, &points, certificate.bound())
 }

@@ -11,11 +11,9 @@ use crate::waypoint::{Waypoint, is_due};
 use avr_machine::{Choice, Machine, Menu, StepResult};
 use avr_model::listed::Listed;
 use call_graph::Task;
-use flash_image::Flash;
-use std::alloc::{AllocError, Global};
+use std::alloc::AllocError;
 use stimulus::laws::depth_is_kept;
 use trial_runs::most_choices;
-use vector_table::Assumptions;
 use witness_replay::Schedule;
 
 // The next choice of a trial, and the waypoints left after it: the next waypoint's interrupt if it is due, else an instruction with the
@@ -109,23 +107,16 @@ const FILLS: [u8; 8] = [0x00, 0xFF, 0x55, 0xAA, 0x01, 0x80, 0x7F, 0xFE];
 /// The schedule of the first trial whose depth is the bound. None exactly if no trial's depth is. The replay of the schedule ends without
 /// a stop, at the depth of the bound.
 pub fn first_trial(
-    alloc: Global,
-    flash: &Flash,
-    assumptions: &Assumptions,
+    task: &Task<'_>,
     points: &[Waypoint],
     bound: u16,
 ) -> Result<Option<Schedule>, AllocError>
-    ensures first { IfOk result (IsFound flash.now assumptions.now points.now bound) }
-    ensures attained { IfOk result (λ found. IfSome found (Attains flash.now assumptions.now bound)) }
+    ensures first { IfOk result (IsFound task.now.flash.now task.now.assumptions.now points.now bound) }
+    ensures attained { IfOk result (λ found. IfSome found (Attains task.now.flash.now task.now.assumptions.now bound)) }
 {
-    let task = Task {
-        alloc,
-        flash,
-        assumptions,
-    };
     for t in 0..8 {
         let fill = FILLS[t];
-        if let Some(schedule) = try_fill(&task, points, bound, fill)? {
+        if let Some(schedule) = try_fill(task, points, bound, fill)? {
             return Ok(Some(schedule));
         }
     }

@@ -10,6 +10,7 @@ ghost use Rattle.certificate.specs.Valid.{IsSound};
 use super::Worked;
 use super::edges::flash_on;
 use avr_model::device::Device;
+use call_graph::Task;
 use certificate::Certificate;
 use chain_explain::{Explanation, Part, explain};
 use fixpoint::solve;
@@ -96,20 +97,14 @@ fn are_places(places: &[FlaggedPlace], due: &[Flagged]) -> bool {
 }
 
 // Whether its words are flagged as is due.
-fn is_flagged(
-    alloc: Global,
-    flash: &Flash,
-    list: &Assumptions,
-    certificate: &Certificate,
-    row: &Row,
-) -> bool
-    requires { IsSound flash.now list.now certificate.now }
+fn is_flagged(task: &Task<'_>, certificate: &Certificate, row: &Row) -> bool
+    requires { IsSound task.now.flash.now task.now.assumptions.now certificate.now }
 {
-    let sites = match flagged_sites(alloc, flash, list, certificate) {
+    let sites = match flagged_sites(task, certificate) {
         Ok(sites) => are_words(sites.as_slice(), row.flagged),
         Err(_) => false,
     };
-    let places = match flagged_places(alloc, flash, list, certificate) {
+    let places = match flagged_places(task, certificate) {
         Ok(places) => are_places(places.as_slice(), row.flagged),
         Err(_) => false,
     };
@@ -117,16 +112,10 @@ fn is_flagged(
 }
 
 // Whether these vectors may be taken.
-fn is_taken(
-    alloc: Global,
-    flash: &Flash,
-    list: &Assumptions,
-    certificate: &Certificate,
-    row: &Row,
-) -> bool
-    requires { IsSound flash.now list.now certificate.now }
+fn is_taken(task: &Task<'_>, certificate: &Certificate, row: &Row) -> bool
+    requires { IsSound task.now.flash.now task.now.assumptions.now certificate.now }
 {
-    match never_takes(alloc, flash, list, certificate) {
+    match never_takes(task, certificate) {
         Ok(nevers) => nevers.as_slice() == row.nevers,
         Err(_) => false,
     }
@@ -149,16 +138,10 @@ fn is_chain(found: &Explanation, due: &[Link]) -> bool {
 }
 
 // Whether its deepest chain is so, and as deep as the bound.
-fn is_explained(
-    alloc: Global,
-    flash: &Flash,
-    list: &Assumptions,
-    certificate: &Certificate,
-    row: &Row,
-) -> bool
-    requires { IsSound flash.now list.now certificate.now }
+fn is_explained(task: &Task<'_>, certificate: &Certificate, row: &Row) -> bool
+    requires { IsSound task.now.flash.now task.now.assumptions.now certificate.now }
 {
-    match explain(alloc, flash, list, certificate) {
+    match explain(task, certificate) {
         Ok(found) => is_chain(&found, row.chain) && found.least() == certificate.bound(),
         Err(_) => false,
     }
@@ -167,11 +150,16 @@ fn is_explained(
 fn is_under(alloc: Global, flash: &Flash, list: &Assumptions, row: &Row) -> bool
     requires { All (λ e. fits_device (device_of flash.now) e ≡ true) list.now }
 {
+    let task = Task {
+        alloc,
+        flash,
+        assumptions: list,
+    };
     match solve(alloc, flash, list, None) {
         Ok(certificate) => {
-            is_flagged(alloc, flash, list, &certificate, row)
-                && is_taken(alloc, flash, list, &certificate, row)
-                && is_explained(alloc, flash, list, &certificate, row)
+            is_flagged(&task, &certificate, row)
+                && is_taken(&task, &certificate, row)
+                && is_explained(&task, &certificate, row)
         }
         Err(_) => false,
     }

@@ -3,6 +3,7 @@
 use super::Worked;
 use avr_machine::{Masks, Stop};
 use avr_model::device::Device;
+use call_graph::Task;
 use flash_image::Flash;
 use std::alloc::{AllocError, Global};
 use vector_table::Assumptions;
@@ -45,7 +46,7 @@ fn add_words(bytes: &mut Vec<u8>, words: &[u16]) -> Result<(), AllocError> {
 }
 
 // Whether the schedule begins so and has this many steps.
-fn is_due(flash: &Flash, assumptions: &Assumptions, schedule: &Schedule, row: &Row) -> bool {
+fn is_due(task: &Task<'_>, schedule: &Schedule, row: &Row) -> bool {
     let Some((fill, steps)) = row.3 else {
         return false;
     };
@@ -54,10 +55,10 @@ fn is_due(flash: &Flash, assumptions: &Assumptions, schedule: &Schedule, row: &R
         depth: row.2,
         stop: Stop::End,
     };
-    schedule.fill() == fill && replay(flash, assumptions, schedule) == Ok(report)
+    schedule.fill() == fill && replay(task.flash, task.assumptions, schedule) == Ok(report)
 }
 
-fn is_tried(alloc: Global, flash: &Flash, assumptions: &Assumptions, row: &Row) -> bool {
+fn is_tried(task: &Task<'_>, row: &Row) -> bool {
     let points = [Waypoint {
         pc: 7,
         // the enable bit of vector 2
@@ -67,18 +68,23 @@ fn is_tried(alloc: Global, flash: &Flash, assumptions: &Assumptions, row: &Row) 
         vector: 2,
         clears: false,
     }];
-    match first_trial(alloc, flash, assumptions, &points, row.2) {
-        Ok(Some(schedule)) => is_due(flash, assumptions, &schedule, row),
+    match first_trial(task, &points, row.2) {
+        Ok(Some(schedule)) => is_due(task, &schedule, row),
         Ok(None) => row.3.is_none(),
         Err(_) => false,
     }
 }
 
 fn is_on(alloc: Global, bytes: &[u8], row: &Row) -> bool {
-    match Flash::from_raw(alloc, Device::M328, bytes) {
-        Ok(flash) => is_tried(alloc, &flash, &Assumptions::empty(alloc), row),
-        Err(_) => false,
-    }
+    let Ok(flash) = Flash::from_raw(alloc, Device::M328, bytes) else {
+        return false;
+    };
+    let task = Task {
+        alloc,
+        flash: &flash,
+        assumptions: &Assumptions::empty(alloc),
+    };
+    is_tried(&task, row)
 }
 
 impl Worked for Row {

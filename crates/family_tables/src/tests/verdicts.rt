@@ -9,6 +9,7 @@ use super::Worked;
 use super::edges::flash_on;
 use abs_state::AbsState;
 use avr_model::device::Device;
+use call_graph::Task;
 use cert_check::{Reason, Verdict, is_attained, judge};
 use certificate::{Certificate, HeldState, Inst, NodeForm};
 use flash_image::Flash;
@@ -152,8 +153,13 @@ fn verdict_in_numbers(
 ) -> Result<(u8, u32, u32), AllocError>
     requires { certificate.now.device ≡ device_of flash.now }
 {
+    let task = Task {
+        alloc,
+        flash,
+        assumptions,
+    };
     match judge(alloc, flash, assumptions, certificate) {
-        Ok(verdict) if is_attained(flash, assumptions, certificate) => Ok(told(&verdict)),
+        Ok(verdict) if is_attained(&task, certificate) => Ok(told(&verdict)),
         Ok(_) => Ok((8, 0, 0)),
         Err(fault) => Err(fault),
     }

@@ -7,13 +7,13 @@ use Rattle.witness_search.proofs.searching.search.Goals as goal
 pub returns-clause-first : goal.returns-clause-first
 returns-clause-first c =
     IfOk-weaker c.first_trial.result _ _
-    (λ found h. found_as c.args.flash.now c.args.assumptions.now c.args.certificate.now c.in_ok-points.points.items c.deref.result.now c.bound.result found c.in_ok-points.ensures
+    (λ found h. found_as c.args.task.now.flash.now c.args.task.now.assumptions.now c.args.certificate.now c.in_ok-points.points.items c.deref.result.now c.bound.result found c.in_ok-points.ensures
     c.deref.ensures.value c.bound.ensures h)
     c.first_trial.ensures.first
 
 pub returns-clause-attained : goal.returns-clause-attained
 returns-clause-attained c =
     IfOk-weaker c.first_trial.result _ _
-    (λ found h. subst (λ (b : ℕ). IsAttained c.args.flash.now c.args.assumptions.now b found) c.bound.ensures
-    (attained_as c.args.flash.now c.args.assumptions.now c.bound.result found h))
+    (λ found h. subst (λ (b : ℕ). IsAttained c.args.task.now.flash.now c.args.task.now.assumptions.now b found) c.bound.ensures
+    (attained_as c.args.task.now.flash.now c.args.task.now.assumptions.now c.bound.result found h))
     c.first_trial.ensures.attained

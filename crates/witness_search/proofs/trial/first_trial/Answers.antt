@@ -6,18 +6,18 @@ use Rattle.witness_search.proofs.trial.first_trial.Goals as goal
 pub returns-in-Some-clause-first : goal.returns-in-Some-clause-first
 returns-in-Some-clause-first c =
     let fill : ℕ = slice_index_or fills c.loop-t.t 0 in
-    first c.args.flash.now c.args.assumptions.now c.args.points.now c.args.bound (take c.loop-t.t fills) (drop (c.loop-t.t + 1) fills) fill c.in-Some.schedule
+    first c.args.task.now.flash.now c.args.task.now.assumptions.now c.args.points.now c.args.bound (take c.loop-t.t fills) (drop (c.loop-t.t + 1) fills) fill c.in-Some.schedule
     (parted c.loop-t.t c.loop-t-test.true) c.loop-t.invariant
-    (subst (IsTried c.args.flash.now c.args.assumptions.now c.args.points.now c.args.bound fill) c.in-Some.is c.in_ok-schedule.ensures.tried)
+    (subst (IsTried c.args.task.now.flash.now c.args.task.now.assumptions.now c.args.points.now c.args.bound fill) c.in-Some.is c.in_ok-schedule.ensures.tried)
 
 pub loop-t-preserved : goal.loop-t-preserved
 loop-t-preserved c =
     let fill : ℕ = slice_index_or fills c.loop-t.t 0 in
-    subst (NoneSucceeds c.args.flash.now c.args.assumptions.now c.args.points.now c.args.bound) (sym (taken_more c.loop-t.t c.loop-t-test.true))
-    (none_more c.args.flash.now c.args.assumptions.now c.args.points.now c.args.bound (take c.loop-t.t fills) fill c.loop-t.invariant
-    (subst (IsTried c.args.flash.now c.args.assumptions.now c.args.points.now c.args.bound fill) c.in_default.is c.in_ok-schedule.ensures.tried))
+    subst (NoneSucceeds c.args.task.now.flash.now c.args.task.now.assumptions.now c.args.points.now c.args.bound) (sym (taken_more c.loop-t.t c.loop-t-test.true))
+    (none_more c.args.task.now.flash.now c.args.task.now.assumptions.now c.args.points.now c.args.bound (take c.loop-t.t fills) fill c.loop-t.invariant
+    (subst (IsTried c.args.task.now.flash.now c.args.task.now.assumptions.now c.args.points.now c.args.bound fill) c.in_default.is c.in_ok-schedule.ensures.tried))
 
 pub returns-clause-first : goal.returns-clause-first
 returns-clause-first c =
     let end : c.loop-t.t ≡ 8 = omega (arith, c.loop-t-test.false, c.loop-t.auto.t-end) in
-    subst (NoneSucceeds c.args.flash.now c.args.assumptions.now c.args.points.now c.args.bound) (taken_all c.loop-t.t end) c.loop-t.invariant
+    subst (NoneSucceeds c.args.task.now.flash.now c.args.task.now.assumptions.now c.args.points.now c.args.bound) (taken_all c.loop-t.t end) c.loop-t.invariant
