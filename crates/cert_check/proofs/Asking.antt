@@ -350,3 +350,4 @@ module _ (words : Program) (A : List Entry) (c : Claim) (nodes : List Node) (are
   decided device reset clean (Rejected (reason.Node j cause)) h = absurd h
   decided device reset clean (Rejected (reason.Edge j to)) h = absurd h
   decided device reset clean (Rejected (reason.Expansion at)) h = absurd h
+  decided device reset clean (Rejected reason.Device) h = absurd h

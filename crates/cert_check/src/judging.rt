@@ -24,12 +24,10 @@ use crate::weighing::weigh;
 use avr_model::listed::Listed;
 use call_graph::{Expanded, Filled, Landing, Leaving, Task, Worked, exits, expand, root_of};
 use certificate::Certificate;
-use flash_image::Flash;
 use local_rules::Exit;
 use local_rules::laws::words_have_16_bits;
 use mask_states::{InstKey, NodeKey};
-use std::alloc::{AllocError, Global};
-use vector_table::Assumptions;
+use std::alloc::AllocError;
 
 // The result for the expanded nodes.
 #[derive(Drop)]
@@ -139,17 +137,19 @@ fn expanded(task: &Task<'_>, certificate: &Certificate) -> Result<Expanded, Allo
     expand(task, &reading)
 }
 
-/// Judges a certificate, which must be for the firmware's device, under assumptions, by the conditions in order. If all conditions but that
-/// on the schedule hold, the result is its family of at most 65,536 nodes: the expanded nodes, which meet the conditions, and the landings
-/// of their edges. Else it is the first reason, with its least numbers. Fails if memory runs out. Each edge is visited once. The local part
-/// of each node is computed twice, and once more for each node that comes from it. The nodes are copied if exactly one of the list of the
-/// call and the certificate's own has the line `pairs`.
+/// Judges a certificate under assumptions, by the conditions in order. If all conditions but that on the schedule hold, the result is its
+/// family of at most 65,536 nodes: the expanded nodes, which meet the conditions, and the landings of their edges. Else it is the first
+/// reason, with its least numbers; a certificate for another device than the firmware's has no other. Fails if memory runs out. Each edge is
+/// visited once. The local part of each node is computed twice, and once more for each node that comes from it. The nodes are copied if
+/// exactly one of the list of the call and the certificate's own has the line `pairs`.
 pub fn judge_family(task: &Task<'_>, certificate: &Certificate) -> Result<Judgement, AllocError>
-    requires { certificate.now.device ≡ device_of task.now.flash.now }
     ensures exact { IfOk result (λ judgement. IsJudgement task.now.flash.now task.now.assumptions.now certificate.now judgement) }
     ensures few { IfOk result (λ judgement. (family : worked_type.Worked) → judgement ≡ Judgement.Accepted family → length family.nodes ≤ 65536) }
 {
     let _nodes = certificate.nodes();
+    if certificate.device() != task.flash.device() {
+        return Ok(Judgement::Rejected(Reason::Device));
+    }
     match expanded(task, certificate)? {
         Expanded::Missing(at) => Ok(Judgement::Rejected(Reason::Expansion(at))),
         Expanded::Whole(nodes) => judge_nodes(task, certificate, nodes),
@@ -169,30 +169,19 @@ fn verdict_of(certificate: &Certificate, judgement: Judgement) -> Verdict
     }
 }
 
-/// The verdict on a certificate, which must be for the firmware's device, under assumptions. It accepts exactly if all conditions but that
-/// on the schedule hold. Then every run from reset stays within the certificate's bound, and meets neither an undefined word nor a push
-/// outside SRAM. Else the verdict is the first reason, with its least numbers. Fails if memory runs out. Each edge is visited once. The
-/// local part of each node is computed twice, and once more for each node that comes from it. The nodes are copied if exactly one of the
-/// list of the call and the certificate's own has the line `pairs`.
-pub fn judge(
-    alloc: Global,
-    flash: &Flash,
-    assumptions: &Assumptions,
-    certificate: &Certificate,
-) -> Result<Verdict, AllocError>
-    requires { certificate.now.device ≡ device_of flash.now }
-    ensures exact { IfOk result (λ verdict. IsVerdict flash.now assumptions.now certificate.now verdict) }
-    ensures accepted { IfOk result (λ verdict. (b : ℕ) → (verdict ≡ Verdict.Accepted b) ↔ (IsSound flash.now assumptions.now certificate.now × (b ≡ certificate.now.bound))) }
-    ensures bounded { (b : ℕ) → result ≡ Ok (Verdict.Accepted b) → Bounded flash.now assumptions.now b }
-    ensures rejected { IfOk result (λ verdict. (r : reason_type.Reason) → (verdict ≡ Verdict.Rejected r) ↔ IsReason flash.now assumptions.now certificate.now r) }
+/// The verdict on a certificate under assumptions. It accepts exactly if all conditions but that on the schedule hold, the first being that
+/// the certificate is for the firmware's device. Then every run from reset stays within the certificate's bound, and meets neither an
+/// undefined word nor a push outside SRAM. Else the verdict is the first reason, with its least numbers. Fails if memory runs out. Each edge
+/// is visited once. The local part of each node is computed twice, and once more for each node that comes from it. The nodes are copied if
+/// exactly one of the list of the call and the certificate's own has the line `pairs`.
+pub fn judge(task: &Task<'_>, certificate: &Certificate) -> Result<Verdict, AllocError>
+    ensures exact { IfOk result (λ verdict. IsVerdict task.now.flash.now task.now.assumptions.now certificate.now verdict) }
+    ensures accepted { IfOk result (λ verdict. (b : ℕ) → (verdict ≡ Verdict.Accepted b) ↔ (IsSound task.now.flash.now task.now.assumptions.now certificate.now × (b ≡ certificate.now.bound))) }
+    ensures bounded { (b : ℕ) → result ≡ Ok (Verdict.Accepted b) → Bounded task.now.flash.now task.now.assumptions.now b }
+    ensures rejected { IfOk result (λ verdict. (r : reason_type.Reason) → (verdict ≡ Verdict.Rejected r) ↔ IsReason task.now.flash.now task.now.assumptions.now certificate.now r) }
 {
-    words_have_16_bits(flash.words());
+    words_have_16_bits(task.flash.words());
     let _nodes = certificate.nodes();
-    let task = Task {
-        alloc,
-        flash,
-        assumptions,
-    };
-    let judgement = judge_family(&task, certificate)?;
+    let judgement = judge_family(task, certificate)?;
     Ok(verdict_of(certificate, judgement))
 }

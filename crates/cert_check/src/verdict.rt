@@ -6,6 +6,8 @@ use mask_states::NodeKey;
 /// The reason for a refusal. Nodes and instances are numbered from 0 in order.
 #[derive(Clone, Copy)]
 pub enum Reason {
+    /// The certificate is for another device.
+    Device,
     /// The root's node is missing, or its state is not above that at reset.
     Root,
     /// The first node with a fault, and its cause (1, 4, 5, 6 or 8).

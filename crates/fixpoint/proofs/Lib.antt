@@ -13,3 +13,4 @@ pub mod Places
 pub mod Led
 pub mod Formed
 pub mod Certificates
+pub mod Fitting

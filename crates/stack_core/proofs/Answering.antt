@@ -143,6 +143,7 @@ simulate_apart words A steps (Err fault) s t h = refuses_apart exit.BadDevices d
 simulate_apart words A steps (Ok setup) s t h = at exit.Done s done_plain h.0
 
 why_not_plain : (r : Refusal) → IsReplyPlain (why_not_status r)
+why_not_plain (refusal.Misfit at) = refused_plain
 why_not_plain (refusal.Node x) = refused_plain
 why_not_plain (refusal.Recursion pc) = refused_plain
 why_not_plain (refusal.ReEntry v pc) = refused_plain

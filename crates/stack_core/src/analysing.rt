@@ -1,9 +1,6 @@
 //! Certificates that the program makes, for `analyse` and `demo`.
 
-ghost use Rattle.std.specs.Prelude.{◌≡◌, IfOk, None, true};
-ghost use Rattle.std.specs.List.{All};
-ghost use Rattle.avr_model.specs.Devices.{device_of};
-ghost use Rattle.vector_table.specs.Entries.{fits_device};
+ghost use Rattle.std.specs.Prelude.{◌≡◌, IfOk, None};
 ghost use Rattle.certificate.specs.Claims.{IsClaim};
 ghost use Rattle.certificate.specs.Valid.{IsSound};
 ghost use Rattle.replies.specs.Texts.{why_not_status, why_not_text, demo_text};
@@ -63,12 +60,11 @@ fn solved(task: &Task<'_>, certificate: Certificate) -> Result<Vec<u8>, AllocErr
     write(task.alloc, &certificate.with_witness(found))
 }
 
-/// The answer to an analysis under assumptions that fit the device. `steps` limits the number of rounds.
+/// The answer to an analysis. `steps` limits the number of rounds.
 pub fn analyse(task: &Task<'_>, steps: Option<u64>) -> Result<Reply, AllocError>
-    requires { All (λ e. fits_device (device_of task.now.flash.now) e ≡ true) task.now.assumptions.now }
     ensures { IfOk result (λ r. AnalyseReply task.now.flash.now task.now.assumptions.now steps r.status r.text.items) }
 {
-    match solve(task.alloc, task.flash, task.assumptions, steps) {
+    match solve(task, steps) {
         Ok(certificate) => Ok(Reply {
             status: Status::Done,
             text: solved(task, certificate)?,
@@ -84,7 +80,7 @@ fn measured(task: &Task<'_>, size: u32, certificate: &Certificate) -> Result<Rep
     ensures claim { IfOk result (λ r. IsClaim certificate.now) }
 {
     let _nodes = certificate.nodes();
-    match judge(task.alloc, task.flash, task.assumptions, certificate)? {
+    match judge(task, certificate)? {
         Verdict::Accepted(_) => Ok(Reply {
             status: Status::Done,
             text: causes::demo_text(task.alloc, size, certificate)?,
@@ -107,7 +103,7 @@ pub fn demo(alloc: Global, size: &Size) -> Result<Reply, AllocError>
         flash: &flash,
         assumptions: &assumptions,
     };
-    match solve(alloc, &flash, &assumptions, None) {
+    match solve(&task, None) {
         Ok(certificate) => measured(&task, size.get(), &certificate),
         Err(refusal) => why_not(alloc, &flash, &refusal),
     }

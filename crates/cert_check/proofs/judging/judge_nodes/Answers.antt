@@ -16,5 +16,5 @@ returns-in-Ok-Refused c =
     let words = c.args.task.now.flash.now in
     let A = c.args.task.now.assumptions.now in
     let claim = c.args.certificate.now in
-    refused words A claim c.args.nodes c.in-Ok-Refused.reason c.requires.filled
+    refused words A claim c.args.nodes c.in-Ok-Refused.reason c.requires.device c.requires.filled
     (subst (SettlesClaim words A claim c.args.nodes) c.in-Ok-Refused.field-0-is c.in-Ok-Refused.ensures)

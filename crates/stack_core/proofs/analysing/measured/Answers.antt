@@ -6,6 +6,3 @@ pub returns-in_ok-rejected-in-Rejected-clause-reply : goal.returns-in_ok-rejecte
 returns-in_ok-rejected-in-Rejected-clause-reply c =
     let wrong : Rejected c.in-Rejected.reason ≡ Accepted c.args.certificate.now.bound = sym c.in-Rejected.is ∙ (c.in_ok-judge.ensures.accepted c.args.certificate.now.bound).1 (c.requires, refl) in
     absurd (cc)
-
-pub judge-requires : goal.judge-requires
-judge-requires c = c.requires.meets.device
