@@ -13,4 +13,3 @@ pub mod Places
 pub mod Led
 pub mod Formed
 pub mod Certificates
-pub mod Fitting
