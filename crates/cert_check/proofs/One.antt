@@ -35,10 +35,8 @@ use Rattle.certificate.specs.Valid.{AreRanked, Suffices, NeedsSuffice, MeetsCond
 use Rattle.certificate.proofs.AllLaws.{conditions_make_families_sound, claims_are_seeds}
 use Rattle.cert_check.specs.declared.verdict.Reason.{Reason}
 use Rattle.cert_check.specs.declared.verdict.Reason.TheVariants as reason
-use Rattle.cert_check.specs.declared.verdict.Verdict.{Verdict}
-use Rattle.cert_check.specs.declared.verdict.Verdict.TheVariants.{Accepted, Rejected}
 use Rattle.cert_check.specs.declared.verdict.Judgement.{Judgement}
-use Rattle.cert_check.specs.declared.verdict.Judgement.TheVariants as judgement
+use Rattle.cert_check.specs.declared.verdict.Judgement.TheVariants.{Accepted, Rejected}
 use Rattle.cert_check.specs.Reading.{read_seeds, IsOpen}
 use Rattle.cert_check.specs.Verdict.{AllLanded, InstEnters, IsFirstFaultOfCause, IsFirstGap, IsFirstRank, IsFirstNeed, HasReset, IsLeastReason, IsRejected, IsReason, IsVerdict, IsFamilyOf, IsJudgement}
 use Rattle.cert_check.specs.Laws.{VerdictsAreOne, SoundCertificatesBoundEveryRun}
@@ -114,54 +112,57 @@ module _ (words : Program) (A : List Entry) (c : Claim) (claim : IsClaim c) (nod
   fault_before : (i j a b : ℕ) → IsFirstFaultOfCause words A nodes i a → IsFirstFaultOfCause words A nodes j b → i < j → ⊥
   fault_before i j a b g h lt = fault_counts words A g.node g.fault g.has (h.earlier i g.node g.is lt)
 
-  one_fault : (i j a b : ℕ) → IsFirstFaultOfCause words A nodes i a → IsFirstFaultOfCause words A nodes j b → Rejected (reason.Node i a) ≡ Rejected (reason.Node j b)
+  one_fault : (i j a b : ℕ) → IsFirstFaultOfCause words A nodes i a → IsFirstFaultOfCause words A nodes j b → reason.Node i a ≡ reason.Node j b
   one_fault i j a b g h =
       let same : i ≡ j = same_if_neither i j (fault_before i j a b g h) (fault_before j i b a h g) in
       let node : g.node ≡ h.node = one_at nodes j g.node h.node (subst (λ k. slice_get nodes k ≡ Some g.node) same g.is) h.is in
       let fault : g.fault ≡ h.fault = err_same (local words A h.node.key h.node.state) g.fault h.fault (subst (λ (n : Node). local words A n.key n.state ≡ Err g.fault) node g.has) h.has in
       let cause : a ≡ b = sym g.which ∙ (ap cause_of fault ∙ h.which) in
-      ap (λ k. Rejected (reason.Node k a)) same ∙ ap (λ k. Rejected (reason.Node j k)) cause
+      ap (λ k. reason.Node k a) same ∙ ap (λ k. reason.Node j k) cause
 
   gap_before : (i j : ℕ) (k l : NodeKey) → IsFirstGap words A c.nodes nodes i k → IsFirstGap words A c.nodes nodes j l → i < j → ⊥
   gap_before i j k l g h lt = g.gap (h.earlier i g.node g.edge g.is lt g.from)
 
-  one_gap : (i j : ℕ) (k l : NodeKey) → IsFirstGap words A c.nodes nodes i k → IsFirstGap words A c.nodes nodes j l → Rejected (reason.Edge i k) ≡ Rejected (reason.Edge j l)
+  one_gap : (i j : ℕ) (k l : NodeKey) → IsFirstGap words A c.nodes nodes i k → IsFirstGap words A c.nodes nodes j l → reason.Edge i k ≡ reason.Edge j l
   one_gap i j k l g h =
       let same : i ≡ j = same_if_neither i j (gap_before i j k l g h) (gap_before j i l k h g) in
       let node : g.node ≡ h.node = one_at nodes j g.node h.node (subst (λ m. slice_get nodes m ≡ Some g.node) same g.is) h.is in
       let key : k ≡ l = key_antisymmetric k l
       (λ e. g.least h.edge (subst (λ n. IsEdge words A nodes n h.edge) (sym node) h.from) h.gap (ap (λ z. node_cmp k z) h.leads ∙ e))
       (λ e. h.least g.edge (subst (λ n. IsEdge words A nodes n g.edge) node g.from) g.gap (ap (λ z. node_cmp l z) g.leads ∙ e)) in
-      ap (λ m. Rejected (reason.Edge m k)) same ∙ ap (λ m. Rejected (reason.Edge j m)) key
+      ap (λ m. reason.Edge m k) same ∙ ap (λ m. reason.Edge j m) key
 
   rank_before : (i j k l : ℕ) → IsFirstRank words A c nodes i k → IsFirstRank words A c nodes j l → i < j → ⊥
   rank_before i j k l g h lt = let up = h.earlier i k g.from g.into g.is g.there lt g.enters in omega (arith, up, g.low)
 
-  one_rank : (i j k l : ℕ) → IsFirstRank words A c nodes i k → IsFirstRank words A c nodes j l → Rejected (reason.Rank i k) ≡ Rejected (reason.Rank j l)
+  one_rank : (i j k l : ℕ) → IsFirstRank words A c nodes i k → IsFirstRank words A c nodes j l → reason.Rank i k ≡ reason.Rank j l
   one_rank i j k l g h =
       let same : i ≡ j = same_if_neither i j (rank_before i j k l g h) (rank_before j i l k h g) in
       let from : g.from ≡ h.from = one_at c.instances j g.from h.from (subst (λ m. slice_get c.instances m ≡ Some g.from) same g.is) h.is in
       let up = g.least l h.into h.there (subst (λ x. InstEnters words A nodes x h.into) (sym from) h.enters) (subst (λ (x : Inst). x.rank ≤ h.into.rank) (sym from) h.low) in
       let down = h.least k g.into g.there (subst (λ x. InstEnters words A nodes x g.into) from g.enters) (subst (λ (x : Inst). x.rank ≤ g.into.rank) from g.low) in
       let into : k ≡ l = omega (arith, up, down) in
-      ap (λ m. Rejected (reason.Rank m k)) same ∙ ap (λ m. Rejected (reason.Rank j m)) into
+      ap (λ m. reason.Rank m k) same ∙ ap (λ m. reason.Rank j m) into
 
   need_before : (i j k l : ℕ) → IsFirstNeed words A c nodes i k → IsFirstNeed words A c nodes j l → i < j → ⊥
   need_before i j k l g h lt = let le = g.least g.inst.need (h.earlier i g.inst g.is lt) in omega (arith, le, g.low)
 
-  one_need : (i j k l : ℕ) → IsFirstNeed words A c nodes i k → IsFirstNeed words A c nodes j l → Rejected (reason.Need i k) ≡ Rejected (reason.Need j l)
+  one_need : (i j k l : ℕ) → IsFirstNeed words A c nodes i k → IsFirstNeed words A c nodes j l → reason.Need i k ≡ reason.Need j l
   one_need i j k l g h =
       let same : i ≡ j = same_if_neither i j (need_before i j k l g h) (need_before j i l k h g) in
       let inst : g.inst ≡ h.inst = one_at c.instances j g.inst h.inst (subst (λ m. slice_get c.instances m ≡ Some g.inst) same g.is) h.is in
       let up = g.least l (subst (λ (x : Inst). Suffices words A c nodes x.key l) (sym inst) h.enough) in
       let down = h.least k (subst (λ (x : Inst). Suffices words A c nodes x.key k) inst g.enough) in
       let need : k ≡ l = omega (arith, up, down) in
-      ap (λ m. Rejected (reason.Need m k)) same ∙ ap (λ m. Rejected (reason.Need j m)) need
+      ap (λ m. reason.Need m k) same ∙ ap (λ m. reason.Need j m) need
 
-  one_bound : (a b : ℕ) → a ≡ need_in c.instances root_inst → b ≡ need_in c.instances root_inst → Rejected (reason.Bound a) ≡ Rejected (reason.Bound b)
-  one_bound a b e f = ap (λ m. Rejected (reason.Bound m)) (e ∙ sym f)
+  one_bound : (a b : ℕ) → a ≡ need_in c.instances root_inst → b ≡ need_in c.instances root_inst → reason.Bound a ≡ reason.Bound b
+  one_bound a b e f = ap (λ m. reason.Bound m) (e ∙ sym f)
 
-  pub one_decided : (v w : Verdict) → Decides words A c nodes v → Decides words A c nodes w → v ≡ w
+  alike : (r s : Reason) → r ≡ s → ◌≡◌ {A = Judgement ℕ} (Rejected r) (Rejected s)
+  alike r s e = λ i. Rejected (e i)
+
+  pub one_decided : (v w : Judgement ℕ) → Decides words A c nodes v → Decides words A c nodes w → v ≡ w
   one_decided (Rejected reason.Root) (Rejected reason.Root) a b = refl
   one_decided (Rejected reason.Root) (Rejected (reason.Node j' cause')) a b = absurd (a b.0)
   one_decided (Rejected reason.Root) (Rejected (reason.Edge j' to')) a b = absurd (a b.0)
@@ -173,7 +174,7 @@ module _ (words : Program) (A : List Entry) (c : Claim) (claim : IsClaim c) (nod
   one_decided (Rejected reason.Root) (Rejected (reason.Expansion at')) a b = absurd b
   one_decided (Rejected reason.Root) (Rejected reason.Device) a b = absurd b
   one_decided (Rejected (reason.Node j cause)) (Rejected reason.Root) a b = absurd (b a.0)
-  one_decided (Rejected (reason.Node j cause)) (Rejected (reason.Node j' cause')) a b = one_fault j j' cause cause' a.1 b.1
+  one_decided (Rejected (reason.Node j cause)) (Rejected (reason.Node j' cause')) a b = alike (reason.Node j cause) (reason.Node j' cause') (one_fault j j' cause cause' a.1 b.1)
   one_decided (Rejected (reason.Node j cause)) (Rejected (reason.Edge j' to')) a b = absurd (not_clean j cause a.1 b.1)
   one_decided (Rejected (reason.Node j cause)) (Rejected (reason.Rank j' l')) a b = absurd (not_clean j cause a.1 b.1)
   one_decided (Rejected (reason.Node j cause)) (Rejected (reason.Need j' need')) a b = absurd (not_clean j cause a.1 b.1)
@@ -184,7 +185,7 @@ module _ (words : Program) (A : List Entry) (c : Claim) (claim : IsClaim c) (nod
   one_decided (Rejected (reason.Node j cause)) (Rejected reason.Device) a b = absurd b
   one_decided (Rejected (reason.Edge j to)) (Rejected reason.Root) a b = absurd (b a.0)
   one_decided (Rejected (reason.Edge j to)) (Rejected (reason.Node j' cause')) a b = absurd (not_clean j' cause' b.1 a.1)
-  one_decided (Rejected (reason.Edge j to)) (Rejected (reason.Edge j' to')) a b = one_gap j j' to to' a.2 b.2
+  one_decided (Rejected (reason.Edge j to)) (Rejected (reason.Edge j' to')) a b = alike (reason.Edge j to) (reason.Edge j' to') (one_gap j j' to to' a.2 b.2)
   one_decided (Rejected (reason.Edge j to)) (Rejected (reason.Rank j' l')) a b = absurd (not_landed j to a.2 b.2)
   one_decided (Rejected (reason.Edge j to)) (Rejected (reason.Need j' need')) a b = absurd (not_landed j to a.2 b.2)
   one_decided (Rejected (reason.Edge j to)) (Rejected (reason.Bound need')) a b = absurd (not_landed j to a.2 b.2)
@@ -195,7 +196,7 @@ module _ (words : Program) (A : List Entry) (c : Claim) (claim : IsClaim c) (nod
   one_decided (Rejected (reason.Rank j l)) (Rejected reason.Root) a b = absurd (b a.0)
   one_decided (Rejected (reason.Rank j l)) (Rejected (reason.Node j' cause')) a b = absurd (not_clean j' cause' b.1 a.1)
   one_decided (Rejected (reason.Rank j l)) (Rejected (reason.Edge j' to')) a b = absurd (not_landed j' to' b.2 a.2)
-  one_decided (Rejected (reason.Rank j l)) (Rejected (reason.Rank j' l')) a b = one_rank j j' l l' a.3 b.3
+  one_decided (Rejected (reason.Rank j l)) (Rejected (reason.Rank j' l')) a b = alike (reason.Rank j l) (reason.Rank j' l') (one_rank j j' l l' a.3 b.3)
   one_decided (Rejected (reason.Rank j l)) (Rejected (reason.Need j' need')) a b = absurd (not_ranked j l a.3 b.3)
   one_decided (Rejected (reason.Rank j l)) (Rejected (reason.Bound need')) a b = absurd (not_ranked j l a.3 b.3)
   one_decided (Rejected (reason.Rank j l)) (Rejected reason.Assumptions) a b = absurd (not_ranked j l a.3 b.3)
@@ -206,7 +207,7 @@ module _ (words : Program) (A : List Entry) (c : Claim) (claim : IsClaim c) (nod
   one_decided (Rejected (reason.Need j need)) (Rejected (reason.Node j' cause')) a b = absurd (not_clean j' cause' b.1 a.1)
   one_decided (Rejected (reason.Need j need)) (Rejected (reason.Edge j' to')) a b = absurd (not_landed j' to' b.2 a.2)
   one_decided (Rejected (reason.Need j need)) (Rejected (reason.Rank j' l')) a b = absurd (not_ranked j' l' b.3 a.3)
-  one_decided (Rejected (reason.Need j need)) (Rejected (reason.Need j' need')) a b = one_need j j' need need' a.4 b.4
+  one_decided (Rejected (reason.Need j need)) (Rejected (reason.Need j' need')) a b = alike (reason.Need j need) (reason.Need j' need') (one_need j j' need need' a.4 b.4)
   one_decided (Rejected (reason.Need j need)) (Rejected (reason.Bound need')) a b = absurd (not_enough j need a.4 b.4)
   one_decided (Rejected (reason.Need j need)) (Rejected reason.Assumptions) a b = absurd (not_enough j need a.4 b.4)
   one_decided (Rejected (reason.Need j need)) (Accepted bound') a b = absurd (not_enough j need a.4 b.0.needs)
@@ -217,7 +218,7 @@ module _ (words : Program) (A : List Entry) (c : Claim) (claim : IsClaim c) (nod
   one_decided (Rejected (reason.Bound need)) (Rejected (reason.Edge j' to')) a b = absurd (not_landed j' to' b.2 a.2)
   one_decided (Rejected (reason.Bound need)) (Rejected (reason.Rank j' l')) a b = absurd (not_ranked j' l' b.3 a.3)
   one_decided (Rejected (reason.Bound need)) (Rejected (reason.Need j' need')) a b = absurd (not_enough j' need' b.4 a.4)
-  one_decided (Rejected (reason.Bound need)) (Rejected (reason.Bound need')) a b = one_bound need need' a.5 b.5
+  one_decided (Rejected (reason.Bound need)) (Rejected (reason.Bound need')) a b = alike (reason.Bound need) (reason.Bound need') (one_bound need need' a.5 b.5)
   one_decided (Rejected (reason.Bound need)) (Rejected reason.Assumptions) a b = absurd (a.6 b.5)
   one_decided (Rejected (reason.Bound need)) (Accepted bound') a b = absurd (a.6 b.0.bounded)
   one_decided (Rejected (reason.Bound need)) (Rejected (reason.Expansion at')) a b = absurd b
@@ -248,20 +249,20 @@ module _ (words : Program) (A : List Entry) (c : Claim) (claim : IsClaim c) (nod
 -- ---- the whole
 
 -- a verdict on the expanded nodes
-pub record IsOnNodes (words : Program) (A : List Entry) (c : Claim) (v : Verdict) : Type 0 where
+pub record IsOnNodes (words : Program) (A : List Entry) (c : Claim) (v : Judgement ℕ) : Type 0 where
   pub nodes : List Node
   pub filled : IsFilled words A (read_seeds (has_pairs A) c.nodes) nodes
   pub decides : Decides words A c nodes v
 
-abbrev pub IsOnMissing : Program → List Entry → Claim → Verdict → Type 0
+abbrev pub IsOnMissing : Program → List Entry → Claim → Judgement ℕ → Type 0
 IsOnMissing words A c v = (at : ℕ) × ((v ≡ Rejected (reason.Expansion at)) × IsMissing words A (read_seeds (has_pairs A) c.nodes) at)
 
 -- the certificate is for another device
-abbrev pub IsOnOther : Program → List Entry → Claim → Verdict → Type 0
+abbrev pub IsOnOther : Program → List Entry → Claim → Judgement ℕ → Type 0
 IsOnOther words A c v = (v ≡ Rejected reason.Device) × (c.device ≢ device_of words)
 
 -- the certificate is for the device, and either a node has no expansion, or the verdict is on the expanded nodes
-abbrev pub IsOnOwn : Program → List Entry → Claim → Verdict → Type 0
+abbrev pub IsOnOwn : Program → List Entry → Claim → Judgement ℕ → Type 0
 IsOnOwn words A c v = (c.device ≡ device_of words) × (IsOnMissing words A c v ⊎ IsOnNodes words A c v)
 
 on_rejected : (words : Program) (A : List Entry) (c : Claim) (r : Reason) → IsRejected words A c r → IsOnOther words A c (Rejected r) ⊎ IsOnOwn words A c (Rejected r)
@@ -271,7 +272,7 @@ on_rejected words A c r h = inr (h.device, inr (record { nodes = h.nodes; filled
 as_own : (A : List Entry) (c : Claim) → IsClaim c → c.assumptions ≡ A → read_seeds (has_pairs A) c.nodes ≡ c.nodes
 as_own A c claim same = ap (λ B. read_seeds (has_pairs B) c.nodes) (sym same) ∙ own_is_read c claim
 
-pub split : (words : Program) (A : List Entry) (c : Claim) (v : Verdict) → IsClaim c → IsVerdict words A c v → IsOnOther words A c v ⊎ IsOnOwn words A c v
+pub split : (words : Program) (A : List Entry) (c : Claim) (v : Judgement ℕ) → IsClaim c → IsVerdict words A c v → IsOnOther words A c v ⊎ IsOnOwn words A c v
 split words A c (Accepted bound) claim h = inr (
   h.0.meets.device,
   inr (record {
@@ -307,14 +308,14 @@ pub family_is : (words : Program) (A : List Entry) (c : Claim) (family : Worked)
 family_is words A c family claim f h =
     record { filled = subst (λ (own : Seeds). IsFilled words A own family.nodes) (as_own A c claim h.0.assumptions) f; meets = h.0; landings = h.1 }
 
-pub few_in : (words : Program) (A : List Entry) (c : Claim) (j : Judgement) → IsClaim c → IsJudgement words A c j → (family : Worked) → j ≡ judgement.Accepted family
+pub few_in : (words : Program) (A : List Entry) (c : Claim) (j : Judgement Worked) → IsClaim c → IsJudgement words A c j → (family : Worked) → j ≡ Accepted family
     → length family.nodes ≤ 65536
 few_in words A c j claim h family e =
     let f : IsFamilyOf words A c family = subst (IsJudgement words A c) e h in
     omega (arith, f.filled.count, (claims_are_seeds c claim).few)
 
 -- two verdicts on a certificate for the device
-one_own : (words : Program) (A : List Entry) (c : Claim) (v w : Verdict) → IsClaim c → IsOnMissing words A c v ⊎ IsOnNodes words A c v → IsOnMissing words A c w ⊎ IsOnNodes words A c w
+one_own : (words : Program) (A : List Entry) (c : Claim) (v w : Judgement ℕ) → IsClaim c → IsOnMissing words A c v ⊎ IsOnNodes words A c v → IsOnMissing words A c w ⊎ IsOnNodes words A c w
     → v ≡ w
 one_own words A c v w claim a b =
     ⊎_elim
@@ -327,7 +328,7 @@ one_own words A c v w claim a b =
     (subst (λ nodes. Decides words A c nodes w) (filled_or_missing.one words A (read_seeds (has_pairs A) c.nodes) g.nodes f.nodes g.filled f.filled) g.decides)) b)
     a
 
-one_split : (words : Program) (A : List Entry) (c : Claim) (v w : Verdict) → IsClaim c → IsOnOther words A c v ⊎ IsOnOwn words A c v → IsOnOther words A c w ⊎ IsOnOwn words A c w → v ≡ w
+one_split : (words : Program) (A : List Entry) (c : Claim) (v w : Judgement ℕ) → IsClaim c → IsOnOther words A c v ⊎ IsOnOwn words A c v → IsOnOther words A c w ⊎ IsOnOwn words A c w → v ≡ w
 one_split words A c v w claim (inl a) (inl b) = a.0 ∙ sym b.0
 one_split words A c v w claim (inl a) (inr b) = absurd (a.1 b.0)
 one_split words A c v w claim (inr a) (inl b) = absurd (b.1 a.0)
@@ -342,21 +343,21 @@ sound_certificates_bound_every_run words A c have claim sound =
 
 -- ---- what an exact verdict says
 
-pub accepts : (words : Program) (A : List Entry) (c : Claim) (v : Verdict) → IsClaim c → IsVerdict words A c v → (b : ℕ)
+pub accepts : (words : Program) (A : List Entry) (c : Claim) (v : Judgement ℕ) → IsClaim c → IsVerdict words A c v → (b : ℕ)
     → (v ≡ Accepted b) ↔ (IsSound words A c × (b ≡ c.bound))
 accepts words A c v claim h b = (
   λ e. subst (IsVerdict words A c) e h,
   λ s. verdicts_are_one words A c v (Accepted b) claim h s,
 )
 
-pub rejects : (words : Program) (A : List Entry) (c : Claim) (v : Verdict) → IsClaim c → IsVerdict words A c v → (r : Reason)
+pub rejects : (words : Program) (A : List Entry) (c : Claim) (v : Judgement ℕ) → IsClaim c → IsVerdict words A c v → (r : Reason)
     → (v ≡ Rejected r) ↔ IsReason words A c r
 rejects words A c v claim h r = (
   λ e. subst (IsVerdict words A c) e h,
   λ s. verdicts_are_one words A c v (Rejected r) claim h s,
 )
 
-pub bounds : (words : Program) (A : List Entry) (c : Claim) (v : Verdict) (b : ℕ) → AreWords words → IsClaim c → IsVerdict words A c v → v ≡ Accepted b
+pub bounds : (words : Program) (A : List Entry) (c : Claim) (v : Judgement ℕ) (b : ℕ) → AreWords words → IsClaim c → IsVerdict words A c v → v ≡ Accepted b
     → Bounded words A b
 bounds words A c v b have claim h e =
     let s = (accepts words A c v claim h b).0 e in

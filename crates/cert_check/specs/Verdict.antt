@@ -25,10 +25,8 @@ use Rattle.certificate.specs.Claims.{Claim}
 use Rattle.certificate.specs.Valid.{reset_node, AreRanked, Suffices, NeedsSuffice, IsBounded, MeetsConditions, IsSound}
 use Rattle.cert_check.specs.declared.verdict.Reason.{Reason}
 use Rattle.cert_check.specs.declared.verdict.Reason.TheVariants as reason
-use Rattle.cert_check.specs.declared.verdict.Verdict.{Verdict}
-use Rattle.cert_check.specs.declared.verdict.Verdict.TheVariants.{Accepted, Rejected}
 use Rattle.cert_check.specs.declared.verdict.Judgement.{Judgement}
-use Rattle.cert_check.specs.declared.verdict.Judgement.TheVariants as judgement
+use Rattle.cert_check.specs.declared.verdict.Judgement.TheVariants.{Accepted, Rejected}
 use Rattle.cert_check.specs.Reading.{read_seeds, LandsOpen}
 
 -- node j has a fault of this cause, and no earlier node has one
@@ -126,7 +124,7 @@ IsReason words A c (reason.Expansion at) = (c.device ≡ device_of words) × IsM
 IsReason words A c r = IsRejected words A c r
 
 -- The verdict: acceptance with the bound if all conditions but that on the schedule hold, else the reason.
-abbrev pub IsVerdict : Program → List Entry → Claim → Verdict → Type 0
+abbrev pub IsVerdict : Program → List Entry → Claim → Judgement ℕ → Type 0
 IsVerdict words A c (Accepted bound) = IsSound words A c × (bound ≡ c.bound)
 IsVerdict words A c (Rejected r) = IsReason words A c r
 
@@ -139,6 +137,6 @@ pub record IsFamilyOf (words : Program) (A : List Entry) (c : Claim) (family : W
   pub landings : AreLandings words A family.nodes family.landings
 
 -- The judgement: the family if all conditions but that on the schedule hold, else the reason.
-abbrev pub IsJudgement : Program → List Entry → Claim → Judgement → Type 0
-IsJudgement words A c (judgement.Accepted family) = IsFamilyOf words A c family
-IsJudgement words A c (judgement.Rejected r) = IsReason words A c r
+abbrev pub IsJudgement : Program → List Entry → Claim → Judgement Worked → Type 0
+IsJudgement words A c (Accepted family) = IsFamilyOf words A c family
+IsJudgement words A c (Rejected r) = IsReason words A c r

@@ -9,7 +9,7 @@ ghost use Rattle.stack_core.specs.Answering.{IsWitnessedText};
 
 use crate::reply::Reply;
 use call_graph::Task;
-use cert_check::{Verdict, judge};
+use cert_check::{Judgement, judge};
 use cert_writing::write;
 use certificate::Certificate;
 use commands::Size;
@@ -81,11 +81,11 @@ fn measured(task: &Task<'_>, size: u32, certificate: &Certificate) -> Result<Rep
 {
     let _nodes = certificate.nodes();
     match judge(task, certificate)? {
-        Verdict::Accepted(_) => Ok(Reply {
+        Judgement::Accepted(_) => Ok(Reply {
             status: Status::Done,
             text: causes::demo_text(task.alloc, size, certificate)?,
         }),
-        Verdict::Rejected(reason) => Ok(Reply {
+        Judgement::Rejected(reason) => Ok(Reply {
             status: Status::Rejected,
             text: texts::rejected(task.alloc, task.flash.device(), &reason)?,
         }),

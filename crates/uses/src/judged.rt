@@ -4,7 +4,7 @@ ghost use Rattle.std.specs.Prelude.{IfOk, IfSome};
 ghost use Rattle.avr_model.specs.Run.{Bounded};
 
 use call_graph::Task;
-use cert_check::{Verdict, judge};
+use cert_check::{Judgement, judge};
 use certificate::Certificate;
 use std::alloc::AllocError;
 
@@ -13,8 +13,8 @@ pub fn bound_of(task: &Task<'_>, certificate: &Certificate) -> Result<Option<u16
     ensures { IfOk result (λ o. IfSome o (λ bound. Bounded task.now.flash.now task.now.assumptions.now bound)) }
 {
     match judge(task, certificate) {
-        Ok(Verdict::Accepted(bound)) => Ok(Some(bound)),
-        Ok(Verdict::Rejected(_)) => Ok(None),
+        Ok(Judgement::Accepted(bound)) => Ok(Some(bound)),
+        Ok(Judgement::Rejected(_)) => Ok(None),
         Err(fault) => Err(fault),
     }
 }

@@ -9,7 +9,7 @@ use super::edges::flash_on;
 use abs_state::AbsState;
 use avr_model::device::Device;
 use call_graph::Task;
-use cert_check::{Reason, Verdict, is_attained, judge};
+use cert_check::{Judgement, Reason, is_attained, judge};
 use certificate::{Certificate, HeldState, Inst, NodeForm};
 use flash_image::Flash;
 use mask_states::{InstKey, Kind, NodeKey};
@@ -47,10 +47,10 @@ pub struct Row {
     verdict: (u8, u32, u32),
 }
 
-fn told(verdict: &Verdict) -> (u8, u32, u32) {
+fn told(verdict: &Judgement<u16>) -> (u8, u32, u32) {
     match verdict {
-        Verdict::Accepted(bound) => (0, u32::from(*bound), 0),
-        Verdict::Rejected(reason) => told_of(reason),
+        Judgement::Accepted(bound) => (0, u32::from(*bound), 0),
+        Judgement::Rejected(reason) => told_of(reason),
     }
 }
 

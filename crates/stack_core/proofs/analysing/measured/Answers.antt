@@ -1,5 +1,5 @@
 use Rattle.std.proofs.Common.{◌≡◌, refl, sym, ◌∙◌}
-use Rattle.cert_check.specs.declared.verdict.Verdict.TheVariants.{Accepted, Rejected}
+use Rattle.cert_check.specs.declared.verdict.Judgement.TheVariants.{Accepted, Rejected}
 use Rattle.stack_core.proofs.analysing.measured.Goals as goal
 
 pub returns-in_ok-rejected-in-Rejected-clause-reply : goal.returns-in_ok-rejected-in-Rejected-clause-reply
