@@ -21,11 +21,12 @@ use Rattle.certificate.specs.Insts.{rank_in, need_in}
 use Rattle.certificate.specs.Claims.{Claim}
 use Rattle.certificate.specs.Valid.{AreRanked, Suffices, NeedsSuffice}
 use Rattle.cert_check.specs.declared.demand.Demand.{Demand}
+use Rattle.cert_check.specs.declared.verdict.Reason.{Reason}
 use Rattle.cert_check.specs.declared.verdict.Reason.TheVariants as reason
-use Rattle.cert_check.specs.declared.verdict.Verdict.{Verdict}
-use Rattle.cert_check.specs.declared.verdict.Verdict.TheVariants.{Accepted, Rejected}
-use Rattle.cert_check.specs.Verdict.{AllLanded, InstEnters, IsFirstRank, IsFirstNeed, HasReset}
-use Rattle.cert_check.specs.Demands.{AreInstances, place_in, rank_of, rank_at, need_of, need_at, Asks, offset, entry, IsAsked, AreDemands, AllBelong, IsLeastOffered, Pair, MeetsRank, LowRank, PairBelow, lesser_pair, MeetsNeed, LowNeed, NumberBelow, lesser_number, IsMost, more_asked, RanksFall, AllMet, IsWeighed, Decides}
+use Rattle.cert_check.specs.declared.verdict.Judgement.{Judgement}
+use Rattle.cert_check.specs.declared.verdict.Judgement.TheVariants.{Accepted, Rejected}
+use Rattle.cert_check.specs.Verdict.{AllLanded, InstEnters, IsFirstRank, IsFirstNeed, HasReset, IsLeastReason}
+use Rattle.cert_check.specs.Demands.{AreInstances, place_in, rank_of, rank_at, need_of, need_at, Asks, offset, entry, IsAsked, AreDemands, AllBelong, IsLeastOffered, Pair, MeetsRank, LowRank, PairBelow, lesser_pair, MeetsNeed, LowNeed, NumberBelow, lesser_number, IsMost, more_asked, RanksFall, AllMet, IsWeighed, IsGathering, Decides}
 use Rattle.cert_check.proofs.Lists.{IsLesser}
 use Rattle.cert_check.proofs.Insts.{HasInstPlace, place_is, placed, rank_there, need_there}
 use Rattle.cert_check.proofs.Demands.{entered_belongs}
@@ -328,7 +329,7 @@ module _ (words : Program) (A : List Entry) (c : Claim) (nodes : List Node) (are
           need_at_place j need h.0.0 a.node.key.inst h.0.1.0 h.0.1.1.0 h.0.1.1.1 most h.1
           (own_place a.node j a.present (sym (own_number a.node h.0.0 a.asks) ∙ h.0.1.1.0))
 
-  pub decided : c.device ≡ device_of words → HasReset A c nodes → AreFaultless words A nodes → (v : Verdict) → IsWeighed words c A demands v → Decides words A c nodes v
+  pub decided : c.device ≡ device_of words → HasReset A c nodes → AreFaultless words A nodes → (v : Judgement ℕ) → IsWeighed words c A demands v → Decides words A c nodes v
   decided device reset clean (Accepted bound) h = (
     record {
       device = device;
@@ -350,3 +351,17 @@ module _ (words : Program) (A : List Entry) (c : Claim) (nodes : List Node) (are
   decided device reset clean (Rejected (reason.Node j cause)) h = absurd h
   decided device reset clean (Rejected (reason.Edge j to)) h = absurd h
   decided device reset clean (Rejected (reason.Expansion at)) h = absurd h
+  decided device reset clean (Rejected reason.Device) h = absurd h
+
+-- an edge that lands nowhere is the least reason
+pub gap_least : (words : Program) (A : List Entry) (c : Claim) (nodes : List Node) (r : Reason) → HasReset A c nodes → AreFaultless words A nodes
+    → IsGathering words A c.nodes c.instances nodes (Rejected r) → IsLeastReason words A c nodes r
+gap_least words A c nodes (reason.Edge j to) reset clean h = (reset, clean, h)
+gap_least words A c nodes reason.Device reset clean h = absurd h
+gap_least words A c nodes reason.Root reset clean h = absurd h
+gap_least words A c nodes (reason.Node j cause) reset clean h = absurd h
+gap_least words A c nodes (reason.Rank j l) reset clean h = absurd h
+gap_least words A c nodes (reason.Need j need) reset clean h = absurd h
+gap_least words A c nodes (reason.Bound need) reset clean h = absurd h
+gap_least words A c nodes reason.Assumptions reset clean h = absurd h
+gap_least words A c nodes (reason.Expansion at) reset clean h = absurd h

@@ -1,5 +1,5 @@
 -- The verdict on a certificate is unique.
-use Rattle.std.proofs.Common.{◌≡◌, refl, sym, ap, ◌∙◌, subst, ℕ, ◌<◌, ◌≤◌, ◌⊎◌, inl, inr, ⊎_elim, List, [], ◌∷◌, length, Some, Result, Err, slice_get, arith}
+use Rattle.std.proofs.Common.{◌≡◌, ◌≢◌, refl, sym, ap, ◌∙◌, subst, ℕ, ◌<◌, ◌≤◌, ◌⊎◌, inl, inr, ⊎_elim, List, [], ◌∷◌, length, Some, Result, Err, slice_get, arith}
 use Rattle.std.specs.Prelude.{◌↔◌}
 use Rattle.std.specs.List.{AllByRecursion}
 use Rattle.basics.specs.Numbers.{same_if_neither}
@@ -11,7 +11,7 @@ use Rattle.avr_model.proofs.AllLaws.{devices_are_alike}
 use Rattle.avr_model.specs.declared.assumption.Entry.{Entry}
 use Rattle.avr_model.specs.Assumptions.{has_pairs}
 use Rattle.avr_model.specs.Run.{Bounded}
-use Rattle.avr_model.specs.Devices.{Program}
+use Rattle.avr_model.specs.Devices.{Program, device_of}
 use Rattle.mask_states.specs.declared.keys.NodeKey.{NodeKey}
 use Rattle.mask_states.specs.Keys.{root_inst}
 use Rattle.mask_states.specs.Order.{node_cmp}
@@ -35,10 +35,8 @@ use Rattle.certificate.specs.Valid.{AreRanked, Suffices, NeedsSuffice, MeetsCond
 use Rattle.certificate.proofs.AllLaws.{conditions_make_families_sound, claims_are_seeds}
 use Rattle.cert_check.specs.declared.verdict.Reason.{Reason}
 use Rattle.cert_check.specs.declared.verdict.Reason.TheVariants as reason
-use Rattle.cert_check.specs.declared.verdict.Verdict.{Verdict}
-use Rattle.cert_check.specs.declared.verdict.Verdict.TheVariants.{Accepted, Rejected}
 use Rattle.cert_check.specs.declared.verdict.Judgement.{Judgement}
-use Rattle.cert_check.specs.declared.verdict.Judgement.TheVariants as judgement
+use Rattle.cert_check.specs.declared.verdict.Judgement.TheVariants.{Accepted, Rejected}
 use Rattle.cert_check.specs.Reading.{read_seeds, IsOpen}
 use Rattle.cert_check.specs.Verdict.{AllLanded, InstEnters, IsFirstFaultOfCause, IsFirstGap, IsFirstRank, IsFirstNeed, HasReset, IsLeastReason, IsRejected, IsReason, IsVerdict, IsFamilyOf, IsJudgement}
 use Rattle.cert_check.specs.Laws.{VerdictsAreOne, SoundCertificatesBoundEveryRun}
@@ -114,54 +112,57 @@ module _ (words : Program) (A : List Entry) (c : Claim) (claim : IsClaim c) (nod
   fault_before : (i j a b : ℕ) → IsFirstFaultOfCause words A nodes i a → IsFirstFaultOfCause words A nodes j b → i < j → ⊥
   fault_before i j a b g h lt = fault_counts words A g.node g.fault g.has (h.earlier i g.node g.is lt)
 
-  one_fault : (i j a b : ℕ) → IsFirstFaultOfCause words A nodes i a → IsFirstFaultOfCause words A nodes j b → Rejected (reason.Node i a) ≡ Rejected (reason.Node j b)
+  one_fault : (i j a b : ℕ) → IsFirstFaultOfCause words A nodes i a → IsFirstFaultOfCause words A nodes j b → reason.Node i a ≡ reason.Node j b
   one_fault i j a b g h =
       let same : i ≡ j = same_if_neither i j (fault_before i j a b g h) (fault_before j i b a h g) in
       let node : g.node ≡ h.node = one_at nodes j g.node h.node (subst (λ k. slice_get nodes k ≡ Some g.node) same g.is) h.is in
       let fault : g.fault ≡ h.fault = err_same (local words A h.node.key h.node.state) g.fault h.fault (subst (λ (n : Node). local words A n.key n.state ≡ Err g.fault) node g.has) h.has in
       let cause : a ≡ b = sym g.which ∙ (ap cause_of fault ∙ h.which) in
-      ap (λ k. Rejected (reason.Node k a)) same ∙ ap (λ k. Rejected (reason.Node j k)) cause
+      ap (λ k. reason.Node k a) same ∙ ap (λ k. reason.Node j k) cause
 
   gap_before : (i j : ℕ) (k l : NodeKey) → IsFirstGap words A c.nodes nodes i k → IsFirstGap words A c.nodes nodes j l → i < j → ⊥
   gap_before i j k l g h lt = g.gap (h.earlier i g.node g.edge g.is lt g.from)
 
-  one_gap : (i j : ℕ) (k l : NodeKey) → IsFirstGap words A c.nodes nodes i k → IsFirstGap words A c.nodes nodes j l → Rejected (reason.Edge i k) ≡ Rejected (reason.Edge j l)
+  one_gap : (i j : ℕ) (k l : NodeKey) → IsFirstGap words A c.nodes nodes i k → IsFirstGap words A c.nodes nodes j l → reason.Edge i k ≡ reason.Edge j l
   one_gap i j k l g h =
       let same : i ≡ j = same_if_neither i j (gap_before i j k l g h) (gap_before j i l k h g) in
       let node : g.node ≡ h.node = one_at nodes j g.node h.node (subst (λ m. slice_get nodes m ≡ Some g.node) same g.is) h.is in
       let key : k ≡ l = key_antisymmetric k l
       (λ e. g.least h.edge (subst (λ n. IsEdge words A nodes n h.edge) (sym node) h.from) h.gap (ap (λ z. node_cmp k z) h.leads ∙ e))
       (λ e. h.least g.edge (subst (λ n. IsEdge words A nodes n g.edge) node g.from) g.gap (ap (λ z. node_cmp l z) g.leads ∙ e)) in
-      ap (λ m. Rejected (reason.Edge m k)) same ∙ ap (λ m. Rejected (reason.Edge j m)) key
+      ap (λ m. reason.Edge m k) same ∙ ap (λ m. reason.Edge j m) key
 
   rank_before : (i j k l : ℕ) → IsFirstRank words A c nodes i k → IsFirstRank words A c nodes j l → i < j → ⊥
   rank_before i j k l g h lt = let up = h.earlier i k g.from g.into g.is g.there lt g.enters in omega (arith, up, g.low)
 
-  one_rank : (i j k l : ℕ) → IsFirstRank words A c nodes i k → IsFirstRank words A c nodes j l → Rejected (reason.Rank i k) ≡ Rejected (reason.Rank j l)
+  one_rank : (i j k l : ℕ) → IsFirstRank words A c nodes i k → IsFirstRank words A c nodes j l → reason.Rank i k ≡ reason.Rank j l
   one_rank i j k l g h =
       let same : i ≡ j = same_if_neither i j (rank_before i j k l g h) (rank_before j i l k h g) in
       let from : g.from ≡ h.from = one_at c.instances j g.from h.from (subst (λ m. slice_get c.instances m ≡ Some g.from) same g.is) h.is in
       let up = g.least l h.into h.there (subst (λ x. InstEnters words A nodes x h.into) (sym from) h.enters) (subst (λ (x : Inst). x.rank ≤ h.into.rank) (sym from) h.low) in
       let down = h.least k g.into g.there (subst (λ x. InstEnters words A nodes x g.into) from g.enters) (subst (λ (x : Inst). x.rank ≤ g.into.rank) from g.low) in
       let into : k ≡ l = omega (arith, up, down) in
-      ap (λ m. Rejected (reason.Rank m k)) same ∙ ap (λ m. Rejected (reason.Rank j m)) into
+      ap (λ m. reason.Rank m k) same ∙ ap (λ m. reason.Rank j m) into
 
   need_before : (i j k l : ℕ) → IsFirstNeed words A c nodes i k → IsFirstNeed words A c nodes j l → i < j → ⊥
   need_before i j k l g h lt = let le = g.least g.inst.need (h.earlier i g.inst g.is lt) in omega (arith, le, g.low)
 
-  one_need : (i j k l : ℕ) → IsFirstNeed words A c nodes i k → IsFirstNeed words A c nodes j l → Rejected (reason.Need i k) ≡ Rejected (reason.Need j l)
+  one_need : (i j k l : ℕ) → IsFirstNeed words A c nodes i k → IsFirstNeed words A c nodes j l → reason.Need i k ≡ reason.Need j l
   one_need i j k l g h =
       let same : i ≡ j = same_if_neither i j (need_before i j k l g h) (need_before j i l k h g) in
       let inst : g.inst ≡ h.inst = one_at c.instances j g.inst h.inst (subst (λ m. slice_get c.instances m ≡ Some g.inst) same g.is) h.is in
       let up = g.least l (subst (λ (x : Inst). Suffices words A c nodes x.key l) (sym inst) h.enough) in
       let down = h.least k (subst (λ (x : Inst). Suffices words A c nodes x.key k) inst g.enough) in
       let need : k ≡ l = omega (arith, up, down) in
-      ap (λ m. Rejected (reason.Need m k)) same ∙ ap (λ m. Rejected (reason.Need j m)) need
+      ap (λ m. reason.Need m k) same ∙ ap (λ m. reason.Need j m) need
 
-  one_bound : (a b : ℕ) → a ≡ need_in c.instances root_inst → b ≡ need_in c.instances root_inst → Rejected (reason.Bound a) ≡ Rejected (reason.Bound b)
-  one_bound a b e f = ap (λ m. Rejected (reason.Bound m)) (e ∙ sym f)
+  one_bound : (a b : ℕ) → a ≡ need_in c.instances root_inst → b ≡ need_in c.instances root_inst → reason.Bound a ≡ reason.Bound b
+  one_bound a b e f = ap (λ m. reason.Bound m) (e ∙ sym f)
 
-  pub one_decided : (v w : Verdict) → Decides words A c nodes v → Decides words A c nodes w → v ≡ w
+  alike : (r s : Reason) → r ≡ s → ◌≡◌ {A = Judgement ℕ} (Rejected r) (Rejected s)
+  alike r s e = λ i. Rejected (e i)
+
+  pub one_decided : (v w : Judgement ℕ) → Decides words A c nodes v → Decides words A c nodes w → v ≡ w
   one_decided (Rejected reason.Root) (Rejected reason.Root) a b = refl
   one_decided (Rejected reason.Root) (Rejected (reason.Node j' cause')) a b = absurd (a b.0)
   one_decided (Rejected reason.Root) (Rejected (reason.Edge j' to')) a b = absurd (a b.0)
@@ -171,8 +172,9 @@ module _ (words : Program) (A : List Entry) (c : Claim) (claim : IsClaim c) (nod
   one_decided (Rejected reason.Root) (Rejected reason.Assumptions) a b = absurd (a b.0)
   one_decided (Rejected reason.Root) (Accepted bound') a b = absurd (a (has_reset b.0))
   one_decided (Rejected reason.Root) (Rejected (reason.Expansion at')) a b = absurd b
+  one_decided (Rejected reason.Root) (Rejected reason.Device) a b = absurd b
   one_decided (Rejected (reason.Node j cause)) (Rejected reason.Root) a b = absurd (b a.0)
-  one_decided (Rejected (reason.Node j cause)) (Rejected (reason.Node j' cause')) a b = one_fault j j' cause cause' a.1 b.1
+  one_decided (Rejected (reason.Node j cause)) (Rejected (reason.Node j' cause')) a b = alike (reason.Node j cause) (reason.Node j' cause') (one_fault j j' cause cause' a.1 b.1)
   one_decided (Rejected (reason.Node j cause)) (Rejected (reason.Edge j' to')) a b = absurd (not_clean j cause a.1 b.1)
   one_decided (Rejected (reason.Node j cause)) (Rejected (reason.Rank j' l')) a b = absurd (not_clean j cause a.1 b.1)
   one_decided (Rejected (reason.Node j cause)) (Rejected (reason.Need j' need')) a b = absurd (not_clean j cause a.1 b.1)
@@ -180,42 +182,47 @@ module _ (words : Program) (A : List Entry) (c : Claim) (claim : IsClaim c) (nod
   one_decided (Rejected (reason.Node j cause)) (Rejected reason.Assumptions) a b = absurd (not_clean j cause a.1 b.1)
   one_decided (Rejected (reason.Node j cause)) (Accepted bound') a b = absurd (not_clean j cause a.1 b.0.faultless)
   one_decided (Rejected (reason.Node j cause)) (Rejected (reason.Expansion at')) a b = absurd b
+  one_decided (Rejected (reason.Node j cause)) (Rejected reason.Device) a b = absurd b
   one_decided (Rejected (reason.Edge j to)) (Rejected reason.Root) a b = absurd (b a.0)
   one_decided (Rejected (reason.Edge j to)) (Rejected (reason.Node j' cause')) a b = absurd (not_clean j' cause' b.1 a.1)
-  one_decided (Rejected (reason.Edge j to)) (Rejected (reason.Edge j' to')) a b = one_gap j j' to to' a.2 b.2
+  one_decided (Rejected (reason.Edge j to)) (Rejected (reason.Edge j' to')) a b = alike (reason.Edge j to) (reason.Edge j' to') (one_gap j j' to to' a.2 b.2)
   one_decided (Rejected (reason.Edge j to)) (Rejected (reason.Rank j' l')) a b = absurd (not_landed j to a.2 b.2)
   one_decided (Rejected (reason.Edge j to)) (Rejected (reason.Need j' need')) a b = absurd (not_landed j to a.2 b.2)
   one_decided (Rejected (reason.Edge j to)) (Rejected (reason.Bound need')) a b = absurd (not_landed j to a.2 b.2)
   one_decided (Rejected (reason.Edge j to)) (Rejected reason.Assumptions) a b = absurd (not_landed j to a.2 b.2)
   one_decided (Rejected (reason.Edge j to)) (Accepted bound') a b = absurd (not_landed j to a.2 (all_landed b.0))
   one_decided (Rejected (reason.Edge j to)) (Rejected (reason.Expansion at')) a b = absurd b
+  one_decided (Rejected (reason.Edge j to)) (Rejected reason.Device) a b = absurd b
   one_decided (Rejected (reason.Rank j l)) (Rejected reason.Root) a b = absurd (b a.0)
   one_decided (Rejected (reason.Rank j l)) (Rejected (reason.Node j' cause')) a b = absurd (not_clean j' cause' b.1 a.1)
   one_decided (Rejected (reason.Rank j l)) (Rejected (reason.Edge j' to')) a b = absurd (not_landed j' to' b.2 a.2)
-  one_decided (Rejected (reason.Rank j l)) (Rejected (reason.Rank j' l')) a b = one_rank j j' l l' a.3 b.3
+  one_decided (Rejected (reason.Rank j l)) (Rejected (reason.Rank j' l')) a b = alike (reason.Rank j l) (reason.Rank j' l') (one_rank j j' l l' a.3 b.3)
   one_decided (Rejected (reason.Rank j l)) (Rejected (reason.Need j' need')) a b = absurd (not_ranked j l a.3 b.3)
   one_decided (Rejected (reason.Rank j l)) (Rejected (reason.Bound need')) a b = absurd (not_ranked j l a.3 b.3)
   one_decided (Rejected (reason.Rank j l)) (Rejected reason.Assumptions) a b = absurd (not_ranked j l a.3 b.3)
   one_decided (Rejected (reason.Rank j l)) (Accepted bound') a b = absurd (not_ranked j l a.3 b.0.ranks)
   one_decided (Rejected (reason.Rank j l)) (Rejected (reason.Expansion at')) a b = absurd b
+  one_decided (Rejected (reason.Rank j l)) (Rejected reason.Device) a b = absurd b
   one_decided (Rejected (reason.Need j need)) (Rejected reason.Root) a b = absurd (b a.0)
   one_decided (Rejected (reason.Need j need)) (Rejected (reason.Node j' cause')) a b = absurd (not_clean j' cause' b.1 a.1)
   one_decided (Rejected (reason.Need j need)) (Rejected (reason.Edge j' to')) a b = absurd (not_landed j' to' b.2 a.2)
   one_decided (Rejected (reason.Need j need)) (Rejected (reason.Rank j' l')) a b = absurd (not_ranked j' l' b.3 a.3)
-  one_decided (Rejected (reason.Need j need)) (Rejected (reason.Need j' need')) a b = one_need j j' need need' a.4 b.4
+  one_decided (Rejected (reason.Need j need)) (Rejected (reason.Need j' need')) a b = alike (reason.Need j need) (reason.Need j' need') (one_need j j' need need' a.4 b.4)
   one_decided (Rejected (reason.Need j need)) (Rejected (reason.Bound need')) a b = absurd (not_enough j need a.4 b.4)
   one_decided (Rejected (reason.Need j need)) (Rejected reason.Assumptions) a b = absurd (not_enough j need a.4 b.4)
   one_decided (Rejected (reason.Need j need)) (Accepted bound') a b = absurd (not_enough j need a.4 b.0.needs)
   one_decided (Rejected (reason.Need j need)) (Rejected (reason.Expansion at')) a b = absurd b
+  one_decided (Rejected (reason.Need j need)) (Rejected reason.Device) a b = absurd b
   one_decided (Rejected (reason.Bound need)) (Rejected reason.Root) a b = absurd (b a.0)
   one_decided (Rejected (reason.Bound need)) (Rejected (reason.Node j' cause')) a b = absurd (not_clean j' cause' b.1 a.1)
   one_decided (Rejected (reason.Bound need)) (Rejected (reason.Edge j' to')) a b = absurd (not_landed j' to' b.2 a.2)
   one_decided (Rejected (reason.Bound need)) (Rejected (reason.Rank j' l')) a b = absurd (not_ranked j' l' b.3 a.3)
   one_decided (Rejected (reason.Bound need)) (Rejected (reason.Need j' need')) a b = absurd (not_enough j' need' b.4 a.4)
-  one_decided (Rejected (reason.Bound need)) (Rejected (reason.Bound need')) a b = one_bound need need' a.5 b.5
+  one_decided (Rejected (reason.Bound need)) (Rejected (reason.Bound need')) a b = alike (reason.Bound need) (reason.Bound need') (one_bound need need' a.5 b.5)
   one_decided (Rejected (reason.Bound need)) (Rejected reason.Assumptions) a b = absurd (a.6 b.5)
   one_decided (Rejected (reason.Bound need)) (Accepted bound') a b = absurd (a.6 b.0.bounded)
   one_decided (Rejected (reason.Bound need)) (Rejected (reason.Expansion at')) a b = absurd b
+  one_decided (Rejected (reason.Bound need)) (Rejected reason.Device) a b = absurd b
   one_decided (Rejected reason.Assumptions) (Rejected reason.Root) a b = absurd (b a.0)
   one_decided (Rejected reason.Assumptions) (Rejected (reason.Node j' cause')) a b = absurd (not_clean j' cause' b.1 a.1)
   one_decided (Rejected reason.Assumptions) (Rejected (reason.Edge j' to')) a b = absurd (not_landed j' to' b.2 a.2)
@@ -225,6 +232,7 @@ module _ (words : Program) (A : List Entry) (c : Claim) (claim : IsClaim c) (nod
   one_decided (Rejected reason.Assumptions) (Rejected reason.Assumptions) a b = refl
   one_decided (Rejected reason.Assumptions) (Accepted bound') a b = absurd (a.6 b.0.assumptions)
   one_decided (Rejected reason.Assumptions) (Rejected (reason.Expansion at')) a b = absurd b
+  one_decided (Rejected reason.Assumptions) (Rejected reason.Device) a b = absurd b
   one_decided (Accepted bound) (Rejected reason.Root) a b = absurd (b (has_reset a.0))
   one_decided (Accepted bound) (Rejected (reason.Node j' cause')) a b = absurd (not_clean j' cause' b.1 a.0.faultless)
   one_decided (Accepted bound) (Rejected (reason.Edge j' to')) a b = absurd (not_landed j' to' b.2 (all_landed a.0))
@@ -234,41 +242,47 @@ module _ (words : Program) (A : List Entry) (c : Claim) (claim : IsClaim c) (nod
   one_decided (Accepted bound) (Rejected reason.Assumptions) a b = absurd (b.6 a.0.assumptions)
   one_decided (Accepted bound) (Accepted bound') a b = ap (λ m. Accepted m) (a.1 ∙ sym b.1)
   one_decided (Accepted bound) (Rejected (reason.Expansion at')) a b = absurd b
-  one_decided (Rejected (reason.Expansion at)) (Rejected reason.Root) a b = absurd a
-  one_decided (Rejected (reason.Expansion at)) (Rejected (reason.Node j' cause')) a b = absurd a
-  one_decided (Rejected (reason.Expansion at)) (Rejected (reason.Edge j' to')) a b = absurd a
-  one_decided (Rejected (reason.Expansion at)) (Rejected (reason.Rank j' l')) a b = absurd a
-  one_decided (Rejected (reason.Expansion at)) (Rejected (reason.Need j' need')) a b = absurd a
-  one_decided (Rejected (reason.Expansion at)) (Rejected (reason.Bound need')) a b = absurd a
-  one_decided (Rejected (reason.Expansion at)) (Rejected reason.Assumptions) a b = absurd a
-  one_decided (Rejected (reason.Expansion at)) (Accepted bound') a b = absurd a
-  one_decided (Rejected (reason.Expansion at)) (Rejected (reason.Expansion at')) a b = absurd a
+  one_decided (Accepted bound) (Rejected reason.Device) a b = absurd b
+  one_decided (Rejected (reason.Expansion at)) w a b = absurd a
+  one_decided (Rejected reason.Device) w a b = absurd a
 
 -- ---- the whole
 
--- either a node has no expansion, or the verdict is on the expanded nodes
-pub record IsOnNodes (words : Program) (A : List Entry) (c : Claim) (v : Verdict) : Type 0 where
+-- a verdict on the expanded nodes
+pub record IsOnNodes (words : Program) (A : List Entry) (c : Claim) (v : Judgement ℕ) : Type 0 where
   pub nodes : List Node
   pub filled : IsFilled words A (read_seeds (has_pairs A) c.nodes) nodes
   pub decides : Decides words A c nodes v
 
-abbrev pub IsOnMissing : Program → List Entry → Claim → Verdict → Type 0
+abbrev pub IsOnMissing : Program → List Entry → Claim → Judgement ℕ → Type 0
 IsOnMissing words A c v = (at : ℕ) × ((v ≡ Rejected (reason.Expansion at)) × IsMissing words A (read_seeds (has_pairs A) c.nodes) at)
 
-on_rejected : (words : Program) (A : List Entry) (c : Claim) (r : Reason) → IsRejected words A c r → IsOnMissing words A c (Rejected r) ⊎ IsOnNodes words A c (Rejected r)
-on_rejected words A c r h = inr (record { nodes = h.nodes; filled = h.expanded; decides = h.why })
+-- the certificate is for another device
+abbrev pub IsOnOther : Program → List Entry → Claim → Judgement ℕ → Type 0
+IsOnOther words A c v = (v ≡ Rejected reason.Device) × (c.device ≢ device_of words)
+
+-- the certificate is for the device, and either a node has no expansion, or the verdict is on the expanded nodes
+abbrev pub IsOnOwn : Program → List Entry → Claim → Judgement ℕ → Type 0
+IsOnOwn words A c v = (c.device ≡ device_of words) × (IsOnMissing words A c v ⊎ IsOnNodes words A c v)
+
+on_rejected : (words : Program) (A : List Entry) (c : Claim) (r : Reason) → IsRejected words A c r → IsOnOther words A c (Rejected r) ⊎ IsOnOwn words A c (Rejected r)
+on_rejected words A c r h = inr (h.device, inr (record { nodes = h.nodes; filled = h.expanded; decides = h.why }))
 
 -- if the list of the call is the certificate's own, its nodes are read unchanged
 as_own : (A : List Entry) (c : Claim) → IsClaim c → c.assumptions ≡ A → read_seeds (has_pairs A) c.nodes ≡ c.nodes
 as_own A c claim same = ap (λ B. read_seeds (has_pairs B) c.nodes) (sym same) ∙ own_is_read c claim
 
-pub split : (words : Program) (A : List Entry) (c : Claim) (v : Verdict) → IsClaim c → IsVerdict words A c v → IsOnMissing words A c v ⊎ IsOnNodes words A c v
-split words A c (Accepted bound) claim h = inr (record {
-  nodes = h.0.nodes;
-  filled = subst (λ (own : Seeds). IsFilled words A own h.0.nodes) (sym (as_own A c claim h.0.meets.assumptions)) h.0.expanded;
-  decides = (h.0.meets, h.1);
-})
-split words A c (Rejected (reason.Expansion at)) claim h = inl (at, (refl, h))
+pub split : (words : Program) (A : List Entry) (c : Claim) (v : Judgement ℕ) → IsClaim c → IsVerdict words A c v → IsOnOther words A c v ⊎ IsOnOwn words A c v
+split words A c (Accepted bound) claim h = inr (
+  h.0.meets.device,
+  inr (record {
+    nodes = h.0.nodes;
+    filled = subst (λ (own : Seeds). IsFilled words A own h.0.nodes) (sym (as_own A c claim h.0.meets.assumptions)) h.0.expanded;
+    decides = (h.0.meets, h.1);
+  }),
+)
+split words A c (Rejected reason.Device) claim h = inl (refl, h)
+split words A c (Rejected (reason.Expansion at)) claim h = inr (h.0, inl (at, (refl, h.1)))
 split words A c (Rejected reason.Root) claim h = on_rejected words A c reason.Root h
 split words A c (Rejected (reason.Node j cause)) claim h = on_rejected words A c (reason.Node j cause) h
 split words A c (Rejected (reason.Edge j to)) claim h = on_rejected words A c (reason.Edge j to) h
@@ -277,39 +291,51 @@ split words A c (Rejected (reason.Need j need)) claim h = on_rejected words A c 
 split words A c (Rejected (reason.Bound need)) claim h = on_rejected words A c (reason.Bound need) h
 split words A c (Rejected reason.Assumptions) claim h = on_rejected words A c reason.Assumptions h
 
-pub refused : (words : Program) (A : List Entry) (c : Claim) (nodes : List Node) (r : Reason) → IsFilled words A (read_seeds (has_pairs A) c.nodes) nodes
-    → IsLeastReason words A c nodes r → IsReason words A c r
-refused words A c nodes (reason.Expansion at) f h = absurd h
-refused words A c nodes reason.Root f h = record { nodes = nodes; expanded = f; why = h }
-refused words A c nodes (reason.Node j cause) f h = record { nodes = nodes; expanded = f; why = h }
-refused words A c nodes (reason.Edge j to) f h = record { nodes = nodes; expanded = f; why = h }
-refused words A c nodes (reason.Rank j l) f h = record { nodes = nodes; expanded = f; why = h }
-refused words A c nodes (reason.Need j need) f h = record { nodes = nodes; expanded = f; why = h }
-refused words A c nodes (reason.Bound need) f h = record { nodes = nodes; expanded = f; why = h }
-refused words A c nodes reason.Assumptions f h = record { nodes = nodes; expanded = f; why = h }
+pub refused : (words : Program) (A : List Entry) (c : Claim) (nodes : List Node) (r : Reason) → c.device ≡ device_of words
+    → IsFilled words A (read_seeds (has_pairs A) c.nodes) nodes → IsLeastReason words A c nodes r → IsReason words A c r
+refused words A c nodes reason.Device own f h = absurd h
+refused words A c nodes (reason.Expansion at) own f h = absurd h
+refused words A c nodes reason.Root own f h = record { device = own; nodes = nodes; expanded = f; why = h }
+refused words A c nodes (reason.Node j cause) own f h = record { device = own; nodes = nodes; expanded = f; why = h }
+refused words A c nodes (reason.Edge j to) own f h = record { device = own; nodes = nodes; expanded = f; why = h }
+refused words A c nodes (reason.Rank j l) own f h = record { device = own; nodes = nodes; expanded = f; why = h }
+refused words A c nodes (reason.Need j need) own f h = record { device = own; nodes = nodes; expanded = f; why = h }
+refused words A c nodes (reason.Bound need) own f h = record { device = own; nodes = nodes; expanded = f; why = h }
+refused words A c nodes reason.Assumptions own f h = record { device = own; nodes = nodes; expanded = f; why = h }
 
 pub family_is : (words : Program) (A : List Entry) (c : Claim) (family : Worked) → IsClaim c → IsFilled words A (read_seeds (has_pairs A) c.nodes) family.nodes
     → MeetsConditions words A c family.nodes × AreLandings words A family.nodes family.landings → IsFamilyOf words A c family
 family_is words A c family claim f h =
     record { filled = subst (λ (own : Seeds). IsFilled words A own family.nodes) (as_own A c claim h.0.assumptions) f; meets = h.0; landings = h.1 }
 
-pub few_in : (words : Program) (A : List Entry) (c : Claim) (j : Judgement) → IsClaim c → IsJudgement words A c j → (family : Worked) → j ≡ judgement.Accepted family
+pub few_in : (words : Program) (A : List Entry) (c : Claim) (j : Judgement Worked) → IsClaim c → IsJudgement words A c j → (family : Worked) → j ≡ Accepted family
     → length family.nodes ≤ 65536
 few_in words A c j claim h family e =
     let f : IsFamilyOf words A c family = subst (IsJudgement words A c) e h in
     omega (arith, f.filled.count, (claims_are_seeds c claim).few)
 
-pub verdicts_are_one : VerdictsAreOne
-verdicts_are_one words A c v w claim a b =
+-- two verdicts on a certificate for the device
+one_own : (words : Program) (A : List Entry) (c : Claim) (v w : Judgement ℕ) → IsClaim c → IsOnMissing words A c v ⊎ IsOnNodes words A c v → IsOnMissing words A c w ⊎ IsOnNodes words A c w
+    → v ≡ w
+one_own words A c v w claim a b =
     ⊎_elim
     (λ m. ⊎_elim
     (λ n. m.1.0 ∙ (ap (λ at. Rejected (reason.Expansion at)) (filled_or_missing.least words A (read_seeds (has_pairs A) c.nodes) m.0 n.0 m.1.1 n.1.1) ∙ sym n.1.0))
-    (λ f. absurd (filled_or_missing.apart words A (read_seeds (has_pairs A) c.nodes) f.nodes m.0 f.filled m.1.1)) (split words A c w claim b))
+    (λ f. absurd (filled_or_missing.apart words A (read_seeds (has_pairs A) c.nodes) f.nodes m.0 f.filled m.1.1)) b)
     (λ f. ⊎_elim
     (λ n. absurd (filled_or_missing.apart words A (read_seeds (has_pairs A) c.nodes) f.nodes n.0 f.filled n.1.1))
     (λ g. one_decided words A c claim f.nodes v w f.decides
-    (subst (λ nodes. Decides words A c nodes w) (filled_or_missing.one words A (read_seeds (has_pairs A) c.nodes) g.nodes f.nodes g.filled f.filled) g.decides)) (split words A c w claim b))
-    (split words A c v claim a)
+    (subst (λ nodes. Decides words A c nodes w) (filled_or_missing.one words A (read_seeds (has_pairs A) c.nodes) g.nodes f.nodes g.filled f.filled) g.decides)) b)
+    a
+
+one_split : (words : Program) (A : List Entry) (c : Claim) (v w : Judgement ℕ) → IsClaim c → IsOnOther words A c v ⊎ IsOnOwn words A c v → IsOnOther words A c w ⊎ IsOnOwn words A c w → v ≡ w
+one_split words A c v w claim (inl a) (inl b) = a.0 ∙ sym b.0
+one_split words A c v w claim (inl a) (inr b) = absurd (a.1 b.0)
+one_split words A c v w claim (inr a) (inl b) = absurd (b.1 a.0)
+one_split words A c v w claim (inr a) (inr b) = one_own words A c v w claim a.1 b.1
+
+pub verdicts_are_one : VerdictsAreOne
+verdicts_are_one words A c v w claim a b = one_split words A c v w claim (split words A c v claim a) (split words A c w claim b)
 
 pub sound_certificates_bound_every_run : SoundCertificatesBoundEveryRun
 sound_certificates_bound_every_run words A c have claim sound =
@@ -317,21 +343,21 @@ sound_certificates_bound_every_run words A c have claim sound =
 
 -- ---- what an exact verdict says
 
-pub accepts : (words : Program) (A : List Entry) (c : Claim) (v : Verdict) → IsClaim c → IsVerdict words A c v → (b : ℕ)
+pub accepts : (words : Program) (A : List Entry) (c : Claim) (v : Judgement ℕ) → IsClaim c → IsVerdict words A c v → (b : ℕ)
     → (v ≡ Accepted b) ↔ (IsSound words A c × (b ≡ c.bound))
 accepts words A c v claim h b = (
   λ e. subst (IsVerdict words A c) e h,
   λ s. verdicts_are_one words A c v (Accepted b) claim h s,
 )
 
-pub rejects : (words : Program) (A : List Entry) (c : Claim) (v : Verdict) → IsClaim c → IsVerdict words A c v → (r : Reason)
+pub rejects : (words : Program) (A : List Entry) (c : Claim) (v : Judgement ℕ) → IsClaim c → IsVerdict words A c v → (r : Reason)
     → (v ≡ Rejected r) ↔ IsReason words A c r
 rejects words A c v claim h r = (
   λ e. subst (IsVerdict words A c) e h,
   λ s. verdicts_are_one words A c v (Rejected r) claim h s,
 )
 
-pub bounds : (words : Program) (A : List Entry) (c : Claim) (v : Verdict) (b : ℕ) → AreWords words → IsClaim c → IsVerdict words A c v → v ≡ Accepted b
+pub bounds : (words : Program) (A : List Entry) (c : Claim) (v : Judgement ℕ) (b : ℕ) → AreWords words → IsClaim c → IsVerdict words A c v → v ≡ Accepted b
     → Bounded words A b
 bounds words A c v b have claim h e =
     let s = (accepts words A c v claim h b).0 e in

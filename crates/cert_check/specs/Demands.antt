@@ -21,6 +21,7 @@ use Rattle.edge_rules.specs.declared.edge.Edge.{Edge}
 use Rattle.edge_rules.specs.Edges.{is_entry, Enters, IsEdge, target}
 use Rattle.edge_rules.specs.Expansion.{Seeds}
 use Rattle.edge_rules.specs.Views.{key_of}
+use Rattle.call_graph.specs.declared.landing.Landing.{Landing}
 use Rattle.call_graph.specs.Landings.{AreLandings, AreLandingsTo}
 use Rattle.certificate.specs.declared.instance.Inst.{Inst}
 use Rattle.certificate.specs.Insts.{inst_keys, need_in}
@@ -28,13 +29,9 @@ use Rattle.certificate.specs.Claims.{Claim, most_instances, node_keys}
 use Rattle.certificate.specs.Valid.{IsBounded, MeetsConditions}
 use Rattle.cert_check.specs.declared.demand.Demand.{Demand}
 use Rattle.cert_check.specs.declared.gathering.LandedNodes.{LandedNodes}
-use Rattle.cert_check.specs.declared.gathering.Gathering.{Gathering}
-use Rattle.cert_check.specs.declared.gathering.Gathering.TheVariants.{Gap, All}
-use Rattle.cert_check.specs.declared.judging.Settled.{Settled}
-use Rattle.cert_check.specs.declared.judging.Settled.TheVariants.{Met, Refused}
 use Rattle.cert_check.specs.declared.verdict.Reason.TheVariants as reason
-use Rattle.cert_check.specs.declared.verdict.Verdict.{Verdict}
-use Rattle.cert_check.specs.declared.verdict.Verdict.TheVariants.{Accepted, Rejected}
+use Rattle.cert_check.specs.declared.verdict.Judgement.{Judgement}
+use Rattle.cert_check.specs.declared.verdict.Judgement.TheVariants.{Accepted, Rejected}
 use Rattle.cert_check.specs.Reading.{LandsOpen}
 use Rattle.cert_check.specs.Verdict.{IsGap, AllLanded, IsFirstGap, IsLeastReason}
 
@@ -146,9 +143,10 @@ abbrev pub AllBelong : List Inst → List Node → Type 0
 AllBelong insts nodes = (n : Node) → Contains nodes n → Contains (inst_keys insts) n.key.inst
 
 -- all edges land, these are the demands, and the landings of each node; else the first gap
-abbrev pub IsGathering : Program → List Entry → Seeds → List Inst → List Node → Gathering → Type 0
-IsGathering words A own insts nodes (Gap j to) = IsFirstGap words A own nodes j to
-IsGathering words A own insts nodes (All g) = AllLanded words A own nodes × AreDemands words A insts nodes g.demands.items × AreLandings words A nodes g.landings
+abbrev pub IsGathering : Program → List Entry → Seeds → List Inst → List Node → Judgement LandedNodes → Type 0
+IsGathering words A own insts nodes (Accepted g) = AllLanded words A own nodes × AreDemands words A insts nodes g.demands.items × AreLandings words A nodes g.landings
+IsGathering words A own insts nodes (Rejected (reason.Edge j to)) = IsFirstGap words A own nodes j to
+IsGathering words A own insts nodes (Rejected r) = ⊥
 
 -- ---- which demands aren't met
 
@@ -206,7 +204,7 @@ abbrev pub AllMet : List Inst → List Demand → Type 0
 AllMet insts demands = (d : Demand) → Contains demands d → MeetsNeed insts d
 
 -- the verdict if all edges land and these are the demands
-abbrev pub IsWeighed : Program → Claim → List Entry → List Demand → Verdict → Type 0
+abbrev pub IsWeighed : Program → Claim → List Entry → List Demand → Judgement ℕ → Type 0
 IsWeighed words c A demands (Accepted bound) =
     RanksFall c.instances demands × AllMet c.instances demands × IsBounded words c × (c.assumptions ≡ A) × (bound ≡ c.bound)
 IsWeighed words c A demands (Rejected (reason.Rank j l)) = IsLeastOffered (MeetsRank c.instances) (LowRank c.instances) PairBelow demands (Some (j, l))
@@ -219,14 +217,14 @@ IsWeighed words c A demands (Rejected reason.Assumptions) =
 IsWeighed words c A demands (Rejected r) = ⊥
 
 -- the verdict on the expanded nodes
-abbrev pub Decides : Program → List Entry → Claim → List Node → Verdict → Type 0
+abbrev pub Decides : Program → List Entry → Claim → List Node → Judgement ℕ → Type 0
 Decides words A c nodes (Accepted bound) = MeetsConditions words A c nodes × (bound ≡ c.bound)
 Decides words A c nodes (Rejected r) = IsLeastReason words A c nodes r
 
 -- the verdict on the expanded nodes, with the landings of each node in place of the bound
-abbrev pub SettlesClaim : Program → List Entry → Claim → List Node → Settled → Type 0
-SettlesClaim words A c nodes (Met landings) = MeetsConditions words A c nodes × AreLandings words A nodes landings
-SettlesClaim words A c nodes (Refused r) = IsLeastReason words A c nodes r
+abbrev pub SettlesClaim : Program → List Entry → Claim → List Node → Judgement (List (List Landing)) → Type 0
+SettlesClaim words A c nodes (Accepted landings) = MeetsConditions words A c nodes × AreLandings words A nodes landings
+SettlesClaim words A c nodes (Rejected r) = IsLeastReason words A c nodes r
 
 -- all edges of the nodes below this number land, and the listed demands are exactly theirs
 pub record IsMidway (words : Program) (A : List Entry) (own : Seeds) (insts : List Inst) (nodes : List Node) (at : ℕ) (demands : List Demand) : Type 0 where

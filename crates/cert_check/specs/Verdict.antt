@@ -4,7 +4,7 @@ use Rattle.std.specs.List.{slice_get}
 use Rattle.std.specs.declared.cmp.Ordering.TheVariants.{Greater}
 use Rattle.avr_model.specs.declared.assumption.Entry.{Entry}
 use Rattle.avr_model.specs.Assumptions.{has_pairs}
-use Rattle.avr_model.specs.Devices.{Program}
+use Rattle.avr_model.specs.Devices.{Program, device_of}
 use Rattle.mask_states.specs.declared.keys.EdgeKind.{EdgeKind}
 use Rattle.mask_states.specs.declared.keys.NodeKey.{NodeKey}
 use Rattle.mask_states.specs.Keys.{root_inst}
@@ -25,10 +25,8 @@ use Rattle.certificate.specs.Claims.{Claim}
 use Rattle.certificate.specs.Valid.{reset_node, AreRanked, Suffices, NeedsSuffice, IsBounded, MeetsConditions, IsSound}
 use Rattle.cert_check.specs.declared.verdict.Reason.{Reason}
 use Rattle.cert_check.specs.declared.verdict.Reason.TheVariants as reason
-use Rattle.cert_check.specs.declared.verdict.Verdict.{Verdict}
-use Rattle.cert_check.specs.declared.verdict.Verdict.TheVariants.{Accepted, Rejected}
 use Rattle.cert_check.specs.declared.verdict.Judgement.{Judgement}
-use Rattle.cert_check.specs.declared.verdict.Judgement.TheVariants as judgement
+use Rattle.cert_check.specs.declared.verdict.Judgement.TheVariants.{Accepted, Rejected}
 use Rattle.cert_check.specs.Reading.{read_seeds, LandsOpen}
 
 -- node j has a fault of this cause, and no earlier node has one
@@ -96,6 +94,7 @@ HasReset A c nodes = LandsOpen (has_pairs A) c.nodes nodes (reset_node A)
 
 -- The reason holds of the expanded nodes, no reason before it does, and its numbers are the least.
 abbrev pub IsLeastReason : Program → List Entry → Claim → List Node → Reason → Type 0
+IsLeastReason words A c nodes reason.Device = ⊥
 IsLeastReason words A c nodes (reason.Expansion at) = ⊥
 IsLeastReason words A c nodes reason.Root = HasReset A c nodes → ⊥
 IsLeastReason words A c nodes (reason.Node j cause) = HasReset A c nodes × IsFirstFaultOfCause words A nodes j cause
@@ -111,19 +110,21 @@ IsLeastReason words A c nodes reason.Assumptions =
     HasReset A c nodes × AreFaultless words A nodes × AllLanded words A c.nodes nodes × AreRanked words A c nodes × NeedsSuffice words A c nodes
     × IsBounded words c × (c.assumptions ≢ A)
 
--- the reason holds of the expanded nodes, which are read by the list of the call
+-- the certificate is for the device, and the reason holds of the expanded nodes, which are read by the list of the call
 pub record IsRejected (words : Program) (A : List Entry) (c : Claim) (r : Reason) : Type 0 where
+  pub device : c.device ≡ device_of words
   pub nodes : List Node
   pub expanded : IsFilled words A (read_seeds (has_pairs A) c.nodes) nodes
   pub why : IsLeastReason words A c nodes r
 
--- the reason for a refusal: a node without expansion comes before all other reasons
+-- the reason for a refusal: another device comes before all other reasons, and after it a node without expansion
 abbrev pub IsReason : Program → List Entry → Claim → Reason → Type 0
-IsReason words A c (reason.Expansion at) = IsMissing words A (read_seeds (has_pairs A) c.nodes) at
+IsReason words A c reason.Device = c.device ≢ device_of words
+IsReason words A c (reason.Expansion at) = (c.device ≡ device_of words) × IsMissing words A (read_seeds (has_pairs A) c.nodes) at
 IsReason words A c r = IsRejected words A c r
 
 -- The verdict: acceptance with the bound if all conditions but that on the schedule hold, else the reason.
-abbrev pub IsVerdict : Program → List Entry → Claim → Verdict → Type 0
+abbrev pub IsVerdict : Program → List Entry → Claim → Judgement ℕ → Type 0
 IsVerdict words A c (Accepted bound) = IsSound words A c × (bound ≡ c.bound)
 IsVerdict words A c (Rejected r) = IsReason words A c r
 
@@ -136,6 +137,6 @@ pub record IsFamilyOf (words : Program) (A : List Entry) (c : Claim) (family : W
   pub landings : AreLandings words A family.nodes family.landings
 
 -- The judgement: the family if all conditions but that on the schedule hold, else the reason.
-abbrev pub IsJudgement : Program → List Entry → Claim → Judgement → Type 0
-IsJudgement words A c (judgement.Accepted family) = IsFamilyOf words A c family
-IsJudgement words A c (judgement.Rejected r) = IsReason words A c r
+abbrev pub IsJudgement : Program → List Entry → Claim → Judgement Worked → Type 0
+IsJudgement words A c (Accepted family) = IsFamilyOf words A c family
+IsJudgement words A c (Rejected r) = IsReason words A c r

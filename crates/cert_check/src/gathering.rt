@@ -9,6 +9,7 @@ ghost use Rattle.cert_check.specs.Demands.{AreInstances, AreBeside, AllBelong, I
 
 use crate::demand::{Demand, add_demands};
 use crate::landing::{Landed, LandingSite, landed_from};
+use crate::verdict::{Judgement, Reason};
 use avr_model::listed::Listed;
 use call_graph::{Filled, Landing, Task, next_with};
 use certificate::Certificate;
@@ -23,15 +24,6 @@ pub(crate) struct LandedNodes {
     pub demands: Vec<Demand>,
     // The landings of each.
     pub landings: Listed<Listed<Landing>>,
-}
-
-// The result of a pass over all edges.
-#[derive(Drop)]
-pub(crate) enum Gathering {
-    // The first node with an edge that does not land, and the least key of such an edge.
-    Gap(usize, NodeKey),
-    // All edges land.
-    All(LandedNodes),
 }
 
 // The least key of an edge of this node that does not land. If all edges land, the node is gathered.
@@ -69,13 +61,13 @@ fn gather_node(
     Ok(None)
 }
 
-// The first gap, or all demands and landings.
+// All demands and landings, or the first node with an edge that does not land, and the least key of such an edge.
 pub(crate) fn gather(
     task: &Task<'_>,
     certificate: &Certificate,
     nodes: &Filled,
     exits: &Listed<Option<Exit>>,
-) -> Result<Gathering, AllocError>
+) -> Result<Judgement<LandedNodes>, AllocError>
     requires few { length nodes.now ≤ 65536 }
     requires shown { AreShown (device_of task.now.flash.now) nodes.now }
     requires instances { AreInstances certificate.now.instances }
@@ -95,8 +87,8 @@ pub(crate) fn gather(
     };
     for at in 0..nodes.count() {
         if let Some(to) = gather_node(task, &site, exits, at, &mut gathered)? {
-            return Ok(Gathering::Gap(at, to));
+            return Ok(Judgement::Rejected(Reason::Edge(at as u32, to)));
         }
     }
-    Ok(Gathering::All(gathered))
+    Ok(Judgement::Accepted(gathered))
 }

@@ -16,29 +16,21 @@ ghost use Rattle.cert_check.specs.Reading.{read_seeds};
 ghost use Rattle.cert_check.specs.Verdict.{HasReset, IsVerdict, IsReason, IsJudgement};
 ghost use Rattle.cert_check.specs.Demands.{AreBeside, SettlesClaim};
 
-use crate::gathering::{Gathering, LandedNodes, gather};
+use crate::gathering::{LandedNodes, gather};
 use crate::landing::{LandingSite, lands};
 use crate::reading::read;
-use crate::verdict::{Judgement, Reason, Verdict};
+use crate::verdict::{Judgement, Reason};
 use crate::weighing::weigh;
 use avr_model::listed::Listed;
 use call_graph::{Expanded, Filled, Landing, Leaving, Task, Worked, exits, expand};
 use certificate::Certificate;
-use flash_image::Flash;
 use local_rules::Exit;
 use local_rules::laws::words_have_16_bits;
 use mask_states::{InstKey, NodeKey};
-use std::alloc::{AllocError, Global};
-use vector_table::Assumptions;
+use std::alloc::AllocError;
 
-// The result for the expanded nodes.
-#[derive(Drop)]
-pub(crate) enum Settled {
-    // All conditions hold; the landings of each node.
-    Met(Listed<Listed<Landing>>),
-    // The first reason against them.
-    Refused(Reason),
-}
+// The landings of the edges of each node, or the first reason.
+type Landings = Judgement<Listed<Listed<Landing>>>;
 
 // The result if no node has a fault.
 fn settle_edges(
@@ -46,7 +38,7 @@ fn settle_edges(
     certificate: &Certificate,
     nodes: &Filled,
     exits: &Listed<Option<Exit>>,
-) -> Result<Settled, AllocError>
+) -> Result<Landings, AllocError>
     requires claim { IsClaim certificate.now }
     requires device { certificate.now.device ≡ device_of task.now.flash.now }
     requires filled { IsFilled task.now.flash.now task.now.assumptions.now (read_seeds (has_pairs task.now.assumptions.now) certificate.now.nodes) nodes.now }
@@ -55,18 +47,18 @@ fn settle_edges(
     ensures { IfOk result (λ settled. SettlesClaim task.now.flash.now task.now.assumptions.now certificate.now nodes.now settled) }
 {
     match gather(task, certificate, nodes, exits)? {
-        Gathering::Gap(at, to) => Ok(Settled::Refused(Reason::Edge(at as u32, to))),
-        Gathering::All(LandedNodes { demands, landings }) => match weigh(
+        Judgement::Accepted(LandedNodes { demands, landings }) => match weigh(
             task,
             certificate,
             &demands,
         ) {
-            Verdict::Accepted(_) => Ok(Settled::Met(landings)),
-            Verdict::Rejected(reason) => {
+            Judgement::Accepted(_) => Ok(Judgement::Accepted(landings)),
+            Judgement::Rejected(reason) => {
                 drop(landings);
-                Ok(Settled::Refused(reason))
+                Ok(Judgement::Rejected(reason))
             }
         },
+        Judgement::Rejected(reason) => Ok(Judgement::Rejected(reason)),
     }
 }
 
@@ -86,17 +78,24 @@ fn has_reset(task: &Task<'_>, certificate: &Certificate, nodes: &Filled) -> Resu
 }
 
 // The result for the expanded nodes, by the conditions in order.
-fn settle(task: &Task<'_>, certificate: &Certificate, nodes: &Filled) -> Result<Settled, AllocError>
+fn settle(
+    task: &Task<'_>,
+    certificate: &Certificate,
+    nodes: &Filled,
+) -> Result<Landings, AllocError>
     requires claim { IsClaim certificate.now }
     requires device { certificate.now.device ≡ device_of task.now.flash.now }
     requires filled { IsFilled task.now.flash.now task.now.assumptions.now (read_seeds (has_pairs task.now.assumptions.now) certificate.now.nodes) nodes.now }
     ensures { IfOk result (λ settled. SettlesClaim task.now.flash.now task.now.assumptions.now certificate.now nodes.now settled) }
 {
     if !has_reset(task, certificate, nodes)? {
-        return Ok(Settled::Refused(Reason::Root));
+        return Ok(Judgement::Rejected(Reason::Root));
     }
     match exits(task, nodes)? {
-        Leaving::Fault(at, fault) => Ok(Settled::Refused(Reason::Node(at as u32, fault.cause()))),
+        Leaving::Fault(at, fault) => Ok(Judgement::Rejected(Reason::Node(
+            at as u32,
+            fault.cause(),
+        ))),
         Leaving::All(exits) => settle_edges(task, certificate, nodes, &exits),
     }
 }
@@ -106,15 +105,15 @@ fn judge_nodes(
     task: &Task<'_>,
     certificate: &Certificate,
     nodes: Filled,
-) -> Result<Judgement, AllocError>
+) -> Result<Judgement<Worked>, AllocError>
     requires claim { IsClaim certificate.now }
     requires device { certificate.now.device ≡ device_of task.now.flash.now }
     requires filled { IsFilled task.now.flash.now task.now.assumptions.now (read_seeds (has_pairs task.now.assumptions.now) certificate.now.nodes) nodes }
     ensures { IfOk result (λ judgement. IsJudgement task.now.flash.now task.now.assumptions.now certificate.now judgement) }
 {
     match settle(task, certificate, &nodes) {
-        Ok(Settled::Met(landings)) => Ok(Judgement::Accepted(Worked { nodes, landings })),
-        Ok(Settled::Refused(reason)) => {
+        Ok(Judgement::Accepted(landings)) => Ok(Judgement::Accepted(Worked { nodes, landings })),
+        Ok(Judgement::Rejected(reason)) => {
             drop(nodes);
             Ok(Judgement::Rejected(reason))
         }
@@ -139,17 +138,22 @@ fn expanded(task: &Task<'_>, certificate: &Certificate) -> Result<Expanded, Allo
     expand(task, &reading)
 }
 
-/// Judges a certificate, which must be for the firmware's device, under assumptions, by the conditions in order. If all conditions but that
-/// on the schedule hold, the result is its family of at most 65,536 nodes: the expanded nodes, which meet the conditions, and the landings
-/// of their edges. Else it is the first reason, with its least numbers. Fails if memory runs out. Each edge is visited once. The local part
-/// of each node is computed twice, and once more for each node that comes from it. The nodes are copied if exactly one of the list of the
-/// call and the certificate's own has the line `pairs`.
-pub fn judge_family(task: &Task<'_>, certificate: &Certificate) -> Result<Judgement, AllocError>
-    requires { certificate.now.device ≡ device_of task.now.flash.now }
+/// Judges a certificate under assumptions, by the conditions in order. If all conditions but that on the schedule hold, the result is its
+/// family of at most 65,536 nodes: the expanded nodes, which meet the conditions, and the landings of their edges. Else it is the first
+/// reason, with its least numbers; a certificate for another device than the firmware's has no other. Fails if memory runs out. Each edge is
+/// visited once. The local part of each node is computed twice, and once more for each node that comes from it. The nodes are copied if
+/// exactly one of the list of the call and the certificate's own has the line `pairs`.
+pub fn judge_family(
+    task: &Task<'_>,
+    certificate: &Certificate,
+) -> Result<Judgement<Worked>, AllocError>
     ensures exact { IfOk result (λ judgement. IsJudgement task.now.flash.now task.now.assumptions.now certificate.now judgement) }
     ensures few { IfOk result (λ judgement. (family : worked_type.Worked) → judgement ≡ Judgement.Accepted family → length family.nodes ≤ 65536) }
 {
     let _nodes = certificate.nodes();
+    if certificate.device() != task.flash.device() {
+        return Ok(Judgement::Rejected(Reason::Device));
+    }
     match expanded(task, certificate)? {
         Expanded::Missing(at) => Ok(Judgement::Rejected(Reason::Expansion(at))),
         Expanded::Whole(nodes) => judge_nodes(task, certificate, nodes),
@@ -157,42 +161,31 @@ pub fn judge_family(task: &Task<'_>, certificate: &Certificate) -> Result<Judgem
 }
 
 // The verdict of a judgement.
-fn verdict_of(certificate: &Certificate, judgement: Judgement) -> Verdict
+fn verdict_of(certificate: &Certificate, judgement: Judgement<Worked>) -> Judgement<u16>
     ensures { (words : Program) (A : List Entry) → IsJudgement words A certificate.now judgement → IsVerdict words A certificate.now result }
 {
     match judgement {
         Judgement::Accepted(family) => {
             drop(family);
-            Verdict::Accepted(certificate.bound())
+            Judgement::Accepted(certificate.bound())
         }
-        Judgement::Rejected(reason) => Verdict::Rejected(reason),
+        Judgement::Rejected(reason) => Judgement::Rejected(reason),
     }
 }
 
-/// The verdict on a certificate, which must be for the firmware's device, under assumptions. It accepts exactly if all conditions but that
-/// on the schedule hold. Then every run from reset stays within the certificate's bound, and meets neither an undefined word nor a push
-/// outside SRAM. Else the verdict is the first reason, with its least numbers. Fails if memory runs out. Each edge is visited once. The
-/// local part of each node is computed twice, and once more for each node that comes from it. The nodes are copied if exactly one of the
-/// list of the call and the certificate's own has the line `pairs`.
-pub fn judge(
-    alloc: Global,
-    flash: &Flash,
-    assumptions: &Assumptions,
-    certificate: &Certificate,
-) -> Result<Verdict, AllocError>
-    requires { certificate.now.device ≡ device_of flash.now }
-    ensures exact { IfOk result (λ verdict. IsVerdict flash.now assumptions.now certificate.now verdict) }
-    ensures accepted { IfOk result (λ verdict. (b : ℕ) → (verdict ≡ Verdict.Accepted b) ↔ (IsSound flash.now assumptions.now certificate.now × (b ≡ certificate.now.bound))) }
-    ensures bounded { (b : ℕ) → result ≡ Ok (Verdict.Accepted b) → Bounded flash.now assumptions.now b }
-    ensures rejected { IfOk result (λ verdict. (r : reason_type.Reason) → (verdict ≡ Verdict.Rejected r) ↔ IsReason flash.now assumptions.now certificate.now r) }
+/// The verdict on a certificate under assumptions. It accepts exactly if all conditions but that on the schedule hold, the first being that
+/// the certificate is for the firmware's device. Then every run from reset stays within the certificate's bound, and meets neither an
+/// undefined word nor a push outside SRAM. Else the verdict is the first reason, with its least numbers. Fails if memory runs out. Each edge
+/// is visited once. The local part of each node is computed twice, and once more for each node that comes from it. The nodes are copied if
+/// exactly one of the list of the call and the certificate's own has the line `pairs`.
+pub fn judge(task: &Task<'_>, certificate: &Certificate) -> Result<Judgement<u16>, AllocError>
+    ensures exact { IfOk result (λ verdict. IsVerdict task.now.flash.now task.now.assumptions.now certificate.now verdict) }
+    ensures accepted { IfOk result (λ verdict. (b : ℕ) → (verdict ≡ Judgement.Accepted b) ↔ (IsSound task.now.flash.now task.now.assumptions.now certificate.now × (b ≡ certificate.now.bound))) }
+    ensures bounded { (b : ℕ) → result ≡ Ok (Judgement.Accepted b) → Bounded task.now.flash.now task.now.assumptions.now b }
+    ensures rejected { IfOk result (λ verdict. (r : reason_type.Reason) → (verdict ≡ Judgement.Rejected r) ↔ IsReason task.now.flash.now task.now.assumptions.now certificate.now r) }
 {
-    words_have_16_bits(flash.words());
+    words_have_16_bits(task.flash.words());
     let _nodes = certificate.nodes();
-    let task = Task {
-        alloc,
-        flash,
-        assumptions,
-    };
-    let judgement = judge_family(&task, certificate)?;
+    let judgement = judge_family(task, certificate)?;
     Ok(verdict_of(certificate, judgement))
 }

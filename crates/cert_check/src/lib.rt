@@ -13,4 +13,4 @@ mod weighing;
 
 pub use attaining::is_attained;
 pub use judging::{judge, judge_family};
-pub use verdict::{Judgement, Reason, Verdict};
+pub use verdict::{Judgement, Reason};

@@ -1,11 +1,12 @@
-//! Verdicts on a certificate.
+//! Judgements on a certificate.
 
-use call_graph::Worked;
 use mask_states::NodeKey;
 
 /// The reason for a refusal. Nodes and instances are numbered from 0 in order.
 #[derive(Clone, Copy)]
 pub enum Reason {
+    /// The certificate is for another device.
+    Device,
     /// The root's node is missing, or its state is not above that at reset.
     Root,
     /// The first node with a fault, and its cause (1, 4, 5, 6 or 8).
@@ -25,20 +26,11 @@ pub enum Reason {
     Expansion(u32),
 }
 
-/// The verdict on a certificate, but for its schedule.
-#[derive(Clone, Copy)]
-pub enum Verdict {
-    /// All conditions hold; the bound.
-    Accepted(u16),
-    /// The first reason against it.
-    Rejected(Reason),
-}
-
-/// The judgement on a certificate but for its schedule, with its family if all conditions hold.
+/// A judgement on a certificate, but for its schedule: accepted with its bound or its family, or rejected.
 #[derive(Drop)]
-pub enum Judgement {
-    /// All conditions hold; the expanded nodes, and the landings of their edges.
-    Accepted(Worked),
+pub enum Judgement<T> {
+    /// All conditions hold.
+    Accepted(T),
     /// The first reason against it.
     Rejected(Reason),
 }

@@ -8,7 +8,7 @@ ghost use Rattle.certificate.specs.Insts.{inst_keys};
 ghost use Rattle.cert_check.specs.Demands.{AreInstances, AreDemandsInside, IsInside, IsLeastOffered, IsOfferNoted, MeetsRank, LowRank, PairBelow, lesser_pair, MeetsNeed, LowNeed, NumberBelow, lesser_number, IsMost, more_asked, IsWeighed};
 
 use crate::demand::{Demand, need_at, number_of, rank_at};
-use crate::verdict::{Reason, Verdict};
+use crate::verdict::{Judgement, Reason};
 use call_graph::Task;
 use certificate::{Certificate, Inst};
 use flash_image::Flash;
@@ -118,8 +118,12 @@ fn is_bounded(flash: &Flash, bound: u16, need: u32) -> bool
     need <= u32::from(bound) && bound <= flash.device().size()
 }
 
-// The verdict if all edges land, by the demands of nodes.
-pub(crate) fn weigh(task: &Task<'_>, certificate: &Certificate, demands: &[Demand]) -> Verdict
+// The bound, or the first reason, if all edges land, by the demands of nodes.
+pub(crate) fn weigh(
+    task: &Task<'_>,
+    certificate: &Certificate,
+    demands: &[Demand],
+) -> Judgement<u16>
     requires claim { IsClaim certificate.now }
     requires inside { AreDemandsInside certificate.now.instances demands.now }
     requires root { Contains (inst_keys certificate.now.instances) root_inst }
@@ -127,18 +131,18 @@ pub(crate) fn weigh(task: &Task<'_>, certificate: &Certificate, demands: &[Deman
 {
     let instances = certificate.instances();
     if let Some((j, l)) = low_rank(instances, demands) {
-        return Verdict::Rejected(Reason::Rank(j as u32, l as u32));
+        return Judgement::Rejected(Reason::Rank(j as u32, l as u32));
     }
     if let Some(j) = low_need(instances, demands) {
-        return Verdict::Rejected(Reason::Need(j as u32, most_asked(demands, j)));
+        return Judgement::Rejected(Reason::Need(j as u32, most_asked(demands, j)));
     }
     let need = need_at(instances, number_of(instances, &InstKey::root()));
     let bound = certificate.bound();
     if !is_bounded(task.flash, bound, need) {
-        return Verdict::Rejected(Reason::Bound(need));
+        return Judgement::Rejected(Reason::Bound(need));
     }
     if !certificate.assumptions().same(task.assumptions) {
-        return Verdict::Rejected(Reason::Assumptions);
+        return Judgement::Rejected(Reason::Assumptions);
     }
-    Verdict::Accepted(bound)
+    Judgement::Accepted(bound)
 }

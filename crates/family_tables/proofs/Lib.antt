@@ -1,4 +1,3 @@
 pub mod Growing
 pub mod Sampled
-pub mod Listed
 pub mod Clearness

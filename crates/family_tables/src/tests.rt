@@ -4,6 +4,7 @@ mod clearness;
 mod doors;
 mod edges;
 mod forms;
+mod misfits;
 mod nesting;
 mod notes;
 mod seeds;
@@ -71,6 +72,7 @@ fn tell_families(told: &mut Told, alloc: Global) {
     tell(told, alloc, &edges::ROWS);
     tell(told, alloc, &forms::ROWS);
     tell(told, alloc, &verdicts::ROWS);
+    tell(told, alloc, &misfits::ROWS);
     tell(told, alloc, &doors::ROWS);
     tell(told, alloc, &trials::ROWS);
 }

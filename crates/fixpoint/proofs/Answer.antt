@@ -1,14 +1,16 @@
 -- The end of the rounds and certificates.
-use Rattle.std.proofs.Common.{◌≡◌, ◌≢◌, refl, sym, ℕ, ◌≤◌, List, Option, None}
+use Rattle.std.proofs.Common.{◌≡◌, ◌≢◌, refl, sym, subst, ℕ, ◌≤◌, List, Option, None}
+use Rattle.avr_model.specs.declared.device.Device.{Device}
 use Rattle.avr_model.specs.declared.assumption.Entry.{Entry}
-use Rattle.avr_model.specs.Devices.{Program}
+use Rattle.avr_model.specs.Devices.{Program, device_of}
 use Rattle.certificate.specs.Claims.{Claim, IsClaim}
 use Rattle.certificate.specs.Valid.{IsValid}
 use Rattle.round_rules.specs.declared.refusal.Refusal.{Refusal}
 use Rattle.round_rules.specs.declared.refusal.Refusal.TheVariants as refusal
 use Rattle.round_rules.specs.Families.{Family}
-use Rattle.round_rules.specs.Solutions.{IsShown, IsSolution, IsAnswer, IsRefusal, IsWhyNot}
+use Rattle.round_rules.specs.Solutions.{IsShown, IsSolution, IsAnswer, IsRefusal, AreRoundsWithout, AllFit, IsWhyNot}
 use Rattle.round_laws.proofs.AllLaws.{rounds_are_least, solutions_are_valid}
+use Rattle.round_solutions.proofs.AnswerLaws.{misfit_fits, never_misfit}
 use Rattle.fixpoint.specs.Progress.{AreRoundsFound}
 
 module _ (words : Program) (A : List Entry) where
@@ -24,11 +26,28 @@ module _ (words : Program) (A : List Entry) where
   never_shown : (steps : Option ℕ) (r : Refusal) → IsRefusal words A steps r → (other : Claim) → IsShown words A other → ⊥
   never_shown steps r why other shown = rounds_are_least.never words A why.number other r shown why.refused
 
+  -- the list of a certificate fits the device
+  shown_fits : (other : Claim) → IsShown words A other → AllFit (device_of words) A
+  shown_fits other shown =
+      let meets = shown.sound.meets in
+      subst (λ (d : Device). AllFit d A) meets.device (subst (AllFit other.device) meets.assumptions shown.claim.entries_of_device)
+
   -- a refusal without a budget excludes every certificate
   pub none_shown : (steps : Option ℕ) (r : Refusal) → IsWhyNot words A steps r → steps ≡ None → r ≢ refusal.Memory → (other : Claim) → IsShown words A other → ⊥
-  none_shown steps (refusal.Spent n) why none real other shown = absurd (let never = sym none in let e = why.0 in cc)
+  none_shown steps (refusal.Misfit at) why none real other shown = misfit_fits (device_of words) A at why (shown_fits other shown)
+  none_shown steps (refusal.Spent n) why none real other shown = absurd (let never = sym none in let e = why.1.0 in cc)
   none_shown steps refusal.Memory why none real other shown = absurd (real refl)
-  none_shown steps (refusal.Node x) why none real other shown = never_shown steps (refusal.Node x) why other shown
-  none_shown steps (refusal.Recursion word) why none real other shown = never_shown steps (refusal.Recursion word) why other shown
-  none_shown steps (refusal.ReEntry v word) why none real other shown = never_shown steps (refusal.ReEntry v word) why other shown
-  none_shown steps (refusal.TooLarge limit) why none real other shown = never_shown steps (refusal.TooLarge limit) why other shown
+  none_shown steps (refusal.Node x) why none real other shown = never_shown steps (refusal.Node x) why.1 other shown
+  none_shown steps (refusal.Recursion word) why none real other shown = never_shown steps (refusal.Recursion word) why.1 other shown
+  none_shown steps (refusal.ReEntry v word) why none real other shown = never_shown steps (refusal.ReEntry v word) why.1 other shown
+  none_shown steps (refusal.TooLarge limit) why none real other shown = never_shown steps (refusal.TooLarge limit) why.1 other shown
+
+  -- if all entries fit, the reason of the rounds is that of the answer
+  pub told_why : (steps : Option ℕ) (r : Refusal) → AllFit (device_of words) A → AreRoundsWithout words A steps r → IsWhyNot words A steps r
+  told_why steps (refusal.Misfit at) fit why = absurd (never_misfit at why.refused.test why.refused.is)
+  told_why steps (refusal.Spent n) fit why = (fit, why)
+  told_why steps refusal.Memory fit why = tt
+  told_why steps (refusal.Node x) fit why = (fit, why)
+  told_why steps (refusal.Recursion word) fit why = (fit, why)
+  told_why steps (refusal.ReEntry v word) fit why = (fit, why)
+  told_why steps (refusal.TooLarge limit) fit why = (fit, why)

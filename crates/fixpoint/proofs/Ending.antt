@@ -25,7 +25,7 @@ use Rattle.round_rules.specs.declared.refusal.Refusal.TheVariants as refusal
 use Rattle.round_rules.specs.Families.{Family, FamilyHasInst, AreFormed, IsClosed, cells}
 use Rattle.round_rules.specs.Rounds.{first, IsNext, Comes}
 use Rattle.round_rules.specs.Refusals.{Test, over, faulty, re_entry, recursion, too_deep, refusal_of}
-use Rattle.round_rules.specs.Solutions.{IsWithinBudget, IsWhyNot, IsRefusal}
+use Rattle.round_rules.specs.Solutions.{IsWithinBudget, AreRoundsWithout, IsRefusal}
 use Rattle.round_laws.specs.Steps.{joined_with, raised_all, HaveOwnKeys, weight}
 use Rattle.round_laws.proofs.AllLaws.{rounds_are_joins, rounds_are_least, comes_root}
 use Rattle.round_steps.specs.declared.noting.Notes.{Notes}
@@ -106,10 +106,11 @@ module _ (words : Program) (A : List Entry) where
   spent_no_memory n e = cc
 
   refused_by : (steps : Option ℕ) (n : ℕ) (f : Family) (r : Refusal) → IsWithinBudget steps n → Comes words A n f → (r ≢ refusal.Memory → IsRefusal words A steps r)
-      → (r ≢ refusal.Memory → AreRoundsStopped words A f r) → IsWhyNot words A steps r
+      → (r ≢ refusal.Memory → AreRoundsStopped words A f r) → AreRoundsWithout words A steps r
   refused_by steps n f (refusal.Spent m) within comes refused stopped =
       let s = stopped (spent_no_memory m) in absurd (never_spent m s.test s.is)
   refused_by steps n f refusal.Memory within comes refused stopped = tt
+  refused_by steps n f (refusal.Misfit at) within comes refused stopped = refused (λ e. let never = e in cc)
   refused_by steps n f (refusal.Node x) within comes refused stopped = refused (λ e. let never = e in cc)
   refused_by steps n f (refusal.Recursion word) within comes refused stopped = refused (λ e. let never = e in cc)
   refused_by steps n f (refusal.ReEntry v word) within comes refused stopped = refused (λ e. let never = e in cc)
@@ -119,7 +120,7 @@ module _ (words : Program) (A : List Entry) where
     within : IsWithinBudget steps p.number
     within = within_left steps left p.number p.budget
 
-    pub why_stopped : (r : Refusal) → (r ≢ refusal.Memory → AreRoundsStopped words A f r) → IsWhyNot words A steps r
+    pub why_stopped : (r : Refusal) → (r ≢ refusal.Memory → AreRoundsStopped words A f r) → AreRoundsWithout words A steps r
     why_stopped r stopped =
         refused_by steps p.number f r within p.comes
         (λ real. let s = stopped real in
@@ -165,10 +166,10 @@ module _ (words : Program) (A : List Entry) where
           counted = counted;
         }
 
-        pub why_spent : (r : Refusal) → ((n : ℕ) → IsBudgetLeft steps left n → IsSpent steps n r) → IsWhyNot words A steps r
+        pub why_spent : (r : Refusal) → ((n : ℕ) → IsBudgetLeft steps left n → IsSpent steps n r) → AreRoundsWithout words A steps r
         why_spent r spent =
             let s = spent p.number p.budget in
-            subst (IsWhyNot words A steps) (sym s.0) (s.1, record { family = f; comes = p.comes; passes = ready.passes; more = still_open })
+            subst (AreRoundsWithout words A steps) (sym s.0) (s.1, record { family = f; comes = p.comes; passes = ready.passes; more = still_open })
 
         pub falls : 9416690630657 - weight g < 9416690630657 - weight f
         falls =

@@ -4,6 +4,7 @@
 
 mod checking;
 mod confirming;
+mod fitting;
 pub mod forming;
 mod leading;
 pub mod ordering;

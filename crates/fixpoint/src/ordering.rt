@@ -6,7 +6,7 @@ ghost use Rattle.std.specs.BinaryHeap.{heap_len};
 ghost use Rattle.round_nesting.specs.Nestings.{AreOnce};
 ghost use Rattle.round_rules.specs.Families.{cells};
 ghost use Rattle.round_laws.specs.Closed.{IsMade};
-ghost use Rattle.round_rules.specs.Solutions.{IsWhyNot};
+ghost use Rattle.round_rules.specs.Solutions.{AreRoundsWithout};
 ghost use Rattle.round_laws.specs.Steps.{weight};
 ghost use Rattle.round_steps.specs.Notings.{blank};
 ghost use Rattle.fixpoint.specs.Progress.{AreRoundsFound};
@@ -202,7 +202,7 @@ pub fn ordered_family(task: &Task<'_>, most: usize) -> Result<Table, Unfound>
 // The family at which the rounds end, or why they end at none within the budget, with no hurry.
 fn unhurried_family(task: &Task<'_>, steps: Option<u64>) -> Result<Table, Refusal>
     ensures found { IfOk result (λ f. AreRoundsFound task.now.flash.now task.now.assumptions.now steps f) }
-    ensures why_not { IfErr result (λ r. IsWhyNot task.now.flash.now task.now.assumptions.now steps r) }
+    ensures why_not { IfErr result (λ r. AreRoundsWithout task.now.flash.now task.now.assumptions.now steps r) }
 {
     match least_family(task, steps, None) {
         Ok(Some(table)) => Ok(table),
@@ -220,7 +220,7 @@ const TURNS: [usize; 4] = [65_536, 524_288, 4_194_304, 33_554_432];
 /// neither costs much more than the other. If the other order stops, the rounds go to their end.
 pub fn found_family(task: &Task<'_>, steps: Option<u64>) -> Result<Table, Refusal>
     ensures found { IfOk result (λ f. AreRoundsFound task.now.flash.now task.now.assumptions.now steps f) }
-    ensures why_not { IfErr result (λ r. IsWhyNot task.now.flash.now task.now.assumptions.now steps r) }
+    ensures why_not { IfErr result (λ r. AreRoundsWithout task.now.flash.now task.now.assumptions.now steps r) }
 {
     if steps.is_some() {
         return unhurried_family(task, steps);

@@ -8,7 +8,7 @@ ghost use Rattle.mask_states.specs.Keys.{root_inst};
 ghost use Rattle.round_rules.specs.declared.refusal.Refusal.TheVariants.{Memory};
 ghost use Rattle.round_rules.specs.Families.{AreFormed, FamilyHasInst, cells};
 ghost use Rattle.round_rules.specs.Rounds.{first};
-ghost use Rattle.round_rules.specs.Solutions.{IsWhyNot};
+ghost use Rattle.round_rules.specs.Solutions.{AreRoundsWithout};
 ghost use Rattle.round_steps.specs.Joins.{KeptBut};
 ghost use Rattle.round_steps.specs.Notings.{blank};
 ghost use Rattle.fixpoint.specs.Progress.{Turn, IsBudgetLeft, IsSpent, AreRoundsFound};
@@ -111,7 +111,7 @@ fn go_on(
     requires no_notes { notes.old ≡ blank }
     ensures found { IfOk result (λ ended. ended ≡ true → AreRoundsFound task.now.flash.now task.now.assumptions.now steps table.new) }
     ensures late { IfOk result (λ ended. ended ≡ false → IsSome hurry) }
-    ensures why_not { IfErr result (λ r. IsWhyNot task.now.flash.now task.now.assumptions.now steps r) }
+    ensures why_not { IfErr result (λ r. AreRoundsWithout task.now.flash.now task.now.assumptions.now steps r) }
 {
     let mut counted = 0;
     let mut work = start(task, table, &mut counted)?;
@@ -141,7 +141,7 @@ pub fn least_family(
 ) -> Result<Option<Table>, Refusal>
     ensures found { IfOk result (λ told. IfSome told (λ f. AreRoundsFound task.now.flash.now task.now.assumptions.now steps f)) }
     ensures late { IfOk result (λ told. told ≡ None → IsSome hurry) }
-    ensures why_not { IfErr result (λ r. IsWhyNot task.now.flash.now task.now.assumptions.now steps r) }
+    ensures why_not { IfErr result (λ r. AreRoundsWithout task.now.flash.now task.now.assumptions.now steps r) }
 {
     let mut table = Table::new(task.alloc);
     let mut notes = Notes::new(task.alloc);

@@ -27,8 +27,8 @@ use Rattle.cert_format.specs.Exact.{ReadCertificateIsSpelled, SpelledCertificate
 use Rattle.cert_check.specs.Laws.{VerdictsAreOne, SoundCertificatesBoundEveryRun}
 use Rattle.cert_check.specs.Verdict.{IsVerdict}
 use Rattle.cert_check.specs.declared.verdict.Reason.{Reason}
-use Rattle.cert_check.specs.declared.verdict.Verdict.{Verdict}
-use Rattle.cert_check.specs.declared.verdict.Verdict.TheVariants.{Accepted, Rejected}
+use Rattle.cert_check.specs.declared.verdict.Judgement.{Judgement}
+use Rattle.cert_check.specs.declared.verdict.Judgement.TheVariants.{Accepted, Rejected}
 use Rattle.replies.specs.declared.status.Status.{Status}
 use Rattle.replies.specs.declared.status.Status.TheVariants as exit
 use Rattle.replies.specs.declared.raw.RawRefusal.TheVariants as raw
@@ -225,7 +225,7 @@ pub record IsAccepted (words : Program) (A : List Entry) (next : Claim → Reply
   pub sound : IsSound words A c
   pub told : IsAttainmentTold words A (next c) c.bound c.witness text
 
-zero_verdict : (words : Program) (A : List Entry) (next : Claim → Reply) (c : Claim) (v : Verdict) (text : List ℕ) → IsVerdict words A c v → VerdictReply words A next c v exit.Done text → IsAccepted words A next c text
+zero_verdict : (words : Program) (A : List Entry) (next : Claim → Reply) (c : Claim) (v : Judgement ℕ) (text : List ℕ) → IsVerdict words A c v → VerdictReply words A next c v exit.Done text → IsAccepted words A next c text
 zero_verdict words A next c (Rejected reason) text is h = absurd (not_rejected h.0)
 zero_verdict words A next c (Accepted bound) text is h =
     record { sound = is.0; told = subst (λ b. IsAttainmentTold words A (next c) b c.witness text) is.1 (zero_witness words A (next c) bound c.witness text h) }
@@ -262,7 +262,7 @@ by_witness words A next c (Some plan) status text sound is h = by_attained words
 rejected_apart : (reason : Reason) (bound : ℕ) → Rejected reason ≡ Accepted bound → ⊥
 rejected_apart reason bound e = cc
 
-by_verdict : VerdictsAreOne → (words : Program) (A : List Entry) (next : Claim → Reply) (c : Claim) → IsClaim c → (v : Verdict) (status : Status) (text : List ℕ) → IsVerdict words A c v
+by_verdict : VerdictsAreOne → (words : Program) (A : List Entry) (next : Claim → Reply) (c : Claim) → IsClaim c → (v : Judgement ℕ) (status : Status) (text : List ℕ) → IsVerdict words A c v
     → VerdictReply words A next c v status text → IsJudged words A next c status text
 by_verdict verdicts words A next c claim (Rejected reason) status text is h =
     inr (λ v. rejected_apart reason c.bound (verdicts words A c (Rejected reason) (Accepted c.bound) claim is (v.sound, refl)), h.0)

@@ -1,5 +1,5 @@
 -- The statements of answers, by command.
-use Rattle.std.proofs.Common.{◌≡◌, ◌≤◌, ◌*◌, ◌%◌, inl, inr, ℕ, Bool, true, false, List, [], ◌∷◌, map, length, Option, Some, None, Result, Ok, Err, refl, sym, ap, ◌∙◌, subst}
+use Rattle.std.proofs.Common.{◌≡◌, ◌≤◌, ◌*◌, ◌%◌, inl, inr, ℕ, Bool, true, false, List, [], ◌∷◌, map, length, Option, Some, None, Result, Ok, Err, refl, sym, ap, ◌∙◌, subst, arith}
 use Rattle.std.specs.Prelude.{◌↔◌, ◌⊎◌, Contains}
 use Rattle.std.specs.Option.{is_some}
 use Rattle.basics.specs.Items.{none_in}
@@ -20,6 +20,7 @@ use Rattle.certificate.specs.Claims.{Claim}
 use Rattle.cert_format.specs.Exact.{ReadCertificateIsSpelled, SpelledCertificateIsRead}
 use Rattle.cert_check.specs.Laws.{VerdictsAreOne, SoundCertificatesBoundEveryRun}
 use Rattle.round_laws.specs.Laws.{RoundsAreLeast, SolutionsAreValid}
+use Rattle.round_rules.specs.Solutions.{AllFit}
 use Rattle.round_solutions.specs.Answers.{AnswersAreOne}
 use Rattle.witness_search.specs.Laws.{WaypointsAreOne}
 use Rattle.demo_image.specs.Image.{demo_program}
@@ -79,6 +80,18 @@ pub record ClearIsTold : Type 0 where
 no_words : (places : List FlaggedPlace) → map word_of places ≡ [] → places ≡ []
 no_words [] e = refl
 no_words (p ∷ ps) e = absurd (cc)
+
+-- a list that is read fits the device
+none_fit : (device : Device) → AllFit device []
+none_fit device k d lt = absurd (omega (arith, lt))
+
+list_fits : (device : Device) (list : Option (List ℕ)) (A : List Entry) → IsListOf device list A → AllFit device A
+list_fits device None A h = subst (AllFit device) (sym h) (none_fit device)
+list_fits device (Some bytes) A h = h.fits.fit
+
+means_fit : (device : Device) (firmware : List ℕ) (list : Option (List ℕ)) (words : Program) (A : List Entry) → IsFirmware device firmware words → IsListOf device list A
+    → AllFit (device_of words) A
+means_fit device firmware list words A image listed = subst (λ (d : Device). AllFit d A) (sym image.narrowed.is) (list_fits device list A listed)
 
 abbrev request : Device → List ℕ → Option (List ℕ) → Work → Command
 request device fw assume work = On (record { device = device; firmware = fw; assume = assume; work = work })
@@ -296,7 +309,8 @@ module _
 
   least_text : (device : Device) (assume : Option (List ℕ)) (steps : Option ℕ) (seen : Contents) (text firmware : List ℕ) (list : Option (List ℕ)) (A : List Entry) → AreLoaded assume seen firmware list
       → IsFirmware device firmware (firmware_image device firmware) → IsListOf device list A → AreWords (firmware_image device firmware) → AnalyseReply (firmware_image device firmware) A steps exit.Done text → IsLeastAsRead device assume seen text
-  least_text device assume steps seen text firmware list A loaded image listed has (inr h) = absurd (not_written answers rounds solutions bounds runs (firmware_image device firmware) A steps text h)
+  least_text device assume steps seen text firmware list A loaded image listed has (inr h) = absurd (not_written answers rounds solutions bounds runs (firmware_image device firmware) A steps
+      (means_fit device firmware list (firmware_image device firmware) A image listed) text h)
   least_text device assume steps seen text firmware list A loaded image listed has (inl h) =
       let best = analysis_best answers rounds solutions bounds runs (firmware_image device firmware) A steps h.claim h.analysis in
       let stand : StandFor device firmware text list (firmware_image device firmware) h.claim A = record { mean = record { image = image; assumptions = listed }; made_for = best.valid.sound.meets.device; fits = best.fits; bytes = h.says.1 } in
@@ -335,7 +349,7 @@ module _
       let first : WithOptional assume seen.assumptions (AfterAnalysis device steps firmware) status text = file_read fw seen.firmware firmware (λ b. WithOptional assume seen.assumptions (AfterAnalysis device steps b)) status text loaded.firmware_read h in
       let second = optional_read assume seen.assumptions list (AfterAnalysis device steps firmware) status text loaded.list_read first in
       let image = image_read raw images narrowing lists read spelled bounds device no_reply firmware words (λ ws. WithList device list (λ B. AnalyseReply ws B steps)) status text mean.image second in
-      says_ends answers rounds solutions bounds runs words A steps status text
+      says_ends answers rounds solutions bounds runs words A steps (means_fit device firmware list words A mean.image mean.assumptions) status text
       (analyse_ends answers rounds solutions bounds runs words A steps status text (list_read raw images narrowing lists read spelled bounds device no_reply list A (λ B. AnalyseReply words B steps) status text mean.assumptions image))
 
   -- ---- simulate
@@ -396,7 +410,7 @@ module _
 
   measured : (size : ℕ) (text : List ℕ) → DemoReply size exit.Done text → IsMeasured size text
   measured size text (inl h) = record { claim = h.claim; fits = h.fits; answer = h.answer; told = h.says.1 }
-  measured size text (inr k) = absurd (not_written answers rounds solutions bounds runs (demo_program size) [] None text k)
+  measured size text (inr k) = absurd (not_written answers rounds solutions bounds runs (demo_program size) [] None (none_fit (device_of (demo_program size))) text k)
 
   demo_ends : (size : ℕ) (status : Status) (text : List ℕ) → DemoReply size status text → Ends answers rounds solutions bounds runs (demo_program size) [] None status text
   demo_ends size status text (inl h) = inl (record { claim = h.claim; fits = h.fits; answer = h.answer; zero = h.says.0 })
@@ -451,4 +465,4 @@ module _
 
   pub replies_are_exact : RepliesAreExact
   replies_are_exact (On r) seen status text h = work_is_exact r.device r.firmware r.assume r.work seen status text h
-  replies_are_exact (Demo size) seen status text h = says_ends answers rounds solutions bounds runs (demo_program size) [] None status text (demo_ends size status text h)
+  replies_are_exact (Demo size) seen status text h = says_ends answers rounds solutions bounds runs (demo_program size) [] None (none_fit (device_of (demo_program size))) status text (demo_ends size status text h)

@@ -18,9 +18,10 @@ use Rattle.cert_check.specs.Laws.{SoundCertificatesBoundEveryRun}
 use Rattle.round_rules.specs.declared.refusal.Refusal.{Refusal}
 use Rattle.round_rules.specs.declared.refusal.Refusal.TheVariants as refusal
 use Rattle.round_rules.specs.Refusals.{Test, over, faulty, re_entry, recursion, too_deep, refusal_of, GoesBeyond}
-use Rattle.round_rules.specs.Solutions.{IsAnswer, IsRefusal, IsWhyNot}
+use Rattle.round_rules.specs.Solutions.{IsAnswer, IsRefusal, AllFit, IsWhyNot}
 use Rattle.round_laws.specs.Laws.{RoundsAreLeast, SolutionsAreValid}
 use Rattle.round_solutions.specs.Answers.{AnswersAreOne}
+use Rattle.round_solutions.proofs.AnswerLaws.{misfit_fits, never_misfit}
 use Rattle.witness_search.specs.Laws.{TrialsAreShort}
 use Rattle.witness_search.specs.Trials.{IsFound}
 use Rattle.witness_search.specs.declared.waypoint.Waypoint.{Waypoint}
@@ -84,19 +85,22 @@ module _ (words : Program) (A : List Entry) (steps : Option ℕ) where
   abbrev IsCause : Refusal → Type 0
   IsCause r = IsRefusal words A steps r × (why_not_status r ≡ exit.NoCertificate)
 
-  why_cases : (r : Refusal) → IsWhyNot words A steps r → r ≢ refusal.Memory → IsCause r ⊎ IsSpent r
-  why_cases (refusal.Node x) h m = inl (h, refl)
-  why_cases (refusal.Recursion at) h m = inl (h, refl)
-  why_cases (refusal.ReEntry v at) h m = inl (h, refl)
-  why_cases (refusal.TooLarge limit) h m = inl (h, refl)
-  why_cases (refusal.Spent n) h m = inr (n, refl, h.0, h.1)
+module _ (words : Program) (A : List Entry) (steps : Option ℕ) (fit : AllFit (device_of words) A) where
+  why_cases : (r : Refusal) → IsWhyNot words A steps r → r ≢ refusal.Memory → IsCause words A steps r ⊎ IsSpent words A steps r
+  why_cases (refusal.Misfit at) h m = absurd (misfit_fits (device_of words) A at h fit)
+  why_cases (refusal.Node x) h m = inl (h.1, refl)
+  why_cases (refusal.Recursion at) h m = inl (h.1, refl)
+  why_cases (refusal.ReEntry v at) h m = inl (h.1, refl)
+  why_cases (refusal.TooLarge limit) h m = inl (h.1, refl)
+  why_cases (refusal.Spent n) h m = inr (n, refl, h.1.0, h.1.1)
   why_cases refusal.Memory h m = absurd (m refl)
 
   why_of : (r : Refusal) → IsRefusal words A steps r → r ≢ refusal.Memory → IsWhyNot words A steps r × (why_not_status r ≡ exit.NoCertificate)
-  why_of (refusal.Node x) h m = (h, refl)
-  why_of (refusal.Recursion at) h m = (h, refl)
-  why_of (refusal.ReEntry v at) h m = (h, refl)
-  why_of (refusal.TooLarge limit) h m = (h, refl)
+  why_of (refusal.Misfit at) h m = absurd (never_misfit at h.refused.test h.refused.is)
+  why_of (refusal.Node x) h m = ((fit, h), refl)
+  why_of (refusal.Recursion at) h m = ((fit, h), refl)
+  why_of (refusal.ReEntry v at) h m = ((fit, h), refl)
+  why_of (refusal.TooLarge limit) h m = ((fit, h), refl)
   why_of (refusal.Spent n) h m = absurd (never_spent h.refused.test n (sym h.refused.is))
   why_of refusal.Memory h m = absurd (m refl)
 
@@ -168,7 +172,7 @@ module _
   pub best_bounds : (c : Claim) → AreWords words → IsBest c → Bounded words A c.bound
   best_bounds c has h = bounds words A c has h.fits.claim h.valid.sound
 
-  module _ (status : Status) (text : List ℕ) where
+  module _ (fit : AllFit (device_of words) A) (status : Status) (text : List ℕ) where
     told_status : (k : WhyNotReply words A steps status text) → status ≡ why_not_status k.refusal
     told_status k = says_status (why_not_status k.refusal) (why_not_text words k.refusal) status text k.says
 
@@ -181,7 +185,7 @@ module _
     told_cases k (inr h) = inr (told_status k ∙ ap why_not_status h.1, (h.0, h.2, h.3))
 
     told_by : (k : WhyNotReply words A steps status text) → ((status ≡ exit.NoCertificate) × IsRefusal words A steps k.refusal) ⊎ ((status ≡ exit.Spent) × ((n : ℕ) × (steps ≡ Some n) × GoesBeyond words A n))
-    told_by k = told_cases k (why_cases words A steps k.refusal k.why (not_memory k))
+    told_by k = told_cases k (why_cases words A steps fit k.refusal k.why (not_memory k))
 
     -- ---- where there is a certificate
 
@@ -195,7 +199,7 @@ module _
 
     if_solved : Ends status text → ((c : Claim) × IsClaim c × IsAnswer words A steps c) → status ≡ exit.Done
     if_solved (inl h) s = h.zero
-    if_solved (inr k) s = absurd (not_memory k (one.either words A steps s.0 k.refusal s.2 k.why))
+    if_solved (inr k) s = absurd (not_memory k (one.either words A steps s.0 k.refusal s.1 s.2 k.why))
 
     -- ---- where there is a cause
 
@@ -209,11 +213,11 @@ module _
     refused_if (inr k) e = cause_told k e (told_by k)
 
     if_why : Ends status text → (r : Refusal) → r ≢ refusal.Memory → IsWhyNot words A steps r → status ≡ why_not_status r
-    if_why (inl h) r m why = absurd (m (one.either words A steps h.claim r h.answer why))
+    if_why (inl h) r m why = absurd (m (one.either words A steps h.claim r h.fits h.answer why))
     if_why (inr k) r m why = told_status k ∙ ap why_not_status (one.why_not words A steps k.refusal r k.why why (not_memory k) m)
 
     if_refused : Ends status text → ((r : Refusal) × (r ≢ refusal.Memory) × IsRefusal words A steps r) → status ≡ exit.NoCertificate
-    if_refused reply h = let w = why_of words A steps h.0 h.2 h.1 in if_why reply h.0 h.1 w.0 ∙ w.1
+    if_refused reply h = let w = why_of words A steps fit h.0 h.2 h.1 in if_why reply h.0 h.1 w.0 ∙ w.1
 
     -- ---- where the budget is spent
 
@@ -226,7 +230,7 @@ module _
     spent_if (inr k) e = spent_told e (told_by k)
 
     if_spent : Ends status text → ((n : ℕ) × (steps ≡ Some n) × GoesBeyond words A n) → status ≡ exit.Spent
-    if_spent reply h = if_why reply (refusal.Spent h.0) (λ e. let wrong = e in cc) (h.1, h.2)
+    if_spent reply h = if_why reply (refusal.Spent h.0) (λ e. let wrong = e in cc) (fit, (h.1, h.2))
 
     -- ---- without a budget
 
@@ -253,5 +257,5 @@ module _
         }
 
   -- status 0 prints no cause
-  pub not_written : (text : List ℕ) → WhyNotReply words A steps exit.Done text → ⊥
-  not_written text k = not_told exit.Done text refl (told_by exit.Done text k)
+  pub not_written : AllFit (device_of words) A → (text : List ℕ) → WhyNotReply words A steps exit.Done text → ⊥
+  not_written fit text k = not_told fit exit.Done text refl (told_by fit exit.Done text k)

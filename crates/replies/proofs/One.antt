@@ -16,8 +16,8 @@ use Rattle.cert_format.specs.Exact.{ReadCertificateIsSpelled}
 use Rattle.cert_check.specs.Laws.{VerdictsAreOne}
 use Rattle.round_solutions.specs.Answers.{AnswersAreOne}
 use Rattle.witness_search.specs.Laws.{WaypointsAreOne}
-use Rattle.cert_check.specs.declared.verdict.Verdict.{Verdict}
-use Rattle.cert_check.specs.declared.verdict.Verdict.TheVariants.{Accepted, Rejected}
+use Rattle.cert_check.specs.declared.verdict.Judgement.{Judgement}
+use Rattle.cert_check.specs.declared.verdict.Judgement.TheVariants.{Accepted, Rejected}
 use Rattle.flash_image.specs.Naming.{Named}
 use Rattle.chain_explain.specs.Laws.{ExplanationsAreOne}
 use Rattle.reports.specs.Explained.{explanation_text}
@@ -85,7 +85,7 @@ witness_one : (words : Program) (A : List Entry) (next : Reply) (bound : ℕ) (w
 witness_one words A next bound None f s t a b h k = f s t a b h k
 witness_one words A next bound (Some plan) f s t a b h k = attained_one next (attains bound (replay_of words A plan)) f s t a b h k
 
-verdict_one : (words : Program) (A : List Entry) (next : Claim → Reply) (c : Claim) (v : Verdict) → IsOneAnswer (next c) → IsOneAnswer (VerdictReply words A next c v)
+verdict_one : (words : Program) (A : List Entry) (next : Claim → Reply) (c : Claim) (v : Judgement ℕ) → IsOneAnswer (next c) → IsOneAnswer (VerdictReply words A next c v)
 verdict_one words A next c (Rejected reason) f s t a b h k = says_one exit.Rejected (rejected (device_of words) reason) s t a b h k
 verdict_one words A next c (Accepted bound) f s t a b h k = witness_one words A (next c) bound c.witness f s t a b h k
 

@@ -37,8 +37,8 @@ use Rattle.device_hooks.specs.Simulating.{simulation_of}
 use Rattle.cert_format.specs.declared.fault.CertFault.{CertFault}
 use Rattle.cert_format.specs.Reading.{certificate_in}
 use Rattle.cert_check.specs.Verdict.{IsVerdict}
-use Rattle.cert_check.specs.declared.verdict.Verdict.{Verdict}
-use Rattle.cert_check.specs.declared.verdict.Verdict.TheVariants.{Accepted, Rejected}
+use Rattle.cert_check.specs.declared.verdict.Judgement.{Judgement}
+use Rattle.cert_check.specs.declared.verdict.Judgement.TheVariants.{Accepted, Rejected}
 use Rattle.commands.specs.Commands.{Work, Analyse, Run, Report, Explain, Clear, Premises, Attain, Simulate, Command, On, Demo, Firmware, Second, Assumptions, name_of}
 use Rattle.replies.specs.declared.status.Status.{Status}
 use Rattle.replies.specs.declared.status.Status.TheVariants as exit
@@ -106,13 +106,13 @@ abbrev pub WitnessReply : Program → List Entry → Reply → ℕ → Option Pl
 WitnessReply words A next bound None status text = next status text
 WitnessReply words A next bound (Some plan) status text = AttainedBy next (attains bound (replay_of words A plan)) status text
 
-abbrev pub VerdictReply : Program → List Entry → (Claim → Reply) → Claim → Verdict → Reply
+abbrev pub VerdictReply : Program → List Entry → (Claim → Reply) → Claim → Judgement ℕ → Reply
 VerdictReply words A next c (Rejected reason) status text = Says exit.Rejected (rejected (device_of words) reason) status text
 VerdictReply words A next c (Accepted bound) status text = WitnessReply words A (next c) bound c.witness status text
 
 -- the answer by the verdict on a certificate
 pub record JudgedReply (words : Program) (A : List Entry) (next : Claim → Reply) (c : Claim) (status : Status) (text : List ℕ) : Type 0 where
-  pub verdict : Verdict
+  pub verdict : Judgement ℕ
   pub is : IsVerdict words A c verdict
   pub reply : VerdictReply words A next c verdict status text
 

@@ -30,7 +30,7 @@ use Rattle.cert_format.specs.declared.fault.CertFault.TheVariants as cert
 use Rattle.device_hooks.specs.declared.devices.DevicesFault.{DevicesFault}
 use Rattle.device_hooks.specs.declared.devices.DevicesFault.TheVariants as devices
 use Rattle.cert_check.specs.declared.verdict.Reason.{Reason}
-use Rattle.cert_check.specs.declared.verdict.Reason.TheVariants.{Root, Node, Edge, Rank, Need, Bound, Assumptions, Expansion}
+use Rattle.cert_check.specs.declared.verdict.Reason.TheVariants.{Device as OtherDevice, Root, Node, Edge, Rank, Need, Bound, Assumptions, Expansion}
 use Rattle.elf_load.specs.Elf.{ElfRefusal, Short, NotElf32Little, NotExecutable, NotAvr, EntrySize, SegmentOutside, Overlap}
 use Rattle.witness_replay.specs.Replay.{Report}
 use Rattle.replies.specs.declared.status.Status.{Status}
@@ -140,6 +140,7 @@ reason_words device (Need at least) = codes "5" ∷ codes "inst" ∷ decimal at 
 reason_words device (Bound least) = codes "6" ∷ codes "least" ∷ decimal least ∷ []
 reason_words device Assumptions = codes "7" ∷ codes "assumptions" ∷ []
 reason_words device (Expansion at) = codes "9" ∷ codes "node" ∷ decimal at ∷ []
+reason_words device OtherDevice = codes "10" ∷ codes "device" ∷ []
 
 abbrev pub rejected : Device → Reason → List ℕ
 rejected device reason = told (codes "rejected" ∷ reason_words device reason)
@@ -184,9 +185,10 @@ fault_words words (fault.TooDeep at need) = cause_at (cause_of (fault.TooDeep at
 fault_words words (fault.UnknownPointer at) = cause_at (cause_of (fault.UnknownPointer at)) (codes "unknown-pointer") at (instruction_told words at)
 fault_words words fault.Memory = None
 
--- The words in place of a certificate: the cause with what it names, or the number of rounds that did not suffice. Running out of memory
--- has none.
+-- The words in place of a certificate: the assumption that does not fit the device, the cause with what it names, or the number of rounds
+-- that did not suffice. Running out of memory has none.
 abbrev pub why_not_words : Program → Refusal → Option (List (List ℕ))
+why_not_words words (refusal.Misfit at) = Some (codes "entry" ∷ decimal at ∷ [])
 why_not_words words (refusal.Node x) = fault_words words x
 why_not_words words (refusal.Recursion at) = cause_at 2 (codes "recursion") at []
 why_not_words words (refusal.ReEntry v at) = Some (codes "refused" ∷ codes "3" ∷ codes "re-entry" ∷ codes "of" ∷ decimal v ∷ codes "at" ∷ hex_digits at 4 ∷ [])

@@ -86,6 +86,7 @@ fn put_why_not(
     ensures { OnOk result (AreWritten line.old line.new (why_not_words flash.now refusal.now)) }
 {
     match *refusal {
+        Refusal::Misfit(at) => put_number(line, b"entry", u64::from(at)),
         Refusal::Node(fault) => put_fault(alloc, line, flash, &fault),
         Refusal::Recursion(at) => put_cause(line, 2, b"recursion", at),
         Refusal::ReEntry(vector, at) => {
@@ -102,7 +103,8 @@ fn put_why_not(
     }
 }
 
-/// The line printed if there is no certificate: the cause, or the number of rounds that do not suffice; `None` if memory runs out.
+/// The line printed if there is no certificate: the assumption that does not fit the device, the cause, or the number of rounds that do not
+/// suffice; `None` if memory runs out.
 pub fn why_not(alloc: Global, flash: &Flash, refusal: &Refusal) -> Result<Vec<u8>, AllocError>
     ensures { IfOk result (λ v. why_not_text flash.now refusal.now ≡ Some v.items) }
 {

@@ -304,6 +304,7 @@ fn put_reason(
         Reason::Bound(least) => put_two_and_number(line, b"6", b"least", u64::from(least)),
         Reason::Assumptions => put_two(line, b"7", b"assumptions"),
         Reason::Expansion(at) => put_two_and_number(line, b"9", b"node", u64::from(at)),
+        Reason::Device => put_two(line, b"10", b"device"),
     }
 }
 

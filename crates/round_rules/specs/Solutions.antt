@@ -1,7 +1,10 @@
 -- The answer of the analysis.
-use Rattle.std.specs.Prelude.{ℕ, ◌≡◌, ◌≤◌, ◌↔◌, ⊤, List, Option, Some, None, Contains}
+use Rattle.std.specs.Prelude.{ℕ, ◌≡◌, ◌<◌, ◌≤◌, ◌↔◌, ⊤, true, false, List, Option, Some, None, Contains}
+use Rattle.std.specs.List.{All, slice_get}
 use Rattle.avr_model.specs.declared.assumption.Entry.{Entry}
+use Rattle.avr_model.specs.declared.device.Device.{Device}
 use Rattle.avr_model.specs.Devices.{Program, device_of}
+use Rattle.vector_table.specs.Entries.{fits_device}
 use Rattle.mask_states.specs.declared.keys.InstKey.{InstKey}
 use Rattle.mask_states.specs.Keys.{root_inst}
 use Rattle.edge_rules.specs.Expansion.{IsFilled}
@@ -10,7 +13,7 @@ use Rattle.certificate.specs.Claims.{Claim, IsClaim}
 use Rattle.certificate.specs.Insts.{inst_keys, rank_in, need_in}
 use Rattle.certificate.specs.Valid.{IsSound}
 use Rattle.round_rules.specs.declared.refusal.Refusal.{Refusal}
-use Rattle.round_rules.specs.declared.refusal.Refusal.TheVariants.{Spent, Memory}
+use Rattle.round_rules.specs.declared.refusal.Refusal.TheVariants.{Misfit, Spent, Memory}
 use Rattle.round_rules.specs.Families.{Family, nodes_of, FamilyHasInst}
 use Rattle.round_rules.specs.Rounds.{AreRanks, AreNeeds}
 use Rattle.round_rules.specs.Refusals.{IsSolved, IsRefused, GoesBeyond}
@@ -56,8 +59,26 @@ pub record IsRefusal (words : Program) (A : List Entry) (steps : Option ℕ) (r 
   pub within : IsWithinBudget steps number
   pub refused : IsRefused words A number r
 
--- The answer without a certificate: the one refusal, a spent budget, or running out of memory, which says nothing.
+-- The rounds give no certificate: the one refusal, a spent budget, or running out of memory, which says nothing.
+abbrev pub AreRoundsWithout : Program → List Entry → Option ℕ → Refusal → Type 0
+AreRoundsWithout words A steps (Spent n) = (steps ≡ Some n) × GoesBeyond words A n
+AreRoundsWithout words A steps Memory = ⊤
+AreRoundsWithout words A steps r = IsRefusal words A steps r
+
+-- each entry is one of the device's lists
+abbrev pub AllFit : Device → List Entry → Type 0
+AllFit device A = All (λ e. fits_device device e ≡ true) A
+
+-- the entry at this place, from 0, is in no list of the device, and each entry before it is in one
+pub record IsFirstMisfit (device : Device) (A : List Entry) (at : ℕ) : Type 0 where
+  pub entry : Entry
+  pub is : slice_get A at ≡ Some entry
+  pub misfit : fits_device device entry ≡ false
+  pub before : (i : ℕ) (e : Entry) → slice_get A i ≡ Some e → i < at → fits_device device e ≡ true
+
+-- The answer without a certificate: the first entry that does not fit the device; if all fit, the one refusal or a spent budget; or running
+-- out of memory, which says nothing.
 abbrev pub IsWhyNot : Program → List Entry → Option ℕ → Refusal → Type 0
-IsWhyNot words A steps (Spent n) = (steps ≡ Some n) × GoesBeyond words A n
+IsWhyNot words A steps (Misfit at) = IsFirstMisfit (device_of words) A at
 IsWhyNot words A steps Memory = ⊤
-IsWhyNot words A steps r = IsRefusal words A steps r
+IsWhyNot words A steps r = AllFit (device_of words) A × AreRoundsWithout words A steps r

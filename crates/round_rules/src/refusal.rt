@@ -7,6 +7,8 @@ use std::alloc::AllocError;
 /// The reason for which the analysis gives no certificate. Words are word addresses of flash. Source: own.
 #[derive(Clone, Copy, PartialEq, Eq, Drop)]
 pub enum Refusal {
+    /// An entry of the list, from 0, that no list of the device has; the first.
+    Misfit(u32),
     /// A node has this fault; or the stack would exceed the device's SRAM, which is told as too deep at word 0 with the need of the whole.
     /// Never with the one for want of memory.
     Node(NodeFault),

@@ -9,6 +9,7 @@ pub mod Made
 pub mod AllLaws
 pub mod Sorted
 pub mod Parts
+pub mod Misfits
 pub mod One
 pub mod AnswerLaws
 pub mod Closed

@@ -4,7 +4,8 @@ use Rattle.std.proofs.lemmas.Option.{slice_get_within, same_Some}
 use Rattle.basics.specs.Lists.{get_inside}
 use Rattle.family_graph.proofs.Alike.{same_lists}
 use Rattle.avr_model.specs.declared.assumption.Entry.{Entry}
-use Rattle.avr_model.specs.Devices.{Program}
+use Rattle.avr_model.specs.declared.device.Device.{Device}
+use Rattle.avr_model.specs.Devices.{Program, device_of}
 use Rattle.abs_state.specs.declared.state.AbsState.{AbsState}
 use Rattle.mask_states.specs.declared.keys.InstKey.{InstKey}
 use Rattle.mask_states.specs.declared.keys.NodeKey.{NodeKey}
@@ -19,8 +20,9 @@ use Rattle.round_rules.specs.declared.refusal.Refusal.{Refusal}
 use Rattle.round_rules.specs.declared.refusal.Refusal.TheVariants as refusal
 use Rattle.round_rules.specs.Families.{Family, nodes_of}
 use Rattle.round_rules.specs.Refusals.{GoesBeyond}
-use Rattle.round_rules.specs.Solutions.{IsSolution, IsWithinBudget, IsAnswer, IsRefusal, IsWhyNot}
+use Rattle.round_rules.specs.Solutions.{IsSolution, IsWithinBudget, IsAnswer, IsRefusal, AllFit, IsFirstMisfit, IsWhyNot}
 use Rattle.round_laws.proofs.AllLaws.{rounds_end_once}
+use Rattle.round_solutions.proofs.Misfits.{misfit_fits, one_misfit}
 use Rattle.round_solutions.proofs.Parts.{same_insts, same_seeds}
 use Rattle.round_solutions.specs.Answers.{AnswersAreOne}
 
@@ -106,38 +108,51 @@ spent_answered words A steps n c spent h = beyond words A n h.number steps spent
 refused_answered : (words : Program) (A : List Entry) (steps : Option ℕ) (r : Refusal) (c : Claim) → IsRefusal words A steps r → IsAnswer words A steps c → ⊥
 refused_answered words A steps r c h i = rounds_end_once.either words A i.number h.number i.family r i.solved h.refused
 
+-- the list of a certificate fits
+answer_fits : (words : Program) (A : List Entry) (steps : Option ℕ) (c : Claim) → IsClaim c → IsAnswer words A steps c → AllFit (device_of words) A
+answer_fits words A steps c claim h = subst (λ (d : Device). AllFit d A) h.solution.device (subst (AllFit c.device) h.solution.assumptions claim.entries_of_device)
+
 -- the answer without a certificate
 data Why (words : Program) (A : List Entry) (steps : Option ℕ) (r : Refusal) : Type 0 where
-  refused : IsRefusal words A steps r → Why words A steps r
-  spent : (n : ℕ) → r ≡ refusal.Spent n → (steps ≡ Some n) × GoesBeyond words A n → Why words A steps r
+  misfit : (at : ℕ) → r ≡ refusal.Misfit at → IsFirstMisfit (device_of words) A at → Why words A steps r
+  refused : AllFit (device_of words) A → IsRefusal words A steps r → Why words A steps r
+  spent : (n : ℕ) → r ≡ refusal.Spent n → AllFit (device_of words) A → (steps ≡ Some n) × GoesBeyond words A n → Why words A steps r
   wanting : r ≡ refusal.Memory → Why words A steps r
 
 why : (words : Program) (A : List Entry) (steps : Option ℕ) (r : Refusal) → IsWhyNot words A steps r → Why words A steps r
-why words A steps (refusal.Node x) h = refused h
-why words A steps (refusal.Recursion pc) h = refused h
-why words A steps (refusal.ReEntry v pc) h = refused h
-why words A steps (refusal.TooLarge l) h = refused h
-why words A steps (refusal.Spent n) h = spent n refl h
+why words A steps (refusal.Misfit at) h = misfit at refl h
+why words A steps (refusal.Node x) h = refused h.0 h.1
+why words A steps (refusal.Recursion pc) h = refused h.0 h.1
+why words A steps (refusal.ReEntry v pc) h = refused h.0 h.1
+why words A steps (refusal.TooLarge l) h = refused h.0 h.1
+why words A steps (refusal.Spent n) h = spent n refl h.0 h.1
 why words A steps refusal.Memory h = wanting refl
 
 two : (words : Program) (A : List Entry) (steps : Option ℕ) (r s : Refusal) → Why words A steps r → Why words A steps s → r ≢ refusal.Memory → s ≢ refusal.Memory → r ≡ s
-two words A steps r s (refused h) (refused i) not_r not_s = (rounds_end_once.refused words A h.number i.number r s h.refused i.refused).1
-two words A steps r s (refused h) (spent n e i) not_r not_s = absurd (spent_refused words A steps n r i h)
-two words A steps r s (refused h) (wanting e) not_r not_s = absurd (not_s e)
-two words A steps r s (spent n e h) (refused i) not_r not_s = absurd (spent_refused words A steps n s h i)
-two words A steps r s (spent m e h) (spent n g i) not_r not_s = let same : m ≡ n = same_Some m n (sym h.0 ∙ i.0) in e ∙ ap refusal.Spent same ∙ sym g
-two words A steps r s (spent m e h) (wanting g) not_r not_s = absurd (not_s g)
+two words A steps r s (misfit i e h) (misfit j g k) not_r not_s = e ∙ ap refusal.Misfit (one_misfit (device_of words) A i j h k) ∙ sym g
+two words A steps r s (misfit i e h) (refused fit k) not_r not_s = absurd (misfit_fits (device_of words) A i h fit)
+two words A steps r s (misfit i e h) (spent n g fit k) not_r not_s = absurd (misfit_fits (device_of words) A i h fit)
+two words A steps r s (misfit i e h) (wanting g) not_r not_s = absurd (not_s g)
+two words A steps r s (refused fit h) (misfit j g k) not_r not_s = absurd (misfit_fits (device_of words) A j k fit)
+two words A steps r s (refused fit h) (refused more i) not_r not_s = (rounds_end_once.refused words A h.number i.number r s h.refused i.refused).1
+two words A steps r s (refused fit h) (spent n e more i) not_r not_s = absurd (spent_refused words A steps n r i h)
+two words A steps r s (refused fit h) (wanting e) not_r not_s = absurd (not_s e)
+two words A steps r s (spent n e fit h) (misfit j g k) not_r not_s = absurd (misfit_fits (device_of words) A j k fit)
+two words A steps r s (spent n e fit h) (refused more i) not_r not_s = absurd (spent_refused words A steps n s h i)
+two words A steps r s (spent m e fit h) (spent n g more i) not_r not_s = let same : m ≡ n = same_Some m n (sym h.0 ∙ i.0) in e ∙ ap refusal.Spent same ∙ sym g
+two words A steps r s (spent m e fit h) (wanting g) not_r not_s = absurd (not_s g)
 two words A steps r s (wanting e) i not_r not_s = absurd (not_r e)
 
-none : (words : Program) (A : List Entry) (steps : Option ℕ) (c : Claim) (r : Refusal) → IsAnswer words A steps c → Why words A steps r → r ≡ refusal.Memory
-none words A steps c r h (refused i) = absurd (refused_answered words A steps r c i h)
-none words A steps c r h (spent n e i) = absurd (spent_answered words A steps n c i h)
-none words A steps c r h (wanting e) = e
+none : (words : Program) (A : List Entry) (steps : Option ℕ) (c : Claim) (r : Refusal) → IsClaim c → IsAnswer words A steps c → Why words A steps r → r ≡ refusal.Memory
+none words A steps c r claim h (misfit at e i) = absurd (misfit_fits (device_of words) A at i (answer_fits words A steps c claim h))
+none words A steps c r claim h (refused fit i) = absurd (refused_answered words A steps r c i h)
+none words A steps c r claim h (spent n e fit i) = absurd (spent_answered words A steps n c i h)
+none words A steps c r claim h (wanting e) = e
 
 pub answers_are_one : AnswersAreOne
 answers_are_one = record {
   solution = solution;
   answer = answer;
   why_not = λ words A steps r s h i. two words A steps r s (why words A steps r h) (why words A steps s i);
-  either = λ words A steps c r h i. none words A steps c r h (why words A steps r i);
+  either = λ words A steps c r claim h i. none words A steps c r claim h (why words A steps r i);
 }

@@ -17,8 +17,8 @@ use Rattle.cert_format.specs.Reading.{certificate_in}
 use Rattle.round_rules.specs.declared.refusal.Refusal.{Refusal}
 use Rattle.round_rules.specs.declared.refusal.Refusal.TheVariants as refusal
 use Rattle.demo_image.specs.Image.{demo_program}
-use Rattle.cert_check.specs.declared.verdict.Verdict.{Verdict}
-use Rattle.cert_check.specs.declared.verdict.Verdict.TheVariants.{Accepted, Rejected}
+use Rattle.cert_check.specs.declared.verdict.Judgement.{Judgement}
+use Rattle.cert_check.specs.declared.verdict.Judgement.TheVariants.{Accepted, Rejected}
 use Rattle.clear_laws.specs.declared.verdict.ClearVerdict.{ClearVerdict}
 use Rattle.clear_laws.specs.declared.verdict.ClearVerdict.TheVariants as clear
 use Rattle.device_hooks.specs.declared.devices.DevicesFault.{DevicesFault}
@@ -123,7 +123,7 @@ witness_apart : (words : Program) (A : List Entry) (next : Reply) (bound : ℕ) 
 witness_apart words A next bound None f s t h = f s t h
 witness_apart words A next bound (Some plan) f s t h = attained_apart next (attains bound (replay_of words A plan)) f s t h
 
-verdict_apart : (words : Program) (A : List Entry) (next : Claim → Reply) (c : Claim) (v : Verdict) → IsPlainApart (next c) → IsPlainApart (VerdictReply words A next c v)
+verdict_apart : (words : Program) (A : List Entry) (next : Claim → Reply) (c : Claim) (v : Judgement ℕ) → IsPlainApart (next c) → IsPlainApart (VerdictReply words A next c v)
 verdict_apart words A next c (Rejected reason) f s t h = at exit.Rejected s rejected_plain h.0
 verdict_apart words A next c (Accepted bound) f s t h = witness_apart words A (next c) bound c.witness f s t h
 
@@ -143,6 +143,7 @@ simulate_apart words A steps (Err fault) s t h = refuses_apart exit.BadDevices d
 simulate_apart words A steps (Ok setup) s t h = at exit.Done s done_plain h.0
 
 why_not_plain : (r : Refusal) → IsReplyPlain (why_not_status r)
+why_not_plain (refusal.Misfit at) = refused_plain
 why_not_plain (refusal.Node x) = refused_plain
 why_not_plain (refusal.Recursion pc) = refused_plain
 why_not_plain (refusal.ReEntry v pc) = refused_plain

@@ -22,10 +22,10 @@ use Rattle.cert_format.specs.declared.fault.CertFault.{CertFault}
 use Rattle.cert_format.specs.Reading.{certificate_in}
 use Rattle.call_graph.specs.declared.worked.Worked.{Worked}
 use Rattle.cert_check.specs.declared.verdict.Reason.{Reason}
-use Rattle.cert_check.specs.declared.verdict.Verdict.{Verdict}
+use Rattle.cert_check.specs.declared.verdict.Judgement.{Judgement}
 use Rattle.cert_check.specs.Verdict.{IsFamilyOf, IsReason}
 use Rattle.basics.specs.Booleans.{never_both}
-use Rattle.cert_check.specs.declared.verdict.Verdict.TheVariants.{Accepted, Rejected}
+use Rattle.cert_check.specs.declared.verdict.Judgement.TheVariants.{Accepted, Rejected}
 use Rattle.replies.specs.declared.status.Status.{Status}
 use Rattle.replies.specs.declared.status.Status.TheVariants as exit
 use Rattle.replies.specs.Firmware.{firmware_fault, firmware_image, firmware_names, firmware_end}
@@ -90,7 +90,7 @@ witness_alike : (words : Program) (A : List Entry) (next other : Reply) (bound :
 witness_alike words A next other bound None status text f h = f h
 witness_alike words A next other bound (Some plan) status text f h = attained_alike next other (attains bound (replay_of words A plan)) status text f h
 
-verdict_alike : (words : Program) (A : List Entry) (next other : Claim → Reply) (c : Claim) (v : Verdict) (status : Status) (text : List ℕ) → (next c status text → other c status text)
+verdict_alike : (words : Program) (A : List Entry) (next other : Claim → Reply) (c : Claim) (v : Judgement ℕ) (status : Status) (text : List ℕ) → (next c status text → other c status text)
     → VerdictReply words A next c v status text → VerdictReply words A other c v status text
 verdict_alike words A next other c (Rejected reason) status text f h = h
 verdict_alike words A next other c (Accepted bound) status text f h = witness_alike words A (next c) (other c) bound c.witness status text f h

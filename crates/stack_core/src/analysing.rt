@@ -1,9 +1,6 @@
 //! Certificates that the program makes, for `analyse` and `demo`.
 
-ghost use Rattle.std.specs.Prelude.{◌≡◌, IfOk, None, true};
-ghost use Rattle.std.specs.List.{All};
-ghost use Rattle.avr_model.specs.Devices.{device_of};
-ghost use Rattle.vector_table.specs.Entries.{fits_device};
+ghost use Rattle.std.specs.Prelude.{◌≡◌, IfOk, None};
 ghost use Rattle.certificate.specs.Claims.{IsClaim};
 ghost use Rattle.certificate.specs.Valid.{IsSound};
 ghost use Rattle.replies.specs.Texts.{why_not_status, why_not_text, demo_text};
@@ -12,7 +9,7 @@ ghost use Rattle.stack_core.specs.Answering.{IsWitnessedText};
 
 use crate::reply::Reply;
 use call_graph::Task;
-use cert_check::{Verdict, judge};
+use cert_check::{Judgement, judge};
 use cert_writing::write;
 use certificate::Certificate;
 use commands::Size;
@@ -63,12 +60,11 @@ fn solved(task: &Task<'_>, certificate: Certificate) -> Result<Vec<u8>, AllocErr
     write(task.alloc, &certificate.with_witness(found))
 }
 
-/// The answer to an analysis under assumptions that fit the device. `steps` limits the number of rounds.
+/// The answer to an analysis. `steps` limits the number of rounds.
 pub fn analyse(task: &Task<'_>, steps: Option<u64>) -> Result<Reply, AllocError>
-    requires { All (λ e. fits_device (device_of task.now.flash.now) e ≡ true) task.now.assumptions.now }
     ensures { IfOk result (λ r. AnalyseReply task.now.flash.now task.now.assumptions.now steps r.status r.text.items) }
 {
-    match solve(task.alloc, task.flash, task.assumptions, steps) {
+    match solve(task, steps) {
         Ok(certificate) => Ok(Reply {
             status: Status::Done,
             text: solved(task, certificate)?,
@@ -84,12 +80,12 @@ fn measured(task: &Task<'_>, size: u32, certificate: &Certificate) -> Result<Rep
     ensures claim { IfOk result (λ r. IsClaim certificate.now) }
 {
     let _nodes = certificate.nodes();
-    match judge(task.alloc, task.flash, task.assumptions, certificate)? {
-        Verdict::Accepted(_) => Ok(Reply {
+    match judge(task, certificate)? {
+        Judgement::Accepted(_) => Ok(Reply {
             status: Status::Done,
             text: causes::demo_text(task.alloc, size, certificate)?,
         }),
-        Verdict::Rejected(reason) => Ok(Reply {
+        Judgement::Rejected(reason) => Ok(Reply {
             status: Status::Rejected,
             text: texts::rejected(task.alloc, task.flash.device(), &reason)?,
         }),
@@ -107,7 +103,7 @@ pub fn demo(alloc: Global, size: &Size) -> Result<Reply, AllocError>
         flash: &flash,
         assumptions: &assumptions,
     };
-    match solve(alloc, &flash, &assumptions, None) {
+    match solve(&task, None) {
         Ok(certificate) => measured(&task, size.get(), &certificate),
         Err(refusal) => why_not(alloc, &flash, &refusal),
     }

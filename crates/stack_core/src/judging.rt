@@ -1,7 +1,6 @@
 //! Judging certificates, for all commands that do.
 
 ghost use Rattle.std.specs.Prelude.{◌≡◌, IfOk, Ok};
-ghost use Rattle.avr_model.specs.Devices.{device_of};
 ghost use Rattle.std.specs.Option.{is_some};
 ghost use Rattle.cert_format.specs.Reading.{certificate_in};
 ghost use Rattle.replies.specs.Texts.{accepted};
@@ -64,7 +63,6 @@ fn weighed(
     task: &Task<'_>,
     certificate: &Certificate,
 ) -> Result<Result<Worked, Vec<u8>>, AllocError>
-    requires { certificate.now.device ≡ device_of task.now.flash.now }
     ensures { IfOk result (λ w. IsJudgedAs task.now.flash.now task.now.assumptions.now (Ok certificate.now) (judged_by certificate.now w)) }
 {
     match judge_family(task, certificate)? {
@@ -85,7 +83,6 @@ fn weighed(
 
 // Judges a certificate that was read.
 fn judge_claim(task: &Task<'_>, certificate: Certificate) -> Result<Judged, AllocError>
-    requires { certificate.device ≡ device_of task.now.flash.now }
     ensures { IfOk result (λ j. IsJudgedAs task.now.flash.now task.now.assumptions.now (Ok certificate) j) }
 {
     match weighed(task, &certificate) {

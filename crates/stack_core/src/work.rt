@@ -1,8 +1,6 @@
 //! The answer by the contents of a command's files.
 
-ghost use Rattle.std.specs.Prelude.{◌≡◌, true, IfOk};
-ghost use Rattle.std.specs.List.{All};
-ghost use Rattle.vector_table.specs.Entries.{fits_device};
+ghost use Rattle.std.specs.Prelude.{◌≡◌, IfOk};
 ghost use Rattle.local_rules.specs.Machine.{AreWords};
 ghost use Rattle.commands.specs.Views.{command_seen, work_seen};
 ghost use Rattle.replies.specs.declared.status.Status.TheVariants as exit;
@@ -38,7 +36,6 @@ fn on_flash(
     assumptions: &Assumptions,
     second: &[u8],
 ) -> Result<Reply, AllocError>
-    requires { All (λ e. fits_device loaded.now.flash.device e ≡ true) assumptions.now }
     ensures { IfOk result (λ r. LoadedReply request.now.device (work_seen request.now.work) loaded.now second.now assumptions.now r.status r.text.items) }
 {
     let flash = &loaded.flash;

@@ -1,28 +1,20 @@
 //! Shows `cert_check`.
 
-ghost use Rattle.std.specs.Prelude.{◌≡◌, IfOk, IfSome};
-ghost use Rattle.avr_model.specs.Devices.{device_of};
+ghost use Rattle.std.specs.Prelude.{IfOk, IfSome};
 ghost use Rattle.avr_model.specs.Run.{Bounded};
 
-use cert_check::{Verdict, judge};
+use call_graph::Task;
+use cert_check::{Judgement, judge};
 use certificate::Certificate;
-use flash_image::Flash;
-use std::alloc::{AllocError, Global};
-use vector_table::Assumptions;
+use std::alloc::AllocError;
 
-/// The bound of a certificate for the firmware's device, which every run keeps. `None` if the checker rejects it.
-pub fn bound_of(
-    alloc: Global,
-    flash: &Flash,
-    assumptions: &Assumptions,
-    certificate: &Certificate,
-) -> Result<Option<u16>, AllocError>
-    requires { certificate.now.device ≡ device_of flash.now }
-    ensures { IfOk result (λ o. IfSome o (λ bound. Bounded flash.now assumptions.now bound)) }
+/// The bound of a certificate, which every run of the firmware keeps. `None` if the checker rejects it.
+pub fn bound_of(task: &Task<'_>, certificate: &Certificate) -> Result<Option<u16>, AllocError>
+    ensures { IfOk result (λ o. IfSome o (λ bound. Bounded task.now.flash.now task.now.assumptions.now bound)) }
 {
-    match judge(alloc, flash, assumptions, certificate) {
-        Ok(Verdict::Accepted(bound)) => Ok(Some(bound)),
-        Ok(Verdict::Rejected(_)) => Ok(None),
+    match judge(task, certificate) {
+        Ok(Judgement::Accepted(bound)) => Ok(Some(bound)),
+        Ok(Judgement::Rejected(_)) => Ok(None),
         Err(fault) => Err(fault),
     }
 }

@@ -1,10 +1,7 @@
 //! What is said of the certificate that is found for a small firmware, worked by hand: which nodes are clear, where a step may be flagged and
 //! for what, which vectors may be taken though they are assumed never to be, and the deepest chain.
 
-ghost use Rattle.std.specs.Prelude.{[], ◌≡◌, true};
-ghost use Rattle.std.specs.List.{All};
-ghost use Rattle.avr_model.specs.Devices.{device_of};
-ghost use Rattle.vector_table.specs.Entries.{fits_device};
+ghost use Rattle.std.specs.Prelude.{[]};
 ghost use Rattle.certificate.specs.Valid.{IsSound};
 
 use super::Worked;
@@ -147,15 +144,13 @@ fn is_explained(task: &Task<'_>, certificate: &Certificate, row: &Row) -> bool
     }
 }
 
-fn is_under(alloc: Global, flash: &Flash, list: &Assumptions, row: &Row) -> bool
-    requires { All (λ e. fits_device (device_of flash.now) e ≡ true) list.now }
-{
+fn is_under(alloc: Global, flash: &Flash, list: &Assumptions, row: &Row) -> bool {
     let task = Task {
         alloc,
         flash,
         assumptions: list,
     };
-    match solve(alloc, flash, list, None) {
+    match solve(&task, None) {
         Ok(certificate) => {
             is_flagged(&task, &certificate, row)
                 && is_taken(&task, &certificate, row)
@@ -167,7 +162,12 @@ fn is_under(alloc: Global, flash: &Flash, list: &Assumptions, row: &Row) -> bool
 
 fn is_without(alloc: Global, flash: &Flash, row: &Row) -> bool {
     let none = Assumptions::empty(alloc);
-    match solve(alloc, flash, &none, None) {
+    let task = Task {
+        alloc,
+        flash,
+        assumptions: &none,
+    };
+    match solve(&task, None) {
         Ok(certificate) => is_clear(alloc, flash, &certificate, row),
         Err(_) => false,
     }

@@ -1,7 +1,6 @@
 //! Verdicts on a small firmware, worked by hand: a call, a jump to itself after it, and the callee's return.
 
 ghost use Rattle.std.specs.Prelude.{◌≡◌, IfOk};
-ghost use Rattle.avr_model.specs.Devices.{device_of};
 ghost use Rattle.edge_rules.specs.Examples.{callee};
 ghost use Rattle.family_tables.specs.Examples.{form_by, nodes_by, insts_by};
 
@@ -10,7 +9,7 @@ use super::edges::flash_on;
 use abs_state::AbsState;
 use avr_model::device::Device;
 use call_graph::Task;
-use cert_check::{Reason, Verdict, is_attained, judge};
+use cert_check::{Judgement, Reason, is_attained, judge};
 use certificate::{Certificate, HeldState, Inst, NodeForm};
 use flash_image::Flash;
 use mask_states::{InstKey, Kind, NodeKey};
@@ -31,7 +30,9 @@ const NO_CALL: [u8; 6] = [0x00, 0x00, 0xFF, 0xCF, 0x08, 0x95];
 
 /// An image and a certificate for it, and the verdict.
 pub struct Row {
+    // The device of the image, and that of the certificate.
     device: Device,
+    claimed: Device,
     image: [u8; 6],
     // Whether the call has an assumption that the certificate lacks.
     assumed: bool,
@@ -46,10 +47,10 @@ pub struct Row {
     verdict: (u8, u32, u32),
 }
 
-fn told(verdict: &Verdict) -> (u8, u32, u32) {
+fn told(verdict: &Judgement<u16>) -> (u8, u32, u32) {
     match verdict {
-        Verdict::Accepted(bound) => (0, u32::from(*bound), 0),
-        Verdict::Rejected(reason) => told_of(reason),
+        Judgement::Accepted(bound) => (0, u32::from(*bound), 0),
+        Judgement::Rejected(reason) => told_of(reason),
     }
 }
 
@@ -63,6 +64,7 @@ fn told_of(reason: &Reason) -> (u8, u32, u32) {
         Reason::Bound(need) => (6, *need, 0),
         Reason::Assumptions => (7, 0, 0),
         Reason::Expansion(node) => (9, *node, 0),
+        Reason::Device => (10, 0, 0),
     }
 }
 
@@ -127,16 +129,14 @@ fn instances(alloc: Global, rank: u16, need: u16) -> Result<Vec<Inst>, AllocErro
 }
 
 // The row's certificate.
-fn certificate(alloc: Global, row: &Row) -> Result<Certificate, AllocError>
-    ensures { IfOk result (λ c. c.device ≡ row.now.device) }
-{
+fn certificate(alloc: Global, row: &Row) -> Result<Certificate, AllocError> {
     let bound = row.bound.min(2048);
     let rank = row.rank.min(2048);
     let need = row.need.min(2048);
     let instances = instances(alloc, rank, need)?;
     let nodes = nodes(alloc, row.from)?;
     Ok(Certificate::build(
-        row.device,
+        row.claimed,
         bound,
         Assumptions::empty(alloc),
         instances,
@@ -146,20 +146,11 @@ fn certificate(alloc: Global, row: &Row) -> Result<Certificate, AllocError>
 
 // The verdict on a certificate in numbers, whether or not a schedule attains its bound.
 fn verdict_in_numbers(
-    alloc: Global,
-    flash: &Flash,
-    assumptions: &Assumptions,
+    task: &Task<'_>,
     certificate: &Certificate,
-) -> Result<(u8, u32, u32), AllocError>
-    requires { certificate.now.device ≡ device_of flash.now }
-{
-    let task = Task {
-        alloc,
-        flash,
-        assumptions,
-    };
-    match judge(alloc, flash, assumptions, certificate) {
-        Ok(verdict) if is_attained(&task, certificate) => Ok(told(&verdict)),
+) -> Result<(u8, u32, u32), AllocError> {
+    match judge(task, certificate) {
+        Ok(verdict) if is_attained(task, certificate) => Ok(told(&verdict)),
         Ok(_) => Ok((8, 0, 0)),
         Err(fault) => Err(fault),
     }
@@ -175,19 +166,20 @@ fn assumptions(alloc: Global, assumed: bool) -> Assumptions {
 }
 
 // Whether the verdict on this certificate is that of the row.
-fn is_judged(alloc: Global, flash: &Flash, certificate: &Certificate, row: &Row) -> bool
-    requires { certificate.now.device ≡ device_of flash.now }
-{
+fn is_judged(alloc: Global, flash: &Flash, certificate: &Certificate, row: &Row) -> bool {
     let assumptions = assumptions(alloc, row.assumed);
-    match verdict_in_numbers(alloc, flash, &assumptions, certificate) {
+    let task = Task {
+        alloc,
+        flash,
+        assumptions: &assumptions,
+    };
+    match verdict_in_numbers(&task, certificate) {
         Ok(verdict) => verdict == row.verdict,
         Err(_) => false,
     }
 }
 
-fn is_on(alloc: Global, flash: &Flash, row: &Row) -> bool
-    requires { row.now.device ≡ device_of flash.now }
-{
+fn is_on(alloc: Global, flash: &Flash, row: &Row) -> bool {
     match certificate(alloc, row) {
         Ok(certificate) => is_judged(alloc, flash, &certificate, row),
         Err(_) => false,
@@ -206,6 +198,7 @@ impl Worked for Row {
 // A row on the greatest device, with neither an assumption nor a node that comes from another.
 const PLAIN: Row = Row {
     device: Device::M328,
+    claimed: Device::M328,
     image: CALL,
     assumed: false,
     from: false,
@@ -280,6 +273,7 @@ pub static ROWS: [(&str, &[Row]); 1] = [(
         // a bound of exactly the least SRAM, and of one more
         Row {
             device: Device::M48,
+            claimed: Device::M48,
             bound: 512,
             rank: 1,
             need: 2,
@@ -288,10 +282,29 @@ pub static ROWS: [(&str, &[Row]); 1] = [(
         },
         Row {
             device: Device::M48,
+            claimed: Device::M48,
             bound: 513,
             rank: 1,
             need: 2,
             verdict: (6, 2, 0),
+            ..PLAIN
+        },
+        // for another device than the image's, which comes before all else
+        Row {
+            claimed: Device::M48,
+            bound: 2,
+            rank: 1,
+            need: 2,
+            verdict: (10, 0, 0),
+            ..PLAIN
+        },
+        Row {
+            device: Device::M48,
+            from: true,
+            bound: 0,
+            rank: 0,
+            need: 0,
+            verdict: (10, 0, 0),
             ..PLAIN
         },
         Row {

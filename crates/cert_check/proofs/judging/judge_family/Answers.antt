@@ -22,5 +22,5 @@ returns-in-Whole-clause-few c =
     let words = c.args.task.now.flash.now in
     let A = c.args.task.now.assumptions.now in
     let claim = c.args.certificate.now in
-    if_ok (IsJudgement words A claim) (λ (j : Judgement). (family : Worked) → j ≡ Accepted family → length family.nodes ≤ 65536) c.judge_nodes.result
+    if_ok (IsJudgement words A claim) (λ (j : Judgement Worked). (family : Worked) → j ≡ Accepted family → length family.nodes ≤ 65536) c.judge_nodes.result
     (λ j h. few_in words A claim j c.nodes-nodes.ensures.kept h) c.judge_nodes.ensures

@@ -3,18 +3,18 @@ use Rattle.cert_check.specs.Demands.{SettlesClaim}
 use Rattle.cert_check.proofs.One.{family_is, refused}
 use Rattle.cert_check.proofs.judging.judge_nodes.Goals as goal
 
-pub returns-in-Ok-Met : goal.returns-in-Ok-Met
-returns-in-Ok-Met c =
+pub returns-in-Ok-Accepted : goal.returns-in-Ok-Accepted
+returns-in-Ok-Accepted c =
     let words = c.args.task.now.flash.now in
     let A = c.args.task.now.assumptions.now in
     let claim = c.args.certificate.now in
-    family_is words A claim (record { nodes = c.args.nodes; landings = c.in-Ok-Met.landings }) c.requires.claim c.requires.filled
-    (subst (SettlesClaim words A claim c.args.nodes) c.in-Ok-Met.field-0-is c.in-Ok-Met.ensures)
+    family_is words A claim (record { nodes = c.args.nodes; landings = c.in-Ok-Accepted.landings }) c.requires.claim c.requires.filled
+    (subst (SettlesClaim words A claim c.args.nodes) c.in-Ok-Accepted.field-0-is c.in-Ok-Accepted.ensures)
 
-pub returns-in-Ok-Refused : goal.returns-in-Ok-Refused
-returns-in-Ok-Refused c =
+pub returns-in-Ok-Rejected : goal.returns-in-Ok-Rejected
+returns-in-Ok-Rejected c =
     let words = c.args.task.now.flash.now in
     let A = c.args.task.now.assumptions.now in
     let claim = c.args.certificate.now in
-    refused words A claim c.args.nodes c.in-Ok-Refused.reason c.requires.filled
-    (subst (SettlesClaim words A claim c.args.nodes) c.in-Ok-Refused.field-0-is c.in-Ok-Refused.ensures)
+    refused words A claim c.args.nodes c.in-Ok-Rejected.reason c.requires.device c.requires.filled
+    (subst (SettlesClaim words A claim c.args.nodes) c.in-Ok-Rejected.field-0-is c.in-Ok-Rejected.ensures)

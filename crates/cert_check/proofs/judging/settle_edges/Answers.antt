@@ -1,9 +1,8 @@
 use Rattle.std.proofs.Common.{subst, sym, arith}
 use Rattle.certificate.specs.Valid.{reset_node}
-use Rattle.cert_check.specs.Verdict.{IsFirstGap}
 use Rattle.cert_check.specs.Demands.{AreDemandsInside, IsGathering, IsWeighed, Decides}
 use Rattle.cert_check.proofs.Demands.{landed_belongs, all_inside}
-use Rattle.cert_check.proofs.Asking.{decided}
+use Rattle.cert_check.proofs.Asking.{decided, gap_least}
 use Rattle.cert_check.proofs.One.{are_instances}
 use Rattle.cert_check.proofs.Verdicts.{few_nodes, shown, beside, nodes_belong, node_fits}
 use Rattle.cert_check.proofs.judging.settle_edges.Goals as goal
@@ -23,16 +22,6 @@ gather-requires-clause-belong c = nodes_belong c.args.task.now.flash.now c.args.
 pub gather-requires-clause-beside : goal.gather-requires-clause-beside
 gather-requires-clause-beside c = beside c.args.task.now.flash.now c.args.task.now.assumptions.now c.args.certificate.now c.args.nodes.now c.requires.claim c.requires.filled
 
-pub overflow_cast-result : goal.overflow_cast-result
-overflow_cast-result c =
-    let words = c.args.task.now.flash.now in
-    let A = c.args.task.now.assumptions.now in
-    let claim = c.args.certificate.now in
-    let gap : IsFirstGap words A claim.nodes c.args.nodes.now c.in-Gap.at c.in-Gap.to =
-    subst (IsGathering words A claim.nodes claim.instances c.args.nodes.now) c.in-Gap.is c.in_ok-at.ensures in
-    let fits = node_fits words A claim c.args.nodes.now c.requires.claim c.requires.filled c.in-Gap.at gap.node gap.is in
-    omega (arith, fits)
-
 pub weigh-requires-clause-inside : goal.weigh-requires-clause-inside
 weigh-requires-clause-inside c =
     let words = c.args.task.now.flash.now in
@@ -40,27 +29,39 @@ weigh-requires-clause-inside c =
     let claim = c.args.certificate.now in
     let nodes = c.args.nodes.now in
     let belong = nodes_belong words A claim nodes c.requires.claim c.requires.filled in
-    let found = subst (IsGathering words A claim.nodes claim.instances nodes) c.in-All.is c.in_ok-at.ensures in
+    let found = subst (IsGathering words A claim.nodes claim.instances nodes) c.in-Accepted.is c.in_ok-at.ensures in
     subst (AreDemandsInside claim.instances) (sym c.deref.ensures.value)
-    (all_inside words A claim.instances nodes (are_instances claim c.requires.claim) belong (λ n e h i. (found.0 n e h i).0) c.in-All.field-0.demands.items found.1)
+    (all_inside words A claim.instances nodes (are_instances claim c.requires.claim) belong (λ n e h i. (found.0 n e h i).0) c.in-Accepted.field-0.demands.items found.1)
 
 pub weigh-requires-clause-root : goal.weigh-requires-clause-root
 weigh-requires-clause-root c =
     landed_belongs c.args.certificate.now.instances c.args.nodes.now (reset_node c.args.task.now.assumptions.now)
     (nodes_belong c.args.task.now.flash.now c.args.task.now.assumptions.now c.args.certificate.now c.args.nodes.now c.requires.claim c.requires.filled) c.requires.reset.0
 
-pub returns-in-Accepted : goal.returns-in-Accepted
-returns-in-Accepted c =
+pub returns-in-Accepted-weigh : goal.returns-in-Accepted-weigh
+returns-in-Accepted-weigh c =
     let words = c.args.task.now.flash.now in
     let A = c.args.task.now.assumptions.now in
     let claim = c.args.certificate.now in
     let nodes = c.args.nodes.now in
     let belong = nodes_belong words A claim nodes c.requires.claim c.requires.filled in
-    let found = subst (IsGathering words A claim.nodes claim.instances nodes) c.in-All.is c.in_ok-at.ensures in
-    let all = decided words A claim nodes (are_instances claim c.requires.claim) belong found.0 c.in-All.field-0.demands.items found.1 c.requires.device c.requires.reset c.requires.taken.faultless
+    let found = subst (IsGathering words A claim.nodes claim.instances nodes) c.in-Accepted.is c.in_ok-at.ensures in
+    let all = decided words A claim nodes (are_instances claim c.requires.claim) belong found.0 c.in-Accepted.field-0.demands.items found.1 c.requires.device c.requires.reset c.requires.taken.faultless
     c.weigh.result (subst (λ ds. IsWeighed words claim A ds c.weigh.result) c.deref.ensures.value c.weigh.ensures) in
-    let met = subst (Decides words A claim nodes) c.in-Accepted.is all in
+    let met = subst (Decides words A claim nodes) c.in-Accepted-weigh.is all in
     (met.0, found.2)
+
+pub returns-in-Rejected : goal.returns-in-Rejected
+returns-in-Rejected c =
+    let words = c.args.task.now.flash.now in
+    let A = c.args.task.now.assumptions.now in
+    let claim = c.args.certificate.now in
+    let nodes = c.args.nodes.now in
+    let belong = nodes_belong words A claim nodes c.requires.claim c.requires.filled in
+    let found = subst (IsGathering words A claim.nodes claim.instances nodes) c.in-Accepted.is c.in_ok-at.ensures in
+    let all = decided words A claim nodes (are_instances claim c.requires.claim) belong found.0 c.in-Accepted.field-0.demands.items found.1 c.requires.device c.requires.reset c.requires.taken.faultless
+    c.weigh.result (subst (λ ds. IsWeighed words claim A ds c.weigh.result) c.deref.ensures.value c.weigh.ensures) in
+    subst (Decides words A claim nodes) c.in-Rejected.is all
 
 pub returns : goal.returns
 returns c =
@@ -68,8 +69,5 @@ returns c =
     let A = c.args.task.now.assumptions.now in
     let claim = c.args.certificate.now in
     let nodes = c.args.nodes.now in
-    let belong = nodes_belong words A claim nodes c.requires.claim c.requires.filled in
-    let found = subst (IsGathering words A claim.nodes claim.instances nodes) c.in-All.is c.in_ok-at.ensures in
-    let all = decided words A claim nodes (are_instances claim c.requires.claim) belong found.0 c.in-All.field-0.demands.items found.1 c.requires.device c.requires.reset c.requires.taken.faultless
-    c.weigh.result (subst (λ ds. IsWeighed words claim A ds c.weigh.result) c.deref.ensures.value c.weigh.ensures) in
-    subst (Decides words A claim nodes) c.in-Rejected.is all
+    gap_least words A claim nodes c.in-Rejected-2.reason c.requires.reset c.requires.taken.faultless
+    (subst (IsGathering words A claim.nodes claim.instances nodes) c.in-Rejected-2.is c.in_ok-at.ensures)

@@ -2,7 +2,7 @@ use Rattle.std.proofs.Common.{arith}
 use Rattle.avr_model.specs.Devices.{device_of}
 use Rattle.avr_model.specs.Assumptions.{has_pairs}
 use Rattle.round_rules.specs.declared.refusal.Refusal.TheVariants.{Memory}
-use Rattle.round_rules.specs.Solutions.{IsWhyNot}
+use Rattle.round_rules.specs.Solutions.{AreRoundsWithout}
 use Rattle.fixpoint.proofs.Ready.{handed_on}
 use Rattle.fixpoint.proofs.Ending.{progress_first, why_stopped, formed, rooted, is_found, progress_more, why_spent, falls, none_if, some_if}
 use Rattle.fixpoint.proofs.rounds.go_on.Goals as goal
@@ -22,7 +22,7 @@ next_nodes-told-requires-clause-root c =
 
 pub returns-in_err-told-clause-why_not : goal.returns-in_err-told-clause-why_not
 returns-in_err-told-clause-why_not c =
-    handed_on c.from_residual-in_err-told.result c.in_err-told.field-0.0 (IsWhyNot c.args.task.now.flash.now c.args.task.now.assumptions.now c.args.steps) c.from_residual-in_err-told.ensures.1
+    handed_on c.from_residual-in_err-told.result c.in_err-told.field-0.0 (AreRoundsWithout c.args.task.now.flash.now c.args.task.now.assumptions.now c.args.steps) c.from_residual-in_err-told.ensures.1
     (why_stopped c.args.task.now.flash.now c.args.task.now.assumptions.now c.args.steps c.rounds.left c.rounds.table c.rounds.counted c.rounds.work.items c.rounds.notes c.rounds.invariant
     c.in_err-told.field-0.0 c.in_err-told.ensures.stopped)
 
@@ -45,7 +45,7 @@ join_all-requires-clause-apart c = c.in_ok-told.ensures.ready.apart
 
 pub returns-in_err-work-2-clause-why_not : goal.returns-in_err-work-2-clause-why_not
 returns-in_err-work-2-clause-why_not c =
-    handed_on c.from_residual-in_err-work-2.result Memory (IsWhyNot c.args.task.now.flash.now c.args.task.now.assumptions.now c.args.steps) c.from_residual-in_err-work-2.ensures.1 tt
+    handed_on c.from_residual-in_err-work-2.result Memory (AreRoundsWithout c.args.task.now.flash.now c.args.task.now.assumptions.now c.args.steps) c.from_residual-in_err-work-2.ensures.1 tt
 
 pub returns-then-is_empty-clause-found : goal.returns-then-is_empty-clause-found
 returns-then-is_empty-clause-found c = λ ended.
@@ -55,7 +55,7 @@ returns-then-is_empty-clause-found c = λ ended.
 
 pub returns-in_err-left-clause-why_not : goal.returns-in_err-left-clause-why_not
 returns-in_err-left-clause-why_not c =
-    handed_on c.from_residual-in_err-left.result c.in_err-left.field-0.0 (IsWhyNot c.args.task.now.flash.now c.args.task.now.assumptions.now c.args.steps) c.from_residual-in_err-left.ensures.1
+    handed_on c.from_residual-in_err-left.result c.in_err-left.field-0.0 (AreRoundsWithout c.args.task.now.flash.now c.args.task.now.assumptions.now c.args.steps) c.from_residual-in_err-left.ensures.1
     (why_spent c.args.task.now.flash.now c.args.task.now.assumptions.now c.args.steps c.rounds.left c.rounds.table c.rounds.counted c.rounds.work.items c.rounds.notes c.rounds.invariant
     c.join_all.new.table c.next_nodes-told.new.notes c.in_ok-told.field-0.items c.in_ok-work-2.work.items c.in_ok-told.ensures.ready c.in_ok-work-2.ensures.joined
     c.in_ok-work-2.ensures.kept c.in_ok-work-2.ensures.more
