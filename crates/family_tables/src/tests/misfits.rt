@@ -27,12 +27,13 @@ fn is_told(task: &Task<'_>, due: Option<u32>) -> bool {
     }
 }
 
-fn is_on(alloc: Global, flash: &Flash, row: &Row) -> bool {
+// The same under `prove` entries at these words. They come by value, so that the proof knows their range.
+fn is_on(alloc: Global, flash: &Flash, first: u16, second: u16, due: Option<u32>) -> bool {
     let mut list = Assumptions::empty(alloc);
-    let Ok(()) = list.push(Entry::Prove(row.1)) else {
+    let Ok(()) = list.push(Entry::Prove(first)) else {
         return false;
     };
-    let Ok(()) = list.push(Entry::Prove(row.2)) else {
+    let Ok(()) = list.push(Entry::Prove(second)) else {
         return false;
     };
     let task = Task {
@@ -40,13 +41,13 @@ fn is_on(alloc: Global, flash: &Flash, row: &Row) -> bool {
         flash,
         assumptions: &list,
     };
-    is_told(&task, row.3)
+    is_told(&task, due)
 }
 
 impl Worked for Row {
     fn holds(&self, alloc: Global) -> bool {
         match flash_on(alloc, self.0, &STAY) {
-            Some(flash) => is_on(alloc, &flash, self),
+            Some(flash) => is_on(alloc, &flash, self.1, self.2, self.3),
             None => false,
         }
     }

@@ -6,9 +6,9 @@ use Rattle.cert_check.proofs.judging.has_reset.Goals as goal
 
 pub lands-requires-clause-slots : goal.lands-requires-clause-slots
 lands-requires-clause-slots c =
-    reset_slots c.args.task.now.assumptions.now c.root.result c.entry-key.result c.in_ok-state.state c.root.ensures c.entry-key.ensures c.in_ok-state.ensures
+    reset_slots c.args.task.now.assumptions.now c.root-2.result c.entry-key.result c.in_ok-state.state c.root-2.ensures c.entry-key.ensures c.in_ok-state.ensures
 
 pub returns : goal.returns
 returns c =
     subst₂ (λ followed n. IsTrue c.lands.result ↔ LandsOpen followed c.args.certificate.now.nodes c.args.nodes.now n) c.has_pairs.ensures
-    (reset_is c.args.task.now.assumptions.now c.root.result c.entry-key.result c.in_ok-state.state c.root.ensures c.entry-key.ensures c.in_ok-state.ensures) c.lands.ensures
+    (reset_is c.args.task.now.assumptions.now c.root-2.result c.entry-key.result c.in_ok-state.state c.root-2.ensures c.entry-key.ensures c.in_ok-state.ensures) c.lands.ensures

@@ -1,10 +1,10 @@
-use Rattle.std.proofs.Common.{subst, sym, arith}
+use Rattle.std.proofs.Common.{subst, sym}
 use Rattle.certificate.specs.Valid.{reset_node}
 use Rattle.cert_check.specs.Demands.{AreDemandsInside, IsGathering, IsWeighed, Decides}
 use Rattle.cert_check.proofs.Demands.{landed_belongs, all_inside}
 use Rattle.cert_check.proofs.Asking.{decided, gap_least}
 use Rattle.cert_check.proofs.One.{are_instances}
-use Rattle.cert_check.proofs.Verdicts.{few_nodes, shown, beside, nodes_belong, node_fits}
+use Rattle.cert_check.proofs.Verdicts.{few_nodes, shown, beside, nodes_belong}
 use Rattle.cert_check.proofs.judging.settle_edges.Goals as goal
 
 pub gather-requires-clause-few : goal.gather-requires-clause-few
@@ -29,7 +29,7 @@ weigh-requires-clause-inside c =
     let claim = c.args.certificate.now in
     let nodes = c.args.nodes.now in
     let belong = nodes_belong words A claim nodes c.requires.claim c.requires.filled in
-    let found = subst (IsGathering words A claim.nodes claim.instances nodes) c.in-Accepted.is c.in_ok-at.ensures in
+    let found = subst (IsGathering words A claim.nodes claim.instances nodes) c.in-Accepted.is c.in_ok-demands.ensures in
     subst (AreDemandsInside claim.instances) (sym c.deref.ensures.value)
     (all_inside words A claim.instances nodes (are_instances claim c.requires.claim) belong (λ n e h i. (found.0 n e h i).0) c.in-Accepted.field-0.demands.items found.1)
 
@@ -45,23 +45,23 @@ returns-in-Accepted-weigh c =
     let claim = c.args.certificate.now in
     let nodes = c.args.nodes.now in
     let belong = nodes_belong words A claim nodes c.requires.claim c.requires.filled in
-    let found = subst (IsGathering words A claim.nodes claim.instances nodes) c.in-Accepted.is c.in_ok-at.ensures in
+    let found = subst (IsGathering words A claim.nodes claim.instances nodes) c.in-Accepted.is c.in_ok-demands.ensures in
     let all = decided words A claim nodes (are_instances claim c.requires.claim) belong found.0 c.in-Accepted.field-0.demands.items found.1 c.requires.device c.requires.reset c.requires.taken.faultless
     c.weigh.result (subst (λ ds. IsWeighed words claim A ds c.weigh.result) c.deref.ensures.value c.weigh.ensures) in
     let met = subst (Decides words A claim nodes) c.in-Accepted-weigh.is all in
     (met.0, found.2)
 
-pub returns-in-Rejected : goal.returns-in-Rejected
-returns-in-Rejected c =
+pub returns-in-Accepted : goal.returns-in-Accepted
+returns-in-Accepted c =
     let words = c.args.task.now.flash.now in
     let A = c.args.task.now.assumptions.now in
     let claim = c.args.certificate.now in
     let nodes = c.args.nodes.now in
     let belong = nodes_belong words A claim nodes c.requires.claim c.requires.filled in
-    let found = subst (IsGathering words A claim.nodes claim.instances nodes) c.in-Accepted.is c.in_ok-at.ensures in
+    let found = subst (IsGathering words A claim.nodes claim.instances nodes) c.in-Accepted.is c.in_ok-demands.ensures in
     let all = decided words A claim nodes (are_instances claim c.requires.claim) belong found.0 c.in-Accepted.field-0.demands.items found.1 c.requires.device c.requires.reset c.requires.taken.faultless
     c.weigh.result (subst (λ ds. IsWeighed words claim A ds c.weigh.result) c.deref.ensures.value c.weigh.ensures) in
-    subst (Decides words A claim nodes) c.in-Rejected.is all
+    subst (Decides words A claim nodes) c.in-Rejected-weigh.is all
 
 pub returns : goal.returns
 returns c =
@@ -69,5 +69,5 @@ returns c =
     let A = c.args.task.now.assumptions.now in
     let claim = c.args.certificate.now in
     let nodes = c.args.nodes.now in
-    gap_least words A claim nodes c.in-Rejected-2.reason c.requires.reset c.requires.taken.faultless
-    (subst (IsGathering words A claim.nodes claim.instances nodes) c.in-Rejected-2.is c.in_ok-at.ensures)
+    gap_least words A claim nodes c.in-Rejected.reason c.requires.reset c.requires.taken.faultless
+    (subst (IsGathering words A claim.nodes claim.instances nodes) c.in-Rejected.is c.in_ok-demands.ensures)

@@ -21,8 +21,8 @@ join_all-requires-clause-fit c =
       formed = subst (AreFormed device followed) (sym c.requires) (no_nodes device followed);
       nodes =
           root_nodes device A c.push.new.self.items
-          (pushed_root A c.push.new.self.items c.new-nodes.result.items c.entry.result c.root.result c.in_ok-state.state c.in_ok-push.ensures.items c.new-nodes.ensures.items
-          c.entry.ensures c.root.ensures c.in_ok-state.ensures);
+          (pushed_root A c.push.new.self.items c.new-nodes.result.items c.entry.result c.root-2.result c.in_ok-state.state c.in_ok-push.ensures.items c.new-nodes.ensures.items
+          c.entry.ensures c.root-2.ensures c.in_ok-state.ensures);
     }
 
 pub join_all-requires-clause-fresh : goal.join_all-requires-clause-fresh
@@ -31,15 +31,15 @@ join_all-requires-clause-fresh c = root_fresh c.args.table.now c.push.new.self.i
 pub join_all-requires-clause-apart : goal.join_all-requires-clause-apart
 join_all-requires-clause-apart c =
     root_apart c.args.task.now.assumptions.now c.push.new.self.items
-    (pushed_root c.args.task.now.assumptions.now c.push.new.self.items c.new-nodes.result.items c.entry.result c.root.result c.in_ok-state.state c.in_ok-push.ensures.items
-    c.new-nodes.ensures.items c.entry.ensures c.root.ensures c.in_ok-state.ensures)
+    (pushed_root c.args.task.now.assumptions.now c.push.new.self.items c.new-nodes.result.items c.entry.result c.root-2.result c.in_ok-state.state c.in_ok-push.ensures.items
+    c.new-nodes.ensures.items c.entry.ensures c.root-2.ensures c.in_ok-state.ensures)
 
 pub returns : goal.returns
 returns c = record {
   first = c.in_ok-work.ensures.joined ∙ ap (λ (f : Family). raised_all f c.push.new.self.items) c.requires
       ∙ first_is c.args.task.now.assumptions.now c.push.new.self.items
-      (pushed_root c.args.task.now.assumptions.now c.push.new.self.items c.new-nodes.result.items c.entry.result c.root.result c.in_ok-state.state c.in_ok-push.ensures.items
-      c.new-nodes.ensures.items c.entry.ensures c.root.ensures c.in_ok-state.ensures);
+      (pushed_root c.args.task.now.assumptions.now c.push.new.self.items c.new-nodes.result.items c.entry.result c.root-2.result c.in_ok-state.state c.in_ok-push.ensures.items
+      c.new-nodes.ensures.items c.entry.ensures c.root-2.ensures c.in_ok-state.ensures);
   count = c.in_ok-work.ensures.count;
   kept = subst (λ (f : Family). KeptBut f c.join_all.new.table c.in_ok-work.work.items) c.requires c.in_ok-work.ensures.kept;
 }
