@@ -14,8 +14,8 @@ use Rattle.round_solutions.proofs.AnswerLaws.{misfit_fits, never_misfit}
 use Rattle.fixpoint.specs.Progress.{AreRoundsFound}
 
 module _ (words : Program) (A : List Entry) where
-  pub is_answer : (steps : Option ℕ) (f : Family) (c : Claim) → AreRoundsFound words A steps f → IsSolution words A f c → IsAnswer words A steps c
-  is_answer steps f c found solution = record { number = found.number; family = f; within = found.within; solved = found.solved; solution = solution }
+  pub is_answer : (steps : Option ℕ) (f : Family) (c : Claim) → AllFit (device_of words) A → AreRoundsFound words A steps f → IsSolution words A f c → IsAnswer words A steps c
+  is_answer steps f c fit found solution = record { fit = fit; number = found.number; family = f; within = found.within; solved = found.solved; solution = solution }
 
   pub is_valid : (steps : Option ℕ) (f : Family) (c : Claim) → AreRoundsFound words A steps f → IsClaim c → IsSolution words A f c → IsValid words A c
   is_valid steps f c found claim solution = solutions_are_valid.valid words A found.number f c claim found.solved solution

@@ -48,7 +48,7 @@ module _ (one : AnswersAreOne) (chains : WaypointsAreOne) where
       refuses_one (why_not_status k.refusal) (why_not_text words k.refusal) s t a b (subst (λ r. Refuses (why_not_status r) (why_not_text words r) s a) e h.says) k.says
 
   never_both : {X : Type 0} (words : Program) (A : List Entry) (steps : Option ℕ) (c : Claim) (t : Status) (b : List ℕ) → IsAnalysis words A steps c → WhyNotReply words A steps t b → X
-  never_both words A steps c t b h k = absurd (no_memory words k.refusal t b k.says (one.either words A steps h.least k.refusal h.claim h.answer k.why))
+  never_both words A steps c t b h k = absurd (no_memory words k.refusal t b k.says (one.either words A steps h.least k.refusal h.answer k.why))
 
   pub analyse_one : (words : Program) (A : List Entry) (steps : Option ℕ) (s t : Status) (a b : List ℕ) → AnalyseReply words A steps s a → AnalyseReply words A steps t b → (s ≡ t) × (a ≡ b)
   analyse_one words A steps s t a b (inl h) (inl k) =
@@ -58,7 +58,7 @@ module _ (one : AnswersAreOne) (chains : WaypointsAreOne) where
   analyse_one words A steps s t a b (inr h) (inr k) = why_not_one words A steps s t a b h k
 
   never_measured : {X : Type 0} (size : ℕ) (s t : Status) (a b : List ℕ) → MeasuredReply size s a → WhyNotReply (demo_program size) [] None t b → X
-  never_measured size s t a b h k = absurd (no_memory (demo_program size) k.refusal t b k.says (one.either (demo_program size) [] None h.claim k.refusal h.fits h.answer k.why))
+  never_measured size s t a b h k = absurd (no_memory (demo_program size) k.refusal t b k.says (one.either (demo_program size) [] None h.claim k.refusal h.answer k.why))
 
   pub demo_one : (size : ℕ) (s t : Status) (a b : List ℕ) → DemoReply size s a → DemoReply size t b → (s ≡ t) × (a ≡ b)
   demo_one size s t a b (inl h) (inl k) =

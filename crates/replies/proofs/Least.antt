@@ -199,7 +199,7 @@ module _
 
     if_solved : Ends status text → ((c : Claim) × IsClaim c × IsAnswer words A steps c) → status ≡ exit.Done
     if_solved (inl h) s = h.zero
-    if_solved (inr k) s = absurd (not_memory k (one.either words A steps s.0 k.refusal s.1 s.2 k.why))
+    if_solved (inr k) s = absurd (not_memory k (one.either words A steps s.0 k.refusal s.2 k.why))
 
     -- ---- where there is a cause
 
@@ -213,7 +213,7 @@ module _
     refused_if (inr k) e = cause_told k e (told_by k)
 
     if_why : Ends status text → (r : Refusal) → r ≢ refusal.Memory → IsWhyNot words A steps r → status ≡ why_not_status r
-    if_why (inl h) r m why = absurd (m (one.either words A steps h.claim r h.fits h.answer why))
+    if_why (inl h) r m why = absurd (m (one.either words A steps h.claim r h.answer why))
     if_why (inr k) r m why = told_status k ∙ ap why_not_status (one.why_not words A steps k.refusal r k.why why (not_memory k) m)
 
     if_refused : Ends status text → ((r : Refusal) × (r ≢ refusal.Memory) × IsRefusal words A steps r) → status ≡ exit.NoCertificate

@@ -45,8 +45,13 @@ abbrev pub IsWithinBudget : Option ℕ → ℕ → Type 0
 IsWithinBudget None n = ⊤
 IsWithinBudget (Some steps) n = n ≤ steps
 
--- The rounds end within the budget at a solved family, and this is its certificate.
+-- each entry is one of the device's lists
+abbrev pub AllFit : Device → List Entry → Type 0
+AllFit device A = All (λ e. fits_device device e ≡ true) A
+
+-- The assumptions fit the device, the rounds end within the budget at a solved family, and this is its certificate.
 pub record IsAnswer (words : Program) (A : List Entry) (steps : Option ℕ) (c : Claim) : Type 0 where
+  pub fit : AllFit (device_of words) A
   pub number : ℕ
   pub family : Family
   pub within : IsWithinBudget steps number
@@ -64,10 +69,6 @@ abbrev pub AreRoundsWithout : Program → List Entry → Option ℕ → Refusal 
 AreRoundsWithout words A steps (Spent n) = (steps ≡ Some n) × GoesBeyond words A n
 AreRoundsWithout words A steps Memory = ⊤
 AreRoundsWithout words A steps r = IsRefusal words A steps r
-
--- each entry is one of the device's lists
-abbrev pub AllFit : Device → List Entry → Type 0
-AllFit device A = All (λ e. fits_device device e ≡ true) A
 
 -- the entry at this place, from 0, is in no list of the device, and each entry before it is in one
 pub record IsFirstMisfit (device : Device) (A : List Entry) (at : ℕ) : Type 0 where

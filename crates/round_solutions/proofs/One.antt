@@ -4,7 +4,6 @@ use Rattle.std.proofs.lemmas.Option.{slice_get_within, same_Some}
 use Rattle.basics.specs.Lists.{get_inside}
 use Rattle.family_graph.proofs.Alike.{same_lists}
 use Rattle.avr_model.specs.declared.assumption.Entry.{Entry}
-use Rattle.avr_model.specs.declared.device.Device.{Device}
 use Rattle.avr_model.specs.Devices.{Program, device_of}
 use Rattle.abs_state.specs.declared.state.AbsState.{AbsState}
 use Rattle.mask_states.specs.declared.keys.InstKey.{InstKey}
@@ -108,10 +107,6 @@ spent_answered words A steps n c spent h = beyond words A n h.number steps spent
 refused_answered : (words : Program) (A : List Entry) (steps : Option ℕ) (r : Refusal) (c : Claim) → IsRefusal words A steps r → IsAnswer words A steps c → ⊥
 refused_answered words A steps r c h i = rounds_end_once.either words A i.number h.number i.family r i.solved h.refused
 
--- the list of a certificate fits
-answer_fits : (words : Program) (A : List Entry) (steps : Option ℕ) (c : Claim) → IsClaim c → IsAnswer words A steps c → AllFit (device_of words) A
-answer_fits words A steps c claim h = subst (λ (d : Device). AllFit d A) h.solution.device (subst (AllFit c.device) h.solution.assumptions claim.entries_of_device)
-
 -- the answer without a certificate
 data Why (words : Program) (A : List Entry) (steps : Option ℕ) (r : Refusal) : Type 0 where
   misfit : (at : ℕ) → r ≡ refusal.Misfit at → IsFirstMisfit (device_of words) A at → Why words A steps r
@@ -143,16 +138,16 @@ two words A steps r s (spent m e fit h) (spent n g more i) not_r not_s = let sam
 two words A steps r s (spent m e fit h) (wanting g) not_r not_s = absurd (not_s g)
 two words A steps r s (wanting e) i not_r not_s = absurd (not_r e)
 
-none : (words : Program) (A : List Entry) (steps : Option ℕ) (c : Claim) (r : Refusal) → IsClaim c → IsAnswer words A steps c → Why words A steps r → r ≡ refusal.Memory
-none words A steps c r claim h (misfit at e i) = absurd (misfit_fits (device_of words) A at i (answer_fits words A steps c claim h))
-none words A steps c r claim h (refused fit i) = absurd (refused_answered words A steps r c i h)
-none words A steps c r claim h (spent n e fit i) = absurd (spent_answered words A steps n c i h)
-none words A steps c r claim h (wanting e) = e
+none : (words : Program) (A : List Entry) (steps : Option ℕ) (c : Claim) (r : Refusal) → IsAnswer words A steps c → Why words A steps r → r ≡ refusal.Memory
+none words A steps c r h (misfit at e i) = absurd (misfit_fits (device_of words) A at i h.fit)
+none words A steps c r h (refused fit i) = absurd (refused_answered words A steps r c i h)
+none words A steps c r h (spent n e fit i) = absurd (spent_answered words A steps n c i h)
+none words A steps c r h (wanting e) = e
 
 pub answers_are_one : AnswersAreOne
 answers_are_one = record {
   solution = solution;
   answer = answer;
   why_not = λ words A steps r s h i. two words A steps r s (why words A steps r h) (why words A steps s i);
-  either = λ words A steps c r claim h i. none words A steps c r claim h (why words A steps r i);
+  either = λ words A steps c r h i. none words A steps c r h (why words A steps r i);
 }

@@ -16,4 +16,4 @@ pub record AnswersAreOne : Type 0 where
   -- or one cause for having none, unless memory runs out
   pub why_not : (words : Program) (A : List Entry) (steps : Option ℕ) (r s : Refusal) → IsWhyNot words A steps r → IsWhyNot words A steps s
       → r ≢ Memory → s ≢ Memory → r ≡ s
-  pub either : (words : Program) (A : List Entry) (steps : Option ℕ) (c : Claim) (r : Refusal) → IsClaim c → IsAnswer words A steps c → IsWhyNot words A steps r → r ≡ Memory
+  pub either : (words : Program) (A : List Entry) (steps : Option ℕ) (c : Claim) (r : Refusal) → IsAnswer words A steps c → IsWhyNot words A steps r → r ≡ Memory

@@ -33,7 +33,7 @@ returns c =
     let certificate = c.in_ok-certificate.certificate in
     let solution = c.in_ok-certificate.ensures in
     record {
-      answer = is_answer words A c.args.steps f certificate found solution;
+      answer = is_answer words A c.args.steps f certificate c.in_default.ensures found solution;
       valid = is_valid words A c.args.steps f certificate found c.nodes-nodes.ensures.kept solution;
       least = is_least words A c.args.steps f certificate found solution;
       why_not = tt;
