@@ -5,7 +5,7 @@ use borrow.Rule.Slice.PartMut.{put_mid, mid_of}
 use Rattle.std.proofs.lemmas.Slice.{take-put_mid, drop-put_mid}
 use Rattle.std.proofs.Math.ListN.{drop_of_length-le, length-replicate}
 use Rattle.std.proofs.Math.Seq.{take-append_seam, take-append-add, take-set-lt}
-use Rattle.std.proofs.lemmas.List.{length-take, length-take-le, length-drop, get_or-take, get_or_past, take-replicate, take-append-drop, take-append-le, take-set-le, drop-take, replicate-append-replicate}
+use Rattle.std.proofs.lemmas.List.{length-take, length-take-le, length-drop, get_or-take, get_or_past, take-replicate, take-append-drop, take-append-le, take-set-le, take-take, drop-take, replicate-append-replicate}
 
 -- no place below the floor is live
 abbrev pub IsBitClear : ℕ → List Bool → Type 0
@@ -27,6 +27,14 @@ clear_below flags floor n clear le =
     ∙ ap (λ (xs : List Bool). take n (xs ++ drop floor flags)) clear
     ∙ take-append-le n (replicate floor false) (drop floor flags) (let e = length-replicate {A = Bool} floor false in omega (arith, le, e))
     ∙ take-replicate n floor false le
+
+-- a copy of the first places has their floor
+pub clear_copied : (before after : List Bool) (floor size n : ℕ) → IsBitClear floor before → take size after ≡ take size before → n ≡ min floor size → IsBitClear n after
+clear_copied before after floor size n clear same is =
+    sym (take-take n size after (omega (arith, is)))
+    ∙ ap (take n) same
+    ∙ take-take n size before (omega (arith, is))
+    ∙ clear_below before floor n clear (omega (arith, is))
 
 -- a place that becomes live lowers the floor
 pub clear_set : (flags : List Bool) (floor place n : ℕ) (x : Bool) → IsBitClear floor flags → n ≡ min floor place → IsBitClear n (slice_set flags place x)

@@ -41,14 +41,12 @@ impl MarkedDevice {
         MarkedDevice { device, marks }
     }
 
-    /// A copy.
-    pub fn copy(&self) -> MarkedDevice
-        ensures { result ≡ self.now }
+    /// Becomes as another one.
+    pub fn copy_from(&mut self, other: &MarkedDevice)
+        ensures { self.new ≡ other.now }
     {
-        MarkedDevice {
-            device: self.device,
-            marks: self.marks,
-        }
+        self.device = other.device;
+        self.marks = other.marks;
     }
 
     /// The device.

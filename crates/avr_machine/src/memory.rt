@@ -12,6 +12,16 @@ use std::marker::Model;
 /// The number of bytes of the greatest SRAM.
 pub const SIZE: usize = device::SIZE as usize;
 
+// Copies the first `count` places; those behind stay.
+fn copy_first<T: Copy>(to: &mut [T], from: &[T], count: usize)
+    requires to { count ≤ length to.old }
+    requires from { count ≤ length from.now }
+    ensures copied { take count to.new ≡ take count from.now }
+    ensures length { length to.new ≡ length to.old }
+{
+    to[..count].copy_from_slice(&from[..count]);
+}
+
 // Clears all live marks.
 fn clear_all(live: &mut [bool])
     ensures { live.new ≡ replicate (length live.old) false }
@@ -57,17 +67,15 @@ impl Memory {
         }
     }
 
-    /// A copy.
-    pub fn copy(&self) -> Memory
-        ensures { result ≡ self.now }
+    /// Becomes as another memory. Only the bytes that are used are copied.
+    pub fn copy_from(&mut self, other: &Memory)
+        ensures { self.new ≡ other.now }
     {
-        Memory {
-            below: self.below,
-            size: self.size,
-            bytes: self.bytes,
-            live: self.live,
-            floor: self.floor,
-        }
+        self.below = other.below;
+        self.size = other.size;
+        self.floor = other.floor.min(other.size);
+        copy_first(&mut self.bytes, &other.bytes, other.size);
+        copy_first(&mut self.live, &other.live, other.size);
     }
 
     /// The address before the first.

@@ -4,6 +4,7 @@ ghost use Rattle.std.specs.Prelude.{◌≡◌, IsTrue, length};
 
 use crate::waypoint::Waypoint;
 use avr_machine::Machine;
+use avr_model::device::Device;
 
 // A place of a trial: the machine, the number of waypoints left, and the step until which the mark is kept.
 #[derive(Drop)]
@@ -14,17 +15,24 @@ pub(crate) struct Mark {
 }
 
 impl Mark {
-    // The place after this many steps, kept for as many more. A trial that repeats itself is then ended after at most about three times
-    // the steps to the first repeated state.
-    pub(crate) fn new(at: u32, machine: &Machine, rest: &[Waypoint]) -> Mark
-        ensures machine { result.machine ≡ machine.now }
-        ensures left { result.left ≡ length rest.now }
-    {
+    // A place of no trial yet.
+    pub(crate) fn new(device: Device) -> Mark {
         Mark {
-            machine: machine.copy(),
-            left: rest.len(),
-            until: at.saturating_mul(2),
+            machine: Machine::start(device, 0),
+            left: 0,
+            until: 0,
         }
+    }
+
+    // Moves to the place after this many steps, kept for as many more. A trial that repeats itself is then ended after at most about three
+    // times the steps to the first repeated state.
+    pub(crate) fn set(&mut self, at: u32, machine: &Machine, rest: &[Waypoint])
+        ensures machine { self.new.machine ≡ machine.now }
+        ensures left { self.new.left ≡ length rest.now }
+    {
+        self.machine.copy_from(machine);
+        self.left = rest.len();
+        self.until = at.saturating_mul(2);
     }
 
     // Whether a new place must be marked after this many steps.

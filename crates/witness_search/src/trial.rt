@@ -51,6 +51,7 @@ fn attempt(
     bound: u16,
     fill: u8,
     steps: u32,
+    mark: &mut Mark,
 ) -> Result<Option<Listed<Choice>>, AllocError>
     ensures { IfOk result (IsAttempted steps task.now.flash.now task.now.assumptions.now points.now bound fill) }
 {
@@ -60,7 +61,7 @@ fn attempt(
     let mut machine = Machine::start(device, fill);
     let mut rest = points;
     let mut choices = Vec::new(task.alloc);
-    let mut mark = Mark::new(0, &machine, rest);
+    mark.set(0, &machine, rest);
     for at in 0..steps {
         if bound <= machine.depth() {
             return Ok(found(choices, &machine, bound));
@@ -76,7 +77,7 @@ fn attempt(
             return Ok(None);
         }
         if mark.is_old(at) {
-            mark = Mark::new(at, &machine, rest);
+            mark.set(at, &machine, rest);
         }
     }
     Ok(found(choices, &machine, bound))
@@ -88,12 +89,13 @@ fn try_fill(
     points: &[Waypoint],
     bound: u16,
     fill: u8,
+    mark: &mut Mark,
 ) -> Result<Option<Schedule>, AllocError>
     ensures tried { IfOk result (IsTried task.now.flash.now task.now.assumptions.now points.now bound fill) }
     ensures attained { IfOk result (λ found. IfSome found (Attains task.now.flash.now task.now.assumptions.now bound)) }
 {
     depth_is_kept();
-    let Some(choices) = attempt(task, points, bound, fill, most_choices())? else {
+    let Some(choices) = attempt(task, points, bound, fill, most_choices(), mark)? else {
         return Ok(None);
     };
     let device = task.flash.device();
@@ -105,7 +107,8 @@ fn try_fill(
 const FILLS: [u8; 8] = [0x00, 0xFF, 0x55, 0xAA, 0x01, 0x80, 0x7F, 0xFE];
 
 /// The schedule of the first trial whose depth is the bound. None exactly if no trial's depth is. The replay of the schedule ends without
-/// a stop, at the depth of the bound.
+/// a stop, at the depth of the bound. Not inlined: its machines, 33 KiB of stack each, would stay in its caller's frame.
+#[inline(never)]
 pub fn first_trial(
     task: &Task<'_>,
     points: &[Waypoint],
@@ -114,9 +117,11 @@ pub fn first_trial(
     ensures first { IfOk result (IsFound task.now.flash.now task.now.assumptions.now points.now bound) }
     ensures attained { IfOk result (λ found. IfSome found (Attains task.now.flash.now task.now.assumptions.now bound)) }
 {
+    // One for all trials, since it is large.
+    let mut mark = Mark::new(task.flash.device());
     for t in 0..8 {
         let fill = FILLS[t];
-        if let Some(schedule) = try_fill(task, points, bound, fill)? {
+        if let Some(schedule) = try_fill(task, points, bound, fill, &mut mark)? {
             return Ok(Some(schedule));
         }
     }

@@ -54,8 +54,8 @@ loop-at-preserved c =
       goes,
       elim c.if-is_old.branch [
         | then-is_old w ↦
-            rw w.mark-is (marked_here c.args.task.now.flash.now c.args.task.now.assumptions.now c.args.points.now c.args.bound c.args.fill c.push.new.self.items c.next-choice.result.1.now w.new-mark-then-is_old.result.machine c.step.new.self w.new-mark-then-is_old.result.left goes
-            w.new-mark-then-is_old.ensures.machine w.new-mark-then-is_old.ensures.left)
+            rw w.mark-is (marked_here c.args.task.now.flash.now c.args.task.now.assumptions.now c.args.points.now c.args.bound c.args.fill c.push.new.self.items c.next-choice.result.1.now w.set-then-is_old.new.self.machine c.step.new.self w.set-then-is_old.new.self.left goes
+            w.set-then-is_old.ensures.machine w.set-then-is_old.ensures.left)
         | else-is_old w ↦
             rw w.mark-is (marked_on c.args.task.now.flash.now c.args.task.now.assumptions.now c.args.points.now c.args.bound c.args.fill c.loop-at.mark.machine c.loop-at.machine c.step.new.self c.loop-at.mark.left c.loop-at.rest.now c.next-choice.result.1.now c.next-choice.result.0
             c.loop-at.invariant.1 low picks leaves done c.step.ensures.state)
