@@ -1,12 +1,10 @@
 -- Intermediate values for a firmware and an assumption file, and their answers.
-use Rattle.std.specs.Prelude.{ℕ, ◌≡◌, ⊤, List, [], Bool, true, length, Option, Some, None, Result, Ok, Err}
+use Rattle.std.specs.Prelude.{ℕ, ◌≡◌, List, [], Bool, length, Option, Some, None, Result, Ok, Err}
 use Rattle.std.specs.Global.{Vec}
-use Rattle.std.specs.List.{All}
 use Rattle.avr_model.specs.declared.assumption.Entry.{Entry}
 use Rattle.avr_model.specs.declared.device.Device.{Device}
 use Rattle.avr_model.specs.Image.{IsNarrowed}
 use Rattle.avr_model.specs.Devices.{Program, device_of, limit_of}
-use Rattle.vector_table.specs.Entries.{fits_device}
 use Rattle.flash_image.specs.Naming.{SayTheSame}
 use Rattle.elf_load.specs.Elf.{is_elf}
 use Rattle.elf_load.specs.declared.Loaded.{Loaded as Firmware}
@@ -78,11 +76,6 @@ abbrev pub ListsAs : Device → Option (List ℕ) → Listing → Type 0
 ListsAs device None (Listed A) = A ≡ []
 ListsAs device None (Unlisted r) = ⊥
 ListsAs device (Some bytes) listing = ReadsAs device bytes listing
-
--- a list that was read fits the device
-abbrev pub ListFits : Device → Listing → Type 0
-ListFits device (Listed A) = All (λ e. fits_device device e ≡ true) A
-ListFits device (Unlisted r) = ⊤
 
 -- no answer
 abbrev pub nothing : Claim → Reply

@@ -3,7 +3,7 @@
 ghost use Rattle.std.specs.Prelude.{◌≡◌, IfOk, false, length};
 ghost use Rattle.avr_model.specs.Devices.{limit_of};
 ghost use Rattle.command_files.specs.Reading.{bytes_of};
-ghost use Rattle.stack_core.specs.Answering.{LoadsBy, LoadsAs, NarrowedTo, LoadsOn, ListsAs, ListFits};
+ghost use Rattle.stack_core.specs.Answering.{LoadsBy, LoadsAs, NarrowedTo, LoadsOn, ListsAs};
 
 use crate::reply::Reply;
 use elf_load::{Loaded, is_elf, load};
@@ -69,10 +69,13 @@ fn whole(alloc: Global, device: Device, bytes: &[u8]) -> Result<Image, AllocErro
     }
 }
 
-// The same firmware with its widening thresholds, so that no rule works them out at each look.
-fn marked(mut loaded: Loaded) -> Result<Loaded, AllocError>
+/// The same firmware, with its widening thresholds if the list has the line `pairs`, so that no rule works them out at each look.
+pub fn marked(mut loaded: Loaded, assumptions: &Assumptions) -> Result<Loaded, AllocError>
     ensures { IfOk result (λ l. (l.flash ≡ loaded.flash) × ((l.names ≡ loaded.names) × (l.static_end ≡ loaded.static_end))) }
 {
+    if !assumptions.has_pairs() {
+        return Ok(loaded);
+    }
     match loaded.flash.keep_marks() {
         Ok(()) => Ok(loaded),
         Err(fault) => {
@@ -94,11 +97,11 @@ fn narrowed(alloc: Global, device: Device, loaded: Loaded) -> Result<Image, Allo
         static_end,
     } = loaded;
     match flash.narrow(device) {
-        Ok(flash) => Ok(Image::Loaded(marked(Loaded {
+        Ok(flash) => Ok(Image::Loaded(Loaded {
             flash,
             names,
             static_end,
-        })?)),
+        })),
         Err(Outside(word)) => Ok(Image::Refused(Reply {
             status: Status::BadFirmware,
             text: texts::firmware_outside(alloc, word)?,
@@ -119,8 +122,7 @@ pub fn loaded(alloc: Global, device: Device, bytes: &[u8]) -> Result<Image, Allo
 
 /// The assumptions of an optional file, for a device.
 pub fn listed(alloc: Global, device: Device, list: &Option<Vec<u8>>) -> Result<Listing, AllocError>
-    ensures lists { IfOk result (λ l. ListsAs device (bytes_of list.now) l) }
-    ensures fits { IfOk result (λ l. ListFits device l) }
+    ensures { IfOk result (λ l. ListsAs device (bytes_of list.now) l) }
 {
     let Some(bytes) = list else {
         return Ok(Listing::Listed(Assumptions::empty(alloc)));

@@ -15,7 +15,7 @@ use crate::attaining::attain;
 use crate::clearing::{clear, premises};
 use crate::explaining::explain;
 use crate::judging::{check, report};
-use crate::loading::{Image, Listing, listed, loaded};
+use crate::loading::{Image, Listing, listed, loaded, marked};
 use crate::reply::Reply;
 use crate::running::run;
 use crate::simulating::simulate;
@@ -61,15 +61,22 @@ fn on_flash(
 fn under_list(
     alloc: Global,
     request: &Request<'_>,
-    loaded: &Loaded,
+    loaded: Loaded,
     second: &[u8],
     list: &Option<Vec<u8>>,
 ) -> Result<Reply, AllocError>
-    ensures { IfOk result (λ r. WithList loaded.now.flash.device (bytes_of list.now) (λ A. LoadedReply request.now.device (work_seen request.now.work) loaded.now second.now A) r.status r.text.items) }
+    ensures { IfOk result (λ r. WithList loaded.flash.device (bytes_of list.now) (λ A. LoadedReply request.now.device (work_seen request.now.work) loaded second.now A) r.status r.text.items) }
 {
     match listed(alloc, loaded.flash.device(), list)? {
-        Listing::Listed(assumptions) => on_flash(alloc, request, loaded, &assumptions, second),
-        Listing::Unlisted(reply) => Ok(reply),
+        Listing::Listed(assumptions) => {
+            let loaded = marked(loaded, &assumptions)?;
+            let reply = on_flash(alloc, request, &loaded, &assumptions, second)?;
+            Ok(reply)
+        }
+        Listing::Unlisted(reply) => {
+            drop(loaded);
+            Ok(reply)
+        }
     }
 }
 
@@ -89,7 +96,7 @@ fn on_image(
     match loaded(alloc, request.device, firmware)? {
         Image::Loaded(loaded) => {
             words_have_16_bits(loaded.flash.words());
-            let reply = under_list(alloc, request, &loaded, second, list)?;
+            let reply = under_list(alloc, request, loaded, second, list)?;
             Ok(reply)
         }
         Image::Refused(reply) => Ok(reply),
