@@ -85,7 +85,8 @@ fn flow_row(
     staying(a, added)
 }
 
-// Loads, stores and I/O.
+// Loads, stores and I/O. Not inlined: its states would be laid out for each other instruction too.
+#[inline(never)]
 fn memory_row(
     nodes: &mut Moves<'_>,
     site: &Site<'_>,

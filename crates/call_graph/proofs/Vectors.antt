@@ -1,11 +1,14 @@
 -- The entries by one more vector.
-use Rattle.std.proofs.Common.{◌≡◌, sym, ap, ◌∙◌, ℕ, ◌+◌, List, ◌++◌, append_assoc, add-one}
+use Rattle.std.proofs.Common.{refl, ◌≡◌, sym, ap, ◌∙◌, ℕ, ◌+◌, ◌-◌, ◌==◌, ◌&&◌, ◌||◌, Bool, true, false, not, if◌then◌else◌, List, [], ◌∷◌, ◌++◌, append_assoc, add-one}
+use Rattle.std.specs.Int.{bit_at, from_bool}
 use Rattle.std.proofs.lemmas.List.{append-nil}
 use Rattle.avr_model.specs.declared.assumption.Entry.{Entry}
-use Rattle.avr_model.specs.Devices.{Program}
+use Rattle.avr_model.specs.Assumptions.{is_never}
+use Rattle.avr_model.specs.Devices.{Program, device_of}
+use Rattle.avr_model.specs.Vectors.{is_vector, is_open_vector, has_place, is_enabled, vector_word, watchdog}
 use Rattle.mask_states.specs.declared.keys.NodeKey.{NodeKey}
 use Rattle.call_graph.specs.declared.ways.Way.{Way}
-use Rattle.call_graph.specs.Ways.{at_vector, vectors_below}
+use Rattle.call_graph.specs.Ways.{at_vector, vector_way, vectors_below}
 
 pub no_vectors : (words : Program) (A : List Entry) (k : NodeKey) (start : List Way) → start ≡ start ++ vectors_below words A k 0
 unfolding vectors_below
@@ -17,3 +20,22 @@ one_vector_more words A k n start before now so e =
     let whole : now ≡ start ++ (vectors_below words A k n ++ at_vector words A k (n + 2)) =
     e ∙ ap (λ ws. ws ++ at_vector words A k (n + 2)) so ∙ append_assoc start (vectors_below words A k n) (at_vector words A k (n + 2)) in
     rw add-one whole
+
+is_off : (vector place : Bool) → (vector && (false || (place && false))) ≡ false
+is_off true true = refl
+is_off true false = refl
+is_off false place = refl
+
+-- a vector whose enable bit is 0 isn't entered, unless it counts as always enabled
+pub none_at : (words : Program) (A : List Entry) (k : NodeKey) (v : ℕ) (on always : Bool) (ways : List Way) → from_bool on ≡ bit_at k.masks (v - 2) → on ≡ false → always ≡ is_open_vector (device_of words) v → always ≡ false
+    → ways ≡ ways ++ at_vector words A k v
+unfolding is_enabled
+none_at words A k v on always ways bit off is shut =
+    let d = device_of words in
+    let zero : bit_at k.masks (v - 2) ≡ 0 = sym bit ∙ ap from_bool off in
+    let one : (bit_at k.masks (v - 2) == 1) ≡ false = ap (λ (n : ℕ). n == 1) zero in
+    let disabled : is_enabled d k.masks v ≡ false =
+    (λ i. is_vector d v && ((sym is ∙ shut) i || (has_place d v && one i))) ∙ is_off (is_vector d v) (has_place d v) in
+    let none : at_vector words A k v ≡ [] =
+    ap (λ (may : Bool). if may && not (is_never A (vector_word d v)) then (vector_way words k v false ∷ (if v == watchdog d then vector_way words k v true ∷ [] else [])) else []) disabled in
+    sym (append-nil ways) ∙ ap (λ (more : List Way). ways ++ more) (sym none)

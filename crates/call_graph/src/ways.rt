@@ -79,6 +79,10 @@ fn add_vector(ways: &mut Vec<Way>, task: &Task<'_>, key: &NodeKey, v: u8) -> Res
     ensures { OnOk result (ways.new.items ≡ ways.old.items ++ at_vector task.now.flash.now task.now.assumptions.now key.now v) }
 {
     let device = task.flash.device();
+    // most vectors of a node are disabled: a look at the bit is all that they cost
+    if !key.masks.is_on(device, v) && !device.is_open_vector(v) {
+        return Ok(());
+    }
     if key.masks.has(device, v) && !task.assumptions.never(device.vector_word(v)) {
         ways.push(vector_way(task, key, v, false))?;
         if v == device.watchdog() {

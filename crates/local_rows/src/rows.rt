@@ -127,19 +127,21 @@ pub fn computed_by(state: &AbsState, line: bool, instr: &Instr) -> Option<Comput
     ensures value { result ≡ sections.computed_by line state.now instr.now }
     ensures row { (device : Device) (words : Program) (A : List Entry) (scratch : Bool) (k : NodeKey) → line ≡ is_frame A k.pc → row_of device words A scratch k state.now instr.now ≡ going_by device k state.now result (other_row device words A scratch k state.now instr.now) }
 {
-    match instr {
-        Instr::Movw(d, r) => Some(pair_copied(state, d.doubled(), r.doubled())),
-        Instr::Muls(d, r) => Some(product(state, Mul::Muls, d.widened(), r.widened())),
-        Instr::Mulsu(d, r) => Some(product(state, Mul::Mulsu, d.widened(), r.widened())),
-        Instr::Fmul(d, r) => Some(product(state, Mul::Fmul, d.widened(), r.widened())),
-        Instr::Fmuls(d, r) => Some(product(state, Mul::Fmuls, d.widened(), r.widened())),
-        Instr::Fmulsu(d, r) => Some(product(state, Mul::Fmulsu, d.widened(), r.widened())),
-        Instr::Immediate(op, d, number) => Some(immediate(state, line, *op, d.widened(), *number)),
-        Instr::Unary(op, d) => Some(unary(state, line, *op, *d)),
-        Instr::Adiw(d, number) => Some(wide(state, true, d.doubled(), number.get() as u8)),
-        Instr::Sbiw(d, number) => Some(wide(state, false, d.doubled(), number.get() as u8)),
-        Instr::Bld(d, bit) => Some(bit_loaded(state, *d, *bit)),
-        Instr::Bst(d, bit) => Some(bit_stored(state, *d, *bit)),
-        _ => None,
-    }
+    // one place for the result of all instructions: each further one would be cleared at each call
+    let computed = match instr {
+        Instr::Movw(d, r) => pair_copied(state, d.doubled(), r.doubled()),
+        Instr::Muls(d, r) => product(state, Mul::Muls, d.widened(), r.widened()),
+        Instr::Mulsu(d, r) => product(state, Mul::Mulsu, d.widened(), r.widened()),
+        Instr::Fmul(d, r) => product(state, Mul::Fmul, d.widened(), r.widened()),
+        Instr::Fmuls(d, r) => product(state, Mul::Fmuls, d.widened(), r.widened()),
+        Instr::Fmulsu(d, r) => product(state, Mul::Fmulsu, d.widened(), r.widened()),
+        Instr::Immediate(op, d, number) => immediate(state, line, *op, d.widened(), *number),
+        Instr::Unary(op, d) => unary(state, line, *op, *d),
+        Instr::Adiw(d, number) => wide(state, true, d.doubled(), number.get() as u8),
+        Instr::Sbiw(d, number) => wide(state, false, d.doubled(), number.get() as u8),
+        Instr::Bld(d, bit) => bit_loaded(state, *d, *bit),
+        Instr::Bst(d, bit) => bit_stored(state, *d, *bit),
+        _ => return None,
+    };
+    Some(computed)
 }

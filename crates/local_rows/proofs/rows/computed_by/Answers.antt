@@ -6,20 +6,20 @@ use Rattle.local_rows.proofs.rows.computed_by.Goals as goal
 
 pub returns-in-Adiw-clause-value : goal.returns-in-Adiw-clause-value
 returns-in-Adiw-clause-value c =
-    let is = c.wide.ensures ∙ (λ p. wide_after c.args.state.now true (c.doubled-in-Adiw.ensures p) (c.get.ensures.value p)) in
+    let is = c.wide-computed.ensures ∙ (λ p. wide_after c.args.state.now true (c.doubled-in-Adiw.ensures p) (c.get.ensures.value p)) in
     ap Some is ∙ ap (computed_by c.args.line c.args.state.now) (sym c.in-Adiw.is)
 
 pub returns-in-Adiw-clause-row : goal.returns-in-Adiw-clause-row
 returns-in-Adiw-clause-row c device words A scratch k line =
-    let is = c.wide.ensures ∙ (λ p. wide_after c.args.state.now true (c.doubled-in-Adiw.ensures p) (c.get.ensures.value p)) in
+    let is = c.wide-computed.ensures ∙ (λ p. wide_after c.args.state.now true (c.doubled-in-Adiw.ensures p) (c.get.ensures.value p)) in
     ap (row_of device words A scratch k c.args.state.now) c.in-Adiw.is ∙ ap (going_with device k c.args.state.now) (sym is)
 
 pub returns-in-Sbiw-clause-value : goal.returns-in-Sbiw-clause-value
 returns-in-Sbiw-clause-value c =
-    let is = c.wide-in-Sbiw.ensures ∙ (λ p. wide_after c.args.state.now false (c.doubled-in-Sbiw.ensures p) (c.get-in-Sbiw.ensures.value p)) in
+    let is = c.wide-computed-in-Sbiw.ensures ∙ (λ p. wide_after c.args.state.now false (c.doubled-in-Sbiw.ensures p) (c.get-in-Sbiw.ensures.value p)) in
     ap Some is ∙ ap (computed_by c.args.line c.args.state.now) (sym c.in-Sbiw.is)
 
 pub returns-in-Sbiw-clause-row : goal.returns-in-Sbiw-clause-row
 returns-in-Sbiw-clause-row c device words A scratch k line =
-    let is = c.wide-in-Sbiw.ensures ∙ (λ p. wide_after c.args.state.now false (c.doubled-in-Sbiw.ensures p) (c.get-in-Sbiw.ensures.value p)) in
+    let is = c.wide-computed-in-Sbiw.ensures ∙ (λ p. wide_after c.args.state.now false (c.doubled-in-Sbiw.ensures p) (c.get-in-Sbiw.ensures.value p)) in
     ap (row_of device words A scratch k c.args.state.now) c.in-Sbiw.is ∙ ap (going_with device k c.args.state.now) (sym is)
