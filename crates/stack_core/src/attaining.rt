@@ -33,7 +33,9 @@ fn completed(task: &Task<'_>, certificate: Certificate, trials: u32) -> Result<V
     write(task.alloc, &whole)
 }
 
-/// The answer of `attain` on the text of a certificate.
+/// The answer of `attain` on the text of a certificate. Not inlined: the machine of a trial, 33 KiB of stack, would stay in the frame of all
+/// commands.
+#[inline(never)]
 pub fn attain(task: &Task<'_>, text: &[u8], trials: u32) -> Result<Reply, AllocError>
     ensures { IfOk result (λ r. CertificateReply task.now.flash.now task.now.assumptions.now (AttainReply task.now.flash.now task.now.assumptions.now trials) (certificate_in task.now.flash.now.device text.now) r.status r.text.items) }
 {

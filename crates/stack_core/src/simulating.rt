@@ -28,7 +28,8 @@ fn simulated(task: &Task<'_>, steps: ChoiceCount, devices: &Devices) -> Result<V
     texts::run_text(task.alloc, &report)
 }
 
-/// The answer to the text of devices.
+/// The answer to the text of devices. Not inlined, as `attain` is not: its machine would stay in the frame of all commands.
+#[inline(never)]
 pub fn simulate(task: &Task<'_>, steps: ChoiceCount, text: &[u8]) -> Result<Reply, AllocError>
     ensures { IfOk result (λ r. SimulateReply task.now.flash.now task.now.assumptions.now steps (setup_in task.now.flash.now.device text.now) r.status r.text.items) }
 {
