@@ -1,6 +1,6 @@
 //! The guided trials of a certificate.
 
-ghost use Rattle.std.specs.Prelude.{◌≡◌, ◌≤◌, ◌<◌, ◌+◌, ◌++◌, IfOk, IfSome, OnOk};
+ghost use Rattle.std.specs.Prelude.{◌≡◌, ◌≢◌, ◌≤◌, ◌<◌, ◌+◌, ◌++◌, Err, IfOk, IfSome, OnOk};
 ghost use Rattle.avr_model.specs.Devices.{device_of};
 ghost use Rattle.avr_model.specs.Vectors.{last_vector};
 ghost use Rattle.avr_model.specs.Run.{Bounded};
@@ -117,10 +117,8 @@ fn found(
     first_trial(alloc, flash, assumptions, &guide, trials)
 }
 
-/// The certificate with a schedule whose run is as deep as its bound, if it has none and one of this many guided trials finds one: that
-/// of the first such trial. The certificate must be for the firmware's device. All else stays. If the bound bounds all runs and the certificate is valid, so is the result: the replay of
-/// its schedule ends without a stop, at the depth of the bound. Source: own.
-pub fn attain(
+// The certificate with a schedule whose run is as deep as its bound, if it has none and one of this many guided trials finds one.
+fn with_schedule(
     alloc: Global,
     flash: &Flash,
     assumptions: &Assumptions,
@@ -137,4 +135,39 @@ pub fn attain(
     }
     let schedule = found(alloc, flash, assumptions, &certificate, trials)?;
     Ok(certificate.with_witness(schedule))
+}
+
+/// Why there is no certificate with a schedule.
+#[derive(Clone, Copy, Drop)]
+pub enum AttainFault {
+    /// The certificate is for another device than the firmware's.
+    Device,
+    /// Out of memory.
+    Memory,
+}
+
+/// The certificate with a schedule whose run is as deep as its bound, if it has none and one of this many guided trials finds one: that
+/// of the first such trial. All else stays. If the bound bounds all runs and the certificate is valid, so is the result: the replay of
+/// its schedule ends without a stop, at the depth of the bound. Fails if the certificate is for another device than the firmware's, or if
+/// memory runs out. Source: own.
+pub fn attain(
+    alloc: Global,
+    flash: &Flash,
+    assumptions: &Assumptions,
+    certificate: Certificate,
+    trials: u32,
+) -> Result<Certificate, AttainFault>
+    ensures completed { IfOk result (IsCompleted flash.now assumptions.now trials certificate) }
+    ensures attained { IfOk result (AttainedWhere flash.now assumptions.now trials certificate) }
+    ensures valid { IfOk result (λ c. Bounded flash.now assumptions.now certificate.bound → IsValid flash.now assumptions.now certificate → IsValid flash.now assumptions.now c) }
+    ensures other { result ≡ Err AttainFault.Device → certificate.device ≢ device_of flash.now }
+{
+    if certificate.device() != flash.device() {
+        drop(certificate);
+        return Err(AttainFault::Device);
+    }
+    match with_schedule(alloc, flash, assumptions, certificate, trials) {
+        Ok(whole) => Ok(whole),
+        Err(_) => Err(AttainFault::Memory),
+    }
 }

@@ -10,5 +10,5 @@ mod numbers;
 mod telling;
 mod trial;
 
-pub use attaining::attain;
+pub use attaining::{AttainFault, attain};
 pub use guide::{Candidate, Candidates, Guide, ToldBytes, TrialMoment};

@@ -23,13 +23,16 @@ fn completed(task: &Task<'_>, certificate: Certificate, trials: u32) -> Result<V
     sound_certificates_bound_every_run();
     words_have_16_bits(task.flash.words());
     let _nodes = certificate.nodes();
-    let whole = guided_trials::attain(
+    let Ok(whole) = guided_trials::attain(
         task.alloc,
         task.flash,
         task.assumptions,
         certificate,
         trials,
-    )?;
+    ) else {
+        // one for another device isn't accepted: memory has run out
+        return Err(AllocError);
+    };
     write(task.alloc, &whole)
 }
 

@@ -1,7 +1,7 @@
 use Rattle.std.proofs.Common.{sym, ◌∙◌}
 use Rattle.guided_trials.specs.Guides.{guide_of}
 use Rattle.guided_trials.proofs.Completed.{copied_as, none_as, found_fits, with_found, attained_where, valid_with}
-use Rattle.guided_trials.proofs.attaining.attain.Goals as goal
+use Rattle.guided_trials.proofs.attaining.with_schedule.Goals as goal
 
 pub with_witness-requires : goal.with_witness-requires
 with_witness-requires c =
