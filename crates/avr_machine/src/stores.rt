@@ -8,14 +8,13 @@ ghost use Rattle.avr_model.specs.Effects.{delay_of_out, storing, store_effect, p
 ghost use Rattle.avr_model.specs.Step.{result_of, state_after};
 ghost use Rattle.avr_machine.specs.Quiet.{protected_at, store_answer};
 
-use crate::arithmetic::I;
 use crate::bits::{has_bit, with_bit};
 use crate::flags::{flag_by, protected_at};
 use crate::processor::Processor;
-use crate::transfers::{IO, pointed};
+use crate::transfers::pointed;
 use avr_decode::pointer_register;
 use avr_model::choice::StepResult;
-use avr_model::device::SREG;
+use avr_model::device::{I, IO, SREG};
 use avr_model::effect::Write;
 use avr_model::instruction::Pointer;
 use flash_image::Flash;

@@ -1,14 +1,12 @@
 //! The reader of assumption lists.
 
 ghost use Rattle.std.specs.Prelude.{◌≡◌, List, Result, true, Some, None, IfSome, IfOk, length, ◌&&◌, nat_le, if◌then◌else◌};
-ghost use Rattle.std.specs.List.{list_all};
 ghost use Rattle.std.specs.Option.{option_map};
 ghost use Rattle.avr_model.specs.declared.assumption.Entry.{Entry};
 ghost use Rattle.avr_model.specs.declared.assumption.Entry.TheVariants as entry;
-ghost use Rattle.avr_model.specs.Vectors as vectors;
 ghost use Rattle.sb_base.specs.Answers.{Answers};
 ghost use Rattle.sb_base.specs.Lines.{words_of};
-ghost use Rattle.vector_table.specs.Entries.{ascends, is_word_of};
+ghost use Rattle.vector_table.specs.Entries.{ascends};
 ghost use Rattle.indirect_targets.specs.declared.fault.AssumeText.{AssumeText};
 ghost use Rattle.indirect_targets.specs.declared.fault.AssumeText.TheVariants as fault;
 ghost use Rattle.indirect_targets.specs.Exact.{IsListDue, IsListDueUnlessMemory};
@@ -22,7 +20,7 @@ use avr_model::listed::Listed;
 use line_reading::{hex_word, is_over};
 use sb_base::{LineReader, Words, read_hex};
 use std::alloc::{AllocError, Global};
-use vector_table::{AssumeFault, Assumptions, is_protected};
+use vector_table::{AssumeFault, Assumptions, are_all_protected, are_all_words, is_word};
 
 /// The most entries of a list.
 pub const MOST_ENTRIES: usize = 4_096;
@@ -122,35 +120,6 @@ fn is_listable(items: &[u16]) -> bool
     ensures { result ≡ (nat_le 1 (length items.now) && nat_le (length items.now) 64 && ascends items.now) }
 {
     !items.is_empty() && items.len() <= MOST_ITEMS && ascends(items)
-}
-
-// Whether a word address is one of the device's texts.
-fn is_word(device: Device, word: u16) -> bool
-    ensures { result ≡ is_word_of device word }
-{
-    u32::from(word) < device.limit()
-}
-
-fn are_all_words(device: Device, items: &[u16]) -> bool
-    ensures { result ≡ list_all (is_word_of device) items.now }
-{
-    for item in items {
-        if !is_word(device, *item) {
-            return false;
-        }
-    }
-    true
-}
-
-fn are_all_protected(device: Device, items: &[u16]) -> bool
-    ensures { result ≡ list_all (vectors.is_protected device) items.now }
-{
-    for item in items {
-        if !is_protected(device, *item) {
-            return false;
-        }
-    }
-    true
 }
 
 // Whether an assumption list of the device may have the entry.
