@@ -19,13 +19,13 @@ Stops f r = f ≢ Memory → first_fault r.faults ≡ Some f
 
 module _ (device : Device) (A : List Entry) (k : NodeKey) (s : AbsState) where
   -- no successor is added
-  pub none_woken : (b : Bool) (old : Moving) → b ≡ false → AreNodesAdded old old (waking b device A k s nowhere)
+  pub none_woken : (b : Bool) (old : Moving) → b ≡ false → AreNodesAdded old old (waking b (record { key = record k { masks = widened device A k.masks }; state = s }) nowhere)
   none_woken true old e = absurd (cc)
   none_woken false old e = none_added old
 
   -- the nodes so far, and then the further successor, if there is one
   pub woken_too : {U : Type 0} (result : Result U NodeFault) (b : Bool) (old mid new : Moving) (r : Raw) → AreNodesAdded old mid r
-      → Adds mid new result (waking b device A k s nowhere) → Adds old new result (waking b device A k s r)
+      → Adds mid new result (waking b (record { key = record k { masks = widened device A k.masks }; state = s }) nowhere) → Adds old new result (waking b (record { key = record k { masks = widened device A k.masks }; state = s }) r)
   woken_too (Ok u) false old mid new r p q = record { moves = p.moves; nodes = q.nodes ∙ sym (with_none mid) ∙ p.nodes }
   woken_too (Ok u) true old mid new r p q =
       let more : List Node = record { key = record k { masks = widened device A k.masks }; state = s } ∷ [] in
@@ -37,6 +37,6 @@ module _ (device : Device) (A : List Entry) (k : NodeKey) (s : AbsState) where
   woken_too (Err f) true old mid new r p q = λ other. absurd (let none = q other in cc)
 
   -- the fault that counts stays the same
-  pub stopped_before : (f : NodeFault) (b : Bool) (r : Raw) → Stops f r → Stops f (waking b device A k s r)
+  pub stopped_before : (f : NodeFault) (b : Bool) (r : Raw) → Stops f r → Stops f (waking b (record { key = record k { masks = widened device A k.masks }; state = s }) r)
   stopped_before f false r h = h
   stopped_before f true r h = h

@@ -3,11 +3,12 @@ use Rattle.std.specs.Prelude.{ℕ, ◌≡◌, ◌≢◌, List, [], Option, Some,
 use Rattle.std.specs.Global.{Vec}
 use Rattle.sb_base.specs.Answers.{Answers}
 use Rattle.local_rules.specs.declared.local.Local.{Local}
+use Rattle.local_rules.specs.declared.local.Node.{Node}
 use Rattle.local_rules.specs.declared.local.NodeFault.{NodeFault}
 use Rattle.local_rules.specs.declared.local.NodeFault.TheVariants.{UnresolvedJump, Memory}
 use Rattle.local_rules.specs.Raw.{Raw}
 use Rattle.local_rules.specs.Local.{settled}
-use Rattle.abs_step.specs.Adding.{Moving, with_nodes, first_fault}
+use Rattle.abs_step.specs.Adding.{Moving, plain, with_nodes, first_fault}
 use Rattle.abs_step.specs.declared.flow.Outgoing.{Outgoing}
 
 -- the possible targets of an indirect transfer at pc, or the fault that there are too many
@@ -25,6 +26,10 @@ pub record IsLed (old new : Moving) (o : Outgoing) (r : Raw) : Type 0 where
 abbrev pub LeadsOn : Moving → Moving → Result Outgoing NodeFault → Raw → Type 0
 LeadsOn old new (Ok o) r = IsLed old new o r
 LeadsOn old new (Err f) r = f ≢ Memory → first_fault r.faults ≡ Some f
+
+-- into a list of which no state is refined
+abbrev pub Leads : List Node → List Node → Result Outgoing NodeFault → Raw → Type 0
+Leads old new result r = LeadsOn (plain old) (plain new) result r
 
 -- the one answer that is due for a `Raw`, unless memory runs out
 abbrev pub Settles : Result Local NodeFault → Raw → Type 0

@@ -4,10 +4,11 @@ ghost use Rattle.avr_model.specs.Effects as effects;
 ghost use Rattle.local_rules.specs.Registers as registers;
 ghost use Rattle.local_rules.specs.Local as rows;
 ghost use Rattle.abs_step.specs.Adding.{Adds};
+ghost use Rattle.abs_step.specs.Sites.{site_of};
 
 use crate::moves::Moves;
-use crate::site::Site;
-use crate::stores::{ByteWrite, written_at};
+use crate::site::{ByteWrite, Site};
+use crate::stores::written_at;
 use crate::successors::{add_copy, next, setting};
 use abs_state::AbsByte;
 use avr_model::instruction::{Bit, LowPort};
@@ -25,7 +26,7 @@ pub fn bit_row(
     bit: Bit,
     on: bool,
 ) -> Result<(), NodeFault>
-    ensures { Adds nodes.old nodes.new result (rows.bit_row site.now.device site.now.key.now site.now.state.now (effects.port i) bit on) }
+    ensures { Adds nodes.old nodes.new result (rows.bit_row (site_of site.now) (effects.port i) bit on) }
 {
     let address = port(i.widened());
     let bits = kept_bits(site.device, site.key.masks, address).with(bit.get() as u8, tri_of(on));
@@ -41,7 +42,7 @@ pub fn bit_row(
 
 /// `bset` of flag `n` if `on`, else `bclr`. I is in the key: after `sei` one more instruction executes before any interrupt.
 pub fn flag_row(nodes: &mut Moves<'_>, site: &Site<'_>, n: Bit, on: bool) -> Result<(), NodeFault>
-    ensures { Adds nodes.old nodes.new result (registers.flag_row site.now.device site.now.key.now site.now.state.now n on) }
+    ensures { Adds nodes.old nodes.new result (registers.flag_row (site_of site.now) n on) }
 {
     match flag(site.state, n, on) {
         Some(set) => setting(nodes, site, &set.registers, set.flags),

@@ -19,7 +19,7 @@ fn going_where(
     carry: bool,
     pc: u16,
 ) -> Result<(), NodeFault>
-    ensures added { Adds nodes.old nodes.new result (flow.going_where site.now.key.now (flow.where_carry site.now.state.now.flags.carry site.now.state.now carry) pc) }
+    ensures added { Adds nodes.old nodes.new result (flow.carry_to site.now.key.now site.now.state.now carry pc) }
     ensures err { IfErr result (λ e. e ≡ Memory) }
 {
     match registers_where(site.state, carry) {

@@ -1,18 +1,15 @@
 //! Data transfer: loads, stores, bytes of flash, and I/O.
 
-ghost use Rattle.std.specs.Prelude.{slice_set, if◌then◌else◌};
-ghost use Rattle.avr_model.specs.Masks.{reads_masks};
-ghost use Rattle.local_rules.specs.Writes.{written_at};
-ghost use Rattle.local_rules.specs.Registers as registers;
-ghost use Rattle.local_rules.specs.Raw as raw;
-ghost use Rattle.local_rules.specs.Reads as reads;
+ghost use Rattle.std.specs.Prelude.{Some};
+ghost use Rattle.local_rules.specs.Local.{read_row};
 ghost use Rattle.local_rules.specs.Local as rows;
 ghost use Rattle.abs_step.specs.Adding.{Adds};
+ghost use Rattle.abs_step.specs.Sites.{task_of, site_of, loaded};
 
 use crate::moves::Moves;
 use crate::pointer_stores::{Indirect, pointer_write};
-use crate::site::Site;
-use crate::stores::{ByteWrite, written_at};
+use crate::site::{ByteWrite, Site};
+use crate::stores::written_at;
 use crate::successors::{at_word, changed, setting};
 use abs_state::AbsByte;
 use avr_model::instruction::{Base, Pointer, Register};
@@ -31,7 +28,7 @@ pub fn load_row(
     d: Register,
     from: Indirect,
 ) -> Result<(), NodeFault>
-    ensures { Adds nodes.old nodes.new result (rows.loading site.now.device site.now.key.now site.now.state.now registers.now d (reads.read_pointed site.now.device (reads_masks site.now.device site.now.assumptions.now) site.now.key.now site.now.state.now (reads.pointed site.now.state.now from.r from.up))) }
+    ensures { Adds nodes.old nodes.new result (loaded site.now registers.now d from) }
 {
     let pointed = point(site.state, from.r, from.up);
     let may = site.assumptions.reads_masks(site.device);
@@ -52,7 +49,7 @@ pub fn read_row(
     d: Register,
     address: u16,
 ) -> Result<(), NodeFault>
-    ensures { Adds nodes.old nodes.new result (raw.going_to site.now.key.now (record site.now.state.now { registers = registers.set site.now.state.now d (reads.read_at site.now.device (reads_masks site.now.device site.now.assumptions.now) site.now.key.now site.now.state.now address) }) (raw.further site.now.device site.now.key.now words)) }
+    ensures { Adds nodes.old nodes.new result (read_row site.now.assumptions.now (site_of site.now) words d address) }
 {
     let may = site.assumptions.reads_masks(site.device);
     let read = read_at(site.device, may, site.key, site.state, address);
@@ -69,7 +66,7 @@ pub fn lpm_row(
     registers: &[AbsByte; 32],
     d: Register,
 ) -> Result<(), NodeFault>
-    ensures { Adds nodes.old nodes.new result (raw.setting site.now.device site.now.key.now site.now.state.now (slice_set registers.now d (reads.flash_value site.now.flash.now (reads.pair_constant site.now.state.now 30))) site.now.state.now.flags) }
+    ensures { Adds nodes.old nodes.new result (rows.lpm_row site.now.flash.now (site_of site.now) registers.now d) }
 {
     let z = pair_constant(site.state, base_register(Base::Z));
     set_row(nodes, site, registers, d, flash_value(site.flash, z))
@@ -83,7 +80,7 @@ pub fn set_row(
     d: Register,
     value: AbsByte,
 ) -> Result<(), NodeFault>
-    ensures { Adds nodes.old nodes.new result (raw.setting site.now.device site.now.key.now site.now.state.now (slice_set registers.now d value) site.now.state.now.flags) }
+    ensures { Adds nodes.old nodes.new result (rows.loading (site_of site.now) registers.now d (Some value)) }
 {
     let registers = set(registers, d, value);
     setting(nodes, site, &registers, site.state.flags)
@@ -96,7 +93,7 @@ pub fn store_row(
     pointer: Pointer,
     r: Register,
 ) -> Result<(), NodeFault>
-    ensures { Adds nodes.old nodes.new result (rows.store_row site.now.device site.now.flash.now site.now.assumptions.now site.now.key.now site.now.state.now pointer r) }
+    ensures { Adds nodes.old nodes.new result (rows.store_row (task_of site.now) (site_of site.now) pointer r) }
 {
     let registers = pointer_moved(pointer, site.state);
     let after = changed(site.alloc, site.state, &registers, site.state.flags)?;
@@ -117,7 +114,7 @@ pub fn known_write(
     address: u16,
     r: Register,
 ) -> Result<(), NodeFault>
-    ensures { Adds nodes.old nodes.new result (written_at site.now.device site.now.key.now.pc (raw.at_word site.now.key.now (raw.further site.now.device site.now.key.now (if is_out then 1 else 2))) site.now.state.now is_out address (registers.value site.now.state.now r)) }
+    ensures { Adds nodes.old nodes.new result (rows.known_write (site_of site.now) is_out address r) }
 {
     let words = if is_out { 1 } else { 2 };
     let write = ByteWrite {

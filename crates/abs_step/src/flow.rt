@@ -1,22 +1,17 @@
 //! Control flow: jumps, skips, calls and returns.
 
-ghost use Rattle.std.specs.Prelude.{◌≡◌, ◌<◌, ◌+◌, map, filter, None, IfOk, IfErr, if◌then◌else◌};
-ghost use Rattle.avr_model.specs.Image.{word_at};
+ghost use Rattle.std.specs.Prelude.{◌≡◌, ◌<◌, map, filter, None, Some, IfOk, IfErr};
 ghost use Rattle.avr_model.specs.Assumptions.{lists};
-ghost use Rattle.avr_model.specs.Masks.{reads_masks};
-ghost use Rattle.avr_model.specs.Effects as effects;
-ghost use Rattle.avr_model.specs.Table.{length_of};
-ghost use Rattle.bit_domain.specs.Tri.{tri_not};
-ghost use Rattle.bit_domain.specs.TriByte.{tri_at};
+ghost use Rattle.avr_model.specs.Effects.{port};
 ghost use Rattle.local_rules.specs.declared.local.NodeFault.TheVariants.{Memory};
-ghost use Rattle.local_rules.specs.Raw.{moves_to, Raw};
-ghost use Rattle.local_rules.specs.Registers as registers;
-ghost use Rattle.local_rules.specs.Raw as raw;
-ghost use Rattle.local_rules.specs.Reads as reads;
+ghost use Rattle.local_rules.specs.Raw.{Raw, further};
+ghost use Rattle.local_rules.specs.Registers.{bits};
+ghost use Rattle.local_rules.specs.Flow.{icall_row};
 ghost use Rattle.local_rules.specs.Flow as flow;
-ghost use Rattle.local_rules.specs.Flow.{words_on};
+ghost use Rattle.local_rules.specs.Local.{bit_skip, node_of};
 ghost use Rattle.abs_step.specs.Adding.{Moving, Adds};
 ghost use Rattle.abs_step.specs.Leading.{FindsWords, LeadsOn};
+ghost use Rattle.abs_step.specs.Sites.{task_of, site_of, z_words};
 
 use crate::cuts::carry_branch;
 use crate::moves::Moves;
@@ -47,7 +42,7 @@ pub(crate) fn flag_branch(
     on: bool,
     words: (u16, u16),
 ) -> Result<(), NodeFault>
-    ensures { Adds nodes.old nodes.new result (if on then flow.flag_branch n site.now.key.now site.now.state.now words.0 words.1 (flow.branch (flow.flag_at site.now.key.now site.now.state.now n) site.now.key.now site.now.state.now words.0 words.1) else flow.flag_branch n site.now.key.now site.now.state.now words.1 words.0 (flow.branch (tri_not (flow.flag_at site.now.key.now site.now.state.now n)) site.now.key.now site.now.state.now words.0 words.1)) }
+    ensures { Adds nodes.old nodes.new result (flow.flag_turn on n (node_of (site_of site.now)) words.0 words.1) }
 {
     let (taken, other) = words;
     if n.get() == 0 {
@@ -61,8 +56,8 @@ pub(crate) fn flag_branch(
 
 // The word after the next instruction, and that of the next instruction.
 pub(crate) fn skip_words(site: &Site<'_>) -> (u16, u16)
-    ensures past { result.0 ≡ raw.further site.now.device site.now.key.now (1 + length_of (word_at site.now.flash.now (site.now.key.now.pc + 1))) }
-    ensures next { result.1 ≡ raw.further site.now.device site.now.key.now 1 }
+    ensures past { result.0 ≡ flow.past site.now.flash.now (site_of site.now) }
+    ensures next { result.1 ≡ further site.now.device site.now.key.now 1 }
 {
     let length = avr_decode::length(site.flash.word(site.key.pc.wrapping_add(1)));
     (
@@ -77,7 +72,7 @@ pub(crate) fn skipping(
     site: &Site<'_>,
     condition: Tri,
 ) -> Result<(), NodeFault>
-    ensures { Adds nodes.old nodes.new result (flow.skipping site.now.device site.now.flash.now site.now.key.now site.now.key.now site.now.state.now condition) }
+    ensures { Adds nodes.old nodes.new result (flow.skip_if site.now.flash.now (site_of site.now) condition) }
 {
     branch(nodes, site, condition, skip_words(site))
 }
@@ -86,20 +81,22 @@ pub(crate) fn skipping(
 pub(crate) fn port_skip(
     nodes: &mut Moves<'_>,
     site: &Site<'_>,
-    port: LowPort,
+    address: LowPort,
     bit: Bit,
     on: bool,
 ) -> Result<(), NodeFault>
-    ensures { Adds nodes.old nodes.new result (if on then flow.skipping site.now.device site.now.flash.now site.now.key.now (flow.reading_zero site.now.device (reads_masks site.now.device site.now.assumptions.now) site.now.key.now (effects.port port) bit) site.now.state.now (tri_at (reads.read_at site.now.device (reads_masks site.now.device site.now.assumptions.now) site.now.key.now site.now.state.now (effects.port port)).bits bit) else flow.skipping site.now.device site.now.flash.now (flow.reading_zero site.now.device (reads_masks site.now.device site.now.assumptions.now) site.now.key.now (effects.port port) bit) site.now.key.now site.now.state.now (tri_not (tri_at (reads.read_at site.now.device (reads_masks site.now.device site.now.assumptions.now) site.now.key.now site.now.state.now (effects.port port)).bits bit))) }
+    ensures { Adds nodes.old nodes.new result (bit_skip (task_of site.now) (site_of site.now) (port address) bit on) }
 {
     let may = site.assumptions.reads_masks(site.device);
-    let is_one = port_bit(site.device, may, site.key, site.state, port, bit);
-    let zero = reading_zero(site.device, may, site.key, port, bit);
-    let words = skip_words(site);
+    let is_one = port_bit(site.device, may, site.key, site.state, address, bit);
+    let zero = reading_zero(site.device, may, site.key, address, bit);
+    let (past, next) = skip_words(site);
     if on {
-        branch_by(nodes, site, is_one, site.key, &zero, words)
+        let (taken, other) = (off_table(site.key, past), off_table(&zero, next));
+        branch_by(nodes, site, is_one, taken, other)
     } else {
-        branch_by(nodes, site, is_one.complement(), &zero, site.key, words)
+        let (taken, other) = (off_table(&zero, past), off_table(site.key, next));
+        branch_by(nodes, site, is_one.complement(), taken, other)
     }
 }
 
@@ -110,7 +107,7 @@ fn listed_targets(
     state: &AbsState,
     listed: &[u16],
 ) -> Result<Vec<u16>, NodeFault>
-    ensures ok { IfOk result (λ v. v.items ≡ filter (lists (words_on device (registers.bits state.now 30) (registers.bits state.now 31))) listed.now) }
+    ensures ok { IfOk result (λ v. v.items ≡ filter (lists (z_words device state.now)) listed.now) }
     ensures err { IfErr result (λ e. e ≡ Memory) }
 {
     let mut words = Vec::new(alloc);
@@ -131,7 +128,7 @@ fn unlisted_targets(
     state: &AbsState,
     pc: u16,
 ) -> Result<Vec<u16>, NodeFault>
-    ensures { FindsWords result (flow.targets_by device None (registers.bits state.now 30) (registers.bits state.now 31)) pc }
+    ensures { FindsWords result (flow.targets_by device None (bits state.now 30) (bits state.now 31)) pc }
 {
     let (low, high) = pair(state, base_register(Base::Z));
     match targets_on(device, &low.bits, &high.bits) {
@@ -142,7 +139,7 @@ fn unlisted_targets(
 
 // The possible targets of an indirect transfer.
 pub(crate) fn targets_at(site: &Site<'_>) -> Result<Vec<u16>, NodeFault>
-    ensures { FindsWords result (flow.targets_at site.now.device site.now.assumptions.now site.now.key.now site.now.state.now) site.now.key.now.pc }
+    ensures { FindsWords result (flow.targets_at site.now.assumptions.now (site_of site.now)) site.now.key.now.pc }
 {
     match site.assumptions.jumps(site.key.pc) {
         Some(listed) => listed_targets(site.alloc, site.device, site.state, listed),
@@ -152,7 +149,7 @@ pub(crate) fn targets_at(site: &Site<'_>) -> Result<Vec<u16>, NodeFault>
 
 // Continues at each of these words.
 fn add_words(nodes: &mut Moves<'_>, site: &Site<'_>, words: &[u16]) -> Result<(), NodeFault>
-    ensures { Adds nodes.old nodes.new result (moves_to (map (λ t. record { key = raw.off_table site.now.key.now t; state = site.now.state.now }) words.now)) }
+    ensures { Adds nodes.old nodes.new result (flow.jumping (Some words.now) site.now.key.now site.now.state.now) }
 {
     for at in 0..words.len() {
         add_copy(
@@ -167,7 +164,7 @@ fn add_words(nodes: &mut Moves<'_>, site: &Site<'_>, words: &[u16]) -> Result<()
 
 // An indirect jump.
 pub(crate) fn jumping(nodes: &mut Moves<'_>, site: &Site<'_>) -> Result<(), NodeFault>
-    ensures { Adds nodes.old nodes.new result (flow.jumping (flow.targets_at site.now.device site.now.assumptions.now site.now.key.now site.now.state.now) site.now.key.now site.now.state.now) }
+    ensures { Adds nodes.old nodes.new result (flow.ijmp_row site.now.assumptions.now (site_of site.now)) }
 {
     let words = targets_at(site)?;
     let added = add_words(nodes, site, &words);
@@ -230,7 +227,7 @@ pub(crate) fn calling(
 
 // An indirect call.
 pub(crate) fn indirect_call(site: &Site<'_>) -> Result<Outgoing, NodeFault>
-    ensures { (nodes : Moving) → LeadsOn nodes nodes result (flow.indirect_call site.now.device (flow.targets_at site.now.device site.now.assumptions.now site.now.key.now site.now.state.now) site.now.key.now) }
+    ensures { (nodes : Moving) → LeadsOn nodes nodes result (icall_row site.now.assumptions.now (site_of site.now)) }
 {
     let entries = targets_at(site)?;
     let back = further(site.device, site.key, 1);
@@ -241,7 +238,7 @@ pub(crate) fn indirect_call(site: &Site<'_>) -> Result<Outgoing, NodeFault>
 
 // A return, if the stack pointer is whole.
 pub(crate) fn returning(site: &Site<'_>, exit: Exit) -> Result<Outgoing, NodeFault>
-    ensures { (nodes : Moving) → LeadsOn nodes nodes result (flow.at_closed site.now.key.now.sp site.now.key.now.pc (flow.returning exit site.now.key.now.pc site.now.key.now.inst.kind)) }
+    ensures { (nodes : Moving) → LeadsOn nodes nodes result (flow.return_row (site_of site.now) exit) }
 {
     let (pc, kind) = (site.key.pc, site.key.inst.kind);
     match site.key.sp {
@@ -263,7 +260,7 @@ pub(crate) fn relative_call(
     scratch: bool,
     target: u16,
 ) -> Result<Outgoing, NodeFault>
-    ensures { LeadsOn nodes.old nodes.new result (flow.relative_call site.now.device scratch site.now.key.now site.now.state.now target) }
+    ensures { LeadsOn nodes.old nodes.new result (flow.relative_call scratch (site_of site.now) target) }
 {
     if scratch {
         staying(site.alloc, room_row(nodes, site, target))

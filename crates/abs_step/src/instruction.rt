@@ -5,9 +5,9 @@ ghost use Rattle.local_rules.specs.declared.local.NodeFault.TheVariants.{Memory}
 ghost use Rattle.avr_model.specs.Written.{written};
 ghost use Rattle.sp_domain.specs.declared.tags.CarryTag.TheVariants as tag;
 ghost use Rattle.local_rules.specs.Registers as registers;
-ghost use Rattle.local_rules.specs.Local as rows;
-ghost use Rattle.abs_step.specs.Adding.{plain};
-ghost use Rattle.abs_step.specs.Leading.{LeadsOn};
+ghost use Rattle.local_rules.specs.Local.{plain_row, fetched_row};
+ghost use Rattle.abs_step.specs.Leading.{LeadsOn, Leads};
+ghost use Rattle.abs_step.specs.Sites.{task_of, site_of};
 
 use crate::flow::Outgoing;
 use crate::moves::Moves;
@@ -71,7 +71,7 @@ pub(crate) fn row_forgetting(
     scratch: bool,
     instr: &Instr,
 ) -> Result<Outgoing, NodeFault>
-    ensures { LeadsOn nodes.old nodes.new result (rows.row_of site.now.device site.now.flash.now site.now.assumptions.now scratch site.now.key.now (registers.before instr.now site.now.state.now) instr.now) }
+    ensures { LeadsOn nodes.old nodes.new result (plain_row (task_of site.now) scratch (site_of site.now) instr.now) }
 {
     let state = site.state;
     if !is_ended(state, instr) {
@@ -94,7 +94,7 @@ pub(crate) fn row_forgetting(
 
 // The successors by the node's instruction; its word may lie behind the device's flash.
 pub(crate) fn at_instruction(nodes: &mut Nodes, site: &Site<'_>) -> Result<Outgoing, NodeFault>
-    ensures { LeadsOn (plain nodes.old) (plain nodes.new) result (rows.row_in site.now.device site.now.flash.now site.now.assumptions.now site.now.key.now site.now.state.now) }
+    ensures { Leads nodes.old nodes.new result (fetched_row (task_of site.now) (site_of site.now)) }
 {
     let pc = site.key.pc;
     if u32::from(pc) >= site.device.words() {

@@ -1,13 +1,14 @@
 //! The local part of a node: the successors in its instance, its calls and its return, or its fault.
 
-ghost use Rattle.std.specs.Prelude.{◌≡◌, ◌<◌, ◌∷◌, nat_lt, length, Err};
-ghost use Rattle.avr_model.specs.Devices.{size_of};
+ghost use Rattle.std.specs.Prelude.{◌≡◌, ◌<◌, ◌∷◌, length, Err};
 ghost use Rattle.mask_states.specs.Keys.{offset_of};
 ghost use Rattle.local_rules.specs.declared.local.NodeFault.TheVariants.{Memory};
-ghost use Rattle.local_rules.specs.Raw.{Raw, too_deep_if};
+ghost use Rattle.local_rules.specs.Raw.{Raw};
+ghost use Rattle.local_rules.specs.Site.{task_with};
 ghost use Rattle.local_rules.specs.Local as rows;
 ghost use Rattle.sb_base.specs.Answers.{Answers};
 ghost use Rattle.abs_step.specs.Leading.{Settles};
+ghost use Rattle.abs_step.specs.Sites.{task_of, site_of};
 
 use crate::site::Site;
 use crate::splitting::splitting;
@@ -21,7 +22,7 @@ use vector_table::Assumptions;
 
 // The local part, also of a node that splits, before its depth is checked.
 fn led(site: &Site<'_>) -> Result<Local, NodeFault>
-    ensures { Settles result (rows.splitting (rows.split_site site.now.flash.now site.now.assumptions.now site.now.key.now.pc site.now.key.now.pick) (rows.row_in site.now.device site.now.flash.now site.now.assumptions.now) site.now.key.now site.now.state.now) }
+    ensures { Settles result (rows.split_row (task_of site.now) (site_of site.now)) }
 {
     let mut same = Nodes::new(site.alloc);
     let outside = splitting(&mut same, site)?;
@@ -50,7 +51,7 @@ fn stopped(found: &Result<Local, NodeFault>, besides: NodeFault) -> NodeFault
 
 // The local part, or a fault if the frame is deeper than the device's SRAM.
 fn in_sram(site: &Site<'_>) -> Result<Local, NodeFault>
-    ensures { Settles result (too_deep_if (nat_lt (size_of site.now.device) (offset_of site.now.key.now.sp)) site.now.key.now.pc (offset_of site.now.key.now.sp) (rows.splitting (rows.split_site site.now.flash.now site.now.assumptions.now site.now.key.now.pc site.now.key.now.pick) (rows.row_in site.now.device site.now.flash.now site.now.assumptions.now) site.now.key.now site.now.state.now)) }
+    ensures { Settles result (rows.deep_row (task_of site.now) (site_of site.now)) }
 {
     let found = led(site);
     let offset = site.key.offset();
@@ -72,7 +73,7 @@ pub fn local(
     state: &AbsState,
 ) -> Result<Local, NodeFault>
     requires sized { length state.now.slots ≡ offset_of key.now.sp }
-    ensures { Answers (λ l. l) Memory result (rows.local flash.now assumptions.now key.now state.now) }
+    ensures { Answers (λ l. l) Memory result (rows.local (task_with flash.now assumptions.now) key.now state.now) }
 {
     let site = Site {
         alloc,

@@ -5,7 +5,7 @@ ghost use Rattle.mask_states.specs.Keys.{offset_of};
 ghost use Rattle.abs_state.specs.PairBytes.{left_in};
 ghost use Rattle.local_rules.specs.Raw.{one, moves_to};
 ghost use Rattle.local_rules.specs.Local.{node_where};
-ghost use Rattle.abs_step.specs.Adding.{Adds, plain, teller, left_by};
+ghost use Rattle.abs_step.specs.Adding.{Adds, Inserts, moving, teller, left_by};
 
 use crate::site::Site;
 use abs_state::AbsState;
@@ -38,7 +38,7 @@ impl<'a> Model for Moves<'a> {
 impl<'a> Moves<'a> {
     /// These nodes. If `refines`, states of further nodes are refined by the transfer function of pairs.
     pub fn new(nodes: Nodes, site: &Site<'a>, instr: &'a Instr, refines: bool) -> Moves<'a>
-        ensures { result ≡ record { by = teller refines site.now.flash.now instr.now site.now.state.now; nodes = nodes } }
+        ensures { result ≡ moving (teller refines site.now.flash.now instr.now site.now.state.now) nodes }
     {
         Moves {
             nodes,
@@ -81,7 +81,7 @@ impl<'a> Moves<'a> {
 #[tactic(auto, using(crate::proofs::Added::adding))]
 pub fn put(nodes: &mut Nodes, key: NodeKey, left: bool, state: AbsState) -> Result<(), NodeFault>
     requires { left ≡ true → length state.slots ≡ offset_of key.sp }
-    ensures { Adds (plain nodes.old) (plain nodes.new) result (moves_to (node_where key (left_in left state))) }
+    ensures { Inserts nodes.old nodes.new result (moves_to (node_where key (left_in left state))) }
 {
     if !left {
         return Ok(());

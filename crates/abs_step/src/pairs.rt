@@ -1,14 +1,15 @@
 //! Instructions if pairs are followed: branches and skips cut the state by their outcome, and other successors are refined.
 
-ghost use Rattle.std.specs.Prelude.{◌≡◌, ◌<◌, ◌∷◌, [], true, not, length};
+ghost use Rattle.std.specs.Prelude.{◌≡◌, ◌<◌, true, length};
 ghost use Rattle.mask_states.specs.Keys.{offset_of};
 ghost use Rattle.abs_state.specs.PairBytes.{left_in};
-ghost use Rattle.local_rules.specs.Raw.{all_of};
-ghost use Rattle.local_rules.specs.Flow as flow;
+ghost use Rattle.local_rules.specs.Flow.{going_where};
+ghost use Rattle.local_rules.specs.Local.{paired_row};
 ghost use Rattle.local_rules.specs.Local as rows;
-ghost use Rattle.abs_step.specs.Adding.{Adds, plain, refined_if};
-ghost use Rattle.abs_step.specs.Leading.{LeadsOn};
-ghost use Rattle.abs_step.specs.Conditions.{IsTest, cut_by};
+ghost use Rattle.abs_step.specs.Adding.{Inserts};
+ghost use Rattle.abs_step.specs.Leading.{Leads};
+ghost use Rattle.abs_step.specs.Conditions.{IsTest, cut_by, both_by, skip_by};
+ghost use Rattle.abs_step.specs.Sites.{task_of, site_of, row_through, stored, branched};
 
 use crate::flow::{Outgoing, skip_words, staying};
 use crate::instruction::{before, row_forgetting};
@@ -92,7 +93,7 @@ fn going_where(
     pc: u16,
 ) -> Result<(), NodeFault>
     requires { IsTest test }
-    ensures { Adds (plain nodes.old) (plain nodes.new) result (flow.going_where site.now.key.now (cut_by test on site.now.state.now) pc) }
+    ensures { Inserts nodes.old nodes.new result (going_where site.now.key.now (cut_by test on site.now.state.now) pc) }
 {
     let mut after = copied(site.alloc, site.state)?;
     let left = cut(test, on, &mut after);
@@ -108,7 +109,7 @@ fn both_ways(
     ways: Ways,
 ) -> Result<(), NodeFault>
     requires { IsTest test }
-    ensures { Adds (plain nodes.old) (plain nodes.new) result (all_of (flow.going_where site.now.key.now (cut_by test on site.now.state.now) ways.pc ∷ flow.going_where site.now.key.now (cut_by test (not on) site.now.state.now) ways.other ∷ [])) }
+    ensures { Inserts nodes.old nodes.new result (both_by (site_of site.now) test on ways) }
 {
     going_where(nodes, site, test, on, ways.pc)?;
     going_where(nodes, site, test, !on, ways.other)
@@ -117,7 +118,7 @@ fn both_ways(
 // To the next instruction if the test has the outcome, else past it.
 fn skip_unless(nodes: &mut Nodes, site: &Site<'_>, test: Test, on: bool) -> Result<(), NodeFault>
     requires test { IsTest test }
-    ensures { Adds (plain nodes.old) (plain nodes.new) result (rows.cut_skip site.now.device site.now.flash.now site.now.key.now (cut_by test (not on) site.now.state.now) (cut_by test on site.now.state.now)) }
+    ensures { Inserts nodes.old nodes.new result (skip_by site.now.flash.now (site_of site.now) test on) }
 {
     let (past, next) = skip_words(site);
     let ways = Ways {
@@ -135,7 +136,7 @@ fn store_row(
     pointer: Pointer,
     r: Register,
 ) -> Result<(), NodeFault>
-    ensures { Adds (plain nodes.old) (plain nodes.new) result (rows.paired_store site.now.device site.now.flash.now site.now.assumptions.now site.now.key.now site.now.state.now pointer r) }
+    ensures { Inserts nodes.old nodes.new result (rows.paired_store (task_of site.now) (site_of site.now) pointer r) }
 {
     let instr = Instr::St(pointer, r);
     let mut moved = before(site.alloc, site.state, &instr)?;
@@ -160,7 +161,7 @@ fn stored(
     moved: &AbsState,
 ) -> Result<(), NodeFault>
     requires { left ≡ true → length moved.now.slots ≡ offset_of site.now.key.now.sp }
-    ensures { Adds (plain nodes.old) (plain nodes.new) result (rows.storing site.now.device site.now.flash.now site.now.assumptions.now site.now.key.now site.now.state.now store.now.pointer store.now.r (left_in left moved.now)) }
+    ensures { Inserts nodes.old nodes.new result (stored site.now store.now (left_in left moved.now)) }
 {
     if !left {
         return Ok(());
@@ -184,7 +185,7 @@ pub(crate) fn row_through(
     instr: &Instr,
     refines: bool,
 ) -> Result<Outgoing, NodeFault>
-    ensures { LeadsOn (plain nodes.old) (plain nodes.new) result (refined_if refines site.now.flash.now instr.now site.now.state.now (rows.plain_row site.now.device site.now.flash.now site.now.assumptions.now scratch site.now.key.now site.now.state.now instr.now)) }
+    ensures { Leads nodes.old nodes.new result (row_through site.now scratch instr.now refines) }
 {
     let so_far = mem::replace(nodes, Nodes::new(site.alloc));
     let mut moves = Moves::new(so_far, site, instr, refines);
@@ -201,7 +202,7 @@ fn paired_branch(
     instr: &Instr,
     branch: FlagBranch,
 ) -> Result<Outgoing, NodeFault>
-    ensures { LeadsOn (plain nodes.old) (plain nodes.new) result (rows.paired_branch branch.n site.now.key.now site.now.state.now branch.set branch.clear (rows.plain_row site.now.device site.now.flash.now site.now.assumptions.now scratch site.now.key.now site.now.state.now instr.now)) }
+    ensures { Leads nodes.old nodes.new result (branched site.now scratch instr.now branch) }
 {
     if branch.n.get() >= 7 {
         return row_through(nodes, site, scratch, instr, false);
@@ -222,7 +223,7 @@ pub(crate) fn paired_row(
     scratch: bool,
     instr: &Instr,
 ) -> Result<Outgoing, NodeFault>
-    ensures { LeadsOn (plain nodes.old) (plain nodes.new) result (rows.paired_row site.now.device site.now.flash.now site.now.assumptions.now scratch site.now.key.now site.now.state.now instr.now) }
+    ensures { Leads nodes.old nodes.new result (paired_row (task_of site.now) scratch (site_of site.now) instr.now) }
 {
     let (a, device, key) = (site.alloc, site.device, site.key);
     match instr {

@@ -1,18 +1,17 @@
 //! Stores through a pointer.
 
-ghost use Rattle.std.specs.Prelude.{◌≡◌, Some, false, filter, length, IfOk, IfErr};
-ghost use Rattle.avr_model.specs.Assumptions.{store_line};
+ghost use Rattle.std.specs.Prelude.{◌≡◌, false, length, IfOk, IfErr};
 ghost use Rattle.mask_states.specs.Keys.{offset_of};
 ghost use Rattle.local_rules.specs.declared.local.NodeFault.TheVariants.{Memory};
-ghost use Rattle.local_rules.specs.Raw.{Raw, next, nowhere};
-ghost use Rattle.local_rules.specs.Registers.{value};
-ghost use Rattle.local_rules.specs.Reads.{pointed};
+ghost use Rattle.local_rules.specs.Raw.{nowhere};
+ghost use Rattle.local_rules.specs.Writes.{listed_writes, written_at};
 ghost use Rattle.local_rules.specs.Writes as writes;
-ghost use Rattle.abs_step.specs.Adding.{Moving, Adds, AreMovesGathered, with_another, first_of};
+ghost use Rattle.abs_step.specs.Adding.{Adds, GathersToo, first_of};
+ghost use Rattle.abs_step.specs.Sites.{write_of, reached, wakes, woken_by, unfixed, stored_by};
 
 use crate::moves::Moves;
-use crate::site::Site;
-use crate::stores::{ByteWrite, written_at};
+use crate::site::{ByteWrite, Site};
+use crate::stores::written_at;
 use crate::successors::{add_copy, next};
 use abs_state::AbsState;
 use avr_model::instruction::{LowRegister, Register};
@@ -50,7 +49,7 @@ fn stored_too(
     address: u16,
     fault: Option<NodeFault>,
 ) -> Result<Option<NodeFault>, NodeFault>
-    ensures ok { IfOk result (λ next. (old : Moving) (r : Raw) → AreMovesGathered old nodes.old fault r → AreMovesGathered old nodes.new next (with_another r (writes.written_at write.now.device write.now.pc write.now.key write.now.state.now false address write.now.value))) }
+    ensures ok { IfOk result (GathersToo nodes.old nodes.new fault (written_at (write_of write.now) false address)) }
     ensures err { IfErr result (λ e. e ≡ Memory) }
 {
     match written_at(nodes, alloc, write, false, address) {
@@ -71,15 +70,15 @@ fn listed_writes(
     site: &Site<'_>,
     write: &ByteWrite<'_>,
     to: &Indirect,
-    addresses: &[u16],
+    all: &[u16],
 ) -> Result<(), NodeFault>
-    ensures { Adds nodes.old nodes.new result (writes.listed_writes write.now.device write.now.pc write.now.key write.now.state.now (filter (λ a. writes.reaches site.now.state.now to.now.r to.now.up a) addresses.now) write.now.value) }
+    ensures { Adds nodes.old nodes.new result (listed_writes (reached site.now to.now all.now) (write_of write.now)) }
 {
     add_copy(nodes, site.alloc, write.key, write.state)?;
     let mut fault: Option<NodeFault> = None;
-    for at in 0..addresses.len() {
-        if reaches(site.state, to.r, to.up, addresses[at]) {
-            fault = stored_too(nodes, site.alloc, write, addresses[at], fault)?;
+    for at in 0..all.len() {
+        if reaches(site.state, to.r, to.up, all[at]) {
+            fault = stored_too(nodes, site.alloc, write, all[at], fault)?;
         }
     }
     match fault {
@@ -101,9 +100,9 @@ fn is_own_slot(slot: Option<u16>, offset: u16) -> bool
 // Whether the byte may reach the enable bit of a vector that isn't barred.
 #[tactic(auto, unfolding(local_rules::specs::Writes::may_wake))]
 fn may_wake(site: &Site<'_>, write: &ByteWrite<'_>, to: &Indirect) -> bool
-    ensures { result ≡ writes.may_wake site.now.device site.now.assumptions.now site.now.state.now to.now.r to.now.up (pointed site.now.state.now to.now.r to.now.up) site.now.key.now.pc write.now.key write.now.value }
+    ensures { result ≡ wakes site.now to.now (write_of write.now) }
 {
-    if !site.assumptions.admits_enables(site.device, site.key.pc) {
+    if !site.assumptions.admits_enables(write.device, write.pc) {
         return false;
     }
     let slot = point(site.state, to.r, to.up).frame;
@@ -111,7 +110,7 @@ fn may_wake(site: &Site<'_>, write: &ByteWrite<'_>, to: &Indirect) -> bool
         return false;
     }
     let byte = PointerByte {
-        device: site.device,
+        device: write.device,
         assumptions: site.assumptions,
         state: site.state,
         r: to.r,
@@ -128,12 +127,12 @@ fn waking(
     write: &ByteWrite<'_>,
     to: &Indirect,
 ) -> Result<(), NodeFault>
-    ensures { Adds nodes.old nodes.new result (writes.waking (writes.may_wake site.now.device site.now.assumptions.now site.now.state.now to.now.r to.now.up (pointed site.now.state.now to.now.r to.now.up) site.now.key.now.pc write.now.key write.now.value) site.now.device site.now.assumptions.now write.now.key write.now.state.now nowhere) }
+    ensures { Adds nodes.old nodes.new result (woken_by site.now to.now (write_of write.now) nowhere) }
 {
     if !may_wake(site, write, to) {
         return Ok(());
     }
-    let masks = widened(site.device, site.assumptions, write.key.masks);
+    let masks = widened(write.device, site.assumptions, write.key.masks);
     let key = NodeKey { masks, ..write.key };
     add_copy(nodes, site.alloc, key, write.state)
 }
@@ -145,30 +144,30 @@ fn unfixed_write(
     write: &ByteWrite<'_>,
     to: &Indirect,
 ) -> Result<(), NodeFault>
-    ensures { Adds nodes.old nodes.new result (writes.waking (writes.may_wake site.now.device site.now.assumptions.now site.now.state.now to.now.r to.now.up (pointed site.now.state.now to.now.r to.now.up) site.now.key.now.pc write.now.key write.now.value) site.now.device site.now.assumptions.now write.now.key write.now.state.now (writes.listed_writes write.now.device write.now.pc write.now.key write.now.state.now (filter (λ a. writes.reaches site.now.state.now to.now.r to.now.up a) (store_line site.now.assumptions.now site.now.key.now.pc)) write.now.value)) }
+    ensures { Adds nodes.old nodes.new result (unfixed site.now to.now (write_of write.now)) }
 {
-    let addresses = site.assumptions.stores(site.key.pc);
+    let addresses = site.assumptions.stores(write.pc);
     listed_writes(nodes, site, write, to, addresses)?;
     waking(nodes, site, write, to)
 }
 
-/// Stores register `source` at an address in registers, as they are before the instruction.
+/// Stores register `r` at an address in registers, as they are before the instruction.
 pub fn pointer_write(
     nodes: &mut Moves<'_>,
     site: &Site<'_>,
     to: Indirect,
-    source: Register,
+    r: Register,
     after: &AbsState,
 ) -> Result<(), NodeFault>
     requires { length after.now.slots ≡ offset_of site.now.key.now.sp }
-    ensures { Adds nodes.old nodes.new result (writes.pointer_write site.now.device site.now.flash.now site.now.assumptions.now site.now.state.now to.r to.up (pointed site.now.state.now to.r to.up) site.now.key.now.pc (next site.now.device site.now.key.now) after.now (value site.now.state.now source)) }
+    ensures { Adds nodes.old nodes.new result (stored_by site.now to after.now r) }
 {
     let write = ByteWrite {
         device: site.device,
         pc: site.key.pc,
         key: next(site.device, site.key),
         state: after,
-        value: value(site.state, source),
+        value: value(site.state, r),
     };
     if site.flash.is_fixed_site(site.assumptions, site.key.pc) {
         match point(site.state, to.r, to.up).constant {

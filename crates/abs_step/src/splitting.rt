@@ -2,11 +2,11 @@
 
 ghost use Rattle.std.specs.Prelude.{◌≡◌, ◌<◌, Some, map, IfOk, IfErr};
 ghost use Rattle.local_rules.specs.declared.local.NodeFault.TheVariants.{Memory};
-ghost use Rattle.local_rules.specs.Raw.{Raw, all_of};
+ghost use Rattle.local_rules.specs.Raw.{all_of};
 ghost use Rattle.local_rules.specs.Local as rows;
-ghost use Rattle.abs_step.specs.Adding.{Moving, Adds, AreMovesGathered, plain, with_another};
-ghost use Rattle.pair_cuts.specs.Cuts.{pick_cut};
-ghost use Rattle.abs_step.specs.Leading.{LeadsOn};
+ghost use Rattle.abs_step.specs.Adding.{Inserts, GathersToo, plain};
+ghost use Rattle.abs_step.specs.Leading.{Leads};
+ghost use Rattle.abs_step.specs.Sites.{task_of, site_of, picked};
 
 use crate::flow::{Outgoing, staying};
 use crate::instruction::at_instruction;
@@ -23,7 +23,7 @@ const MOST_PICKS: usize = 64;
 
 // The word of the `ijmp` of the table at which the node splits, if that has no `jump` line.
 fn split_site(site: &Site<'_>) -> Option<u16>
-    ensures { result ≡ rows.split_site site.now.flash.now site.now.assumptions.now site.now.key.now.pc site.now.key.now.pick }
+    ensures { result ≡ rows.split_site (task_of site.now) site.now.key.now.pc site.now.key.now.pick }
 {
     if site.key.pick.is_some() || u32::from(site.key.pc) >= site.flash.device().words() {
         return None;
@@ -38,7 +38,7 @@ fn split_site(site: &Site<'_>) -> Option<u16>
 // The successors with this byte picked, if anything is left of the state.
 #[tactic(auto, using(crate::proofs::Slots::pick_slots))]
 fn with_pick(nodes: &mut Nodes, site: &Site<'_>, byte: u8) -> Result<Outgoing, NodeFault>
-    ensures { LeadsOn (plain nodes.old) (plain nodes.new) result (rows.picked_row (rows.row_in site.now.device site.now.flash.now site.now.assumptions.now) (rows.picking site.now.key.now byte) (pick_cut byte site.now.state.now)) }
+    ensures { Leads nodes.old nodes.new result (picked site.now byte) }
 {
     let mut picked = copied(site.alloc, site.state)?;
     let left = pick_cut(&mut picked, byte);
@@ -70,7 +70,7 @@ fn picked_too(
     byte: u8,
     fault: Option<NodeFault>,
 ) -> Result<Option<NodeFault>, NodeFault>
-    ensures ok { IfOk result (λ next. (old : Moving) (r : Raw) → AreMovesGathered old (plain nodes.old) fault r → AreMovesGathered old (plain nodes.new) next (with_another r (rows.picked_row (rows.row_in site.now.device site.now.flash.now site.now.assumptions.now) (rows.picking site.now.key.now byte) (pick_cut byte site.now.state.now)))) }
+    ensures ok { IfOk result (GathersToo (plain nodes.old) (plain nodes.new) fault (picked site.now byte)) }
     ensures err { IfErr result (λ e. e ≡ Memory) }
 {
     match with_pick(nodes, site, byte) {
@@ -87,7 +87,7 @@ fn picked_too(
 
 // The successors for each of these bytes picked.
 fn all_picked(nodes: &mut Nodes, site: &Site<'_>, picks: &[u8]) -> Result<(), NodeFault>
-    ensures { Adds (plain nodes.old) (plain nodes.new) result (all_of (map (λ byte. rows.picked_row (rows.row_in site.now.device site.now.flash.now site.now.assumptions.now) (rows.picking site.now.key.now byte) (pick_cut byte site.now.state.now)) picks.now)) }
+    ensures { Inserts nodes.old nodes.new result (all_of (map (λ byte. picked site.now byte) picks.now)) }
 {
     let mut fault: Option<NodeFault> = None;
     for at in 0..picks.len() {
@@ -101,7 +101,7 @@ fn all_picked(nodes: &mut Nodes, site: &Site<'_>, picks: &[u8]) -> Result<(), No
 
 // Splits the node, if there are few enough bytes. `jump` is the word of its `ijmp`.
 fn split(nodes: &mut Nodes, site: &Site<'_>, jump: u16) -> Result<(), NodeFault>
-    ensures { Adds (plain nodes.old) (plain nodes.new) result (rows.splitting (Some jump) (rows.row_in site.now.device site.now.flash.now site.now.assumptions.now) site.now.key.now site.now.state.now) }
+    ensures { Inserts nodes.old nodes.new result (rows.split_by (Some jump) (task_of site.now) (site_of site.now)) }
 {
     let picks = picks(site.alloc, site.state)?;
     if picks.len() > MOST_PICKS {
@@ -114,7 +114,7 @@ fn split(nodes: &mut Nodes, site: &Site<'_>, jump: u16) -> Result<(), NodeFault>
 
 // The successors of the node; if it splits, those with each possible byte of r30.
 pub(crate) fn splitting(nodes: &mut Nodes, site: &Site<'_>) -> Result<Outgoing, NodeFault>
-    ensures { LeadsOn (plain nodes.old) (plain nodes.new) result (rows.splitting (rows.split_site site.now.flash.now site.now.assumptions.now site.now.key.now.pc site.now.key.now.pick) (rows.row_in site.now.device site.now.flash.now site.now.assumptions.now) site.now.key.now site.now.state.now) }
+    ensures { Leads nodes.old nodes.new result (rows.split_row (task_of site.now) (site_of site.now)) }
 {
     match split_site(site) {
         Some(jump) => staying(site.alloc, split(nodes, site, jump)),

@@ -4,6 +4,7 @@ ghost use Rattle.std.specs.Prelude.{◌≡◌, ◌<◌, ◌++◌, ◌∷◌, [],
 ghost use Rattle.local_rules.specs.declared.local.NodeFault.TheVariants.{Memory};
 ghost use Rattle.local_rules.specs.Flow as flow;
 ghost use Rattle.abs_step.specs.Adding.{Adds};
+ghost use Rattle.abs_step.specs.Sites.{site_of};
 
 use crate::moves::Moves;
 use crate::site::Site;
@@ -36,7 +37,7 @@ pub fn push_row(
     scratch: bool,
     r: Register,
 ) -> Result<(), NodeFault>
-    ensures { Adds nodes.old nodes.new result (flow.at_closed site.now.key.now.sp site.now.key.now.pc (flow.pushing site.now.device scratch site.now.key.now site.now.state.now r)) }
+    ensures { Adds nodes.old nodes.new result (flow.push_row scratch (site_of site.now) r) }
 {
     match site.key.sp {
         SpForm::Closed(offset) => {
@@ -59,7 +60,7 @@ pub fn push_row(
 
 /// `pop`: register `d` gets the byte of the last slot, which is removed.
 pub fn pop_row(nodes: &mut Moves<'_>, site: &Site<'_>, d: Register) -> Result<(), NodeFault>
-    ensures { Adds nodes.old nodes.new result (flow.at_closed site.now.key.now.sp site.now.key.now.pc (flow.popping site.now.device site.now.key.now site.now.state.now d)) }
+    ensures { Adds nodes.old nodes.new result (flow.pop_row (site_of site.now) d) }
 {
     match site.key.sp {
         SpForm::Closed(offset) => {
@@ -79,7 +80,7 @@ pub fn pop_row(nodes: &mut Moves<'_>, site: &Site<'_>, d: Register) -> Result<()
 
 /// A call of the next word: it makes room for two bytes, and stays in its frame.
 pub fn room_row(nodes: &mut Moves<'_>, site: &Site<'_>, target: u16) -> Result<(), NodeFault>
-    ensures { Adds nodes.old nodes.new result (flow.at_closed site.now.key.now.sp site.now.key.now.pc (flow.making_room site.now.device site.now.key.now site.now.state.now target)) }
+    ensures { Adds nodes.old nodes.new result (flow.room_row (site_of site.now) target) }
 {
     match site.key.sp {
         SpForm::Closed(offset) => {

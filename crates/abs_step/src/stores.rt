@@ -1,20 +1,20 @@
 //! The effect of writing a byte to a known data address.
 
-ghost use Rattle.std.specs.Prelude.{◌≡◌, ◌∷◌, [], length, map, IfOk, IfErr};
+ghost use Rattle.std.specs.Prelude.{◌≡◌, ◌∷◌, [], IfOk, IfErr};
 ghost use Rattle.avr_model.specs.Written.{bits_of};
-ghost use Rattle.bit_domain.specs.TriByte.{tri_at};
 ghost use Rattle.sp_domain.specs.Slots.{resized};
-ghost use Rattle.mask_states.specs.Keys.{offset_of};
 ghost use Rattle.local_rules.specs.declared.local.NodeFault.TheVariants.{Memory};
-ghost use Rattle.local_rules.specs.Raw.{one, moves_to};
 ghost use Rattle.local_rules.specs.Registers.{forgotten};
 ghost use Rattle.local_rules.specs.Writes as writes;
 ghost use Rattle.abs_step.specs.Adding.{Adds};
+ghost use Rattle.abs_step.specs.Sites.{write_of};
+ghost use Rattle.abs_step.specs.Stores.{register_by, closing_by, flags_by, masks_by, each_masks};
 
 use crate::moves::Moves;
+use crate::site::ByteWrite;
 use crate::successors::{add_copy, add_two, changed, copied};
 use abs_state::{AbsByte, AbsFlags, AbsState, end_facts, hull_written};
-use avr_model::device::{Device, REGISTERS_END, SPH, SPL, SREG};
+use avr_model::device::{REGISTERS_END, SPH, SPL, SREG};
 use avr_model::instruction::Register;
 use bit_domain::Tri;
 use local_reads::stack_pointer::{closing_offset, high_part};
@@ -26,22 +26,6 @@ use mask_states::{High, NodeKey, SpForm, split};
 use sp_domain::CarryTag;
 use std::alloc::Global;
 use vector_table::Masks;
-
-/// A write: the device, the byte, the word of the instruction, and the node that the machine is otherwise at afterwards.
-#[derive(Drop)]
-pub struct ByteWrite<'a> {
-    /// The device.
-    pub device: Device,
-    /// The word of the instruction.
-    pub pc: u16,
-    /// The key after the instruction.
-    pub key: NodeKey,
-    /// The state after the instruction.
-    pub state: &'a AbsState,
-    /// The byte.
-    pub value: AbsByte,
-    ghost sized: { length state.now.slots ≡ offset_of key.sp },
-}
 
 // A write of the high byte of the stack pointer.
 fn opening(
@@ -79,7 +63,7 @@ fn closing(
     offset: Option<u16>,
     write: &ByteWrite<'_>,
 ) -> Result<(), NodeFault>
-    ensures { Adds nodes.old nodes.new result (writes.closing write.now.device offset write.now.key write.now.state.now write.now.pc) }
+    ensures { Adds nodes.old nodes.new result (closing_by (write_of write.now) offset) }
 {
     match offset {
         Some(n) => {
@@ -112,7 +96,7 @@ fn add_masks(
     write: &ByteWrite<'_>,
     all: &[Masks],
 ) -> Result<(), NodeFault>
-    ensures { Adds nodes.old nodes.new result (moves_to (map (λ m. record { key = record write.now.key { masks = m }; state = write.now.state.now }) all.now)) }
+    ensures { Adds nodes.old nodes.new result (each_masks (write_of write.now) all.now) }
 {
     for at in 0..all.len() {
         let masks = all[at];
@@ -128,7 +112,7 @@ fn masks_written(
     write: &ByteWrite<'_>,
     address: u16,
 ) -> Result<(), NodeFault>
-    ensures { Adds nodes.old nodes.new result (writes.masks_written write.now.device write.now.key write.now.state.now address write.now.value) }
+    ensures { Adds nodes.old nodes.new result (masks_by (write_of write.now) address) }
 {
     let (key, bits) = (&write.key, &write.value.bits);
     let all = split(alloc, write.device, key.masks, address, bits)?;
@@ -160,7 +144,7 @@ fn register_written(
     write: &ByteWrite<'_>,
     d: Register,
 ) -> Result<(), NodeFault>
-    ensures { Adds nodes.old nodes.new result (one write.now.key (writes.register_written write.now.state.now d write.now.value)) }
+    ensures { Adds nodes.old nodes.new result (register_by (write_of write.now) d) }
 {
     let state = write.state;
     let value = AbsByte::of_bits(write.value.tag, write.value.bits);
@@ -189,7 +173,7 @@ fn flags_set(
     write: &ByteWrite<'_>,
     is_out: bool,
 ) -> Result<(), NodeFault>
-    ensures { Adds nodes.old nodes.new result (writes.sreg_written (tri_at write.now.value.bits 7) write.now.key (writes.put_flags write.now.state.now (writes.flags_written write.now.value)) is_out) }
+    ensures { Adds nodes.old nodes.new result (flags_by (write_of write.now) is_out) }
 {
     let (state, value) = (write.state, write.value);
     let mut after = changed(alloc, state, &state.registers, flags_written(value))?;
@@ -214,7 +198,7 @@ pub fn written_at(
     is_out: bool,
     address: u16,
 ) -> Result<(), NodeFault>
-    ensures { Adds nodes.old nodes.new result (writes.written_at write.now.device write.now.pc write.now.key write.now.state.now is_out address write.now.value) }
+    ensures { Adds nodes.old nodes.new result (writes.written_at (write_of write.now) is_out address) }
 {
     let (inst, sp) = (&write.key.inst, write.key.sp);
     match address {

@@ -1,12 +1,14 @@
 //! Adds successors in the same instance to a list of nodes.
 
-ghost use Rattle.std.specs.Prelude.{◌≡◌, ◌<◌, ◌∷◌, [], length, IfOk, IfErr};
+ghost use Rattle.std.specs.Prelude.{◌≡◌, length, IfOk, IfErr};
 ghost use Rattle.mask_states.specs.Keys.{offset_of};
 ghost use Rattle.local_rules.specs.declared.local.NodeFault.TheVariants.{Memory};
-ghost use Rattle.local_rules.specs.Raw.{one, moves_to};
+ghost use Rattle.local_rules.specs.Raw.{one, two};
 ghost use Rattle.local_rules.specs.Raw as raw;
+ghost use Rattle.local_rules.specs.Flow.{branch};
 ghost use Rattle.local_rules.specs.Flow as flow;
 ghost use Rattle.abs_step.specs.Adding.{Adds};
+ghost use Rattle.abs_step.specs.Sites.{site_of};
 
 use crate::moves::Moves;
 use crate::site::Site;
@@ -98,7 +100,7 @@ pub fn add_two(
 ) -> Result<(), NodeFault>
     requires first { length state.now.slots ≡ offset_of first.sp }
     requires second { length state.now.slots ≡ offset_of second.sp }
-    ensures { Adds nodes.old nodes.new result (moves_to (record { key = first; state = state.now } ∷ record { key = second; state = state.now } ∷ [])) }
+    ensures { Adds nodes.old nodes.new result (two first second state.now) }
 {
     add_copy(nodes, alloc, first, state)?;
     add_copy(nodes, alloc, second, state)
@@ -118,26 +120,24 @@ pub fn setting(
     registers: &[AbsByte; 32],
     flags: AbsFlags,
 ) -> Result<(), NodeFault>
-    ensures { Adds nodes.old nodes.new result (raw.setting site.now.device site.now.key.now site.now.state.now registers.now flags) }
+    ensures { Adds nodes.old nodes.new result (raw.setting (site_of site.now) registers.now flags) }
 {
     let after = changed(site.alloc, site.state, registers, flags)?;
     nodes.add(next(site.device, site.key), after)
 }
 
-/// One successor if the condition is known, else two, each with its key and word.
+/// One successor if the condition is known, else two, each with its key.
 pub fn branch_by(
     nodes: &mut Moves<'_>,
     site: &Site<'_>,
     condition: Tri,
-    taken: &NodeKey,
-    other: &NodeKey,
-    words: (u16, u16),
+    taken: NodeKey,
+    other: NodeKey,
 ) -> Result<(), NodeFault>
-    requires taken { offset_of taken.now.sp ≡ offset_of site.now.key.now.sp }
-    requires other { offset_of other.now.sp ≡ offset_of site.now.key.now.sp }
-    ensures { Adds nodes.old nodes.new result (flow.branch_by condition taken.now other.now site.now.state.now words.0 words.1) }
+    requires taken { offset_of taken.sp ≡ offset_of site.now.key.now.sp }
+    requires other { offset_of other.sp ≡ offset_of site.now.key.now.sp }
+    ensures { Adds nodes.old nodes.new result (flow.branch_by condition taken other site.now.state.now) }
 {
-    let (taken, other) = (off_table(taken, words.0), off_table(other, words.1));
     match condition {
         Tri::One => add_copy(nodes, site.alloc, taken, site.state),
         Tri::Zero => add_copy(nodes, site.alloc, other, site.state),
@@ -152,7 +152,8 @@ pub fn branch(
     condition: Tri,
     words: (u16, u16),
 ) -> Result<(), NodeFault>
-    ensures { Adds nodes.old nodes.new result (flow.branch condition site.now.key.now site.now.state.now words.0 words.1) }
+    ensures { Adds nodes.old nodes.new result (branch condition site.now.key.now site.now.state.now words.0 words.1) }
 {
-    branch_by(nodes, site, condition, site.key, site.key, words)
+    let (taken, other) = (off_table(site.key, words.0), off_table(site.key, words.1));
+    branch_by(nodes, site, condition, taken, other)
 }

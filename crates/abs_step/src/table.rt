@@ -1,10 +1,10 @@
 //! The instruction table: successors, calls and return of each instruction.
 
 ghost use Rattle.std.specs.Prelude.{◌<◌};
-ghost use Rattle.avr_model.specs.Assumptions.{is_frame};
-ghost use Rattle.local_rules.specs.Local as rows;
+ghost use Rattle.local_rules.specs.Local.{binary_row, flow_row, memory_row, row_of};
 ghost use Rattle.abs_step.specs.Adding.{Adds};
 ghost use Rattle.abs_step.specs.Leading.{LeadsOn};
+ghost use Rattle.abs_step.specs.Sites.{task_of, site_of};
 
 use crate::bits::{bit_row, flag_row};
 use crate::data_transfer::{known_write, load_row, lpm_row, read_row, set_row, store_row};
@@ -34,7 +34,7 @@ fn flow_row(
     scratch: bool,
     instr: &Instr,
 ) -> Result<Outgoing, NodeFault>
-    ensures { LeadsOn nodes.old nodes.new result (rows.flow_row site.now.device site.now.flash.now site.now.assumptions.now scratch site.now.key.now site.now.state.now instr.now) }
+    ensures { LeadsOn nodes.old nodes.new result (flow_row (task_of site.now) scratch (site_of site.now) instr.now) }
 {
     let (a, device) = (site.alloc, site.device);
     let (key, state) = (site.key, site.state);
@@ -93,7 +93,7 @@ fn memory_row(
     scratch: bool,
     instr: &Instr,
 ) -> Result<Outgoing, NodeFault>
-    ensures { LeadsOn nodes.old nodes.new result (rows.memory_row site.now.device site.now.flash.now site.now.assumptions.now scratch site.now.key.now site.now.state.now instr.now) }
+    ensures { LeadsOn nodes.old nodes.new result (memory_row (task_of site.now) scratch (site_of site.now) instr.now) }
 {
     let state = site.state;
     let added = match instr {
@@ -159,7 +159,7 @@ fn binary_row(
     d: Register,
     r: Register,
 ) -> Result<(), NodeFault>
-    ensures { Adds nodes.old nodes.new result (rows.binary_row site.now.device site.now.flash.now (is_frame site.now.assumptions.now site.now.key.now.pc) site.now.key.now site.now.state.now op d r) }
+    ensures { Adds nodes.old nodes.new result (binary_row (task_of site.now) (site_of site.now) op d r) }
 {
     let line = site.assumptions.frame(site.key.pc);
     match binary_at(site.state, line, op, d, r) {
@@ -178,7 +178,7 @@ pub(crate) fn row(
     scratch: bool,
     instr: &Instr,
 ) -> Result<Outgoing, NodeFault>
-    ensures { LeadsOn nodes.old nodes.new result (rows.row_of site.now.device site.now.flash.now site.now.assumptions.now scratch site.now.key.now site.now.state.now instr.now) }
+    ensures { LeadsOn nodes.old nodes.new result (row_of (task_of site.now) scratch (site_of site.now) instr.now) }
 {
     let line = site.assumptions.frame(site.key.pc);
     let added = match computed_by(site.state, line, instr) {

@@ -5,8 +5,6 @@ use Rattle.std.proofs.lemmas.Option.{slice_get_within}
 use Rattle.basics.specs.Items.{only_one_in, none_in, first_in, contained_in_join, each_of_join}
 use Rattle.basics.specs.Lists.{get_or_front, get_or_pushed, one_at}
 use Rattle.basics.specs.Numbers.{before_or_last}
-use Rattle.avr_model.specs.declared.assumption.Entry.{Entry}
-use Rattle.avr_model.specs.Devices.{Program}
 use Rattle.mask_states.specs.declared.keys.NodeKey.{NodeKey}
 use Rattle.mask_states.specs.declared.keys.EdgeKind.{EdgeKind}
 use Rattle.local_rules.specs.declared.local.Node.{Node}
@@ -17,6 +15,7 @@ use Rattle.edge_rules.specs.Places.{found_at}
 use Rattle.edge_rules.specs.Views.{place_of}
 use Rattle.call_graph.specs.declared.landing.Landing.{Landing}
 use Rattle.call_graph.specs.Landings.{IsLanding, AreLandingsOf, AreLandingsTo, AreLandings, landing_at, landing_of, landings_by}
+use Rattle.local_rules.specs.Site.{Task}
 
 -- ---- one edge
 
@@ -35,42 +34,42 @@ landing_in kind o l e same =
 
 -- ---- one node
 
-module _ (words : Program) (A : List Entry) (nodes : List Node) where
-  landings_are : (n : Node) (edges : List Edge) → AreEdges words A nodes n edges → AreLandingsOf words A nodes n (landings_by nodes edges)
+module _ (task : Task) (nodes : List Node) where
+  landings_are : (n : Node) (edges : List Edge) → AreEdges task nodes n edges → AreLandingsOf task nodes n (landings_by nodes edges)
   landings_are n edges are l = (
-    λ h. each_of_join (landing_of nodes) (IsLanding words A nodes n) edges
+    λ h. each_of_join (landing_of nodes) (IsLanding task nodes n) edges
         (λ e m has on. let o = landing_only e.kind (place_of e.to nodes) m on in record { edge = e; is = (are e).0 has; kind = o.1; at = o.0 }) l h,
     λ x. contained_in_join (landing_of nodes) edges x.edge l ((are x.edge).1 x.is) (landing_in x.edge.kind (place_of x.edge.to nodes) l x.at x.kind),
   )
 
   -- ---- all nodes
 
-  pub landed_none : AreLandingsTo words A nodes 0 []
+  pub landed_none : AreLandingsTo task nodes 0 []
   landed_none = record { count_is = refl; each = λ at n lt. absurd (omega (arith, lt)) }
 
-  pub landed_more : (at : ℕ) (all : List (List Landing)) (n : Node) (edges : List Edge) (landings : List Landing) → AreLandingsTo words A nodes at all
-      → slice_get nodes at ≡ Some n → AreEdges words A nodes n edges → landings ≡ landings_by nodes edges → AreLandingsTo words A nodes (at + 1) (all ++ landings ∷ [])
+  pub landed_more : (at : ℕ) (all : List (List Landing)) (n : Node) (edges : List Edge) (landings : List Landing) → AreLandingsTo task nodes at all
+      → slice_get nodes at ≡ Some n → AreEdges task nodes n edges → landings ≡ landings_by nodes edges → AreLandingsTo task nodes (at + 1) (all ++ landings ∷ [])
   landed_more at all n edges landings s is are landings_is =
       record {
         count_is = length_push all landings ∙ ap (λ x. x + 1) s.count_is;
         each = λ i m lt e. ⊎_elim (old i m e) (new i m e) (before_or_last i at lt);
       }
     where
-      old : (i : ℕ) (m : Node) → slice_get nodes i ≡ Some m → i < at → AreLandingsOf words A nodes m (get_or (all ++ landings ∷ []) i [])
+      old : (i : ℕ) (m : Node) → slice_get nodes i ≡ Some m → i < at → AreLandingsOf task nodes m (get_or (all ++ landings ∷ []) i [])
       old i m e lt =
-          subst (λ (xs : List Landing). AreLandingsOf words A nodes m xs) (sym (get_or_front all (landings ∷ []) i [] (subst (λ k. i < k) (sym s.count_is) lt)))
+          subst (λ (xs : List Landing). AreLandingsOf task nodes m xs) (sym (get_or_front all (landings ∷ []) i [] (subst (λ k. i < k) (sym s.count_is) lt)))
           (s.each i m lt e)
 
-      here_at : AreLandingsOf words A nodes n (get_or (all ++ landings ∷ []) at [])
+      here_at : AreLandingsOf task nodes n (get_or (all ++ landings ∷ []) at [])
       here_at =
-          subst (λ (xs : List Landing). AreLandingsOf words A nodes n xs)
+          subst (λ (xs : List Landing). AreLandingsOf task nodes n xs)
           (sym (ap (λ k. get_or (all ++ landings ∷ []) k []) (sym s.count_is) ∙ get_or_pushed all landings [] ∙ landings_is)) (landings_are n edges are)
 
-      new : (i : ℕ) (m : Node) → slice_get nodes i ≡ Some m → i ≡ at → AreLandingsOf words A nodes m (get_or (all ++ landings ∷ []) i [])
+      new : (i : ℕ) (m : Node) → slice_get nodes i ≡ Some m → i ≡ at → AreLandingsOf task nodes m (get_or (all ++ landings ∷ []) i [])
       new i m e same =
           let one : n ≡ m = one_at nodes at n m is (subst (λ k. slice_get nodes k ≡ Some m) same e) in
-          subst (λ k. AreLandingsOf words A nodes m (get_or (all ++ landings ∷ []) k [])) (sym same)
-          (subst (λ (x : Node). AreLandingsOf words A nodes x (get_or (all ++ landings ∷ []) at [])) one here_at)
+          subst (λ k. AreLandingsOf task nodes m (get_or (all ++ landings ∷ []) k [])) (sym same)
+          (subst (λ (x : Node). AreLandingsOf task nodes x (get_or (all ++ landings ∷ []) at [])) one here_at)
 
-  pub landed_all : (at : ℕ) (all : List (List Landing)) → AreFaultless words A nodes → AreLandingsTo words A nodes at all → at ≡ length nodes → AreLandings words A nodes all
-  landed_all at all clean s full = record { faultless = clean; are = subst (λ k. AreLandingsTo words A nodes k all) full s }
+  pub landed_all : (at : ℕ) (all : List (List Landing)) → AreFaultless task nodes → AreLandingsTo task nodes at all → at ≡ length nodes → AreLandings task nodes all
+  landed_all at all clean s full = record { faultless = clean; are = subst (λ k. AreLandingsTo task nodes k all) full s }

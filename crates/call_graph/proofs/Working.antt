@@ -2,9 +2,8 @@
 use Rattle.std.proofs.Common.{◌≡◌, refl, sym, ap, ◌∙◌, subst, ℕ, zero, suc, ◌+◌, ◌<◌, Bool, true, false, if◌then◌else◌, List, [], ◌∷◌, ◌++◌, length, take, slice_index_or, Option, Some, None, arith}
 use Rattle.std.specs.List.{slice_get}
 use Rattle.std.proofs.lemmas.Option.{none-some, slice_get_read}
-use Rattle.avr_model.specs.declared.assumption.Entry.{Entry}
 use Rattle.avr_model.specs.Assumptions.{has_pairs}
-use Rattle.avr_model.specs.Devices.{Program, device_of}
+use Rattle.avr_model.specs.Devices.{device_of}
 use Rattle.abs_state.specs.declared.state.AbsState.{AbsState}
 use Rattle.mask_states.specs.declared.keys.NodeKey.{NodeKey}
 use Rattle.mask_states.specs.Order.{same_node}
@@ -17,35 +16,36 @@ use Rattle.edge_rules.specs.declared.seeded.Seed.{Seed}
 use Rattle.edge_rules.specs.declared.seeded.Seed.TheVariants as seed
 use Rattle.edge_rules.specs.Seeds.{form_of, HasFormAt}
 use Rattle.call_graph.specs.Expanding.{AreNumbered, ComesFromBelow}
+use Rattle.local_rules.specs.Site.{Task}
 
 pub from_at : (done : List Node) (x : Seed) (m : ℕ) (n : Node) → x ≡ seed.From m → ComesFromBelow (form_of x) (length done) → n ≡ slice_index_or done m n
     → slice_get done m ≡ Some n
 from_at done x m n e h is = slice_get_read done (length done) m n refl (subst (λ (y : Seed). ComesFromBelow (form_of y) (length done)) e h) is
 
-pub worked_from : (words : Program) (A : List Entry) (done : List Node) (k : NodeKey) (x : Seed) (m : ℕ) (n : Node) → x ≡ seed.From m
-    → slice_get done m ≡ Some n → carried words A k (Some n) ≡ worked words A done k (form_of x)
-worked_from words A done k x m n e g = sym (ap (λ (y : Seed). worked words A done k (form_of y)) e ∙ ap (carried words A k) g)
+pub worked_from : (task : Task) (done : List Node) (k : NodeKey) (x : Seed) (m : ℕ) (n : Node) → x ≡ seed.From m
+    → slice_get done m ≡ Some n → carried task k (Some n) ≡ worked task done k (form_of x)
+worked_from task done k x m n e g = sym (ap (λ (y : Seed). worked task done k (form_of y)) e ∙ ap (carried task k) g)
 
 seed_is : (nodes : Seeds) (at : ℕ) (k : NodeKey) (f : NodeForm) → HasKeyAt nodes at k → HasFormAt nodes at f → slice_get nodes at ≡ Some (k, f)
 seed_is nodes at k f a b = a.1 ∙ (λ i. Some (k, (same_seed (slice_get nodes at) k b.0 a.0 f a.1 b.1).1 i))
 
-module _ (words : Program) (A : List Entry) (nodes : Seeds) (at : ℕ) (done : List Node) (so : AreExpandedSoFar words A nodes at done) where
-  pub numbered : (list : List Node) → list ≡ done → AreNumbered (device_of words) (has_pairs A) list
-  numbered list e = subst (AreNumbered (device_of words) (has_pairs A)) (sym e) (λ i n g. (so.each i n g).node)
+module _ (task : Task) (nodes : Seeds) (at : ℕ) (done : List Node) (so : AreExpandedSoFar task nodes at done) where
+  pub numbered : (list : List Node) → list ≡ done → AreNumbered (device_of task.flash) (has_pairs task.assumptions) list
+  numbered list e = subst (AreNumbered (device_of task.flash) (has_pairs task.assumptions)) (sym e) (λ i n g. (so.each i n g).node)
 
   module _ (list : List Node) (e : list ≡ done) (k : NodeKey) (f : NodeForm) (a : HasKeyAt nodes at k) (b : HasFormAt nodes at f)
-      (found : Option AbsState) (is : found ≡ worked words A list k f) where
-    pub gives_missing : found ≡ None → IsMissing words A nodes at
-    gives_missing none = missing words A nodes at done so k f (seed_is nodes at k f a b) (ap (λ l. worked words A l k f) (sym e) ∙ (sym is ∙ none))
+      (found : Option AbsState) (is : found ≡ worked task list k f) where
+    pub gives_missing : found ≡ None → IsMissing task nodes at
+    gives_missing none = missing task nodes at done so k f (seed_is nodes at k f a b) (ap (λ l. worked task l k f) (sym e) ∙ (sym is ∙ none))
 
-    pub gives_more : AreSeeds (device_of words) (has_pairs A) nodes → (s : AbsState) (new : List Node) → found ≡ Some s → new ≡ done ++ record { key = k; state = s } ∷ []
-        → AreExpandedSoFar words A nodes (at + 1) new
+    pub gives_more : AreSeeds (device_of task.flash) (has_pairs task.assumptions) nodes → (s : AbsState) (new : List Node) → found ≡ Some s → new ≡ done ++ record { key = k; state = s } ∷ []
+        → AreExpandedSoFar task nodes (at + 1) new
     gives_more seeds s new some items =
-        subst (AreExpandedSoFar words A nodes (at + 1)) (sym items)
-        (one_more words A nodes seeds at done so k f s (seed_is nodes at k f a b) (ap (λ l. worked words A l k f) (sym e) ∙ (sym is ∙ some)))
+        subst (AreExpandedSoFar task nodes (at + 1)) (sym items)
+        (one_more task nodes seeds at done so k f s (seed_is nodes at k f a b) (ap (λ l. worked task l k f) (sym e) ∙ (sym is ∙ some)))
 
-  pub gives_whole : (filled : List Node) → filled ≡ done → at ≡ length nodes → IsFilled words A nodes filled
-  gives_whole filled e full = subst (IsFilled words A nodes) (sym e) (whole words A nodes done (subst (λ x. AreExpandedSoFar words A nodes x done) full so))
+  pub gives_whole : (filled : List Node) → filled ≡ done → at ≡ length nodes → IsFilled task nodes filled
+  gives_whole filled e full = subst (IsFilled task nodes) (sym e) (whole task nodes done (subst (λ x. AreExpandedSoFar task nodes x done) full so))
 
 -- ---- the first node of a key
 

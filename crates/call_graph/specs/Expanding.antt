@@ -1,9 +1,7 @@
 -- The answer of an expansion.
 use Rattle.std.specs.Prelude.{ℕ, Bool, ◌≡◌, ◌<◌, ⊤, List, Some}
 use Rattle.std.specs.List.{slice_get}
-use Rattle.avr_model.specs.declared.assumption.Entry.{Entry}
 use Rattle.avr_model.specs.declared.device.Device.{Device}
-use Rattle.avr_model.specs.Devices.{Program}
 use Rattle.local_rules.specs.declared.local.Node.{Node}
 use Rattle.local_rules.specs.Cover.{IsNodeIn}
 use Rattle.edge_rules.specs.declared.seeded.NodeForm.{NodeForm}
@@ -11,11 +9,12 @@ use Rattle.edge_rules.specs.declared.seeded.NodeForm.TheVariants as form
 use Rattle.edge_rules.specs.Expansion.{Seeds, IsFilled, IsMissing}
 use Rattle.call_graph.specs.declared.filled.Expanded.{Expanded}
 use Rattle.call_graph.specs.declared.filled.Expanded.TheVariants.{Whole, Missing}
+use Rattle.local_rules.specs.Site.{Task}
 
 -- all expansions, or the least node that has none
-abbrev pub IsExpanded : Program → List Entry → Seeds → Expanded → Type 0
-IsExpanded words A nodes (Whole filled) = IsFilled words A nodes filled
-IsExpanded words A nodes (Missing at) = IsMissing words A nodes at
+abbrev pub IsExpanded : Task → Seeds → Expanded → Type 0
+IsExpanded task nodes (Whole filled) = IsFilled task nodes filled
+IsExpanded task nodes (Missing at) = IsMissing task nodes at
 
 -- each is a node of the device's analysis, which follows pairs as `followed` says
 abbrev pub AreNumbered : Device → Bool → List Node → Type 0

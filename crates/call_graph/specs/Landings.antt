@@ -1,8 +1,6 @@
 -- The targets of a family's edges, by the numbers of their nodes. Source: own.
 use Rattle.std.specs.Prelude.{ℕ, ◌≡◌, ◌<◌, ◌↔◌, List, [], ◌∷◌, length, Option, Some, None, Contains, slice_get, slice_index_or}
 use Rattle.std.specs.List.{flat_map}
-use Rattle.avr_model.specs.declared.assumption.Entry.{Entry}
-use Rattle.avr_model.specs.Devices.{Program}
 use Rattle.local_rules.specs.declared.local.Node.{Node}
 use Rattle.mask_states.specs.declared.keys.EdgeKind.{EdgeKind}
 use Rattle.edge_rules.specs.declared.edge.Edge.{Edge}
@@ -10,27 +8,28 @@ use Rattle.edge_rules.specs.Edges.{IsEdge}
 use Rattle.edge_rules.specs.Families.{AreFaultless}
 use Rattle.edge_rules.specs.Views.{place_of}
 use Rattle.call_graph.specs.declared.landing.Landing.{Landing}
+use Rattle.local_rules.specs.Site.{Task}
 
 -- an edge of this kind leads from this node to the node of this number
-pub record IsLanding (words : Program) (A : List Entry) (nodes : List Node) (n : Node) (l : Landing) : Type 0 where
+pub record IsLanding (task : Task) (nodes : List Node) (n : Node) (l : Landing) : Type 0 where
   pub edge : Edge
-  pub is : IsEdge words A nodes n edge
+  pub is : IsEdge task nodes n edge
   pub kind : l.kind ≡ edge.kind
   pub at : place_of edge.to nodes ≡ Some l.at
 
 -- these are exactly the landings of the node
-abbrev pub AreLandingsOf : Program → List Entry → List Node → Node → List Landing → Type 0
-AreLandingsOf words A nodes n landings = (l : Landing) → Contains landings l ↔ IsLanding words A nodes n l
+abbrev pub AreLandingsOf : Task → List Node → Node → List Landing → Type 0
+AreLandingsOf task nodes n landings = (l : Landing) → Contains landings l ↔ IsLanding task nodes n l
 
 -- the landings of the first nodes, by number
-pub record AreLandingsTo (words : Program) (A : List Entry) (nodes : List Node) (count : ℕ) (all : List (List Landing)) : Type 0 where
+pub record AreLandingsTo (task : Task) (nodes : List Node) (count : ℕ) (all : List (List Landing)) : Type 0 where
   pub count_is : length all ≡ count
-  pub each : (at : ℕ) (n : Node) → at < count → slice_get nodes at ≡ Some n → AreLandingsOf words A nodes n (slice_index_or all at [])
+  pub each : (at : ℕ) (n : Node) → at < count → slice_get nodes at ≡ Some n → AreLandingsOf task nodes n (slice_index_or all at [])
 
 -- no node has a fault, and these are the landings of each, by number
-pub record AreLandings (words : Program) (A : List Entry) (nodes : List Node) (all : List (List Landing)) : Type 0 where
-  pub faultless : AreFaultless words A nodes
-  pub are : AreLandingsTo words A nodes (length nodes) all
+pub record AreLandings (task : Task) (nodes : List Node) (all : List (List Landing)) : Type 0 where
+  pub faultless : AreFaultless task nodes
+  pub are : AreLandingsTo task nodes (length nodes) all
 
 -- ---- on the way there
 

@@ -1,8 +1,6 @@
 -- Laws of answers.
 use Rattle.std.specs.Prelude.{ℕ, ◌≡◌, ◌↔◌, ◌<◌, List, [], length, Option, Ok, Contains}
 use Rattle.edge_rules.specs.Families.{AreFaultless}
-use Rattle.avr_model.specs.declared.assumption.Entry.{Entry}
-use Rattle.avr_model.specs.Devices.{Program}
 use Rattle.abs_state.specs.declared.state.AbsState.{AbsState}
 use Rattle.local_rules.specs.declared.local.Node.{Node}
 use Rattle.local_rules.specs.declared.local.Exit.{Exit}
@@ -19,32 +17,33 @@ use Rattle.call_graph.specs.Expanding.{IsExpanded}
 use Rattle.call_graph.specs.Exits.{GivesExits, IsFirstFault}
 use Rattle.call_graph.specs.declared.ways.Way.{Way}
 use Rattle.call_graph.specs.Ways.{ways_of}
+use Rattle.local_rules.specs.Site.{Task}
 
 -- each node has an expansion
-abbrev pub HasAll : Program → List Entry → Seeds → Type 0
-HasAll words A nodes = (at : ℕ) → at < length nodes → (s : AbsState) × IsExpansion words A nodes at s
+abbrev pub HasAll : Task → Seeds → Type 0
+HasAll task nodes = (at : ℕ) → at < length nodes → (s : AbsState) × IsExpansion task nodes at s
 
 -- The answer has all states exactly if each node has one, and else the least node without one. It is unique.
 pub record AnswersAreExact : Type 0 where
-  pub whole : (words : Program) (A : List Entry) (nodes : Seeds) (answer : Expanded) → IsExpanded words A nodes answer
-      → ((filled : List Node) × (answer ≡ Whole filled)) ↔ HasAll words A nodes
-  pub missing : (words : Program) (A : List Entry) (nodes : Seeds) (answer : Expanded) (at : ℕ) → IsExpanded words A nodes answer
-      → (answer ≡ Missing at) ↔ IsMissing words A nodes at
-  pub one : (words : Program) (A : List Entry) (nodes : Seeds) (a b : Expanded) → IsExpanded words A nodes a → IsExpanded words A nodes b → a ≡ b
+  pub whole : (task : Task) (nodes : Seeds) (answer : Expanded) → IsExpanded task nodes answer
+      → ((filled : List Node) × (answer ≡ Whole filled)) ↔ HasAll task nodes
+  pub missing : (task : Task) (nodes : Seeds) (answer : Expanded) (at : ℕ) → IsExpanded task nodes answer
+      → (answer ≡ Missing at) ↔ IsMissing task nodes at
+  pub one : (task : Task) (nodes : Seeds) (a b : Expanded) → IsExpanded task nodes a → IsExpanded task nodes b → a ≡ b
 
 -- The answer has all exits exactly if no node has a fault, and else the first fault. It is unique.
 pub record ExitsAreExact : Type 0 where
-  pub whole : (words : Program) (A : List Entry) (nodes : List Node) (answer : Leaving) → GivesExits words A nodes answer
-      → ((exits : List (Option Exit)) × (answer ≡ All exits)) ↔ AreFaultless words A nodes
-  pub fault : (words : Program) (A : List Entry) (nodes : List Node) (answer : Leaving) (at : ℕ) (f : NodeFault) → GivesExits words A nodes answer
-      → (answer ≡ Fault at f) ↔ IsFirstFault words A nodes at f
-  pub one : (words : Program) (A : List Entry) (nodes : List Node) (a b : Leaving) → GivesExits words A nodes a → GivesExits words A nodes b → a ≡ b
+  pub whole : (task : Task) (nodes : List Node) (answer : Leaving) → GivesExits task nodes answer
+      → ((exits : List (Option Exit)) × (answer ≡ All exits)) ↔ AreFaultless task nodes
+  pub fault : (task : Task) (nodes : List Node) (answer : Leaving) (at : ℕ) (f : NodeFault) → GivesExits task nodes answer
+      → (answer ≡ Fault at f) ↔ IsFirstFault task nodes at f
+  pub one : (task : Task) (nodes : List Node) (a b : Leaving) → GivesExits task nodes a → GivesExits task nodes b → a ≡ b
 
 -- The local part of a node agrees with its edges: it exists exactly if the node has no fault, and has the same successors, exit, and
 -- calls.
 pub record LocalPartsAreEdges : Type 0 where
-  pub faultless : (words : Program) (A : List Entry) (n : Node) → ((l : Local) × (local words A n.key n.state ≡ Ok l)) ↔ IsFaultless words A n
-  pub same : (words : Program) (A : List Entry) (n : Node) (l : Local) → local words A n.key n.state ≡ Ok l → l.same ≡ joined_onto [] (raw_of words A n).moves
-  pub exit : (words : Program) (A : List Entry) (n : Node) (l : Local) → local words A n.key n.state ≡ Ok l → l.exit ≡ (raw_of words A n).exit
-  pub ways : (words : Program) (A : List Entry) (n : Node) (l : Local) (w : Way) → local words A n.key n.state ≡ Ok l
-      → Contains (ways_of words A n.key l.calls) w ↔ Enters words A n w.kind w.inst w.back
+  pub faultless : (task : Task) (n : Node) → ((l : Local) × (local task n.key n.state ≡ Ok l)) ↔ IsFaultless task n
+  pub same : (task : Task) (n : Node) (l : Local) → local task n.key n.state ≡ Ok l → l.same ≡ joined_onto [] (raw_of task n).moves
+  pub exit : (task : Task) (n : Node) (l : Local) → local task n.key n.state ≡ Ok l → l.exit ≡ (raw_of task n).exit
+  pub ways : (task : Task) (n : Node) (l : Local) (w : Way) → local task n.key n.state ≡ Ok l
+      → Contains (ways_of task n.key l.calls) w ↔ Enters task n w.kind w.inst w.back

@@ -1,3 +1,6 @@
+pub mod Tasks
+pub mod Callers
+pub mod Clauses
 pub mod Ways
 pub mod Next
 pub mod Exits

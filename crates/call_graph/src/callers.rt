@@ -4,6 +4,7 @@ ghost use Rattle.std.specs.Prelude.{ℕ, ◌≡◌, ◌<◌, IfOk};
 ghost use Rattle.abs_state.specs.Values.{value_at};
 ghost use Rattle.abs_state.specs.Formed.{NamesRegister};
 ghost use Rattle.call_graph.specs.Next.{returned_node};
+ghost use Rattle.call_graph.specs.Callers.{caller_node};
 
 use crate::ways::Way;
 use abs_state::AbsState;
@@ -31,7 +32,7 @@ pub fn returned(
     leaving: &AbsState,
 ) -> Result<Option<Node>, AllocError>
     requires { (r : ℕ) → r < 32 → NamesRegister (value_at leaving.now.registers r).tag }
-    ensures { IfOk result (λ found. found ≡ returned_node caller.now.key.now caller.now.state.now caller.now.way exit.now leaving.now) }
+    ensures { IfOk result (λ f. f ≡ returned_node (caller_node caller.now) caller.now.way exit.now leaving.now) }
 {
     let Some(state) = caller.state.returned(alloc, leaving)? else {
         return Ok(None);

@@ -3,12 +3,13 @@
 ghost use Rattle.std.specs.Prelude.{◌≡◌, length, Some, IfOk};
 ghost use Rattle.avr_model.specs.Assumptions.{has_pairs};
 ghost use Rattle.avr_model.specs.Devices.{device_of};
-ghost use Rattle.local_rules.specs.Cover.{IsNodeIn};
 ghost use Rattle.edge_rules.specs.Expansion.{AreSeeds};
 ghost use Rattle.edge_laws.specs.Carrying.{first_at, carried, worked};
 ghost use Rattle.edge_rules.specs.Seeds.{form_of};
 ghost use Rattle.edge_laws.specs.Expansions.{AreSeedsAscending};
 ghost use Rattle.call_graph.specs.Expanding.{IsExpanded, AreNumbered, ComesFromBelow};
+ghost use Rattle.call_graph.specs.Tasks.{task_of};
+ghost use Rattle.call_graph.specs.Clauses.{IsNodeOf};
 
 use crate::filled::{Expanded, Filled};
 use crate::task::Task;
@@ -33,8 +34,8 @@ fn state_in(nodes: Vec<Node>, key: &NodeKey) -> Option<AbsState>
 
 // The state of a node of this key that comes from this one.
 fn carry(task: &Task<'_>, from: &Node, key: &NodeKey) -> Result<Option<AbsState>, AllocError>
-    requires { IsNodeIn (device_of task.now.flash.now) (has_pairs task.now.assumptions.now) from.now.key from.now.state }
-    ensures { IfOk result (λ found. found ≡ carried task.now.flash.now task.now.assumptions.now key.now (Some from.now)) }
+    requires { IsNodeOf (task_of task.now) from.now }
+    ensures { IfOk result (λ found. found ≡ carried (task_of task.now) key.now (Some from.now)) }
 {
     match local(
         task.alloc,
@@ -58,7 +59,7 @@ fn work(
 ) -> Result<Option<AbsState>, AllocError>
     requires nodes { AreNumbered (device_of task.now.flash.now) (has_pairs task.now.assumptions.now) done.now }
     requires below { ComesFromBelow (form_of seed) (length done.now) }
-    ensures { IfOk result (λ found. found ≡ worked task.now.flash.now task.now.assumptions.now done.now key.now (form_of seed.entry)) }
+    ensures { IfOk result (λ found. found ≡ worked (task_of task.now) done.now key.now (form_of seed.entry)) }
 {
     match seed {
         Seed::State(state) => Ok(Some(state.copy(task.alloc)?)),
@@ -71,7 +72,7 @@ fn work(
 pub fn expand<S: Seeded>(task: &Task<'_>, nodes: &S) -> Result<Expanded, AllocError>
     requires seeds { AreSeeds (device_of task.now.flash.now) (has_pairs task.now.assumptions.now) (S.nodes nodes.now) }
     requires ascending { AreSeedsAscending (S.nodes nodes.now) }
-    ensures { IfOk result (λ answer. IsExpanded task.now.flash.now task.now.assumptions.now (S.nodes nodes.now) answer) }
+    ensures { IfOk result (λ answer. IsExpanded (task_of task.now) (S.nodes nodes.now) answer) }
 {
     let mut done = Vec::new(task.alloc);
     for at in 0..nodes.count() {

@@ -1,14 +1,14 @@
 //! The exits of a family's nodes, each computed once.
 
-ghost use Rattle.std.specs.Prelude.{◌≡◌, ◌<◌, length, slice_get, Some, IfOk};
+ghost use Rattle.std.specs.Prelude.{◌≡◌, ◌<◌, length, IfOk};
 ghost use Rattle.sb_base.specs.Answers.{Answers};
-ghost use Rattle.local_rules.specs.Local as rows;
 ghost use Rattle.local_rules.specs.declared.local.NodeFault.TheVariants.{Memory};
-ghost use Rattle.local_rules.specs.declared.local.Node.{Node};
 ghost use Rattle.edge_rules.specs.Families.{AreFaultless};
 ghost use Rattle.call_graph.specs.Shown.{AreOfSomeDevice};
-ghost use Rattle.call_graph.specs.Next.{exit_in};
+ghost use Rattle.call_graph.specs.Next.{exit_in, local_of};
 ghost use Rattle.call_graph.specs.Exits.{exit_or, AreExits, AreExitsKnown, GivesExits};
+ghost use Rattle.call_graph.specs.Tasks.{task_of};
+ghost use Rattle.call_graph.specs.Clauses.{AtNumber};
 
 use crate::exit_list::Leaving;
 use crate::filled::Filled;
@@ -22,7 +22,7 @@ use std::alloc::AllocError;
 fn exit_at(task: &Task<'_>, nodes: &Filled, at: usize) -> Result<Option<Exit>, NodeFault>
     requires place { at < length nodes.now }
     requires shown { AreOfSomeDevice nodes.now }
-    ensures { (n : Node) → slice_get nodes.now at ≡ Some n → Answers (λ x. x) Memory result (exit_or (rows.local task.now.flash.now task.now.assumptions.now n.key n.state)) }
+    ensures { AtNumber nodes.now at (λ n. Answers (λ x. x) Memory result (exit_or (local_of (task_of task.now) n))) }
 {
     let key = nodes.key(at);
     let state = nodes.state(at);
@@ -39,8 +39,8 @@ pub(crate) fn exit_of(
 ) -> Result<Option<Exit>, AllocError>
     requires place { at < length nodes.now }
     requires shown { AreOfSomeDevice nodes.now }
-    requires given { AreExitsKnown task.now.flash.now task.now.assumptions.now nodes.now known.now }
-    ensures { (n : Node) → slice_get nodes.now at ≡ Some n → IfOk result (λ x. x ≡ exit_in (rows.local task.now.flash.now task.now.assumptions.now n.key n.state)) }
+    requires given { AreExitsKnown (task_of task.now) nodes.now known.now }
+    ensures { AtNumber nodes.now at (λ n. IfOk result (λ x. x ≡ exit_in (local_of (task_of task.now) n))) }
 {
     if at < known.len() {
         return Ok(known[at]);
@@ -54,7 +54,7 @@ pub(crate) fn exit_of(
 
 /// The exits of all nodes if none has a fault, else the first fault. The local part of each node is computed once.
 pub fn exits(task: &Task<'_>, nodes: &Filled) -> Result<Leaving, AllocError>
-    ensures { IfOk result (λ answer. GivesExits task.now.flash.now task.now.assumptions.now nodes.now answer) }
+    ensures { IfOk result (λ answer. GivesExits (task_of task.now) nodes.now answer) }
 {
     let mut items = Vec::new(task.alloc);
     for at in 0..nodes.count() {
@@ -69,8 +69,8 @@ pub fn exits(task: &Task<'_>, nodes: &Filled) -> Result<Leaving, AllocError>
 
 /// The exits of all nodes, none of which may have a fault. The local part of each node is computed once.
 pub fn all_exits(task: &Task<'_>, nodes: &Filled) -> Result<Listed<Option<Exit>>, AllocError>
-    requires faultless { AreFaultless task.now.flash.now task.now.assumptions.now nodes.now }
-    ensures { IfOk result (λ exits. AreExits task.now.flash.now task.now.assumptions.now nodes.now exits) }
+    requires faultless { AreFaultless (task_of task.now) nodes.now }
+    ensures { IfOk result (λ exits. AreExits (task_of task.now) nodes.now exits) }
 {
     match exits(task, nodes)? {
         Leaving::All(exits) => Ok(exits),

@@ -4,7 +4,6 @@ ghost use Rattle.std.specs.Prelude.{ℕ, ◌≡◌, ◌≢◌, ◌↔◌, ◌<�
 ghost use Rattle.sb_base.specs.Answers.{Answers};
 ghost use Rattle.abs_state.specs.Values.{value_at};
 ghost use Rattle.abs_state.specs.Formed.{NamesRegister};
-ghost use Rattle.local_rules.specs.Local as rows;
 ghost use Rattle.local_rules.specs.declared.local.NodeFault.TheVariants.{Memory};
 ghost use Rattle.local_rules.specs.declared.local.NodeFault as fault_type;
 ghost use Rattle.local_rules.specs.declared.local.Node.{Node};
@@ -12,7 +11,10 @@ ghost use Rattle.edge_rules.specs.Edges.{IsFaultless, AreEdges};
 ghost use Rattle.call_graph.specs.Shown.{AreOfSomeDevice};
 ghost use Rattle.call_graph.specs.Ways.{ways_of};
 ghost use Rattle.call_graph.specs.Exits.{AreExits, AreExitsKnown};
-ghost use Rattle.call_graph.specs.Next.{local_edge, entry_edge, returned_by, return_edges, returns_in, all_returns, edges_with, next_of};
+ghost use Rattle.call_graph.specs.Next.{local_edge, entry_edge, returned_by, return_edges, returns_in, all_returns, edges_with, next_of, node_of, local_of};
+ghost use Rattle.call_graph.specs.Tasks.{task_of};
+ghost use Rattle.call_graph.specs.Clauses.{AtNumber, Grows};
+ghost use Rattle.call_graph.specs.Callers.{caller_node};
 
 use crate::callers::{Caller, returned};
 use crate::filled::Filled;
@@ -85,7 +87,7 @@ fn add_return(
     leaving: &AbsState,
 ) -> Result<(), AllocError>
     requires { (r : ℕ) → r < 32 → NamesRegister (value_at leaving.now.registers r).tag }
-    ensures { OnOk result (edges.new ≡ edges.old ++ returned_by caller.now.key.now caller.now.state.now caller.now.way (Some exit.now) leaving.now) }
+    ensures { Grows result edges.old edges.new (returned_by (caller_node caller.now) caller.now.way (Some exit.now) leaving.now) }
 {
     let Some(node) = returned(alloc, caller, exit, leaving)? else {
         return Ok(());
@@ -108,8 +110,8 @@ fn add_leaver(
 ) -> Result<(), AllocError>
     requires place { at < length known.now.nodes.now }
     requires shown { AreOfSomeDevice known.now.nodes.now }
-    requires given { AreExitsKnown task.now.flash.now task.now.assumptions.now known.now.nodes.now known.now.exits.now }
-    ensures { (n : Node) → slice_get known.now.nodes.now at ≡ Some n → OnOk result (edges.new ≡ edges.old ++ return_edges task.now.flash.now task.now.assumptions.now caller.now.key.now caller.now.state.now caller.now.way n) }
+    requires given { AreExitsKnown (task_of task.now) known.now.nodes.now known.now.exits.now }
+    ensures { AtNumber known.now.nodes.now at (λ n. OnOk result (edges.new ≡ edges.old ++ return_edges (task_of task.now) (caller_node caller.now) caller.now.way n)) }
 {
     match exit_of(task, known.nodes, at, known.exits)? {
         Some(exit) => {
@@ -128,8 +130,8 @@ fn add_returns(
     known: &Known<'_>,
 ) -> Result<(), AllocError>
     requires shown { AreOfSomeDevice known.now.nodes.now }
-    requires given { AreExitsKnown task.now.flash.now task.now.assumptions.now known.now.nodes.now known.now.exits.now }
-    ensures { OnOk result (edges.new ≡ edges.old ++ returns_in task.now.flash.now task.now.assumptions.now caller.now.key.now caller.now.state.now known.now.nodes.now caller.now.way) }
+    requires given { AreExitsKnown (task_of task.now) known.now.nodes.now known.now.exits.now }
+    ensures { OnOk result (edges.new ≡ edges.old ++ returns_in (task_of task.now) (caller_node caller.now) known.now.nodes.now caller.now.way) }
 {
     let (low, high) = known.nodes.span(&caller.way.inst);
     for at in low..high {
@@ -147,8 +149,8 @@ fn add_all_returns(
     known: &Known<'_>,
 ) -> Result<(), AllocError>
     requires shown { AreOfSomeDevice known.now.nodes.now }
-    requires given { AreExitsKnown task.now.flash.now task.now.assumptions.now known.now.nodes.now known.now.exits.now }
-    ensures { OnOk result (edges.new ≡ edges.old ++ all_returns task.now.flash.now task.now.assumptions.now start.now.key.now start.now.state.now known.now.nodes.now ways.now) }
+    requires given { AreExitsKnown (task_of task.now) known.now.nodes.now known.now.exits.now }
+    ensures { OnOk result (edges.new ≡ edges.old ++ all_returns (task_of task.now) (node_of start.now.key.now start.now.state.now) known.now.nodes.now ways.now) }
 {
     for at in 0..ways.len() {
         let caller = Caller {
@@ -169,8 +171,8 @@ fn edges_of(
     known: &Known<'_>,
 ) -> Result<Listed<Edge>, AllocError>
     requires shown { AreOfSomeDevice known.now.nodes.now }
-    requires given { AreExitsKnown task.now.flash.now task.now.assumptions.now known.now.nodes.now known.now.exits.now }
-    ensures { IfOk result (λ edges. edges ≡ edges_with task.now.flash.now task.now.assumptions.now known.now.nodes.now start.now.key.now start.now.state.now (ways_of task.now.flash.now task.now.assumptions.now start.now.key.now found.calls) found) }
+    requires given { AreExitsKnown (task_of task.now) known.now.nodes.now known.now.exits.now }
+    ensures { IfOk result (λ edges. edges ≡ edges_with (task_of task.now) known.now.nodes.now (node_of start.now.key.now start.now.state.now) (ways_of (task_of task.now) start.now.key.now found.calls) found) }
 {
     let all = ways(task, start.key, found.calls.as_slice())?;
     let mut edges = Listed::empty(task.alloc);
@@ -188,8 +190,8 @@ fn listed(
     known: &[Option<Exit>],
 ) -> Result<Listed<Edge>, NodeFault>
     requires place { at < length nodes.now }
-    requires given { AreExitsKnown task.now.flash.now task.now.assumptions.now nodes.now known.now }
-    ensures { (n : Node) → slice_get nodes.now at ≡ Some n → Answers (λ edges. edges) Memory result (next_of task.now.flash.now task.now.assumptions.now nodes.now n.key n.state) }
+    requires given { AreExitsKnown (task_of task.now) nodes.now known.now }
+    ensures { AtNumber nodes.now at (λ n. Answers (λ e. e) Memory result (next_of (task_of task.now) nodes.now n)) }
 {
     let count = nodes.count();
     prove!(at < count);
@@ -208,9 +210,9 @@ fn listed(
 /// local part of each node that may return to it is computed again.
 pub fn next(task: &Task<'_>, nodes: &Filled, at: usize) -> Result<Listed<Edge>, NodeFault>
     requires { at < length nodes.now }
-    ensures edges { (n : Node) → slice_get nodes.now at ≡ Some n → IfOk result (λ edges. AreEdges task.now.flash.now task.now.assumptions.now nodes.now n edges) }
-    ensures fault { (n : Node) (f : fault_type.NodeFault) → slice_get nodes.now at ≡ Some n → result ≢ Err Memory → (result ≡ Err f) ↔ (rows.local task.now.flash.now task.now.assumptions.now n.key n.state ≡ Err f) }
-    ensures faultless { (n : Node) → slice_get nodes.now at ≡ Some n → OnOk result (IsFaultless task.now.flash.now task.now.assumptions.now n) }
+    ensures edges { AtNumber nodes.now at (λ n. IfOk result (λ edges. AreEdges (task_of task.now) nodes.now n edges)) }
+    ensures fault { (n : Node) (f : fault_type.NodeFault) → slice_get nodes.now at ≡ Some n → result ≢ Err Memory → (result ≡ Err f) ↔ (local_of (task_of task.now) n ≡ Err f) }
+    ensures faultless { (n : Node) → slice_get nodes.now at ≡ Some n → OnOk result (IsFaultless (task_of task.now) n) }
 {
     listed(task, nodes, at, &[])
 }
@@ -224,8 +226,8 @@ pub fn next_with(
     exits: &Listed<Option<Exit>>,
 ) -> Result<Listed<Edge>, AllocError>
     requires place { at < length nodes.now }
-    requires taken { AreExits task.now.flash.now task.now.assumptions.now nodes.now exits.now }
-    ensures { (n : Node) → slice_get nodes.now at ≡ Some n → IfOk result (λ edges. AreEdges task.now.flash.now task.now.assumptions.now nodes.now n edges) }
+    requires taken { AreExits (task_of task.now) nodes.now exits.now }
+    ensures { AtNumber nodes.now at (λ n. IfOk result (λ edges. AreEdges (task_of task.now) nodes.now n edges)) }
 {
     match listed(task, nodes, at, exits.as_slice()) {
         Ok(edges) => Ok(edges),

@@ -4,6 +4,8 @@ ghost use Rattle.std.specs.Prelude.{◌≡◌, ◌≤◌, ◌++◌, map, true, I
 ghost use Rattle.avr_model.specs.Devices.{device_of};
 ghost use Rattle.avr_model.specs.Vectors.{last_vector, enable_count, watchdog};
 ghost use Rattle.call_graph.specs.Ways.{call_way, vector_way, at_vector, vectors_below, ways_of};
+ghost use Rattle.call_graph.specs.Tasks.{task_of};
+ghost use Rattle.call_graph.specs.Clauses.{Grows};
 
 use crate::task::Task;
 use local_rules::CallSite;
@@ -64,7 +66,7 @@ fn vector_way(task: &Task<'_>, key: &NodeKey, v: u8, clears: bool) -> Way
 
 // The entries by calls.
 fn add_calls(ways: &mut Vec<Way>, key: &NodeKey, calls: &[CallSite]) -> Result<(), AllocError>
-    ensures { OnOk result (ways.new.items ≡ ways.old.items ++ map (call_way key.now) calls.now) }
+    ensures { Grows result ways.old.items ways.new.items (map (call_way key.now) calls.now) }
 {
     for site in calls {
         ways.push(call_way(key, *site))?;
@@ -76,7 +78,7 @@ fn add_calls(ways: &mut Vec<Way>, key: &NodeKey, calls: &[CallSite]) -> Result<(
 fn add_vector(ways: &mut Vec<Way>, task: &Task<'_>, key: &NodeKey, v: u8) -> Result<(), AllocError>
     requires low { 2 ≤ v }
     requires high { v ≤ last_vector (device_of task.now.flash.now) }
-    ensures { OnOk result (ways.new.items ≡ ways.old.items ++ at_vector task.now.flash.now task.now.assumptions.now key.now v) }
+    ensures { Grows result ways.old.items ways.new.items (at_vector (task_of task.now) key.now v) }
 {
     let device = task.flash.device();
     // most vectors of a node are disabled: a look at the bit is all that they cost
@@ -94,7 +96,7 @@ fn add_vector(ways: &mut Vec<Way>, task: &Task<'_>, key: &NodeKey, v: u8) -> Res
 
 // The entries by all interrupts.
 fn add_vectors(ways: &mut Vec<Way>, task: &Task<'_>, key: &NodeKey) -> Result<(), AllocError>
-    ensures { OnOk result (ways.new.items ≡ ways.old.items ++ vectors_below task.now.flash.now task.now.assumptions.now key.now (enable_count (device_of task.now.flash.now))) }
+    ensures { Grows result ways.old.items ways.new.items (vectors_below (task_of task.now) key.now (enable_count (device_of task.now.flash.now))) }
 {
     for n in 0..task.flash.device().last_vector() - 1 {
         add_vector(ways, task, key, n + 2)?;
@@ -104,7 +106,7 @@ fn add_vectors(ways: &mut Vec<Way>, task: &Task<'_>, key: &NodeKey) -> Result<()
 
 /// The entries of other instances from a node with these calls, on the device: its calls, then interrupts by vector.
 pub fn ways(task: &Task<'_>, key: &NodeKey, calls: &[CallSite]) -> Result<Vec<Way>, AllocError>
-    ensures { IfOk result (λ all. all.items ≡ ways_of task.now.flash.now task.now.assumptions.now key.now calls.now) }
+    ensures { IfOk result (λ all. all.items ≡ ways_of (task_of task.now) key.now calls.now) }
 {
     let mut all = Vec::new(task.alloc);
     if let SpForm::Closed(_) = key.sp {

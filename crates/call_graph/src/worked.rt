@@ -4,6 +4,7 @@ ghost use Rattle.std.specs.Prelude.{◌≡◌, ◌≤◌, length, IfOk};
 ghost use Rattle.edge_rules.specs.Families.{AreFaultless};
 ghost use Rattle.call_graph.specs.Exits.{AreExits};
 ghost use Rattle.call_graph.specs.Landings.{AreLandings};
+ghost use Rattle.call_graph.specs.Tasks.{task_of};
 
 use crate::filled::Filled;
 use crate::landing::{Landing, landings_of};
@@ -30,8 +31,8 @@ fn landings_with(
     exits: &Listed<Option<Exit>>,
 ) -> Result<Listed<Listed<Landing>>, AllocError>
     requires few { length nodes.now ≤ 65536 }
-    requires taken { AreExits task.now.flash.now task.now.assumptions.now nodes.now exits.now }
-    ensures { IfOk result (λ all. AreLandings task.now.flash.now task.now.assumptions.now nodes.now all) }
+    requires taken { AreExits (task_of task.now) nodes.now exits.now }
+    ensures { IfOk result (λ all. AreLandings (task_of task.now) nodes.now all) }
 {
     let mut all = Listed::empty(task.alloc);
     for at in 0..nodes.count() {
@@ -45,8 +46,8 @@ fn landings_with(
 // The landings of edges, if no node has a fault.
 fn all_landings(task: &Task<'_>, nodes: &Filled) -> Result<Listed<Listed<Landing>>, AllocError>
     requires few { length nodes.now ≤ 65536 }
-    requires faultless { AreFaultless task.now.flash.now task.now.assumptions.now nodes.now }
-    ensures { IfOk result (λ all. AreLandings task.now.flash.now task.now.assumptions.now nodes.now all) }
+    requires faultless { AreFaultless (task_of task.now) nodes.now }
+    ensures { IfOk result (λ all. AreLandings (task_of task.now) nodes.now all) }
 {
     let exits = all_exits(task, nodes)?;
     landings_with(task, nodes, &exits)
@@ -56,9 +57,9 @@ impl Worked {
     /// The family of these nodes, at most 65,536, none of which may have a fault. The local part of each is computed twice.
     pub fn of(task: &Task<'_>, nodes: Filled) -> Result<Worked, AllocError>
         requires few { length nodes ≤ 65536 }
-        requires faultless { AreFaultless task.now.flash.now task.now.assumptions.now nodes }
+        requires faultless { AreFaultless (task_of task.now) nodes }
         ensures nodes { IfOk result (λ worked. worked.nodes ≡ nodes) }
-        ensures landings { IfOk result (λ worked. AreLandings task.now.flash.now task.now.assumptions.now nodes worked.landings) }
+        ensures landings { IfOk result (λ worked. AreLandings (task_of task.now) nodes worked.landings) }
     {
         match all_landings(task, &nodes) {
             Ok(landings) => Ok(Worked { nodes, landings }),

@@ -7,8 +7,7 @@ use Rattle.std.proofs.lemmas.List.Elements.{Contains-append_left, Contains-appen
 use Rattle.std.proofs.lemmas.Option.{same_Some}
 use Rattle.basics.specs.Lists.{one_at}
 use Rattle.basics.specs.Items.{only_one_in, first_in}
-use Rattle.avr_model.specs.declared.assumption.Entry.{Entry}
-use Rattle.avr_model.specs.Devices.{Program, device_of}
+use Rattle.avr_model.specs.Devices.{device_of}
 use Rattle.mask_states.specs.declared.keys.EdgeKind.{EdgeKind}
 use Rattle.mask_states.specs.declared.keys.InstKey.{InstKey}
 use Rattle.mask_states.specs.declared.keys.SpForm.TheVariants.{Closed}
@@ -30,6 +29,7 @@ use Rattle.cert_check.specs.Demands.{AreInstances, place_in, rank_of, rank_at, n
 use Rattle.cert_check.proofs.Lists.{IsLesser}
 use Rattle.cert_check.proofs.Insts.{HasInstPlace, place_is, placed, rank_there, need_there}
 use Rattle.cert_check.proofs.Demands.{entered_belongs}
+use Rattle.local_rules.specs.Site.{Task}
 
 -- ---- the lesser pair and the lesser number
 
@@ -151,13 +151,13 @@ no_demand = record { inst = 0; into = None; bytes = 0 }
 
 -- ---- what demands say
 
-module _ (words : Program) (A : List Entry) (c : Claim) (nodes : List Node) (are : AreInstances c.instances) (belong : AllBelong c.instances nodes)
-    (land : AllLanded words A c.nodes nodes) (demands : List Demand) (asked : AreDemands words A c.instances nodes demands) where
+module _ (task : Task) (c : Claim) (nodes : List Node) (are : AreInstances c.instances) (belong : AllBelong c.instances nodes)
+    (land : AllLanded task c.nodes nodes) (demands : List Demand) (asked : AreDemands task c.instances nodes demands) where
   offset_listed : (n : Node) (o : ℕ) → Contains nodes n → n.key.sp ≡ Closed o
       → Contains demands (record { inst = place_in c.instances n.key.inst; into = None; bytes = o })
   offset_listed n o h e = (asked _).1 (record { node = n; present = h; asks = offset o e })
 
-  entry_listed : (n : Node) (way : EdgeKind) (inst : InstKey) (back : ℕ) → Contains nodes n → Enters words A n way inst back
+  entry_listed : (n : Node) (way : EdgeKind) (inst : InstKey) (back : ℕ) → Contains nodes n → Enters task n way inst back
       → Contains demands (record {
         inst = place_in c.instances n.key.inst;
         into = Some (place_in c.instances inst);
@@ -165,13 +165,13 @@ module _ (words : Program) (A : List Entry) (c : Claim) (nodes : List Node) (are
       })
   entry_listed n way inst back h e = (asked _).1 (record { node = n; present = h; asks = entry way inst back e })
 
-  pub ranked : RanksFall c.instances demands → AreRanked words A c nodes
+  pub ranked : RanksFall c.instances demands → AreRanked task c nodes
   ranked falls n way inst back h e =
       subst (λ r. rank_in c.instances inst < r) (rank_there c.instances n.key.inst)
       (subst (λ r. r < rank_at c.instances (place_in c.instances n.key.inst)) (rank_there c.instances inst)
       (falls _ (entry_listed n way inst back h e) (place_in c.instances inst) refl))
 
-  pub sufficient : AllMet c.instances demands → NeedsSuffice words A c nodes
+  pub sufficient : AllMet c.instances demands → NeedsSuffice task c nodes
   sufficient met inst = record {
     offsets = λ n o h is form.
         subst (λ m. o ≤ m) (need_there c.instances n.key.inst ∙ ap (need_in c.instances) is) (met _ (offset_listed n o h form));
@@ -188,7 +188,7 @@ module _ (words : Program) (A : List Entry) (c : Claim) (nodes : List Node) (are
   number_is : (k : InstKey) (j : ℕ) (x : Inst) → slice_get c.instances j ≡ Some x → k ≡ x.key → place_in c.instances k ≡ j
   number_is k j x is same = place_is c.instances k j are (record { inst = x; is = is; same = sym same })
 
-  enters_listed : (i m : ℕ) (x y : Inst) → slice_get c.instances i ≡ Some x → slice_get c.instances m ≡ Some y → InstEnters words A nodes x y
+  enters_listed : (i m : ℕ) (x y : Inst) → slice_get c.instances i ≡ Some x → slice_get c.instances m ≡ Some y → InstEnters task nodes x y
       → (d : Demand) × (Contains demands d × (d.inst ≡ i) × (d.into ≡ Some m))
   enters_listed i m x y isx isy e = (
     _,
@@ -212,18 +212,18 @@ module _ (words : Program) (A : List Entry) (c : Claim) (nodes : List Node) (are
     way : EdgeKind
     inst : InstKey
     back : ℕ
-    enters : Enters words A node way inst back
+    enters : Enters task node way inst back
     from : place_in c.instances node.key.inst ≡ j
     into : place_in c.instances inst ≡ l
 
-  way_of : (n : Node) (d : Demand) (j l : ℕ) → Contains nodes n → Asks words A c.instances n d → d.inst ≡ j → d.into ≡ Some l → IsWay j l
+  way_of : (n : Node) (d : Demand) (j l : ℕ) → Contains nodes n → Asks task c.instances n d → d.inst ≡ j → d.into ≡ Some l → IsWay j l
   way_of n _ j l h (offset o e) is to = absurd (cc)
   way_of n _ j l h (entry way inst back e) is to =
       record { node = n; present = h; way = way; inst = inst; back = back; enters = e; from = is; into = same_Some (place_in c.instances inst) l to }
 
   rank_at_place : (j l : ℕ) (w : IsWay j l) → rank_at c.instances j ≤ rank_at c.instances l
       → ((d : Demand) (m : Pair) → Contains demands d → LowRank c.instances d m → PairBelow (j, l) m) → HasInstPlace c.instances w.node.key.inst j
-      → HasInstPlace c.instances w.inst l → IsFirstRank words A c nodes j l
+      → HasInstPlace c.instances w.inst l → IsFirstRank task c nodes j l
   rank_at_place j l w low before p q = record {
     from = p.inst;
     into = q.inst;
@@ -235,7 +235,7 @@ module _ (words : Program) (A : List Entry) (c : Claim) (nodes : List Node) (are
       of = sym p.same;
       way = w.way;
       back = w.back;
-      enters = subst (λ k. Enters words A w.node w.way k w.back) (sym q.same) w.enters;
+      enters = subst (λ k. Enters task w.node w.way k w.back) (sym q.same) w.enters;
     };
     low = omega (arith, rank_is j p.inst p.is, rank_is l q.inst q.is, low);
     least = λ m y isy e short.
@@ -255,30 +255,30 @@ module _ (words : Program) (A : List Entry) (c : Claim) (nodes : List Node) (are
   entered_place : (j l : ℕ) (w : IsWay j l) → HasInstPlace c.instances w.inst l
   entered_place j l w =
       subst (HasInstPlace c.instances w.inst) w.into
-      (placed c.instances w.inst are (entered_belongs words A c.instances nodes are belong (λ n e h i. (land n e h i).0) w.node w.way w.inst w.back w.present w.enters))
+      (placed c.instances w.inst are (entered_belongs task c.instances nodes are belong (λ n e h i. (land n e h i).0) w.node w.way w.inst w.back w.present w.enters))
 
-  pub first_rank : (j l : ℕ) → IsLeastOffered (MeetsRank c.instances) (LowRank c.instances) PairBelow demands (Some (j, l)) → IsFirstRank words A c nodes j l
+  pub first_rank : (j l : ℕ) → IsLeastOffered (MeetsRank c.instances) (LowRank c.instances) PairBelow demands (Some (j, l)) → IsFirstRank task c nodes j l
   first_rank j l h = by ((asked h.0.0).0 h.0.1.0)
     where
-      at : IsWay j l → IsFirstRank words A c nodes j l
+      at : IsWay j l → IsFirstRank task c nodes j l
       at w = rank_at_place j l w h.0.1.1.2 h.1 (own_place w.node j w.present w.from) (entered_place j l w)
 
-      by : IsAsked words A c.instances nodes h.0.0 → IsFirstRank words A c nodes j l
+      by : IsAsked task c.instances nodes h.0.0 → IsFirstRank task c nodes j l
       by a = at (way_of a.node h.0.0 j l a.present a.asks h.0.1.1.0 h.0.1.1.1)
 
-  own_number : (n : Node) (d : Demand) → Asks words A c.instances n d → d.inst ≡ place_in c.instances n.key.inst
+  own_number : (n : Node) (d : Demand) → Asks task c.instances n d → d.inst ≡ place_in c.instances n.key.inst
   own_number n _ (offset o e) = refl
   own_number n _ (entry way inst back e) = refl
 
   -- a number that suffices is at least each demand
-  suffices_for : (n : Node) (k : InstKey) (d : Demand) (m : ℕ) → Contains nodes n → Asks words A c.instances n d → n.key.inst ≡ k → Suffices words A c nodes k m → d.bytes ≤ m
+  suffices_for : (n : Node) (k : InstKey) (d : Demand) (m : ℕ) → Contains nodes n → Asks task c.instances n d → n.key.inst ≡ k → Suffices task c nodes k m → d.bytes ≤ m
   suffices_for n k _ m h (offset o e) is s = s.offsets n o h is e
   suffices_for n k _ m h (entry way inst back e) is s =
       subst (λ r. offset_of n.key.sp + 2 + r ≤ m) (sym (need_there c.instances inst)) (s.entered n way inst back h is e)
 
   -- a number that is at least all demands suffices
   suffices_by : (x : Inst) (j m : ℕ) → slice_get c.instances j ≡ Some x → ((d : Demand) → Contains demands d → d.inst ≡ j → d.bytes ≤ m)
-      → Suffices words A c nodes x.key m
+      → Suffices task c nodes x.key m
   suffices_by x j m is above = record {
     offsets = λ n o h same form. above _ (offset_listed n o h form) (number_is n.key.inst j x is same);
     entered = λ n way into back h same e.
@@ -287,25 +287,25 @@ module _ (words : Program) (A : List Entry) (c : Claim) (nodes : List Node) (are
   }
 
   -- a number that suffices for an instance is at least each demand on it
-  above_asked : (x : Inst) (j m : ℕ) → slice_get c.instances j ≡ Some x → Suffices words A c nodes x.key m → (d : Demand) → Contains demands d → d.inst ≡ j
+  above_asked : (x : Inst) (j m : ℕ) → slice_get c.instances j ≡ Some x → Suffices task c nodes x.key m → (d : Demand) → Contains demands d → d.inst ≡ j
       → d.bytes ≤ m
   above_asked x j m is s d h e = by ((asked d).0 h)
     where
-      from : (a : IsAsked words A c.instances nodes d) → HasInstPlace c.instances a.node.key.inst j → d.bytes ≤ m
+      from : (a : IsAsked task c.instances nodes d) → HasInstPlace c.instances a.node.key.inst j → d.bytes ≤ m
       from a p =
           let same : a.node.key.inst ≡ x.key = sym p.same ∙ ap (λ (y : Inst). y.key) (one_at c.instances j p.inst x p.is is) in
           suffices_for a.node x.key d m a.present a.asks same s
 
-      by : IsAsked words A c.instances nodes d → d.bytes ≤ m
+      by : IsAsked task c.instances nodes d → d.bytes ≤ m
       by a = from a (own_place a.node j a.present (sym (own_number a.node d a.asks) ∙ e))
 
-  above_most : (x : Inst) (j need m : ℕ) → slice_get c.instances j ≡ Some x → IsMost demands j need → Suffices words A c nodes x.key m → need ≤ m
+  above_most : (x : Inst) (j need m : ℕ) → slice_get c.instances j ≡ Some x → IsMost demands j need → Suffices task c nodes x.key m → need ≤ m
   above_most x j need m is most s =
       ⊎_elim (λ z. omega (arith, z)) (λ w. let le = above_asked x j m is s w.0 w.1.0 w.1.1 in omega (arith, le, w.1.2)) most.attained
 
   -- the first instance with an unmet demand
   need_at_place : (j need : ℕ) (d : Demand) (k : InstKey) → Contains demands d → d.inst ≡ j → need_at c.instances j < d.bytes → IsMost demands j need
-      → ((e : Demand) (m : ℕ) → Contains demands e → LowNeed c.instances e m → j ≤ m) → HasInstPlace c.instances k j → IsFirstNeed words A c nodes j need
+      → ((e : Demand) (m : ℕ) → Contains demands e → LowNeed c.instances e m → j ≤ m) → HasInstPlace c.instances k j → IsFirstNeed task c nodes j need
   need_at_place j need d k h is low most before p = record {
     inst = p.inst;
     is = p.is;
@@ -321,15 +321,15 @@ module _ (words : Program) (A : List Entry) (c : Claim) (nodes : List Node) (are
   }
 
   pub first_need : (j need : ℕ) → IsLeastOffered (MeetsNeed c.instances) (LowNeed c.instances) NumberBelow demands (Some j) → IsMost demands j need
-      → IsFirstNeed words A c nodes j need
+      → IsFirstNeed task c nodes j need
   first_need j need h most = by ((asked h.0.0).0 h.0.1.0)
     where
-      by : IsAsked words A c.instances nodes h.0.0 → IsFirstNeed words A c nodes j need
+      by : IsAsked task c.instances nodes h.0.0 → IsFirstNeed task c nodes j need
       by a =
           need_at_place j need h.0.0 a.node.key.inst h.0.1.0 h.0.1.1.0 h.0.1.1.1 most h.1
           (own_place a.node j a.present (sym (own_number a.node h.0.0 a.asks) ∙ h.0.1.1.0))
 
-  pub decided : c.device ≡ device_of words → HasReset A c nodes → AreFaultless words A nodes → (v : Judgement ℕ) → IsWeighed words c A demands v → Decides words A c nodes v
+  pub decided : c.device ≡ device_of task.flash → HasReset task.assumptions c nodes → AreFaultless task nodes → (v : Judgement ℕ) → IsWeighed task.flash c task.assumptions demands v → Decides task c nodes v
   decided device reset clean (Accepted bound) h = (
     record {
       device = device;
@@ -354,14 +354,14 @@ module _ (words : Program) (A : List Entry) (c : Claim) (nodes : List Node) (are
   decided device reset clean (Rejected reason.Device) h = absurd h
 
 -- an edge that lands nowhere is the least reason
-pub gap_least : (words : Program) (A : List Entry) (c : Claim) (nodes : List Node) (r : Reason) → HasReset A c nodes → AreFaultless words A nodes
-    → IsGathering words A c.nodes c.instances nodes (Rejected r) → IsLeastReason words A c nodes r
-gap_least words A c nodes (reason.Edge j to) reset clean h = (reset, clean, h)
-gap_least words A c nodes reason.Device reset clean h = absurd h
-gap_least words A c nodes reason.Root reset clean h = absurd h
-gap_least words A c nodes (reason.Node j cause) reset clean h = absurd h
-gap_least words A c nodes (reason.Rank j l) reset clean h = absurd h
-gap_least words A c nodes (reason.Need j need) reset clean h = absurd h
-gap_least words A c nodes (reason.Bound need) reset clean h = absurd h
-gap_least words A c nodes reason.Assumptions reset clean h = absurd h
-gap_least words A c nodes (reason.Expansion at) reset clean h = absurd h
+pub gap_least : (task : Task) (c : Claim) (nodes : List Node) (r : Reason) → HasReset task.assumptions c nodes → AreFaultless task nodes
+    → IsGathering task c.nodes c.instances nodes (Rejected r) → IsLeastReason task c nodes r
+gap_least task c nodes (reason.Edge j to) reset clean h = (reset, clean, h)
+gap_least task c nodes reason.Device reset clean h = absurd h
+gap_least task c nodes reason.Root reset clean h = absurd h
+gap_least task c nodes (reason.Node j cause) reset clean h = absurd h
+gap_least task c nodes (reason.Rank j l) reset clean h = absurd h
+gap_least task c nodes (reason.Need j need) reset clean h = absurd h
+gap_least task c nodes (reason.Bound need) reset clean h = absurd h
+gap_least task c nodes reason.Assumptions reset clean h = absurd h
+gap_least task c nodes (reason.Expansion at) reset clean h = absurd h

@@ -4,8 +4,6 @@ use Rattle.std.specs.List.{flat_map}
 use Rattle.std.proofs.lemmas.List.Elements.{Contains-append_left, Contains-append_right, Contains-append_cases}
 use Rattle.std.proofs.lemmas.Option.{slice_get_within}
 use Rattle.basics.specs.Items.{only_one_in, contained_in_join, each_of_join, none_in, first_in}
-use Rattle.avr_model.specs.declared.assumption.Entry.{Entry}
-use Rattle.avr_model.specs.Devices.{Program}
 use Rattle.mask_states.specs.declared.keys.EdgeKind.{EdgeKind}
 use Rattle.mask_states.specs.declared.keys.InstKey.{InstKey}
 use Rattle.mask_states.specs.declared.keys.SpForm.{SpForm}
@@ -21,10 +19,11 @@ use Rattle.certificate.specs.Valid.{AllLand}
 use Rattle.cert_check.specs.declared.demand.Demand.{Demand}
 use Rattle.cert_check.specs.Demands.{AreInstances, place_in, need_at, offset_demand, entry_demand, demands_of, Asks, offset, entry, AreDemands, AllBelong, IsInside, AreDemandsInside}
 use Rattle.cert_check.proofs.Insts.{placed}
+use Rattle.local_rules.specs.Site.{Task}
 
-module _ (words : Program) (A : List Entry) (insts : List Inst) (n : Node) where
-  from_offset : (form : SpForm) → n.key.sp ≡ form → (d : Demand) → Contains (offset_demand (place_in insts n.key.inst) form) d → Asks words A insts n d
-  from_offset (Closed o) e d h = subst (Asks words A insts n) (sym (only_one_in (record { inst = place_in insts n.key.inst; into = None; bytes = o }) d h)) (offset o e)
+module _ (task : Task) (insts : List Inst) (n : Node) where
+  from_offset : (form : SpForm) → n.key.sp ≡ form → (d : Demand) → Contains (offset_demand (place_in insts n.key.inst) form) d → Asks task insts n d
+  from_offset (Closed o) e d h = subst (Asks task insts n) (sym (only_one_in (record { inst = place_in insts n.key.inst; into = None; bytes = o }) d h)) (offset o e)
   from_offset (Open o high) e d h = absurd (none_in d h)
 
   -- an edge into another instance is an entry of it
@@ -32,38 +31,38 @@ module _ (words : Program) (A : List Entry) (insts : List Inst) (n : Node) where
     pub way : EdgeKind
     pub inst : InstKey
     pub back : ℕ
-    pub enters : Enters words A n way inst back
+    pub enters : Enters task n way inst back
     pub same : e.to.inst ≡ inst
 
-  way_in : (nodes : List Node) (e : Edge) → IsEdge words A nodes n e → is_entry e.kind ≡ true → WayIn e
+  way_in : (nodes : List Node) (e : Edge) → IsEdge task nodes n e → is_entry e.kind ≡ true → WayIn e
   way_in nodes _ (moving to clean has) is = absurd (cc)
   way_in nodes _ (entering way inst back enters) is = record { way = way; inst = inst; back = back; enters = enters; same = refl }
   way_in nodes _ (returning way inst back leaver x state enters present same clean exit after) is = absurd (cc)
 
   entry_by : (e : Edge) (b : Bool) → (b ≡ true → WayIn e) → (d : Demand)
       → Contains (cond b (record { inst = place_in insts n.key.inst; into = Some (place_in insts e.to.inst); bytes = offset_of n.key.sp + 2 + need_at insts (place_in insts e.to.inst) } ∷ []) []) d
-      → Asks words A insts n d
+      → Asks task insts n d
   entry_by e true way d h =
       let w = way refl in
-      let asks : Asks words A insts n (record { inst = place_in insts n.key.inst; into = Some (place_in insts e.to.inst); bytes = offset_of n.key.sp + 2 + need_at insts (place_in insts e.to.inst) }) =
-      subst (λ (x : InstKey). Asks words A insts n (record { inst = place_in insts n.key.inst; into = Some (place_in insts x); bytes = offset_of n.key.sp + 2 + need_at insts (place_in insts x) }))
+      let asks : Asks task insts n (record { inst = place_in insts n.key.inst; into = Some (place_in insts e.to.inst); bytes = offset_of n.key.sp + 2 + need_at insts (place_in insts e.to.inst) }) =
+      subst (λ (x : InstKey). Asks task insts n (record { inst = place_in insts n.key.inst; into = Some (place_in insts x); bytes = offset_of n.key.sp + 2 + need_at insts (place_in insts x) }))
       (sym w.same) (entry w.way w.inst w.back w.enters) in
-      subst (Asks words A insts n) (sym (only_one_in _ d h)) asks
+      subst (Asks task insts n) (sym (only_one_in _ d h)) asks
   entry_by e false way d h = absurd (none_in d h)
 
-  is_way : (way : EdgeKind) (inst : InstKey) (back : ℕ) → Enters words A n way inst back → is_entry way ≡ true
+  is_way : (way : EdgeKind) (inst : InstKey) (back : ℕ) → Enters task n way inst back → is_entry way ≡ true
   is_way _ _ _ (by_call o site clean form has) = refl
   is_way _ _ _ (by_interrupt o v clears clean form i delay enabled allowed clearable) = refl
 
-  module _ (nodes : List Node) (edges : List Edge) (are : AreEdges words A nodes n edges) where
-    pub listed_asks : (d : Demand) → Contains (demands_of insts n.key edges) d → Asks words A insts n d
+  module _ (nodes : List Node) (edges : List Edge) (are : AreEdges task nodes n edges) where
+    pub listed_asks : (d : Demand) → Contains (demands_of insts n.key edges) d → Asks task insts n d
     listed_asks d h =
         let f = entry_demand insts (place_in insts n.key.inst) (offset_of n.key.sp) in
         ⊎_elim (from_offset n.key.sp refl d)
-        (each_of_join f (Asks words A insts n) edges (λ e x i j. entry_by e (is_entry e.kind) (way_in nodes e ((are e).0 i)) x j) d)
+        (each_of_join f (Asks task insts n) edges (λ e x i j. entry_by e (is_entry e.kind) (way_in nodes e ((are e).0 i)) x j) d)
         (Contains-append_cases (offset_demand (place_in insts n.key.inst) n.key.sp) (flat_map f edges) d h)
 
-    pub asked_listed : (d : Demand) → Asks words A insts n d → Contains (demands_of insts n.key edges) d
+    pub asked_listed : (d : Demand) → Asks task insts n d → Contains (demands_of insts n.key edges) d
     asked_listed _ (offset o e) =
         let d : Demand = record { inst = place_in insts n.key.inst; into = None; bytes = o } in
         let f = entry_demand insts (place_in insts n.key.inst) (offset_of n.key.sp) in
@@ -79,16 +78,16 @@ module _ (words : Program) (A : List Entry) (insts : List Inst) (n : Node) where
 pub landed_belongs : (insts : List Inst) (nodes : List Node) (n : Node) → AllBelong insts nodes → IsCovered nodes n → Contains (inst_keys insts) n.key.inst
 landed_belongs insts nodes n belong h = belong (record { key = n.key; state = h.state }) h.present
 
-module _ (words : Program) (A : List Entry) (insts : List Inst) (nodes : List Node) (are : AreInstances insts) (belong : AllBelong insts nodes)
-    (land : AllLand words A nodes) where
-  pub entered_belongs : (n : Node) (way : EdgeKind) (inst : InstKey) (back : ℕ) → Contains nodes n → Enters words A n way inst back
+module _ (task : Task) (insts : List Inst) (nodes : List Node) (are : AreInstances insts) (belong : AllBelong insts nodes)
+    (land : AllLand task nodes) where
+  pub entered_belongs : (n : Node) (way : EdgeKind) (inst : InstKey) (back : ℕ) → Contains nodes n → Enters task n way inst back
       → Contains (inst_keys insts) inst
   entered_belongs n way inst back h enters = landed_belongs insts nodes _ belong (land n _ h (entering way inst back enters))
 
   place_inside : (k : InstKey) → Contains (inst_keys insts) k → place_in insts k < length insts
   place_inside k h = let p = placed insts k are h in slice_get_within insts (place_in insts k) p.inst p.is
 
-  asks_inside : (n : Node) (d : Demand) → Contains nodes n → Asks words A insts n d → IsInside insts d
+  asks_inside : (n : Node) (d : Demand) → Contains nodes n → Asks task insts n d → IsInside insts d
   asks_inside n _ h (offset o e) = (place_inside n.key.inst (belong n h), λ l is. absurd (cc))
   asks_inside n _ h (entry way inst back enters) = (
     place_inside n.key.inst (belong n h),
@@ -96,5 +95,5 @@ module _ (words : Program) (A : List Entry) (insts : List Inst) (nodes : List No
         subst (λ x. x < length insts) same (place_inside inst (entered_belongs n way inst back h enters)),
   )
 
-  pub all_inside : (demands : List Demand) → AreDemands words A insts nodes demands → AreDemandsInside insts demands
+  pub all_inside : (demands : List Demand) → AreDemands task insts nodes demands → AreDemandsInside insts demands
   all_inside demands asked = λ d h. let w = (asked d).0 h in asks_inside w.node d w.present w.asks

@@ -10,9 +10,7 @@ use Rattle.std.proofs.lemmas.List.{take_more, get_or_default, map-append}
 use Rattle.std.proofs.lemmas.Option.{none-some, same_Some, slice_get-map}
 use Rattle.basics.specs.Items.{contained_at, place_of_contained, none_in, first_or_further}
 use Rattle.avr_model.specs.declared.device.Device.{Device}
-use Rattle.avr_model.specs.declared.assumption.Entry.{Entry}
 use Rattle.avr_model.specs.Assumptions.{has_pairs}
-use Rattle.avr_model.specs.Devices.{Program}
 use Rattle.pair_domain.specs.declared.facts.PairFacts.{PairFacts}
 use Rattle.pair_domain.specs.Facts.{is_followed}
 use Rattle.pair_domain.specs.Intervals.{IsIntervalWithin}
@@ -39,6 +37,7 @@ use Rattle.certificate.specs.Claims.{Claim, IsClaim, node_keys}
 use Rattle.certificate.proofs.AllLaws.{claims_are_seeds, hull_here, count_hulls, hull_fits}
 use Rattle.cert_check.specs.Reading.{facts_read, read_state, read_form, read_seed, read_seeds, TellsNothing, IsOpen}
 use Rattle.cert_check.specs.Demands.{AreBeside}
+use Rattle.local_rules.specs.Site.{Task}
 
 -- ---- states
 
@@ -142,8 +141,8 @@ module _ (c : Claim) (claim : IsClaim c) where
   pub ascending_read : (followed : Bool) → AreSeedsAscending (read_seeds followed c.nodes)
   ascending_read followed = subst (IsStrictlySortedBy node_cmp) (sym (keys_read followed c.nodes)) claim.nodes_ascend
 
-  pub beside_read : (followed : Bool) (words : Program) (A : List Entry) (nodes : List Node) → IsFilled words A (read_seeds followed c.nodes) nodes → AreBeside c.nodes nodes
-  beside_read followed words A nodes filled = filled_or_missing.keys words A (read_seeds followed c.nodes) nodes filled ∙ keys_read followed c.nodes
+  pub beside_read : (followed : Bool) (task : Task) (nodes : List Node) → IsFilled task (read_seeds followed c.nodes) nodes → AreBeside c.nodes nodes
+  beside_read followed task nodes filled = filled_or_missing.keys task (read_seeds followed c.nodes) nodes filled ∙ keys_read followed c.nodes
 
 -- ---- where the certificate's list follows pairs just as that which is handed in
 

@@ -5,7 +5,7 @@ use Rattle.std.proofs.lemmas.Option.{none-some, same_Some, slice_get_within}
 use Rattle.basics.specs.Items.{place_of_contained}
 use Rattle.avr_model.specs.declared.assumption.Entry.{Entry}
 use Rattle.avr_model.specs.Assumptions.{has_pairs}
-use Rattle.avr_model.specs.Devices.{Program, device_of}
+use Rattle.avr_model.specs.Devices.{device_of}
 use Rattle.abs_state.specs.declared.state.AbsState.{AbsState}
 use Rattle.mask_states.specs.declared.keys.InstKey.{InstKey}
 use Rattle.mask_states.specs.declared.keys.NodeKey.{NodeKey}
@@ -27,6 +27,7 @@ use Rattle.cert_check.specs.Reading.{read_seeds}
 use Rattle.cert_check.specs.Verdict.{IsFirstFaultOfCause}
 use Rattle.cert_check.specs.Demands.{AreBeside, HasSlots, AllBelong, AreDemandsInside, IsLeastOffered, MeetsRank, LowRank, PairBelow, MeetsNeed, LowNeed, NumberBelow}
 use Rattle.cert_check.proofs.ReadAs.{seeds_read, ascending_read, beside_read, key_beside}
+use Rattle.local_rules.specs.Site.{Task}
 
 pub if_ok : {X E : Type 0} (P Q : X → Type 0) (r : Result X E) → ((x : X) → P x → Q x) → IfOk r P → IfOk r Q
 if_ok P Q (Ok x) f h = f x h
@@ -47,10 +48,10 @@ need_fits insts demands j few inside h =
     let in_list = inside h.0.0 h.0.1.0 in
     omega (arith, in_list.0, few, h.0.1.1.0)
 
-module _ (words : Program) (A : List Entry) (c : Claim) (nodes : List Node) (claim : IsClaim c)
-    (filled : IsFilled words A (read_seeds (has_pairs A) c.nodes) nodes) where
+module _ (task : Task) (c : Claim) (nodes : List Node) (claim : IsClaim c)
+    (filled : IsFilled task (read_seeds (has_pairs task.assumptions) c.nodes) nodes) where
   pub few_nodes : length nodes ≤ 65536
-  few_nodes = omega (arith, filled.count, (seeds_read c claim (has_pairs A)).few)
+  few_nodes = omega (arith, filled.count, (seeds_read c claim (has_pairs task.assumptions)).few)
 
   pub node_fits : (j : ℕ) (n : Node) → slice_get nodes j ≡ Some n → j < 65536
   node_fits j n e = let lt = slice_get_within nodes j n e in omega (arith, lt, few_nodes)
@@ -61,10 +62,10 @@ module _ (words : Program) (A : List Entry) (c : Claim) (nodes : List Node) (cla
   key_at P (x ∷ xs) (suc j) k form h e = key_at P xs j k form h.1 e
 
   pub beside : AreBeside c.nodes nodes
-  beside = beside_read c claim (has_pairs A) words A nodes filled
+  beside = beside_read c claim (has_pairs task.assumptions) task nodes filled
 
-  pub shown : AreShown (device_of words) nodes
-  shown = filled_lists_are_shown.shown words A (read_seeds (has_pairs A) c.nodes) nodes filled (ascending_read c claim (has_pairs A))
+  pub shown : AreShown (device_of task.flash) nodes
+  shown = filled_lists_are_shown.shown task (read_seeds (has_pairs task.assumptions) c.nodes) nodes filled (ascending_read c claim (has_pairs task.assumptions))
 
   pub nodes_belong : AllBelong c.instances nodes
   nodes_belong n h =
@@ -84,9 +85,9 @@ reset_slots A i k s ei ek es = subst (HasSlots k) (sym es) (subst (λ x. HasSlot
 pub reset_is : (A : List Entry) (i : InstKey) (k : NodeKey) (s : AbsState) → i ≡ root_inst → k ≡ entry_key i → s ≡ root_of A → record { key = k; state = s } ≡ reset_node A
 reset_is A i k s ei ek es = λ j. record { key = (ek ∙ ap entry_key ei) j; state = es j }
 
-pub first_fault : (words : Program) (A : List Entry) (nodes : List Node) (j cause : ℕ) (f : NodeFault) → HasFirstFault words A nodes j f → cause ≡ cause_of f
-    → IsFirstFaultOfCause words A nodes j cause
-first_fault words A nodes j cause f h e = record {
+pub first_fault : (task : Task) (nodes : List Node) (j cause : ℕ) (f : NodeFault) → HasFirstFault task nodes j f → cause ≡ cause_of f
+    → IsFirstFaultOfCause task nodes j cause
+first_fault task nodes j cause f h e = record {
   node = h.node;
   is = h.present;
   fault = f;

@@ -34,6 +34,7 @@ use Rattle.cert_check.specs.declared.verdict.Judgement.{Judgement}
 use Rattle.cert_check.specs.declared.verdict.Judgement.TheVariants.{Accepted, Rejected}
 use Rattle.cert_check.specs.Reading.{LandsOpen}
 use Rattle.cert_check.specs.Verdict.{IsGap, AllLanded, IsFirstGap, IsLeastReason}
+use Rattle.local_rules.specs.Site.{Task}
 
 -- ---- the least of what the items of a list offer
 
@@ -124,29 +125,29 @@ demands_of insts k edges = offset_demand (place_in insts k.inst) k.sp ++ flat_ma
 
 -- A node demands a closed offset of its instance. For each entry of another instance it demands a higher rank, and that instance's need
 -- plus the offset and two bytes.
-pub data Asks (words : Program) (A : List Entry) (insts : List Inst) (n : Node) : Demand → Type 0 where
-  offset : (o : ℕ) → n.key.sp ≡ Closed o → Asks words A insts n (record { inst = place_in insts n.key.inst; into = None; bytes = o })
-  entry : (way : EdgeKind) (inst : InstKey) (back : ℕ) → Enters words A n way inst back
-      → Asks words A insts n (record { inst = place_in insts n.key.inst; into = Some (place_in insts inst); bytes = offset_of n.key.sp + 2 + need_at insts (place_in insts inst) })
+pub data Asks (task : Task) (insts : List Inst) (n : Node) : Demand → Type 0 where
+  offset : (o : ℕ) → n.key.sp ≡ Closed o → Asks task insts n (record { inst = place_in insts n.key.inst; into = None; bytes = o })
+  entry : (way : EdgeKind) (inst : InstKey) (back : ℕ) → Enters task n way inst back
+      → Asks task insts n (record { inst = place_in insts n.key.inst; into = Some (place_in insts inst); bytes = offset_of n.key.sp + 2 + need_at insts (place_in insts inst) })
 
 -- some of these nodes makes this demand
-pub record IsAsked (words : Program) (A : List Entry) (insts : List Inst) (nodes : List Node) (d : Demand) : Type 0 where
+pub record IsAsked (task : Task) (insts : List Inst) (nodes : List Node) (d : Demand) : Type 0 where
   pub node : Node
   pub present : Contains nodes node
-  pub asks : Asks words A insts node d
+  pub asks : Asks task insts node d
 
-abbrev pub AreDemands : Program → List Entry → List Inst → List Node → List Demand → Type 0
-AreDemands words A insts nodes demands = (d : Demand) → Contains demands d ↔ IsAsked words A insts nodes d
+abbrev pub AreDemands : Task → List Inst → List Node → List Demand → Type 0
+AreDemands task insts nodes demands = (d : Demand) → Contains demands d ↔ IsAsked task insts nodes d
 
 -- the instances of all nodes are in the list
 abbrev pub AllBelong : List Inst → List Node → Type 0
 AllBelong insts nodes = (n : Node) → Contains nodes n → Contains (inst_keys insts) n.key.inst
 
 -- all edges land, these are the demands, and the landings of each node; else the first gap
-abbrev pub IsGathering : Program → List Entry → Seeds → List Inst → List Node → Judgement LandedNodes → Type 0
-IsGathering words A own insts nodes (Accepted g) = AllLanded words A own nodes × AreDemands words A insts nodes g.demands.items × AreLandings words A nodes g.landings
-IsGathering words A own insts nodes (Rejected (reason.Edge j to)) = IsFirstGap words A own nodes j to
-IsGathering words A own insts nodes (Rejected r) = ⊥
+abbrev pub IsGathering : Task → Seeds → List Inst → List Node → Judgement LandedNodes → Type 0
+IsGathering task own insts nodes (Accepted g) = AllLanded task own nodes × AreDemands task insts nodes g.demands.items × AreLandings task nodes g.landings
+IsGathering task own insts nodes (Rejected (reason.Edge j to)) = IsFirstGap task own nodes j to
+IsGathering task own insts nodes (Rejected r) = ⊥
 
 -- ---- which demands aren't met
 
@@ -217,26 +218,26 @@ IsWeighed words c A demands (Rejected reason.Assumptions) =
 IsWeighed words c A demands (Rejected r) = ⊥
 
 -- the verdict on the expanded nodes
-abbrev pub Decides : Program → List Entry → Claim → List Node → Judgement ℕ → Type 0
-Decides words A c nodes (Accepted bound) = MeetsConditions words A c nodes × (bound ≡ c.bound)
-Decides words A c nodes (Rejected r) = IsLeastReason words A c nodes r
+abbrev pub Decides : Task → Claim → List Node → Judgement ℕ → Type 0
+Decides task c nodes (Accepted bound) = MeetsConditions task c nodes × (bound ≡ c.bound)
+Decides task c nodes (Rejected r) = IsLeastReason task c nodes r
 
 -- the verdict on the expanded nodes, with the landings of each node in place of the bound
-abbrev pub SettlesClaim : Program → List Entry → Claim → List Node → Judgement (List (List Landing)) → Type 0
-SettlesClaim words A c nodes (Accepted landings) = MeetsConditions words A c nodes × AreLandings words A nodes landings
-SettlesClaim words A c nodes (Rejected r) = IsLeastReason words A c nodes r
+abbrev pub SettlesClaim : Task → Claim → List Node → Judgement (List (List Landing)) → Type 0
+SettlesClaim task c nodes (Accepted landings) = MeetsConditions task c nodes × AreLandings task nodes landings
+SettlesClaim task c nodes (Rejected r) = IsLeastReason task c nodes r
 
 -- all edges of the nodes below this number land, and the listed demands are exactly theirs
-pub record IsMidway (words : Program) (A : List Entry) (own : Seeds) (insts : List Inst) (nodes : List Node) (at : ℕ) (demands : List Demand) : Type 0 where
-  pub land : (i : ℕ) (n : Node) (e : Edge) → slice_get nodes i ≡ Some n → i < at → IsEdge words A nodes n e → LandsOpen (has_pairs A) own nodes (target e)
-  pub asked : (d : Demand) → Contains demands d → IsAsked words A insts nodes d
-  pub listed : (i : ℕ) (n : Node) (d : Demand) → slice_get nodes i ≡ Some n → i < at → Asks words A insts n d → Contains demands d
+pub record IsMidway (task : Task) (own : Seeds) (insts : List Inst) (nodes : List Node) (at : ℕ) (demands : List Demand) : Type 0 where
+  pub land : (i : ℕ) (n : Node) (e : Edge) → slice_get nodes i ≡ Some n → i < at → IsEdge task nodes n e → LandsOpen (has_pairs task.assumptions) own nodes (target e)
+  pub asked : (d : Demand) → Contains demands d → IsAsked task insts nodes d
+  pub listed : (i : ℕ) (n : Node) (d : Demand) → slice_get nodes i ≡ Some n → i < at → Asks task insts n d → Contains demands d
 
 -- the nodes below this number are gathered
-abbrev pub AreGathered : Program → List Entry → Claim → List Node → ℕ → LandedNodes → Type 0
-AreGathered words A c nodes at g = IsMidway words A c.nodes c.instances nodes at g.demands.items × AreLandingsTo words A nodes at g.landings
+abbrev pub AreGathered : Task → Claim → List Node → ℕ → LandedNodes → Type 0
+AreGathered task c nodes at g = IsMidway task c.nodes c.instances nodes at g.demands.items × AreLandingsTo task nodes at g.landings
 
 -- the node of this number is gathered too, if all its edges land
-abbrev pub IsNodeGathered : Program → List Entry → Claim → List Node → ℕ → Option NodeKey → LandedNodes → Type 0
-IsNodeGathered words A c nodes at None g = AreGathered words A c nodes (at + 1) g
-IsNodeGathered words A c nodes at (Some to) g = IsFirstGap words A c.nodes nodes at to
+abbrev pub IsNodeGathered : Task → Claim → List Node → ℕ → Option NodeKey → LandedNodes → Type 0
+IsNodeGathered task c nodes at None g = AreGathered task c nodes (at + 1) g
+IsNodeGathered task c nodes at (Some to) g = IsFirstGap task c.nodes nodes at to

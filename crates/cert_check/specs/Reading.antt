@@ -12,6 +12,9 @@ use Rattle.edge_rules.specs.declared.seeded.NodeForm.TheVariants.{State, From}
 use Rattle.edge_rules.specs.Expansion.{Seeds}
 use Rattle.edge_rules.specs.Families.{IsCovered}
 use Rattle.certificate.specs.Hulls.{hulls_of}
+use Rattle.local_rules.specs.Site.{Task}
+use Rattle.certificate.specs.Claims.{Claim}
+use Rattle.avr_model.specs.Assumptions.{has_pairs}
 
 -- ---- how states are read
 
@@ -39,6 +42,10 @@ read_seed followed e = (e.0, read_form followed e.1)
 -- the nodes of a certificate, read with pairs or without
 abbrev pub read_seeds : Bool → Seeds → Seeds
 read_seeds followed nodes = map (read_seed followed) nodes
+
+-- the nodes of a certificate, read as the task's assumptions say
+abbrev pub own_seeds : Task → Claim → Seeds
+own_seeds task c = read_seeds (has_pairs task.assumptions) c.nodes
 
 -- ---- where edges land
 

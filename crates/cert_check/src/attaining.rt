@@ -2,6 +2,7 @@
 
 ghost use Rattle.std.specs.Prelude.{◌↔◌, IsTrue};
 ghost use Rattle.certificate.specs.Valid.{IsAttained};
+ghost use Rattle.call_graph.specs.Tasks.{task_of};
 
 use avr_model::choice::Stop;
 use call_graph::Task;
@@ -11,7 +12,7 @@ use witness_replay::replay;
 /// Whether the certificate's schedule attains its bound: no illegal choice is reached, the run ends without a stop, and its depth is the
 /// bound. A certificate without a schedule passes.
 pub fn is_attained(task: &Task<'_>, certificate: &Certificate) -> bool
-    ensures { IsTrue result ↔ IsAttained task.now.flash.now task.now.assumptions.now certificate.now.bound certificate.now.witness }
+    ensures { IsTrue result ↔ IsAttained (task_of task.now) certificate.now.bound certificate.now.witness }
 {
     let Some(schedule) = certificate.witness() else {
         return true;

@@ -6,6 +6,7 @@ ghost use Rattle.std.specs.List.{flat_map};
 ghost use Rattle.edge_rules.specs.declared.edge.Edge as edge_type;
 ghost use Rattle.certificate.specs.Insts.{inst_keys};
 ghost use Rattle.cert_check.specs.Demands.{AreInstances, place_in, rank_at, need_at, offset_demand, entry_demand, demands_of};
+ghost use Rattle.call_graph.specs.Clauses.{Grows};
 
 use certificate::Inst;
 use edge_rules::Edge;
@@ -54,7 +55,7 @@ pub(crate) fn number_of(instances: &[Inst], key: &InstKey) -> usize
 
 // The demand of a closed offset.
 fn add_offset(demands: &mut Vec<Demand>, inst: usize, form: &SpForm) -> Result<(), AllocError>
-    ensures { OnOk result (demands.new.items ≡ demands.old.items ++ offset_demand inst form.now) }
+    ensures { Grows result demands.old.items demands.new.items (offset_demand inst form.now) }
 {
     if let SpForm::Closed(offset) = *form {
         demands.push(Demand {
@@ -76,7 +77,7 @@ fn add_entry(
 ) -> Result<(), AllocError>
     requires instances { AreInstances instances.now }
     requires there { Contains (inst_keys instances.now) edge.now.to.inst }
-    ensures { OnOk result (demands.new.items ≡ demands.old.items ++ entry_demand instances.now inst offset edge.now) }
+    ensures { Grows result demands.old.items demands.new.items (entry_demand instances.now inst offset edge.now) }
 {
     if is_entry(edge.kind) {
         let into = number_of(instances, &edge.to.inst);
@@ -99,7 +100,7 @@ fn add_entries(
 ) -> Result<(), AllocError>
     requires instances { AreInstances instances.now }
     requires there { (e : edge_type.Edge) → Contains edges.now e → Contains (inst_keys instances.now) e.to.inst }
-    ensures { OnOk result (demands.new.items ≡ demands.old.items ++ flat_map (entry_demand instances.now inst offset) edges.now) }
+    ensures { Grows result demands.old.items demands.new.items (flat_map (entry_demand instances.now inst offset) edges.now) }
 {
     for at in 0..edges.len() {
         add_entry(demands, instances, inst, offset, &edges[at])?;
@@ -117,7 +118,7 @@ pub(crate) fn add_demands(
     requires instances { AreInstances instances.now }
     requires own { Contains (inst_keys instances.now) key.now.inst }
     requires there { (e : edge_type.Edge) → Contains edges.now e → Contains (inst_keys instances.now) e.to.inst }
-    ensures { OnOk result (demands.new.items ≡ demands.old.items ++ demands_of instances.now key.now edges.now) }
+    ensures { Grows result demands.old.items demands.new.items (demands_of instances.now key.now edges.now) }
 {
     let inst = number_of(instances, &key.inst);
     add_offset(demands, inst, &key.sp)?;

@@ -6,6 +6,7 @@ ghost use Rattle.avr_model.specs.Devices.{device_of};
 ghost use Rattle.edge_rules.specs.Views.{AreShown};
 ghost use Rattle.call_graph.specs.Exits.{AreExits};
 ghost use Rattle.cert_check.specs.Demands.{AreInstances, AreBeside, AllBelong, IsGathering, AreGathered, IsNodeGathered};
+ghost use Rattle.call_graph.specs.Tasks.{task_of};
 
 use crate::demand::{Demand, add_demands};
 use crate::landing::{Landed, LandingSite, landed_from};
@@ -41,9 +42,9 @@ fn gather_node(
     requires instances { AreInstances site.now.certificate.now.instances }
     requires belong { AllBelong site.now.certificate.now.instances site.now.nodes.now }
     requires beside { AreBeside site.now.certificate.now.nodes site.now.nodes.now }
-    requires taken { AreExits task.now.flash.now task.now.assumptions.now site.now.nodes.now exits.now }
-    requires before { AreGathered task.now.flash.now task.now.assumptions.now site.now.certificate.now site.now.nodes.now at gathered.now }
-    ensures { IfOk result (λ gap. IsNodeGathered task.now.flash.now task.now.assumptions.now site.now.certificate.now site.now.nodes.now at gap gathered.new) }
+    requires taken { AreExits (task_of task.now) site.now.nodes.now exits.now }
+    requires before { AreGathered (task_of task.now) site.now.certificate.now site.now.nodes.now at gathered.now }
+    ensures { IfOk result (λ gap. IsNodeGathered (task_of task.now) site.now.certificate.now site.now.nodes.now at gap gathered.new) }
 {
     let edges = next_with(task, site.nodes, at, exits)?;
     let Landed { gap, landings } = landed_from(task.alloc, site, at + 1, edges.as_slice())?;
@@ -73,8 +74,8 @@ pub(crate) fn gather(
     requires instances { AreInstances certificate.now.instances }
     requires belong { AllBelong certificate.now.instances nodes.now }
     requires beside { AreBeside certificate.now.nodes nodes.now }
-    requires taken { AreExits task.now.flash.now task.now.assumptions.now nodes.now exits.now }
-    ensures { IfOk result (λ found. IsGathering task.now.flash.now task.now.assumptions.now certificate.now.nodes certificate.now.instances nodes.now found) }
+    requires taken { AreExits (task_of task.now) nodes.now exits.now }
+    ensures { IfOk result (IsGathering (task_of task.now) certificate.now.nodes certificate.now.instances nodes.now) }
 {
     let site = LandingSite {
         followed: task.assumptions.has_pairs(),

@@ -1,20 +1,20 @@
 //! The verdict on a certificate.
 
-ghost use Rattle.std.specs.Prelude.{ℕ, ◌≡◌, ◌≤◌, ◌↔◌, List, Ok, IfOk, IsTrue, length};
-ghost use Rattle.avr_model.specs.declared.assumption.Entry.{Entry};
+ghost use Rattle.std.specs.Prelude.{ℕ, ◌≡◌, ◌≤◌, ◌↔◌, Ok, IfOk, IsTrue, length};
 ghost use Rattle.avr_model.specs.Assumptions.{has_pairs};
 ghost use Rattle.avr_model.specs.Run.{Bounded};
-ghost use Rattle.avr_model.specs.Devices.{Program, device_of};
+ghost use Rattle.avr_model.specs.Devices.{device_of};
 ghost use Rattle.edge_rules.specs.Expansion.{IsFilled};
-ghost use Rattle.call_graph.specs.declared.worked.Worked as worked_type;
 ghost use Rattle.call_graph.specs.Exits.{AreExits};
 ghost use Rattle.call_graph.specs.Expanding.{IsExpanded};
 ghost use Rattle.certificate.specs.Claims.{IsClaim};
 ghost use Rattle.certificate.specs.Valid.{IsSound};
 ghost use Rattle.cert_check.specs.declared.verdict.Reason as reason_type;
-ghost use Rattle.cert_check.specs.Reading.{read_seeds};
+ghost use Rattle.cert_check.specs.Reading.{own_seeds};
 ghost use Rattle.cert_check.specs.Verdict.{HasReset, IsVerdict, IsReason, IsJudgement};
 ghost use Rattle.cert_check.specs.Demands.{AreBeside, SettlesClaim};
+ghost use Rattle.call_graph.specs.Tasks.{task_of};
+ghost use Rattle.local_rules.specs.Site.{Task};
 
 use crate::gathering::{LandedNodes, gather};
 use crate::landing::{LandingSite, lands};
@@ -41,10 +41,10 @@ fn settle_edges(
 ) -> Result<Landings, AllocError>
     requires claim { IsClaim certificate.now }
     requires device { certificate.now.device ≡ device_of task.now.flash.now }
-    requires filled { IsFilled task.now.flash.now task.now.assumptions.now (read_seeds (has_pairs task.now.assumptions.now) certificate.now.nodes) nodes.now }
+    requires filled { IsFilled (task_of task.now) (own_seeds (task_of task.now) certificate.now) nodes.now }
     requires reset { HasReset task.now.assumptions.now certificate.now nodes.now }
-    requires taken { AreExits task.now.flash.now task.now.assumptions.now nodes.now exits.now }
-    ensures { IfOk result (λ settled. SettlesClaim task.now.flash.now task.now.assumptions.now certificate.now nodes.now settled) }
+    requires taken { AreExits (task_of task.now) nodes.now exits.now }
+    ensures { IfOk result (λ settled. SettlesClaim (task_of task.now) certificate.now nodes.now settled) }
 {
     match gather(task, certificate, nodes, exits)? {
         Judgement::Accepted(LandedNodes { demands, landings }) => match weigh(
@@ -85,8 +85,8 @@ fn settle(
 ) -> Result<Landings, AllocError>
     requires claim { IsClaim certificate.now }
     requires device { certificate.now.device ≡ device_of task.now.flash.now }
-    requires filled { IsFilled task.now.flash.now task.now.assumptions.now (read_seeds (has_pairs task.now.assumptions.now) certificate.now.nodes) nodes.now }
-    ensures { IfOk result (λ settled. SettlesClaim task.now.flash.now task.now.assumptions.now certificate.now nodes.now settled) }
+    requires filled { IsFilled (task_of task.now) (own_seeds (task_of task.now) certificate.now) nodes.now }
+    ensures { IfOk result (λ settled. SettlesClaim (task_of task.now) certificate.now nodes.now settled) }
 {
     if !has_reset(task, certificate, nodes)? {
         return Ok(Judgement::Rejected(Reason::Root));
@@ -108,8 +108,8 @@ fn judge_nodes(
 ) -> Result<Judgement<Worked>, AllocError>
     requires claim { IsClaim certificate.now }
     requires device { certificate.now.device ≡ device_of task.now.flash.now }
-    requires filled { IsFilled task.now.flash.now task.now.assumptions.now (read_seeds (has_pairs task.now.assumptions.now) certificate.now.nodes) nodes }
-    ensures { IfOk result (λ judgement. IsJudgement task.now.flash.now task.now.assumptions.now certificate.now judgement) }
+    requires filled { IsFilled (task_of task.now) (own_seeds (task_of task.now) certificate.now) nodes }
+    ensures { IfOk result (λ judgement. IsJudgement (task_of task.now) certificate.now judgement) }
 {
     match settle(task, certificate, &nodes) {
         Ok(Judgement::Accepted(landings)) => Ok(Judgement::Accepted(Worked { nodes, landings })),
@@ -128,7 +128,7 @@ fn judge_nodes(
 fn expanded(task: &Task<'_>, certificate: &Certificate) -> Result<Expanded, AllocError>
     requires claim { IsClaim certificate.now }
     requires device { certificate.now.device ≡ device_of task.now.flash.now }
-    ensures { IfOk result (λ answer. IsExpanded task.now.flash.now task.now.assumptions.now (read_seeds (has_pairs task.now.assumptions.now) certificate.now.nodes) answer) }
+    ensures { IfOk result (IsExpanded (task_of task.now) (own_seeds (task_of task.now) certificate.now)) }
 {
     let followed = task.assumptions.has_pairs();
     if certificate.assumptions().has_pairs() == followed {
@@ -147,8 +147,8 @@ pub fn judge_family(
     task: &Task<'_>,
     certificate: &Certificate,
 ) -> Result<Judgement<Worked>, AllocError>
-    ensures exact { IfOk result (λ judgement. IsJudgement task.now.flash.now task.now.assumptions.now certificate.now judgement) }
-    ensures few { IfOk result (λ judgement. (family : worked_type.Worked) → judgement ≡ Judgement.Accepted family → length family.nodes ≤ 65536) }
+    ensures exact { IfOk result (λ judgement. IsJudgement (task_of task.now) certificate.now judgement) }
+    ensures few { IfOk result (λ j. (f : _) → j ≡ Judgement.Accepted f → length f.nodes ≤ 65536) }
 {
     let _nodes = certificate.nodes();
     if certificate.device() != task.flash.device() {
@@ -162,7 +162,7 @@ pub fn judge_family(
 
 // The verdict of a judgement.
 fn verdict_of(certificate: &Certificate, judgement: Judgement<Worked>) -> Judgement<u16>
-    ensures { (words : Program) (A : List Entry) → IsJudgement words A certificate.now judgement → IsVerdict words A certificate.now result }
+    ensures { (task : _) → IsJudgement task certificate.now judgement → IsVerdict task certificate.now result }
 {
     match judgement {
         Judgement::Accepted(family) => {
@@ -179,10 +179,10 @@ fn verdict_of(certificate: &Certificate, judgement: Judgement<Worked>) -> Judgem
 /// is visited once. The local part of each node is computed twice, and once more for each node that comes from it. The nodes are copied if
 /// exactly one of the list of the call and the certificate's own has the line `pairs`.
 pub fn judge(task: &Task<'_>, certificate: &Certificate) -> Result<Judgement<u16>, AllocError>
-    ensures exact { IfOk result (λ verdict. IsVerdict task.now.flash.now task.now.assumptions.now certificate.now verdict) }
-    ensures accepted { IfOk result (λ verdict. (b : ℕ) → (verdict ≡ Judgement.Accepted b) ↔ (IsSound task.now.flash.now task.now.assumptions.now certificate.now × (b ≡ certificate.now.bound))) }
+    ensures exact { IfOk result (λ verdict. IsVerdict (task_of task.now) certificate.now verdict) }
+    ensures accepted { IfOk result (λ verdict. (b : ℕ) → (verdict ≡ Judgement.Accepted b) ↔ (IsSound (task_of task.now) certificate.now × (b ≡ certificate.now.bound))) }
     ensures bounded { (b : ℕ) → result ≡ Ok (Judgement.Accepted b) → Bounded task.now.flash.now task.now.assumptions.now b }
-    ensures rejected { IfOk result (λ verdict. (r : reason_type.Reason) → (verdict ≡ Judgement.Rejected r) ↔ IsReason task.now.flash.now task.now.assumptions.now certificate.now r) }
+    ensures rejected { IfOk result (λ verdict. (r : reason_type.Reason) → (verdict ≡ Judgement.Rejected r) ↔ IsReason (task_of task.now) certificate.now r) }
 {
     words_have_16_bits(task.flash.words());
     let _nodes = certificate.nodes();

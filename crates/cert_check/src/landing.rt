@@ -1,13 +1,14 @@
 //! Landings of edges.
 
-ghost use Rattle.std.specs.Prelude.{◌≡◌, ◌≤◌, ◌<◌, ◌↔◌, ◌++◌, length, IsTrue, IfOk, OnOk};
+ghost use Rattle.std.specs.Prelude.{◌≡◌, ◌≤◌, ◌<◌, ◌↔◌, length, IsTrue, IfOk, OnOk};
 ghost use Rattle.edge_rules.specs.Views.{place_of};
 ghost use Rattle.edge_rules.specs.Expansion.{HasKeyAt};
-ghost use Rattle.mask_states.specs.declared.keys.NodeKey as key_type;
 ghost use Rattle.edge_laws.specs.Expansions.{AreSeedsAscending};
 ghost use Rattle.call_graph.specs.Landings.{landing_of, landings_by};
-ghost use Rattle.cert_check.specs.Reading.{IsOpen, LandsOpen};
-ghost use Rattle.cert_check.specs.Demands.{IsLeastOffered, IsOfferNoted, AreBeside, HasSlots, LeadsToNode, GapAt, KeyBelow, lesser_key, AreTargets};
+ghost use Rattle.cert_check.specs.Reading.{IsOpen};
+ghost use Rattle.cert_check.specs.Demands.{IsLeastOffered, IsOfferNoted, AreBeside, HasSlots, KeyBelow, lesser_key, AreTargets};
+ghost use Rattle.call_graph.specs.Clauses.{Grows};
+ghost use Rattle.cert_check.specs.Sites.{LandsAt, LeadsAt, MissesAt};
 
 use crate::reading::tells_nothing;
 use abs_state::AbsState;
@@ -42,7 +43,7 @@ pub(crate) struct Landed {
 fn is_open(followed: bool, certificate: &Certificate, at: usize) -> bool
     requires inside { at < length certificate.now.nodes }
     requires ascending { AreSeedsAscending certificate.now.nodes }
-    ensures { (k : key_type.NodeKey) → HasKeyAt certificate.now.nodes at k → IsTrue result ↔ IsOpen followed certificate.now.nodes k }
+    ensures { (k : _) → HasKeyAt certificate.now.nodes at k → IsTrue result ↔ IsOpen followed certificate.now.nodes k }
 {
     followed || tells_nothing(certificate.seed(at))
 }
@@ -57,7 +58,7 @@ pub(crate) fn lands(
     requires place { place ≡ place_of key.now site.now.nodes.now }
     requires slots { HasSlots key.now state.now }
     requires beside { AreBeside site.now.certificate.now.nodes site.now.nodes.now }
-    ensures { IsTrue result ↔ LandsOpen site.now.followed site.now.certificate.now.nodes site.now.nodes.now (record { key = key.now; state = state.now }) }
+    ensures { IsTrue result ↔ LandsAt site.now (record { key = key.now; state = state.now }) }
 {
     let count = site.nodes.count();
     match place {
@@ -89,8 +90,8 @@ fn note(
     requires few { length site.now.nodes.now ≤ 65536 }
     requires slots { HasSlots edge.now.to edge.now.state }
     requires beside { AreBeside site.now.certificate.now.nodes site.now.nodes.now }
-    ensures gap { OnOk result (IsOfferNoted (LeadsToNode site.now.followed site.now.certificate.now.nodes site.now.nodes.now) (GapAt site.now.followed site.now.certificate.now.nodes site.now.nodes.now) lesser_key landed.old.gap edge.now landed.new.gap) }
-    ensures landings { OnOk result (landed.new.landings ≡ landed.old.landings ++ landing_of site.now.nodes.now edge.now) }
+    ensures gap { OnOk result (IsOfferNoted (LeadsAt site.now) (MissesAt site.now) lesser_key landed.old.gap edge.now landed.new.gap) }
+    ensures landings { Grows result landed.old.landings landed.new.landings (landing_of site.now.nodes.now edge.now) }
 {
     let place = site.nodes.find_from(first, &edge.to);
     if let Some(at) = place {
@@ -115,7 +116,7 @@ pub(crate) fn landed_from(
     requires few { length site.now.nodes.now ≤ 65536 }
     requires targets { AreTargets edges.now }
     requires beside { AreBeside site.now.certificate.now.nodes site.now.nodes.now }
-    ensures gap { IfOk result (λ landed. IsLeastOffered (LeadsToNode site.now.followed site.now.certificate.now.nodes site.now.nodes.now) (GapAt site.now.followed site.now.certificate.now.nodes site.now.nodes.now) KeyBelow edges.now landed.gap) }
+    ensures gap { IfOk result (λ l. IsLeastOffered (LeadsAt site.now) (MissesAt site.now) KeyBelow edges.now l.gap) }
     ensures landings { IfOk result (λ landed. landed.landings ≡ landings_by site.now.nodes.now edges.now) }
 {
     let mut landed = Landed {

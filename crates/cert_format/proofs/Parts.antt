@@ -29,7 +29,7 @@ use Rattle.certificate.specs.Claims.{most_nodes}
 use Rattle.certificate.specs.declared.version.Version.{Version}
 use Rattle.certificate.specs.declared.version.Version.TheVariants.{One, Two, Three}
 use Rattle.avr_model.specs.Names.{class_of, device_of_class}
-use Rattle.certificate.specs.Versions.{is_first, says_device}
+use Rattle.certificate.specs.Versions.{says_device}
 use Rattle.cert_words.specs.Text.{numbered, version_line, device_line, device_lines, heading, open_line, attained_line, witness_lines, end_line}
 use Rattle.cert_format.specs.Reading.{formed, numbered_in, numbered_by, counted, count_at, count_in, count_by, limited, version_by, other_by, device_in, device_by, for_this, device_at, ending_by, items_from, heading_at, plan_if, witness_at, if_last, end_at}
 use Rattle.cert_words.proofs.AllLaws.{depth_room, same_text, word_take, dec_take, word_by_take, class_word, class_named}

@@ -14,7 +14,7 @@ use Rattle.avr_model.specs.declared.assumption.Entry.TheVariants.{Pairs}
 use Rattle.avr_model.specs.Assumptions.{has_pairs}
 use Rattle.avr_model.specs.declared.device.Device.{Device}
 use Rattle.avr_model.specs.Devices.{depth_of}
-use Rattle.avr_model.specs.Names.{class_of, device_of_class}
+use Rattle.avr_model.specs.Names.{class_of}
 use Rattle.sb_base.specs.Answers.{Answers}
 use Rattle.sb_base.specs.Lines.{TextLine, Place, words_of, spaced}
 use Rattle.line_reading.specs.Reading.{first_by, this_by, line_by}
@@ -38,12 +38,12 @@ use Rattle.certificate.specs.declared.version.Version.TheVariants.{One, Two, Thr
 use Rattle.certificate.specs.Versions.{is_first, is_third, says_device}
 use Rattle.certificate.specs.Insts.{IsInst, inst_keys}
 use Rattle.certificate.specs.Claims.{Claim, IsClaim, IsCertificate, most_instances, most_nodes, most_cells, cells_of, node_keys}
-use Rattle.cert_words.specs.Text.{numbered, version_line, device_line, device_lines, heading, entry_lines, inst_lines, node_lines, inst_words, node_words, open_line, attained_line, witness_lines, end_line, front_lines}
+use Rattle.cert_words.specs.Text.{numbered, version_line, device_lines, heading, entry_lines, inst_lines, node_lines, inst_words, node_words, open_line, attained_line, witness_lines, end_line, front_lines}
 use Rattle.cert_format.specs.declared.fault.CertFault.{CertFault}
 use Rattle.cert_format.specs.declared.fault.CertFault.TheVariants as fault
 use Rattle.certificate.specs.declared.limit.Limit.{Limit}
 use Rattle.certificate.specs.declared.limit.Limit.TheVariants as limit
-use Rattle.cert_format.specs.Reading.{entry_by, inst_by, node_by, numbered_in, numbered_by, count_in, count_by, version_by, other_by, device_in, device_by, for_this, device_at, is_admitted, is_paired, version_with, ending_by, formed, limited, last_in, is_inst_above, is_node_above, refused_entry, refused_inst, refused_node, heading_at, least_entries, first_at, entries_at, insts_at, nodes_at, plan_if, witness_at, if_last, end_at, claim_at, claim_alone, certificate_in}
+use Rattle.cert_format.specs.Reading.{entry_by, inst_by, node_by, numbered_in, numbered_by, count_in, count_by, version_by, device_in, device_by, for_this, device_at, is_admitted, is_paired, version_with, ending_by, formed, limited, last_in, is_inst_above, is_node_above, refused_entry, refused_inst, refused_node, heading_at, least_entries, first_at, entries_at, insts_at, nodes_at, plan_if, witness_at, if_last, end_at, claim_at, claim_alone, certificate_in}
 use Rattle.cert_format.specs.Refusals.{Part, Begin, Named, IsNaming, Bound, Assume, FirstEntry, AnEntry, Instances, AnInst, Nodes, ANode, Ending, End, Nothing, StandsBefore, IsNextLine, IsNumbered, IsNodesLine, IsLow, IsTooMuch, IsStopped, IsCertificateRefused, IsCertificateDue, IsCertificateDueUnlessMemory, ReadCertificateIsDue, start}
 use Rattle.cert_words.proofs.AllLaws.{depth_room}
 use Rattle.cert_format.proofs.Numbers.{decimal_word, nodes_count, too_many}

@@ -1,8 +1,9 @@
 -- The texts that are certificates for a device, by the spelling alone.
-use Rattle.std.specs.Prelude.{◌≡◌, ◌≤◌, ℕ, List, None, Ok}
+use Rattle.std.specs.Prelude.{◌≡◌, ◌≤◌, ℕ, List, None, Result, Ok}
 use Rattle.avr_model.specs.declared.assumption.Entry.{Entry}
 use Rattle.avr_model.specs.declared.device.Device.{Device}
 use Rattle.avr_model.specs.Devices.{depth_of}
+use Rattle.sb_base.specs.Answers.{Answers}
 use Rattle.sb_base.specs.Lines.{Place}
 use Rattle.edge_rules.specs.Expansion.{Seeds}
 use Rattle.certificate.specs.declared.instance.Inst.{Inst}
@@ -10,7 +11,13 @@ use Rattle.certificate.specs.declared.version.Version.{Version}
 use Rattle.certificate.specs.Claims.{Claim, IsClaim, IsCertificate}
 use Rattle.certificate.specs.Versions.{says_device}
 use Rattle.cert_words.specs.Text.{text_of}
+use Rattle.cert_format.specs.declared.fault.CertFault.{CertFault}
+use Rattle.cert_format.specs.declared.fault.CertFault.TheVariants.{Memory}
 use Rattle.cert_format.specs.Reading.{version_with, entries_at, insts_at, nodes_at, certificate_in}
+
+-- A text that is that of a certificate for the device has the certificate as answer, or memory ran out.
+abbrev pub AnswersSpelled : Device → List ℕ → Result Claim CertFault → Type 0
+AnswersSpelled device text answer = (c : Claim) → IsCertificate c → c.device ≡ device → text ≡ text_of c → Answers (λ x. x) Memory answer (Ok c)
 
 -- what is read is a certificate for the device, and the text is its text
 abbrev pub ReadCertificateIsSpelled : Type 0

@@ -8,6 +8,7 @@ use Rattle.avr_model.specs.declared.assumption.Entry.TheVariants.{Pairs, Masks, 
 use Rattle.avr_model.specs.declared.device.Device.{Device}
 use Rattle.avr_model.specs.Names.{class_of, device_of_class}
 use Rattle.avr_model.specs.Devices.{depth_of}
+use Rattle.sb_base.specs.Answers.{Answers}
 use Rattle.sb_base.specs.Digits.{dec_answer}
 use Rattle.sb_base.specs.declared.digits.DigitFault.{DigitFault}
 use Rattle.sb_base.specs.declared.digits.DigitFault.TheVariants.{WrongLength, BadDigit, TooGreat}
@@ -31,6 +32,15 @@ use Rattle.certificate.specs.declared.limit.Limit.TheVariants as limit
 use Rattle.cert_format.specs.declared.fault.CertFault.{CertFault}
 use Rattle.cert_format.specs.declared.fault.CertFault.TheVariants as fault
 use Rattle.cert_format.specs.LineReading.{inst_in, node_in}
+
+-- ---- the answer of a call that reads
+
+-- What is read up to this place, seen by `view`, is what is due, or memory ran out.
+abbrev pub ReadsAs : {X Y : Type 0} → (X → Y) → Place → Result X CertFault → Result (Y × Place) CertFault → Type 0
+ReadsAs view place answer due = Answers (λ x. (view x, place)) fault.Memory answer due
+
+abbrev pub Reads : {X : Type 0} → Place → Result X CertFault → Result (X × Place) CertFault → Type 0
+Reads place answer due = Answers (λ x. (x, place)) fault.Memory answer due
 
 -- ---- one line
 
@@ -147,6 +157,9 @@ unless (Some f) x = Err f
 abbrev pub with_item : {A : Type 0} → (List A → A → ℕ → Option CertFault) → List A → A → ℕ → Result (List A) CertFault
 with_item refused xs x at = unless (refused xs x at) (xs ++ x ∷ [])
 
+abbrev pub with_node : Seeds → NodeKey × NodeForm → ℕ → Result Seeds CertFault
+with_node ns n at = with_item refused_node ns n at
+
 -- the item of a line at this offset, or the refusal
 abbrev pub found_at : {A : Type 0} → Option A → ℕ → Result A CertFault
 found_at None at = Err (fault.Malformed at)
@@ -170,6 +183,24 @@ longer_at by refused xs p = then_at (formed (line_by (by (length xs)) p)) (λ x.
 unfoldable pub items_from : {A : Type 0} → (ℕ → List ℕ → Option A) → (List A → A → ℕ → Option CertFault) → List A → ℕ → Place → Result (List A × Place) CertFault
 items_from by refused xs zero p = Ok (xs, p)
 items_from by refused xs (suc n) p = then_at (longer_at by refused xs p) (λ x. items_from by refused x.0 n x.1)
+
+-- ---- lists that are gathered line by line
+
+-- of a list: its items so far, the item of a line's text by the number of items before it, and the refusal of an item after those
+abbrev pub Gathering : Type 0 → Type 0 → Type 0
+Gathering S A = (S → List A) × (S → ℕ → List ℕ → Option A) × (List A → A → ℕ → Option CertFault)
+
+-- The list `new` is `old` with the item of a line, by its text and offset; else the answer is the refusal, or memory ran out.
+abbrev pub AddsText : {S A : Type 0} → Gathering S A → S → S → List ℕ × ℕ → Result (Unit {0}) CertFault → Type 0
+AddsText g old new text answer = Answers (λ u. g.0 new) fault.Memory answer (with_text (g.1 old) g.2 (g.0 old) text.0 text.1)
+
+-- the same for the next line; a list and the place of the next line are a pair
+abbrev pub AddsLine : {S A : Type 0} → Gathering S A → S × Place → S × Place → Result (Unit {0}) CertFault → Type 0
+AddsLine g old new answer = Answers (λ u. (g.0 new.0, new.1)) fault.Memory answer (longer_at (g.1 old.0) g.2 (g.0 old.0) old.1)
+
+-- the same for this many lines
+abbrev pub AddsLines : {S A : Type 0} → ℕ → Gathering S A → S × Place → S × Place → Result (Unit {0}) CertFault → Type 0
+AddsLines count g old new answer = Answers (λ u. (g.0 new.0, new.1)) fault.Memory answer (items_from (g.1 old.0) g.2 (g.0 old.0) count old.1)
 
 -- ---- parts of several lines
 

@@ -9,7 +9,7 @@ ghost use Rattle.mask_states.specs.Keys.{offset_of};
 ghost use Rattle.certificate.specs.Versions.{says_device};
 ghost use Rattle.cert_format.specs.declared.fault.CertFault.{CertFault};
 ghost use Rattle.cert_format.specs.declared.fault.CertFault.TheVariants as fault;
-ghost use Rattle.cert_format.specs.Reading.{is_admitted, last_in, is_node_above, refused_node, with_item, with_text, longer_at, items_from};
+ghost use Rattle.cert_format.specs.Reading.{is_admitted, last_in, is_node_above, with_node, AddsText, AddsLine, AddsLines};
 
 use crate::fault::CertFault;
 use crate::lines::{instance_of, node_of};
@@ -49,7 +49,7 @@ pub(crate) trait Gathered {
         at: usize,
     ) -> Result<(), CertFault>
         requires { length (items self.old) < most }
-        ensures exact { Answers (λ u. items self.new) fault.Memory result (with_text (by device self.old) refused (items self.old) text.now at) }
+        ensures exact { AddsText (items, by device, refused) self.old self.new (text.now, at) result }
         ensures same { by device self.new ≡ by device self.old };
 }
 
@@ -62,7 +62,7 @@ fn read_next<G: Gathered>(
     list: &mut G,
 ) -> Result<(), CertFault>
     requires { length (G.items list.old) < G.most }
-    ensures exact { Answers (λ u. (G.items list.new, reader.new)) fault.Memory result (longer_at (G.by device list.old) G.refused (G.items list.old) reader.old) }
+    ensures exact { AddsLine (G.items, G.by device, G.refused) (list.old, reader.old) (list.new, reader.new) result }
     ensures same { G.by device list.new ≡ G.by device list.old }
 {
     let at = reader.offset();
@@ -81,7 +81,7 @@ pub(crate) fn read_each<G: Gathered>(
     count: u64,
 ) -> Result<(), CertFault>
     requires { length (G.items list.old) + count ≤ G.most }
-    ensures { Answers (λ u. (G.items list.new, reader.new)) fault.Memory result (items_from (G.by device list.old) G.refused (G.items list.old) count reader.old) }
+    ensures { AddsLines count (G.items, G.by device, G.refused) (list.old, reader.old) (list.new, reader.new) result }
 {
     for _ in 0..count {
         if let Err(fault) = read_next(alloc, device, reader, list) {
@@ -231,7 +231,7 @@ impl<'a> NodeList<'a> {
     #[tactic(auto, using(crate::proofs::Items::cells_more))]
     fn append(&mut self, node: (NodeKey, NodeForm), at: usize) -> Result<(), CertFault>
         requires { offset_of node.0.sp ≤ SIZE }
-        ensures exact { Answers (λ u. self.new.nodes) fault.Memory result (with_item refused_node self.old.nodes node at) }
+        ensures exact { Answers (λ u. self.new.nodes) fault.Memory result (with_node self.old.nodes node at) }
         ensures version { self.new.version ≡ self.old.version }
         ensures same { self.new.instances ≡ self.old.instances }
     {

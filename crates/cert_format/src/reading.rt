@@ -7,11 +7,12 @@ ghost use Rattle.avr_model.specs.declared.assumption.Entry.TheVariants.{Pairs};
 ghost use Rattle.sb_base.specs.Answers.{Answers};
 ghost use Rattle.line_reading.specs.Reading.{first_by, line_by};
 ghost use Rattle.cert_format.specs.declared.fault.CertFault.TheVariants as fault;
-ghost use Rattle.certificate.specs.Claims.{Claim, IsCertificate, most_nodes};
+ghost use Rattle.certificate.specs.Claims.{IsCertificate, most_nodes};
 ghost use Rattle.certificate.specs.Versions.{is_third, says_device};
 ghost use Rattle.witness_replay.specs.Spelling.{IsSchedule};
 ghost use Rattle.cert_words.specs.Text.{text_of};
-ghost use Rattle.cert_format.specs.Reading.{formed, version_by, other_by, device_in, device_by, device_at, version_with, numbered_in, numbered_by, count_in, count_by, ending_by, heading_at, least_entries, first_at, entries_at, insts_at, limited, nodes_at, witness_at, end_at, claim_at, certificate_in};
+ghost use Rattle.cert_format.specs.Reading.{Reads, ReadsAs, formed, version_by, other_by, device_in, device_by, device_at, version_with, numbered_in, numbered_by, count_in, count_by, ending_by, heading_at, least_entries, first_at, entries_at, insts_at, limited, nodes_at, witness_at, end_at, claim_at, certificate_in};
+ghost use Rattle.cert_format.specs.Exact.{AnswersSpelled};
 ghost use Rattle.cert_format.specs.Refusals.{IsCertificateDueUnlessMemory};
 
 use crate::fault::CertFault;
@@ -58,7 +59,7 @@ fn read_numbered(
     least: u64,
     most: u64,
 ) -> Result<u64, CertFault>
-    ensures exact { Answers (λ n. (n, reader.new)) fault.Memory result (formed (line_by (numbered_by name.now least most) reader.old)) }
+    ensures exact { Reads reader.new result (formed (line_by (numbered_by name.now least most) reader.old)) }
     ensures large { IfOk result (λ n. least ≤ n) }
     ensures small { IfOk result (λ n. n ≤ most) }
 {
@@ -91,7 +92,7 @@ fn count_of(reader: &LineReader<'_>) -> Option<Option<u64>>
 // Reads the number of nodes.
 #[tactic(auto, unfolding(line_reading::specs::Reading::line_by))]
 fn read_count(reader: &mut LineReader<'_>) -> Result<u64, CertFault>
-    ensures exact { Answers (λ n. (n, reader.new)) fault.Memory result (limited (formed (line_by count_by reader.old))) }
+    ensures exact { Reads reader.new result (limited (formed (line_by count_by reader.old))) }
     ensures small { IfOk result (λ n. n ≤ most_nodes) }
 {
     let found = count_of(reader);
@@ -118,7 +119,7 @@ fn read_first(
     reader: &mut LineReader<'_>,
     version: Version,
 ) -> Result<Assumptions, CertFault>
-    ensures exact { Answers (λ a. (a, reader.new)) fault.Memory result (first_at version reader.old) }
+    ensures exact { Reads reader.new result (first_at version reader.old) }
     ensures count { IfOk result (λ a. length a ≡ least_entries version) }
     ensures mode { IfOk result (λ a. has_pairs a ≡ is_third version) }
 {
@@ -143,7 +144,7 @@ fn read_entries(
     reader: &mut LineReader<'_>,
     version: Version,
 ) -> Result<Assumptions, CertFault>
-    ensures { Answers (λ a. (a, reader.new)) fault.Memory result (entries_at device version reader.old) }
+    ensures { Reads reader.new result (entries_at device version reader.old) }
 {
     let least = least_entries(version);
     let count = read_numbered(reader, b"assume", least, MOST_ENTRIES as u64)?;
@@ -159,7 +160,7 @@ fn read_instances(
     device: Device,
     reader: &mut LineReader<'_>,
 ) -> Result<Vec<Inst>, CertFault>
-    ensures { Answers (λ v. (v.items, reader.new)) fault.Memory result (insts_at device reader.old) }
+    ensures { ReadsAs (λ v. v.items) reader.new result (insts_at device reader.old) }
 {
     let count = read_numbered(reader, b"instances", 0, MOST_INSTANCES)?;
     let mut list = Vec::new(alloc);
@@ -176,7 +177,7 @@ fn read_nodes(
     version: Version,
     instances: &[Inst],
 ) -> Result<Vec<(NodeKey, NodeForm)>, CertFault>
-    ensures { Answers (λ v. (v.items, reader.new)) fault.Memory result (nodes_at device version instances.now reader.old) }
+    ensures { ReadsAs (λ v. v.items) reader.new result (nodes_at device version instances.now reader.old) }
 {
     let count = read_count(reader)?;
     let mut list = NodeList::empty(alloc, version, instances);
@@ -206,7 +207,7 @@ fn read_witness(
     device: Device,
     reader: &mut LineReader<'_>,
 ) -> Result<Option<Schedule>, CertFault>
-    ensures exact { Answers (λ w. (w, reader.new)) fault.Memory result (witness_at device reader.old) }
+    ensures exact { Reads reader.new result (witness_at device reader.old) }
     ensures kept { IfOk result (λ w. IfSome w (IsSchedule device)) }
 {
     let found = ending_of(reader);
@@ -277,7 +278,7 @@ fn said_other(reader: &LineReader<'_>, device: Device) -> Option<Option<Device>>
 // Reads the line that says the device, if there is one.
 #[tactic(auto, unfolding(crate::specs::Reading::device_at, line_reading::specs::Reading::line_by))]
 fn read_device(device: Device, says: bool, reader: &mut LineReader<'_>) -> Result<(), CertFault>
-    ensures { Answers (λ u. (u, reader.new)) fault.Memory result (device_at says device reader.old) }
+    ensures { Reads reader.new result (device_at says device reader.old) }
 {
     if !says {
         return Ok(());
@@ -292,7 +293,7 @@ fn read_device(device: Device, says: bool, reader: &mut LineReader<'_>) -> Resul
 // Reads the version, the device and the bound.
 #[tactic(auto, unfolding(crate::specs::Reading::heading_at, line_reading::specs::Reading::line_by))]
 fn read_heading(device: Device, reader: &mut LineReader<'_>) -> Result<(Version, u64), CertFault>
-    ensures exact { Answers (λ h. (h, reader.new)) fault.Memory result (heading_at device reader.old) }
+    ensures exact { Reads reader.new result (heading_at device reader.old) }
     ensures small { IfOk result (λ h. h.1 ≤ depth_of device) }
 {
     let says = says_device(device);
@@ -306,7 +307,7 @@ fn read_heading(device: Device, reader: &mut LineReader<'_>) -> Result<(Version,
 // Reads the last line, after which nothing may follow.
 #[tactic(auto, unfolding(crate::specs::Reading::end_at))]
 fn read_end(reader: &mut LineReader<'_>) -> Result<(), CertFault>
-    ensures { Answers (λ u. (u, reader.new)) fault.Memory result (end_at reader.old) }
+    ensures { Reads reader.new result (end_at reader.old) }
 {
     take_text(reader, b"end")?;
     match reader.peek() {
@@ -333,7 +334,7 @@ fn read_claim(
     device: Device,
     reader: &mut LineReader<'_>,
 ) -> Result<Certificate, CertFault>
-    ensures { Answers (λ c. (c, reader.new)) fault.Memory result (claim_at device reader.old) }
+    ensures { Reads reader.new result (claim_at device reader.old) }
 {
     certificate_texts();
     let (first, bound) = read_heading(device, reader)?;
@@ -364,7 +365,7 @@ pub fn read(alloc: Global, device: Device, text: &[u8]) -> Result<Certificate, C
     ensures found { IfOk result (λ c. text.now ≡ text_of c) }
     ensures kept { IfOk result IsCertificate }
     ensures told { IsCertificateDueUnlessMemory device text.now result }
-    ensures spelled { (c : Claim) → IsCertificate c → c.device ≡ device → text.now ≡ text_of c → Answers (λ x. x) fault.Memory result (Ok c) }
+    ensures spelled { AnswersSpelled device text.now result }
 {
     certificate_texts();
     let mut reader = LineReader::new(text);

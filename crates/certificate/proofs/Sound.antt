@@ -31,7 +31,7 @@ claims_are_seeds c h = record {
 }
 
 pub conditions_make_families_sound : ConditionsMakeFamiliesSound
-conditions_make_families_sound words A c nodes claim filled m = record {
+conditions_make_families_sound task c nodes claim filled m = record {
   formed = λ n h. let found : (at : ℕ) × (slice_get nodes at ≡ Some n) = number_of nodes n h in filled.formed found.0 n found.1;
   reset = m.reset;
   faultless = m.faultless;

@@ -3,13 +3,12 @@ use Rattle.std.proofs.Common.{◌≡◌, sym, ap, ◌∙◌, subst, ℕ, zero, s
 use Rattle.std.proofs.lemmas.List.{take_more, length_push}
 use Rattle.basics.specs.Lists.{get_or_front, get_or_pushed}
 use Rattle.basics.specs.Numbers.{before_or_last}
-use Rattle.avr_model.specs.declared.assumption.Entry.{Entry}
-use Rattle.avr_model.specs.Devices.{Program}
 use Rattle.local_rules.specs.declared.local.Node.{Node}
 use Rattle.nesting_bound.specs.declared.graph.Link.{Link}
 use Rattle.chain_explain.specs.declared.explanation.Part.{Part}
 use Rattle.chain_explain.specs.Explanation.{IsPart, AreParts}
 use Rattle.chain_explain.specs.Moves.{IsPortion, AreThere}
+use Rattle.local_rules.specs.Site.{Task}
 
 -- ---- portions
 
@@ -29,20 +28,20 @@ portion_more graph portion low count nexts p is =
 
 -- ---- parts
 
-pub parts_more : (words : Program) (A : List Entry) (nodes reached : List Node) (links : List Link) (parts : List Part) (link : Link) (part : Part)
-    → AreParts words A nodes reached links parts → IsPart words A nodes reached link part → AreParts words A nodes reached (links ++ link ∷ []) (parts ++ part ∷ [])
-parts_more words A nodes reached [] [] link part h is = (is, tt)
-parts_more words A nodes reached [] (p ∷ parts) link part h is = absurd h
-parts_more words A nodes reached (l ∷ links) [] link part h is = absurd h
-parts_more words A nodes reached (l ∷ links) (p ∷ parts) link part h is = (h.0, parts_more words A nodes reached links parts link part h.1 is)
+pub parts_more : (task : Task) (nodes reached : List Node) (links : List Link) (parts : List Part) (link : Link) (part : Part)
+    → AreParts task nodes reached links parts → IsPart task nodes reached link part → AreParts task nodes reached (links ++ link ∷ []) (parts ++ part ∷ [])
+parts_more task nodes reached [] [] link part h is = (is, tt)
+parts_more task nodes reached [] (p ∷ parts) link part h is = absurd h
+parts_more task nodes reached (l ∷ links) [] link part h is = absurd h
+parts_more task nodes reached (l ∷ links) (p ∷ parts) link part h is = (h.0, parts_more task nodes reached links parts link part h.1 is)
 
 pub read_there : (reached : List Node) (links : List Link) (i : ℕ) (d : Link) → AreThere reached links → i < length links → (get_or links i d).node < length reached
 read_there reached [] i d h lt = absurd (omega (arith, lt))
 read_there reached (l ∷ links) zero d h lt = h.0
 read_there reached (l ∷ links) (suc i) d h lt = read_there reached links i d h.1 (omega (arith, lt))
 
-pub parts_take : (words : Program) (A : List Entry) (nodes reached : List Node) (links : List Link) (k : ℕ) (d : Link) (parts : List Part) (part : Part) → k < length links
-    → AreParts words A nodes reached (take k links) parts → IsPart words A nodes reached (get_or links k d) part → AreParts words A nodes reached (take (k + 1) links) (parts ++ part ∷ [])
-parts_take words A nodes reached links k d parts part lt h is =
-    subst (λ (ls : List Link). AreParts words A nodes reached ls (parts ++ part ∷ [])) (sym (take_more links k d lt))
-    (parts_more words A nodes reached (take k links) parts (get_or links k d) part h is)
+pub parts_take : (task : Task) (nodes reached : List Node) (links : List Link) (k : ℕ) (d : Link) (parts : List Part) (part : Part) → k < length links
+    → AreParts task nodes reached (take k links) parts → IsPart task nodes reached (get_or links k d) part → AreParts task nodes reached (take (k + 1) links) (parts ++ part ∷ [])
+parts_take task nodes reached links k d parts part lt h is =
+    subst (λ (ls : List Link). AreParts task nodes reached ls (parts ++ part ∷ [])) (sym (take_more links k d lt))
+    (parts_more task nodes reached (take k links) parts (get_or links k d) part h is)

@@ -1,7 +1,5 @@
 -- The reached nodes of a family that meets the conditions meet them too.
 use Rattle.std.proofs.Common.{refl, List, Contains}
-use Rattle.avr_model.specs.declared.assumption.Entry.{Entry}
-use Rattle.avr_model.specs.Devices.{Program}
 use Rattle.abs_state.specs.Frames.{entered}
 use Rattle.mask_states.specs.Keys.{entry_key}
 use Rattle.local_rules.specs.declared.local.Node.{Node}
@@ -12,30 +10,31 @@ use Rattle.certificate.specs.Claims.{Claim}
 use Rattle.certificate.specs.Valid.{reset_node, AllLand, MeetsConditions}
 use Rattle.family_graph.specs.Graphs.{IsPeopled}
 use Rattle.chain_explain.specs.Reached.{IsReached, AreReached, at_reset, by_edge}
+use Rattle.local_rules.specs.Site.{Task}
 
-module _ (words : Program) (A : List Entry) (nodes reached : List Node) (are : AreReached words A nodes reached) where
+module _ (task : Task) (nodes reached : List Node) (are : AreReached task nodes reached) where
   pub of_family : (n : Node) → Contains reached n → Contains nodes n
   of_family n h = ((are.exact n).0 h).0
 
-  pub reached_by : (n : Node) → Contains reached n → IsReached words A nodes n.key
+  pub reached_by : (n : Node) → Contains reached n → IsReached task nodes n.key
   reached_by n h = ((are.exact n).0 h).1
 
   -- an edge of the reached nodes is one of the family
-  edge_up : (n : Node) (e : Edge) → IsEdge words A reached n e → IsEdge words A nodes n e
+  edge_up : (n : Node) (e : Edge) → IsEdge task reached n e → IsEdge task nodes n e
   edge_up n _ (moving to clean member) = moving to clean member
   edge_up n _ (entering way inst back enters) = entering way inst back enters
   edge_up n _ (returning way inst back leaver x state enters present at clean exit is) =
       returning way inst back leaver x state enters (of_family leaver present) at clean exit is
 
   -- a covered node with a reached key is covered by a reached one
-  covered_down : (n : Node) → IsCovered nodes n → IsReached words A nodes n.key → IsCovered reached n
+  covered_down : (n : Node) → IsCovered nodes n → IsReached task nodes n.key → IsCovered reached n
   covered_down n c r = record { state = c.state; present = (are.exact (record { key = n.key; state = c.state })).1 (c.present, r); above = c.above }
 
-  pub meets_reached : (c : Claim) → MeetsConditions words A c nodes → MeetsConditions words A c reached
+  pub meets_reached : (c : Claim) → MeetsConditions task c nodes → MeetsConditions task c reached
   meets_reached c meets =
       record {
         device = meets.device;
-        reset = covered_down (reset_node A) meets.reset at_reset;
+        reset = covered_down (reset_node task.assumptions) meets.reset at_reset;
         faultless = λ n h. meets.faultless n (of_family n h);
         edges = λ n e h is.
             let up = edge_up n e is in
@@ -52,7 +51,7 @@ module _ (words : Program) (A : List Entry) (nodes reached : List Node) (are : A
       }
 
 -- if edges land, each entered instance has its first node
-pub peopled : (words : Program) (A : List Entry) (nodes : List Node) → AllLand words A nodes → IsPeopled words A nodes
-peopled words A nodes lands n way into back has enters =
+pub peopled : (task : Task) (nodes : List Node) → AllLand task nodes → IsPeopled task nodes
+peopled task nodes lands n way into back has enters =
     let l = lands n (record { kind = way; to = entry_key into; state = entered n.state }) has (entering way into back enters) in
     (record { key = entry_key into; state = l.state }, (l.present, refl))

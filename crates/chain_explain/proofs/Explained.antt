@@ -1,7 +1,5 @@
 -- The computed parts are the explanation.
 use Rattle.std.proofs.Common.{◌≡◌, subst, ℕ, ◌≤◌, List}
-use Rattle.avr_model.specs.declared.assumption.Entry.{Entry}
-use Rattle.avr_model.specs.Devices.{Program}
 use Rattle.mask_states.specs.Keys.{root_inst, entry_key}
 use Rattle.local_rules.specs.declared.local.Node.{Node}
 use Rattle.local_laws.specs.Laws.{HasKey}
@@ -23,44 +21,45 @@ use Rattle.chain_explain.proofs.Chains as chains
 use Rattle.chain_explain.proofs.Conditions.{meets_reached}
 use Rattle.chain_explain.proofs.Stepped.{reset_has}
 use Rattle.chain_explain.proofs.Rounds.{least_is_bound}
+use Rattle.local_rules.specs.Site.{Task}
 
-module _ (words : Program) (A : List Entry) (c : Claim) (nodes : List Node) (filled : IsFilled words A c.nodes nodes) (reached : List Node) (are : AreReached words A nodes reached)
-    (need : ℕ) (links : List Link) (deepest : IsDeepest words A reached need links) (root : BeginsAtRoot words A reached) (given : List Link) (same : given ≡ links)
-    (parts : List Part) (are_parts : AreParts words A nodes reached given parts) where
+module _ (task : Task) (c : Claim) (nodes : List Node) (filled : IsFilled task c.nodes nodes) (reached : List Node) (are : AreReached task nodes reached)
+    (need : ℕ) (links : List Link) (deepest : IsDeepest task reached need links) (root : BeginsAtRoot task reached) (given : List Link) (same : given ≡ links)
+    (parts : List Part) (are_parts : AreParts task nodes reached given parts) where
   abbrev pub told : Explanation
   told = record { least = need; parts = parts }
 
-  abbrev pub explains : Explains words A nodes told
+  abbrev pub explains : Explains task nodes told
   explains =
       record {
         reached = reached;
         are_reached = are;
         links = links;
         deepest = deepest;
-        parts = subst (λ (ls : List Link). AreParts words A nodes reached ls parts) same are_parts;
+        parts = subst (λ (ls : List Link). AreParts task nodes reached ls parts) same are_parts;
       }
 
-  pub exact : IsExplanation words A c told
+  pub exact : IsExplanation task c told
   exact = record { nodes = nodes; filled = filled; explains = explains }
 
   pub sums : sum_of parts ≡ need
-  sums = chains.sums words A nodes told explains
+  sums = chains.sums task nodes told explains
 
-  pub nests : Nest words A c parts
-  nests = chains.nests words A nodes told explains c filled root
+  pub nests : Nest task c parts
+  nests = chains.nests task nodes told explains c filled root
 
-  pub least : FilledOrMissing → RoundsAreReached → HasKey nodes (entry_key root_inst) → need ≤ c.bound → IsOfRounds words A c → need ≡ c.bound
-  least one law reset under of = least_is_bound one law words A c nodes told filled reset explains root under of
+  pub least : FilledOrMissing → RoundsAreReached → HasKey nodes (entry_key root_inst) → need ≤ c.bound → IsOfRounds task c → need ≡ c.bound
+  least one law reset under of = least_is_bound one law task c nodes told filled reset explains root under of
 
 pub tells : FilledOrMissing → RoundsAreReached → DeepestChainsAreBounded → ExplanationsTell
-tells filled rounds chains_bounded words A c x sound is =
-    let meets = subst (MeetsConditions words A c) (filled.one words A c.nodes sound.nodes is.nodes sound.expanded is.filled) sound.meets in
-    let over = meets_reached words A is.nodes is.explains.reached is.explains.are_reached c meets in
-    let root : BeginsAtRoot words A is.explains.reached = chains_bounded.root words A c is.explains.reached over in
-    let under : x.least ≤ c.bound = chains_bounded.need words A c is.explains.reached x.least is.explains.links over is.explains.deepest in
+tells filled rounds chains_bounded task c x sound is =
+    let meets = subst (MeetsConditions task c) (filled.one task c.nodes sound.nodes is.nodes sound.expanded is.filled) sound.meets in
+    let over = meets_reached task is.nodes is.explains.reached is.explains.are_reached c meets in
+    let root : BeginsAtRoot task is.explains.reached = chains_bounded.root task c is.explains.reached over in
+    let under : x.least ≤ c.bound = chains_bounded.need task c is.explains.reached x.least is.explains.links over is.explains.deepest in
     record {
-      sums = chains.sums words A is.nodes x is.explains;
+      sums = chains.sums task is.nodes x is.explains;
       bounded = under;
-      least = λ of. least_is_bound filled rounds words A c is.nodes x is.filled (reset_has A is.nodes meets.reset) is.explains root under of;
-      nests = chains.nests words A is.nodes x is.explains c is.filled root;
+      least = λ of. least_is_bound filled rounds task c is.nodes x is.filled (reset_has task.assumptions is.nodes meets.reset) is.explains root under of;
+      nests = chains.nests task is.nodes x is.explains c is.filled root;
     }

@@ -9,8 +9,7 @@ use Rattle.std.proofs.lemmas.Option.{none-some, same_Some, slice_get_within}
 use Rattle.basics.specs.Items.{place_of_contained, contained_at, none_in, first_in, further_in, first_or_further}
 use Rattle.basics.specs.Lists.{one_at}
 use Rattle.avr_model.specs.declared.device.Device.{Device}
-use Rattle.avr_model.specs.declared.assumption.Entry.{Entry}
-use Rattle.avr_model.specs.Devices.{Program, device_of}
+use Rattle.avr_model.specs.Devices.{device_of}
 use Rattle.mask_states.specs.declared.keys.NodeKey.{NodeKey}
 use Rattle.mask_states.specs.Keys.{root_inst, entry_key}
 use Rattle.mask_states.specs.Order.{node_cmp}
@@ -24,6 +23,7 @@ use Rattle.shortest_walk.specs.Graph.{AreMarks}
 use Rattle.chain_explain.specs.Reached.{IsReached, AreReached}
 use Rattle.chain_explain.specs.Moves.{kept_by, leads_by}
 use Rattle.chain_explain.proofs.Edges.{reached_down, reached_up}
+use Rattle.local_rules.specs.Site.{Task}
 
 -- the node has a marked number
 pub record IsNumberMarked (marks : List Bool) (nodes : List Node) (n : Node) : Type 0 where
@@ -121,20 +121,20 @@ kept_whole marks xs kept i le so_far = sym (so_far ∙ (ap (λ ys. kept ++ ys) (
 
 -- ---- what is kept
 
-module _ (words : Program) (A : List Entry) (nodes : List Node) (shown : AreShown (device_of words) nodes) (all : List (List Landing)) (landed : AreLandings words A nodes all) (root : ℕ)
+module _ (task : Task) (nodes : List Node) (shown : AreShown (device_of task.flash) nodes) (all : List (List Landing)) (landed : AreLandings task nodes all) (root : ℕ)
     (reset : Node) (at : slice_get nodes root ≡ Some reset) (is : reset.key ≡ entry_key root_inst) (marks : List Bool) (marked : AreMarks (leads_by all) (root ∷ []) marks) where
-  kept_reached : (n : Node) → Contains (kept_by marks nodes) n → Contains nodes n × IsReached words A nodes n.key
+  kept_reached : (n : Node) → Contains (kept_by marks nodes) n → Contains nodes n × IsReached task nodes n.key
   kept_reached n h =
       let m = kept_marked marks nodes n h in
-      let r = reached_down words A nodes shown all landed root reset at is m.number ((marked.exact m.number).0 m.mark) in
-      (contained_at nodes m.number n m.at, subst (λ (x : Node). IsReached words A nodes x.key) (one_at nodes m.number r.0 n r.1.0 m.at) r.1.1)
+      let r = reached_down task nodes shown all landed root reset at is m.number ((marked.exact m.number).0 m.mark) in
+      (contained_at nodes m.number n m.at, subst (λ (x : Node). IsReached task nodes x.key) (one_at nodes m.number r.0 n r.1.0 m.at) r.1.1)
 
-  reached_kept : (n : Node) → Contains nodes n × IsReached words A nodes n.key → Contains (kept_by marks nodes) n
+  reached_kept : (n : Node) → Contains nodes n × IsReached task nodes n.key → Contains (kept_by marks nodes) n
   reached_kept n h =
       let p = place_of_contained nodes n h.0 in
-      kept_at marks nodes p.0 n p.1 ((marked.exact p.0).1 (reached_up words A nodes shown all landed root reset at is n.key h.1 p.0 n p.1 refl))
+      kept_at marks nodes p.0 n p.1 ((marked.exact p.0).1 (reached_up task nodes shown all landed root reset at is n.key h.1 p.0 n p.1 refl))
 
-  pub are_reached : AreReached words A nodes (kept_by marks nodes)
+  pub are_reached : AreReached task nodes (kept_by marks nodes)
   are_reached =
       record {
         ascending = kept_ascend marks nodes shown.ascending;
@@ -142,9 +142,9 @@ module _ (words : Program) (A : List Entry) (nodes : List Node) (shown : AreShow
       }
 
 -- for given marks and nodes
-pub reached_given : (words : Program) (A : List Entry) (nodes : List Node) (marks given : List Bool) (kept : List Node) → AreReached words A nodes (kept_by marks nodes) → given ≡ marks
-    → kept ≡ kept_by given nodes → AreReached words A nodes kept
-reached_given words A nodes marks given kept are same e = subst (AreReached words A nodes) (sym (e ∙ ap (λ (ms : List Bool). kept_by ms nodes) same)) are
+pub reached_given : (task : Task) (nodes : List Node) (marks given : List Bool) (kept : List Node) → AreReached task nodes (kept_by marks nodes) → given ≡ marks
+    → kept ≡ kept_by given nodes → AreReached task nodes kept
+reached_given task nodes marks given kept are same e = subst (AreReached task nodes) (sym (e ∙ ap (λ (ms : List Bool). kept_by ms nodes) same)) are
 
 -- ---- the ways of what is kept
 
@@ -167,10 +167,10 @@ kept_each P (true ∷ marks) (x ∷ nodes) (ys ∷ yss) count h zero n e = h 0 n
 kept_each P (true ∷ marks) (x ∷ nodes) (ys ∷ yss) count h (suc at) n e = kept_each P marks nodes yss (omega (arith, count)) (λ i m f. h (suc i) m f) at n e
 kept_each P (false ∷ marks) (x ∷ nodes) (ys ∷ yss) count h at n e = kept_each P marks nodes yss (omega (arith, count)) (λ i m f. h (suc i) m f) at n e
 
-pub ways_kept : (words : Program) (A : List Entry) (marks : List Bool) (nodes : List Node) (ways : List (List Entering)) → AreWays words A nodes ways
-    → AreWays words A (kept_by marks nodes) (kept_by marks ways)
-ways_kept words A marks nodes ways are =
+pub ways_kept : (task : Task) (marks : List Bool) (nodes : List Node) (ways : List (List Entering)) → AreWays task nodes ways
+    → AreWays task (kept_by marks nodes) (kept_by marks ways)
+ways_kept task marks nodes ways are =
     record {
       count_is = same_count marks nodes ways are.count_is;
-      each = λ at n lt e. kept_each (AreWaysOf words A) marks nodes ways are.count_is (λ i m f. are.each i m (slice_get_within nodes i m f) f) at n e;
+      each = λ at n lt e. kept_each (AreWaysOf task) marks nodes ways are.count_is (λ i m f. are.each i m (slice_get_within nodes i m f) f) at n e;
     }

@@ -6,8 +6,6 @@ use Rattle.std.specs.declared.cmp.Ordering.TheVariants.{Less}
 use Rattle.basics.specs.Lists.{one_at}
 use Rattle.basics.specs.Items.{none_in, first_in, further_in, first_or_further}
 use Rattle.edge_rules.specs.Places.{all_of}
-use Rattle.avr_model.specs.declared.assumption.Entry.{Entry}
-use Rattle.avr_model.specs.Devices.{Program}
 use Rattle.mask_states.specs.declared.keys.InstKey.{InstKey}
 use Rattle.mask_states.specs.declared.keys.NodeKey.{NodeKey}
 use Rattle.mask_states.specs.Keys.{offset_of}
@@ -29,6 +27,7 @@ use Rattle.chain_explain.specs.Walks.{IsWay, pc_at}
 use Rattle.chain_explain.specs.Explanation.{IsPart, AreParts, Explains, adds_by}
 use Rattle.chain_explain.specs.Laws.{ExplanationsAreOne}
 use Rattle.chain_explain.proofs.Numbers.{same_number}
+use Rattle.local_rules.specs.Site.{Task}
 
 -- ---- walks go by where nodes lead, and by which starts there are
 
@@ -95,26 +94,26 @@ same_nodes (x ∷ xs) (y ∷ ys) s t up down =
 
 -- ---- explanations
 
-module _ (words : Program) (A : List Entry) (nodes : List Node) (ascend : IsStrictlySortedBy node_cmp (map key_of nodes)) where
-  same_way : (inst : InstKey) (target : ℕ) (walk walk' : List ℕ) → IsWay words A nodes inst target walk → IsWay words A nodes inst target walk' → walk ≡ walk'
+module _ (task : Task) (nodes : List Node) (ascend : IsStrictlySortedBy node_cmp (map key_of nodes)) where
+  same_way : (inst : InstKey) (target : ℕ) (walk walk' : List ℕ) → IsWay task nodes inst target walk → IsWay task nodes inst target walk' → walk ≡ walk'
   same_way inst target walk walk' a b =
       let f = first_too b.graph a.graph (λ i j. (λ h. (a.moves i j).1 ((b.moves i j).0 h), λ h. (b.moves i j).1 ((a.moves i j).0 h))) b.starts a.starts
       (λ i. (λ h. (a.begin i).1 ((b.begin i).0 h), λ h. (b.begin i).1 ((a.begin i).0 h))) target b.numbers b.first in
       a.along ∙ (ap (map (pc_at nodes)) (first_is_one a.graph a.starts target a.numbers b.numbers a.first f) ∙ sym b.along)
 
-  same_part : (reached : List Node) (link : Link) (p q : Part) → IsPart words A nodes reached link p → IsPart words A nodes reached link q → p ≡ q
+  same_part : (reached : List Node) (link : Link) (p q : Part) → IsPart task nodes reached link p → IsPart task nodes reached link q → p ≡ q
   same_part reached link p q a b =
       let node : a.node ≡ b.node = one_at reached link.node a.node b.node a.at b.at in
       let target : a.target ≡ b.target = same_number nodes ascend a.target b.target a.node b.node a.is b.is (ap key_of node) in
-      let other : IsWay words A nodes a.node.key.inst a.target q.walk =
-      subst (λ (t : ℕ). IsWay words A nodes a.node.key.inst t q.walk) (sym target) (subst (λ (n : Node). IsWay words A nodes n.key.inst b.target q.walk) (sym node) b.way) in
+      let other : IsWay task nodes a.node.key.inst a.target q.walk =
+      subst (λ (t : ℕ). IsWay task nodes a.node.key.inst t q.walk) (sym target) (subst (λ (n : Node). IsWay task nodes n.key.inst b.target q.walk) (sym node) b.way) in
       let inst : p.inst ≡ q.inst = a.inst ∙ (ap (λ (n : Node). n.key.inst) node ∙ sym b.inst) in
       let pc : p.pc ≡ q.pc = a.pc ∙ (ap (λ (n : Node). n.key.pc) node ∙ sym b.pc) in
       let adds : p.adds ≡ q.adds = a.adds ∙ (ap (λ (n : Node). adds_by (offset_of n.key.sp) link.kind) node ∙ sym b.adds) in
       let walk : p.walk ≡ q.walk = same_way a.node.key.inst a.target p.walk q.walk a.way other in
       λ k. record { inst = inst k; pc = pc k; adds = adds k; walk = walk k }
 
-  same_parts : (reached : List Node) (links : List Link) (ps qs : List Part) → AreParts words A nodes reached links ps → AreParts words A nodes reached links qs → ps ≡ qs
+  same_parts : (reached : List Node) (links : List Link) (ps qs : List Part) → AreParts task nodes reached links ps → AreParts task nodes reached links qs → ps ≡ qs
   same_parts reached [] [] [] a b = refl
   same_parts reached [] [] (q ∷ qs) a b = absurd b
   same_parts reached [] (p ∷ ps) qs a b = absurd a
@@ -125,21 +124,21 @@ module _ (words : Program) (A : List Entry) (nodes : List Node) (ascend : IsStri
       let tail = same_parts reached links ps qs a.1 b.1 in
       λ k. head k ∷ tail k
 
-  pub same_explanation : DeepestChainsAreOne → (x y : Explanation) → Explains words A nodes x → Explains words A nodes y → x ≡ y
+  pub same_explanation : DeepestChainsAreOne → (x y : Explanation) → Explains task nodes x → Explains task nodes y → x ≡ y
   same_explanation deepest x y a b =
       let reached : a.reached ≡ b.reached =
       same_nodes a.reached b.reached a.are_reached.ascending b.are_reached.ascending (λ n h. (b.are_reached.exact n).1 ((a.are_reached.exact n).0 h))
       (λ n h. (a.are_reached.exact n).1 ((b.are_reached.exact n).0 h)) in
-      let d = subst (λ (ns : List Node). IsDeepest words A ns y.least b.links) (sym reached) b.deepest in
-      let least : x.least ≡ y.least = deepest.need words A a.reached x.least y.least a.links b.links a.deepest d in
-      let links : a.links ≡ b.links = deepest.links words A a.reached x.least y.least a.links b.links a.deepest d in
-      let others : AreParts words A nodes a.reached a.links y.parts =
-      subst (λ (ls : List Link). AreParts words A nodes a.reached ls y.parts) (sym links) (subst (λ (ns : List Node). AreParts words A nodes ns b.links y.parts) (sym reached) b.parts) in
+      let d = subst (λ (ns : List Node). IsDeepest task ns y.least b.links) (sym reached) b.deepest in
+      let least : x.least ≡ y.least = deepest.need task a.reached x.least y.least a.links b.links a.deepest d in
+      let links : a.links ≡ b.links = deepest.links task a.reached x.least y.least a.links b.links a.deepest d in
+      let others : AreParts task nodes a.reached a.links y.parts =
+      subst (λ (ls : List Link). AreParts task nodes a.reached ls y.parts) (sym links) (subst (λ (ns : List Node). AreParts task nodes ns b.links y.parts) (sym reached) b.parts) in
       let parts : x.parts ≡ y.parts = same_parts a.reached a.links x.parts y.parts a.parts others in
       λ k. record { least = least k; parts = parts k }
 
 pub explanations_are_one : FilledOrMissing → DeepestChainsAreOne → ExplanationsAreOne
-explanations_are_one filled deepest words A c x y claim a b =
-    let nodes : b.nodes ≡ a.nodes = filled.one words A c.nodes b.nodes a.nodes b.filled a.filled in
-    let ascend = (filled_lists_are_shown.shown words A c.nodes a.nodes a.filled claim.nodes_ascend).ascending in
-    same_explanation words A a.nodes ascend deepest x y a.explains (subst (λ (ns : List Node). Explains words A ns y) nodes b.explains)
+explanations_are_one filled deepest task c x y claim a b =
+    let nodes : b.nodes ≡ a.nodes = filled.one task c.nodes b.nodes a.nodes b.filled a.filled in
+    let ascend = (filled_lists_are_shown.shown task c.nodes a.nodes a.filled claim.nodes_ascend).ascending in
+    same_explanation task a.nodes ascend deepest x y a.explains (subst (λ (ns : List Node). Explains task ns y) nodes b.explains)

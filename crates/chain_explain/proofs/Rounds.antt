@@ -6,8 +6,6 @@ use Rattle.std.proofs.lemmas.List.{length-map}
 use Rattle.std.specs.declared.cmp.Ordering.TheVariants.{Less}
 use Rattle.std.proofs.lemmas.Option.{none-some, same_Some}
 use Rattle.basics.specs.Items.{place_of_contained, none_in, first_in, further_in, first_or_further}
-use Rattle.avr_model.specs.declared.assumption.Entry.{Entry}
-use Rattle.avr_model.specs.Devices.{Program}
 use Rattle.abs_state.specs.Frames.{entered}
 use Rattle.mask_states.specs.declared.keys.InstKey.{InstKey}
 use Rattle.mask_states.specs.declared.keys.NodeKey.{NodeKey}
@@ -39,6 +37,7 @@ use Rattle.chain_explain.specs.declared.explanation.Explanation.{Explanation}
 use Rattle.chain_explain.specs.Reached.{IsReached, AreReached, at_reset, by_edge}
 use Rattle.chain_explain.specs.Explanation.{Explains}
 use Rattle.chain_explain.specs.Told.{IsOfRounds}
+use Rattle.local_rules.specs.Site.{Task}
 
 -- ---- whether a node of the list has the key
 
@@ -95,33 +94,33 @@ valued_at (k ∷ ks) (x ∷ xs) (suc i) inst s same e = by (valued_at ks xs i in
     by rest true is = absurd (not_itself k inst (all_at (λ y. inst_cmp k y ≡ Less) ks i inst s.0 e) ((keys_are_ordered.same_insts k inst).0 is))
     by rest false is = rest
 
-module _ (words : Program) (A : List Entry) (f : Family) (n : ℕ) (solved : IsSolved words A n f) (law : RoundsAreReached) (reached : List Node)
-    (are : AreReached words A (nodes_of f) reached) (reset : HasKey (nodes_of f) (entry_key root_inst)) where
+module _ (task : Task) (f : Family) (n : ℕ) (solved : IsSolved task n f) (law : RoundsAreReached) (reached : List Node)
+    (are : AreReached task (nodes_of f) reached) (reset : HasKey (nodes_of f) (entry_key root_inst)) where
   -- the target of an edge of the family is in it
-  lands_at : (m : Node) (e : Edge) → FamilyHas f m → IsEdge words A (nodes_of f) m e → HasKey (nodes_of f) e.to
+  lands_at : (m : Node) (e : Edge) → FamilyHas f m → IsEdge task (nodes_of f) m e → HasKey (nodes_of f) e.to
   lands_at m e has is =
       let l = solved.closed m e has is in
       let to : Node = record { key = e.to; state = l.at } in
       (to, (member_has f to l.is, refl))
 
-  into_reached : (k : NodeKey) → HasKey (nodes_of f) k → IsReached words A (nodes_of f) k → HasKey reached k
-  into_reached k h r = (h.0, ((are.exact h.0).1 (h.1.0, subst (IsReached words A (nodes_of f)) (sym h.1.1) r), h.1.1))
+  into_reached : (k : NodeKey) → HasKey (nodes_of f) k → IsReached task (nodes_of f) k → HasKey reached k
+  into_reached k h r = (h.0, ((are.exact h.0).1 (h.1.0, subst (IsReached task (nodes_of f)) (sym h.1.1) r), h.1.1))
 
-  kept : IsKept words A f (is_held reached)
+  kept : IsKept task f (is_held reached)
   kept m e has held is =
       let h = held_has reached m.key held in
-      let r : IsReached words A (nodes_of f) m.key = subst (IsReached words A (nodes_of f)) h.1.1 ((are.exact h.0).0 h.1.0).1 in
+      let r : IsReached task (nodes_of f) m.key = subst (IsReached task (nodes_of f)) h.1.1 ((are.exact h.0).0 h.1.0).1 in
       has_held reached e.to (into_reached e.to (lands_at m e has is) (by_edge m e (member_has f m has) r is))
 
   -- each node of the family is reached
   all_reached : (m : Node) → FamilyHas f m → Contains reached m
   all_reached m has =
-      let held = law words A n f (is_held reached) solved.comes solved.passes.faultless (has_held reached (entry_key root_inst) (into_reached (entry_key root_inst) reset at_reset)) kept m has in
+      let held = law task n f (is_held reached) solved.comes solved.passes.faultless (has_held reached (entry_key root_inst) (into_reached (entry_key root_inst) reset at_reset)) kept m has in
       let h = held_has reached m.key held in
-      let r : IsReached words A (nodes_of f) m.key = subst (IsReached words A (nodes_of f)) h.1.1 ((are.exact h.0).0 h.1.0).1 in
+      let r : IsReached task (nodes_of f) m.key = subst (IsReached task (nodes_of f)) h.1.1 ((are.exact h.0).0 h.1.0).1 in
       (are.exact m).1 (member_has f m has, r)
 
-  module _ (gs : List GraphInst) (ranks needs : List ℕ) (family : IsGraphOf words A reached gs) (least : IsLeast gs ranks needs) where
+  module _ (gs : List GraphInst) (ranks needs : List ℕ) (family : IsGraphOf task reached gs) (least : IsLeast gs ranks needs) where
     abbrev need : InstKey → ℕ
     need inst = valued (insts_of gs) needs inst
 
@@ -131,11 +130,11 @@ module _ (words : Program) (A : List Entry) (f : Family) (n : ℕ) (solved : IsS
     number : (m : Node) → FamilyHas f m → (i : ℕ) × (slice_get (insts_of gs) i ≡ Some m.key.inst)
     number m has = place_of_contained (insts_of gs) m.key.inst ((family.insts m.key.inst).1 (m, all_reached m has, refl))
 
-    closed_by : (m : Node) (way : EdgeKind) (inst : InstKey) (back : ℕ) → Enters words A m way inst back → (offset : ℕ) × (m.key.sp ≡ Closed offset)
+    closed_by : (m : Node) (way : EdgeKind) (inst : InstKey) (back : ℕ) → Enters task m way inst back → (offset : ℕ) × (m.key.sp ≡ Closed offset)
     closed_by m _ _ _ (by_call offset site clean closed has) = (offset, closed)
     closed_by m _ _ _ (by_interrupt offset v clears clean closed i d enabled allowed may) = (offset, closed)
 
-    suffice : AreNeeds words A f need
+    suffice : AreNeeds task f need
     suffice =
         record {
           offsets = λ m offset has closed.
@@ -169,19 +168,19 @@ module _ (words : Program) (A : List Entry) (f : Family) (n : ℕ) (solved : IsS
         }
 
 -- the explanation's number is the bound if the rounds end with the certificate
-pub least_is_bound : FilledOrMissing → RoundsAreReached → (words : Program) (A : List Entry) (c : Claim) (nodes : List Node) (x : Explanation) → IsFilled words A c.nodes nodes
-    → HasKey nodes (entry_key root_inst) → (e : Explains words A nodes x) → BeginsAtRoot words A e.reached → x.least ≤ c.bound → IsOfRounds words A c → x.least ≡ c.bound
-least_is_bound filled law words A c nodes x is reset e root under of =
+pub least_is_bound : FilledOrMissing → RoundsAreReached → (task : Task) (c : Claim) (nodes : List Node) (x : Explanation) → IsFilled task c.nodes nodes
+    → HasKey nodes (entry_key root_inst) → (e : Explains task nodes x) → BeginsAtRoot task e.reached → x.least ≤ c.bound → IsOfRounds task c → x.least ≡ c.bound
+least_is_bound filled law task c nodes x is reset e root under of =
     let answer = of.answer in
     let same : nodes ≡ nodes_of answer.family =
-    filled.one words A c.nodes nodes (nodes_of answer.family) is (subst (λ ns. IsFilled words A ns (nodes_of answer.family)) (sym of.nodes) answer.solution.expands) in
-    let are = subst (λ (ns : List Node). AreReached words A ns e.reached) same e.are_reached in
+    filled.one task c.nodes nodes (nodes_of answer.family) is (subst (λ ns. IsFilled task ns (nodes_of answer.family)) (sym of.nodes) answer.solution.expands) in
+    let are = subst (λ (ns : List Node). AreReached task ns e.reached) same e.are_reached in
     let first = subst (λ (ns : List Node). HasKey ns (entry_key root_inst)) same reset in
     let d = e.deepest in
-    let suffices = suffice words A answer.family answer.number answer.solved law e.reached are first d.graph d.ranks d.needs d.family d.least in
+    let suffices = suffice task answer.family answer.number answer.solved law e.reached are first d.graph d.ranks d.needs d.family d.least in
     let low = answer.solution.least_needs (valued (insts_of d.graph) d.needs) suffices root_inst in
     let at : valued (insts_of d.graph) d.needs root_inst ≡ slice_index d.needs 0 =
-    need_at words A answer.family answer.number answer.solved law e.reached are first d.graph d.ranks d.needs d.family d.least 0 root_inst (root d.graph d.family) in
+    need_at task answer.family answer.number answer.solved law e.reached are first d.graph d.ranks d.needs d.family d.least 0 root_inst (root d.graph d.family) in
     let r = d.root in
     let b = of.bound ∙ answer.solution.bound in
     omega (arith, low, at, r, b, under)

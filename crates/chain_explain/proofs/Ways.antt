@@ -2,8 +2,7 @@
 use Rattle.std.proofs.Common.{◌≡◌, refl, sym, ap, ◌∙◌, subst, ℕ, ◌+◌, ◌-◌, ◌<◌, ◌≤◌, true, List, [], ◌∷◌, map, Some, slice_get, Contains, arith}
 use Rattle.basics.specs.Items.{place_of_contained, only_one_in, first_in}
 use Rattle.edge_rules.specs.Places.{FoundAt, found_at}
-use Rattle.avr_model.specs.declared.assumption.Entry.{Entry}
-use Rattle.avr_model.specs.Devices.{Program, device_of}
+use Rattle.avr_model.specs.Devices.{device_of}
 use Rattle.abs_state.specs.Frames.{entered}
 use Rattle.mask_states.specs.declared.keys.InstKey.{InstKey}
 use Rattle.mask_states.specs.declared.keys.NodeKey.{NodeKey}
@@ -25,50 +24,51 @@ use Rattle.chain_explain.proofs.Numbers.{same_number}
 use Rattle.chain_explain.proofs.Edges.{stays}
 use Rattle.chain_explain.proofs.Shifted.{lifted, IsApart, first_up, reached_below, ReachedBelow}
 use Rattle.chain_explain.proofs.Shifted as shifted
+use Rattle.local_rules.specs.Site.{Task}
 
-module _ (words : Program) (A : List Entry) (nodes : List Node) (shown : AreShown (device_of words) nodes) where
+module _ (task : Task) (nodes : List Node) (shown : AreShown (device_of task.flash) nodes) where
   -- ---- where walks begin
 
   -- a walk of a reached node's instance begins at the first node of the instance
-  pub begins_of : (k : NodeKey) → IsReached words A nodes k → Begins words A nodes k.inst (entry_key k.inst)
+  pub begins_of : (k : NodeKey) → IsReached task nodes k → Begins task nodes k.inst (entry_key k.inst)
   begins_of _ at_reset = walks.at_reset
   begins_of _ (by_edge n edge has r is_edge) = onward (begins_of n.key r) edge is_edge
     where
-      same : Begins words A nodes n.key.inst (entry_key n.key.inst) → (inst : InstKey) → inst ≡ n.key.inst → Begins words A nodes inst (entry_key inst)
-      same before inst e = subst (λ (x : InstKey). Begins words A nodes x (entry_key x)) (sym e) before
+      same : Begins task nodes n.key.inst (entry_key n.key.inst) → (inst : InstKey) → inst ≡ n.key.inst → Begins task nodes inst (entry_key inst)
+      same before inst e = subst (λ (x : InstKey). Begins task nodes x (entry_key x)) (sym e) before
 
-      onward : Begins words A nodes n.key.inst (entry_key n.key.inst) → (e : Edge) → IsEdge words A nodes n e → Begins words A nodes e.to.inst (entry_key e.to.inst)
+      onward : Begins task nodes n.key.inst (entry_key n.key.inst) → (e : Edge) → IsEdge task nodes n e → Begins task nodes e.to.inst (entry_key e.to.inst)
       onward before _ (moving to clean member) =
-          same before to.key.inst (stays words A nodes shown n (record { kind = kind.Local; to = to.key; state = to.state }) has (moving to clean member) refl)
+          same before to.key.inst (stays task nodes shown n (record { kind = kind.Local; to = to.key; state = to.state }) has (moving to clean member) refl)
       onward before _ (entering way inst back enters) = walks.by_entry n way inst back has enters
       onward before _ (returning way inst back leaver x state enters present at clean exit is) = before
 
-  only_entry : (inst : InstKey) (k : NodeKey) → Begins words A nodes inst k → k ≡ entry_key inst
+  only_entry : (inst : InstKey) (k : NodeKey) → Begins task nodes inst k → k ≡ entry_key inst
   only_entry _ _ walks.at_reset = refl
   only_entry _ _ (walks.by_entry n way inst back has enters) = refl
 
-  module _ (moves : List (List ℕ)) (are : AreMoves words A nodes moves) where
-    entry_there : (inst : InstKey) (k : NodeKey) → Begins words A nodes inst k → HasKey nodes k
+  module _ (moves : List (List ℕ)) (are : AreMoves task nodes moves) where
+    entry_there : (inst : InstKey) (k : NodeKey) → Begins task nodes inst k → HasKey nodes k
     entry_there _ _ walks.at_reset = (record { key = entry_key root_inst; state = are.reset.state }, (are.reset.present, refl))
     entry_there _ _ (walks.by_entry n way inst back has enters) =
         let l = are.lands n (record { kind = way; to = entry_key inst; state = entered n.state }) has (entering way inst back enters) in
         (record { key = entry_key inst; state = l.state }, (l.present, refl))
 
-    pub start_has : (k : NodeKey) → IsReached words A nodes k → HasKey nodes (entry_key k.inst)
+    pub start_has : (k : NodeKey) → IsReached task nodes k → HasKey nodes (entry_key k.inst)
     start_has k reached = entry_there k.inst (entry_key k.inst) (begins_of k reached)
 
     -- ---- how the node of the key is reached within its instance
 
-    pub moves_reach : (k : NodeKey) → IsReached words A nodes k → (i start : ℕ) (n first : Node) → slice_get nodes i ≡ Some n → n.key ≡ k → slice_get nodes start ≡ Some first
+    pub moves_reach : (k : NodeKey) → IsReached task nodes k → (i start : ℕ) (n first : Node) → slice_get nodes i ≡ Some n → n.key ≡ k → slice_get nodes start ≡ Some first
         → first.key ≡ entry_key k.inst → walk.IsNumberReached moves (start ∷ []) i
     moves_reach _ at_reset i start n first e same f is = walk.at_start i (subst (Contains (start ∷ [])) (same_number nodes shown.ascending start i first n f e (is ∙ sym same)) (first_in start []))
     moves_reach _ (by_edge m edge has r is_edge) i start n first e same f is =
         onward (λ p at begins. moves_reach m.key r p start m first at refl f begins) edge is_edge same is
       where
-        move : ((p : ℕ) → slice_get nodes p ≡ Some m → first.key ≡ entry_key m.key.inst → walk.IsNumberReached moves (start ∷ []) p) → (d : Edge) → IsEdge words A nodes m d → is_move d.kind ≡ true → n.key ≡ d.to → first.key ≡ entry_key d.to.inst → walk.IsNumberReached moves (start ∷ []) i
+        move : ((p : ℕ) → slice_get nodes p ≡ Some m → first.key ≡ entry_key m.key.inst → walk.IsNumberReached moves (start ∷ []) p) → (d : Edge) → IsEdge task nodes m d → is_move d.kind ≡ true → n.key ≡ d.to → first.key ≡ entry_key d.to.inst → walk.IsNumberReached moves (start ∷ []) i
         move before d is_d moves_d to begins =
             let p = place_of_contained nodes m has in
-            let stay = stays words A nodes shown m d has is_d moves_d in
+            let stay = stays task nodes shown m d has is_d moves_d in
             walk.by_edge p.0 i (before p.0 p.1 (begins ∙ ap entry_key stay))
             ((are.exact p.0 i).1
             (record {
@@ -83,7 +83,7 @@ module _ (words : Program) (A : List Entry) (nodes : List Node) (shown : AreShow
               stays = ap (λ (x : NodeKey). x.inst) to ∙ stay;
             }))
 
-        onward : ((p : ℕ) → slice_get nodes p ≡ Some m → first.key ≡ entry_key m.key.inst → walk.IsNumberReached moves (start ∷ []) p) → (d : Edge) → IsEdge words A nodes m d → n.key ≡ d.to → first.key ≡ entry_key d.to.inst → walk.IsNumberReached moves (start ∷ []) i
+        onward : ((p : ℕ) → slice_get nodes p ≡ Some m → first.key ≡ entry_key m.key.inst → walk.IsNumberReached moves (start ∷ []) p) → (d : Edge) → IsEdge task nodes m d → n.key ≡ d.to → first.key ≡ entry_key d.to.inst → walk.IsNumberReached moves (start ∷ []) i
         onward before _ (moving to clean member) to_is begins =
             move before (record { kind = kind.Local; to = to.key; state = to.state }) (moving to clean member) refl to_is begins
         onward before _ (entering way inst back enters) to_is begins =
@@ -93,7 +93,7 @@ module _ (words : Program) (A : List Entry) (nodes : List Node) (shown : AreShow
 
     -- ---- the instance of the key
 
-    module _ (k : NodeKey) (reached : IsReached words A nodes k) (low high : ℕ) (span : IsSpan nodes k.inst low high) where
+    module _ (k : NodeKey) (reached : IsReached task nodes k) (low high : ℕ) (span : IsSpan nodes k.inst low high) where
       -- the nodes of the instance only move to one another
       pub apart : IsApart moves low high
       apart =
@@ -146,7 +146,7 @@ module _ (words : Program) (A : List Entry) (nodes : List Node) (shown : AreShow
               subst (walk.IsNumberReached graph ((start - low) ∷ [])) (let e = b.is_own in omega (arith, e)) b.reached
 
           pub is_way : (numbers words' : List ℕ) → IsFirstOfShortest graph ((start - low) ∷ []) (target - low) numbers → words' ≡ map (λ i. pc_at nodes (low + i)) numbers
-              → IsWay words A nodes k.inst target words'
+              → IsWay task nodes k.inst target words'
           is_way numbers words' f along =
               record {
                 graph = moves;
@@ -164,22 +164,22 @@ module _ (words : Program) (A : List Entry) (nodes : List Node) (shown : AreShow
               twice [] = refl
               twice (x ∷ xs) = ap (λ ys. pc_at nodes (low + x) ∷ ys) (twice xs)
 
-              starts_at : (i : ℕ) → Contains (start ∷ []) i → IsStart words A nodes k.inst i
+              starts_at : (i : ℕ) → Contains (start ∷ []) i → IsStart task nodes k.inst i
               starts_at i h =
                   record {
                     node = first.node;
                     at = subst (λ (x : ℕ). slice_get nodes x ≡ Some first.node) (sym (only_one_in start i h)) first.is;
-                    begins = subst (Begins words A nodes k.inst) (sym first.same) (begins_of k reached);
+                    begins = subst (Begins task nodes k.inst) (sym first.same) (begins_of k reached);
                   }
 
-              at_starts : (i : ℕ) → IsStart words A nodes k.inst i → Contains (start ∷ []) i
+              at_starts : (i : ℕ) → IsStart task nodes k.inst i → Contains (start ∷ []) i
               at_starts i s =
                   let e = same_number nodes shown.ascending start i first.node s.node first.is s.at (first.same ∙ sym (only_entry k.inst s.node.key s.begins)) in
                   subst (Contains (start ∷ [])) e (first_in start [])
 
           -- for each number of the key
           pub is_way_to : (numbers words' : List ℕ) → IsFirstOfShortest graph ((start - low) ∷ []) (target - low) numbers → words' ≡ map (λ i. pc_at nodes (low + i)) numbers
-              → (at : ℕ) (n : Node) → slice_get nodes at ≡ Some n → n.key ≡ k → IsWay words A nodes k.inst at words'
+              → (at : ℕ) (n : Node) → slice_get nodes at ≡ Some n → n.key ≡ k → IsWay task nodes k.inst at words'
           is_way_to numbers words' f along at n e same =
-              subst (λ (x : ℕ). IsWay words A nodes k.inst x words') (same_number nodes shown.ascending target at last.node n last.is e (last.same ∙ sym same))
+              subst (λ (x : ℕ). IsWay task nodes k.inst x words') (same_number nodes shown.ascending target at last.node n last.is e (last.same ∙ sym same))
               (is_way numbers words' f along)

@@ -1,7 +1,5 @@
 -- The explanation of a certificate: the deepest chain over the reached nodes, and the path to each place. Source: own.
 use Rattle.std.specs.Prelude.{ℕ, ◌+◌, ◌≡◌, ⊤, List, [], ◌∷◌, Option, Some, None, slice_get}
-use Rattle.avr_model.specs.declared.assumption.Entry.{Entry}
-use Rattle.avr_model.specs.Devices.{Program}
 use Rattle.mask_states.specs.declared.keys.EdgeKind.{EdgeKind}
 use Rattle.mask_states.specs.Keys.{offset_of}
 use Rattle.local_rules.specs.declared.local.Node.{Node}
@@ -13,6 +11,7 @@ use Rattle.chain_explain.specs.declared.explanation.Explanation.{Explanation}
 use Rattle.chain_explain.specs.declared.explanation.Part.{Part}
 use Rattle.chain_explain.specs.Reached.{AreReached}
 use Rattle.chain_explain.specs.Walks.{IsWay}
+use Rattle.local_rules.specs.Site.{Task}
 
 -- the bytes of a link: its offset, and two for the return address if the chain goes on into another instance
 abbrev pub adds_by : ℕ → Option EdgeKind → ℕ
@@ -20,7 +19,7 @@ adds_by offset None = offset
 adds_by offset (Some way) = offset + 2
 
 -- the part for a link of the chain over the reached nodes
-pub record IsPart (words : Program) (A : List Entry) (nodes reached : List Node) (link : Link) (part : Part) : Type 0 where
+pub record IsPart (task : Task) (nodes reached : List Node) (link : Link) (part : Part) : Type 0 where
   pub node : Node
   pub at : slice_get reached link.node ≡ Some node
   pub inst : part.inst ≡ node.key.inst
@@ -28,25 +27,25 @@ pub record IsPart (words : Program) (A : List Entry) (nodes reached : List Node)
   pub adds : part.adds ≡ adds_by (offset_of node.key.sp) link.kind
   pub target : ℕ
   pub is : slice_get nodes target ≡ Some node
-  pub way : IsWay words A nodes node.key.inst target part.walk
+  pub way : IsWay task nodes node.key.inst target part.walk
 
 -- one part for each link
-abbrev pub AreParts : Program → List Entry → List Node → List Node → List Link → List Part → Type 0
-AreParts words A nodes reached [] [] = ⊤
-AreParts words A nodes reached [] (part ∷ parts) = ⊥
-AreParts words A nodes reached (link ∷ links) [] = ⊥
-AreParts words A nodes reached (link ∷ links) (part ∷ parts) = IsPart words A nodes reached link part × AreParts words A nodes reached links parts
+abbrev pub AreParts : Task → List Node → List Node → List Link → List Part → Type 0
+AreParts task nodes reached [] [] = ⊤
+AreParts task nodes reached [] (part ∷ parts) = ⊥
+AreParts task nodes reached (link ∷ links) [] = ⊥
+AreParts task nodes reached (link ∷ links) (part ∷ parts) = IsPart task nodes reached link part × AreParts task nodes reached links parts
 
 -- The root's least need over the reached nodes of the family, and the chain by these needs.
-pub record Explains (words : Program) (A : List Entry) (nodes : List Node) (x : Explanation) : Type 0 where
+pub record Explains (task : Task) (nodes : List Node) (x : Explanation) : Type 0 where
   pub reached : List Node
-  pub are_reached : AreReached words A nodes reached
+  pub are_reached : AreReached task nodes reached
   pub links : List Link
-  pub deepest : IsDeepest words A reached x.least links
-  pub parts : AreParts words A nodes reached links x.parts
+  pub deepest : IsDeepest task reached x.least links
+  pub parts : AreParts task nodes reached links x.parts
 
 -- the explanation of a certificate's family
-pub record IsExplanation (words : Program) (A : List Entry) (c : Claim) (x : Explanation) : Type 0 where
+pub record IsExplanation (task : Task) (c : Claim) (x : Explanation) : Type 0 where
   pub nodes : List Node
-  pub filled : IsFilled words A c.nodes nodes
-  pub explains : Explains words A nodes x
+  pub filled : IsFilled task c.nodes nodes
+  pub explains : Explains task nodes x

@@ -1,8 +1,6 @@
 -- Definitions for the contracts of internal functions.
-use Rattle.std.specs.Prelude.{ℕ, ◌+◌, ◌-◌, ◌≡◌, ◌<◌, ◌≤◌, ◌↔◌, ⊤, Bool, if◌then◌else◌, List, [], ◌∷◌, length, map, slice_index_or}
+use Rattle.std.specs.Prelude.{ℕ, ◌+◌, ◌-◌, ◌≡◌, ◌<◌, ◌≤◌, ◌↔◌, ⊤, Bool, if◌then◌else◌, List, [], ◌∷◌, length, map, slice_index_or, Contains}
 use Rattle.std.specs.List.{flat_map}
-use Rattle.avr_model.specs.declared.assumption.Entry.{Entry}
-use Rattle.avr_model.specs.Devices.{Program}
 use Rattle.local_rules.specs.declared.local.Node.{Node}
 use Rattle.edge_rules.specs.Edges.{is_entry}
 use Rattle.call_graph.specs.declared.landing.Landing.{Landing}
@@ -11,6 +9,8 @@ use Rattle.edge_rules.specs.Families.{IsCovered}
 use Rattle.certificate.specs.Valid.{reset_node, AllLand}
 use Rattle.shortest_walk.specs.Graph.{PointsTo}
 use Rattle.chain_explain.specs.Walks.{MovesTo}
+use Rattle.local_rules.specs.Site.{Task}
+use Rattle.chain_explain.specs.Reached.{AreReached}
 
 -- ---- where edges lead, by the numbers of nodes
 
@@ -33,12 +33,12 @@ abbrev pub moves_by : List (List Landing) → List (List ℕ)
 moves_by all = map moves_of all
 
 -- The moves of a family of at most 65,536 nodes with the node at reset, all of whose edges land.
-pub record AreMoves (words : Program) (A : List Entry) (nodes : List Node) (moves : List (List ℕ)) : Type 0 where
+pub record AreMoves (task : Task) (nodes : List Node) (moves : List (List ℕ)) : Type 0 where
   pub few : length nodes ≤ 65536
   pub count : length moves ≡ length nodes
-  pub exact : (i j : ℕ) → PointsTo moves i j ↔ MovesTo words A nodes i j
-  pub lands : AllLand words A nodes
-  pub reset : IsCovered nodes (reset_node A)
+  pub exact : (i j : ℕ) → PointsTo moves i j ↔ MovesTo task nodes i j
+  pub lands : AllLand task nodes
+  pub reset : IsCovered nodes (reset_node task.assumptions)
 
 -- ---- what is marked
 
@@ -47,7 +47,15 @@ kept_by [] xs = []
 kept_by (mark ∷ marks) [] = []
 kept_by (mark ∷ marks) (x ∷ xs) = if mark then x ∷ kept_by marks xs else kept_by marks xs
 
+-- the marked nodes are the reached ones
+abbrev pub AreReachedBy : Task → List Node → List Bool → Type 0
+AreReachedBy task nodes marks = AreReached task nodes (kept_by marks nodes)
+
 -- ---- the graph of one instance, by numbers from its first node on
+
+-- moves from one of these numbers, from the first to before the last, lead to none below the first
+abbrev pub StayAbove : ℕ → ℕ → List (List ℕ) → Type 0
+StayAbove low high moves = (i j : ℕ) → low ≤ i → i < high → Contains (slice_index_or moves i []) j → low ≤ j
 
 pub record IsPortion (graph : List (List ℕ)) (low count : ℕ) (portion : List (List ℕ)) : Type 0 where
   pub count_is : length portion ≡ count

@@ -1,8 +1,6 @@
 -- The nodes of a family that edges reach from the node at reset. Source: own.
 use Rattle.std.specs.Prelude.{◌↔◌, List, map, Contains}
 use Rattle.std.specs.List.Sorted.{IsStrictlySortedBy}
-use Rattle.avr_model.specs.declared.assumption.Entry.{Entry}
-use Rattle.avr_model.specs.Devices.{Program}
 use Rattle.mask_states.specs.declared.keys.NodeKey.{NodeKey}
 use Rattle.mask_states.specs.Keys.{root_inst, entry_key}
 use Rattle.mask_states.specs.Order.{node_cmp}
@@ -10,13 +8,14 @@ use Rattle.local_rules.specs.declared.local.Node.{Node}
 use Rattle.edge_rules.specs.declared.edge.Edge.{Edge}
 use Rattle.edge_rules.specs.Edges.{IsEdge}
 use Rattle.edge_rules.specs.Views.{key_of}
+use Rattle.local_rules.specs.Site.{Task}
 
 -- the key of the node at reset is reached, and so are the targets of edges from reached nodes
-pub data IsReached (words : Program) (A : List Entry) (nodes : List Node) : NodeKey → Type 0 where
-  at_reset : IsReached words A nodes (entry_key root_inst)
-  by_edge : (n : Node) (e : Edge) → Contains nodes n → IsReached words A nodes n.key → IsEdge words A nodes n e → IsReached words A nodes e.to
+pub data IsReached (task : Task) (nodes : List Node) : NodeKey → Type 0 where
+  at_reset : IsReached task nodes (entry_key root_inst)
+  by_edge : (n : Node) (e : Edge) → Contains nodes n → IsReached task nodes n.key → IsEdge task nodes n e → IsReached task nodes e.to
 
 -- the reached nodes of a family, ascending by key
-pub record AreReached (words : Program) (A : List Entry) (nodes reached : List Node) : Type 0 where
+pub record AreReached (task : Task) (nodes reached : List Node) : Type 0 where
   pub ascending : IsStrictlySortedBy node_cmp (map key_of reached)
-  pub exact : (n : Node) → Contains reached n ↔ (Contains nodes n × IsReached words A nodes n.key)
+  pub exact : (n : Node) → Contains reached n ↔ (Contains nodes n × IsReached task nodes n.key)

@@ -1,7 +1,5 @@
 -- The path to a place within its instance. Source: own.
 use Rattle.std.specs.Prelude.{ℕ, ◌≡◌, ◌↔◌, Bool, true, false, List, map, Option, Some, None, Contains, slice_get}
-use Rattle.avr_model.specs.declared.assumption.Entry.{Entry}
-use Rattle.avr_model.specs.Devices.{Program}
 use Rattle.mask_states.specs.declared.keys.EdgeKind.{EdgeKind}
 use Rattle.mask_states.specs.declared.keys.EdgeKind.TheVariants.{Local, Call, Interrupt, Return}
 use Rattle.mask_states.specs.declared.keys.InstKey.{InstKey}
@@ -12,6 +10,7 @@ use Rattle.edge_rules.specs.declared.edge.Edge.{Edge}
 use Rattle.edge_rules.specs.Edges.{Enters, IsEdge}
 use Rattle.shortest_walk.specs.Graph.{PointsTo}
 use Rattle.shortest_walk.specs.Walk.{IsFirstOfShortest}
+use Rattle.local_rules.specs.Site.{Task}
 
 -- an edge of this kind enters no instance: it is local, or a return
 abbrev pub is_move : EdgeKind → Bool
@@ -21,11 +20,11 @@ is_move (Interrupt v clears) = false
 is_move Return = true
 
 -- a local or return edge of the family leads from the node of the first number to that of the second, in the same instance
-pub record MovesTo (words : Program) (A : List Entry) (nodes : List Node) (i j : ℕ) : Type 0 where
+pub record MovesTo (task : Task) (nodes : List Node) (i j : ℕ) : Type 0 where
   pub from : Node
   pub at : slice_get nodes i ≡ Some from
   pub edge : Edge
-  pub is_edge : IsEdge words A nodes from edge
+  pub is_edge : IsEdge task nodes from edge
   pub moves : is_move edge.kind ≡ true
   pub to : Node
   pub lands : slice_get nodes j ≡ Some to
@@ -33,15 +32,15 @@ pub record MovesTo (words : Program) (A : List Entry) (nodes : List Node) (i j :
   pub stays : to.key.inst ≡ from.key.inst
 
 -- A walk of an instance begins at a node that a call or interrupt edge of the family enters; in the root, at the node at reset.
-pub data Begins (words : Program) (A : List Entry) (nodes : List Node) : InstKey → NodeKey → Type 0 where
-  at_reset : Begins words A nodes root_inst (entry_key root_inst)
-  by_entry : (n : Node) (way : EdgeKind) (inst : InstKey) (back : ℕ) → Contains nodes n → Enters words A n way inst back → Begins words A nodes inst (entry_key inst)
+pub data Begins (task : Task) (nodes : List Node) : InstKey → NodeKey → Type 0 where
+  at_reset : Begins task nodes root_inst (entry_key root_inst)
+  by_entry : (n : Node) (way : EdgeKind) (inst : InstKey) (back : ℕ) → Contains nodes n → Enters task n way inst back → Begins task nodes inst (entry_key inst)
 
 -- a walk of the instance begins at the node of this number
-pub record IsStart (words : Program) (A : List Entry) (nodes : List Node) (inst : InstKey) (i : ℕ) : Type 0 where
+pub record IsStart (task : Task) (nodes : List Node) (inst : InstKey) (i : ℕ) : Type 0 where
   pub node : Node
   pub at : slice_get nodes i ≡ Some node
-  pub begins : Begins words A nodes inst node.key
+  pub begins : Begins task nodes inst node.key
 
 -- the program counter of a node, 0 if there is none
 abbrev pub pc_of : Option Node → ℕ
@@ -53,11 +52,11 @@ pc_at nodes i = pc_of (slice_get nodes i)
 
 -- The words of the first shortest walk to the node of this number in its instance, both ends included. Of walks with the same length, the
 -- least list of node numbers is the first.
-pub record IsWay (words : Program) (A : List Entry) (nodes : List Node) (inst : InstKey) (target : ℕ) (walk : List ℕ) : Type 0 where
+pub record IsWay (task : Task) (nodes : List Node) (inst : InstKey) (target : ℕ) (walk : List ℕ) : Type 0 where
   pub graph : List (List ℕ)
-  pub moves : (i j : ℕ) → PointsTo graph i j ↔ MovesTo words A nodes i j
+  pub moves : (i j : ℕ) → PointsTo graph i j ↔ MovesTo task nodes i j
   pub starts : List ℕ
-  pub begin : (i : ℕ) → Contains starts i ↔ IsStart words A nodes inst i
+  pub begin : (i : ℕ) → Contains starts i ↔ IsStart task nodes inst i
   pub numbers : List ℕ
   pub first : IsFirstOfShortest graph starts target numbers
   pub along : walk ≡ map (pc_at nodes) numbers

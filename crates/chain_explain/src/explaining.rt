@@ -7,6 +7,7 @@ ghost use Rattle.certificate.specs.Claims.{IsClaim};
 ghost use Rattle.certificate.specs.Valid.{IsSound, MeetsConditions};
 ghost use Rattle.chain_explain.specs.Explanation.{IsExplanation};
 ghost use Rattle.chain_explain.specs.Told.{sum_of, Nest, IsOfRounds};
+ghost use Rattle.call_graph.specs.Tasks.{task_of};
 
 use crate::explanation::Explanation;
 use crate::parts::parts;
@@ -28,14 +29,14 @@ pub fn explain_family(
     family: &Worked,
 ) -> Result<Explanation, AllocError>
     requires claim { IsClaim certificate.now }
-    requires filled { IsFilled task.now.flash.now task.now.assumptions.now certificate.now.nodes family.now.nodes }
-    requires meets { MeetsConditions task.now.flash.now task.now.assumptions.now certificate.now family.now.nodes }
-    requires landings { AreLandings task.now.flash.now task.now.assumptions.now family.now.nodes family.now.landings }
-    ensures exact { IfOk result (IsExplanation task.now.flash.now task.now.assumptions.now certificate.now) }
+    requires filled { IsFilled (task_of task.now) certificate.now.nodes family.now.nodes }
+    requires meets { MeetsConditions (task_of task.now) certificate.now family.now.nodes }
+    requires landings { AreLandings (task_of task.now) family.now.nodes family.now.landings }
+    ensures exact { IfOk result (IsExplanation (task_of task.now) certificate.now) }
     ensures sums { IfOk result (λ x. sum_of x.parts ≡ x.least) }
     ensures bounded { IfOk result (λ x. x.least ≤ certificate.now.bound) }
-    ensures least { IfOk result (λ x. IsOfRounds task.now.flash.now task.now.assumptions.now certificate.now → x.least ≡ certificate.now.bound) }
-    ensures nests { IfOk result (λ x. Nest task.now.flash.now task.now.assumptions.now certificate.now x.parts) }
+    ensures least { IfOk result (λ x. IsOfRounds (task_of task.now) certificate.now → x.least ≡ certificate.now.bound) }
+    ensures nests { IfOk result (λ x. Nest (task_of task.now) certificate.now x.parts) }
 {
     filled_or_missing();
     rounds_are_reached();
@@ -52,12 +53,12 @@ pub fn explain_family(
 
 /// Explains a certificate whose conditions hold except the one on its schedule. Computes its family first.
 pub fn explain(task: &Task<'_>, certificate: &Certificate) -> Result<Explanation, AllocError>
-    requires { IsSound task.now.flash.now task.now.assumptions.now certificate.now }
-    ensures exact { IfOk result (IsExplanation task.now.flash.now task.now.assumptions.now certificate.now) }
+    requires { IsSound (task_of task.now) certificate.now }
+    ensures exact { IfOk result (IsExplanation (task_of task.now) certificate.now) }
     ensures sums { IfOk result (λ x. sum_of x.parts ≡ x.least) }
     ensures bounded { IfOk result (λ x. x.least ≤ certificate.now.bound) }
-    ensures least { IfOk result (λ x. IsOfRounds task.now.flash.now task.now.assumptions.now certificate.now → x.least ≡ certificate.now.bound) }
-    ensures nests { IfOk result (λ x. Nest task.now.flash.now task.now.assumptions.now certificate.now x.parts) }
+    ensures least { IfOk result (λ x. IsOfRounds (task_of task.now) certificate.now → x.least ≡ certificate.now.bound) }
+    ensures nests { IfOk result (λ x. Nest (task_of task.now) certificate.now x.parts) }
 {
     let _nodes = certificate.nodes();
     let family = worked_of(task, certificate)?;

@@ -8,6 +8,7 @@ ghost use Rattle.edge_rules.specs.Views.{AreShown};
 ghost use Rattle.chain_explain.specs.Explanation.{adds_by, IsPart, AreParts};
 ghost use Rattle.chain_explain.specs.Reached.{AreReached};
 ghost use Rattle.chain_explain.specs.Moves.{AreMoves, AreThere, moves_by};
+ghost use Rattle.call_graph.specs.Tasks.{task_of};
 
 use crate::explanation::Part;
 use crate::way::way;
@@ -31,10 +32,10 @@ fn adds(key: &NodeKey, kind: Option<EdgeKind>) -> u16
 // The part for a link of the chain.
 fn part(task: &Task<'_>, family: &Worked, reached: &Filled, link: &Link) -> Result<Part, AllocError>
     requires shown { AreShown (device_of task.now.flash.now) family.now.nodes }
-    requires moves { AreMoves task.now.flash.now task.now.assumptions.now family.now.nodes (moves_by family.now.landings) }
-    requires reached { AreReached task.now.flash.now task.now.assumptions.now family.now.nodes reached.now }
+    requires moves { AreMoves (task_of task.now) family.now.nodes (moves_by family.now.landings) }
+    requires reached { AreReached (task_of task.now) family.now.nodes reached.now }
     requires there { link.now.node < length reached.now }
-    ensures { IfOk result (IsPart task.now.flash.now task.now.assumptions.now family.now.nodes reached.now link.now) }
+    ensures { IfOk result (IsPart (task_of task.now) family.now.nodes reached.now link.now) }
 {
     let key = reached.key(link.node as usize);
     let walk = way(task, family, key)?;
@@ -54,10 +55,10 @@ pub(crate) fn parts(
     links: &[Link],
 ) -> Result<Listed<Part>, AllocError>
     requires shown { AreShown (device_of task.now.flash.now) family.now.nodes }
-    requires moves { AreMoves task.now.flash.now task.now.assumptions.now family.now.nodes (moves_by family.now.landings) }
-    requires reached { AreReached task.now.flash.now task.now.assumptions.now family.now.nodes reached.now }
+    requires moves { AreMoves (task_of task.now) family.now.nodes (moves_by family.now.landings) }
+    requires reached { AreReached (task_of task.now) family.now.nodes reached.now }
     requires there { AreThere reached.now links.now }
-    ensures { IfOk result (AreParts task.now.flash.now task.now.assumptions.now family.now.nodes reached.now links.now) }
+    ensures { IfOk result (AreParts (task_of task.now) family.now.nodes reached.now links.now) }
 {
     let mut parts = Listed::empty(task.alloc);
     for link in links {

@@ -7,8 +7,8 @@ ghost use Rattle.edge_rules.specs.Views.{AreShown};
 ghost use Rattle.call_graph.specs.Landings.{AreLandings};
 ghost use Rattle.certificate.specs.Valid.{reset_node};
 ghost use Rattle.family_graph.specs.Graphs.{AreWays, IsPeopled};
-ghost use Rattle.chain_explain.specs.Reached.{AreReached};
-ghost use Rattle.chain_explain.specs.Moves.{kept_by};
+ghost use Rattle.chain_explain.specs.Moves.{kept_by, AreReachedBy};
+ghost use Rattle.call_graph.specs.Tasks.{task_of};
 
 use crate::numbering::number_of;
 use crate::steps::leads;
@@ -24,10 +24,10 @@ use std::alloc::{AllocError, Global};
 pub(crate) fn marks_of(task: &Task<'_>, family: &Worked) -> Result<Vec<bool>, AllocError>
     requires shown { AreShown (device_of task.now.flash.now) family.now.nodes }
     requires few { length family.now.nodes ≤ 65536 }
-    requires landings { AreLandings task.now.flash.now task.now.assumptions.now family.now.nodes family.now.landings }
+    requires landings { AreLandings (task_of task.now) family.now.nodes family.now.landings }
     requires reset { IsCovered family.now.nodes (reset_node task.now.assumptions.now) }
     ensures count { IfOk result (λ marks. length marks.items ≡ length family.now.nodes) }
-    ensures reached { IfOk result (λ marks. AreReached task.now.flash.now task.now.assumptions.now family.now.nodes (kept_by marks.items family.now.nodes)) }
+    ensures reached { IfOk result (λ m. AreReachedBy (task_of task.now) family.now.nodes m.items) }
 {
     let root = number_of(&family.nodes, &NodeKey::entry(&InstKey::root()));
     let graph = leads(task.alloc, family.landings.as_slice())?;
@@ -58,9 +58,9 @@ pub(crate) fn kept_ways(
     marks: &[bool],
 ) -> Result<Listed<Listed<Entering>>, AllocError>
     requires count { length marks.now ≡ length family.now.nodes }
-    requires landings { AreLandings task.now.flash.now task.now.assumptions.now family.now.nodes family.now.landings }
-    requires peopled { IsPeopled task.now.flash.now task.now.assumptions.now family.now.nodes }
-    ensures { IfOk result (AreWays task.now.flash.now task.now.assumptions.now (kept_by marks.now family.now.nodes)) }
+    requires landings { AreLandings (task_of task.now) family.now.nodes family.now.landings }
+    requires peopled { IsPeopled (task_of task.now) family.now.nodes }
+    ensures { IfOk result (AreWays (task_of task.now) (kept_by marks.now family.now.nodes)) }
 {
     let all = entered_by(task, family)?;
     let ways = all.as_slice();

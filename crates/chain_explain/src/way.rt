@@ -1,13 +1,14 @@
 //! The path to a place within its instance.
 
-ghost use Rattle.std.specs.Prelude.{ℕ, [], ◌≡◌, ◌+◌, ◌-◌, ◌<◌, ◌≤◌, Contains, length, map, slice_get, slice_index_or, Some, IfOk};
+ghost use Rattle.std.specs.Prelude.{ℕ, ◌≡◌, ◌+◌, ◌-◌, ◌<◌, ◌≤◌, Contains, length, map, slice_get, Some, IfOk};
 ghost use Rattle.avr_model.specs.Devices.{device_of};
 ghost use Rattle.local_rules.specs.declared.local.Node.{Node};
 ghost use Rattle.local_laws.specs.Laws.{HasKey};
 ghost use Rattle.edge_rules.specs.Views.{AreShown};
 ghost use Rattle.chain_explain.specs.Reached.{IsReached};
 ghost use Rattle.chain_explain.specs.Walks.{pc_at, IsWay};
-ghost use Rattle.chain_explain.specs.Moves.{AreMoves, IsPortion, moves_of, moves_by};
+ghost use Rattle.chain_explain.specs.Moves.{AreMoves, IsPortion, moves_of, moves_by, StayAbove};
+ghost use Rattle.call_graph.specs.Tasks.{task_of};
 
 use crate::numbering::number_of;
 use avr_model::listed::Listed;
@@ -40,7 +41,7 @@ fn portion(
 ) -> Result<Vec<Listed<u32>>, AllocError>
     requires order { low ≤ high }
     requires inside { high ≤ length family.now.landings }
-    requires above { (i j : ℕ) → low ≤ i → i < high → Contains (slice_index_or (moves_by family.now.landings) i []) j → low ≤ j }
+    requires above { StayAbove low high (moves_by family.now.landings) }
     ensures { IfOk result (λ portion. IsPortion (moves_by family.now.landings) low (high - low) portion.items) }
 {
     let landings = family.landings.as_slice();
@@ -78,10 +79,10 @@ pub(crate) fn way(
     key: &NodeKey,
 ) -> Result<Listed<u16>, AllocError>
     requires shown { AreShown (device_of task.now.flash.now) family.now.nodes }
-    requires moves { AreMoves task.now.flash.now task.now.assumptions.now family.now.nodes (moves_by family.now.landings) }
+    requires moves { AreMoves (task_of task.now) family.now.nodes (moves_by family.now.landings) }
     requires there { HasKey family.now.nodes key.now }
-    requires reached { IsReached task.now.flash.now task.now.assumptions.now family.now.nodes key.now }
-    ensures { IfOk result (λ walk. (target : ℕ) (n : Node) → slice_get family.now.nodes target ≡ Some n → n.key ≡ key.now → IsWay task.now.flash.now task.now.assumptions.now family.now.nodes key.now.inst target walk) }
+    requires reached { IsReached (task_of task.now) family.now.nodes key.now }
+    ensures { IfOk result (λ walk. (target : ℕ) (n : Node) → slice_get family.now.nodes target ≡ Some n → n.key ≡ key.now → IsWay (task_of task.now) family.now.nodes key.now.inst target walk) }
 {
     let nodes = &family.nodes;
     let (low, high) = nodes.span(&key.inst);

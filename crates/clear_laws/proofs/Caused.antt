@@ -4,7 +4,6 @@ use Rattle.std.proofs.lemmas.Bool.{false_from_ne_true as never, and_from, or_lef
 use Rattle.std.proofs.lemmas.Option.{same_Some}
 use Rattle.basics.specs.Numbers.{test_from_less, test_from_at_most}
 use Rattle.basics.specs.Booleans.{not_from_never, never_both}
-use Rattle.avr_model.specs.declared.assumption.Entry.{Entry}
 use Rattle.avr_model.specs.declared.choice.Choice.{Choice}
 use Rattle.avr_model.specs.declared.choice.Choice.TheVariants.{Go, Take}
 use Rattle.avr_model.specs.declared.choice.Flag.{Flag}
@@ -15,7 +14,7 @@ use Rattle.avr_model.specs.declared.instruction.Instr.{Instr}
 use Rattle.avr_model.specs.declared.instruction.Instr.TheVariants as i
 use Rattle.avr_model.specs.Assumptions.{is_never, is_fixed_site}
 use Rattle.avr_model.specs.Masks.{is_flagged_write}
-use Rattle.avr_model.specs.Devices.{Program, io_end, ramend, device_of}
+use Rattle.avr_model.specs.Devices.{io_end, ramend, device_of}
 use Rattle.avr_model.specs.Sites.{instruction_at, is_scratch}
 use Rattle.avr_model.specs.State.{State, is_live}
 use Rattle.avr_model.specs.Vectors.{vector_word}
@@ -35,6 +34,9 @@ use Rattle.clear_laws.proofs.Below.{any_found, found_below}
 use Rattle.clear_laws.proofs.Kept.{Holding}
 use Rattle.clear_laws.proofs.Told.{clear_nodes_are_told}
 use Rattle.clear_laws.proofs.Unflagged.{IsStore, flagged_by_write, writes, by_instruction, inside, IsTaken, taken_here}
+use Rattle.local_rules.specs.Site.{Task}
+use Rattle.clear_laws.specs.Clear.{store_at, is_slot_harmless}
+use Rattle.mask_states.specs.Keys.{offset_of}
 
 -- ---- which case a flag is of
 
@@ -81,37 +83,37 @@ aim_none device k s i.Ijmp e = refl
 aim_none device k s i.Icall e = refl
 aim_none device k s _ e = absurd (cc)
 
-module _ (words : Program) (A : List Entry) (f : RankedFamily) (n : Node) where
-  clear_listed : (instr : Instr) → instruction_at words n.key.pc ≡ Some instr → is_indirect instr ≡ true → is_transfer_listed words A n.key.pc n.state instr ≡ true → IsClear words A f n
+module _ (task : Task) (f : RankedFamily) (n : Node) where
+  clear_listed : (instr : Instr) → instruction_at task.flash n.key.pc ≡ Some instr → is_indirect instr ≡ true → is_transfer_listed task n.key.pc n.state instr ≡ true → IsClear task f n
   clear_listed instr is indirect listed =
-      clear_nodes_are_told.clear words A f n (λ d. true) (λ d lt none may. absurd (let no : true ≡ false = none in cc))
-      (ap (is_clear_by words A f.bound n.key n.state (λ d. true)) is
-      ∙ and_from (is_aim_harmless words A f.bound n.key n.state instr (λ d. true) (aim_of (device_of words) n.key n.state instr)) (is_transfer_listed words A n.key.pc n.state instr)
-      (ap (is_aim_harmless words A f.bound n.key n.state instr (λ d. true)) (aim_none (device_of words) n.key n.state instr indirect)) listed)
+      clear_nodes_are_told.clear task f n (λ d. true) (λ d lt none may. absurd (let no : true ≡ false = none in cc))
+      (ap (is_clear_by task f.bound (record { key = n.key; state = n.state }) (λ d. true)) is
+      ∙ and_from (is_aim_harmless task f.bound (store_at n.key.pc n.state instr) (is_slot_harmless (offset_of n.key.sp) (λ d. true)) (aim_of (device_of task.flash) n.key n.state instr)) (is_transfer_listed task n.key.pc n.state instr)
+      (ap (is_aim_harmless task f.bound (store_at n.key.pc n.state instr) (is_slot_harmless (offset_of n.key.sp) (λ d. true))) (aim_none (device_of task.flash) n.key n.state instr indirect)) listed)
 
-  pub not_listed : (instr : Instr) → instruction_at words n.key.pc ≡ Some instr → is_indirect instr ≡ true → (IsClear words A f n → ⊥) → not (is_transfer_listed words A n.key.pc n.state instr) ≡ true
-  not_listed instr is indirect unclear = not_from_never (is_transfer_listed words A n.key.pc n.state instr) (λ listed. unclear (clear_listed instr is indirect listed))
+  pub not_listed : (instr : Instr) → instruction_at task.flash n.key.pc ≡ Some instr → is_indirect instr ≡ true → (IsClear task f n → ⊥) → not (is_transfer_listed task n.key.pc n.state instr) ≡ true
+  not_listed instr is indirect unclear = not_from_never (is_transfer_listed task n.key.pc n.state instr) (λ listed. unclear (clear_listed instr is indirect listed))
 
   -- With pairs, a store that may reach neither the stack nor an address that is flagged as protected goes to harmless addresses only.
-  module _ (instr : Instr) (is : instruction_at words n.key.pc ≡ Some instr) (followed : is_followed n.state.facts ≡ true) (direct : is_indirect instr ≡ false)
-      (dead : may_write_stack (device_of words) f.bound n.state instr ≡ false) (free : may_write_some_protected words A n.key.pc n.state instr ≡ false) where
+  module _ (instr : Instr) (is : instruction_at task.flash n.key.pc ≡ Some instr) (followed : is_followed n.state.facts ≡ true) (direct : is_indirect instr ≡ false)
+      (dead : may_write_stack (device_of task.flash) f.bound n.state instr ≡ false) (free : may_write_some_protected task (store_at n.key.pc n.state instr) ≡ false) where
     abbrev below : ℕ
-    below = io_end (device_of words)
+    below = io_end (device_of task.flash)
 
     abbrev last : ℕ
-    last = ramend (device_of words)
+    last = ramend (device_of task.flash)
 
     unreached : (a : ℕ) → may_write n.state instr a ≡ true → a ≤ last → last < a + f.bound → ⊥
     unreached a may le lt =
         let same : last - (last - a) ≡ a = omega (arith, le) in
         never_both _ (any_found (λ d. may_write n.state instr (last - d)) (last - a) f.bound (omega (arith, le, lt)) (ap (may_write n.state instr) same ∙ may)) dead
 
-    unflagged : (a : ℕ) → may_write n.state instr a ≡ true → a ≤ below → is_flagged_address words A n.key.pc n.state instr a ≡ false
+    unflagged : (a : ℕ) → may_write n.state instr a ≡ true → a ≤ below → is_flagged_address task (store_at n.key.pc n.state instr) a ≡ false
     unflagged a may low =
-        never (is_flagged_address words A n.key.pc n.state instr a)
-        (λ flagged. never_both _ (any_found (may_write_protected words A n.key.pc n.state instr) a (below + 1) (omega (arith, low)) (and_from _ _ flagged may)) free)
+        never (is_flagged_address task (store_at n.key.pc n.state instr) a)
+        (λ flagged. never_both _ (any_found (may_write_protected task (store_at n.key.pc n.state instr)) a (below + 1) (omega (arith, low)) (and_from _ _ flagged may)) free)
 
-    harmless_address : (a : ℕ) → a < 65536 → may_write n.state instr a ≡ true → is_address_harmless words A f.bound n.key.pc n.state instr a ≡ true
+    harmless_address : (a : ℕ) → a < 65536 → may_write n.state instr a ≡ true → is_address_harmless task f.bound (store_at n.key.pc n.state instr) a ≡ true
     harmless_address a small may =
         ⊎_elim
         (λ above.
@@ -121,18 +123,18 @@ module _ (words : Program) (A : List Entry) (f : RankedFamily) (n : Node) where
         (test_from_at_most (a + f.bound) last (⊎_elim (λ no. absurd (unreached a may inside no)) (λ within. within) (cases_lt last (a + f.bound))))))) (cases_lt last a))
         (λ low. or_right _ _ (and_from (nat_le a below) _ (test_from_at_most a below low) (ap not (unflagged a may low)))) (cases_lt below a)
 
-    pub clear_store : IsClear words A f n
+    pub clear_store : IsClear task f n
     clear_store =
         record {
           store = λ x aim at same.
               let e : instr ≡ x = same_Some instr x (sym is ∙ at) in
-              subst (λ y. IsHarmless words A f n y aim) e (each_address followed harmless_address);
+              subst (λ y. IsHarmless task f n y aim) e (each_address followed harmless_address);
           transfer = λ x at indirect.
               let e : instr ≡ x = same_Some instr x (sym is ∙ at) in
               absurd (never_both _ (ap is_indirect e ∙ indirect) direct);
         }
 
-  clear_without : instruction_at words n.key.pc ≡ None → IsClear words A f n
+  clear_without : instruction_at task.flash n.key.pc ≡ None → IsClear task f n
   clear_without is =
       record {
         store = λ instr aim at same. absurd (let no : None ≡ Some instr = sym is ∙ at in cc);
@@ -141,137 +143,137 @@ module _ (words : Program) (A : List Entry) (f : RankedFamily) (n : Node) where
 
 -- ---- a step that is flagged
 
-module _ (words : Program) (A : List Entry) (f : RankedFamily) (sound : IsSoundFamily words A f) (m : State) (g : Frame) (gs : List Frame) (runs : Runs words A f m g gs)
-    (holds : Holding words A f m.memory g gs) where
+module _ (task : Task) (f : RankedFamily) (sound : IsSoundFamily task f) (m : State) (g : Frame) (gs : List Frame) (runs : Runs task f m g gs)
+    (holds : Holding task f m.memory g gs) where
   abbrev top : ℕ
-  top = ramend (device_of words)
+  top = ramend (device_of task.flash)
 
   at_word : g.node.key.pc ≡ m.pc
   at_word = sym runs.running.place.pc
 
-  cause : (test : AbsState → Instr → Bool) (instr : Instr) → instruction_at words m.pc ≡ Some instr → (IsClear words A f g.node → ⊥) → test g.node.state instr ≡ true → IsCause words A f m.pc test
+  cause : (test : AbsState → Instr → Bool) (instr : Instr) → instruction_at task.flash m.pc ≡ Some instr → (IsClear task f g.node → ⊥) → test g.node.state instr ≡ true → IsCause task f m.pc test
   cause test instr is unclear passes =
       record { node = g.node; present = runs.present; is = at_word; unclear = unclear; instr = instr; instruction = is; passes = passes }
 
-  module _ (b1 b2 : ℕ) (instr : Instr) (is : instruction_at words m.pc ≡ Some instr) where
+  module _ (b1 b2 : ℕ) (instr : Instr) (is : instruction_at task.flash m.pc ≡ Some instr) where
     abbrev effect : Effect
-    effect = effect_of words m instr b1 b2
+    effect = effect_of task.flash m instr b1 b2
 
     abbrev Store : Type 0
-    Store = IsStore words A f sound m g gs runs holds b1 b2 instr is
+    Store = IsStore task f sound m g gs runs holds b1 b2 instr is
 
     -- the stack reaches each live byte
-    live_reached : (x : ℕ) → is_live m.memory x ≡ true → may_write g.node.state instr x ≡ true → may_write_stack (device_of words) f.bound g.node.state instr ≡ true
+    live_reached : (x : ℕ) → is_live m.memory x ≡ true → may_write g.node.state instr x ≡ true → may_write_stack (device_of task.flash) f.bound g.node.state instr ≡ true
     live_reached x live may =
-        let le : x ≤ top = inside words A f sound m g gs runs holds x live in
+        let le : x ≤ top = inside task f sound m g gs runs holds x live in
         let same : top - (top - x) ≡ x = omega (arith, le) in
         any_found (λ d. may_write g.node.state instr (top - d)) (top - x) f.bound (omega (arith, le, holds.above x live, holds.depth)) (ap (may_write g.node.state instr) same ∙ may)
 
-    written_live : (x : ℕ) → live_write m.memory (effect.stores ++ effect.pushes) ≡ Some x → may_write_live words A f.bound m.pc g.node.state instr ≡ true
+    written_live : (x : ℕ) → live_write m.memory (effect.stores ++ effect.pushes) ≡ Some x → may_write_live task f.bound (store_at m.pc g.node.state instr) ≡ true
     unfolding live_write
-    written_live x e = ⊎_elim (λ s. absurd (no_some _ x s.live e)) by_store (writes words A f sound m g gs runs holds b1 b2 instr is)
+    written_live x e = ⊎_elim (λ s. absurd (no_some _ x s.live e)) by_store (writes task f sound m g gs runs holds b1 b2 instr is)
       where
-        by_store : Store → may_write_live words A f.bound m.pc g.node.state instr ≡ true
+        by_store : Store → may_write_live task f.bound (store_at m.pc g.node.state instr) ≡ true
         by_store w =
             let t = one_of (is_live m.memory w.address) w.address x (sym (ap₂ (λ ss ps. live_write m.memory (ss ++ ps)) w.stores w.pushes) ∙ e) in
-            or_left (may_write_stack (device_of words) f.bound g.node.state instr) _ (live_reached w.address t.0 w.may)
+            or_left (may_write_stack (device_of task.flash) f.bound g.node.state instr) _ (live_reached w.address t.0 w.may)
 
-    written_protected : (x : ℕ) → protected_write words A m.pc instr effect ≡ Some x → may_write_protected words A m.pc g.node.state instr x ≡ true
+    written_protected : (x : ℕ) → protected_write task.flash task.assumptions m.pc instr effect ≡ Some x → may_write_protected task (store_at m.pc g.node.state instr) x ≡ true
     unfolding protected_write
-    written_protected x e = ⊎_elim (λ s. absurd (no_some _ x s.protected e)) by_store (writes words A f sound m g gs runs holds b1 b2 instr is)
+    written_protected x e = ⊎_elim (λ s. absurd (no_some _ x s.protected e)) by_store (writes task f sound m g gs runs holds b1 b2 instr is)
       where
-        by_store : Store → may_write_protected words A m.pc g.node.state instr x ≡ true
+        by_store : Store → may_write_protected task (store_at m.pc g.node.state instr) x ≡ true
         by_store w =
             let t =
-            flagged_of (is_pointer_store instr) (is_fixed_site words A m.pc) (is_flagged_write (device_of words) A m.pc w.address w.byte) w.address x
-            (sym (ap (λ ws. if is_pointer_store instr && not (is_fixed_site words A m.pc) then flagged_write (device_of words) A m.pc ws else None) w.stores) ∙ e) in
-            subst (λ a. may_write_protected words A m.pc g.node.state instr a ≡ true) t.1
-            (and_from (is_flagged_address words A m.pc g.node.state instr w.address) _ (flagged_by_write words A instr m.pc g.node.state w.address w.byte w.has_byte t.0) w.may)
+            flagged_of (is_pointer_store instr) (is_fixed_site task.flash task.assumptions m.pc) (is_flagged_write (device_of task.flash) task.assumptions m.pc w.address w.byte) w.address x
+            (sym (ap (λ ws. if is_pointer_store instr && not (is_fixed_site task.flash task.assumptions m.pc) then flagged_write (device_of task.flash) task.assumptions m.pc ws else None) w.stores) ∙ e) in
+            subst (λ a. may_write_protected task (store_at m.pc g.node.state instr) a ≡ true) t.1
+            (and_from (is_flagged_address task (store_at m.pc g.node.state instr) w.address) _ (flagged_by_write task instr m.pc g.node.state w.address w.byte w.has_byte t.0) w.may)
 
-    written_unlisted : (x : ℕ) → unlisted_transfer A m.pc instr effect ≡ Some x → (IsClear words A f g.node → ⊥) → not (is_transfer_listed words A m.pc g.node.state instr) ≡ true
+    written_unlisted : (x : ℕ) → unlisted_transfer task.assumptions m.pc instr effect ≡ Some x → (IsClear task f g.node → ⊥) → not (is_transfer_listed task m.pc g.node.state instr) ≡ true
     unfolding unlisted_transfer
     written_unlisted x e unclear =
-        subst (λ p. not (is_transfer_listed words A p g.node.state instr) ≡ true) at_word
-        (not_listed words A f g.node instr (subst (λ p. instruction_at words p ≡ Some instr) (sym at_word) is) (indirect_by (is_indirect instr) _ x e) unclear)
+        subst (λ p. not (is_transfer_listed task p g.node.state instr) ≡ true) at_word
+        (not_listed task f g.node instr (subst (λ p. instruction_at task.flash p ≡ Some instr) (sym at_word) is) (indirect_by (is_indirect instr) _ x e) unclear)
 
-    caused_by : (flag : Flag) → IsCauseOf m.pc (live_write m.memory (effect.stores ++ effect.pushes)) (protected_write words A m.pc instr effect) (unlisted_transfer A m.pc instr effect) flag
-        → (IsClear words A f g.node → ⊥) → MayFlag words A f flag
+    caused_by : (flag : Flag) → IsCauseOf m.pc (live_write m.memory (effect.stores ++ effect.pushes)) (protected_write task.flash task.assumptions m.pc instr effect) (unlisted_transfer task.assumptions m.pc instr effect) flag
+        → (IsClear task f g.node → ⊥) → MayFlag task f flag
     caused_by (Live p x) h unclear =
-        subst (λ pc. IsCause words A f pc (may_write_live words A f.bound pc)) h.0 (cause (may_write_live words A f.bound m.pc) instr is unclear (written_live x h.1))
+        subst (λ pc. IsCause task f pc (λ s y. may_write_live task f.bound (store_at pc s y))) h.0 (cause (λ s y. may_write_live task f.bound (store_at m.pc s y)) instr is unclear (written_live x h.1))
     caused_by (Protected p x) h unclear =
-        subst (λ pc. IsCause words A f pc (λ s y. may_write_protected words A pc s y x)) h.0 (cause (λ s y. may_write_protected words A m.pc s y x) instr is unclear (written_protected x h.1))
+        subst (λ pc. IsCause task f pc (λ s y. may_write_protected task (store_at pc s y) x)) h.0 (cause (λ s y. may_write_protected task (store_at m.pc s y) x) instr is unclear (written_protected x h.1))
     caused_by (Transfer p x) h unclear =
-        subst (λ pc. IsCause words A f pc (λ s y. not (is_transfer_listed words A pc s y))) h.0
-        (cause (λ s y. not (is_transfer_listed words A m.pc s y)) instr is unclear (written_unlisted x h.1 unclear))
+        subst (λ pc. IsCause task f pc (λ s y. not (is_transfer_listed task pc s y))) h.0
+        (cause (λ s y. not (is_transfer_listed task m.pc s y)) instr is unclear (written_unlisted x h.1 unclear))
 
-  going : (b1 b2 : ℕ) (flag : Flag) (x : Option Instr) → instruction_at words m.pc ≡ x → go words A m x b1 b2 ≡ Flagged flag → MayFlag words A f flag
+  going : (b1 b2 : ℕ) (flag : Flag) (x : Option Instr) → instruction_at task.flash m.pc ≡ x → go task.flash task.assumptions m x b1 b2 ≡ Flagged flag → MayFlag task f flag
   going b1 b2 flag None is e = absurd (cc)
   going b1 b2 flag (Some instr) is e =
-      let effect = effect_of words m instr b1 b2 in
+      let effect = effect_of task.flash m instr b1 b2 in
       caused_by b1 b2 instr is flag
-      (flagged_by (all_inside m.device effect.pushes || is_unlisted (unlisted_transfer A m.pc instr effect)) m.pc (live_write m.memory (effect.stores ++ effect.pushes))
-      (protected_write words A m.pc instr effect) (unlisted_transfer A m.pc instr effect) (after m (not (is_scratch words m.pc)) effect) flag e)
-      (λ clear. by_instruction words A f sound m g gs runs holds clear flag b1 b2 (Some instr) is e)
+      (flagged_by (all_inside m.device effect.pushes || is_unlisted (unlisted_transfer task.assumptions m.pc instr effect)) m.pc (live_write m.memory (effect.stores ++ effect.pushes))
+      (protected_write task.flash task.assumptions m.pc instr effect) (unlisted_transfer task.assumptions m.pc instr effect) (after m (not (is_scratch task.flash m.pc)) effect) flag e)
+      (λ clear. by_instruction task f sound m g gs runs holds clear flag b1 b2 (Some instr) is e)
 
   -- a step is flagged only for a cause, or for taking such a vector
-  pub caused_here : (c : Choice) (flag : Flag) → step words A m c ≡ Flagged flag → MayFlag words A f flag ⊎ IsTaken words A f sound m g gs runs holds c
-  caused_here (Go b1 b2) flag e = inl (going b1 b2 flag (instruction_at words m.pc) refl e)
+  pub caused_here : (c : Choice) (flag : Flag) → step task.flash task.assumptions m c ≡ Flagged flag → MayFlag task f flag ⊎ IsTaken task f sound m g gs runs holds c
+  caused_here (Go b1 b2) flag e = inl (going b1 b2 flag (instruction_at task.flash m.pc) refl e)
   caused_here (Take v clears) flag e =
-      inr (taken_here words A f sound m g gs runs holds v clears flag (may_take m v clears) (is_never A (vector_word (device_of words) v)) refl refl e)
+      inr (taken_here task f sound m g gs runs holds v clears flag (may_take m v clears) (is_never task.assumptions (vector_word (device_of task.flash) v)) refl refl e)
 
 -- ---- words
 
-module _ (words : Program) (A : List Entry) (f : RankedFamily) where
-  forgets : (pc : ℕ) (test : AbsState → Instr → Bool) → IsCause words A f pc test → MayBeFlagged words A f pc
+module _ (task : Task) (f : RankedFamily) where
+  forgets : (pc : ℕ) (test : AbsState → Instr → Bool) → IsCause task f pc test → MayBeFlagged task f pc
   forgets pc test c = record { node = c.node; present = c.present; is = c.is; unclear = c.unclear }
 
-  pub may_be_flagged : (flag : Flag) → MayFlag words A f flag → MayBeFlagged words A f (word_of_flag flag)
-  may_be_flagged (Live pc a) c = forgets pc (may_write_live words A f.bound pc) c
-  may_be_flagged (Protected pc a) c = forgets pc (λ s instr. may_write_protected words A pc s instr a) c
-  may_be_flagged (Transfer pc target) c = forgets pc (λ s instr. not (is_transfer_listed words A pc s instr)) c
+  pub may_be_flagged : (flag : Flag) → MayFlag task f flag → MayBeFlagged task f (word_of_flag flag)
+  may_be_flagged (Live pc a) c = forgets pc (λ s y. may_write_live task f.bound (store_at pc s y)) c
+  may_be_flagged (Protected pc a) c = forgets pc (λ s instr. may_write_protected task (store_at pc s instr) a) c
+  may_be_flagged (Transfer pc target) c = forgets pc (λ s instr. not (is_transfer_listed task pc s instr)) c
 
-  module _ (pc : ℕ) (may : MayBeFlagged words A f pc) where
-    at_pc : (instr : Instr) → instruction_at words may.node.key.pc ≡ Some instr → instruction_at words pc ≡ Some instr
-    at_pc instr is = subst (λ p. instruction_at words p ≡ Some instr) may.is is
+  module _ (pc : ℕ) (may : MayBeFlagged task f pc) where
+    at_pc : (instr : Instr) → instruction_at task.flash may.node.key.pc ≡ Some instr → instruction_at task.flash pc ≡ Some instr
+    at_pc instr is = subst (λ p. instruction_at task.flash p ≡ Some instr) may.is is
 
-    caused : (test : AbsState → Instr → Bool) (instr : Instr) → instruction_at words may.node.key.pc ≡ Some instr → test may.node.state instr ≡ true → IsCause words A f pc test
+    caused : (test : AbsState → Instr → Bool) (instr : Instr) → instruction_at task.flash may.node.key.pc ≡ Some instr → test may.node.state instr ≡ true → IsCause task f pc test
     caused test instr is passes =
         record { node = may.node; present = may.present; is = may.is; unclear = may.unclear; instr = instr; instruction = at_pc instr is; passes = passes }
 
     -- a store without pairs has no other cause
-    untold : (followed l : Bool) (instr : Instr) → instruction_at words may.node.key.pc ≡ Some instr → is_followed may.node.state.facts ≡ followed
-        → may_write_stack (device_of words) f.bound may.node.state instr ≡ l → is_indirect instr ≡ false → may_write_some_protected words A pc may.node.state instr ≡ false
-        → may_write_live words A f.bound pc may.node.state instr ≡ true
-    untold followed true instr is mode live indirect some = or_left _ (is_untold words A pc may.node.state instr) live
+    untold : (followed l : Bool) (instr : Instr) → instruction_at task.flash may.node.key.pc ≡ Some instr → is_followed may.node.state.facts ≡ followed
+        → may_write_stack (device_of task.flash) f.bound may.node.state instr ≡ l → is_indirect instr ≡ false → may_write_some_protected task (store_at pc may.node.state instr) ≡ false
+        → may_write_live task f.bound (store_at pc may.node.state instr) ≡ true
+    untold followed true instr is mode live indirect some = or_left _ (is_untold task (store_at pc may.node.state instr)) live
     untold false false instr is mode live indirect some =
-        or_right (may_write_stack (device_of words) f.bound may.node.state instr) _ (ap₂ (λ a b. not a && b) mode (ap₂ (λ a b. not (a || b)) indirect some))
+        or_right (may_write_stack (device_of task.flash) f.bound may.node.state instr) _ (ap₂ (λ a b. not a && b) mode (ap₂ (λ a b. not (a || b)) indirect some))
     untold true false instr is mode live indirect some =
-        absurd (may.unclear (clear_store words A f may.node instr is mode indirect live (subst (λ q. may_write_some_protected words A q may.node.state instr ≡ false) (sym may.is) some)))
+        absurd (may.unclear (clear_store task f may.node instr is mode indirect live (subst (λ q. may_write_some_protected task (store_at q may.node.state instr) ≡ false) (sym may.is) some)))
 
     -- a transfer, a protected address, or neither
-    by_tests : (instr : Instr) → instruction_at words may.node.key.pc ≡ Some instr → (t p : Bool) → is_indirect instr ≡ t → may_write_some_protected words A pc may.node.state instr ≡ p
-        → HasCause words A f pc
+    by_tests : (instr : Instr) → instruction_at task.flash may.node.key.pc ≡ Some instr → (t p : Bool) → is_indirect instr ≡ t → may_write_some_protected task (store_at pc may.node.state instr) ≡ p
+        → HasCause task f pc
     by_tests instr is true p indirect some =
-        inr (inr (caused (λ s y. not (is_transfer_listed words A pc s y)) instr is
-        (subst (λ q. not (is_transfer_listed words A q may.node.state instr) ≡ true) may.is (not_listed words A f may.node instr is indirect may.unclear))))
+        inr (inr (caused (λ s y. not (is_transfer_listed task pc s y)) instr is
+        (subst (λ q. not (is_transfer_listed task q may.node.state instr) ≡ true) may.is (not_listed task f may.node instr is indirect may.unclear))))
     by_tests instr is false true indirect some =
-        let found = found_below (may_write_protected words A pc may.node.state instr) (io_end (device_of words) + 1) some in
-        inl (found.0, caused (λ s y. may_write_protected words A pc s y found.0) instr is found.1.1)
+        let found = found_below (may_write_protected task (store_at pc may.node.state instr)) (io_end (device_of task.flash) + 1) some in
+        inl (found.0, caused (λ s y. may_write_protected task (store_at pc s y) found.0) instr is found.1.1)
     by_tests instr is false false indirect some =
-        inr (inl (caused (may_write_live words A f.bound pc) instr is
-        (untold (is_followed may.node.state.facts) (may_write_stack (device_of words) f.bound may.node.state instr) instr is refl refl indirect some)))
+        inr (inl (caused (λ s y. may_write_live task f.bound (store_at pc s y)) instr is
+        (untold (is_followed may.node.state.facts) (may_write_stack (device_of task.flash) f.bound may.node.state instr) instr is refl refl indirect some)))
 
-    by_instr : (x : Option Instr) → instruction_at words may.node.key.pc ≡ x → HasCause words A f pc
-    by_instr None is = absurd (may.unclear (clear_without words A f may.node is))
-    by_instr (Some instr) is = by_tests instr is (is_indirect instr) (may_write_some_protected words A pc may.node.state instr) refl refl
+    by_instr : (x : Option Instr) → instruction_at task.flash may.node.key.pc ≡ x → HasCause task f pc
+    by_instr None is = absurd (may.unclear (clear_without task f may.node is))
+    by_instr (Some instr) is = by_tests instr is (is_indirect instr) (may_write_some_protected task (store_at pc may.node.state instr)) refl refl
 
-    pub has_cause : HasCause words A f pc
-    has_cause = by_instr (instruction_at words may.node.key.pc) refl
+    pub has_cause : HasCause task f pc
+    has_cause = by_instr (instruction_at task.flash may.node.key.pc) refl
 
-  cause_there : (pc : ℕ) → HasCause words A f pc → MayBeFlagged words A f pc
-  cause_there pc (inl c) = forgets pc (λ s instr. may_write_protected words A pc s instr c.0) c.1
-  cause_there pc (inr (inl c)) = forgets pc (may_write_live words A f.bound pc) c
-  cause_there pc (inr (inr c)) = forgets pc (λ s instr. not (is_transfer_listed words A pc s instr)) c
+  cause_there : (pc : ℕ) → HasCause task f pc → MayBeFlagged task f pc
+  cause_there pc (inl c) = forgets pc (λ s instr. may_write_protected task (store_at pc s instr) c.0) c.1
+  cause_there pc (inr (inl c)) = forgets pc (λ s y. may_write_live task f.bound (store_at pc s y)) c
+  cause_there pc (inr (inr c)) = forgets pc (λ s instr. not (is_transfer_listed task pc s instr)) c
 
 pub places_have_causes : PlacesHaveCauses
-places_have_causes words A f pc = (has_cause words A f pc, cause_there words A f pc)
+places_have_causes task f pc = (has_cause task f pc, cause_there task f pc)

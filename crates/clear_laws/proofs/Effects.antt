@@ -1,7 +1,6 @@
 -- The stores and pushes of each instruction.
 use Rattle.std.proofs.Common.{◌≡◌, refl, subst, ℕ, ◌<◌, ◌≤◌, Bool, true, false, List, [], Option, Some, None, arith}
 use Rattle.avr_model.proofs.AllLaws.{devices_are_alike}
-use Rattle.avr_model.specs.declared.assumption.Entry.{Entry}
 use Rattle.avr_model.specs.declared.device.Device.{Device}
 use Rattle.avr_model.specs.declared.instruction.Instr.{Instr}
 use Rattle.avr_model.specs.declared.instruction.Instr.TheVariants as i
@@ -40,6 +39,7 @@ use Rattle.clear_laws.specs.Clear.{stored_bits}
 use Rattle.clear_laws.proofs.Ports.{PortFits}
 use Rattle.clear_laws.proofs.Rows.{pushes}
 use Rattle.clear_laws.proofs.Aims.{IsAimed, displaced, by_pointer, direct, displaced_permitted, pointer_permitted}
+use Rattle.local_rules.specs.Site.{Task, site_at}
 
 -- the stack pointer is whole
 abbrev pub IsSpWhole : SpForm → Type 0
@@ -85,7 +85,7 @@ module _ (device : Device) (k : NodeKey) where
   whole_indirect None h = whole_by k.sp k.pc _ h
   whole_indirect (Some targets) h = whole_by k.sp k.pc _ h
 
-  whole_relative : (scratch : Bool) (s : AbsState) (target : ℕ) → (relative_call device scratch k s target).faults ≡ [] → IsSpWhole k.sp
+  whole_relative : (scratch : Bool) (s : AbsState) (target : ℕ) → (relative_call scratch (site_at device k s) target).faults ≡ [] → IsSpWhole k.sp
   whole_relative true s target h = whole_at k.sp k.pc _ h
   whole_relative false s target h = whole_by k.sp k.pc _ h
 
@@ -129,10 +129,10 @@ module _ (words : Program) (m : State) where
 
 -- ---- the table, where the row is that of a state t of which the node may have forgotten something
 
-module _ {followed may : Bool} (words : Program) (A : List Entry) (m : State) (o : Origin) (k : NodeKey) (s t : AbsState) (at : InFrameIn followed may m o k s) (scratch : Bool) (b1 b2 : ℕ) where
+module _ {followed may : Bool} (task : Task) (m : State) (o : Origin) (k : NodeKey) (s t : AbsState) (at : InFrameIn followed may m o k s) (scratch : Bool) (b1 b2 : ℕ) where
   abbrev DoesBy : Device → Instr → Type 0
   DoesBy device instr =
-      Does device m o.base k s instr (effect_of words m instr b1 b2) (row_of device words A scratch k t instr) (row_of device words A false k t instr)
+      Does device m o.base k s instr (effect_of task.flash m instr b1 b2) (row_of task scratch (site_at device k t) instr) (row_of task false (site_at device k t) instr)
 
   holds : (r : ℕ) → Has (bits s r) (register m r)
   holds r = (register_stands m o k s (bare_frame m o k s at) r).bits
@@ -147,9 +147,9 @@ module _ {followed may : Bool} (words : Program) (A : List Entry) (m : State) (o
   does_by (i.Fmul d r) fits = nothing refl refl
   does_by (i.Fmuls d r) fits = nothing refl refl
   does_by (i.Fmulsu d r) fits = nothing refl refl
-  does_by (i.Binary op d r) fits = let p = binary_plain words m op d r in nothing p.0 p.1
-  does_by (i.Immediate op d n) fits = let p = immediate_plain words m op d n in nothing p.0 p.1
-  does_by (i.Unary op d) fits = let p = unary_plain words m op d in nothing p.0 p.1
+  does_by (i.Binary op d r) fits = let p = binary_plain task.flash m op d r in nothing p.0 p.1
+  does_by (i.Immediate op d n) fits = let p = immediate_plain task.flash m op d n in nothing p.0 p.1
+  does_by (i.Unary op d) fits = let p = unary_plain task.flash m op d in nothing p.0 p.1
   does_by (i.Adiw d n) fits = nothing refl refl
   does_by (i.Sbiw d n) fits = nothing refl refl
   does_by (i.Bset n) fits = nothing refl refl
@@ -176,7 +176,7 @@ module _ {followed may : Bool} (words : Program) (A : List Entry) (m : State) (o
   does_by (i.Sbi a b) fits = to_port (port a) _ (port_low m.device a fits) refl refl refl
   does_by i.Ijmp fits = nothing refl refl
   does_by i.Icall fits =
-      entering _ (no_indirect_moves m.device k (targets_at m.device A k t)) refl (whole_indirect m.device k (targets_at m.device A k t)) refl refl refl
+      entering _ (no_indirect_moves m.device k (targets_at task.assumptions (site_at m.device k t))) refl (whole_indirect m.device k (targets_at task.assumptions (site_at m.device k t))) refl refl refl
   does_by i.Ret fits = nothing refl refl
   does_by i.Reti fits = nothing refl refl
   does_by (i.Jmp target) fits = nothing refl refl

@@ -4,13 +4,12 @@ use Rattle.std.specs.Prelude.{◌↔◌}
 use Rattle.std.proofs.lemmas.Bool.{cases_lt}
 use Rattle.std.proofs.lemmas.Option.{same_Some}
 use Rattle.basics.specs.Items.{none_in, first_in, further_in, first_or_further}
-use Rattle.avr_model.specs.declared.assumption.Entry.{Entry}
 use Rattle.avr_model.specs.declared.choice.Choice.{Choice}
 use Rattle.avr_model.specs.declared.choice.Flag.{Flag}
 use Rattle.avr_model.specs.declared.choice.Flag.TheVariants.{Live, Protected, Transfer}
 use Rattle.avr_model.specs.State.{State}
 use Rattle.avr_model.specs.Assumptions.{is_never}
-use Rattle.avr_model.specs.Devices.{Program, device_of}
+use Rattle.avr_model.specs.Devices.{device_of}
 use Rattle.avr_model.specs.Vectors.{vector_word}
 use Rattle.local_rules.specs.declared.local.Node.{Node}
 use Rattle.edge_rules.specs.Expansion.{IsFilled}
@@ -29,22 +28,23 @@ use Rattle.clear_laws.specs.Verdict.{AreAllClear, IsFirstUnclear, AreNevers}
 use Rattle.clear_laws.specs.Places.{word_of, IsPlaceOf, ArePlaces, TellsCause, AllTellCauses, AreToldOf}
 use Rattle.clear_laws.specs.CertificateLaws.{ClearVerdictsAreOne, ClearFirmwaresAreNeverFlagged, EndsByTakeAt, FlaggedRunsEndAtSites, FlaggedRunsEndAtPlaces}
 use Rattle.clear_laws.proofs.Places.{contains_at}
+use Rattle.local_rules.specs.Site.{Task, bare}
 
-module _ (words : Program) (A : List Entry) (c : Claim) where
-  pub not_both : (j pc : ℕ) → AreAllClear words A c → IsFirstUnclear words A c j pc → ⊥
+module _ (task : Task) (c : Claim) where
+  pub not_both : (j pc : ℕ) → AreAllClear task c → IsFirstUnclear task c j pc → ⊥
   not_both j pc all first =
-      let same = filled_or_missing.one words A c.nodes all.nodes first.nodes all.expanded first.expanded in
+      let same = filled_or_missing.one task c.nodes all.nodes first.nodes all.expanded first.expanded in
       first.unclear
-      (subst (λ (nodes : List Node). (n : Node) → Contains nodes n → IsClear words A (family_of c nodes) n) same all.clear first.node
+      (subst (λ (nodes : List Node). (n : Node) → Contains nodes n → IsClear task (family_of c nodes) n) same all.clear first.node
       (contains_at first.nodes j first.node first.is))
 
-  not_before : (i j pc pc' : ℕ) → IsFirstUnclear words A c i pc → IsFirstUnclear words A c j pc' → i < j → ⊥
+  not_before : (i j pc pc' : ℕ) → IsFirstUnclear task c i pc → IsFirstUnclear task c j pc' → i < j → ⊥
   not_before i j pc pc' a b lt =
-      let same = filled_or_missing.one words A c.nodes b.nodes a.nodes b.expanded a.expanded in
+      let same = filled_or_missing.one task c.nodes b.nodes a.nodes b.expanded a.expanded in
       a.unclear
-      (subst (λ (nodes : List Node). (i : ℕ) (n : Node) → slice_get nodes i ≡ Some n → i < j → IsClear words A (family_of c nodes) n) same b.earlier i a.node a.is lt)
+      (subst (λ (nodes : List Node). (i : ℕ) (n : Node) → slice_get nodes i ≡ Some n → i < j → IsClear task (family_of c nodes) n) same b.earlier i a.node a.is lt)
 
-  pub one_first : (i j pc pc' : ℕ) → IsFirstUnclear words A c i pc → IsFirstUnclear words A c j pc' → (i ≡ j) × (pc ≡ pc')
+  pub one_first : (i j pc pc' : ℕ) → IsFirstUnclear task c i pc → IsFirstUnclear task c j pc' → (i ≡ j) × (pc ≡ pc')
   one_first i j pc pc' a b = (numbers, sym a.word ∙ ap (λ (n : Node). n.key.pc) nodes_same ∙ b.word)
     where
       numbers : i ≡ j
@@ -54,14 +54,14 @@ module _ (words : Program) (A : List Entry) (c : Claim) where
 
       nodes_same : a.node ≡ b.node
       nodes_same =
-          let same = filled_or_missing.one words A c.nodes a.nodes b.nodes a.expanded b.expanded in
+          let same = filled_or_missing.one task c.nodes a.nodes b.nodes a.expanded b.expanded in
           same_Some a.node b.node (sym a.is ∙ ap (slice_get a.nodes) numbers ∙ ap (λ (nodes : List Node). slice_get nodes j) same ∙ b.is)
 
 pub clear_verdicts_are_one : ClearVerdictsAreOne
 clear_verdicts_are_one words c Clear Clear a b = refl
-clear_verdicts_are_one words c Clear (Unclear j pc) a b = absurd (not_both words [] c j pc a b)
-clear_verdicts_are_one words c (Unclear j pc) Clear a b = absurd (not_both words [] c j pc b a)
-clear_verdicts_are_one words c (Unclear i pc) (Unclear j pc') a b = let same = one_first words [] c i j pc pc' a b in ap₂ (λ x y. Unclear x y) same.0 same.1
+clear_verdicts_are_one words c Clear (Unclear j pc) a b = absurd (not_both (bare words) c j pc a b)
+clear_verdicts_are_one words c (Unclear j pc) Clear a b = absurd (not_both (bare words) c j pc b a)
+clear_verdicts_are_one words c (Unclear i pc) (Unclear j pc') a b = let same = one_first (bare words) c i j pc pc' a b in ap₂ (λ x y. Unclear x y) same.0 same.1
 
 -- the empty list has no `never` line
 no_line : (word : ℕ) → is_never [] word ≡ true → ⊥
@@ -70,19 +70,19 @@ no_line word e = cc
 
 pub clear_firmwares_are_never_flagged : ClearFirmwaresAreNeverFlagged
 clear_firmwares_are_never_flagged words c sized claim sound all =
-    let same = filled_or_missing.one words [] c.nodes all.nodes sound.nodes all.expanded sound.expanded in
-    let family = conditions_make_families_sound words [] c sound.nodes claim sound.expanded sound.meets in
-    let clear = subst (λ (nodes : List Node). (n : Node) → Contains nodes n → IsClear words [] (family_of c nodes) n) same all.clear in
+    let same = filled_or_missing.one (bare words) c.nodes all.nodes sound.nodes all.expanded sound.expanded in
+    let family = conditions_make_families_sound (bare words) c sound.nodes claim sound.expanded sound.meets in
+    let clear = subst (λ (nodes : List Node). (n : Node) → Contains nodes n → IsClear (bare words) (family_of c nodes) n) same all.clear in
     record {
-      bounded = sound_families_bound_every_run words [] (family_of c sound.nodes) sized family;
-      never = flagged_runs_are_told.never words [] (family_of c sound.nodes) sized family clear (λ word taken. no_line word taken.never);
+      bounded = sound_families_bound_every_run (bare words) (family_of c sound.nodes) sized family;
+      never = flagged_runs_are_told.never (bare words) (family_of c sound.nodes) sized family clear (λ word taken. no_line word taken.never);
     }
 
 -- a take that a node may do is at one of the listed words
-take_at : (words : Program) (A : List Entry) (c : Claim) (nodes : List Node) (nevers : List ℕ) (m : State) (choices : List Choice) → IsFilled words A c.nodes nodes
-    → AreNevers words A c nevers → EndsByTake words A nodes m choices → EndsByTakeAt words A nevers m choices
-take_at words A c nodes nevers m choices filled all at =
-    let alike = filled_or_missing.one words A c.nodes nodes all.nodes filled all.expanded in
+take_at : (task : Task) (c : Claim) (nodes : List Node) (nevers : List ℕ) (m : State) (choices : List Choice) → IsFilled task c.nodes nodes
+    → AreNevers task c nevers → EndsByTake task nodes m choices → EndsByTakeAt task nevers m choices
+take_at task c nodes nevers m choices filled all at =
+    let alike = filled_or_missing.one task c.nodes nodes all.nodes filled all.expanded in
     record {
       before = at.before;
       vector = at.vector;
@@ -90,18 +90,18 @@ take_at words A c nodes nevers m choices filled all at =
       rest = at.rest;
       are = at.are;
       passes = at.passes;
-      word = (all.exact (vector_word (device_of words) at.vector)).1
-          (subst (λ (nodes : List Node). MayBeTaken words A nodes (vector_word (device_of words) at.vector)) alike at.taken);
+      word = (all.exact (vector_word (device_of task.flash) at.vector)).1
+          (subst (λ (nodes : List Node). MayBeTaken task nodes (vector_word (device_of task.flash) at.vector)) alike at.taken);
     }
 
 pub flagged_runs_end_at_sites : FlaggedRunsEndAtSites
-flagged_runs_end_at_sites words A c sites nevers sized claim sound are all m choices flag reset run ends =
-    let same = filled_or_missing.one words A c.nodes sound.nodes are.nodes sound.expanded are.expanded in
-    let family = conditions_make_families_sound words A c sound.nodes claim sound.expanded sound.meets in
+flagged_runs_end_at_sites task c sites nevers sized claim sound are all m choices flag reset run ends =
+    let same = filled_or_missing.one task c.nodes sound.nodes are.nodes sound.expanded are.expanded in
+    let family = conditions_make_families_sound task c sound.nodes claim sound.expanded sound.meets in
     ⊎_elim
-    (λ at. inl ((are.exact (word_of_flag flag)).1 (subst (λ (nodes : List Node). MayBeFlagged words A (family_of c nodes) (word_of_flag flag)) same at)))
-    (λ at. inr (take_at words A c sound.nodes nevers m choices sound.expanded all at))
-    (flagged_runs_are_told.told words A (family_of c sound.nodes) m choices flag sized family reset run ends)
+    (λ at. inl ((are.exact (word_of_flag flag)).1 (subst (λ (nodes : List Node). MayBeFlagged task (family_of c nodes) (word_of_flag flag)) same at)))
+    (λ at. inr (take_at task c sound.nodes nevers m choices sound.expanded all at))
+    (flagged_runs_are_told.told task (family_of c sound.nodes) m choices flag sized family reset run ends)
 
 -- ---- with what may happen there
 
@@ -117,47 +117,47 @@ place_in (p ∷ ps) pc h =
     ⊎_elim (λ e. (p, (first_in p ps, sym e))) (λ more. let q = place_in ps pc more in (q.0, (further_in p q.0 ps q.1.0, q.1.1)))
     (first_or_further p.word pc (map word_of ps) h)
 
-module _ (words : Program) (A : List Entry) (c : Claim) (places : List FlaggedPlace) (are : ArePlaces words A c places) where
+module _ (task : Task) (c : Claim) (places : List FlaggedPlace) (are : ArePlaces task c places) where
   -- the words are those of the same nodes
-  words_told : (pc : ℕ) → Contains (map word_of places) pc ↔ MayBeFlagged words A (family_of c are.nodes) pc
+  words_told : (pc : ℕ) → Contains (map word_of places) pc ↔ MayBeFlagged task (family_of c are.nodes) pc
   words_told pc =
-      let same = filled_or_missing.one words A c.nodes are.sites.nodes are.nodes are.sites.expanded are.expanded in
-      subst (λ (nodes : List Node). Contains (map word_of places) pc ↔ MayBeFlagged words A (family_of c nodes) pc) same (are.sites.exact pc)
+      let same = filled_or_missing.one task c.nodes are.sites.nodes are.nodes are.sites.expanded are.expanded in
+      subst (λ (nodes : List Node). Contains (map word_of places) pc ↔ MayBeFlagged task (family_of c nodes) pc) same (are.sites.exact pc)
 
   some_cause : AllTellCauses places
-  some_cause place present = by ((places_have_causes words A (family_of c are.nodes) place.word).0 ((words_told place.word).0 (in_words places place present)))
+  some_cause place present = by ((places_have_causes task (family_of c are.nodes) place.word).0 ((words_told place.word).0 (in_words places place present)))
     where
-      is : IsPlaceOf words A (family_of c are.nodes) place
+      is : IsPlaceOf task (family_of c are.nodes) place
       is = are.each place present
 
-      by : HasCause words A (family_of c are.nodes) place.word → TellsCause place
+      by : HasCause task (family_of c are.nodes) place.word → TellsCause place
       by (inl p) = inl (λ none. none_in p.0 (subst (λ (xs : List ℕ). Contains xs p.0) none ((is.protected p.0).1 p.1)))
       by (inr (inl l)) = inr (inl (is.live.1 l))
       by (inr (inr t)) = inr (inr (is.transfer.1 t))
 
-  told_by : (flag : Flag) → MayFlag words A (family_of c are.nodes) flag → AreToldOf places flag
-  told_by flag caused = by flag caused (place_in places (word_of_flag flag) ((words_told (word_of_flag flag)).1 (may_be_flagged words A (family_of c are.nodes) flag caused)))
+  told_by : (flag : Flag) → MayFlag task (family_of c are.nodes) flag → AreToldOf places flag
+  told_by flag caused = by flag caused (place_in places (word_of_flag flag) ((words_told (word_of_flag flag)).1 (may_be_flagged task (family_of c are.nodes) flag caused)))
     where
-      by : (flag : Flag) → MayFlag words A (family_of c are.nodes) flag → (place : FlaggedPlace) × (Contains places place × (place.word ≡ word_of_flag flag)) → AreToldOf places flag
+      by : (flag : Flag) → MayFlag task (family_of c are.nodes) flag → (place : FlaggedPlace) × (Contains places place × (place.word ≡ word_of_flag flag)) → AreToldOf places flag
       by (Live pc a) caused p =
-          record { place = p.0; present = p.1.0; told = (p.1.1, (are.each p.0 p.1.0).live.1 (subst (MayWriteLive words A (family_of c are.nodes)) (sym p.1.1) caused)) }
+          record { place = p.0; present = p.1.0; told = (p.1.1, (are.each p.0 p.1.0).live.1 (subst (MayWriteLive task (family_of c are.nodes)) (sym p.1.1) caused)) }
       by (Protected pc a) caused p =
           record {
             place = p.0;
             present = p.1.0;
-            told = (p.1.1, ((are.each p.0 p.1.0).protected a).1 (subst (λ w. MayWriteProtected words A (family_of c are.nodes) w a) (sym p.1.1) caused));
+            told = (p.1.1, ((are.each p.0 p.1.0).protected a).1 (subst (λ w. MayWriteProtected task (family_of c are.nodes) w a) (sym p.1.1) caused));
           }
       by (Transfer pc target) caused p =
-          record { place = p.0; present = p.1.0; told = (p.1.1, (are.each p.0 p.1.0).transfer.1 (subst (MayGoUnlisted words A (family_of c are.nodes)) (sym p.1.1) caused)) }
+          record { place = p.0; present = p.1.0; told = (p.1.1, (are.each p.0 p.1.0).transfer.1 (subst (MayGoUnlisted task (family_of c are.nodes)) (sym p.1.1) caused)) }
 
 pub flagged_runs_end_at_places : FlaggedRunsEndAtPlaces
 flagged_runs_end_at_places =
     record {
-      ends = λ words A c places nevers sized claim sound are all m choices flag reset run ends.
-          let same = filled_or_missing.one words A c.nodes sound.nodes are.nodes sound.expanded are.expanded in
-          let family = conditions_make_families_sound words A c sound.nodes claim sound.expanded sound.meets in
-          ⊎_elim (λ caused. inl (told_by words A c places are flag (subst (λ (nodes : List Node). MayFlag words A (family_of c nodes) flag) same caused)))
-          (λ at. inr (take_at words A c sound.nodes nevers m choices sound.expanded all at))
-          (flagged_runs_are_told.caused words A (family_of c sound.nodes) m choices flag sized family reset run ends);
+      ends = λ task c places nevers sized claim sound are all m choices flag reset run ends.
+          let same = filled_or_missing.one task c.nodes sound.nodes are.nodes sound.expanded are.expanded in
+          let family = conditions_make_families_sound task c sound.nodes claim sound.expanded sound.meets in
+          ⊎_elim (λ caused. inl (told_by task c places are flag (subst (λ (nodes : List Node). MayFlag task (family_of c nodes) flag) same caused)))
+          (λ at. inr (take_at task c sound.nodes nevers m choices sound.expanded all at))
+          (flagged_runs_are_told.caused task (family_of c sound.nodes) m choices flag sized family reset run ends);
       told = some_cause;
     }

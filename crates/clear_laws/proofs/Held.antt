@@ -9,9 +9,7 @@ use Rattle.basics.specs.Items.{none_in}
 use Rattle.basics.specs.Lists.{get_inside}
 use Rattle.edge_rules.specs.Places.{found_at}
 use Rattle.certificate.proofs.AllLaws.{number_of}
-use Rattle.avr_model.specs.declared.assumption.Entry.{Entry}
 use Rattle.avr_model.specs.declared.device.Device.{Device}
-use Rattle.avr_model.specs.Devices.{Program}
 use Rattle.mask_states.specs.declared.keys.NodeKey.{NodeKey}
 use Rattle.mask_states.specs.Keys.{offset_of}
 use Rattle.local_rules.specs.declared.local.Node.{Node}
@@ -22,13 +20,14 @@ use Rattle.clear_laws.specs.declared.slots.SlotSeed.{SlotSeed}
 use Rattle.clear_laws.specs.Links.{offsets_of, AreLinks}
 use Rattle.clear_laws.specs.CertificateLaws.{SlotsSpreadAlongLinks}
 use Rattle.clear_laws.proofs.Places.{contains_at, same_node_at, own_number}
+use Rattle.local_rules.specs.Site.{Task}
 
 offset_there : (nodes : List Node) (at : ℕ) (n : Node) → slice_get nodes at ≡ Some n → offset_at (offsets_of nodes) at ≡ offset_of n.key.sp
 offset_there [] at n e = absurd (none-some n e)
 offset_there (x ∷ nodes) zero n e = ap (λ (m : Node). offset_of m.key.sp) (same_Some x n e)
 offset_there (x ∷ nodes) (suc at) n e = offset_there nodes at n e
 
-module _ (words : Program) (A : List Entry) (nodes : List Node) (links : List (List ℕ)) (offsets : List ℕ) (seeds : List SlotSeed) (are : AreLinks words A nodes links offsets seeds)
+module _ (task : Task) (nodes : List Node) (links : List (List ℕ)) (offsets : List ℕ) (seeds : List SlotSeed) (are : AreLinks task nodes links offsets seeds)
     {device : Device} (shown : AreShown device nodes) where
   abbrev Reaching : ℕ → ℕ → Type 0
   Reaching d k = SlotReaches links offsets seeds d k
@@ -42,23 +41,23 @@ module _ (words : Program) (A : List Entry) (nodes : List Node) (links : List (L
       ⊎_elim (λ lt. omega (arith, lt, are.count))
       (λ past. absurd (none_in t (subst (λ (xs : List ℕ). Contains xs t) (get_or_past links k [] past) h))) (cases_lt k (length links))
 
-  reaches_holds : (d k : ℕ) → Reaching d k → (n : Node) → slice_get nodes k ≡ Some n → MayHold words A nodes n.key d
+  reaches_holds : (d k : ℕ) → Reaching d k → (n : Node) → slice_get nodes k ≡ Some n → MayHold task nodes n.key d
   reaches_holds d _ (begins k h) n is =
       let s = (are.seed (record { node = k; slot = d })).0 h in
       let found = found_at s.edge.to nodes k s.lands.1.1 in
       let key : s.edge.to ≡ n.key = sym found.same ∙ ap (λ (m : Node). m.key) (same_node_at nodes k found.node n found.is is) in
       let at_edge = pushed s.node s.edge (contains_at nodes s.at s.node s.is) s.from s.lands.1.0 s.lands.0 in
-      subst (λ (key : NodeKey). MayHold words A nodes key d) key (subst (MayHold words A nodes s.edge.to) (sym s.lands.1.2) at_edge)
+      subst (λ (key : NodeKey). MayHold task nodes key d) key (subst (MayHold task nodes s.edge.to) (sym s.lands.1.2) at_edge)
   reaches_holds d _ (along k t from h lt) n is =
       let m = get_inside nodes k (leads_inside k t h) in
       let e = (are.link k m.0 t m.1).0 h in
       let found = found_at e.0.to nodes t e.1.1.1 in
       let key : e.0.to ≡ n.key = sym found.same ∙ ap (λ (x : Node). x.key) (same_node_at nodes t found.node n found.is is) in
       let below : d < offset_of e.0.to.sp = subst (λ (x : ℕ). d < x) (offset_is t n is ∙ ap (λ (key : NodeKey). offset_of key.sp) (sym key)) lt in
-      subst (λ (key : NodeKey). MayHold words A nodes key d) key
+      subst (λ (key : NodeKey). MayHold task nodes key d) key
       (kept m.0 e.0 d (contains_at nodes k m.0 m.1) e.1.0 e.1.1.0 (reaches_holds d k from m.0 m.1) below)
 
-  holds_reaches : (key : NodeKey) (d : ℕ) → MayHold words A nodes key d → (t : ℕ) → place_of key nodes ≡ Some t → Reaching d t
+  holds_reaches : (key : NodeKey) (d : ℕ) → MayHold task nodes key d → (t : ℕ) → place_of key nodes ≡ Some t → Reaching d t
   holds_reaches _ _ (kept n e d member edge stays held lt) t place =
       let j = number_of nodes n member in
       let found = found_at e.to nodes t place in
@@ -72,8 +71,8 @@ module _ (words : Program) (A : List Entry) (nodes : List Node) (links : List (L
       ((are.seed (record { node = t; slot = offset_of n.key.sp })).1
       record { at = j.0; node = n; edge = e; is = j.1; from = edge; lands = (push, (local, place, refl)) })
 
-  pub held_there : (k d : ℕ) (n : Node) → slice_get nodes k ≡ Some n → Reaching d k ↔ MayHold words A nodes n.key d
+  pub held_there : (k d : ℕ) (n : Node) → slice_get nodes k ≡ Some n → Reaching d k ↔ MayHold task nodes n.key d
   held_there k d n is = (λ r. reaches_holds d k r n is, λ h. holds_reaches n.key d h k (own_number nodes k n shown is))
 
 pub slots_spread_along_links : SlotsSpreadAlongLinks
-slots_spread_along_links device words A nodes links offsets seeds are shown at d n is = held_there words A nodes links offsets seeds are shown at d n is
+slots_spread_along_links device task nodes links offsets seeds are shown at d n is = held_there task nodes links offsets seeds are shown at d n is

@@ -7,7 +7,6 @@ use Rattle.std.specs.Ordering.{nat_cmp}
 use Rattle.std.specs.declared.cmp.Ordering.TheVariants.{Less}
 use Rattle.std.proofs.lemmas.Bool.Decides.{nat_tests}
 use Rattle.basics.specs.Items.{none_in, first_in, further_in, first_or_further, contained_at}
-use Rattle.avr_model.specs.declared.assumption.Entry.{Entry}
 use Rattle.avr_model.specs.Devices.{Program}
 use Rattle.basics.specs.Lists.{same_head_and_tail}
 use Rattle.local_rules.specs.declared.local.Node.{Node}
@@ -22,6 +21,7 @@ use Rattle.clear_laws.specs.declared.place.FlaggedPlace.{FlaggedPlace}
 use Rattle.clear_laws.specs.Verdict.{AreAllClear, IsFirstUnclear, AreSites, AreNevers}
 use Rattle.clear_laws.specs.Places.{word_of, IsPlaceOf}
 use Rattle.clear_laws.specs.ListLaws.{SitesAreOne, PlacesAreOne, NeversAreOne, ClearWhereNoSites}
+use Rattle.local_rules.specs.Site.{Task, bare}
 
 -- ---- ascending lists with the same members are the same
 
@@ -62,13 +62,13 @@ same_lists (x ∷ xs) (y ∷ ys) hx hy to from =
 
 -- ---- the laws
 
-one_way : (words : Program) (A : List Entry) (c : Claim) (xs ys : List ℕ) → AreSites words A c xs → AreSites words A c ys → (pc : ℕ) → Contains xs pc → Contains ys pc
-one_way words A c xs ys a b pc h =
-    let same = filled_or_missing.one words A c.nodes a.nodes b.nodes a.expanded b.expanded in
-    (b.exact pc).1 (subst (λ (nodes : List Node). MayBeFlagged words A (family_of c nodes) pc) same ((a.exact pc).0 h))
+one_way : (task : Task) (c : Claim) (xs ys : List ℕ) → AreSites task c xs → AreSites task c ys → (pc : ℕ) → Contains xs pc → Contains ys pc
+one_way task c xs ys a b pc h =
+    let same = filled_or_missing.one task c.nodes a.nodes b.nodes a.expanded b.expanded in
+    (b.exact pc).1 (subst (λ (nodes : List Node). MayBeFlagged task (family_of c nodes) pc) same ((a.exact pc).0 h))
 
 pub sites_are_one : SitesAreOne
-sites_are_one words A c xs ys a b = same_lists xs ys a.ascending b.ascending (one_way words A c xs ys a b) (one_way words A c ys xs b a)
+sites_are_one task c xs ys a b = same_lists xs ys a.ascending b.ascending (one_way task c xs ys a b) (one_way task c ys xs b a)
 
 -- ---- what may happen at a word
 
@@ -81,19 +81,19 @@ same_test P false true h g = h.1 (g.0 refl)
 abbrev flagged_place : ℕ → List ℕ → Bool → Bool → FlaggedPlace
 flagged_place word protected live transfer = record { word = word; protected = protected; live = live; transfer = transfer }
 
-module _ (words : Program) (A : List Entry) (f : RankedFamily) where
-  one_place : (x y : FlaggedPlace) → x.word ≡ y.word → IsPlaceOf words A f x → IsPlaceOf words A f y → x ≡ y
+module _ (task : Task) (f : RankedFamily) where
+  one_place : (x y : FlaggedPlace) → x.word ≡ y.word → IsPlaceOf task f x → IsPlaceOf task f y → x ≡ y
   one_place x y e h k =
-      let here : IsPlaceOf words A f (flagged_place x.word y.protected y.live y.transfer) = subst (λ w. IsPlaceOf words A f (flagged_place w y.protected y.live y.transfer)) (sym e) k in
+      let here : IsPlaceOf task f (flagged_place x.word y.protected y.live y.transfer) = subst (λ w. IsPlaceOf task f (flagged_place w y.protected y.live y.transfer)) (sym e) k in
       let protected : x.protected ≡ y.protected =
       same_lists x.protected y.protected h.ascending here.ascending (λ a m. (here.protected a).1 ((h.protected a).0 m)) (λ a m. (h.protected a).1 ((here.protected a).0 m)) in
-      let live : x.live ≡ y.live = same_test (MayWriteLive words A f x.word) x.live y.live h.live here.live in
-      let transfer : x.transfer ≡ y.transfer = same_test (MayGoUnlisted words A f x.word) x.transfer y.transfer h.transfer here.transfer in
+      let live : x.live ≡ y.live = same_test (MayWriteLive task f x.word) x.live y.live h.live here.live in
+      let transfer : x.transfer ≡ y.transfer = same_test (MayGoUnlisted task f x.word) x.transfer y.transfer h.transfer here.transfer in
       ap (λ w. flagged_place w x.protected x.live x.transfer) e ∙ ap (λ l. flagged_place y.word l x.live x.transfer) protected
       ∙ ap (λ t. flagged_place y.word y.protected t x.transfer) live ∙ ap (λ t. flagged_place y.word y.protected y.live t) transfer
 
-  same_places : (xs ys : List FlaggedPlace) → map word_of xs ≡ map word_of ys → ((p : FlaggedPlace) → Contains xs p → IsPlaceOf words A f p)
-      → ((p : FlaggedPlace) → Contains ys p → IsPlaceOf words A f p) → xs ≡ ys
+  same_places : (xs ys : List FlaggedPlace) → map word_of xs ≡ map word_of ys → ((p : FlaggedPlace) → Contains xs p → IsPlaceOf task f p)
+      → ((p : FlaggedPlace) → Contains ys p → IsPlaceOf task f p) → xs ≡ ys
   same_places [] [] e h k = refl
   same_places [] (y ∷ ys) e h k = absurd (cc)
   same_places (x ∷ xs) [] e h k = absurd (cc)
@@ -103,35 +103,35 @@ module _ (words : Program) (A : List Entry) (f : RankedFamily) where
       (same_places xs ys both.1 (λ p m. h p (further_in x p xs m)) (λ p m. k p (further_in y p ys m)))
 
 pub places_are_one : PlacesAreOne
-places_are_one words A c xs ys a b =
-    let same = filled_or_missing.one words A c.nodes a.nodes b.nodes a.expanded b.expanded in
-    same_places words A (family_of c b.nodes) xs ys (sites_are_one words A c (map word_of xs) (map word_of ys) a.sites b.sites)
-    (subst (λ (nodes : List Node). (p : FlaggedPlace) → Contains xs p → IsPlaceOf words A (family_of c nodes) p) same a.each) b.each
+places_are_one task c xs ys a b =
+    let same = filled_or_missing.one task c.nodes a.nodes b.nodes a.expanded b.expanded in
+    same_places task (family_of c b.nodes) xs ys (sites_are_one task c (map word_of xs) (map word_of ys) a.sites b.sites)
+    (subst (λ (nodes : List Node). (p : FlaggedPlace) → Contains xs p → IsPlaceOf task (family_of c nodes) p) same a.each) b.each
 
-one_take : (words : Program) (A : List Entry) (c : Claim) (xs ys : List ℕ) → AreNevers words A c xs → AreNevers words A c ys → (w : ℕ) → Contains xs w → Contains ys w
-one_take words A c xs ys a b w h =
-    let same = filled_or_missing.one words A c.nodes a.nodes b.nodes a.expanded b.expanded in
-    (b.exact w).1 (subst (λ (nodes : List Node). MayBeTaken words A nodes w) same ((a.exact w).0 h))
+one_take : (task : Task) (c : Claim) (xs ys : List ℕ) → AreNevers task c xs → AreNevers task c ys → (w : ℕ) → Contains xs w → Contains ys w
+one_take task c xs ys a b w h =
+    let same = filled_or_missing.one task c.nodes a.nodes b.nodes a.expanded b.expanded in
+    (b.exact w).1 (subst (λ (nodes : List Node). MayBeTaken task nodes w) same ((a.exact w).0 h))
 
 pub nevers_are_one : NeversAreOne
-nevers_are_one words A c xs ys a b = same_lists xs ys a.ascending b.ascending (one_take words A c xs ys a b) (one_take words A c ys xs b a)
+nevers_are_one task c xs ys a b = same_lists xs ys a.ascending b.ascending (one_take task c xs ys a b) (one_take task c ys xs b a)
 
-listed : (words : Program) (c : Claim) (j pc : ℕ) (sites : List ℕ) → IsFirstUnclear words [] c j pc → AreSites words [] c sites → Contains sites pc
+listed : (words : Program) (c : Claim) (j pc : ℕ) (sites : List ℕ) → IsFirstUnclear (bare words) c j pc → AreSites (bare words) c sites → Contains sites pc
 listed words c j pc sites first are =
-    let same = filled_or_missing.one words [] c.nodes first.nodes are.nodes first.expanded are.expanded in
-    let m : MayBeFlagged words [] (family_of c first.nodes) pc =
+    let same = filled_or_missing.one (bare words) c.nodes first.nodes are.nodes first.expanded are.expanded in
+    let m : MayBeFlagged (bare words) (family_of c first.nodes) pc =
     record { node = first.node; present = contained_at first.nodes j first.node first.is; is = first.word; unclear = first.unclear } in
-    (are.exact pc).1 (subst (λ (nodes : List Node). MayBeFlagged words [] (family_of c nodes) pc) same m)
+    (are.exact pc).1 (subst (λ (nodes : List Node). MayBeFlagged (bare words) (family_of c nodes) pc) same m)
 
-pub none_where_clear : (words : Program) (A : List Entry) (c : Claim) (sites : List ℕ) → AreSites words A c sites → AreAllClear words A c → sites ≡ []
-none_where_clear words A c [] are all = refl
-none_where_clear words A c (pc ∷ sites) are all =
-    let same = filled_or_missing.one words A c.nodes all.nodes are.nodes all.expanded are.expanded in
+pub none_where_clear : (task : Task) (c : Claim) (sites : List ℕ) → AreSites task c sites → AreAllClear task c → sites ≡ []
+none_where_clear task c [] are all = refl
+none_where_clear task c (pc ∷ sites) are all =
+    let same = filled_or_missing.one task c.nodes all.nodes are.nodes all.expanded are.expanded in
     let m = (are.exact pc).0 (first_in pc sites) in
-    absurd (m.unclear (subst (λ (nodes : List Node). (n : Node) → Contains nodes n → IsClear words A (family_of c nodes) n) same all.clear m.node m.present))
+    absurd (m.unclear (subst (λ (nodes : List Node). (n : Node) → Contains nodes n → IsClear task (family_of c nodes) n) same all.clear m.node m.present))
 
 pub clear_where_no_sites : ClearWhereNoSites
-clear_where_no_sites words c Clear sites all are = (λ e. none_where_clear words [] c sites are all, λ e. refl)
+clear_where_no_sites words c Clear sites all are = (λ e. none_where_clear (bare words) c sites are all, λ e. refl)
 clear_where_no_sites words c (Unclear j pc) sites first are = (
   λ e. absurd cc,
   λ e. absurd (none_in pc (subst (λ (xs : List ℕ). Contains xs pc) e (listed words c j pc sites first are))),

@@ -3,7 +3,6 @@ use Rattle.std.proofs.Common.{◌≡◌, refl, sym, ap, ap₂, ◌∙◌, subst,
 use Rattle.std.proofs.lemmas.Bool.{not-true}
 use Rattle.frame_laws.proofs.AllLaws.{if_done}
 use Rattle.local_laws.proofs.AllLaws.{done_is}
-use Rattle.avr_model.specs.declared.assumption.Entry.{Entry}
 use Rattle.avr_model.specs.declared.instruction.Instr.{Instr}
 use Rattle.avr_model.specs.declared.choice.Choice.{Choice}
 use Rattle.avr_model.specs.declared.choice.Choice.TheVariants.{Go, Take}
@@ -29,6 +28,7 @@ use Rattle.clear_laws.proofs.Memory.{IsPushedAt, inside_if_live, live_comes, liv
 use Rattle.clear_laws.proofs.Ports.{ports_fit}
 use Rattle.clear_laws.proofs.Effects.{IsSpWhole, Does, nothing, to_port, by_aim, pushing, entering as enters, does}
 use Rattle.clear_laws.proofs.Rows.{IsPlainRow, pushes, row_of_pushing}
+use Rattle.local_rules.specs.Site.{Task, site_at}
 
 -- ---- what a step that is done did
 
@@ -44,44 +44,44 @@ pub record Went (words : Program) (m n : State) (b1 b2 : ℕ) : Type 0 where
   pub is : instruction_at words m.pc ≡ Some instr
   pub leads : after m (not (is_scratch words m.pc)) (effect_of words m instr b1 b2) ≡ n
 
-module _ (words : Program) (A : List Entry) (m n : State) where
-  went_by : (b1 b2 : ℕ) (x : Option Instr) → instruction_at words m.pc ≡ x → go words A m x b1 b2 ≡ Done n → Went words m n b1 b2
+module _ (task : Task) (m n : State) where
+  went_by : (b1 b2 : ℕ) (x : Option Instr) → instruction_at task.flash m.pc ≡ x → go task.flash task.assumptions m x b1 b2 ≡ Done n → Went task.flash m n b1 b2
   went_by b1 b2 None is e = absurd (cc)
   went_by b1 b2 (Some instr) is e =
-      let effect = effect_of words m instr b1 b2 in
+      let effect = effect_of task.flash m instr b1 b2 in
       record {
         instr = instr;
         is = is;
         leads =
-            flags_done m.pc (live_write m.memory (effect.stores ++ effect.pushes)) (protected_write words A m.pc instr effect) (unlisted_transfer A m.pc instr effect)
-            (after m (not (is_scratch words m.pc)) effect) n
-            (if_done (all_inside m.device effect.pushes || is_unlisted (unlisted_transfer A m.pc instr effect)) _ (Overflow m.pc) n (λ k wrong. cc) e);
+            flags_done m.pc (live_write m.memory (effect.stores ++ effect.pushes)) (protected_write task.flash task.assumptions m.pc instr effect) (unlisted_transfer task.assumptions m.pc instr effect)
+            (after m (not (is_scratch task.flash m.pc)) effect) n
+            (if_done (all_inside m.device effect.pushes || is_unlisted (unlisted_transfer task.assumptions m.pc instr effect)) _ (Overflow m.pc) n (λ k wrong. cc) e);
       }
 
-  went : (b1 b2 : ℕ) → step words A m (Go b1 b2) ≡ Done n → Went words m n b1 b2
-  went b1 b2 e = went_by b1 b2 (instruction_at words m.pc) refl e
+  went : (b1 b2 : ℕ) → step task.flash task.assumptions m (Go b1 b2) ≡ Done n → Went task.flash m n b1 b2
+  went b1 b2 e = went_by b1 b2 (instruction_at task.flash m.pc) refl e
 
-  took : (v : ℕ) (clears : Bool) → step words A m (Take v clears) ≡ Done n → after m true (entering m v clears) ≡ n
+  took : (v : ℕ) (clears : Bool) → step task.flash task.assumptions m (Take v clears) ≡ Done n → after m true (entering m v clears) ≡ n
   took v clears e =
       let effect = entering m v clears in
-      let legal = if_done (may_take m v clears) (take A m effect) Illegal n (λ k wrong. cc) e in
-      flags_done m.pc (live_write m.memory effect.pushes) None (never_target A effect.pc) (after m true effect) n
-      (if_done (all_inside m.device effect.pushes || is_unlisted (never_target A effect.pc)) _ (Overflow m.pc) n (λ k wrong. cc) legal)
+      let legal = if_done (may_take m v clears) (take task.assumptions m effect) Illegal n (λ k wrong. cc) e in
+      flags_done m.pc (live_write m.memory effect.pushes) None (never_target task.assumptions effect.pc) (after m true effect) n
+      (if_done (all_inside m.device effect.pushes || is_unlisted (never_target task.assumptions effect.pc)) _ (Overflow m.pc) n (λ k wrong. cc) legal)
 
 -- ---- what comes to be live
 
 -- This byte was pushed: at the stack pointer or below it, by a node with a whole one. The instruction is a guarded push of it, or has no
 -- successor in its frame.
-pub record Fresh (words : Program) (A : List Entry) (g : Frame) (n : State) (c : Choice) (a : ℕ) : Type 0 where
+pub record Fresh (task : Task) (g : Frame) (n : State) (c : Choice) (a : ℕ) : Type 0 where
   pub offset : ℕ
   pub closed : g.node.key.sp ≡ Closed offset
   pub low : a + offset ≤ g.origin.base
   pub whole : n.is_open ≡ false
   pub which : (b1 b2 : ℕ) → c ≡ Go b1 b2
-      → ((is_guarded_push words g.node.key.pc ≡ true) × (a + offset ≡ g.origin.base)) ⊎ ((raw_of words A g.node).moves ≡ [])
+      → ((is_guarded_push task.flash g.node.key.pc ≡ true) × (a + offset ≡ g.origin.base)) ⊎ ((raw_of task g.node).moves ≡ [])
 
-abbrev pub ComesFrom : Program → List Entry → Frame → State → State → Choice → Type 0
-ComesFrom words A g m n c = (a : ℕ) → is_live n.memory a ≡ true → (is_live m.memory a ≡ true) ⊎ Fresh words A g n c a
+abbrev pub ComesFrom : Task → Frame → State → State → Choice → Type 0
+ComesFrom task g m n c = (a : ℕ) → is_live n.memory a ≡ true → (is_live m.memory a ≡ true) ⊎ Fresh task g n c a
 
 -- no byte at or below a whole stack pointer is live
 abbrev pub IsLiveAbove : State → Type 0
@@ -109,49 +109,49 @@ guarded_by words pc pc' instr same is push guarded =
 pub whole_sp : (base : ℕ) (is_open : Bool) (sp offset : ℕ) (form : SpForm) → form ≡ Closed offset → SpIs base is_open sp form → sp + offset ≡ base
 whole_sp base is_open sp offset form e h = (subst (SpIs base is_open sp) e h).1
 
-module _ (words : Program) (A : List Entry) (f : RankedFamily) (sound : IsSoundFamily words A f) (m n : State) (few : n.memory.below + length n.memory.live < 16896) (g : Frame) (gs : List Frame)
-    (runs : Runs words A f m g gs) where
+module _ (task : Task) (f : RankedFamily) (sound : IsSoundFamily task f) (m n : State) (few : n.memory.below + length n.memory.live < 16896) (g : Frame) (gs : List Frame)
+    (runs : Runs task f m g gs) where
   at_sp : (offset : ℕ) → g.node.key.sp ≡ Closed offset → m.sp + offset ≡ g.origin.base
   at_sp offset e = whole_sp g.origin.base m.is_open m.sp offset g.node.key.sp e runs.running.place.sp
 
   low_live : (a : ℕ) → is_live n.memory a ≡ true → a < 16896
   low_live a live = omega (arith, inside_if_live n.memory.below n.memory.live a live, few)
 
-  module _ (b1 b2 : ℕ) (w : Went words m n b1 b2) where
+  module _ (b1 b2 : ℕ) (w : Went task.flash m n b1 b2) where
     abbrev k : NodeKey
     k = g.node.key
 
     abbrev effect : Effect
-    effect = effect_of words m w.instr b1 b2
+    effect = effect_of task.flash m w.instr b1 b2
 
     abbrev scratch : Bool
-    scratch = is_scratch words k.pc
+    scratch = is_scratch task.flash k.pc
 
     abbrev state : AbsState
     state = before w.instr g.node.state
 
-    here : instruction_at words k.pc ≡ Some w.instr
-    here = subst (λ p. instruction_at words p ≡ Some w.instr) runs.running.place.pc w.is
+    here : instruction_at task.flash k.pc ≡ Some w.instr
+    here = subst (λ p. instruction_at task.flash p ≡ Some w.instr) runs.running.place.pc w.is
 
-    row : pushes w.instr ≡ true → IsPlainRow words A k g.node.state w.instr
-    row = row_of_pushing words A k g.node.state w.instr here (sound.faultless g.node runs.present)
+    row : pushes w.instr ≡ true → IsPlainRow task k g.node.state w.instr
+    row = row_of_pushing task k g.node.state w.instr here (sound.faultless g.node runs.present)
 
     -- the row of a guarded instruction is that of one that isn't scratch
-    still : pushes w.instr ≡ true → not (is_scratch words m.pc) ≡ true → (row_of (device_of words) words A false k state w.instr).moves ≡ []
-        → (raw_of words A g.node).moves ≡ []
+    still : pushes w.instr ≡ true → not (is_scratch task.flash m.pc) ≡ true → (row_of task false (site_at (device_of task.flash) k state) w.instr).moves ≡ []
+        → (raw_of task g.node).moves ≡ []
     still plain guarded none =
         (row plain).none
-        (ap (λ b. (row_of (device_of words) words A b k state w.instr).moves) (not-true scratch (subst (λ p. not (is_scratch words p) ≡ true) runs.running.place.pc guarded)) ∙ none)
+        (ap (λ b. (row_of task b (site_at (device_of task.flash) k state) w.instr).moves) (not-true scratch (subst (λ p. not (is_scratch task.flash p) ≡ true) runs.running.place.pc guarded)) ∙ none)
 
-    open_is : (after m (not (is_scratch words m.pc)) effect).is_open ≡ n.is_open
+    open_is : (after m (not (is_scratch task.flash m.pc)) effect).is_open ≡ n.is_open
     open_is = ap (λ (x : State). x.is_open) w.leads
 
     whole : effect.is_open ≡ false → effect.stores ≡ [] → n.is_open ≡ false
     whole closed none = sym open_is ∙ ap₂ open_after closed none
 
-    fresh : (a : ℕ) → a < 16896 → not (is_scratch words m.pc) ≡ true → IsPushedAt effect.pushes a
-        → Does (device_of words) m g.origin.base k g.node.state w.instr effect (row_of (device_of words) words A scratch k state w.instr) (row_of (device_of words) words A false k state w.instr)
-        → Fresh words A g n (Go b1 b2) a
+    fresh : (a : ℕ) → a < 16896 → not (is_scratch task.flash m.pc) ≡ true → IsPushedAt effect.pushes a
+        → Does (device_of task.flash) m g.origin.base k g.node.state w.instr effect (row_of task scratch (site_at (device_of task.flash) k state) w.instr) (row_of task false (site_at (device_of task.flash) k state) w.instr)
+        → Fresh task g n (Go b1 b2) a
     fresh a inside guarded at (nothing stores pushes) = absurd (subst (λ ws. IsPushedAt ws a) pushes at)
     fresh a inside guarded at (to_port b byte low plain stores pushes) = absurd (subst (λ ws. IsPushedAt ws a) pushes at)
     fresh a inside guarded at (by_aim b byte aim is aimed may has stores pushes) = absurd (subst (λ ws. IsPushedAt ws a) pushes at)
@@ -164,7 +164,7 @@ module _ (words : Program) (A : List Entry) (f : RankedFamily) (sound : IsSoundF
           closed = form.1;
           low = omega (arith, top, sp);
           whole = whole closed stores;
-          which = λ c1 c2 e. inl (guarded_by words m.pc k.pc w.instr runs.running.place.pc w.is push guarded, omega (arith, top, sp));
+          which = λ c1 c2 e. inl (guarded_by task.flash m.pc k.pc w.instr runs.running.place.pc w.is push guarded, omega (arith, top, sp));
         }
     fresh a inside guarded at (enters back none plain closes closed stores pushes) =
         let form = closes (row plain).faultless in
@@ -176,21 +176,21 @@ module _ (words : Program) (A : List Entry) (f : RankedFamily) (sound : IsSoundF
           which = λ c1 c2 e. inr (still plain guarded none);
         }
 
-    comes_going : ComesFrom words A g m n (Go b1 b2)
+    comes_going : ComesFrom task g m n (Go b1 b2)
     comes_going a live =
-        let guarded = not (is_scratch words m.pc) in
+        let guarded = not (is_scratch task.flash m.pc) in
         let was = subst (λ (x : State). is_live x.memory a ≡ true) (sym w.leads) live in
         ⊎_elim (λ l. inl l)
         (λ p. inr (fresh a (low_live a live) p.0 p.1
-        (does words A m g.origin k g.node.state state runs.running scratch b1 b2 (device_of words) runs.device w.instr (ports_fit words m.pc w.instr w.is))))
+        (does task m g.origin k g.node.state state runs.running scratch b1 b2 (device_of task.flash) runs.device w.instr (ports_fit task.flash m.pc w.instr w.is))))
         (live_comes m.memory (sp_after effect.sp effect.stores) effect.stores effect.pushes a guarded (open_after effect.is_open effect.stores) was)
 
-  pub comes_by_go : (b1 b2 : ℕ) → step words A m (Go b1 b2) ≡ Done n → ComesFrom words A g m n (Go b1 b2)
-  comes_by_go b1 b2 e = comes_going b1 b2 (went words A m n b1 b2 e)
+  pub comes_by_go : (b1 b2 : ℕ) → step task.flash task.assumptions m (Go b1 b2) ≡ Done n → ComesFrom task g m n (Go b1 b2)
+  comes_by_go b1 b2 e = comes_going b1 b2 (went task m n b1 b2 e)
 
-  pub comes_by_take : (v : ℕ) (clears : Bool) → step words A m (Take v clears) ≡ Done n → IsSpWhole g.node.key.sp → ComesFrom words A g m n (Take v clears)
+  pub comes_by_take : (v : ℕ) (clears : Bool) → step task.flash task.assumptions m (Take v clears) ≡ Done n → IsSpWhole g.node.key.sp → ComesFrom task g m n (Take v clears)
   comes_by_take v clears e form a live =
-      let leads = took words A m n v clears e in
+      let leads = took task m n v clears e in
       let effect = entering m v clears in
       let was = subst (λ (x : State). is_live x.memory a ≡ true) (sym leads) live in
       ⊎_elim (λ l. inl l)
@@ -203,6 +203,6 @@ module _ (words : Program) (A : List Entry) (f : RankedFamily) (sound : IsSoundF
       }))
       (live_comes m.memory effect.sp effect.stores effect.pushes a true effect.is_open was)
 
-  pub is_above : (c : Choice) → step words A m c ≡ Done n → IsLiveAbove n
-  is_above (Go b1 b2) e = let w = went words A m n b1 b2 e in subst IsLiveAbove w.leads (above_after m (not (is_scratch words m.pc)) (effect_of words m w.instr b1 b2))
-  is_above (Take v clears) e = subst IsLiveAbove (took words A m n v clears e) (above_after m true (entering m v clears))
+  pub is_above : (c : Choice) → step task.flash task.assumptions m c ≡ Done n → IsLiveAbove n
+  is_above (Go b1 b2) e = let w = went task m n b1 b2 e in subst IsLiveAbove w.leads (above_after m (not (is_scratch task.flash m.pc)) (effect_of task.flash m w.instr b1 b2))
+  is_above (Take v clears) e = subst IsLiveAbove (took task m n v clears e) (above_after m true (entering m v clears))

@@ -19,7 +19,7 @@ use Rattle.avr_model.specs.declared.effect.Effect.{Effect}
 use Rattle.avr_model.specs.declared.effect.Write.{Write}
 use Rattle.avr_model.specs.Assumptions.{jump_line, store_line, is_never, is_fixed_site, lists}
 use Rattle.avr_model.specs.Masks.{reads_masks, is_barred, enables_barred, admits_enables, is_flagged_write}
-use Rattle.avr_model.specs.Devices.{Program, io_end, ramend, wrapped, device_of}
+use Rattle.avr_model.specs.Devices.{io_end, ramend, wrapped, device_of}
 use Rattle.avr_model.specs.Sites.{instruction_at, is_scratch}
 use Rattle.avr_model.specs.State.{State, Memory, is_live, i_flag, minus16, register, pair, low, high}
 use Rattle.avr_model.specs.Vectors.{places, has_enables, is_core, is_protected, is_enabled, vector_word, watchdog}
@@ -52,6 +52,8 @@ use Rattle.clear_laws.proofs.Effects.{IsSpWhole, Does, nothing, to_port, by_aim,
 use Rattle.clear_laws.proofs.Rows.{row_of_pushing, not_hung}
 use Rattle.clear_laws.proofs.Steps.{whole_sp}
 use Rattle.clear_laws.proofs.Kept.{Holding}
+use Rattle.local_rules.specs.Site.{Task, site_at}
+use Rattle.clear_laws.specs.Clear.{store_at}
 
 -- ---- the three cases
 
@@ -104,32 +106,32 @@ guarded_write device A site value a byte has = by (admits_enables device A site)
         (or_cases (is_core a) (enables_barred device A a byte) h)
     by false h = h
 
-module _ (words : Program) (A : List Entry) (instr : Instr) (pc : ℕ) where
-  nothing_protected : (e : Effect) → e.stores ≡ [] → protected_write words A pc instr e ≡ None
+module _ (task : Task) (instr : Instr) (pc : ℕ) where
+  nothing_protected : (e : Effect) → e.stores ≡ [] → protected_write task.flash task.assumptions pc instr e ≡ None
   unfolding protected_write
   nothing_protected e none =
-      ap (λ ws. if is_pointer_store instr && not (is_fixed_site words A pc) then flagged_write (device_of words) A pc ws else None) none
-      ∙ none_stored (device_of words) A pc (is_pointer_store instr && not (is_fixed_site words A pc))
+      ap (λ ws. if is_pointer_store instr && not (is_fixed_site task.flash task.assumptions pc) then flagged_write (device_of task.flash) task.assumptions pc ws else None) none
+      ∙ none_stored (device_of task.flash) task.assumptions pc (is_pointer_store instr && not (is_fixed_site task.flash task.assumptions pc))
 
   -- an instruction that is no pointer store isn't flagged as one
-  store_alone : (e : Effect) → is_pointer_store instr ≡ false → protected_write words A pc instr e ≡ None
+  store_alone : (e : Effect) → is_pointer_store instr ≡ false → protected_write task.flash task.assumptions pc instr e ≡ None
   unfolding protected_write
-  store_alone e plain = ap (λ b. if b && not (is_fixed_site words A pc) then flagged_write (device_of words) A pc e.stores else None) plain
+  store_alone e plain = ap (λ b. if b && not (is_fixed_site task.flash task.assumptions pc) then flagged_write (device_of task.flash) task.assumptions pc e.stores else None) plain
 
   -- a flagged write goes to an address that may be flagged
   pub flagged_by_write : (s : AbsState) (a byte : ℕ) → Has (stored_bits s instr) byte
-      → (is_pointer_store instr && not (is_fixed_site words A pc) && is_flagged_write (device_of words) A pc a byte) ≡ true → is_flagged_address words A pc s instr a ≡ true
+      → (is_pointer_store instr && not (is_fixed_site task.flash task.assumptions pc) && is_flagged_write (device_of task.flash) task.assumptions pc a byte) ≡ true → is_flagged_address task (store_at pc s instr) a ≡ true
   flagged_by_write s a byte has h =
-      let parts = and_parts (is_pointer_store instr && not (is_fixed_site words A pc)) (is_flagged_write (device_of words) A pc a byte) h in
-      and_from _ _ parts.0 (guarded_write (device_of words) A pc (stored_bits s instr) a byte has parts.1)
+      let parts = and_parts (is_pointer_store instr && not (is_fixed_site task.flash task.assumptions pc)) (is_flagged_write (device_of task.flash) task.assumptions pc a byte) h in
+      and_from _ _ parts.0 (guarded_write (device_of task.flash) task.assumptions pc (stored_bits s instr) a byte has parts.1)
 
-  one_protected : (s : AbsState) (e : Effect) (a byte : ℕ) → Has (stored_bits s instr) byte → e.stores ≡ set a byte → is_flagged_address words A pc s instr a ≡ false
-      → protected_write words A pc instr e ≡ None
+  one_protected : (s : AbsState) (e : Effect) (a byte : ℕ) → Has (stored_bits s instr) byte → e.stores ≡ set a byte → is_flagged_address task (store_at pc s instr) a ≡ false
+      → protected_write task.flash task.assumptions pc instr e ≡ None
   unfolding protected_write
   one_protected s e a byte has stores free =
-      ap (λ ws. if is_pointer_store instr && not (is_fixed_site words A pc) then flagged_write (device_of words) A pc ws else None) stores
-      ∙ protected_by (is_pointer_store instr) (is_fixed_site words A pc) (is_flagged_write (device_of words) A pc a byte) a
-      (never (is_pointer_store instr && not (is_fixed_site words A pc) && is_flagged_write (device_of words) A pc a byte)
+      ap (λ ws. if is_pointer_store instr && not (is_fixed_site task.flash task.assumptions pc) then flagged_write (device_of task.flash) task.assumptions pc ws else None) stores
+      ∙ protected_by (is_pointer_store instr) (is_fixed_site task.flash task.assumptions pc) (is_flagged_write (device_of task.flash) task.assumptions pc a byte) a
+      (never (is_pointer_store instr && not (is_fixed_site task.flash task.assumptions pc) && is_flagged_write (device_of task.flash) task.assumptions pc a byte)
       (λ h. never_both _ (flagged_by_write s a byte has h) free))
 
 no_core : (device : Device) (a : ℕ) → io_end device < a → is_core a ≡ false
@@ -160,9 +162,9 @@ and_false a b c h = grind arith
 -- ---- what a store writes
 
 -- a write to this address isn't flagged
-record IsFreeToWrite (words : Program) (A : List Entry) (memory : Memory) (pc : ℕ) (s : AbsState) (instr : Instr) (a : ℕ) : Type 0 where
+record IsFreeToWrite (task : Task) (memory : Memory) (pc : ℕ) (s : AbsState) (instr : Instr) (a : ℕ) : Type 0 where
   dead : is_live memory a ≡ false
-  free : is_flagged_address words A pc s instr a ≡ false
+  free : is_flagged_address task (store_at pc s instr) a ≡ false
 
 both_ends : (a b : ℕ) → b ≤ a → a ≤ b → b ≡ a
 both_ends a b h g = omega arith
@@ -199,19 +201,19 @@ whole_where_taken device A k v (Closed offset) is i delay enabled allowed hung =
 whole_where_taken device A k v (Open offset high) is i delay enabled allowed hung =
     absurd (never_both (is_hung device A k (Open offset high)) (open_pairs_hang.hung device A k v offset high i delay enabled allowed) hung)
 
-module _ (words : Program) (A : List Entry) (f : RankedFamily) (sound : IsSoundFamily words A f) (m : State) (g : Frame) (gs : List Frame) (runs : Runs words A f m g gs)
-    (holds : Holding words A f m.memory g gs) where
+module _ (task : Task) (f : RankedFamily) (sound : IsSoundFamily task f) (m : State) (g : Frame) (gs : List Frame) (runs : Runs task f m g gs)
+    (holds : Holding task f m.memory g gs) where
   abbrev k : NodeKey
   k = g.node.key
 
   abbrev below : ℕ
-  below = io_end (device_of words)
+  below = io_end (device_of task.flash)
 
   abbrev top : ℕ
-  top = ramend (device_of words)
+  top = ramend (device_of task.flash)
 
   -- what holds of the machine's device holds of the image's
-  on_words : (P : Device → Type 0) → P m.device → P (device_of words)
+  on_words : (P : Device → Type 0) → P m.device → P (device_of task.flash)
   on_words P h = subst P runs.device h
 
   -- a live byte is in SRAM
@@ -227,10 +229,10 @@ module _ (words : Program) (A : List Entry) (f : RankedFamily) (sound : IsSoundF
   sp_at offset e = whole_sp g.origin.base m.is_open m.sp offset k.sp e runs.running.place.sp
 
   low_base : g.origin.base ≤ top
-  low_base = base_inside words A f m.memory gs k.inst g.origin runs.left
+  low_base = base_inside task f m.memory gs k.inst g.origin runs.left
 
   top_small : top < 16896
-  top_small = omega (arith, devices_are_alike.most_bytes (device_of words), devices_are_alike.most_io (device_of words))
+  top_small = omega (arith, devices_are_alike.most_bytes (device_of task.flash), devices_are_alike.most_io (device_of task.flash))
 
   -- bytes at a whole stack pointer and below it aren't live
   sp_dead : IsSpWhole k.sp → is_live m.memory m.sp ≡ false
@@ -243,51 +245,51 @@ module _ (words : Program) (A : List Entry) (f : RankedFamily) (sound : IsSoundF
       omega (arith, holds.above (minus16 m.sp 1) live, sp_at form.0 form.1, ap offset_of form.1, above (minus16 m.sp 1) live, inside (minus16 m.sp 1) live, low_base, top_small))
 
   -- the word of a vector
-  vector_is : (v : ℕ) → is_enabled m.device m.enables v ≡ true → wrapped m.device (vector_word m.device v) ≡ vector_word (device_of words) v
+  vector_is : (v : ℕ) → is_enabled m.device m.enables v ≡ true → wrapped m.device (vector_word m.device v) ≡ vector_word (device_of task.flash) v
   vector_is v enabled =
       devices_are_alike.same m.device (vector_word m.device v) (devices_are_alike.vectors m.device v (vector_small m.device m.enables v enabled))
       ∙ ap (λ device. vector_word device v) runs.device
 
   -- nothing is protected above I/O
-  high_free : (instr : Instr) (a : ℕ) → below < a → is_flagged_address words A k.pc g.node.state instr a ≡ false
-  high_free instr a lt = and_false (is_pointer_store instr) (not (is_fixed_site words A k.pc)) _ (unguarded (device_of words) A k.pc (stored_bits g.node.state instr) a lt)
+  high_free : (instr : Instr) (a : ℕ) → below < a → is_flagged_address task (store_at k.pc g.node.state instr) a ≡ false
+  high_free instr a lt = and_false (is_pointer_store instr) (not (is_fixed_site task.flash task.assumptions k.pc)) _ (unguarded (device_of task.flash) task.assumptions k.pc (stored_bits g.node.state instr) a lt)
 
   -- a harmless address
   abbrev under : ℕ → Bool
   under a = nat_lt below a && nat_le (a + f.bound) top
 
   abbrev outside : Instr → ℕ → Bool
-  outside instr a = nat_le a below && not (is_flagged_address words A k.pc g.node.state instr a)
+  outside instr a = nat_le a below && not (is_flagged_address task (store_at k.pc g.node.state instr) a)
 
-  under_free : (instr : Instr) (a : ℕ) → below < a → a + f.bound ≤ top → IsFreeToWrite words A m.memory k.pc g.node.state instr a
+  under_free : (instr : Instr) (a : ℕ) → below < a → a + f.bound ≤ top → IsFreeToWrite task m.memory k.pc g.node.state instr a
   under_free instr a low high =
       record { dead = never (is_live m.memory a) (λ live. omega (arith, high, holds.above a live, holds.depth)); free = high_free instr a (omega (arith, low)) }
 
-  over_free : (instr : Instr) (a : ℕ) → top < a → IsFreeToWrite words A m.memory k.pc g.node.state instr a
+  over_free : (instr : Instr) (a : ℕ) → top < a → IsFreeToWrite task m.memory k.pc g.node.state instr a
   over_free instr a over = record { dead = never (is_live m.memory a) (λ live. omega (arith, over, inside a live)); free = high_free instr a (omega (arith, over)) }
 
-  below_free : (instr : Instr) (a : ℕ) → a ≤ below → is_flagged_address words A k.pc g.node.state instr a ≡ false → IsFreeToWrite words A m.memory k.pc g.node.state instr a
+  below_free : (instr : Instr) (a : ℕ) → a ≤ below → is_flagged_address task (store_at k.pc g.node.state instr) a ≡ false → IsFreeToWrite task m.memory k.pc g.node.state instr a
   below_free instr a low free = record { dead = never (is_live m.memory a) (λ live. omega (arith, low, above a live)); free = free }
 
-  address_free : (instr : Instr) (a : ℕ) → is_address_harmless words A f.bound k.pc g.node.state instr a ≡ true → IsFreeToWrite words A m.memory k.pc g.node.state instr a
+  address_free : (instr : Instr) (a : ℕ) → is_address_harmless task f.bound (store_at k.pc g.node.state instr) a ≡ true → IsFreeToWrite task m.memory k.pc g.node.state instr a
   address_free instr a h = ⊎_elim (λ first. ⊎_elim by_under by_over (or_cases (under a) (nat_lt top a) first)) by_outside (or_cases (under a || nat_lt top a) (outside instr a) h)
     where
-      by_under : under a ≡ true → IsFreeToWrite words A m.memory k.pc g.node.state instr a
+      by_under : under a ≡ true → IsFreeToWrite task m.memory k.pc g.node.state instr a
       by_under t =
           let parts = and_parts (nat_lt below a) (nat_le (a + f.bound) top) t in
           under_free instr a (less_from_test below a parts.0) (at_most_from_test (a + f.bound) top parts.1)
 
-      by_over : nat_lt top a ≡ true → IsFreeToWrite words A m.memory k.pc g.node.state instr a
+      by_over : nat_lt top a ≡ true → IsFreeToWrite task m.memory k.pc g.node.state instr a
       by_over t = over_free instr a (less_from_test top a t)
 
-      by_outside : outside instr a ≡ true → IsFreeToWrite words A m.memory k.pc g.node.state instr a
+      by_outside : outside instr a ≡ true → IsFreeToWrite task m.memory k.pc g.node.state instr a
       by_outside t =
-          let parts = and_parts (nat_le a below) (not (is_flagged_address words A k.pc g.node.state instr a)) t in
-          below_free instr a (at_most_from_test a below parts.0) (not-true (is_flagged_address words A k.pc g.node.state instr a) parts.1)
+          let parts = and_parts (nat_le a below) (not (is_flagged_address task (store_at k.pc g.node.state instr) a)) t in
+          below_free instr a (at_most_from_test a below parts.0) (not-true (is_flagged_address task (store_at k.pc g.node.state instr) a) parts.1)
 
   -- a harmless store
-  harmless_free : (instr : Instr) (aim : Aim) (a : ℕ) → IsAimed g.origin.base aim a → may_write g.node.state instr a ≡ true → IsHarmless words A f g.node instr aim
-      → IsFreeToWrite words A m.memory k.pc g.node.state instr a
+  harmless_free : (instr : Instr) (aim : Aim) (a : ℕ) → IsAimed g.origin.base aim a → may_write g.node.state instr a ≡ true → IsHarmless task f g.node instr aim
+      → IsFreeToWrite task m.memory k.pc g.node.state instr a
   harmless_free instr aim a aimed may (no_address is) = absurd (subst (λ r. IsStoreReached r a) is aimed.reach)
   harmless_free instr aim a aimed may (under_stack span is low high) =
       let within = subst (λ r. IsStoreReached r a) is aimed.reach in
@@ -298,7 +300,7 @@ module _ (words : Program) (A : List Entry) (f : RankedFamily) (sound : IsSoundF
   harmless_free instr aim a aimed may (one_register b is low free) =
       let within = subst (λ r. IsStoreReached r a) is aimed.reach in
       let same = both_ends a b within.first within.last in
-      below_free instr a (omega (arith, same, low)) (subst (λ x. is_flagged_address words A k.pc g.node.state instr x ≡ false) same free)
+      below_free instr a (omega (arith, same, low)) (subst (λ x. is_flagged_address task (store_at k.pc g.node.state instr) x ≡ false) same free)
   harmless_free instr aim a aimed may (each_address followed each) =
       ⊎_elim (λ lt. address_free instr a (each a lt may)) (λ over. over_free instr a (omega (arith, over, top_small))) (cases_lt a 65536)
   harmless_free instr aim a aimed may (free_slot d is lt none) =
@@ -308,21 +310,21 @@ module _ (words : Program) (A : List Entry) (f : RankedFamily) (sound : IsSoundF
         free = high_free instr a (omega (arith, at, lt, holds.depth, sound.small, low_base));
       }
 
-  module _ (b1 b2 : ℕ) (instr : Instr) (is : instruction_at words m.pc ≡ Some instr) where
+  module _ (b1 b2 : ℕ) (instr : Instr) (is : instruction_at task.flash m.pc ≡ Some instr) where
     abbrev effect : Effect
-    effect = effect_of words m instr b1 b2
+    effect = effect_of task.flash m instr b1 b2
 
     -- the effect writes no live byte and no protected one
     pub record IsSafe : Type 0 where
       pub live : live_write m.memory (effect.stores ++ effect.pushes) ≡ None
-      pub protected : protected_write words A m.pc instr effect ≡ None
+      pub protected : protected_write task.flash task.assumptions m.pc instr effect ≡ None
 
     -- it stores one byte, within its aim and at a permitted address
     pub record IsStore : Type 0 where
       pub address : ℕ
       pub byte : ℕ
       pub aim : Aim
-      pub at : aim_of (device_of words) k g.node.state instr ≡ Some aim
+      pub at : aim_of (device_of task.flash) k g.node.state instr ≡ Some aim
       pub aimed : IsAimed g.origin.base aim address
       pub may : may_write g.node.state instr address ≡ true
       pub has_byte : Has (stored_bits g.node.state instr) byte
@@ -332,106 +334,106 @@ module _ (words : Program) (A : List Entry) (f : RankedFamily) (sound : IsSoundF
     abbrev state : AbsState
     state = before instr g.node.state
 
-    here : instruction_at words k.pc ≡ Some instr
-    here = subst (λ p. instruction_at words p ≡ Some instr) runs.running.place.pc is
+    here : instruction_at task.flash k.pc ≡ Some instr
+    here = subst (λ p. instruction_at task.flash p ≡ Some instr) runs.running.place.pc is
 
-    one_safe : (a byte : ℕ) → Has (stored_bits g.node.state instr) byte → is_live m.memory a ≡ false → is_flagged_address words A m.pc g.node.state instr a ≡ false → effect.stores ≡ set a byte → effect.pushes ≡ [] → IsSafe
+    one_safe : (a byte : ℕ) → Has (stored_bits g.node.state instr) byte → is_live m.memory a ≡ false → is_flagged_address task (store_at m.pc g.node.state instr) a ≡ false → effect.stores ≡ set a byte → effect.pushes ≡ [] → IsSafe
     one_safe a byte has dead free stores pushes =
         record {
           live = ap₂ (λ ss ps. live_write m.memory (ss ++ ps)) stores pushes ∙ one_write m.memory a byte dead;
-          protected = one_protected words A instr m.pc g.node.state effect a byte has stores free;
+          protected = one_protected task instr m.pc g.node.state effect a byte has stores free;
         }
 
-    sorted : Does (device_of words) m g.origin.base k g.node.state instr effect (row_of (device_of words) words A (is_scratch words k.pc) k state instr)
-        (row_of (device_of words) words A false k state instr) → IsSafe ⊎ IsStore
+    sorted : Does (device_of task.flash) m g.origin.base k g.node.state instr effect (row_of task (is_scratch task.flash k.pc) (site_at (device_of task.flash) k state) instr)
+        (row_of task false (site_at (device_of task.flash) k state) instr) → IsSafe ⊎ IsStore
     sorted (nothing stores pushes) =
         inl
         (record {
           live = no_write m.memory _ (ap₂ (λ (ss ps : List Write). ss ++ ps) stores pushes);
-          protected = nothing_protected words A instr m.pc effect stores;
+          protected = nothing_protected task instr m.pc effect stores;
         })
     sorted (to_port a byte low plain stores pushes) =
         inl
         (record {
           live = ap₂ (λ ss ps. live_write m.memory (ss ++ ps)) stores pushes ∙ one_write m.memory a byte (never (is_live m.memory a) (λ live. omega (arith, low, above a live)));
-          protected = store_alone words A instr m.pc effect plain;
+          protected = store_alone task instr m.pc effect plain;
         })
     sorted (by_aim a byte aim at aimed may has stores pushes) =
         inr (record { address = a; byte = byte; aim = aim; at = at; aimed = aimed; may = may; has_byte = has; stores = stores; pushes = pushes })
     sorted (pushing byte push plain closes closed stores pushes) =
-        let form = closes (row_of_pushing words A k g.node.state instr here (sound.faultless g.node runs.present) plain).faultless in
+        let form = closes (row_of_pushing task k g.node.state instr here (sound.faultless g.node runs.present) plain).faultless in
         inl
         (record {
           live = ap₂ (λ ss ps. live_write m.memory (ss ++ ps)) stores pushes ∙ one_write m.memory m.sp byte (sp_dead form);
-          protected = nothing_protected words A instr m.pc effect stores;
+          protected = nothing_protected task instr m.pc effect stores;
         })
     sorted (enters back none plain closes closed stores pushes) =
-        let form = closes (row_of_pushing words A k g.node.state instr here (sound.faultless g.node runs.present) plain).faultless in
+        let form = closes (row_of_pushing task k g.node.state instr here (sound.faultless g.node runs.present) plain).faultless in
         inl
         (record {
           live = ap₂ (λ ss ps. live_write m.memory (ss ++ ps)) stores pushes ∙ two_writes m.memory m.sp back (sp_dead form) (below_dead form);
-          protected = nothing_protected words A instr m.pc effect stores;
+          protected = nothing_protected task instr m.pc effect stores;
         })
 
     pub writes : IsSafe ⊎ IsStore
     writes =
         sorted
-        (does words A m g.origin k g.node.state (before instr g.node.state) runs.running (is_scratch words k.pc) b1 b2 (device_of words) runs.device instr (ports_fit words m.pc instr is))
+        (does task m g.origin k g.node.state (before instr g.node.state) runs.running (is_scratch task.flash k.pc) b1 b2 (device_of task.flash) runs.device instr (ports_fit task.flash m.pc instr is))
 
-    safe : IsClear words A f g.node → IsSafe
+    safe : IsClear task f g.node → IsSafe
     safe clear = ⊎_elim (λ s. s) harmless writes
       where
         harmless : IsStore → IsSafe
         harmless w =
             let free = harmless_free instr w.aim w.address w.aimed w.may (clear.store instr w.aim here w.at) in
-            one_safe w.address w.byte w.has_byte free.dead (subst (λ p. is_flagged_address words A p g.node.state instr w.address ≡ false) (sym runs.running.place.pc) free.free) w.stores w.pushes
+            one_safe w.address w.byte w.has_byte free.dead (subst (λ p. is_flagged_address task (store_at p g.node.state instr) w.address ≡ false) (sym runs.running.place.pc) free.free) w.stores w.pushes
 
     stands : (r : ℕ) → r < 32 → ByteStands g.origin (value g.node.state r) (register m r)
     stands r lt = runs.running.stands.registers r lt
 
     -- an indirect transfer's word is listed
-    z_listed : IsClear words A f g.node → is_indirect instr ≡ true → unless_listed (jump_line A m.pc) (wrapped m.device (pair m 30)) ≡ None
+    z_listed : IsClear task f g.node → is_indirect instr ≡ true → unless_listed (jump_line task.assumptions m.pc) (wrapped m.device (pair m 30)) ≡ None
     z_listed clear indirect =
         let all = clear.transfer instr here indirect in
-        subst (λ p. unless_listed (jump_line A p) (wrapped m.device (pair m 30)) ≡ None) (sym runs.running.place.pc)
-        (subst (λ device. unless_listed (jump_line A k.pc) (wrapped device (pair m 30)) ≡ None) (sym runs.device)
-        (goes_listed (device_of words) g.node.state (jump_line A k.pc) (pair m 30) all
+        subst (λ p. unless_listed (jump_line task.assumptions p) (wrapped m.device (pair m 30)) ≡ None) (sym runs.running.place.pc)
+        (subst (λ device. unless_listed (jump_line task.assumptions k.pc) (wrapped device (pair m 30)) ≡ None) (sym runs.device)
+        (goes_listed (device_of task.flash) g.node.state (jump_line task.assumptions k.pc) (pair m 30) all
         (omega (arith, (stands 30 (omega arith)).small, (stands 31 (omega arith)).small))
         (pair_permitted m g.origin k g.node.state (bare_frame m g.origin k g.node.state runs.running) 30 (omega arith, refl))))
 
-  module _ (clear : IsClear words A f g.node) (flag : Flag) where
+  module _ (clear : IsClear task f g.node) (flag : Flag) where
     -- without an indirect transfer nothing is unlisted
-    no_transfer : (b1 b2 : ℕ) (instr : Instr) → instruction_at words m.pc ≡ Some instr → unlisted_transfer A m.pc instr (effect_of words m instr b1 b2) ≡ None
+    no_transfer : (b1 b2 : ℕ) (instr : Instr) → instruction_at task.flash m.pc ≡ Some instr → unlisted_transfer task.assumptions m.pc instr (effect_of task.flash m instr b1 b2) ≡ None
     unfolding unlisted_transfer
     no_transfer b1 b2 i.Ijmp is = z_listed b1 b2 i.Ijmp is clear refl
     no_transfer b1 b2 i.Icall is = z_listed b1 b2 i.Icall is clear refl
     no_transfer b1 b2 _ is = refl
 
-    not_going : (b1 b2 : ℕ) (instr : Instr) → instruction_at words m.pc ≡ Some instr → go words A m (Some instr) b1 b2 ≢ Flagged flag
+    not_going : (b1 b2 : ℕ) (instr : Instr) → instruction_at task.flash m.pc ≡ Some instr → go task.flash task.assumptions m (Some instr) b1 b2 ≢ Flagged flag
     not_going b1 b2 instr is =
-        let effect = effect_of words m instr b1 b2 in
+        let effect = effect_of task.flash m instr b1 b2 in
         let s = safe b1 b2 instr is clear in
-        not_flagged (all_inside m.device effect.pushes || is_unlisted (unlisted_transfer A m.pc instr effect)) m.pc (live_write m.memory (effect.stores ++ effect.pushes))
-        (protected_write words A m.pc instr effect) (unlisted_transfer A m.pc instr effect) (after m (not (is_scratch words m.pc)) effect) flag
+        not_flagged (all_inside m.device effect.pushes || is_unlisted (unlisted_transfer task.assumptions m.pc instr effect)) m.pc (live_write m.memory (effect.stores ++ effect.pushes))
+        (protected_write task.flash task.assumptions m.pc instr effect) (unlisted_transfer task.assumptions m.pc instr effect) (after m (not (is_scratch task.flash m.pc)) effect) flag
         s.live s.protected (no_transfer b1 b2 instr is)
 
-    pub by_instruction : (b1 b2 : ℕ) (x : Option Instr) → instruction_at words m.pc ≡ x → go words A m x b1 b2 ≢ Flagged flag
+    pub by_instruction : (b1 b2 : ℕ) (x : Option Instr) → instruction_at task.flash m.pc ≡ x → go task.flash task.assumptions m x b1 b2 ≢ Flagged flag
     by_instruction b1 b2 None is = λ e. cc
     by_instruction b1 b2 (Some instr) is = not_going b1 b2 instr is
 
-  by_interrupt : (flag : Flag) (v : ℕ) (clears t : Bool) → is_never A (vector_word (device_of words) v) ≡ false → may_take m v clears ≡ t
-      → (if t then take A m (entering m v clears) else Illegal) ≢ Flagged flag
+  by_interrupt : (flag : Flag) (v : ℕ) (clears t : Bool) → is_never task.assumptions (vector_word (device_of task.flash) v) ≡ false → may_take m v clears ≡ t
+      → (if t then take task.assumptions m (entering m v clears) else Illegal) ≢ Flagged flag
   by_interrupt flag v clears false allowed legal = λ e. cc
   by_interrupt flag v clears true allowed legal =
       let place = runs.running.place in
       let all = all_four (is_enabled m.device m.enables v) (i_flag m) m.delay (not clears || (v == watchdog m.device)) legal in
       let form =
-      whole_where_taken (device_of words) A k v k.sp refl (sym place.i ∙ all.1) (sym place.delay ∙ all.2) (on_words (λ device. is_enabled device k.masks v ≡ true) (enabled_too (reads_masks (device_of words) A) m.device m.enables k.masks v place.enables all.0))
-      allowed (not_hung words A k g.node.state (sound.faultless g.node runs.present)) in
+      whole_where_taken (device_of task.flash) task.assumptions k v k.sp refl (sym place.i ∙ all.1) (sym place.delay ∙ all.2) (on_words (λ device. is_enabled device k.masks v ≡ true) (enabled_too (reads_masks (device_of task.flash) task.assumptions) m.device m.enables k.masks v place.enables all.0))
+      allowed (not_hung task k g.node.state (sound.faultless g.node runs.present)) in
       let e = entering m v clears in
-      not_flagged (all_inside m.device e.pushes || is_unlisted (never_target A e.pc)) m.pc (live_write m.memory e.pushes) None (never_target A e.pc) (after m true (entering m v clears)) flag
+      not_flagged (all_inside m.device e.pushes || is_unlisted (never_target task.assumptions e.pc)) m.pc (live_write m.memory e.pushes) None (never_target task.assumptions e.pc) (after m true (entering m v clears)) flag
       (two_writes m.memory m.sp m.pc (sp_dead form) (below_dead form)) refl
-      (ap (λ (b : Bool). if b then Some e.pc else None) (ap (is_never A) (vector_is v all.0) ∙ allowed))
+      (ap (λ (b : Bool). if b then Some e.pc else None) (ap (is_never task.assumptions) (vector_is v all.0) ∙ allowed))
 
   -- the choice takes a vector whose word has a `never` line
   pub record IsTaken (c : Choice) : Type 0 where
@@ -440,12 +442,12 @@ module _ (words : Program) (A : List Entry) (f : RankedFamily) (sound : IsSoundF
     pub is : c ≡ Take vector clears
     pub i : k.i ≡ true
     pub delay : k.delay ≡ false
-    pub enabled : is_enabled (device_of words) k.masks vector ≡ true
-    pub never : is_never A (vector_word (device_of words) vector) ≡ true
+    pub enabled : is_enabled (device_of task.flash) k.masks vector ≡ true
+    pub never : is_never task.assumptions (vector_word (device_of task.flash) vector) ≡ true
 
   -- a take is flagged only if the vector's word has such a line
-  pub taken_here : (v : ℕ) (clears : Bool) (flag : Flag) (t b : Bool) → may_take m v clears ≡ t → is_never A (vector_word (device_of words) v) ≡ b
-      → (if t then take A m (entering m v clears) else Illegal) ≡ Flagged flag → IsTaken (Take v clears)
+  pub taken_here : (v : ℕ) (clears : Bool) (flag : Flag) (t b : Bool) → may_take m v clears ≡ t → is_never task.assumptions (vector_word (device_of task.flash) v) ≡ b
+      → (if t then take task.assumptions m (entering m v clears) else Illegal) ≡ Flagged flag → IsTaken (Take v clears)
   taken_here v clears flag false b legal line e = absurd (cc)
   taken_here v clears flag true false legal line e = absurd (by_interrupt flag v clears true line legal e)
   taken_here v clears flag true true legal line e =
@@ -457,6 +459,6 @@ module _ (words : Program) (A : List Entry) (f : RankedFamily) (sound : IsSoundF
         is = refl;
         i = sym place.i ∙ all.1;
         delay = sym place.delay ∙ all.2;
-        enabled = on_words (λ device. is_enabled device k.masks v ≡ true) (enabled_too (reads_masks (device_of words) A) m.device m.enables k.masks v place.enables all.0);
+        enabled = on_words (λ device. is_enabled device k.masks v ≡ true) (enabled_too (reads_masks (device_of task.flash) task.assumptions) m.device m.enables k.masks v place.enables all.0);
         never = line;
       }

@@ -1,7 +1,6 @@
 -- The edges of a family within frames, by the numbers of its nodes.
 use Rattle.std.specs.Prelude.{ℕ, ◌≡◌, ◌↔◌, true, List, length, map, Contains, Some}
 use Rattle.std.specs.List.{slice_get}
-use Rattle.avr_model.specs.declared.assumption.Entry.{Entry}
 use Rattle.avr_model.specs.Devices.{Program}
 use Rattle.mask_states.specs.declared.keys.EdgeKind.TheVariants as kind
 use Rattle.mask_states.specs.declared.keys.NodeKey.{NodeKey}
@@ -13,6 +12,7 @@ use Rattle.edge_rules.specs.Views.{place_of}
 use Rattle.clear_laws.specs.Held.{StaysInFrame, is_guarded_push}
 use Rattle.clear_laws.specs.declared.slots.SlotSeed.{SlotSeed}
 use Rattle.clear_laws.specs.Reach.{links_of}
+use Rattle.local_rules.specs.Site.{Task}
 
 -- the target of the edge, if it stays in its frame
 abbrev pub IsTarget : List Node → Edge → ℕ → Type 0
@@ -31,19 +31,19 @@ abbrev pub IsPushed : Program → List Node → NodeKey → Edge → SlotSeed �
 IsPushed words nodes k e s = (is_guarded_push words k.pc ≡ true) × IsLandingSeed nodes (offset_of k.sp) e s
 
 -- a node adds a slot by a guarded push
-pub record SeedComes (words : Program) (A : List Entry) (nodes : List Node) (s : SlotSeed) : Type 0 where
+pub record SeedComes (task : Task) (nodes : List Node) (s : SlotSeed) : Type 0 where
   pub at : ℕ
   pub node : Node
   pub edge : Edge
   pub is : slice_get nodes at ≡ Some node
-  pub from : IsEdge words A nodes node edge
-  pub lands : IsPushed words nodes node.key edge s
+  pub from : IsEdge task nodes node edge
+  pub lands : IsPushed task.flash nodes node.key edge s
 
 -- For each node, links are the targets of its edges within frames. The seeds are the slots of guarded pushes, and each node has its
 -- number of slots.
-pub record AreLinks (words : Program) (A : List Entry) (nodes : List Node) (links : List (List ℕ)) (offsets : List ℕ) (seeds : List SlotSeed) : Type 0 where
+pub record AreLinks (task : Task) (nodes : List Node) (links : List (List ℕ)) (offsets : List ℕ) (seeds : List SlotSeed) : Type 0 where
   pub count : length links ≡ length nodes
   pub link : (at : ℕ) (n : Node) (t : ℕ) → slice_get nodes at ≡ Some n
-      → Contains (links_of links at) t ↔ ((e : Edge) × (IsEdge words A nodes n e × IsTarget nodes e t))
-  pub seed : (s : SlotSeed) → Contains seeds s ↔ SeedComes words A nodes s
+      → Contains (links_of links at) t ↔ ((e : Edge) × (IsEdge task nodes n e × IsTarget nodes e t))
+  pub seed : (s : SlotSeed) → Contains seeds s ↔ SeedComes task nodes s
   pub offsets_are : offsets ≡ offsets_of nodes

@@ -1,6 +1,5 @@
 -- Laws of the lists of words at which a step may be flagged.
 use Rattle.std.specs.Prelude.{ℕ, ◌≡◌, ◌↔◌, List, []}
-use Rattle.avr_model.specs.declared.assumption.Entry.{Entry}
 use Rattle.avr_model.specs.Devices.{Program}
 use Rattle.certificate.specs.Claims.{Claim}
 use Rattle.clear_laws.specs.declared.verdict.ClearVerdict.{ClearVerdict}
@@ -8,20 +7,21 @@ use Rattle.clear_laws.specs.declared.verdict.ClearVerdict.TheVariants.{Clear}
 use Rattle.clear_laws.specs.declared.place.FlaggedPlace.{FlaggedPlace}
 use Rattle.clear_laws.specs.Verdict.{IsClearVerdict, AreSites, AreNevers}
 use Rattle.clear_laws.specs.Places.{ArePlaces}
+use Rattle.local_rules.specs.Site.{Task, bare}
 
 -- the list of a certificate's words is unique
 abbrev pub SitesAreOne : Type 0
-SitesAreOne = (words : Program) (A : List Entry) (c : Claim) (xs ys : List ℕ) → AreSites words A c xs → AreSites words A c ys → xs ≡ ys
+SitesAreOne = (task : Task) (c : Claim) (xs ys : List ℕ) → AreSites task c xs → AreSites task c ys → xs ≡ ys
 
 -- so is the list of these words with causes
 abbrev pub PlacesAreOne : Type 0
-PlacesAreOne = (words : Program) (A : List Entry) (c : Claim) (xs ys : List FlaggedPlace) → ArePlaces words A c xs → ArePlaces words A c ys → xs ≡ ys
+PlacesAreOne = (task : Task) (c : Claim) (xs ys : List FlaggedPlace) → ArePlaces task c xs → ArePlaces task c ys → xs ≡ ys
 
 -- so is the list of words of vectors that are assumed never to be taken and that some node may take
 abbrev pub NeversAreOne : Type 0
-NeversAreOne = (words : Program) (A : List Entry) (c : Claim) (xs ys : List ℕ) → AreNevers words A c xs → AreNevers words A c ys → xs ≡ ys
+NeversAreOne = (task : Task) (c : Claim) (xs ys : List ℕ) → AreNevers task c xs → AreNevers task c ys → xs ≡ ys
 
 -- without assumptions a certificate is clear exactly if the list is empty
 abbrev pub ClearWhereNoSites : Type 0
-ClearWhereNoSites = (words : Program) (c : Claim) (verdict : ClearVerdict) (sites : List ℕ) → IsClearVerdict words c verdict → AreSites words [] c sites
+ClearWhereNoSites = (words : Program) (c : Claim) (verdict : ClearVerdict) (sites : List ℕ) → IsClearVerdict words c verdict → AreSites (bare words) c sites
     → (verdict ≡ Clear) ↔ (sites ≡ [])

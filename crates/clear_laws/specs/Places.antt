@@ -2,10 +2,8 @@
 use Rattle.std.specs.Prelude.{ℕ, ◌≡◌, ◌≢◌, ◌↔◌, ◌⊎◌, true, List, [], map, Contains}
 use Rattle.std.specs.List.Sorted.{IsStrictlySortedBy}
 use Rattle.std.specs.Ordering.{nat_cmp}
-use Rattle.avr_model.specs.declared.assumption.Entry.{Entry}
 use Rattle.avr_model.specs.declared.choice.Flag.{Flag}
 use Rattle.avr_model.specs.declared.choice.Flag.TheVariants.{Live, Protected, Transfer}
-use Rattle.avr_model.specs.Devices.{Program}
 use Rattle.local_rules.specs.declared.local.Node.{Node}
 use Rattle.edge_rules.specs.Families.{RankedFamily}
 use Rattle.edge_rules.specs.Expansion.{IsFilled}
@@ -14,23 +12,24 @@ use Rattle.certificate.specs.Valid.{family_of}
 use Rattle.clear_laws.specs.Causes.{MayWriteProtected, MayWriteLive, MayGoUnlisted}
 use Rattle.clear_laws.specs.declared.place.FlaggedPlace.{FlaggedPlace}
 use Rattle.clear_laws.specs.Verdict.{AreSites}
+use Rattle.local_rules.specs.Site.{Task}
 
 abbrev pub word_of : FlaggedPlace → ℕ
 word_of place = place.word
 
 -- exactly the causes at its word, by some node of the family that isn't clear
-pub record IsPlaceOf (words : Program) (A : List Entry) (f : RankedFamily) (place : FlaggedPlace) : Type 0 where
+pub record IsPlaceOf (task : Task) (f : RankedFamily) (place : FlaggedPlace) : Type 0 where
   pub ascending : IsStrictlySortedBy nat_cmp place.protected
-  pub protected : (a : ℕ) → Contains place.protected a ↔ MayWriteProtected words A f place.word a
-  pub live : (place.live ≡ true) ↔ MayWriteLive words A f place.word
-  pub transfer : (place.transfer ≡ true) ↔ MayGoUnlisted words A f place.word
+  pub protected : (a : ℕ) → Contains place.protected a ↔ MayWriteProtected task f place.word a
+  pub live : (place.live ≡ true) ↔ MayWriteLive task f place.word
+  pub transfer : (place.transfer ≡ true) ↔ MayGoUnlisted task f place.word
 
 -- exactly the words at which some node of the certificate isn't clear, once each and ascending, with their causes
-pub record ArePlaces (words : Program) (A : List Entry) (c : Claim) (places : List FlaggedPlace) : Type 0 where
-  pub sites : AreSites words A c (map word_of places)
+pub record ArePlaces (task : Task) (c : Claim) (places : List FlaggedPlace) : Type 0 where
+  pub sites : AreSites task c (map word_of places)
   pub nodes : List Node
-  pub expanded : IsFilled words A c.nodes nodes
-  pub each : (place : FlaggedPlace) → Contains places place → IsPlaceOf words A (family_of c nodes) place
+  pub expanded : IsFilled task c.nodes nodes
+  pub each : (place : FlaggedPlace) → Contains places place → IsPlaceOf task (family_of c nodes) place
 
 -- the place has a cause
 abbrev pub TellsCause : FlaggedPlace → Type 0

@@ -23,7 +23,7 @@ use Rattle.device_hooks.specs.declared.devices.Source.{Source}
 use Rattle.device_hooks.specs.Spelling.{Setup}
 use Rattle.device_hooks.specs.Due.{Progress, begun, choice_on, next_on, passed_at, first_ready, or_else, is_ready}
 use Rattle.device_hooks.specs.Hooks.{Answering, Either, stands_in, MayAnswer, IsHook}
-use Rattle.device_hooks.specs.Simulating.{Asked, Chooses, picked, chosen, initial, simulation_of}
+use Rattle.device_hooks.specs.Simulating.{board, setting, Asked, Chooses, picked, chosen, initial, simulation_of}
 use Rattle.device_hooks.specs.Midway.{Walks}
 use Rattle.device_hooks.proofs.Ready.{first_is, first_same, ready_same, ready_takable}
 
@@ -95,21 +95,21 @@ next_step setup p (Some n) = passed_step (slice_get setup.sources n) p n
 module _ (answers : Answering) (setup : Setup) (words : Program) (A : List Entry)
     (exact : (p : Progress) (m : State) (answer : Option ℕ) → length p.taken ≡ length setup.sources → Asked answers p m answer → answer ≡ picked setup p m) where
   abbrev By : ℕ → Progress → State → List Choice
-  By n p m = chosen setup words A n p m
+  By n p m = chosen (board setup words A) n p m
 
   abbrev Rest : ℕ → Progress → Answer → List Choice
   Rest n p a = choices_on a (λ s. By n p s)
 
-  tail : (n : ℕ) (p : Progress) (cs : List Choice) (a : Answer) → ((s : State) → Chooses answers setup words A n p s cs → cs ≡ By n p s)
-      → GoesOn a (λ s. Chooses answers setup words A (suc n - 1) p s cs) (cs ≡ []) → cs ≡ Rest n p a
+  tail : (n : ℕ) (p : Progress) (cs : List Choice) (a : Answer) → ((s : State) → Chooses (setting answers setup words A) n p s cs → cs ≡ By n p s)
+      → GoesOn a (λ s. Chooses (setting answers setup words A) (suc n - 1) p s cs) (cs ≡ []) → cs ≡ Rest n p a
   tail n p cs Illegal ih h = absurd h
   tail n p cs (Undefined pc) ih h = h
   tail n p cs (Overflow pc) ih h = h
   tail n p cs (Flagged flag) ih h = h
-  tail n p cs (Done s) ih h = let same : suc n - 1 ≡ n = omega arith in ih s (subst (λ (k : ℕ). Chooses answers setup words A k p s cs) same h)
+  tail n p cs (Done s) ih h = let same : suc n - 1 ≡ n = omega arith in ih s (subst (λ (k : ℕ). Chooses (setting answers setup words A) k p s cs) same h)
 
   -- they are those of the definition by recursion
-  pub determined : (n : ℕ) (p : Progress) (m : State) (cs : List Choice) → length p.taken ≡ length setup.sources → Chooses answers setup words A n p m cs → cs ≡ chosen setup words A n p m
+  pub determined : (n : ℕ) (p : Progress) (m : State) (cs : List Choice) → length p.taken ≡ length setup.sources → Chooses (setting answers setup words A) n p m cs → cs ≡ chosen (board setup words A) n p m
   determined zero p m [] counts h = refl
   determined zero p m (c ∷ cs) counts h = absurd (omega (arith, h.0))
   determined (suc n) p m [] counts h = absurd (omega (arith, h))
@@ -155,11 +155,11 @@ first_due_at {F} {g} h k timers hook same answers =
     subst P (sym same) (first_due_by g k.1 k.0 timers answers)
 
 -- the record of the walk is that of the run of the devices alone
-pub told : DepthIsKept → (first second : Answering) (setup : Setup) (words : Program) (A : List Entry) (n : ℕ) (m : Machine) (walk : WalkedRun) (end : Machine) → Walks (Either first second) setup words A n false m walk end
+pub told : DepthIsKept → (first second : Answering) (setup : Setup) (words : Program) (A : List Entry) (n : ℕ) (m : Machine) (walk : WalkedRun) (end : Machine) → Walks (setting (Either first second) setup words A) n false m walk end
     → m ≡ starting (initial words setup) → IsFirstDue first setup true → IsFirstDue second setup false
     → ◌≡◌ {A = Report} (record { steps = walk.steps; depth = end.depth; stop = walk.stop }) (simulation_of words A setup n)
 told law first second setup words A n m walk end w start f g =
-    let P : Machine → Type 0 = λ x. Walks (Either first second) setup words A n false x walk end in
+    let P : Machine → Type 0 = λ x. Walks (setting (Either first second) setup words A) n false x walk end in
     let v = subst P start w in
     let is = determined (Either first second) setup words A (asked_picks first second setup f g) n (begun setup) (initial words setup) v.choices (length-replicate (length setup.sources) 0) v.chooses in
     let depth = depth_from_reset law words A setup.fill v.choices end v.run v.machine in

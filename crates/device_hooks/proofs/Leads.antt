@@ -18,7 +18,7 @@ use Rattle.witness_replay.specs.Replay.{steps_of}
 use Rattle.device_hooks.specs.Spelling.{Setup}
 use Rattle.device_hooks.specs.Due.{Progress, begun, next_on}
 use Rattle.device_hooks.specs.Hooks.{Answering}
-use Rattle.device_hooks.specs.Simulating.{Chooses}
+use Rattle.device_hooks.specs.Simulating.{Setting, setting, Chooses}
 use Rattle.device_hooks.specs.Traces.{Leads}
 use Rattle.device_hooks.proofs.Determined.{next_step}
 use Rattle.device_hooks.specs.Midway.{IsChosen, kept_on, Walks}
@@ -37,11 +37,11 @@ one_step words A c cs m s is =
 
 module _ (answers : Answering) (setup : Setup) (words : Program) (A : List Entry) where
   abbrev pub Led : ℕ → Progress → Machine → List Choice → Progress → Machine → Type 0
-  Led n p m cs last end = Leads answers setup words A n p m cs last end
+  Led n p m cs last end = Leads (setting answers setup words A) n p m cs last end
 
   -- a whole run with this many steps and this stop
   pub record Whole (n : ℕ) (p : Progress) (m : Machine) (cs : List Choice) (end : Machine) (steps : ℕ) (stop : Stop) : Type 0 where
-    pub chooses : Chooses answers setup words A n p m.state cs
+    pub chooses : Chooses (setting answers setup words A) n p m.state cs
     pub run : IsRun words A cs m.state
     pub machine : end ≡ machine_after words A cs m
     pub steps_are : steps ≡ steps_of words A cs m.state
@@ -61,7 +61,7 @@ module _ (answers : Answering) (setup : Setup) (words : Program) (A : List Entry
       subst (λ (x : ℕ). Whole n p m more end x stop) same here
   whole_joined n p m (c ∷ cs) more mid at end steps stop h k =
       let rest = whole_joined (n - 1) (next_on setup p h.2) (moved_on m (Done h.5)) cs more mid at end steps stop h.7 (subst (λ (x : ℕ). Whole x mid at more end steps stop) (less_one_more n (length cs)) k) in
-      let on : State → Type 0 = λ s. Chooses answers setup words A (n - 1) (next_on setup p h.2) s (cs ++ more) in
+      let on : State → Type 0 = λ s. Chooses (setting answers setup words A) (n - 1) (next_on setup p h.2) s (cs ++ more) in
       record {
         chooses = (h.0, h.2, h.3, h.4, subst (λ (a : Answer). GoesOn a on (cs ++ more ≡ [])) (sym h.6) rest.chooses);
         run = (h.1, subst (λ (a : Answer). RunsOn a (cs ++ more) (IsRun words A (cs ++ more))) (sym h.6) rest.run);
@@ -71,7 +71,7 @@ module _ (answers : Answering) (setup : Setup) (words : Program) (A : List Entry
       }
 
   -- one more done step
-  pub leads_on : (n : ℕ) (p : Progress) (m : Machine) (cs : List Choice) (mid : Progress) (at : Machine) (c : Choice) (next : Progress) (end : Machine) → Led n p m cs mid at → length cs < n → HasBytes c → IsChosen answers setup mid at.state c next
+  pub leads_on : (n : ℕ) (p : Progress) (m : Machine) (cs : List Choice) (mid : Progress) (at : Machine) (c : Choice) (next : Progress) (end : Machine) → Led n p m cs mid at → length cs < n → HasBytes c → IsChosen (setting answers setup words A) mid at.state c next
       → result_of (step words A at.state c) ≢ said.Illegal → stop_at (result_of (step words A at.state c)) ≡ None → end ≡ moved_on at (step words A at.state c) → Led n p m (cs ++ c ∷ []) next end
   leads_on n p m cs mid at c next end h room bytes chosen legal none moved =
       let done = done_of (step words A at.state c) legal none in
@@ -80,7 +80,7 @@ module _ (answers : Answering) (setup : Setup) (words : Program) (A : List Entry
       leads_joined n p m cs (c ∷ []) mid at next end h one
 
   -- a step that meets a stop
-  pub whole_stops : (n : ℕ) (p : Progress) (m : Machine) (cs : List Choice) (mid : Progress) (at : Machine) (c : Choice) (next : Progress) (end : Machine) (stop : Stop) → Led n p m cs mid at → length cs < n → HasBytes c → IsChosen answers setup mid at.state c next
+  pub whole_stops : (n : ℕ) (p : Progress) (m : Machine) (cs : List Choice) (mid : Progress) (at : Machine) (c : Choice) (next : Progress) (end : Machine) (stop : Stop) → Led n p m cs mid at → length cs < n → HasBytes c → IsChosen (setting answers setup words A) mid at.state c next
       → stop_at (result_of (step words A at.state c)) ≡ Some stop → end ≡ moved_on at (step words A at.state c) → Whole n p m (cs ++ c ∷ []) end (length cs + 0) stop
   whole_stops n p m cs mid at c next end stop h room bytes chosen some moved =
       let st = stopped (step words A at.state c) stop some in
@@ -112,21 +112,21 @@ kept_more keeps old now cs c was is k = is ∙ ap (λ (b : Bool). kept_on b old 
 
 module _ (answers : Answering) (setup : Setup) (words : Program) (A : List Entry) (n : ℕ) (keeps : Bool) (m : Machine) where
   pub walks_stop : (cs old now : List Choice) (mid : Progress) (at : Machine) (c : Choice) (next : Progress) (end : Machine) (step' : ℕ) (stop : Stop)
-      → Leads answers setup words A n (begun setup) m cs mid at → length cs ≡ step' → step' < n → (keeps ≡ true → old ≡ cs) → now ≡ kept_on keeps old c
-      → HasBytes c → IsChosen answers setup mid at.state c next → stop_at (result_of (step words A at.state c)) ≡ Some stop → end ≡ moved_on at (step words A at.state c)
-      → Walks answers setup words A n keeps m (record { choices = now; steps = step'; stop = stop }) end
+      → Leads (setting answers setup words A) n (begun setup) m cs mid at → length cs ≡ step' → step' < n → (keeps ≡ true → old ≡ cs) → now ≡ kept_on keeps old c
+      → HasBytes c → IsChosen (setting answers setup words A) mid at.state c next → stop_at (result_of (step words A at.state c)) ≡ Some stop → end ≡ moved_on at (step words A at.state c)
+      → Walks (setting answers setup words A) n keeps m (record { choices = now; steps = step'; stop = stop }) end
   walks_stop cs old now mid at c next end step' stop led count room was is bytes chosen some moved =
       let all = whole_stops answers setup words A n (begun setup) m cs mid at c next end stop led (omega (arith, count, room)) bytes chosen some moved in
       let steps : step' ≡ length cs + 0 = omega (arith, count) in
       record { choices = cs ++ c ∷ []; kept = kept_more keeps old now cs c was is; chooses = all.chooses; run = all.run; machine = all.machine; steps = steps ∙ all.steps_are; stop = all.stop_is }
 
-  pub walks_end : (cs now : List Choice) (mid : Progress) (at : Machine) (step' : ℕ) → Leads answers setup words A n (begun setup) m cs mid at → length cs ≡ step' → step' ≡ n → (keeps ≡ true → now ≡ cs)
-      → Walks answers setup words A n keeps m (record { choices = now; steps = n; stop = stop.End }) at
+  pub walks_end : (cs now : List Choice) (mid : Progress) (at : Machine) (step' : ℕ) → Leads (setting answers setup words A) n (begun setup) m cs mid at → length cs ≡ step' → step' ≡ n → (keeps ≡ true → now ≡ cs)
+      → Walks (setting answers setup words A) n keeps m (record { choices = now; steps = n; stop = stop.End }) at
   walks_end cs now mid at step' led count over was =
       let all = whole_ends answers setup words A n (begun setup) m cs mid at led (count ∙ over) in
       let steps : n ≡ length cs + 0 = omega (arith, count, over) in
       record { choices = cs; kept = was; chooses = all.chooses; run = all.run; machine = all.machine; steps = steps ∙ all.steps_are; stop = all.stop_is }
 
 -- one step later
-pub step_next : (answers : Answering) (setup : Setup) (p : Progress) (m : State) (c : Choice) (next : Progress) (k : ℕ) → IsChosen answers setup p m c next → p.step ≡ k → next.step ≡ k + 1
-step_next answers setup p m c next k h e = let on = ap (λ (x : Progress). x.step) h.next ∙ next_step setup p h.answer in omega (arith, on, e)
+pub step_next : (x : Setting) (p : Progress) (m : State) (c : Choice) (next : Progress) (k : ℕ) → IsChosen x p m c next → p.step ≡ k → next.step ≡ k + 1
+step_next x p m c next k h e = let on = ap (λ (q : Progress). q.step) h.next ∙ next_step x.on.setup p h.answer in omega (arith, on, e)

@@ -20,7 +20,7 @@ use Rattle.device_hooks.specs.declared.devices.SourceKind.TheVariants.{Timer, By
 use Rattle.device_hooks.specs.declared.devices.Source.{Source}
 use Rattle.device_hooks.specs.Spelling.{Setup, IsKind, IsSource, IsSetup}
 use Rattle.device_hooks.specs.Due.{Progress, begun, is_of, is_due, is_ready_source, is_ready, first_ready, or_else, choice_at, choice_on, answered, next_on, passed_at, input_after, taken_of}
-use Rattle.device_hooks.specs.Simulating.{picked, chosen, initial, simulated}
+use Rattle.device_hooks.specs.Simulating.{board, picked, chosen, initial, simulated}
 use Rattle.device_hooks.specs.Laws.{SimulationsAreRuns, SimulationsAreBounded}
 use Rattle.device_hooks.proofs.Ready.{first_is}
 
@@ -97,12 +97,12 @@ runs_on words A (Overflow pc) rest legal on = refl
 runs_on words A (Flagged flag) rest legal on = refl
 runs_on words A (Done s) rest legal on = on s
 
-chosen_runs : (device : Device) (words : Program) (A : List Entry) (setup : Setup) → IsSetup device setup → (n : ℕ) (p : Progress) (m : State) → p.input < 256 → IsRun words A (chosen setup words A n p m) m
+chosen_runs : (device : Device) (words : Program) (A : List Entry) (setup : Setup) → IsSetup device setup → (n : ℕ) (p : Progress) (m : State) → p.input < 256 → IsRun words A (chosen (board setup words A) n p m) m
 chosen_runs device words A setup h zero p m small = tt
 chosen_runs device words A setup h (suc n) p m small =
     let a = picked setup p m in (
       bytes_at (answered setup a) p small,
-      runs_on words A (step words A m (choice_on setup p a)) (λ s. chosen setup words A n (next_on setup p a) s)
+      runs_on words A (step words A m (choice_on setup p a)) (λ s. chosen (board setup words A) n (next_on setup p a) s)
           (choice_legal words A m (answered setup a) p (picked_may setup p m a refl))
           (λ s. chosen_runs device words A setup h n (next_on setup p a) s (next_small device setup p a h small)),
     )

@@ -1,6 +1,7 @@
 -- The texts that are setups, and the refusals of others, by the spelling alone.
 use Rattle.std.specs.Prelude.{◌≡◌, ℕ, List, [], ◌∷◌, ◌++◌, map, Result, Ok, Err, ⊤}
 use Rattle.avr_model.specs.declared.device.Device.{Device}
+use Rattle.sb_base.specs.Answers.{Answers}
 use Rattle.sb_base.specs.Lines.{TextLine, Place, lines_of}
 use Rattle.line_reading.specs.Words.{whole, Passes}
 use Rattle.device_hooks.specs.declared.devices.DevicesFault.{DevicesFault}
@@ -45,6 +46,10 @@ IsSetupDue device text (Err Memory) = ⊥
 abbrev pub IsSetupDueUnlessMemory : Device → List ℕ → Result Setup DevicesFault → Type 0
 IsSetupDueUnlessMemory device text (Err Memory) = ⊤
 IsSetupDueUnlessMemory device text answer = IsSetupDue device text answer
+
+-- a text that is the spelling of a setup has that setup as answer, or memory ran out
+abbrev pub AnswersSpelled : Device → List ℕ → Result Setup DevicesFault → Type 0
+AnswersSpelled device text answer = (setup : Setup) → IsSetupReading device text setup → Answers (λ d. d) Memory answer (Ok setup)
 
 -- ---- laws
 

@@ -43,3 +43,7 @@ Answering = ℕ → List ℕ → Menu → Option ℕ → Type 0
 abbrev pub Either : Answering → Answering → Answering
 Either first second step taken menu None = first step taken menu None × second step taken menu None
 Either first second step taken menu (Some n) = first step taken menu (Some n) ⊎ (first step taken menu None × second step taken menu (Some n))
+
+-- the answers of two hooks, each seen as its devices and its closure: the first one's, or the second one's if the first is none
+abbrev pub ByHooks : {F G : Type 0} → Shared F (Bor Moment × (Bor Menu × Unit {0})) (Option ℕ) → Shared G (Bor Moment × (Bor Menu × Unit {0})) (Option ℕ) → Setup × F → Setup × G → Answering
+ByHooks f g first second = Either (MayAnswer f first.1) (MayAnswer g second.1)

@@ -96,6 +96,14 @@ abbrev pub malformed : {A : Type 0} → Result A Place → Result A DevicesFault
 malformed (Ok x) = Ok x
 malformed (Err p) = Err (Malformed p.at)
 
+-- a source at the next line, or none at `end`, with this many lines left for sources; or the refusal
+abbrev pub part_read : Device → ℕ → Place → Result (Option Source × Place) DevicesFault
+part_read device left p = malformed (line_by (part_by device left) p)
+
+-- the sources up to `end`, or the refusal
+abbrev pub sources_read : Device → Place → Result (List Source × Place) DevicesFault
+sources_read device p = malformed (sources_from device most_sources p.at p.rest)
+
 -- the setup of a text, or the refusal
 unfoldable pub setup_in : Device → List ℕ → Result Setup DevicesFault
 setup_in device text = malformed (setup_at device (record { at = 0; rest = lines_of text }))

@@ -1,12 +1,11 @@
 //! The devices that are connected to a machine.
 
-ghost use Rattle.std.specs.Prelude.{◌≡◌, ◌<◌, length, Some, slice_get, Ok};
+ghost use Rattle.std.specs.Prelude.{◌≡◌, ◌<◌, length, Some, slice_get};
 ghost use Rattle.std.specs.Option.{option_map};
 ghost use Rattle.sb_base.specs.Answers.{Answers};
 ghost use Rattle.device_hooks.specs.declared.devices.DevicesFault.TheVariants as fault;
-ghost use Rattle.device_hooks.specs.Spelling.{Setup};
 ghost use Rattle.device_hooks.specs.Reading.{setup_in};
-ghost use Rattle.device_hooks.specs.Exact.{IsSetupReading, IsSetupDueUnlessMemory};
+ghost use Rattle.device_hooks.specs.Exact.{AnswersSpelled, IsSetupDueUnlessMemory};
 ghost use Rattle.device_hooks.specs.Due.{is_timer, is_of, is_left, is_due, input_after};
 
 use crate::laws::reading_is_exact;
@@ -148,7 +147,7 @@ impl Devices {
     pub fn read(alloc: Global, device: Device, text: &[u8]) -> Result<Devices, DevicesFault>
         ensures exact { Answers (λ d. d) fault.Memory result (setup_in device text.now) }
         ensures told { IsSetupDueUnlessMemory device text.now result }
-        ensures spelled { (setup : Setup) → IsSetupReading device text.now setup → Answers (λ d. d) fault.Memory result (Ok setup) }
+        ensures spelled { AnswersSpelled device text.now result }
     {
         reading_is_exact();
         read_setup(alloc, device, text)

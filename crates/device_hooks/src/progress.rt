@@ -4,7 +4,7 @@ ghost use Rattle.std.specs.Prelude.{◌≡◌, ◌≤◌, ◌<◌, length, Some,
 ghost use Rattle.std.specs.List.{All};
 ghost use Rattle.device_hooks.specs.Spelling.{most_steps};
 ghost use Rattle.device_hooks.specs.Due.{begun, choice_on, next_on};
-ghost use Rattle.device_hooks.specs.Hooks.{MayAnswer, IsHook, Either};
+ghost use Rattle.device_hooks.specs.Hooks.{IsHook, ByHooks};
 
 use crate::devices::Devices;
 use crate::hook::{Hook, Moment};
@@ -49,7 +49,7 @@ impl Progress {
         requires second { IsHook G.Fn receivers.now.0 receivers.now.1 }
         requires first_counts { length self.now.taken ≡ length timers.now.0.sources }
         requires second_counts { length self.now.taken ≡ length receivers.now.0.sources }
-        ensures { Either (MayAnswer F.Fn timers.now.1) (MayAnswer G.Fn receivers.now.1) self.now.step self.now.taken menu.now result }
+        ensures { ByHooks F.Fn G.Fn timers.now receivers.now self.now.step self.now.taken menu.now result }
     {
         let moment = Moment {
             step: self.step,

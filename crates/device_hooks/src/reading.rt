@@ -4,10 +4,8 @@ ghost use Rattle.std.specs.Prelude.{◌≡◌, ◌≤◌, ◌<◌, [], length, I
 ghost use Rattle.std.specs.Option.{option_map};
 ghost use Rattle.sb_base.specs.Answers.{Answers};
 ghost use Rattle.sb_base.specs.Lines.{words_of};
-ghost use Rattle.line_reading.specs.Reading.{line_by};
 ghost use Rattle.device_hooks.specs.declared.devices.DevicesFault.TheVariants as fault;
-ghost use Rattle.device_hooks.specs.Spelling.{most_sources};
-ghost use Rattle.device_hooks.specs.Reading.{times_at, bytes_in, timer_in, receiver_by, receiver_in, source_in, part_by, sources_from, malformed, setup_at, setup_in};
+ghost use Rattle.device_hooks.specs.Reading.{times_at, bytes_in, timer_in, receiver_by, receiver_in, source_in, part_by, part_read, sources_read, malformed, setup_at, setup_in};
 
 use crate::devices::{Devices, DevicesFault, Source, SourceKind};
 use avr_model::device::Device;
@@ -170,7 +168,7 @@ fn read_part(
     reader: &mut LineReader<'_>,
     left: u32,
 ) -> Result<Option<Source>, DevicesFault>
-    ensures exact { Answers (λ o. (o, reader.new)) fault.Memory result (malformed (line_by (part_by device left) reader.old)) }
+    ensures exact { Answers (λ o. (o, reader.new)) fault.Memory result (part_read device left reader.old) }
     ensures room { IfOk result (λ o. IfSome o (λ s. 1 ≤ left)) }
     ensures shorter { IfOk result (λ _. length reader.new.rest < length reader.old.rest) }
 {
@@ -195,7 +193,7 @@ fn read_sources(
     sources: &mut Vec<Source>,
 ) -> Result<(), DevicesFault>
     requires { sources.old.items ≡ [] }
-    ensures { Answers (λ _. (sources.new.items, reader.new)) fault.Memory result (malformed (sources_from device most_sources reader.old.at reader.old.rest)) }
+    ensures { Answers (λ _. (sources.new.items, reader.new)) fault.Memory result (sources_read device reader.old) }
 {
     let mut left = MOST_SOURCES;
     while let Some(source) = read_part(alloc, device, reader, left)? {

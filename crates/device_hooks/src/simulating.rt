@@ -3,11 +3,11 @@
 ghost use Rattle.std.specs.Prelude.{◌≡◌, ◌≤◌, ℕ, IfOk};
 ghost use Rattle.avr_model.specs.Run.{Bounded};
 ghost use Rattle.device_hooks.specs.Spelling.{most_steps};
-ghost use Rattle.device_hooks.specs.Simulating.{simulation_of};
+ghost use Rattle.device_hooks.specs.Simulating.{report_of, simulation_of};
 
 use crate::devices::Devices;
 use crate::hook::{Hook, Moment, first_due};
-use crate::walk::walk;
+use crate::walk::{Wiring, walk};
 use avr_machine::{Machine, Menu};
 use flash_image::Flash;
 use std::alloc::{AllocError, Global};
@@ -27,7 +27,7 @@ pub fn simulation(
     steps: u32,
 ) -> Result<ReplayReport, AllocError>
     requires few { steps ≤ most_steps }
-    ensures told { IfOk result (λ r. record { steps = r.steps; depth = r.depth; stop = r.stop } ≡ simulation_of flash.now assumptions.now devices.now steps) }
+    ensures told { IfOk result (λ r. report_of r ≡ simulation_of flash.now assumptions.now devices.now steps) }
     ensures bounded { (bound : ℕ) → Bounded flash.now assumptions.now bound → IfOk result (λ r. r.depth ≤ bound) }
 {
     depth_is_kept();
@@ -40,17 +40,14 @@ pub fn simulation(
         |moment: &Moment<'_>, menu: &Menu| first_due(devices, false, moment, menu),
     );
     let mut machine = Machine::start(flash.device(), devices.fill());
-    let walk = walk(
-        alloc,
+    let wiring = Wiring {
         devices,
-        &timers,
-        &receivers,
-        &mut machine,
+        timers: &timers,
+        receivers: &receivers,
         flash,
         assumptions,
-        steps,
-        false,
-    )?;
+    };
+    let walk = walk(alloc, &wiring, &mut machine, steps, false)?;
     Ok(ReplayReport {
         steps: walk.steps,
         depth: machine.depth(),

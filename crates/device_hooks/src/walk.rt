@@ -7,9 +7,10 @@ ghost use Rattle.avr_model.specs.Step.{step, result_of};
 ghost use Rattle.avr_model.specs.Run.{HasBytes};
 ghost use Rattle.stimulus.specs.Driving.{stop_at};
 ghost use Rattle.device_hooks.specs.Spelling.{most_steps};
-ghost use Rattle.device_hooks.specs.Hooks.{MayAnswer, IsHook, Either};
+ghost use Rattle.device_hooks.specs.Hooks.{IsHook, ByHooks};
+ghost use Rattle.device_hooks.specs.Simulating.{setting};
 ghost use Rattle.device_hooks.specs.Traces.{IsTrace, Halts};
-ghost use Rattle.device_hooks.specs.Midway.{IsProgressKnown, IsChosen, kept_on, Walks};
+ghost use Rattle.device_hooks.specs.Midway.{setting_of, IsProgressKnown, IsChosen, kept_on, Walks};
 
 use crate::devices::Devices;
 use crate::hook::{Hook, Moment};
@@ -32,6 +33,16 @@ pub(crate) struct WalkedRun {
     pub(crate) stop: Stop,
 }
 
+// What determines the choices of a run: devices with two hooks of theirs, a firmware and its assumptions.
+#[derive(Drop)]
+pub(crate) struct Wiring<'a, F, G> {
+    pub(crate) devices: &'a Devices,
+    pub(crate) timers: &'a Hook<'a, F>,
+    pub(crate) receivers: &'a Hook<'a, G>,
+    pub(crate) flash: &'a Flash,
+    pub(crate) assumptions: &'a Assumptions,
+}
+
 // How the answer to a step ends a run, if it does.
 fn stop_at(answer: StepResult) -> Option<Stop>
     ensures { result ≡ stop_at answer }
@@ -46,26 +57,24 @@ fn stop_at(answer: StepResult) -> Option<Stop>
 
 // The hooks' choice at this moment.
 fn choose<F: Fn(&Moment<'_>, &Menu) -> Option<usize>, G: Fn(&Moment<'_>, &Menu) -> Option<usize>>(
-    devices: &Devices,
-    timers: &Hook<'_, F>,
-    receivers: &Hook<'_, G>,
+    wiring: &Wiring<'_, F, G>,
     machine: &Machine,
     progress: &mut Progress,
 ) -> Choice
-    requires first { IsHook F.Fn timers.now.0 timers.now.1 }
-    requires second { IsHook G.Fn receivers.now.0 receivers.now.1 }
-    requires first_devices { timers.now.0 ≡ devices.now }
-    requires second_devices { receivers.now.0 ≡ devices.now }
-    requires known { IsProgressKnown devices.now progress.old }
+    requires first { IsHook F.Fn wiring.now.timers.now.0 wiring.now.timers.now.1 }
+    requires second { IsHook G.Fn wiring.now.receivers.now.0 wiring.now.receivers.now.1 }
+    requires first_devices { wiring.now.timers.now.0 ≡ wiring.now.devices.now }
+    requires second_devices { wiring.now.receivers.now.0 ≡ wiring.now.devices.now }
+    requires known { IsProgressKnown wiring.now.devices.now progress.old }
     requires room { progress.old.step < most_steps }
-    ensures known { IsProgressKnown devices.now progress.new }
+    ensures known { IsProgressKnown wiring.now.devices.now progress.new }
     ensures bytes { HasBytes result }
-    ensures chosen { IsChosen (Either (MayAnswer F.Fn timers.now.1) (MayAnswer G.Fn receivers.now.1)) devices.now progress.old machine.now.state result progress.new }
-    ensures legal { (words : _) (entries : _) → result_of (step words entries machine.now.state result) ≢ answer.Illegal }
+    ensures chosen { IsChosen (setting_of F.Fn G.Fn wiring.now) progress.old machine.now.state result progress.new }
+    ensures legal { (words : _) (A : _) → result_of (step words A machine.now.state result) ≢ answer.Illegal }
 {
-    let answer = progress.answer(timers, receivers, &machine.menu());
-    let choice = progress.choice(devices, answer);
-    progress.pass(devices, answer);
+    let answer = progress.answer(wiring.timers, wiring.receivers, &machine.menu());
+    let choice = progress.choice(wiring.devices, answer);
+    progress.pass(wiring.devices, answer);
     choice
 }
 
@@ -86,29 +95,25 @@ pub(crate) fn walk<
     G: Fn(&Moment<'_>, &Menu) -> Option<usize>,
 >(
     alloc: Global,
-    devices: &Devices,
-    timers: &Hook<'_, F>,
-    receivers: &Hook<'_, G>,
+    wiring: &Wiring<'_, F, G>,
     machine: &mut Machine,
-    flash: &Flash,
-    assumptions: &Assumptions,
     steps: u32,
     keeps: bool,
 ) -> Result<WalkedRun, AllocError>
-    requires first { IsHook F.Fn timers.now.0 timers.now.1 }
-    requires second { IsHook G.Fn receivers.now.0 receivers.now.1 }
-    requires first_devices { timers.now.0 ≡ devices.now }
-    requires second_devices { receivers.now.0 ≡ devices.now }
+    requires first { IsHook F.Fn wiring.now.timers.now.0 wiring.now.timers.now.1 }
+    requires second { IsHook G.Fn wiring.now.receivers.now.0 wiring.now.receivers.now.1 }
+    requires first_devices { wiring.now.timers.now.0 ≡ wiring.now.devices.now }
+    requires second_devices { wiring.now.receivers.now.0 ≡ wiring.now.devices.now }
     requires few { steps ≤ most_steps }
-    ensures ok { IfOk result (λ walk. Walks (Either (MayAnswer F.Fn timers.now.1) (MayAnswer G.Fn receivers.now.1)) devices.now flash.now assumptions.now steps keeps machine.old walk machine.new) }
-    ensures err { OnErr result (Halts (Either (MayAnswer F.Fn timers.now.1) (MayAnswer G.Fn receivers.now.1)) devices.now flash.now assumptions.now steps machine.old machine.new) }
+    ensures ok { IfOk result (λ w. Walks (setting_of F.Fn G.Fn wiring.now) steps keeps machine.old w machine.new) }
+    ensures err { OnErr result (Halts (setting_of F.Fn G.Fn wiring.now) steps machine.old machine.new) }
 {
-    let mut progress = Progress::begin(alloc, devices)?;
+    let mut progress = Progress::begin(alloc, wiring.devices)?;
     let mut choices = Choices::empty(alloc);
     for step in 0..steps {
-        let choice = choose(devices, timers, receivers, machine, &mut progress);
+        let choice = choose(wiring, machine, &mut progress);
         keep(&mut choices, keeps, choice)?;
-        let answer = machine.step(flash, assumptions, choice);
+        let answer = machine.step(wiring.flash, wiring.assumptions, choice);
         if let Some(stop) = stop_at(answer) {
             return Ok(WalkedRun {
                 choices,
@@ -146,20 +151,17 @@ pub fn simulate<
     requires second_devices { receivers.now.0 ≡ devices.now }
     requires device { machine.old.state.device ≡ device_of flash.now }
     requires few { steps ≤ most_steps }
-    ensures ok { IfOk result (λ trace. IsTrace (Either (MayAnswer F.Fn timers.now.1) (MayAnswer G.Fn receivers.now.1)) devices.now flash.now assumptions.now steps machine.old trace machine.new) }
-    ensures err { OnErr result (Halts (Either (MayAnswer F.Fn timers.now.1) (MayAnswer G.Fn receivers.now.1)) devices.now flash.now assumptions.now steps machine.old machine.new) }
+    ensures ok { IfOk result (λ t. IsTrace (setting (ByHooks F.Fn G.Fn timers.now receivers.now) devices.now flash.now assumptions.now) steps machine.old t machine.new) }
+    ensures err { OnErr result (Halts (setting (ByHooks F.Fn G.Fn timers.now receivers.now) devices.now flash.now assumptions.now) steps machine.old machine.new) }
 {
-    let walk = walk(
-        alloc,
+    let wiring = Wiring {
         devices,
         timers,
         receivers,
-        machine,
         flash,
         assumptions,
-        steps,
-        true,
-    )?;
+    };
+    let walk = walk(alloc, &wiring, machine, steps, true)?;
     Ok(DeviceTrace {
         choices: walk.choices,
         depth: machine.depth(),

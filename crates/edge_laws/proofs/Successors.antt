@@ -5,8 +5,7 @@ use Rattle.std.specs.List.Sorted.{IsStrictlySortedBy}
 use Rattle.std.specs.declared.cmp.Ordering.TheVariants.{Less, Equal}
 use Rattle.basics.specs.Items.{first_in, further_in}
 use Rattle.avr_model.specs.declared.device.Device.{Device}
-use Rattle.avr_model.specs.declared.assumption.Entry.{Entry}
-use Rattle.avr_model.specs.Devices.{Program, device_of}
+use Rattle.avr_model.specs.Devices.{device_of}
 use Rattle.abs_state.specs.declared.state.AbsState.{AbsState}
 use Rattle.mask_states.specs.declared.keys.NodeKey.{NodeKey}
 use Rattle.mask_states.specs.Order.{node_cmp, same_node}
@@ -22,6 +21,7 @@ use Rattle.local_laws.proofs.AllLaws.{joins_are_least, local_parts_are_nodes}
 use Rattle.edge_rules.specs.Expansion.{states_at}
 use Rattle.edge_laws.specs.Carrying.{first_at}
 use Rattle.edge_laws.proofs.Lists.{as_list}
+use Rattle.local_rules.specs.Site.{Task}
 
 -- ---- in an ascending list
 
@@ -71,17 +71,17 @@ settled_same r [] l e =
     (refl, ap (λ (x : Local). x.same) (sym q))
 settled_same r (f ∷ fs) l e = cc
 
-module _ (words : Program) (A : List Entry) (j : NodeKey) (s : AbsState) (l : Local) (is : local words A j s ≡ Ok l) where
-  local_same : ((raw words A j s).faults ≡ []) × (l.same ≡ joined_onto [] (raw words A j s).moves)
+module _ (task : Task) (j : NodeKey) (s : AbsState) (l : Local) (is : local task j s ≡ Ok l) where
+  local_same : ((raw task j s).faults ≡ []) × (l.same ≡ joined_onto [] (raw task j s).moves)
   unfolding local
-  local_same = settled_same (raw words A j s) (raw words A j s).faults l is
+  local_same = settled_same (raw task j s) (raw task j s).faults l is
 
   -- the first successor of a key is the only one
   pub only_first : (k : NodeKey) → states_at k l.same ≡ as_list (first_at k l.same)
-  only_first k = firsts k l.same (subst AscendByKey (sym local_same.1) (joins_are_least.ascending (raw words A j s).moves))
+  only_first k = firsts k l.same (subst AscendByKey (sym local_same.1) (joins_are_least.ascending (raw task j s).moves))
 
-  pub successor_node : {followed : Bool} (k : NodeKey) (t : AbsState) → IsNodeIn (device_of words) followed j s → states_at k l.same ≡ t ∷ [] → IsNodeIn (device_of words) followed k t
+  pub successor_node : {followed : Bool} (k : NodeKey) (t : AbsState) → IsNodeIn (device_of task.flash) followed j s → states_at k l.same ≡ t ∷ [] → IsNodeIn (device_of task.flash) followed k t
   successor_node {followed = followed} k t node =
       picked_node k l.same t
-      (subst (AreNodesIn (device_of words) followed) (sym local_same.1)
-      (joins_are_least.nodes (raw words A j s).moves (λ to i. (local_parts_are_nodes.nodes words A j s to node local_same.0 i).1)))
+      (subst (AreNodesIn (device_of task.flash) followed) (sym local_same.1)
+      (joins_are_least.nodes (raw task j s).moves (λ to i. (local_parts_are_nodes.nodes task j s to node local_same.0 i).1)))

@@ -3,9 +3,8 @@ use Rattle.std.proofs.Common.{◌≡◌, ◌≢◌, refl, sym, ◌∙◌, ap, ap
 use Rattle.std.proofs.lemmas.Bool.Decides.{nat_tests}
 use Rattle.std.proofs.lemmas.Nat.{pow_pos}
 use Rattle.avr_model.proofs.AllLaws.{devices_are_alike}
-use Rattle.avr_model.specs.Devices.{Program, words_of, limit_of, device_of}
+use Rattle.avr_model.specs.Devices.{words_of, limit_of, device_of}
 use Rattle.avr_model.specs.declared.device.Device.{Device}
-use Rattle.avr_model.specs.declared.assumption.Entry.{Entry}
 use Rattle.avr_model.specs.Vectors.{enable_count, is_enabled, last_vector, vector_word}
 use Rattle.pair_domain.specs.Facts.{is_followed}
 use Rattle.pair_domain.proofs.AllLaws.{facts_rise}
@@ -33,6 +32,7 @@ use Rattle.edge_rules.specs.declared.edge.Edge.{Edge}
 use Rattle.edge_rules.specs.Edges.{called_inst, vector_inst, pick_back, returned_key, raw_of, Enters, by_call, by_interrupt, IsEdge, moving, entering, returning, Leads, along_move, along_entry, along_return}
 use Rattle.edge_rules.specs.Roots.{root_by}
 use Rattle.edge_laws.specs.Laws.{EdgesLeadToNodes}
+use Rattle.local_rules.specs.Site.{Task}
 
 -- ---- entries
 
@@ -115,14 +115,14 @@ in_texts device word lt = through word (words_of device) (limit_of device) lt (d
 pub vector_small : (device : Device) (v : ℕ) → v ≤ last_vector device → vector_word device v < limit_of device
 vector_small device v h = in_texts device (vector_word device v) (devices_are_alike.vectors device v h)
 
-entered_node : {followed : Bool} (words : Program) (A : List Entry) (n : Node) (way : EdgeKind) (inst : InstKey) (back : ℕ) → IsNodeIn (device_of words) followed n.key n.state → Enters words A n way inst back
-    → IsNodeIn (device_of words) followed (entry_key inst) (entered n.state) × (back < limit_of (device_of words))
-entered_node words A n _ _ _ node (by_call offset site faultless form member) =
-    let lead = (local_parts_fit.fit words A n.key n.state).calls site member in
-    (entry_node n.state (offset_of n.key.sp) (called_inst n.key site.entry) node.formed node.mode node.hulls (λ kind. absurd (cc)) (in_texts (device_of words) site.entry lead.0) node.masks, in_texts (device_of words) site.back lead.1)
-entered_node words A n _ _ _ node (by_interrupt offset v clears faultless form i delay enabled allowed clearable) = (
-  entry_node n.state (offset_of n.key.sp) (vector_inst words n.key v clears) node.formed node.mode node.hulls (λ kind. absurd (cc)) (vector_small (device_of words) v (enabled_small (device_of words) n.key.masks v enabled))
-      (enables_are_vectors.taken (device_of words) n.key.masks clears node.masks),
+entered_node : {followed : Bool} (task : Task) (n : Node) (way : EdgeKind) (inst : InstKey) (back : ℕ) → IsNodeIn (device_of task.flash) followed n.key n.state → Enters task n way inst back
+    → IsNodeIn (device_of task.flash) followed (entry_key inst) (entered n.state) × (back < limit_of (device_of task.flash))
+entered_node task n _ _ _ node (by_call offset site faultless form member) =
+    let lead = (local_parts_fit.fit task n.key n.state).calls site member in
+    (entry_node n.state (offset_of n.key.sp) (called_inst n.key site.entry) node.formed node.mode node.hulls (λ kind. absurd (cc)) (in_texts (device_of task.flash) site.entry lead.0) node.masks, in_texts (device_of task.flash) site.back lead.1)
+entered_node task n _ _ _ node (by_interrupt offset v clears faultless form i delay enabled allowed clearable) = (
+  entry_node n.state (offset_of n.key.sp) (vector_inst task.flash n.key v clears) node.formed node.mode node.hulls (λ kind. absurd (cc)) (vector_small (device_of task.flash) v (enabled_small (device_of task.flash) n.key.masks v enabled))
+      (enables_are_vectors.taken (device_of task.flash) n.key.masks clears node.masks),
   node.word,
 )
 
@@ -141,15 +141,15 @@ both_same : (b : Bool) → (b && b) ≡ b
 both_same true = refl
 both_same false = refl
 
-returned_node : {followed : Bool} (words : Program) (A : List Entry) (way : EdgeKind) (n leaver : Node) (back : ℕ) (x : Exit) (t : AbsState) → IsNodeIn (device_of words) followed n.key n.state → back < limit_of (device_of words)
-    → IsNodeIn (device_of words) followed leaver.key leaver.state → (raw_of words A leaver).exit ≡ Some x → returned n.state leaver.state ≡ Some t → IsNodeIn (device_of words) followed (returned_key way n.key back x) t
-returned_node {followed = followed} words A way n leaver back x t node word other exit is =
-    let left = (local_parts_fit.fit words A leaver.key leaver.state).exit x exit in
+returned_node : {followed : Bool} (task : Task) (way : EdgeKind) (n leaver : Node) (back : ℕ) (x : Exit) (t : AbsState) → IsNodeIn (device_of task.flash) followed n.key n.state → back < limit_of (device_of task.flash)
+    → IsNodeIn (device_of task.flash) followed leaver.key leaver.state → (raw_of task leaver).exit ≡ Some x → returned n.state leaver.state ≡ Some t → IsNodeIn (device_of task.flash) followed (returned_key way n.key back x) t
+returned_node {followed = followed} task way n leaver back x t node word other exit is =
+    let left = (local_parts_fit.fit task leaver.key leaver.state).exit x exit in
     let base = at_base leaver.key leaver.state other left.0 in
     record {
       word = word;
       small = node.small;
-      masks = subst (λ (m : ℕ). m < 2 ^ enable_count (device_of words)) (sym left.1) other.masks;
+      masks = subst (λ (m : ℕ). m < 2 ^ enable_count (device_of task.flash)) (sym left.1) other.masks;
       fits = node.fits;
       pick = pick_fits way n.key.pick node.pick;
       formed = returns_are_true.formed n.state leaver.state t (offset_of n.key.sp) node.formed base is;
@@ -162,25 +162,25 @@ returned_node {followed = followed} words A way n leaver back x t node word othe
 
 -- ---- edges
 
-lead_node : {followed : Bool} (words : Program) (A : List Entry) (nodes : List Node) (n to : Node) → AreNodesIn (device_of words) followed nodes → Contains nodes n → Leads words A nodes n to
-    → IsNodeIn (device_of words) followed to.key to.state
-lead_node words A nodes n _ are here (along_move to faultless member) = (local_parts_are_nodes.nodes words A n.key n.state to (are n here) faultless member).1
-lead_node words A nodes n _ are here (along_entry way inst back enters) = (entered_node words A n way inst back (are n here) enters).0
-lead_node words A nodes n _ are here (along_return way inst back leaver x state enters present same faultless exit is) =
-    returned_node words A way n leaver back x state (are n here) (entered_node words A n way inst back (are n here) enters).1 (are leaver present) exit is
+lead_node : {followed : Bool} (task : Task) (nodes : List Node) (n to : Node) → AreNodesIn (device_of task.flash) followed nodes → Contains nodes n → Leads task nodes n to
+    → IsNodeIn (device_of task.flash) followed to.key to.state
+lead_node task nodes n _ are here (along_move to faultless member) = (local_parts_are_nodes.nodes task n.key n.state to (are n here) faultless member).1
+lead_node task nodes n _ are here (along_entry way inst back enters) = (entered_node task n way inst back (are n here) enters).0
+lead_node task nodes n _ are here (along_return way inst back leaver x state enters present same faultless exit is) =
+    returned_node task way n leaver back x state (are n here) (entered_node task n way inst back (are n here) enters).1 (are leaver present) exit is
 
-edge_node : {followed : Bool} (words : Program) (A : List Entry) (nodes : List Node) (n : Node) (e : Edge) → AreNodesIn (device_of words) followed nodes → Contains nodes n → IsEdge words A nodes n e
-    → IsNodeIn (device_of words) followed e.to e.state
-edge_node words A nodes n _ are here (moving to faultless member) =
-    joins_are_least.nodes (raw_of words A n).moves (λ m i. (local_parts_are_nodes.nodes words A n.key n.state m (are n here) faultless i).1) to member
-edge_node words A nodes n _ are here (entering way inst back enters) = (entered_node words A n way inst back (are n here) enters).0
-edge_node words A nodes n _ are here (returning way inst back leaver x state enters present same faultless exit is) =
-    returned_node words A way n leaver back x state (are n here) (entered_node words A n way inst back (are n here) enters).1 (are leaver present) exit is
+edge_node : {followed : Bool} (task : Task) (nodes : List Node) (n : Node) (e : Edge) → AreNodesIn (device_of task.flash) followed nodes → Contains nodes n → IsEdge task nodes n e
+    → IsNodeIn (device_of task.flash) followed e.to e.state
+edge_node task nodes n _ are here (moving to faultless member) =
+    joins_are_least.nodes (raw_of task n).moves (λ m i. (local_parts_are_nodes.nodes task n.key n.state m (are n here) faultless i).1) to member
+edge_node task nodes n _ are here (entering way inst back enters) = (entered_node task n way inst back (are n here) enters).0
+edge_node task nodes n _ are here (returning way inst back leaver x state enters present same faultless exit is) =
+    returned_node task way n leaver back x state (are n here) (entered_node task n way inst back (are n here) enters).1 (are leaver present) exit is
 
 pub edges_lead_to_nodes : EdgesLeadToNodes
 edges_lead_to_nodes = record {
   reset = reset_node;
-  entries = λ words A n way inst back node enters. (entered_node words A n way inst back node enters).0;
+  entries = λ task n way inst back node enters. (entered_node task n way inst back node enters).0;
   leads = lead_node;
   edges = edge_node;
 }

@@ -5,8 +5,6 @@ use Rattle.std.proofs.lemmas.List.Elements.{Contains-append_left, Contains-appen
 use Rattle.basics.specs.Items.{contained_at, only_one_in as only}
 use Rattle.basics.specs.Lists.{one_at}
 use Rattle.basics.specs.Numbers.{before_or_last}
-use Rattle.avr_model.specs.declared.assumption.Entry.{Entry}
-use Rattle.avr_model.specs.Devices.{Program}
 use Rattle.mask_states.specs.declared.keys.InstKey.{InstKey}
 use Rattle.mask_states.specs.declared.keys.SpForm.{SpForm}
 use Rattle.mask_states.specs.declared.keys.SpForm.TheVariants.{Closed, Open}
@@ -23,6 +21,7 @@ use Rattle.family_graph.specs.Numbers.{number_in, AreInstNumbers, entry_of, Adds
 use Rattle.family_graph.proofs.Lists.{itself}
 use Rattle.family_graph.proofs.Insts.{number_is, number_there}
 use Rattle.family_graph.proofs.Ways.{entered_inst}
+use Rattle.local_rules.specs.Site.{Task}
 
 open_closed : (o h : ℕ) (high : _) → Open o high ≡ Closed h → ⊥
 open_closed o h high e = cc
@@ -42,8 +41,8 @@ entry_is e at offset into a b c =
 
 -- ---- the edges of one node
 
-module _ (words : Program) (A : List Entry) (nodes : List Node) (insts : List InstKey) (numbers : List ℕ) (are : AreInstNumbers nodes (length nodes) insts numbers)
-    (peopled : IsPeopled words A nodes) (n : Node) (member : Contains nodes n) (at offset : ℕ) where
+module _ (task : Task) (nodes : List Node) (insts : List InstKey) (numbers : List ℕ) (are : AreInstNumbers nodes (length nodes) insts numbers)
+    (peopled : IsPeopled task nodes) (n : Node) (member : Contains nodes n) (at offset : ℕ) where
   -- an edge from the node, as one of the graph
   pub record IsEntryAt (e : Entered) : Type 0 where
     pub node : e.node ≡ at
@@ -51,12 +50,12 @@ module _ (words : Program) (A : List Entry) (nodes : List Node) (insts : List In
     pub into : InstKey
     pub leads : slice_get insts e.into ≡ Some into
     pub back : ℕ
-    pub enters : Enters words A n e.kind into back
+    pub enters : Enters task n e.kind into back
 
   abbrev made : Entering → Entered
   made w = entry_of insts (record { node = at; offset = offset }) w
 
-  pub listed : (ways : List Entering) → AreWaysOf words A n ways → (e : Entered) → Contains (map made ways) e ↔ IsEntryAt e
+  pub listed : (ways : List Entering) → AreWaysOf task n ways → (e : Entered) → Contains (map made ways) e ↔ IsEntryAt e
   listed ways all e = (
     λ has. each_in_map made IsEntryAt ways (λ w h. let k = (all w).0 h in record {
       node = refl;
@@ -74,7 +73,7 @@ module _ (words : Program) (A : List Entry) (nodes : List Node) (insts : List In
 
 -- ---- one node more
 
-module _ (words : Program) (A : List Entry) (nodes : List Node) (insts : List InstKey) (low at : ℕ) (above : low ≤ at) (n : Node) (here : slice_get nodes at ≡ Some n) where
+module _ (task : Task) (nodes : List Node) (insts : List InstKey) (low at : ℕ) (above : low ≤ at) (n : Node) (here : slice_get nodes at ≡ Some n) where
   wider_place : (p : Place) → IsPlaceBetween nodes low at p → IsPlaceBetween nodes low (at + 1) p
   wider_place p h = record { above = h.above; below = omega (arith, h.below); node = h.node; at = h.at; closed = h.closed }
 
@@ -109,15 +108,15 @@ module _ (words : Program) (A : List Entry) (nodes : List Node) (insts : List In
     ]),
   )
 
-  wider_entry : (e : Entered) → IsEntryBetween words A nodes insts low at e → IsEntryBetween words A nodes insts low (at + 1) e
+  wider_entry : (e : Entered) → IsEntryBetween task nodes insts low at e → IsEntryBetween task nodes insts low (at + 1) e
   wider_entry e h =
       record { above = h.above; below = omega (arith, h.below); node = h.node; at = h.at; closed = h.closed; into = h.into; leads = h.leads; back = h.back; enters = h.enters }
 
-  module _ (numbers : List ℕ) (are : AreInstNumbers nodes (length nodes) insts numbers) (peopled : IsPeopled words A nodes) where
+  module _ (numbers : List ℕ) (are : AreInstNumbers nodes (length nodes) insts numbers) (peopled : IsPeopled task nodes) where
     abbrev At : ℕ → Entered → Type 0
-    At offset e = IsEntryAt words A nodes insts numbers are peopled n (contained_at nodes at n here) at offset e
+    At offset e = IsEntryAt task nodes insts numbers are peopled n (contained_at nodes at n here) at offset e
 
-    newer_entry : (e : Entered) → IsEntryBetween words A nodes insts low (at + 1) e → (IsEntryBetween words A nodes insts low at e) ⊎ ((n.key.sp ≡ Closed e.offset) × At e.offset e)
+    newer_entry : (e : Entered) → IsEntryBetween task nodes insts low (at + 1) e → (IsEntryBetween task nodes insts low at e) ⊎ ((n.key.sp ≡ Closed e.offset) × At e.offset e)
     newer_entry e h =
         elim (before_or_last e.node at h.below) [
           | inl less ↦ inl (record { above = h.above; below = less; node = h.node; at = h.at; closed = h.closed; into = h.into; leads = h.leads; back = h.back; enters = h.enters })
@@ -125,11 +124,11 @@ module _ (words : Program) (A : List Entry) (nodes : List Node) (insts : List In
               let k : h.node ≡ n = one_at nodes at h.node n (subst (λ (i : ℕ). slice_get nodes i ≡ Some h.node) same h.at) here in
               inr (
                 subst (λ (m : Node). m.key.sp ≡ Closed e.offset) k h.closed,
-                record { node = same; offset_is = refl; into = h.into; leads = h.leads; back = h.back; enters = subst (λ (m : Node). Enters words A m e.kind h.into h.back) k h.enters },
+                record { node = same; offset_is = refl; into = h.into; leads = h.leads; back = h.back; enters = subst (λ (m : Node). Enters task m e.kind h.into h.back) k h.enters },
               )
         ]
 
-    older_entry : (o : ℕ) → n.key.sp ≡ Closed o → (e : Entered) → At o e → IsEntryBetween words A nodes insts low (at + 1) e
+    older_entry : (o : ℕ) → n.key.sp ≡ Closed o → (e : Entered) → At o e → IsEntryBetween task nodes insts low (at + 1) e
     older_entry o is e a =
         record {
           above = omega (arith, above, a.node);
@@ -143,8 +142,8 @@ module _ (words : Program) (A : List Entry) (nodes : List Node) (insts : List In
           enters = a.enters;
         }
 
-    pub entries_more : (ways : List Entering) → AreWaysOf words A n ways → (sp : SpForm) → n.key.sp ≡ sp → (ps ps' : List Place) (es es' : List Entered) → AddsAt insts at ways sp ps es ps' es'
-        → ((e : Entered) → Contains es e ↔ IsEntryBetween words A nodes insts low at e) → (e : Entered) → Contains es' e ↔ IsEntryBetween words A nodes insts low (at + 1) e
+    pub entries_more : (ways : List Entering) → AreWaysOf task n ways → (sp : SpForm) → n.key.sp ≡ sp → (ps ps' : List Place) (es es' : List Entered) → AddsAt insts at ways sp ps es ps' es'
+        → ((e : Entered) → Contains es e ↔ IsEntryBetween task nodes insts low at e) → (e : Entered) → Contains es' e ↔ IsEntryBetween task nodes insts low (at + 1) e
     entries_more ways all (Open o high) is ps ps' es es' adds inv e = (
       λ has. wider_entry e ((inv e).0 (subst (λ (xs : List Entered). Contains xs e) adds.1 has)),
       λ b. elim (newer_entry e b) [
@@ -153,7 +152,7 @@ module _ (words : Program) (A : List Entry) (nodes : List Node) (insts : List In
       ],
     )
     entries_more ways all (Closed o) is ps ps' es es' adds inv e =
-        let l = listed words A nodes insts numbers are peopled n (contained_at nodes at n here) at o ways all e in
+        let l = listed task nodes insts numbers are peopled n (contained_at nodes at n here) at o ways all e in
         let new : List Entered = map (entry_of insts (record { node = at; offset = o })) ways in (
           λ has. elim (Contains-append_cases es new e (subst (λ (xs : List Entered). Contains xs e) adds.1 has)) [
             | inl old ↦ wider_entry e ((inv e).0 old)
@@ -167,10 +166,10 @@ module _ (words : Program) (A : List Entry) (nodes : List Node) (insts : List In
 
 -- ---- a whole instance
 
-pub instance_is : (words : Program) (A : List Entry) (nodes : List Node) (insts : List InstKey) (inst : InstKey) (low high : ℕ) (g : GraphInst) → g.key ≡ inst → IsSpan nodes inst low high
-    → ((p : Place) → Contains g.offsets p ↔ IsPlaceBetween nodes low high p) → ((e : Entered) → Contains g.entered e ↔ IsEntryBetween words A nodes insts low high e)
-    → IsInstOf words A nodes insts inst g
-instance_is words A nodes insts inst low high g is span places entries =
+pub instance_is : (task : Task) (nodes : List Node) (insts : List InstKey) (inst : InstKey) (low high : ℕ) (g : GraphInst) → g.key ≡ inst → IsSpan nodes inst low high
+    → ((p : Place) → Contains g.offsets p ↔ IsPlaceBetween nodes low high p) → ((e : Entered) → Contains g.entered e ↔ IsEntryBetween task nodes insts low high e)
+    → IsInstOf task nodes insts inst g
+instance_is task nodes insts inst low high g is span places entries =
     record {
       key = is;
       places = λ p. (
@@ -209,13 +208,13 @@ pub adds_closed : (insts : List InstKey) (at : ℕ) (ways : List Entering) (sp :
 adds_closed insts at ways sp o ps ps' es es' is places entries = subst (λ (f : SpForm). AddsAt insts at ways f ps es ps' es') (sym is) (places, entries)
 
 -- the instance with these lists
-pub instance_made : (words : Program) (A : List Entry) (nodes : List Node) (insts : List InstKey) (key inst : InstKey) (low high at : ℕ) (places ps : List Place) (entries es : List Entered)
+pub instance_made : (task : Task) (nodes : List Node) (insts : List InstKey) (key inst : InstKey) (low high at : ℕ) (places ps : List Place) (entries es : List Entered)
     → key ≡ inst → IsSpan nodes key low high → at ≡ high → ps ≡ places → es ≡ entries
-    → ((p : Place) → Contains places p ↔ IsPlaceBetween nodes low at p) → ((e : Entered) → Contains entries e ↔ IsEntryBetween words A nodes insts low at e)
-    → IsInstOf words A nodes insts inst (record { key = key; offsets = ps; entered = es })
-instance_made words A nodes insts key inst low high at places ps entries es same span end a b inv inv' =
-    subst (λ (k : InstKey). IsInstOf words A nodes insts k (record { key = key; offsets = ps; entered = es })) same
-    (instance_is words A nodes insts key low high (record { key = key; offsets = ps; entered = es }) refl span
+    → ((p : Place) → Contains places p ↔ IsPlaceBetween nodes low at p) → ((e : Entered) → Contains entries e ↔ IsEntryBetween task nodes insts low at e)
+    → IsInstOf task nodes insts inst (record { key = key; offsets = ps; entered = es })
+instance_made task nodes insts key inst low high at places ps entries es same span end a b inv inv' =
+    subst (λ (k : InstKey). IsInstOf task nodes insts k (record { key = key; offsets = ps; entered = es })) same
+    (instance_is task nodes insts key low high (record { key = key; offsets = ps; entered = es }) refl span
     (λ p. subst (λ (xs : List Place). Contains xs p ↔ IsPlaceBetween nodes low high p) (sym a) (subst (λ (h : ℕ). Contains places p ↔ IsPlaceBetween nodes low h p) end (inv p)))
-    (λ e. subst (λ (xs : List Entered). Contains xs e ↔ IsEntryBetween words A nodes insts low high e) (sym b)
-    (subst (λ (h : ℕ). Contains entries e ↔ IsEntryBetween words A nodes insts low h e) end (inv' e))))
+    (λ e. subst (λ (xs : List Entered). Contains xs e ↔ IsEntryBetween task nodes insts low high e) (sym b)
+    (subst (λ (h : ℕ). Contains entries e ↔ IsEntryBetween task nodes insts low h e) end (inv' e))))

@@ -10,8 +10,6 @@ use Rattle.std.specs.declared.cmp.Ordering.TheVariants.{Less, Equal}
 use Rattle.std.proofs.lemmas.Option.{slice_get-map}
 use Rattle.std.proofs.lemmas.List.Elements.{Contains-append_cases}
 use Rattle.basics.specs.Items.{first_in, further_in, get_contained, only_one_in, none_in, all_at}
-use Rattle.avr_model.specs.declared.assumption.Entry.{Entry}
-use Rattle.avr_model.specs.Devices.{Program}
 use Rattle.mask_states.specs.declared.keys.InstKey.{InstKey}
 use Rattle.mask_states.specs.Order.{inst_cmp}
 use Rattle.mask_states.proofs.AllLaws.{keys_are_ordered}
@@ -26,6 +24,7 @@ use Rattle.nesting_bound.specs.Least.{IsLeast}
 use Rattle.family_graph.specs.Graphs.{insts_of, HasPlaceOf, HasEntryOf, IsGraphOf}
 use Rattle.family_graph.specs.Laws.{GraphsAreAlike}
 use Rattle.family_graph.proofs.Graphs.{keys_long}
+use Rattle.local_rules.specs.Site.{Task}
 
 -- ---- ascending lists with the same members are the same
 
@@ -80,7 +79,7 @@ unfolding entry_by
 entry_as None = refl
 entry_as (Some g) = refl
 
-module _ (words : Program) (A : List Entry) (nodes : List Node) (gs hs : List GraphInst) (g : IsGraphOf words A nodes gs) (h : IsGraphOf words A nodes hs) where
+module _ (task : Task) (nodes : List Node) (gs hs : List GraphInst) (g : IsGraphOf task nodes gs) (h : IsGraphOf task nodes hs) where
   keys : insts_of gs ≡ insts_of hs
   keys =
       same_lists (insts_of gs) (insts_of hs) g.ascending h.ascending (λ k has. (h.insts k).1 ((g.insts k).0 has)) (λ k has. (g.insts k).1 ((h.insts k).0 has))
@@ -92,13 +91,13 @@ module _ (words : Program) (A : List Entry) (nodes : List Node) (gs hs : List Gr
   place_to i p has = (h.places i p).1 (subst (λ (ks : List InstKey). HasPlaceOf nodes ks i p) keys ((g.places i p).0 has))
 
   entry_to : (i : ℕ) (e : Entered) → graph.EntersAlong gs i e → graph.EntersAlong hs i e
-  entry_to i e has = (h.entered i e).1 (subst (λ (ks : List InstKey). HasEntryOf words A nodes ks i e) keys ((g.entered i e).0 has))
+  entry_to i e has = (h.entered i e).1 (subst (λ (ks : List InstKey). HasEntryOf task nodes ks i e) keys ((g.entered i e).0 has))
 
   place_from : (i : ℕ) (p : Place) → graph.HasPlace hs i p → graph.HasPlace gs i p
   place_from i p has = (g.places i p).1 (subst (λ (ks : List InstKey). HasPlaceOf nodes ks i p) (sym keys) ((h.places i p).0 has))
 
   entry_from : (i : ℕ) (e : Entered) → graph.EntersAlong hs i e → graph.EntersAlong gs i e
-  entry_from i e has = (g.entered i e).1 (subst (λ (ks : List InstKey). HasEntryOf words A nodes ks i e) (sym keys) ((h.entered i e).0 has))
+  entry_from i e has = (g.entered i e).1 (subst (λ (ks : List InstKey). HasEntryOf task nodes ks i e) (sym keys) ((h.entered i e).0 has))
 
   pub least_as : (ranks needs : List ℕ) → IsLeast hs ranks needs → IsLeast gs ranks needs
   least_as ranks needs l =
@@ -141,6 +140,6 @@ module _ (words : Program) (A : List Entry) (nodes : List Node) (gs hs : List Gr
 pub graphs_are_alike : GraphsAreAlike
 graphs_are_alike =
     record {
-      least = λ words A nodes gs hs ranks needs g h l. least_as words A nodes gs hs g h ranks needs l;
-      chain = λ words A nodes gs hs needs links g h c. chain_as words A nodes gs hs g h needs 0 0 links c;
+      least = λ task nodes gs hs ranks needs g h l. least_as task nodes gs hs g h ranks needs l;
+      chain = λ task nodes gs hs needs links g h c. chain_as task nodes gs hs g h needs 0 0 links c;
     }

@@ -9,8 +9,6 @@ use Rattle.std.proofs.lemmas.Option.{slice_get_within, get_or_from_slice_get}
 use Rattle.std.proofs.lemmas.List.{length-map}
 use Rattle.std.proofs.lemmas.Map.Keys.{Less-from_sorted}
 use Rattle.basics.specs.Items.{get_contained}
-use Rattle.avr_model.specs.declared.assumption.Entry.{Entry}
-use Rattle.avr_model.specs.Devices.{Program}
 use Rattle.abs_state.specs.Frames.{entered}
 use Rattle.mask_states.specs.declared.keys.EdgeKind.{EdgeKind}
 use Rattle.mask_states.specs.declared.keys.Kind.{Kind}
@@ -33,6 +31,7 @@ use Rattle.certificate.specs.Valid.{IsSound, MeetsConditions}
 use Rattle.edge_rules.specs.Expansion.{IsFilled}
 use Rattle.edge_laws.specs.Expansions.{FilledOrMissing}
 use Rattle.family_graph.specs.Laws.{DeepestChainsAreBounded}
+use Rattle.local_rules.specs.Site.{Task}
 
 member_of : (nodes : List Node) (n : Node) (at : ℕ) → slice_get nodes at ≡ Some n → Contains nodes n
 member_of nodes n at e = (at, slice_get_within nodes at n e, get_or_from_slice_get nodes at n n e)
@@ -68,26 +67,26 @@ root_at insts (suc k) within ascending is =
     absurd (root_least (get_or insts 0 root_inst) (subst (λ (y : InstKey). inst_cmp (get_or insts 0 root_inst) y ≡ Less) e less))
 
 -- the nodes of a certificate have one expansion, which meets the conditions
-pub meets_conditions : (words : Program) (A : List Entry) (c : Claim) → FilledOrMissing → IsSound words A c → (nodes : List Node) → IsFilled words A c.nodes nodes
-    → MeetsConditions words A c nodes
-meets_conditions words A c law sound nodes filled = subst (MeetsConditions words A c) (law.one words A c.nodes sound.nodes nodes sound.expanded filled) sound.meets
+pub meets_conditions : (task : Task) (c : Claim) → FilledOrMissing → IsSound task c → (nodes : List Node) → IsFilled task c.nodes nodes
+    → MeetsConditions task c nodes
+meets_conditions task c law sound nodes filled = subst (MeetsConditions task c) (law.one task c.nodes sound.nodes nodes sound.expanded filled) sound.meets
 
-module _ (words : Program) (A : List Entry) (c : Claim) (nodes : List Node) (meets : MeetsConditions words A c nodes) where
+module _ (task : Task) (c : Claim) (nodes : List Node) (meets : MeetsConditions task c nodes) where
   member : (n : Node) (at : ℕ) → slice_get nodes at ≡ Some n → Contains nodes n
   member n at e = member_of nodes n at e
 
   -- an entered instance has its first node
-  landed : (n : Node) (way : EdgeKind) (into : InstKey) (back : ℕ) → Contains nodes n → Enters words A n way into back
+  landed : (n : Node) (way : EdgeKind) (into : InstKey) (back : ℕ) → Contains nodes n → Enters task n way into back
       → IsCovered nodes (record { key = entry_key into; state = entered n.state })
   landed n way into back has enters = meets.edges n (record { kind = way; to = entry_key into; state = entered n.state }) has (entering way into back enters)
 
-  pub peopled : IsPeopled words A nodes
+  pub peopled : IsPeopled task nodes
   peopled n way into back has enters = let l = landed n way into back has enters in (record { key = entry_key into; state = l.state }, (l.present, refl))
 
   pub some_node : 0 < length nodes
   some_node = omega (arith, meets.reset.present.1)
 
-  module _ (gs : List GraphInst) (is : IsGraphOf words A nodes gs) where
+  module _ (gs : List GraphInst) (is : IsGraphOf task nodes gs) where
     abbrev pub key_at : ℕ → InstKey
     key_at i = unwrap_or (slice_get (insts_of gs) i) root_inst
 
@@ -151,11 +150,11 @@ module _ (words : Program) (A : List Entry) (c : Claim) (nodes : List Node) (mee
 pub chains_are_bounded : DeepestChainsAreBounded
 chains_are_bounded =
     record {
-      need = λ words A c nodes need links meets d.
-          let inside : 0 < length (insts_of d.graph) = slice_get_within (insts_of d.graph) 0 root_inst (root_first words A c nodes meets d.graph d.family) in
+      need = λ task c nodes need links meets d.
+          let inside : 0 < length (insts_of d.graph) = slice_get_within (insts_of d.graph) 0 root_inst (root_first task c nodes meets d.graph d.family) in
           let same : length (insts_of d.graph) ≡ length d.graph = length-map d.graph (λ g. g.key) in
-          let under = root_bound words A c nodes meets d.graph d.family d.ranks d.needs d.least (omega (arith, inside, same)) in
+          let under = root_bound task c nodes meets d.graph d.family d.ranks d.needs d.least (omega (arith, inside, same)) in
           let root = d.root in
           omega (arith, under, root);
-      root = λ words A c nodes meets graph family. root_first words A c nodes meets graph family;
+      root = λ task c nodes meets graph family. root_first task c nodes meets graph family;
     }

@@ -7,8 +7,6 @@ use Rattle.std.proofs.lemmas.Option.{slice_get_within, slice_get-map, same_Some}
 use Rattle.basics.specs.Lists.{one_at, get_pushed}
 use Rattle.basics.specs.Items.{contained_at, get_contained}
 use Rattle.basics.specs.Numbers.{before_or_last}
-use Rattle.avr_model.specs.declared.assumption.Entry.{Entry}
-use Rattle.avr_model.specs.Devices.{Program}
 use Rattle.avr_model.specs.State.{SIZE}
 use Rattle.avr_model.proofs.AllLaws.{devices_are_alike}
 use Rattle.mask_states.specs.declared.keys.InstKey.{InstKey}
@@ -24,6 +22,7 @@ use Rattle.nesting_bound.specs.Graph as graph
 use Rattle.family_graph.specs.Graphs.{insts_of, HasInst, HasPlaceOf, HasEntryOf, IsGraphOf}
 use Rattle.family_graph.specs.Numbers.{AreInstNumbers, IsInstOf, AreGraphInsts}
 use Rattle.family_graph.proofs.Lists.{get_left}
+use Rattle.local_rules.specs.Site.{Task}
 
 pub keys_long : (gs : List GraphInst) → length (insts_of gs) ≡ length gs
 keys_long [] = refl
@@ -39,11 +38,11 @@ lists_same (x ∷ xs) (y ∷ ys) e h =
     let rest = lists_same xs ys (omega (arith, e)) (λ i z g. h (suc i) z g) in
     cc
 
-module _ (words : Program) (A : List Entry) (nodes : List Node) (insts : List InstKey) where
+module _ (task : Task) (nodes : List Node) (insts : List InstKey) where
   abbrev pub Made : ℕ → List GraphInst → Type 0
-  Made i gs = AreGraphInsts words A nodes insts i gs
+  Made i gs = AreGraphInsts task nodes insts i gs
 
-  pub made_more : (i : ℕ) (gs : List GraphInst) (inst : InstKey) (g : GraphInst) → Made i gs → slice_get insts i ≡ Some inst → IsInstOf words A nodes insts inst g → Made (i + 1) (gs ++ g ∷ [])
+  pub made_more : (i : ℕ) (gs : List GraphInst) (inst : InstKey) (g : GraphInst) → Made i gs → slice_get insts i ≡ Some inst → IsInstOf task nodes insts inst g → Made (i + 1) (gs ++ g ∷ [])
   made_more i gs inst g made is of =
       record {
         count_is = omega (arith, length-append gs (g ∷ []), made.count_is);
@@ -51,7 +50,7 @@ module _ (words : Program) (A : List Entry) (nodes : List Node) (insts : List In
           | inl less ↦ let m = made.each j k less e in (m.0, get_left gs (g ∷ []) j m.0 m.1, m.2)
           | inr same ↦
               let this : inst ≡ k = one_at insts i inst k is (subst (λ (x : ℕ). slice_get insts x ≡ Some k) same e) in
-              (g, subst (λ (x : ℕ). slice_get (gs ++ g ∷ []) x ≡ Some g) (sym (same ∙ sym made.count_is)) (get_pushed gs g), subst (λ (x : InstKey). IsInstOf words A nodes insts x g) this of)
+              (g, subst (λ (x : ℕ). slice_get (gs ++ g ∷ []) x ≡ Some g) (sym (same ∙ sym made.count_is)) (get_pushed gs g), subst (λ (x : InstKey). IsInstOf task nodes insts x g) this of)
         ];
       }
 
@@ -64,10 +63,10 @@ module _ (words : Program) (A : List Entry) (nodes : List Node) (insts : List In
     at_key : (i : ℕ) (g : GraphInst) → slice_get gs i ≡ Some g → slice_get insts i ≡ Some g.key
     at_key i g is = subst (λ (ks : List InstKey). slice_get ks i ≡ Some g.key) keys_are (slice_get-map (λ (g : GraphInst). g.key) gs i ∙ ap (option_map (λ (g : GraphInst). g.key)) is)
 
-    inst_at : (i : ℕ) (g : GraphInst) (inst : InstKey) → slice_get gs i ≡ Some g → slice_get insts i ≡ Some inst → IsInstOf words A nodes insts inst g
+    inst_at : (i : ℕ) (g : GraphInst) (inst : InstKey) → slice_get gs i ≡ Some g → slice_get insts i ≡ Some inst → IsInstOf task nodes insts inst g
     inst_at i g inst is e =
         let m = made.each i inst (slice_get_within insts i inst e) e in
-        subst (IsInstOf words A nodes insts inst) (one_at gs i m.0 g m.1 is) m.2
+        subst (IsInstOf task nodes insts inst) (one_at gs i m.0 g m.1 is) m.2
 
     place_of : (i : ℕ) (p : Place) → graph.HasPlace gs i p ↔ HasPlaceOf nodes insts i p
     place_of i p = (
@@ -79,7 +78,7 @@ module _ (words : Program) (A : List Entry) (nodes : List Node) (insts : List In
           record { inst = m.0; is = m.1; has = (m.2.places p).1 h.place },
     )
 
-    entry_of : (i : ℕ) (e : Entered) → graph.EntersAlong gs i e ↔ HasEntryOf words A nodes insts i e
+    entry_of : (i : ℕ) (e : Entered) → graph.EntersAlong gs i e ↔ HasEntryOf task nodes insts i e
     entry_of i e = (
       λ h.
           let k = at_key i h.inst h.is in
@@ -98,13 +97,13 @@ module _ (words : Program) (A : List Entry) (nodes : List Node) (insts : List In
           subst (Contains insts) h.2 (contained_at insts _ h.0.key.inst (are.named k h.0 h.1.1 (get_contained nodes h.0 h.1))),
     )
 
-    pub graph_is : IsGraphOf words A nodes gs
+    pub graph_is : IsGraphOf task nodes gs
     graph_is =
         record {
           ascending = subst (IsStrictlySortedBy inst_cmp) (sym keys_are) are.ascending;
           insts = λ inst. subst (λ (ks : List InstKey). Contains ks inst ↔ HasInst nodes inst) (sym keys_are) (inst_of inst);
           places = λ i p. subst (λ (ks : List InstKey). graph.HasPlace gs i p ↔ HasPlaceOf nodes ks i p) (sym keys_are) (place_of i p);
-          entered = λ i e. subst (λ (ks : List InstKey). graph.EntersAlong gs i e ↔ HasEntryOf words A nodes ks i e) (sym keys_are) (entry_of i e);
+          entered = λ i e. subst (λ (ks : List InstKey). graph.EntersAlong gs i e ↔ HasEntryOf task nodes ks i e) (sym keys_are) (entry_of i e);
         }
 
 -- ---- it is a graph
@@ -113,7 +112,7 @@ first_of : (nodes : List Node) → 0 < length nodes → (n : Node) × (slice_get
 first_of [] h = absurd (omega (arith, h))
 first_of (n ∷ ns) h = (n, refl)
 
-module _ (words : Program) (A : List Entry) (nodes : List Node) (shown : AreOfSomeDevice nodes) (gs : List GraphInst) (is : IsGraphOf words A nodes gs) where
+module _ (task : Task) (nodes : List Node) (shown : AreOfSomeDevice nodes) (gs : List GraphInst) (is : IsGraphOf task nodes gs) where
   small : (n : Node) (at offset : ℕ) → slice_get nodes at ≡ Some n → n.key.sp ≡ Closed offset → offset ≤ SIZE
   small n at offset here closed =
       let small = (shown.1.all n (contained_at nodes at n here)).small in omega (arith, small, ap offset_of closed, devices_are_alike.most_depth shown.0)

@@ -1,7 +1,5 @@
 -- The deepest chain of a family is unique.
 use Rattle.std.proofs.Common.{sym, ap, subst, ◌∙◌, ◌≡◌, ℕ, List, slice_index}
-use Rattle.avr_model.specs.declared.assumption.Entry.{Entry}
-use Rattle.avr_model.specs.Devices.{Program}
 use Rattle.local_rules.specs.declared.local.Node.{Node}
 use Rattle.nesting_bound.specs.declared.graph.Link.{Link}
 use Rattle.nesting_bound.specs.Chain.{IsChain}
@@ -9,12 +7,13 @@ use Rattle.nesting_bound.specs.Least.{IsLeast}
 use Rattle.nesting_bound.specs.Laws.{LeastNeedsAreOne, ChainsAreOne}
 use Rattle.family_graph.specs.Chains.{IsDeepest}
 use Rattle.family_graph.specs.Laws.{GraphsAreAlike, DeepestChainsAreOne}
+use Rattle.local_rules.specs.Site.{Task}
 
-module _ (alike : GraphsAreAlike) (answers : LeastNeedsAreOne) (chains : ChainsAreOne) (words : Program) (A : List Entry) (nodes : List Node) (need need' : ℕ) (links links' : List Link)
-    (x : IsDeepest words A nodes need links) (y : IsDeepest words A nodes need' links') where
+module _ (alike : GraphsAreAlike) (answers : LeastNeedsAreOne) (chains : ChainsAreOne) (task : Task) (nodes : List Node) (need need' : ℕ) (links links' : List Link)
+    (x : IsDeepest task nodes need links) (y : IsDeepest task nodes need' links') where
   same_needs : y.needs ≡ x.needs
   same_needs =
-      let least : IsLeast x.graph y.ranks y.needs = alike.least words A nodes x.graph y.graph y.ranks y.needs x.family y.family y.least in
+      let least : IsLeast x.graph y.ranks y.needs = alike.least task nodes x.graph y.graph y.ranks y.needs x.family y.family y.least in
       answers.needs x.graph y.ranks y.needs x.ranks x.needs least x.least
 
   same_need : need ≡ need'
@@ -23,11 +22,11 @@ module _ (alike : GraphsAreAlike) (answers : LeastNeedsAreOne) (chains : ChainsA
   same_links : links ≡ links'
   same_links =
       chains x.graph x.needs links links' x.chain
-      (subst (λ (ns : List ℕ). IsChain x.graph ns links') same_needs (alike.chain words A nodes x.graph y.graph y.needs links' x.family y.family y.chain))
+      (subst (λ (ns : List ℕ). IsChain x.graph ns links') same_needs (alike.chain task nodes x.graph y.graph y.needs links' x.family y.family y.chain))
 
 pub deepest_chains_are_one : GraphsAreAlike → LeastNeedsAreOne → ChainsAreOne → DeepestChainsAreOne
 deepest_chains_are_one alike answers chains =
     record {
-      need = λ words A nodes need need' links links' x y. same_need alike answers chains words A nodes need need' links links' x y;
-      links = λ words A nodes need need' links links' x y. same_links alike answers chains words A nodes need need' links links' x y;
+      need = λ task nodes need need' links links' x y. same_need alike answers chains task nodes need need' links links' x y;
+      links = λ task nodes need need' links links' x y. same_links alike answers chains task nodes need need' links links' x y;
     }

@@ -5,8 +5,6 @@ use Rattle.std.proofs.lemmas.Option.{slice_get_within}
 use Rattle.basics.specs.Items.{only_one_in, none_in, first_in, contained_at, contained_in_join, each_of_join}
 use Rattle.basics.specs.Lists.{get_or_front, get_or_pushed, one_at}
 use Rattle.basics.specs.Numbers.{before_or_last}
-use Rattle.avr_model.specs.declared.assumption.Entry.{Entry}
-use Rattle.avr_model.specs.Devices.{Program}
 use Rattle.abs_state.specs.Frames.{entered}
 use Rattle.mask_states.specs.declared.keys.EdgeKind.{EdgeKind}
 use Rattle.mask_states.specs.declared.keys.InstKey.{InstKey}
@@ -24,14 +22,15 @@ use Rattle.call_graph.proofs.Landed.{inside_at}
 use Rattle.family_graph.specs.declared.entering.Entering.{Entering}
 use Rattle.family_graph.specs.Graphs.{HasInst, IsPeopled, AreWaysOf, AreWaysTo, AreWays}
 use Rattle.family_graph.specs.Numbers.{inst_of, way_of, ways_by}
+use Rattle.local_rules.specs.Site.{Task}
 
 -- an instance with its first node has a node
 pub entered_inst : (nodes : List Node) (inst : InstKey) → HasKey nodes (entry_key inst) → HasInst nodes inst
 entered_inst nodes inst h = (h.0, h.1.0, ap (λ (k : NodeKey). k.inst) h.1.1)
 
-kind_enters : (words : Program) (A : List Entry) (n : Node) (way : EdgeKind) (inst : InstKey) (back : ℕ) → Enters words A n way inst back → is_entry way ≡ true
-kind_enters words A n way inst back (by_call offset site f sp has) = refl
-kind_enters words A n way inst back (by_interrupt offset v clears f sp i delay on allowed dog) = refl
+kind_enters : (task : Task) (n : Node) (way : EdgeKind) (inst : InstKey) (back : ℕ) → Enters task n way inst back → is_entry way ≡ true
+kind_enters task n way inst back (by_call offset site f sp has) = refl
+kind_enters task n way inst back (by_interrupt offset v clears f sp i delay on allowed dog) = refl
 
 -- the number of an existing key
 place_there : (k : NodeKey) (nodes : List Node) → HasKey nodes k → (at : ℕ) × (place_of k nodes ≡ Some at)
@@ -62,58 +61,58 @@ inst_at k nodes at e = let w = found_at k nodes at e in ap inst_of w.is ∙ ap (
 
 -- ---- one node
 
-module _ (words : Program) (A : List Entry) (nodes : List Node) (peopled : IsPeopled words A nodes) where
-  entry_by : (n : Node) (edge : Edge) → IsEdge words A nodes n edge → is_entry edge.kind ≡ true → (back : ℕ) × Enters words A n edge.kind edge.to.inst back
+module _ (task : Task) (nodes : List Node) (peopled : IsPeopled task nodes) where
+  entry_by : (n : Node) (edge : Edge) → IsEdge task nodes n edge → is_entry edge.kind ≡ true → (back : ℕ) × Enters task n edge.kind edge.to.inst back
   entry_by n edge (moving to f has) is = absurd cc
   entry_by n edge (entering way inst back enters) is = (back, enters)
   entry_by n edge (returning way inst back leaver x state enters has same f exit after) is = absurd cc
 
-  way_from : (n : Node) (l : Landing) (w : Entering) → IsLanding words A nodes n l → Contains (way_of nodes l) w → (back : ℕ) × Enters words A n w.kind w.inst back
+  way_from : (n : Node) (l : Landing) (w : Entering) → IsLanding task nodes n l → Contains (way_of nodes l) w → (back : ℕ) × Enters task n w.kind w.inst back
   way_from n l w x h =
       let o = way_only nodes l w h in
       let b = entry_by n x.edge x.is (subst (λ (k : EdgeKind). is_entry k ≡ true) x.kind o.0) in
       let kind : x.edge.kind ≡ w.kind = sym x.kind ∙ ap (λ (v : Entering). v.kind) (sym o.1) in
       let inst : x.edge.to.inst ≡ w.inst = sym (inst_at x.edge.to nodes l.at x.at) ∙ ap (λ (v : Entering). v.inst) (sym o.1) in
-      (b.0, subst (λ (k : EdgeKind). Enters words A n k w.inst b.0) kind (subst (λ (i : InstKey). Enters words A n x.edge.kind i b.0) inst b.1))
+      (b.0, subst (λ (k : EdgeKind). Enters task n k w.inst b.0) kind (subst (λ (i : InstKey). Enters task n x.edge.kind i b.0) inst b.1))
 
-  ways_are : (n : Node) (landings : List Landing) → Contains nodes n → AreLandingsOf words A nodes n landings → AreWaysOf words A n (ways_by nodes landings)
+  ways_are : (n : Node) (landings : List Landing) → Contains nodes n → AreLandingsOf task nodes n landings → AreWaysOf task n (ways_by nodes landings)
   ways_are n landings member are w = (
-    λ h. each_of_join (way_of nodes) (λ v. (back : ℕ) × Enters words A n v.kind v.inst back) landings (λ l v has on. way_from n l v ((are l).0 has) on) w h,
+    λ h. each_of_join (way_of nodes) (λ v. (back : ℕ) × Enters task n v.kind v.inst back) landings (λ l v has on. way_from n l v ((are l).0 has) on) w h,
     λ x.
         let at = place_there (entry_key w.inst) nodes (peopled n w.kind w.inst x.0 member x.1) in
         let l : Landing = record { kind = w.kind; at = at.0 } in
         let e : Edge = record { kind = w.kind; to = entry_key w.inst; state = entered n.state } in
-        let landing : IsLanding words A nodes n l = record { edge = e; is = entering w.kind w.inst x.0 x.1; kind = refl; at = at.1 } in
+        let landing : IsLanding task nodes n l = record { edge = e; is = entering w.kind w.inst x.0 x.1; kind = refl; at = at.1 } in
         let same : record { kind = w.kind; inst = inst_of (slice_get nodes at.0) } ≡ w = ap (λ (i : InstKey). record { kind = w.kind; inst = i }) (inst_at (entry_key w.inst) nodes at.0 at.1) in
-        contained_in_join (way_of nodes) landings l w ((are l).1 landing) (way_in nodes l w (kind_enters words A n w.kind w.inst x.0 x.1) same),
+        contained_in_join (way_of nodes) landings l w ((are l).1 landing) (way_in nodes l w (kind_enters task n w.kind w.inst x.0 x.1) same),
   )
 
   -- ---- all nodes
 
-  pub ways_more : (at : ℕ) (all : List (List Entering)) (n : Node) (landings : List Landing) (ways : List Entering) → AreWaysTo words A nodes at all → slice_get nodes at ≡ Some n
-      → AreLandingsOf words A nodes n landings → ways ≡ ways_by nodes landings → AreWaysTo words A nodes (at + 1) (all ++ ways ∷ [])
+  pub ways_more : (at : ℕ) (all : List (List Entering)) (n : Node) (landings : List Landing) (ways : List Entering) → AreWaysTo task nodes at all → slice_get nodes at ≡ Some n
+      → AreLandingsOf task nodes n landings → ways ≡ ways_by nodes landings → AreWaysTo task nodes (at + 1) (all ++ ways ∷ [])
   ways_more at all n landings ways s is are ways_is =
       record {
         count_is = length_push all ways ∙ ap (λ x. x + 1) s.count_is;
         each = λ i m lt e. ⊎_elim (old i m e) (new i m e) (before_or_last i at lt);
       }
     where
-      old : (i : ℕ) (m : Node) → slice_get nodes i ≡ Some m → i < at → AreWaysOf words A m (get_or (all ++ ways ∷ []) i [])
+      old : (i : ℕ) (m : Node) → slice_get nodes i ≡ Some m → i < at → AreWaysOf task m (get_or (all ++ ways ∷ []) i [])
       old i m e lt =
-          subst (λ (xs : List Entering). AreWaysOf words A m xs) (sym (get_or_front all (ways ∷ []) i [] (subst (λ k. i < k) (sym s.count_is) lt))) (s.each i m lt e)
+          subst (λ (xs : List Entering). AreWaysOf task m xs) (sym (get_or_front all (ways ∷ []) i [] (subst (λ k. i < k) (sym s.count_is) lt))) (s.each i m lt e)
 
-      here_at : AreWaysOf words A n (get_or (all ++ ways ∷ []) at [])
+      here_at : AreWaysOf task n (get_or (all ++ ways ∷ []) at [])
       here_at =
-          subst (λ (xs : List Entering). AreWaysOf words A n xs) (sym (ap (λ k. get_or (all ++ ways ∷ []) k []) (sym s.count_is) ∙ get_or_pushed all ways [] ∙ ways_is))
+          subst (λ (xs : List Entering). AreWaysOf task n xs) (sym (ap (λ k. get_or (all ++ ways ∷ []) k []) (sym s.count_is) ∙ get_or_pushed all ways [] ∙ ways_is))
           (ways_are n landings (contained_at nodes at n is) are)
 
-      new : (i : ℕ) (m : Node) → slice_get nodes i ≡ Some m → i ≡ at → AreWaysOf words A m (get_or (all ++ ways ∷ []) i [])
+      new : (i : ℕ) (m : Node) → slice_get nodes i ≡ Some m → i ≡ at → AreWaysOf task m (get_or (all ++ ways ∷ []) i [])
       new i m e same =
           let one : n ≡ m = one_at nodes at n m is (subst (λ k. slice_get nodes k ≡ Some m) same e) in
-          subst (λ k. AreWaysOf words A m (get_or (all ++ ways ∷ []) k [])) (sym same) (subst (λ (x : Node). AreWaysOf words A x (get_or (all ++ ways ∷ []) at [])) one here_at)
+          subst (λ k. AreWaysOf task m (get_or (all ++ ways ∷ []) k [])) (sym same) (subst (λ (x : Node). AreWaysOf task x (get_or (all ++ ways ∷ []) at [])) one here_at)
 
-pub ways_none : (words : Program) (A : List Entry) (nodes : List Node) → AreWaysTo words A nodes 0 []
-ways_none words A nodes = record { count_is = refl; each = λ at n lt. absurd (omega (arith, lt)) }
+pub ways_none : (task : Task) (nodes : List Node) → AreWaysTo task nodes 0 []
+ways_none task nodes = record { count_is = refl; each = λ at n lt. absurd (omega (arith, lt)) }
 
 -- a list read by its number
 pub read_list : {X : Type 0} (lists : List (List X)) (i : ℕ) (x : List X) → i < length lists → x ≡ get_or lists i x → x ≡ get_or lists i []
@@ -122,22 +121,22 @@ read_list (g ∷ lists) zero x lt is = is
 read_list (g ∷ lists) (suc i) x lt is = read_list lists i x (omega (arith, lt)) is
 
 -- the entries of the node of this number, as read
-pub ways_at : (words : Program) (A : List Entry) (nodes : List Node) (all : List (List Entering)) → AreWays words A nodes all → (at : ℕ) (n : Node) → slice_get nodes at ≡ Some n
-    → (item ways : List Entering) → item ≡ get_or all at item → ways ≡ item → AreWaysOf words A n ways
-ways_at words A nodes all are at n e item ways read is =
+pub ways_at : (task : Task) (nodes : List Node) (all : List (List Entering)) → AreWays task nodes all → (at : ℕ) (n : Node) → slice_get nodes at ≡ Some n
+    → (item ways : List Entering) → item ≡ get_or all at item → ways ≡ item → AreWaysOf task n ways
+ways_at task nodes all are at n e item ways read is =
     let lt = slice_get_within nodes at n e in
-    subst (AreWaysOf words A n) (sym (is ∙ read_list all at item (omega (arith, lt, are.count_is)) read)) (are.each at n lt e)
+    subst (AreWaysOf task n) (sym (is ∙ read_list all at item (omega (arith, lt, are.count_is)) read)) (are.each at n lt e)
 
-pub ways_have : (words : Program) (A : List Entry) (nodes : List Node) → IsPeopled words A nodes → (n : Node) → Contains nodes n → (ways : List Entering) → AreWaysOf words A n ways
+pub ways_have : (task : Task) (nodes : List Node) → IsPeopled task nodes → (n : Node) → Contains nodes n → (ways : List Entering) → AreWaysOf task n ways
     → (w : Entering) → Contains ways w → HasInst nodes w.inst
-ways_have words A nodes peopled n member ways are w has = let k = (are w).0 has in entered_inst nodes w.inst (peopled n w.kind w.inst k.0 member k.1)
+ways_have task nodes peopled n member ways are w has = let k = (are w).0 has in entered_inst nodes w.inst (peopled n w.kind w.inst k.0 member k.1)
 
-pub ways_of_at : (words : Program) (A : List Entry) (nodes : List Node) (all : List (List Landing)) → AreLandings words A nodes all → (at : ℕ) (n : Node) → slice_get nodes at ≡ Some n
-    → (item landings : List Landing) → item ≡ get_or all at item → landings ≡ item → AreLandingsOf words A nodes n landings
-ways_of_at words A nodes all are at n e item landings read is =
+pub ways_of_at : (task : Task) (nodes : List Node) (all : List (List Landing)) → AreLandings task nodes all → (at : ℕ) (n : Node) → slice_get nodes at ≡ Some n
+    → (item landings : List Landing) → item ≡ get_or all at item → landings ≡ item → AreLandingsOf task nodes n landings
+ways_of_at task nodes all are at n e item landings read is =
     let lt = slice_get_within nodes at n e in
-    subst (AreLandingsOf words A nodes n) (sym (is ∙ read_list all at item (omega (arith, lt, are.are.count_is)) read)) (are.are.each at n lt e)
+    subst (AreLandingsOf task nodes n) (sym (is ∙ read_list all at item (omega (arith, lt, are.are.count_is)) read)) (are.are.each at n lt e)
 
-pub landing_inside : (words : Program) (A : List Entry) (nodes : List Node) (n : Node) (landings : List Landing) → AreLandingsOf words A nodes n landings → (l : Landing)
+pub landing_inside : (task : Task) (nodes : List Node) (n : Node) (landings : List Landing) → AreLandingsOf task nodes n landings → (l : Landing)
     → Contains landings l → l.at < length nodes
-landing_inside words A nodes n landings are l has = let x = (are l).0 has in inside_at x.edge.to nodes l.at x.at
+landing_inside task nodes n landings are l has = let x = (are l).0 has in inside_at x.edge.to nodes l.at x.at

@@ -1,7 +1,5 @@
 -- The deepest chain of a family, with the least needs. Source: own.
 use Rattle.std.specs.Prelude.{ℕ, ◌≡◌, List, Some, slice_get, slice_index}
-use Rattle.avr_model.specs.declared.assumption.Entry.{Entry}
-use Rattle.avr_model.specs.Devices.{Program}
 use Rattle.mask_states.specs.Keys.{root_inst}
 use Rattle.local_rules.specs.declared.local.Node.{Node}
 use Rattle.nesting_bound.specs.declared.graph.GraphInst.{GraphInst}
@@ -9,11 +7,12 @@ use Rattle.nesting_bound.specs.declared.graph.Link.{Link}
 use Rattle.nesting_bound.specs.Chain.{IsChain}
 use Rattle.nesting_bound.specs.Least.{IsLeast}
 use Rattle.family_graph.specs.Graphs.{insts_of, IsGraphOf}
+use Rattle.local_rules.specs.Site.{Task}
 
 -- The deepest chain of a family by the least needs, and the root's need.
-pub record IsDeepest (words : Program) (A : List Entry) (nodes : List Node) (need : ℕ) (links : List Link) : Type 0 where
+pub record IsDeepest (task : Task) (nodes : List Node) (need : ℕ) (links : List Link) : Type 0 where
   pub graph : List GraphInst
-  pub family : IsGraphOf words A nodes graph
+  pub family : IsGraphOf task nodes graph
   pub ranks : List ℕ
   pub needs : List ℕ
   pub least : IsLeast graph ranks needs
@@ -21,5 +20,5 @@ pub record IsDeepest (words : Program) (A : List Entry) (nodes : List Node) (nee
   pub chain : IsChain graph needs links
 
 -- the root is the first instance in each graph of the family, and chains begin there
-abbrev pub BeginsAtRoot : Program → List Entry → List Node → Type 0
-BeginsAtRoot words A nodes = (graph : List GraphInst) → IsGraphOf words A nodes graph → slice_get (insts_of graph) 0 ≡ Some root_inst
+abbrev pub BeginsAtRoot : Task → List Node → Type 0
+BeginsAtRoot task nodes = (graph : List GraphInst) → IsGraphOf task nodes graph → slice_get (insts_of graph) 0 ≡ Some root_inst

@@ -1,8 +1,6 @@
 -- The graph of a family of nodes: its instances and their entries. Source: own.
 use Rattle.std.specs.Prelude.{ℕ, ◌≡◌, ◌<◌, ◌↔◌, List, [], length, map, Contains, Some, slice_get, slice_index_or}
 use Rattle.std.specs.List.Sorted.{IsStrictlySortedBy}
-use Rattle.avr_model.specs.declared.assumption.Entry.{Entry}
-use Rattle.avr_model.specs.Devices.{Program}
 use Rattle.mask_states.specs.declared.keys.EdgeKind.{EdgeKind}
 use Rattle.mask_states.specs.declared.keys.InstKey.{InstKey}
 use Rattle.mask_states.specs.declared.keys.SpForm.TheVariants.{Closed}
@@ -16,6 +14,7 @@ use Rattle.nesting_bound.specs.declared.graph.Entered.{Entered}
 use Rattle.nesting_bound.specs.declared.graph.GraphInst.{GraphInst}
 use Rattle.nesting_bound.specs.declared.graph.Place.{Place}
 use Rattle.nesting_bound.specs.Graph as graph
+use Rattle.local_rules.specs.Site.{Task}
 
 -- the instances of a graph, by their numbers
 abbrev pub insts_of : List GraphInst → List InstKey
@@ -26,21 +25,21 @@ abbrev pub HasInst : List Node → InstKey → Type 0
 HasInst nodes inst = (n : Node) × Contains nodes n × (n.key.inst ≡ inst)
 
 -- each instance that a node of the family enters has its first node
-abbrev pub IsPeopled : Program → List Entry → List Node → Type 0
-IsPeopled words A nodes = (n : Node) (way : EdgeKind) (into : InstKey) (back : ℕ) → Contains nodes n → Enters words A n way into back → HasKey nodes (entry_key into)
+abbrev pub IsPeopled : Task → List Node → Type 0
+IsPeopled task nodes = (n : Node) (way : EdgeKind) (into : InstKey) (back : ℕ) → Contains nodes n → Enters task n way into back → HasKey nodes (entry_key into)
 
 -- the entries of other instances by the node
-abbrev pub AreWaysOf : Program → List Entry → Node → List Entering → Type 0
-AreWaysOf words A n ways = (w : Entering) → Contains ways w ↔ ((back : ℕ) × Enters words A n w.kind w.inst back)
+abbrev pub AreWaysOf : Task → Node → List Entering → Type 0
+AreWaysOf task n ways = (w : Entering) → Contains ways w ↔ ((back : ℕ) × Enters task n w.kind w.inst back)
 
 -- the entries of the first nodes, by number
-pub record AreWaysTo (words : Program) (A : List Entry) (nodes : List Node) (count : ℕ) (all : List (List Entering)) : Type 0 where
+pub record AreWaysTo (task : Task) (nodes : List Node) (count : ℕ) (all : List (List Entering)) : Type 0 where
   pub count_is : length all ≡ count
-  pub each : (at : ℕ) (n : Node) → at < count → slice_get nodes at ≡ Some n → AreWaysOf words A n (slice_index_or all at [])
+  pub each : (at : ℕ) (n : Node) → at < count → slice_get nodes at ≡ Some n → AreWaysOf task n (slice_index_or all at [])
 
 -- the entries of all nodes
-abbrev pub AreWays : Program → List Entry → List Node → List (List Entering) → Type 0
-AreWays words A nodes all = AreWaysTo words A nodes (length nodes) all
+abbrev pub AreWays : Task → List Node → List (List Entering) → Type 0
+AreWays task nodes all = AreWaysTo task nodes (length nodes) all
 
 -- the place's node belongs to this instance and has a whole stack pointer
 pub record IsGraphPlace (nodes : List Node) (inst : InstKey) (p : Place) : Type 0 where
@@ -50,13 +49,13 @@ pub record IsGraphPlace (nodes : List Node) (inst : InstKey) (p : Place) : Type 
   pub closed : node.key.sp ≡ Closed p.offset
 
 -- the edge's node belongs to the first instance, and enters the second in this way
-pub record IsEntryOf (words : Program) (A : List Entry) (nodes : List Node) (inst into : InstKey) (e : Entered) : Type 0 where
+pub record IsEntryOf (task : Task) (nodes : List Node) (inst into : InstKey) (e : Entered) : Type 0 where
   pub node : Node
   pub at : slice_get nodes e.node ≡ Some node
   pub same : node.key.inst ≡ inst
   pub closed : node.key.sp ≡ Closed e.offset
   pub back : ℕ
-  pub enters : Enters words A node e.kind into back
+  pub enters : Enters task node e.kind into back
 
 -- the place belongs to the instance of this number
 pub record HasPlaceOf (nodes : List Node) (insts : List InstKey) (i : ℕ) (p : Place) : Type 0 where
@@ -65,17 +64,17 @@ pub record HasPlaceOf (nodes : List Node) (insts : List InstKey) (i : ℕ) (p : 
   pub place : IsGraphPlace nodes inst p
 
 -- the edge leads from the instance of this number to the edge's target
-pub record HasEntryOf (words : Program) (A : List Entry) (nodes : List Node) (insts : List InstKey) (i : ℕ) (e : Entered) : Type 0 where
+pub record HasEntryOf (task : Task) (nodes : List Node) (insts : List InstKey) (i : ℕ) (e : Entered) : Type 0 where
   pub inst : InstKey
   pub is : slice_get insts i ≡ Some inst
   pub into : InstKey
   pub leads : slice_get insts e.into ≡ Some into
-  pub entry : IsEntryOf words A nodes inst into e
+  pub entry : IsEntryOf task nodes inst into e
 
 -- The graph's instances are those with nodes, numbered in the order of keys. An instance's places are its nodes with a whole stack
 -- pointer, and its edges are the entries by its nodes. Nodes are named by their numbers in the family.
-pub record IsGraphOf (words : Program) (A : List Entry) (nodes : List Node) (gs : List GraphInst) : Type 0 where
+pub record IsGraphOf (task : Task) (nodes : List Node) (gs : List GraphInst) : Type 0 where
   pub ascending : IsStrictlySortedBy inst_cmp (insts_of gs)
   pub insts : (inst : InstKey) → Contains (insts_of gs) inst ↔ HasInst nodes inst
   pub places : (i : ℕ) (p : Place) → graph.HasPlace gs i p ↔ HasPlaceOf nodes (insts_of gs) i p
-  pub entered : (i : ℕ) (e : Entered) → graph.EntersAlong gs i e ↔ HasEntryOf words A nodes (insts_of gs) i e
+  pub entered : (i : ℕ) (e : Entered) → graph.EntersAlong gs i e ↔ HasEntryOf task nodes (insts_of gs) i e

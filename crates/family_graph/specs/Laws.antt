@@ -1,7 +1,5 @@
 -- Laws of the graphs of families and of their deepest chains.
 use Rattle.std.specs.Prelude.{ℕ, ◌≡◌, ◌≤◌, List}
-use Rattle.avr_model.specs.declared.assumption.Entry.{Entry}
-use Rattle.avr_model.specs.Devices.{Program}
 use Rattle.local_rules.specs.declared.local.Node.{Node}
 use Rattle.nesting_bound.specs.declared.graph.GraphInst.{GraphInst}
 use Rattle.nesting_bound.specs.declared.graph.Link.{Link}
@@ -11,22 +9,23 @@ use Rattle.certificate.specs.Claims.{Claim}
 use Rattle.certificate.specs.Valid.{MeetsConditions}
 use Rattle.family_graph.specs.Graphs.{IsGraphOf}
 use Rattle.family_graph.specs.Chains.{IsDeepest, BeginsAtRoot}
+use Rattle.local_rules.specs.Site.{Task}
 
 -- Two graphs of a family have the same least ranks and needs, and the same deepest chain.
 pub record GraphsAreAlike : Type 0 where
-  pub least : (words : Program) (A : List Entry) (nodes : List Node) (gs hs : List GraphInst) (ranks needs : List ℕ) → IsGraphOf words A nodes gs → IsGraphOf words A nodes hs
+  pub least : (task : Task) (nodes : List Node) (gs hs : List GraphInst) (ranks needs : List ℕ) → IsGraphOf task nodes gs → IsGraphOf task nodes hs
       → IsLeast hs ranks needs → IsLeast gs ranks needs
-  pub chain : (words : Program) (A : List Entry) (nodes : List Node) (gs hs : List GraphInst) (needs : List ℕ) (links : List Link) → IsGraphOf words A nodes gs
-      → IsGraphOf words A nodes hs → IsChain hs needs links → IsChain gs needs links
+  pub chain : (task : Task) (nodes : List Node) (gs hs : List GraphInst) (needs : List ℕ) (links : List Link) → IsGraphOf task nodes gs
+      → IsGraphOf task nodes hs → IsChain hs needs links → IsChain gs needs links
 
 -- a family has one deepest chain, and the root one least need
 pub record DeepestChainsAreOne : Type 0 where
-  pub need : (words : Program) (A : List Entry) (nodes : List Node) (need need' : ℕ) (links links' : List Link) → IsDeepest words A nodes need links → IsDeepest words A nodes need' links'
+  pub need : (task : Task) (nodes : List Node) (need need' : ℕ) (links links' : List Link) → IsDeepest task nodes need links → IsDeepest task nodes need' links'
       → need ≡ need'
-  pub links : (words : Program) (A : List Entry) (nodes : List Node) (need need' : ℕ) (links links' : List Link) → IsDeepest words A nodes need links → IsDeepest words A nodes need' links'
+  pub links : (task : Task) (nodes : List Node) (need need' : ℕ) (links links' : List Link) → IsDeepest task nodes need links → IsDeepest task nodes need' links'
       → links ≡ links'
 
 -- if a certificate's conditions hold of a family, the root's least need is at most its bound, and chains begin at the root
 pub record DeepestChainsAreBounded : Type 0 where
-  pub need : (words : Program) (A : List Entry) (c : Claim) (nodes : List Node) (need : ℕ) (links : List Link) → MeetsConditions words A c nodes → IsDeepest words A nodes need links → need ≤ c.bound
-  pub root : (words : Program) (A : List Entry) (c : Claim) (nodes : List Node) → MeetsConditions words A c nodes → BeginsAtRoot words A nodes
+  pub need : (task : Task) (c : Claim) (nodes : List Node) (need : ℕ) (links : List Link) → MeetsConditions task c nodes → IsDeepest task nodes need links → need ≤ c.bound
+  pub root : (task : Task) (c : Claim) (nodes : List Node) → MeetsConditions task c nodes → BeginsAtRoot task nodes

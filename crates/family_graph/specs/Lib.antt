@@ -1,4 +1,5 @@
 pub mod Graphs
 pub mod Numbers
+pub mod Numbered
 pub mod Chains
 pub mod Laws

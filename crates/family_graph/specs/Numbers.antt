@@ -2,8 +2,6 @@
 use Rattle.std.specs.Prelude.{ℕ, ◌+◌, ◌-◌, ◌≡◌, ◌<◌, ◌≤◌, ◌↔◌, if◌then◌else◌, List, [], ◌∷◌, ◌++◌, length, map, Option, Some, None, Contains, slice_get, slice_index}
 use Rattle.std.specs.List.{flat_map}
 use Rattle.std.specs.List.Sorted.{IsStrictlySortedBy}
-use Rattle.avr_model.specs.declared.assumption.Entry.{Entry}
-use Rattle.avr_model.specs.Devices.{Program}
 use Rattle.mask_states.specs.declared.keys.InstKey.{InstKey}
 use Rattle.mask_states.specs.declared.keys.SpForm.{SpForm}
 use Rattle.mask_states.specs.declared.keys.SpForm.TheVariants.{Closed, Open}
@@ -17,6 +15,7 @@ use Rattle.nesting_bound.specs.declared.graph.GraphInst.{GraphInst}
 use Rattle.nesting_bound.specs.declared.graph.Place.{Place}
 use Rattle.family_graph.specs.declared.entering.Entering.{Entering}
 use Rattle.family_graph.specs.Graphs.{HasInst, IsGraphPlace, IsEntryOf}
+use Rattle.local_rules.specs.Site.{Task}
 
 -- ---- numbers
 
@@ -76,7 +75,7 @@ pub record IsPlaceBetween (nodes : List Node) (low high : ℕ) (p : Place) : Typ
   pub closed : node.key.sp ≡ Closed p.offset
 
 -- an edge from a node between these numbers
-pub record IsEntryBetween (words : Program) (A : List Entry) (nodes : List Node) (insts : List InstKey) (low high : ℕ) (e : Entered) : Type 0 where
+pub record IsEntryBetween (task : Task) (nodes : List Node) (insts : List InstKey) (low high : ℕ) (e : Entered) : Type 0 where
   pub above : low ≤ e.node
   pub below : e.node < high
   pub node : Node
@@ -85,21 +84,21 @@ pub record IsEntryBetween (words : Program) (A : List Entry) (nodes : List Node)
   pub into : InstKey
   pub leads : slice_get insts e.into ≡ Some into
   pub back : ℕ
-  pub enters : Enters words A node e.kind into back
+  pub enters : Enters task node e.kind into back
 
 -- an edge of this instance
-pub record IsEntryFrom (words : Program) (A : List Entry) (nodes : List Node) (insts : List InstKey) (inst : InstKey) (e : Entered) : Type 0 where
+pub record IsEntryFrom (task : Task) (nodes : List Node) (insts : List InstKey) (inst : InstKey) (e : Entered) : Type 0 where
   pub into : InstKey
   pub leads : slice_get insts e.into ≡ Some into
-  pub entry : IsEntryOf words A nodes inst into e
+  pub entry : IsEntryOf task nodes inst into e
 
 -- the places and edges are those of this instance
-pub record IsInstOf (words : Program) (A : List Entry) (nodes : List Node) (insts : List InstKey) (inst : InstKey) (g : GraphInst) : Type 0 where
+pub record IsInstOf (task : Task) (nodes : List Node) (insts : List InstKey) (inst : InstKey) (g : GraphInst) : Type 0 where
   pub key : g.key ≡ inst
   pub places : (p : Place) → Contains g.offsets p ↔ IsGraphPlace nodes inst p
-  pub entered : (e : Entered) → Contains g.entered e ↔ IsEntryFrom words A nodes insts inst e
+  pub entered : (e : Entered) → Contains g.entered e ↔ IsEntryFrom task nodes insts inst e
 
 -- the first instances, in the order of their numbers
-pub record AreGraphInsts (words : Program) (A : List Entry) (nodes : List Node) (insts : List InstKey) (count : ℕ) (gs : List GraphInst) : Type 0 where
+pub record AreGraphInsts (task : Task) (nodes : List Node) (insts : List InstKey) (count : ℕ) (gs : List GraphInst) : Type 0 where
   pub count_is : length gs ≡ count
-  pub each : (i : ℕ) (inst : InstKey) → i < count → slice_get insts i ≡ Some inst → (g : GraphInst) × (slice_get gs i ≡ Some g) × IsInstOf words A nodes insts inst g
+  pub each : (i : ℕ) (inst : InstKey) → i < count → slice_get insts i ≡ Some inst → (g : GraphInst) × (slice_get gs i ≡ Some g) × IsInstOf task nodes insts inst g

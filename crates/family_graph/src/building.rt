@@ -1,11 +1,13 @@
 //! The graph of instances, instance by instance.
 
-ghost use Rattle.std.specs.Prelude.{◌≡◌, ◌++◌, ◌<◌, ◌≤◌, length, map, Some, IfOk, OnOk, Contains, slice_get};
-ghost use Rattle.local_rules.specs.declared.local.Node.{Node};
+ghost use Rattle.std.specs.Prelude.{◌≡◌, ◌<◌, ◌≤◌, length, map, Some, IfOk, OnOk, Contains, slice_get};
 ghost use Rattle.nesting_bound.specs.Graph.{IsGraph};
 ghost use Rattle.family_graph.specs.declared.entering.Entering as entering_type;
 ghost use Rattle.family_graph.specs.Graphs.{HasInst, AreWays, IsPeopled, IsGraphOf};
-ghost use Rattle.family_graph.specs.Numbers.{AreInstNumbers, entry_of, AddsAt, IsInstOf};
+ghost use Rattle.family_graph.specs.Numbers.{entry_of, AddsAt, IsInstOf};
+ghost use Rattle.call_graph.specs.Tasks.{task_of};
+ghost use Rattle.call_graph.specs.Clauses.{AtNumber, Grows};
+ghost use Rattle.family_graph.specs.Numbered.{NumbersAll};
 
 use crate::entering::Entering;
 use crate::numbering::{Numbering, number_of, numbered};
@@ -30,9 +32,9 @@ fn add_entries(
     ways: &[Entering],
     entered: &mut Vec<Entered>,
 ) -> Result<(), AllocError>
-    requires numbers { AreInstNumbers nodes.now (length nodes.now) numbering.now.insts.items numbering.now.numbers.items }
+    requires numbers { NumbersAll nodes.now numbering.now }
     requires has { (w : entering_type.Entering) → Contains ways.now w → HasInst nodes.now w.inst }
-    ensures { OnOk result (entered.new.items ≡ entered.old.items ++ map (entry_of numbering.now.insts.items place) ways.now) }
+    ensures { Grows result entered.old.items entered.new.items (map (entry_of numbering.now.insts.items place) ways.now) }
 {
     for way in ways {
         let into = number_of(nodes, numbering, &way.inst);
@@ -56,9 +58,9 @@ fn add_node(
 ) -> Result<(), AllocError>
     requires place { at < length nodes.now }
     requires few { length nodes.now ≤ 65536 }
-    requires numbers { AreInstNumbers nodes.now (length nodes.now) numbering.now.insts.items numbering.now.numbers.items }
+    requires numbers { NumbersAll nodes.now numbering.now }
     requires has { (w : entering_type.Entering) → Contains ways.now w → HasInst nodes.now w.inst }
-    ensures { (n : Node) → slice_get nodes.now at ≡ Some n → OnOk result (AddsAt numbering.now.insts.items at ways.now n.key.sp parts.old.offsets.items parts.old.entered.items parts.new.offsets.items parts.new.entered.items) }
+    ensures { AtNumber nodes.now at (λ n. OnOk result (AddsAt numbering.now.insts.items at ways.now n.key.sp parts.old.offsets.items parts.old.entered.items parts.new.offsets.items parts.new.entered.items)) }
 {
     if let SpForm::Closed(offset) = nodes.key(at).sp {
         let place = Place {
@@ -81,10 +83,10 @@ fn instance(
 ) -> Result<GraphInst, AllocError>
     requires place { i < length numbering.now.insts.items }
     requires few { length nodes.now ≤ 65536 }
-    requires ways { AreWays task.now.flash.now task.now.assumptions.now nodes.now ways.now }
-    requires numbers { AreInstNumbers nodes.now (length nodes.now) numbering.now.insts.items numbering.now.numbers.items }
-    requires peopled { IsPeopled task.now.flash.now task.now.assumptions.now nodes.now }
-    ensures { (inst : _) → slice_get numbering.now.insts.items i ≡ Some inst → IfOk result (IsInstOf task.now.flash.now task.now.assumptions.now nodes.now numbering.now.insts.items inst) }
+    requires ways { AreWays (task_of task.now) nodes.now ways.now }
+    requires numbers { NumbersAll nodes.now numbering.now }
+    requires peopled { IsPeopled (task_of task.now) nodes.now }
+    ensures { (inst : _) → slice_get numbering.now.insts.items i ≡ Some inst → IfOk result (IsInstOf (task_of task.now) nodes.now numbering.now.insts.items inst) }
 {
     let key = numbering.insts[i];
     let (low, high) = nodes.span(&key);
@@ -110,10 +112,10 @@ pub fn graph_of(
 ) -> Result<Graph, AllocError>
     requires some { 0 < length nodes.now }
     requires few { length nodes.now ≤ 65536 }
-    requires ways { AreWays task.now.flash.now task.now.assumptions.now nodes.now ways.now }
-    requires peopled { IsPeopled task.now.flash.now task.now.assumptions.now nodes.now }
+    requires ways { AreWays (task_of task.now) nodes.now ways.now }
+    requires peopled { IsPeopled (task_of task.now) nodes.now }
     ensures graph { IfOk result (λ graph. IsGraph graph.instances) }
-    ensures family { IfOk result (λ graph. IsGraphOf task.now.flash.now task.now.assumptions.now nodes.now graph.instances) }
+    ensures family { IfOk result (λ graph. IsGraphOf (task_of task.now) nodes.now graph.instances) }
 {
     let _count = nodes.count();
     let numbering = numbered(task.alloc, nodes)?;

@@ -5,6 +5,7 @@ ghost use Rattle.certificate.specs.Claims.{IsClaim};
 ghost use Rattle.certificate.specs.Valid.{MeetsConditions};
 ghost use Rattle.family_graph.specs.Graphs.{AreWays};
 ghost use Rattle.family_graph.specs.Chains.{IsDeepest, BeginsAtRoot};
+ghost use Rattle.call_graph.specs.Tasks.{task_of};
 
 use crate::building::graph_of;
 use crate::entering::Entering;
@@ -34,11 +35,11 @@ pub fn deepest_chain(
 ) -> Result<Deepest, AllocError>
     requires claim { IsClaim certificate.now }
     requires few { length nodes.now ≤ 65536 }
-    requires meets { MeetsConditions task.now.flash.now task.now.assumptions.now certificate.now nodes.now }
-    requires ways { AreWays task.now.flash.now task.now.assumptions.now nodes.now ways.now }
-    ensures deepest { IfOk result (λ d. IsDeepest task.now.flash.now task.now.assumptions.now nodes.now d.need d.links) }
+    requires meets { MeetsConditions (task_of task.now) certificate.now nodes.now }
+    requires ways { AreWays (task_of task.now) nodes.now ways.now }
+    ensures deepest { IfOk result (λ d. IsDeepest (task_of task.now) nodes.now d.need d.links) }
     ensures bounded { IfOk result (λ d. d.need ≤ certificate.now.bound) }
-    ensures root { OnOk result (BeginsAtRoot task.now.flash.now task.now.assumptions.now nodes.now) }
+    ensures root { OnOk result (BeginsAtRoot (task_of task.now) nodes.now) }
 {
     ranks_rule_out_cycles();
     let graph = graph_of(task, nodes, ways)?;

@@ -5,6 +5,7 @@ ghost use Rattle.call_graph.specs.declared.landing.Landing as landing_type;
 ghost use Rattle.call_graph.specs.Landings.{AreLandings};
 ghost use Rattle.family_graph.specs.Graphs.{AreWays, IsPeopled};
 ghost use Rattle.family_graph.specs.Numbers.{way_of, ways_by};
+ghost use Rattle.call_graph.specs.Tasks.{task_of};
 
 use avr_model::listed::Listed;
 use call_graph::{Filled, Landing, Task, Worked};
@@ -53,9 +54,9 @@ fn ways_of(
 
 /// The entries of each node of a family, by its number. Each instance that one of them enters has its first node.
 pub fn entered_by(task: &Task<'_>, family: &Worked) -> Result<Listed<Listed<Entering>>, AllocError>
-    requires landings { AreLandings task.now.flash.now task.now.assumptions.now family.now.nodes family.now.landings }
-    requires peopled { IsPeopled task.now.flash.now task.now.assumptions.now family.now.nodes }
-    ensures { IfOk result (AreWays task.now.flash.now task.now.assumptions.now family.now.nodes) }
+    requires landings { AreLandings (task_of task.now) family.now.nodes family.now.landings }
+    requires peopled { IsPeopled (task_of task.now) family.now.nodes }
+    ensures { IfOk result (AreWays (task_of task.now) family.now.nodes) }
 {
     let mut all = Listed::empty(task.alloc);
     let landings = family.landings.as_slice();

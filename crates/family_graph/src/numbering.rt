@@ -3,6 +3,7 @@
 ghost use Rattle.std.specs.Prelude.{◌≡◌, ◌+◌, ◌<◌, ◌≤◌, ◌↔◌, length, IfOk, OnOk, IsTrue};
 ghost use Rattle.family_graph.specs.Graphs.{HasInst};
 ghost use Rattle.family_graph.specs.Numbers.{EndsWith, Grows, AreInstNumbers, number_in};
+ghost use Rattle.family_graph.specs.Numbered.{NumbersAll};
 
 use call_graph::Filled;
 use mask_states::InstKey;
@@ -55,7 +56,7 @@ pub(crate) fn numbered(alloc: Global, nodes: &Filled) -> Result<Numbering, Alloc
 
 // The number of an instance that has a node.
 pub(crate) fn number_of(nodes: &Filled, numbering: &Numbering, inst: &InstKey) -> u32
-    requires numbers { AreInstNumbers nodes.now (length nodes.now) numbering.now.insts.items numbering.now.numbers.items }
+    requires numbers { NumbersAll nodes.now numbering.now }
     requires has { HasInst nodes.now inst.now }
     ensures { result ≡ number_in numbering.now.insts.items inst.now }
 {

@@ -4,6 +4,7 @@ ghost use Rattle.std.specs.Prelude.{◌≤◌, IfOk, length};
 ghost use Rattle.edge_rules.specs.Expansion.{IsFilled};
 ghost use Rattle.call_graph.specs.Landings.{AreLandings};
 ghost use Rattle.certificate.specs.Valid.{IsSound, MeetsConditions};
+ghost use Rattle.call_graph.specs.Tasks.{task_of};
 
 use call_graph::{Expanded, Task, Worked, expand};
 use certificate::Certificate;
@@ -14,11 +15,11 @@ use std::alloc::AllocError;
 /// The family of a certificate, at most 65,536 nodes, if all conditions hold except the one on its schedule: its nodes with their states,
 /// and where their edges land. The local part of a node is computed twice, and once more for each node that comes from it.
 pub fn worked_of(task: &Task<'_>, certificate: &Certificate) -> Result<Worked, AllocError>
-    requires { IsSound task.now.flash.now task.now.assumptions.now certificate.now }
-    ensures filled { IfOk result (λ family. IsFilled task.now.flash.now task.now.assumptions.now certificate.now.nodes family.nodes) }
+    requires { IsSound (task_of task.now) certificate.now }
+    ensures filled { IfOk result (λ family. IsFilled (task_of task.now) certificate.now.nodes family.nodes) }
     ensures few { IfOk result (λ family. length family.nodes ≤ 65536) }
-    ensures meets { IfOk result (λ family. MeetsConditions task.now.flash.now task.now.assumptions.now certificate.now family.nodes) }
-    ensures landings { IfOk result (λ family. AreLandings task.now.flash.now task.now.assumptions.now family.nodes family.landings) }
+    ensures meets { IfOk result (λ family. MeetsConditions (task_of task.now) certificate.now family.nodes) }
+    ensures landings { IfOk result (λ family. AreLandings (task_of task.now) family.nodes family.landings) }
 {
     claims_are_seeds();
     filled_or_missing();

@@ -48,20 +48,21 @@ use Rattle.clear_laws.specs.Clear.{is_clear, IsClear, IsHarmless, no_address, un
 use Rattle.clear_laws.proofs.AllLaws.{held_slots_are_least, clear_nodes_are_told}
 use Rattle.family_tables.specs.Stores.{over_room, over_pushed, with_bytes, at_depth, room_family, pushed_family, clear_where_free, push_is_guarded}
 use Rattle.family_tables.specs.Clearness.{ClearnessIsMet}
+use Rattle.local_rules.specs.Site.{bare}
 
-room_leads : raw_of over_room [] (at_depth 0 0) ≡ one (at_depth 1 2).key (with_bytes 2)
+room_leads : raw_of (bare over_room) (at_depth 0 0) ≡ one (at_depth 1 2).key (with_bytes 2)
 unfolding raw table_site ijmp_from is_scratch any_below all_below decoded device_row
 room_leads = refl
 
-read_leads : raw_of over_room [] (at_depth 1 2) ≡ one (at_depth 2 2).key (record (with_bytes 2) { registers = set (with_bytes 2) 28 (known 0xFD) })
+read_leads : raw_of (bare over_room) (at_depth 1 2) ≡ one (at_depth 2 2).key (record (with_bytes 2) { registers = set (with_bytes 2) 28 (known 0xFD) })
 unfolding raw table_site ijmp_from is_scratch any_below all_below decoded device_row read_at
 read_leads = refl
 
-store_leads : raw_of over_room [] (at_depth 2 2) ≡ one (at_depth 4 2).key (with_bytes 2)
+store_leads : raw_of (bare over_room) (at_depth 2 2) ≡ one (at_depth 4 2).key (with_bytes 2)
 unfolding raw table_site ijmp_from is_scratch any_below all_below decoded device_row written_at numbers_of enable_tri place_at places has_enables
 store_leads = refl
 
-loop_leads : raw_of over_room [] (at_depth 4 2) ≡ one (at_depth 4 2).key (with_bytes 2)
+loop_leads : raw_of (bare over_room) (at_depth 4 2) ≡ one (at_depth 4 2).key (with_bytes 2)
 unfolding raw table_site ijmp_from is_scratch any_below all_below decoded device_row
 loop_leads = refl
 
@@ -149,20 +150,20 @@ four P a b c d =
     (each_of P (at_depth 1 2) (at_depth 2 2 ∷ at_depth 4 2 ∷ []) b (each_of P (at_depth 2 2) (at_depth 4 2 ∷ []) c (each_of P (at_depth 4 2) [] d (λ x h. absurd (none_in x h)))))
 
 -- a node with one successor has one edge, and enters no instance
-module _ (n : Node) (i_off : n.key.i ≡ false) (to : Node) (leads : raw_of over_room [] n ≡ one to.key to.state) where
-  no_entry : (way : EdgeKind) (inst : InstKey) (back : ℕ) → Enters over_room [] n way inst back → ⊥
+module _ (n : Node) (i_off : n.key.i ≡ false) (to : Node) (leads : raw_of (bare over_room) n ≡ one to.key to.state) where
+  no_entry : (way : EdgeKind) (inst : InstKey) (back : ℕ) → Enters (bare over_room) n way inst back → ⊥
   no_entry _ _ _ (by_call offset s faultless form member) = none_in s (subst (λ (r : Raw). Contains r.calls s) leads member)
   no_entry _ _ _ (by_interrupt offset v clears faultless form i delay enabled allowed clearable) = absurd (let no : true ≡ false = sym i ∙ i_off in cc)
 
-  faultless : IsFaultless over_room [] n
+  faultless : IsFaultless (bare over_room) n
   faultless = ap (λ (r : Raw). r.faults) leads
 
-  the_move : (x : Node) → Contains (joined_onto [] (raw_of over_room [] n).moves) x → x ≡ to
+  the_move : (x : Node) → Contains (joined_onto [] (raw_of (bare over_room) n).moves) x → x ≡ to
   unfolding joined_onto placed
   the_move x member =
       ⊎_elim (λ e. e) (λ h. absurd (none_in x h)) (first_or_further to x [] (subst (λ (r : Raw). Contains (joined_onto [] r.moves) x) leads member))
 
-  edge_covered : IsCovered room_family.nodes to → (e : Edge) → IsEdge over_room [] room_family.nodes n e → IsCovered room_family.nodes (target e)
+  edge_covered : IsCovered room_family.nodes to → (e : Edge) → IsEdge (bare over_room) room_family.nodes n e → IsCovered room_family.nodes (target e)
   edge_covered covered _ (moving x f member) = subst (IsCovered room_family.nodes) (sym (the_move x member)) covered
   edge_covered covered _ (entering way inst back enters) = absurd (no_entry way inst back enters)
   edge_covered covered _ (returning way inst back leaver x state enters present same f exit is) = absurd (no_entry way inst back enters)
@@ -177,25 +178,25 @@ room_small = omega arith
 abbrev read_node : Node
 read_node = record { key = (at_depth 2 2).key; state = record (with_bytes 2) { registers = set (with_bytes 2) 28 (known 0xFD) } }
 
-enters_nothing : (n : Node) → Contains room_family.nodes n → (way : EdgeKind) (inst : InstKey) (back : ℕ) → Enters over_room [] n way inst back → ⊥
+enters_nothing : (n : Node) → Contains room_family.nodes n → (way : EdgeKind) (inst : InstKey) (back : ℕ) → Enters (bare over_room) n way inst back → ⊥
 enters_nothing n h way inst back =
-    four (λ n. Enters over_room [] n way inst back → ⊥)
+    four (λ n. Enters (bare over_room) n way inst back → ⊥)
     (no_entry (at_depth 0 0) refl (at_depth 1 2) room_leads way inst back)
     (no_entry (at_depth 1 2) refl read_node read_leads way inst back)
     (no_entry (at_depth 2 2) refl (at_depth 4 2) store_leads way inst back)
     (no_entry (at_depth 4 2) refl (at_depth 4 2) loop_leads way inst back) n h
 
-room_is_sound : IsSoundFamily over_room [] room_family
+room_is_sound : IsSoundFamily (bare over_room) room_family
 unfolding has_pairs
 room_is_sound =
     record {
       formed = four (λ n. IsNode M328 n.key n.state) (node_at 0 0 (omega arith) (omega arith)) (node_at 2 1 (omega arith) (omega arith)) (node_at 2 2 (omega arith) (omega arith)) (node_at 2 4 (omega arith) (omega arith));
       reset = record { state = with_bytes 0; present = (0, omega arith, refl); above = above 0 root reset_stands.formed.ranges refl };
       faultless =
-          four (λ n. IsFaultless over_room [] n) (faultless (at_depth 0 0) refl (at_depth 1 2) room_leads) (ap (λ (r : Raw). r.faults) read_leads)
+          four (λ n. IsFaultless (bare over_room) n) (faultless (at_depth 0 0) refl (at_depth 1 2) room_leads) (ap (λ (r : Raw). r.faults) read_leads)
           (faultless (at_depth 2 2) refl (at_depth 4 2) store_leads) (faultless (at_depth 4 2) refl (at_depth 4 2) loop_leads);
       edges = λ n e h.
-          four (λ n. IsEdge over_room [] room_family.nodes n e → IsCovered room_family.nodes (target e))
+          four (λ n. IsEdge (bare over_room) room_family.nodes n e → IsCovered room_family.nodes (target e))
           (edge_covered (at_depth 0 0) refl (at_depth 1 2) room_leads record { state = with_bytes 2; present = (1, omega arith, refl); above = itself_above 2 } e)
           (edge_covered (at_depth 1 2) refl read_node read_leads record { state = with_bytes 2; present = (2, omega arith, refl); above = above 2 read_node.state known_fits refl } e)
           (edge_covered (at_depth 2 2) refl (at_depth 4 2) store_leads record { state = with_bytes 2; present = (3, omega arith, refl); above = itself_above 2 } e)
@@ -215,32 +216,32 @@ nothing_pushed : (n : Node) → Contains room_family.nodes n → is_guarded_push
 unfolding is_scratch any_below all_below decoded device_row
 nothing_pushed = four (λ (n : Node). is_guarded_push over_room n.key.pc ≡ false) refl refl refl refl
 
-nothing_held : (k : NodeKey) (d : ℕ) → MayHold over_room [] room_family.nodes k d → ⊥
-nothing_held k d may = absurd (let no : false ≡ true = held_slots_are_least.least over_room [] room_family.nodes (λ k d. false) k d closed may in cc)
+nothing_held : (k : NodeKey) (d : ℕ) → MayHold (bare over_room) room_family.nodes k d → ⊥
+nothing_held k d may = absurd (let no : false ≡ true = held_slots_are_least.least (bare over_room) room_family.nodes (λ k d. false) k d closed may in cc)
   where
-    closed : IsMapClosed over_room [] room_family.nodes (λ k d. false)
+    closed : IsMapClosed (bare over_room) room_family.nodes (λ k d. false)
     closed =
         record {
           keeps = λ n e d member edge stays held lt. held;
           pushes = λ n e member edge is push. sym (nothing_pushed n member) ∙ push;
         }
 
-clear_by_test : (n : Node) → is_clear over_room [] 2 n (λ d. false) ≡ true → IsClear over_room [] room_family n
-clear_by_test n = clear_nodes_are_told.clear over_room [] room_family n (λ d. false) (λ d lt none may. nothing_held n.key d may)
+clear_by_test : (n : Node) → is_clear (bare over_room) 2 n (λ d. false) ≡ true → IsClear (bare over_room) room_family n
+clear_by_test n = clear_nodes_are_told.clear (bare over_room) room_family n (λ d. false) (λ d lt none may. nothing_held n.key d may)
 
-room_is_clear : (n : Node) → Contains room_family.nodes n → IsClear over_room [] room_family n
+room_is_clear : (n : Node) → Contains room_family.nodes n → IsClear (bare over_room) room_family n
 unfolding decoded device_row
 room_is_clear =
-    four (IsClear over_room [] room_family) (clear_by_test (at_depth 0 0) refl) (clear_by_test (at_depth 1 2) refl) (clear_by_test (at_depth 2 2) clear_where_free)
+    four (IsClear (bare over_room) room_family) (clear_by_test (at_depth 0 0) refl) (clear_by_test (at_depth 1 2) refl) (clear_by_test (at_depth 2 2) clear_where_free)
     (clear_by_test (at_depth 4 2) refl)
 
 -- ---- a byte that was pushed is held, though its slot is free
 
-push_leads : raw_of over_pushed [] (at_depth 1 1) ≡ one (at_depth 2 2).key (record (with_bytes 1) { slots = Free ∷ Guarded (value (with_bytes 1) 0) ∷ [] })
+push_leads : raw_of (bare over_pushed) (at_depth 1 1) ≡ one (at_depth 2 2).key (record (with_bytes 1) { slots = Free ∷ Guarded (value (with_bytes 1) 0) ∷ [] })
 unfolding raw table_site ijmp_from is_scratch any_below all_below decoded device_row
 push_leads = refl
 
-held_there : MayHold over_pushed [] pushed_family.nodes (at_depth 2 2).key 1
+held_there : MayHold (bare over_pushed) pushed_family.nodes (at_depth 2 2).key 1
 unfolding joined_onto placed
 held_there =
     let to : Node = record { key = (at_depth 2 2).key; state = record (with_bytes 1) { slots = Free ∷ Guarded (value (with_bytes 1) 0) ∷ [] } } in
@@ -260,19 +261,19 @@ last_of span e = sym (span_is _ span e)
     span_is : (a b : Span) → reach.Within a ≡ reach.Within b → a ≡ b
     span_is a b e = cc
 
-top_is : IsHarmless over_pushed [] pushed_family (at_depth 2 2) (i.Sts 0x08FE 0) store_aim → ⊥
+top_is : IsHarmless (bare over_pushed) pushed_family (at_depth 2 2) (i.Sts 0x08FE 0) store_aim → ⊥
 unfolding device_row
 top_is (no_address is) = absurd (cc)
 top_is (under_stack span is low high) = omega (arith, high, ap (λ (s : Span). s.last) (last_of span is))
 top_is (above_memory span is over) = omega (arith, over, ap (λ (s : Span). s.first) (last_of span is))
 top_is (one_register a is low free) = omega (arith, low, ap (λ (s : Span). s.first) (last_of (record { first = a; last = a }) is))
 top_is (each_address followed each) = absurd (cc)
-top_is (free_slot d is lt none) = none (subst (MayHold over_pushed [] pushed_family.nodes (at_depth 2 2).key) (one_is d is) held_there)
+top_is (free_slot d is lt none) = none (subst (MayHold (bare over_pushed) pushed_family.nodes (at_depth 2 2).key) (one_is d is) held_there)
   where
     one_is : (d : ℕ) → Some 1 ≡ Some d → 1 ≡ d
     one_is d e = cc
 
-pushed_is_unclear : IsClear over_pushed [] pushed_family (at_depth 2 2) → ⊥
+pushed_is_unclear : IsClear (bare over_pushed) pushed_family (at_depth 2 2) → ⊥
 unfolding device_row
 pushed_is_unclear clear = top_is (clear.store (i.Sts 0x08FE 0) store_aim at_store refl)
 

@@ -13,6 +13,7 @@ use Rattle.edge_rules.specs.Examples.{top}
 use Rattle.edge_rules.specs.Families.{RankedFamily}
 use Rattle.clear_laws.specs.Held.{is_guarded_push}
 use Rattle.clear_laws.specs.Clear.{is_clear}
+use Rattle.local_rules.specs.Site.{bare}
 
 -- a call of the next word makes room for two bytes; `in r28, 0x3d`; `sts 0x08FE, r0` onto the second byte; a jump to itself
 abbrev pub over_room : Program
@@ -39,11 +40,11 @@ abbrev pub pushed_family : RankedFamily
 pushed_family = family_of (at_depth 0 0 ∷ at_depth 1 1 ∷ at_depth 2 2 ∷ at_depth 4 2 ∷ [])
 
 -- the store is clear exactly if its slot may not hold a live byte
-pub clear_where_free : is_clear over_room [] 2 (at_depth 2 2) (λ d. false) ≡ true
+pub clear_where_free : is_clear (bare over_room) 2 (at_depth 2 2) (λ d. false) ≡ true
 unfolding decoded is_fixed device_row
 clear_where_free = refl
 
-pub unclear_where_held : is_clear over_pushed [] 2 (at_depth 2 2) (λ d. true) ≡ false
+pub unclear_where_held : is_clear (bare over_pushed) 2 (at_depth 2 2) (λ d. true) ≡ false
 unfolding decoded is_fixed device_row
 unclear_where_held = refl
 

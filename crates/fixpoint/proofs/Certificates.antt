@@ -5,7 +5,7 @@ use Rattle.std.specs.List.{All}
 use Rattle.basics.specs.Lists.{get_inside, one_at}
 use Rattle.avr_model.specs.declared.device.Device.{Device}
 use Rattle.avr_model.specs.declared.assumption.Entry.{Entry}
-use Rattle.avr_model.specs.Devices.{Program, device_of}
+use Rattle.avr_model.specs.Devices.{device_of}
 use Rattle.avr_model.proofs.AllLaws.{devices_are_alike}
 use Rattle.vector_table.specs.Entries.{AreEntries, fits_device}
 use Rattle.local_rules.specs.declared.local.Node.{Node}
@@ -19,22 +19,23 @@ use Rattle.round_rules.specs.Solutions.{IsSolution}
 use Rattle.round_solutions.specs.Laws.{SolvedFamiliesAreShown, SolutionsAreMade}
 use Rattle.round_solutions.specs.Parts.{AreForms, AreCertificateParts, claim_of}
 use Rattle.fixpoint.specs.Insts.{AreSolvedNodes, AreInstsOf}
+use Rattle.local_rules.specs.Site.{Task}
 
-pub peopled : (words : Program) (A : List Entry) (nodes : List Node) → AreSolvedNodes words A nodes → SolvedFamiliesAreShown → IsPeopled words A nodes
-peopled words A nodes s law = subst (IsPeopled words A) (sym s.are) (law.peopled words A s.rounds s.family s.solved)
+pub peopled : (task : Task) (nodes : List Node) → AreSolvedNodes task nodes → SolvedFamiliesAreShown → IsPeopled task nodes
+peopled task nodes s law = subst (IsPeopled task) (sym s.are) (law.peopled task s.rounds s.family s.solved)
 
-module _ (words : Program) (A : List Entry) (f : Family) (nodes : List Node) (is : nodes ≡ nodes_of f) (solved : (n : ℕ) × IsSolved words A n f) (insts : List Inst)
-    (seeds : Seeds) (h : AreInstsOf words A nodes insts) (forms : AreForms words A nodes seeds) (law : SolutionsAreMade) where
-  abbrev parts : AreCertificateParts words A f insts seeds
+module _ (task : Task) (f : Family) (nodes : List Node) (is : nodes ≡ nodes_of f) (solved : (n : ℕ) × IsSolved task n f) (insts : List Inst)
+    (seeds : Seeds) (h : AreInstsOf task nodes insts) (forms : AreForms task nodes seeds) (law : SolutionsAreMade) where
+  abbrev parts : AreCertificateParts task f insts seeds
   parts = record {
     graph = h.graph;
     ranks = h.ranks;
     needs = h.needs;
     is_graph = h.is_graph;
-    of = subst (λ (ns : List Node). IsGraphOf words A ns h.graph) is h.of;
+    of = subst (λ (ns : List Node). IsGraphOf task ns h.graph) is h.of;
     least = h.least;
     insts_are = h.insts_are;
-    forms = subst (λ (ns : List Node). AreForms words A ns seeds) is forms;
+    forms = subst (λ (ns : List Node). AreForms task ns seeds) is forms;
   }
 
   -- the first instance is the root
@@ -48,15 +49,15 @@ module _ (words : Program) (A : List Entry) (f : Family) (nodes : List Node) (is
 
   pub bound_small : (root : Inst) → slice_get insts 0 ≡ Some root → root.need ≤ 16384
   bound_small root e =
-      let le = law.bound words A solved.0 f insts seeds solved.1 parts in
-      omega (arith, le, root_need root e, devices_are_alike.most_bytes (device_of words))
+      let le = law.bound task solved.0 f insts seeds solved.1 parts in
+      omega (arith, le, root_need root e, devices_are_alike.most_bytes (device_of task.flash))
 
-  pub claim : (device : Device) (root : Inst) (entries : List Entry) → device ≡ device_of words → slice_get insts 0 ≡ Some root → entries ≡ A → AreEntries A → All (λ e. fits_device (device_of words) e ≡ true) A → IsClaim (claim_of device root.need entries insts seeds)
+  pub claim : (device : Device) (root : Inst) (entries : List Entry) → device ≡ device_of task.flash → slice_get insts 0 ≡ Some root → entries ≡ task.assumptions → AreEntries task.assumptions → All (λ e. fits_device (device_of task.flash) e ≡ true) task.assumptions → IsClaim (claim_of device root.need entries insts seeds)
   claim device root entries is_device e same fit of =
       let need = root_need root e in
-      subst IsClaim (λ i. claim_of (sym is_device i) (sym need i) (sym same i) insts seeds) (law.claim words A solved.0 f insts seeds fit of solved.1 parts)
+      subst IsClaim (λ i. claim_of (sym is_device i) (sym need i) (sym same i) insts seeds) (law.claim task solved.0 f insts seeds fit of solved.1 parts)
 
-  pub solution : (c : Claim) (device : Device) (root : Inst) (entries : List Entry) → device ≡ device_of words → slice_get insts 0 ≡ Some root → entries ≡ A → c ≡ claim_of device root.need entries insts seeds → IsSolution words A f c
+  pub solution : (c : Claim) (device : Device) (root : Inst) (entries : List Entry) → device ≡ device_of task.flash → slice_get insts 0 ≡ Some root → entries ≡ task.assumptions → c ≡ claim_of device root.need entries insts seeds → IsSolution task f c
   solution c device root entries is_device e same built =
       let need = root_need root e in
-      subst (IsSolution words A f) ((λ i. claim_of (sym is_device i) (sym need i) (sym same i) insts seeds) ∙ sym built) (law.solution words A solved.0 f insts seeds solved.1 parts)
+      subst (IsSolution task f) ((λ i. claim_of (sym is_device i) (sym need i) (sym same i) insts seeds) ∙ sym built) (law.solution task solved.0 f insts seeds solved.1 parts)

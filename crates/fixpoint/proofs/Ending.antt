@@ -6,7 +6,7 @@ use Rattle.basics.specs.Items.{none_in}
 use Rattle.avr_model.specs.declared.device.Device.{Device}
 use Rattle.avr_model.specs.declared.assumption.Entry.{Entry}
 use Rattle.avr_model.specs.Assumptions.{has_pairs}
-use Rattle.avr_model.specs.Devices.{Program, device_of}
+use Rattle.avr_model.specs.Devices.{device_of}
 use Rattle.abs_state.specs.declared.state.AbsState.{AbsState}
 use Rattle.mask_states.specs.declared.keys.InstKey.{InstKey}
 use Rattle.mask_states.specs.declared.keys.NodeKey.{NodeKey}
@@ -34,6 +34,7 @@ use Rattle.round_steps.specs.Joins.{AreNew, KeptBut}
 use Rattle.fixpoint.specs.Progress.{Turn, IsBudgetLeft, RoundsProgress, IsSpent, AreRoundsFound}
 use Rattle.fixpoint.specs.Checks.{AreRoundsStopped, IsReady}
 use Rattle.fixpoint.proofs.Next.{next_turn, first_turn, not_closed, unchanged, closed_then}
+use Rattle.local_rules.specs.Site.{Task}
 
 -- ---- the first family
 
@@ -92,7 +93,7 @@ all_left : (steps : Option ℕ) → IsBudgetLeft steps steps 0
 all_left None = tt
 all_left (Some steps) = omega arith
 
-module _ (words : Program) (A : List Entry) where
+module _ (task : Task) where
   -- ---- refusals
 
   never_spent : (n : ℕ) (t : Test) → refusal.Spent n ≡ refusal_of t → ⊥
@@ -105,8 +106,8 @@ module _ (words : Program) (A : List Entry) where
   spent_no_memory : (n : ℕ) → refusal.Spent n ≡ refusal.Memory → ⊥
   spent_no_memory n e = cc
 
-  refused_by : (steps : Option ℕ) (n : ℕ) (f : Family) (r : Refusal) → IsWithinBudget steps n → Comes words A n f → (r ≢ refusal.Memory → IsRefusal words A steps r)
-      → (r ≢ refusal.Memory → AreRoundsStopped words A f r) → AreRoundsWithout words A steps r
+  refused_by : (steps : Option ℕ) (n : ℕ) (f : Family) (r : Refusal) → IsWithinBudget steps n → Comes task n f → (r ≢ refusal.Memory → IsRefusal task steps r)
+      → (r ≢ refusal.Memory → AreRoundsStopped task f r) → AreRoundsWithout task steps r
   refused_by steps n f (refusal.Spent m) within comes refused stopped =
       let s = stopped (spent_no_memory m) in absurd (never_spent m s.test s.is)
   refused_by steps n f refusal.Memory within comes refused stopped = tt
@@ -116,34 +117,34 @@ module _ (words : Program) (A : List Entry) where
   refused_by steps n f (refusal.ReEntry v word) within comes refused stopped = refused (λ e. let never = e in cc)
   refused_by steps n f (refusal.TooLarge limit) within comes refused stopped = refused (λ e. let never = e in cc)
 
-  module _ (steps left : Option ℕ) (f : Family) (count : ℕ) (work : List NodeKey) (notes : Notes) (p : RoundsProgress words A steps left f count work notes) where
+  module _ (steps left : Option ℕ) (f : Family) (count : ℕ) (work : List NodeKey) (notes : Notes) (p : RoundsProgress task steps left f count work notes) where
     within : IsWithinBudget steps p.number
     within = within_left steps left p.number p.budget
 
-    pub why_stopped : (r : Refusal) → (r ≢ refusal.Memory → AreRoundsStopped words A f r) → AreRoundsWithout words A steps r
+    pub why_stopped : (r : Refusal) → (r ≢ refusal.Memory → AreRoundsStopped task f r) → AreRoundsWithout task steps r
     why_stopped r stopped =
         refused_by steps p.number f r within p.comes
         (λ real. let s = stopped real in
         record { number = p.number; within = within; refused = record { test = s.test; ends = record { family = f; comes = p.comes; holds = s.holds }; is = s.is } }) stopped
 
-    pub formed : AreFormed (device_of words) (has_pairs A) f
-    formed = rounds_are_least.formed words A p.number f p.comes
+    pub formed : AreFormed (device_of task.flash) (has_pairs task.assumptions) f
+    formed = rounds_are_least.formed task p.number f p.comes
 
     pub rooted : FamilyHasInst f root_inst
-    rooted = let l = comes_root words A p.number f p.comes in (with_state (root_node A) l.at, l.is, refl)
+    rooted = let l = comes_root task p.number f p.comes in (with_state (root_node task.assumptions) l.at, l.is, refl)
 
     -- ---- a round
 
-    module _ (g : Family) (mid : Notes) (nodes : List Node) (changed : List NodeKey) (ready : IsReady words A f mid nodes) (joined : g ≡ raised_all f nodes) (kept : KeptBut f g changed)
+    module _ (g : Family) (mid : Notes) (nodes : List Node) (changed : List NodeKey) (ready : IsReady task f mid nodes) (joined : g ≡ raised_all f nodes) (kept : KeptBut f g changed)
         (more : weight f + length changed ≤ weight g) where
-      next : IsNext words A f g
-      next = subst (IsNext words A f) (sym joined) (rounds_are_joins.next words A f nodes formed ready.round)
+      next : IsNext task f g
+      next = subst (IsNext task f) (sym joined) (rounds_are_joins.next task f nodes formed ready.round)
 
-      pub is_found : changed ≡ [] → AreRoundsFound words A steps g
+      pub is_found : changed ≡ [] → AreRoundsFound task steps g
       is_found none =
-          let same = unchanged words A f g changed none kept in
-          subst (AreRoundsFound words A steps) (sym same)
-          (record { number = p.number; within = within; solved = record { comes = p.comes; passes = ready.passes; closed = closed_then words A f g next same } })
+          let same = unchanged task f g changed none kept in
+          subst (AreRoundsFound task steps) (sym same)
+          (record { number = p.number; within = within; solved = record { comes = p.comes; passes = ready.passes; closed = closed_then task f g next same } })
 
       module _ (some : changed ≢ []) where
         rises : weight f < weight g
@@ -153,23 +154,23 @@ module _ (words : Program) (A : List Entry) where
             some_length [] ne = absurd (ne refl)
             some_length (k ∷ ks) ne = omega arith
 
-        still_open : IsClosed words A f → ⊥
-        still_open = not_closed words A f g formed next rises
+        still_open : IsClosed task f → ⊥
+        still_open = not_closed task f g formed next rises
 
         pub progress_more : (less : Option ℕ) (now : ℕ) → ((n : ℕ) → IsBudgetLeft steps left n → IsBudgetLeft steps less (n + 1)) → now ≡ cells g
-            → RoundsProgress words A steps less g now changed mid
+            → RoundsProgress task steps less g now changed mid
         progress_more less now spent counted = record {
           number = suc p.number;
           comes = (f, p.comes, ready.passes, still_open, next);
           budget = subst (IsBudgetLeft steps less) (add-one p.number) (spent p.number p.budget);
-          turn = next_turn words A f g mid changed formed next ready.known ready.once kept;
+          turn = next_turn task f g mid changed formed next ready.known ready.once kept;
           counted = counted;
         }
 
-        pub why_spent : (r : Refusal) → ((n : ℕ) → IsBudgetLeft steps left n → IsSpent steps n r) → AreRoundsWithout words A steps r
+        pub why_spent : (r : Refusal) → ((n : ℕ) → IsBudgetLeft steps left n → IsSpent steps n r) → AreRoundsWithout task steps r
         why_spent r spent =
             let s = spent p.number p.budget in
-            subst (AreRoundsWithout words A steps) (sym s.0) (s.1, record { family = f; comes = p.comes; passes = ready.passes; more = still_open })
+            subst (AreRoundsWithout task steps) (sym s.0) (s.1, record { family = f; comes = p.comes; passes = ready.passes; more = still_open })
 
         pub falls : 9416690630657 - weight g < 9416690630657 - weight f
         falls =
@@ -178,12 +179,12 @@ module _ (words : Program) (A : List Entry) where
             let lt = rises in
             omega (arith, top, few, lt)
 
-  pub progress_first : (steps : Option ℕ) (f : Family) (count : ℕ) (work : List NodeKey) (notes : Notes) → f ≡ first A → count ≡ cells f → KeptBut empty f work → notes ≡ blank
-      → RoundsProgress words A steps steps f count work notes
+  pub progress_first : (steps : Option ℕ) (f : Family) (count : ℕ) (work : List NodeKey) (notes : Notes) → f ≡ first task.assumptions → count ≡ cells f → KeptBut empty f work → notes ≡ blank
+      → RoundsProgress task steps steps f count work notes
   progress_first steps f count work notes is counted kept no_notes = record {
     number = 0;
     comes = is;
     budget = all_left steps;
-    turn = subst (Turn words A f work) (sym no_notes) (first_turn words A f work kept);
+    turn = subst (Turn task f work) (sym no_notes) (first_turn task f work kept);
     counted = counted;
   }

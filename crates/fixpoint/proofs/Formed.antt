@@ -5,8 +5,6 @@ use Rattle.std.proofs.lemmas.Option.{none-some, same_Some, slice_get_within}
 use Rattle.std.proofs.lemmas.Result.{IfOk-weaker}
 use Rattle.basics.specs.Items.{get_contained}
 use Rattle.basics.specs.Lists.{one_at}
-use Rattle.avr_model.specs.declared.assumption.Entry.{Entry}
-use Rattle.avr_model.specs.Devices.{Program}
 use Rattle.mask_states.specs.declared.keys.NodeKey.{NodeKey}
 use Rattle.local_rules.specs.declared.local.Node.{Node}
 use Rattle.edge_rules.specs.declared.seeded.NodeForm.{NodeForm}
@@ -19,16 +17,17 @@ use Rattle.round_solutions.proofs.AllLaws.{lone_edges_tell}
 use Rattle.fixpoint.specs.declared.leading.Lead.{Lead}
 use Rattle.fixpoint.specs.declared.leading.Lead.TheVariants.{Nothing, Only, More}
 use Rattle.fixpoint.specs.Leads.{lead_at, LeadsTo, IsLead, AreLeads, form_by, forms_from}
+use Rattle.local_rules.specs.Site.{Task}
 
-module _ (words : Program) (A : List Entry) (nodes : List Node) (k : NodeKey) where
+module _ (task : Task) (nodes : List Node) (k : NodeKey) where
   abbrev Last : Lead → Type 0
-  Last lead = IsLead words A nodes (length nodes) k lead
+  Last lead = IsLead task nodes (length nodes) k lead
 
   -- the origin of the only edge was visited
-  origin : (m : ℕ) (o : IsOnlyFrom words A nodes k m) → LeadsTo words A nodes (length nodes) k m o.edge
+  origin : (m : ℕ) (o : IsOnlyFrom task nodes k m) → LeadsTo task nodes (length nodes) k m o.edge
   origin m o = record { node = o.node; below = slice_get_within nodes m o.node o.at; at = o.at; is = o.is; leads = o.leads }
 
-  only_one : (m : ℕ) → Last (Only m) → IsOnlyFrom words A nodes k m
+  only_one : (m : ℕ) → Last (Only m) → IsOnlyFrom task nodes k m
   only_one m h =
       let l = h.0.1 in
       let local = (h.1 m h.0.0 l).1 in
@@ -42,22 +41,22 @@ module _ (words : Program) (A : List Entry) (nodes : List Node) (k : NodeKey) wh
         only = λ other e i is leads.
             let p = h.1 i.0 e (record { node = other; below = i.1; at = get_contained nodes other i; is = is; leads = leads }) in
             let node = one_at nodes m other l.node (subst (λ (j : ℕ). slice_get nodes j ≡ Some other) p.0 (get_contained nodes other i)) l.at in
-            (node, lone_edges_tell.one words A nodes l.node e h.0.0 (subst (λ (x : Node). IsEdge words A nodes x e) node is) l.is p.1 local (leads ∙ sym l.leads));
+            (node, lone_edges_tell.one task nodes l.node e h.0.0 (subst (λ (x : Node). IsEdge task nodes x e) node is) l.is p.1 local (leads ∙ sym l.leads));
       }
 
-  none_only : (lead : Lead) → Last lead → ((m : ℕ) → lead ≡ Only m → ⊥) → (m : ℕ) → IsOnlyFrom words A nodes k m → ⊥
+  none_only : (lead : Lead) → Last lead → ((m : ℕ) → lead ≡ Only m → ⊥) → (m : ℕ) → IsOnlyFrom task nodes k m → ⊥
   none_only Nothing h ne m o = h m o.edge (origin m o)
   none_only (Only j) h ne m o = ne j refl
   none_only More h ne m o = h m o
 
-module _ (words : Program) (A : List Entry) (nodes : List Node) where
-  form_is : (at : ℕ) (n : Node) (lead : Lead) → IsLead words A nodes (length nodes) n.key lead → IsForm words A nodes at n (form_by at lead n.state)
-  form_is at n Nothing h = (refl, λ m lt o. none_only words A nodes n.key Nothing h (λ j e. absurd (cc)) m o)
+module _ (task : Task) (nodes : List Node) where
+  form_is : (at : ℕ) (n : Node) (lead : Lead) → IsLead task nodes (length nodes) n.key lead → IsForm task nodes at n (form_by at lead n.state)
+  form_is at n Nothing h = (refl, λ m lt o. none_only task nodes n.key Nothing h (λ j e. absurd (cc)) m o)
   form_is at n (Only j) h = by (nat_lt j at) refl
     where
-      by : (b : Bool) → nat_lt j at ≡ b → IsForm words A nodes at n (cond b (From j) (State n.state))
-      by true t = (grind (arith, nat_tests), only_one words A nodes n.key j h)
-      by false t = (refl, λ m lt o. let p = h.1 m o.edge (origin words A nodes n.key m o) in let same = p.0 in absurd (grind (arith, nat_tests)))
+      by : (b : Bool) → nat_lt j at ≡ b → IsForm task nodes at n (cond b (From j) (State n.state))
+      by true t = (grind (arith, nat_tests), only_one task nodes n.key j h)
+      by false t = (refl, λ m lt o. let p = h.1 m o.edge (origin task nodes n.key m o) in let same = p.0 in absurd (grind (arith, nat_tests)))
   form_is at n More h = (refl, λ m lt o. h m o)
 
 forms_long : (at : ℕ) (leads : List Lead) (ns : List Node) → length (forms_from at leads ns) ≡ length ns
@@ -75,16 +74,16 @@ forms_get at leads (x ∷ xs) (suc i) n e =
     let there : at + 1 + i ≡ at + suc i = omega arith in
     subst (λ (j : ℕ). slice_get (forms_from (at + 1) leads xs) i ≡ Some (n.key, form_by j (lead_at leads j) n.state)) there (forms_get (at + 1) leads xs i n e)
 
-pub forms_are : (words : Program) (A : List Entry) (nodes : List Node) (leads : List Lead) → AreLeads words A nodes (length nodes) leads
-    → AreForms words A nodes (forms_from 0 leads nodes)
-forms_are words A nodes leads are = record {
+pub forms_are : (task : Task) (nodes : List Node) (leads : List Lead) → AreLeads task nodes (length nodes) leads
+    → AreForms task nodes (forms_from 0 leads nodes)
+forms_are task nodes leads are = record {
   count = forms_long 0 leads nodes;
   each = λ at n e.
       let zero_more : 0 + at ≡ at = omega arith in (
         form_by at (lead_at leads at) n.state,
         (
           subst (λ (j : ℕ). slice_get (forms_from 0 leads nodes) at ≡ Some (n.key, form_by j (lead_at leads j) n.state)) zero_more (forms_get 0 leads nodes at n e),
-          form_is words A nodes at n (lead_at leads at) (are.each at n e),
+          form_is task nodes at n (lead_at leads at) (are.each at n e),
         ),
       );
 }
@@ -112,9 +111,9 @@ forms_pushed leads done n forms pushed at form are long is form_is all =
       omega (arith, ap length all, length-append forms ((n.key, form) ∷ []), length-append done (n ∷ []), long),
     )
 
-pub forms_hold : {E : Type 0} (r : Result (Vec (NodeKey × NodeForm) Global) E) (words : Program) (A : List Entry) (nodes listed : List Node) (leads slice : List Lead)
-    → AreLeads words A nodes (length nodes) leads → slice ≡ leads → listed ≡ nodes → IfOk r (λ forms. forms.items ≡ forms_from 0 slice listed)
-    → IfOk r (λ forms. AreForms words A nodes forms.items)
-forms_hold r words A nodes listed leads slice are same all h =
-    IfOk-weaker r (λ forms. forms.items ≡ forms_from 0 slice listed) (λ forms. AreForms words A nodes forms.items)
-    (λ forms e. subst (AreForms words A nodes) (sym (e ∙ ap₂ (λ (l : List Lead) (ns : List Node). forms_from 0 l ns) same all)) (forms_are words A nodes leads are)) h
+pub forms_hold : {E : Type 0} (r : Result (Vec (NodeKey × NodeForm) Global) E) (task : Task) (nodes listed : List Node) (leads slice : List Lead)
+    → AreLeads task nodes (length nodes) leads → slice ≡ leads → listed ≡ nodes → IfOk r (λ forms. forms.items ≡ forms_from 0 slice listed)
+    → IfOk r (λ forms. AreForms task nodes forms.items)
+forms_hold r task nodes listed leads slice are same all h =
+    IfOk-weaker r (λ forms. forms.items ≡ forms_from 0 slice listed) (λ forms. AreForms task nodes forms.items)
+    (λ forms e. subst (AreForms task nodes) (sym (e ∙ ap₂ (λ (l : List Lead) (ns : List Node). forms_from 0 l ns) same all)) (forms_are task nodes leads are)) h

@@ -1,7 +1,5 @@
 -- After a round the notes have all nodes, and the nesting is the family's.
 use Rattle.std.proofs.Common.{◌≡◌, refl, sym, ◌∙◌, subst, ℕ, inl, inr, ⊎_elim, List, None, Contains}
-use Rattle.avr_model.specs.declared.assumption.Entry.{Entry}
-use Rattle.avr_model.specs.Devices.{Program}
 use Rattle.mask_states.specs.declared.keys.InstKey.{InstKey}
 use Rattle.mask_states.specs.declared.keys.NodeKey.{NodeKey}
 use Rattle.mask_states.specs.Keys.{offset_of}
@@ -18,42 +16,43 @@ use Rattle.round_steps.specs.Looks.{IsLook, HasLook, AreSeen}
 use Rattle.round_steps.specs.Notings.{AnyHas, caller, leaver, CallsAt, LeavesAt, InstAt, SpotAt, EntersAt, AreNoted}
 use Rattle.fixpoint.specs.Progress.{IsCaller, IsLeaver, AreTrue, IsKnown, AreKnown, Turn}
 use Rattle.fixpoint.proofs.Looked.{seen_node, look_exit, look_way, look_node, none_faulty, looked}
+use Rattle.local_rules.specs.Site.{Task}
 
-module _ (words : Program) (A : List Entry) (f : Family) (old new : Notes) (xs : List Look) (noted : AreNoted old xs new) where
-  module _ (looks : (x : Look) → Contains xs x → IsLook words A f x) where
+module _ (task : Task) (f : Family) (old new : Notes) (xs : List Look) (noted : AreNoted old xs new) where
+  module _ (looks : (x : Look) → Contains xs x → IsLook task f x) where
     -- ---- what was found is so
 
-    calls_so : (y : InstKey × Crossing) → AnyHas xs CallsAt y → IsCaller words A f y.0 y.1
+    calls_so : (y : InstKey × Crossing) → AnyHas xs CallsAt y → IsCaller task f y.0 y.1
     calls_so y h =
         let is = looks h.one h.member in
         let w = h.has.one in
         let at : y ≡ (w.inst, caller h.one.key w) = h.has.has in
-        subst (λ (z : InstKey × Crossing). IsCaller words A f z.0 z.1) (sym at)
-        (record { node = seen_node words A f h.one is; has = is.has; at = refl; enters = (look_way words A f h.one is w).0 h.has.member })
+        subst (λ (z : InstKey × Crossing). IsCaller task f z.0 z.1) (sym at)
+        (record { node = seen_node task f h.one is; has = is.has; at = refl; enters = (look_way task f h.one is w).0 h.has.member })
 
-    leaves_so : (y : InstKey × Crossing) → AnyHas xs LeavesAt y → IsLeaver words A f y.0 y.1
+    leaves_so : (y : InstKey × Crossing) → AnyHas xs LeavesAt y → IsLeaver task f y.0 y.1
     leaves_so y h =
         let is = looks h.one h.member in
         let at : y ≡ (h.one.key.inst, leaver h.one.key y.1.exit) = h.has.1 in
-        subst (λ (z : InstKey × Crossing). IsLeaver words A f z.0 z.1) (sym at)
-        (record { node = seen_node words A f h.one is; has = is.has; at = refl; of = refl; exit = sym (look_exit words A f h.one is) ∙ h.has.0 })
+        subst (λ (z : InstKey × Crossing). IsLeaver task f z.0 z.1) (sym at)
+        (record { node = seen_node task f h.one is; has = is.has; at = refl; of = refl; exit = sym (look_exit task f h.one is) ∙ h.has.0 })
 
     inst_so : (i : InstKey) → AnyHas xs InstAt i → FamilyHasInst f i
-    inst_so i h = let is = looks h.one h.member in (seen_node words A f h.one is, is.has, sym h.has)
+    inst_so i h = let is = looks h.one h.member in (seen_node task f h.one is, is.has, sym h.has)
 
     spot_so : (s : Spot) → AnyHas xs SpotAt s → IsSpotOf f s
     spot_so s h =
         let is = looks h.one h.member in
-        record { node = seen_node words A f h.one is; has = is.has; of = sym h.has.0; closed = h.has.1 }
+        record { node = seen_node task f h.one is; has = is.has; of = sym h.has.0; closed = h.has.1 }
 
-    entrance_so : (e : Entrance) → AnyHas xs EntersAt e → Entering words A f e.from e.into e.offset
+    entrance_so : (e : Entrance) → AnyHas xs EntersAt e → Entering task f e.from e.into e.offset
     entrance_so e h =
         let is = looks h.one h.member in
         let w = h.has.one in
-        subst (λ (d : Entrance). Entering words A f d.from d.into d.offset) (sym h.has.has)
-        (record { node = seen_node words A f h.one is; has = is.has; same = refl; at = refl; way = w.kind; back = w.back; enters = (look_way words A f h.one is w).0 h.has.member })
+        subst (λ (d : Entrance). Entering task f d.from d.into d.offset) (sym h.has.has)
+        (record { node = seen_node task f h.one is; has = is.has; same = refl; at = refl; way = w.kind; back = w.back; enters = (look_way task f h.one is w).0 h.has.member })
 
-    pub notes_so : AreTrue words A f old → AreTrue words A f new
+    pub notes_so : AreTrue task f old → AreTrue task f new
     notes_so so = record {
       callers = λ i p h. ⊎_elim (so.callers i p) (calls_so (i, p)) ((noted.callers (i, p)).0 h);
       leavers = λ i p h. ⊎_elim (so.leavers i p) (leaves_so (i, p)) ((noted.leavers (i, p)).0 h);
@@ -64,23 +63,23 @@ module _ (words : Program) (A : List Entry) (f : Family) (old new : Notes) (xs :
 
     -- ---- each node is known
 
-    pub look_known : (n : Node) → FamilyHas f n → HasLook xs n.key → IsKnown words A new n
+    pub look_known : (n : Node) → FamilyHas f n → HasLook xs n.key → IsKnown task new n
     look_known n has h =
         let is = looks h.look h.member in
-        subst (IsKnown words A new) (look_node words A f h.look is n has h.at)
+        subst (IsKnown task new) (look_node task f h.look is n has h.at)
         (record {
           callers = λ way inst back e. let w : Way = record { kind = way; inst = inst; back = back } in
-              (noted.callers (inst, caller h.look.key w)).1 (inr (record { one = h.look; member = h.member; has = record { one = w; member = (look_way words A f h.look is w).1 e; has = refl } }));
+              (noted.callers (inst, caller h.look.key w)).1 (inr (record { one = h.look; member = h.member; has = record { one = w; member = (look_way task f h.look is w).1 e; has = refl } }));
           leavers = λ x e. (noted.leavers (h.look.key.inst, leaver h.look.key x)).1
-              (inr (record { one = h.look; member = h.member; has = (look_exit words A f h.look is ∙ e, refl) }));
+              (inr (record { one = h.look; member = h.member; has = (look_exit task f h.look is ∙ e, refl) }));
           inst = (noted.insts h.look.key.inst).1 (inr (record { one = h.look; member = h.member; has = refl }));
           spot = λ offset e. (noted.spots (record { inst = h.look.key.inst; offset = offset })).1 (inr (record { one = h.look; member = h.member; has = (refl, e) }));
           entrances = λ way inst back e. let w : Way = record { kind = way; inst = inst; back = back } in
               (noted.entrances (record { from = h.look.key.inst; into = inst; offset = offset_of h.look.key.sp })).1
-              (inr (record { one = h.look; member = h.member; has = record { one = w; member = (look_way words A f h.look is w).1 e; has = refl } }));
+              (inr (record { one = h.look; member = h.member; has = record { one = w; member = (look_way task f h.look is w).1 e; has = refl } }));
         })
 
-  pub still_known : (n : Node) → IsKnown words A old n → IsKnown words A new n
+  pub still_known : (n : Node) → IsKnown task old n → IsKnown task new n
   still_known n k = record {
     callers = λ way inst back e. (noted.callers (inst, caller n.key (record { kind = way; inst = inst; back = back }))).1 (inl (k.callers way inst back e));
     leavers = λ x e. (noted.leavers (n.key.inst, leaver n.key x)).1 (inl (k.leavers x e));
@@ -90,19 +89,19 @@ module _ (words : Program) (A : List Entry) (f : Family) (old new : Notes) (xs :
   }
 
 -- the notes of a round without a fault
-pub all_known : (words : Program) (A : List Entry) (f : Family) (work : List NodeKey) (old new : Notes) (seen : Seen) → Turn words A f work old → AreSeen words A f work seen
-    → seen.worst ≡ None → AreNoted old seen.looks.items new → AreKnown words A f new
-all_known words A f work old new seen turn are none noted =
-    let clean = none_faulty words A f work old seen turn are none in
+pub all_known : (task : Task) (f : Family) (work : List NodeKey) (old new : Notes) (seen : Seen) → Turn task f work old → AreSeen task f work seen
+    → seen.worst ≡ None → AreNoted old seen.looks.items new → AreKnown task f new
+all_known task f work old new seen turn are none noted =
+    let clean = none_faulty task f work old seen turn are none in
     record {
       faultless = clean;
-      each = λ n has. ⊎_elim (λ i. look_known words A f old new seen.looks.items noted are.looks n has (looked words A f work old seen turn are none n has i))
-          (λ held. still_known words A f old new seen.looks.items noted n held.known) (turn.held n has);
-      so = notes_so words A f old new seen.looks.items noted are.looks (turn.so clean);
+      each = λ n has. ⊎_elim (λ i. look_known task f old new seen.looks.items noted are.looks n has (looked task f work old seen turn are none n has i))
+          (λ held. still_known task f old new seen.looks.items noted n held.known) (turn.held n has);
+      so = notes_so task f old new seen.looks.items noted are.looks (turn.so clean);
     }
 
-pub nesting_is : (words : Program) (A : List Entry) (f : Family) (notes : Notes) → AreKnown words A f notes → IsNestingOf words A f notes.nesting
-nesting_is words A f notes known = record {
+pub nesting_is : (task : Task) (f : Family) (notes : Notes) → AreKnown task f notes → IsNestingOf task f notes.nesting
+nesting_is task f notes known = record {
   insts = λ i. (known.so.insts i, λ h. subst (Contains notes.nesting.insts) h.2 (known.each h.0 h.1).inst);
   spots = λ s. (known.so.spots s, λ h. subst (λ (i : InstKey). Contains notes.nesting.spots (record { inst = i; offset = s.offset })) h.of ((known.each h.node h.has).spot s.offset h.closed));
   entrances = λ e. (

@@ -7,9 +7,7 @@ use Rattle.std.proofs.lemmas.Option.{slice_get_within}
 use Rattle.basics.specs.Numbers.{equals_itself}
 use Rattle.basics.specs.Items.{none_in, first_in, further_in, first_or_further, contained_at}
 use Rattle.basics.specs.Lists.{one_at}
-use Rattle.avr_model.specs.declared.assumption.Entry.{Entry}
 use Rattle.avr_model.specs.declared.device.Device.{Device}
-use Rattle.avr_model.specs.Devices.{Program}
 use Rattle.mask_states.specs.declared.keys.EdgeKind.{EdgeKind}
 use Rattle.mask_states.specs.declared.keys.EdgeKind.TheVariants.{Local, Call, Interrupt, Return}
 use Rattle.mask_states.specs.declared.keys.NodeKey.{NodeKey}
@@ -25,6 +23,7 @@ use Rattle.fixpoint.specs.declared.leading.Lead.{Lead}
 use Rattle.fixpoint.specs.declared.leading.Lead.TheVariants.{Nothing, Only, More}
 use Rattle.fixpoint.specs.Leads.{moved, led, lead_at, noted, LeadsTo, IsLead, AreLeads}
 use Rattle.fixpoint.proofs.Places.{place_is, noted_long, noted_there}
+use Rattle.local_rules.specs.Site.{Task}
 
 -- ---- how edges land at the node of a number, by their kinds
 
@@ -140,18 +139,18 @@ second at m x xs lt all =
 -- ---- the edges of one node
 
 -- an edge of this kind leads from the node to the key
-record HasKindOfEdge (words : Program) (A : List Entry) (nodes : List Node) (n : Node) (k : NodeKey) (x : EdgeKind) : Type 0 where
+record HasKindOfEdge (task : Task) (nodes : List Node) (n : Node) (k : NodeKey) (x : EdgeKind) : Type 0 where
   edge : Edge
-  is : IsEdge words A nodes n edge
+  is : IsEdge task nodes n edge
   to : edge.to ≡ k
   kind : edge.kind ≡ x
 
-module _ {device : Device} (words : Program) (A : List Entry) (nodes : List Node) (shown : AreShown device nodes) (at : ℕ) (n : Node) (is_at : slice_get nodes at ≡ Some n) (landings : List Landing)
-    (exact : AreLandingsOf words A nodes n landings) (p : ℕ) (there : Node) (is_there : slice_get nodes p ≡ Some there) where
+module _ {device : Device} (task : Task) (nodes : List Node) (shown : AreShown device nodes) (at : ℕ) (n : Node) (is_at : slice_get nodes at ≡ Some n) (landings : List Landing)
+    (exact : AreLandingsOf task nodes n landings) (p : ℕ) (there : Node) (is_there : slice_get nodes p ≡ Some there) where
   abbrev k : NodeKey
   k = there.key
 
-  edge_of : (x : EdgeKind) → Contains (kinds_at p landings) x → HasKindOfEdge words A nodes n k x
+  edge_of : (x : EdgeKind) → Contains (kinds_at p landings) x → HasKindOfEdge task nodes n k x
   edge_of x i =
       let h = of_kind p landings x i in
       let l = (exact h.landing).0 h.member in
@@ -160,37 +159,37 @@ module _ {device : Device} (words : Program) (A : List Entry) (nodes : List Node
       record { edge = l.edge; is = l.is; to = sym f.same ∙ ap (λ (m : Node). m.key) same; kind = sym l.kind ∙ h.kind }
 
   -- an edge from the node
-  own : (x : EdgeKind) (h : HasKindOfEdge words A nodes n k x) → LeadsTo words A nodes (at + 1) k at h.edge
+  own : (x : EdgeKind) (h : HasKindOfEdge task nodes n k x) → LeadsTo task nodes (at + 1) k at h.edge
   own x h = record { node = n; below = omega arith; at = is_at; is = h.is; leads = h.to }
 
-  kind_of : (e : Edge) → LeadsTo words A nodes (at + 1) k at e → Contains (kinds_at p landings) e.kind
+  kind_of : (e : Edge) → LeadsTo task nodes (at + 1) k at e → Contains (kinds_at p landings) e.kind
   kind_of e l =
       let same = one_at nodes at l.node n l.at is_at in
       let place = subst (λ (q : NodeKey). place_of q nodes ≡ Some p) (sym l.leads) (place_is nodes shown p there is_there) in
       let landing : Landing = record { kind = e.kind; at = p } in
-      in_kinds p landings landing refl ((exact landing).1 (record { edge = e; is = subst (λ (x : Node). IsEdge words A nodes x e) same l.is; kind = refl; at = place }))
+      in_kinds p landings landing refl ((exact landing).1 (record { edge = e; is = subst (λ (x : Node). IsEdge task nodes x e) same l.is; kind = refl; at = place }))
 
-  earlier : (i : ℕ) (e : Edge) → i < at → LeadsTo words A nodes (at + 1) k i e → LeadsTo words A nodes at k i e
+  earlier : (i : ℕ) (e : Edge) → i < at → LeadsTo task nodes (at + 1) k i e → LeadsTo task nodes at k i e
   earlier i e lt l = record { node = l.node; below = lt; at = l.at; is = l.is; leads = l.leads }
 
-  later : (i : ℕ) (e : Edge) → LeadsTo words A nodes at k i e → LeadsTo words A nodes (at + 1) k i e
+  later : (i : ℕ) (e : Edge) → LeadsTo task nodes at k i e → LeadsTo task nodes (at + 1) k i e
   later i e l = record { node = l.node; below = let lt = l.below in omega (arith, lt); at = l.at; is = l.is; leads = l.leads }
 
-  split : (P : ℕ → Edge → Type 0) → ((i : ℕ) (e : Edge) → LeadsTo words A nodes at k i e → P i e) → ((e : Edge) → LeadsTo words A nodes (at + 1) k at e → P at e)
-      → (i : ℕ) (e : Edge) → LeadsTo words A nodes (at + 1) k i e → P i e
+  split : (P : ℕ → Edge → Type 0) → ((i : ℕ) (e : Edge) → LeadsTo task nodes at k i e → P i e) → ((e : Edge) → LeadsTo task nodes (at + 1) k at e → P at e)
+      → (i : ℕ) (e : Edge) → LeadsTo task nodes (at + 1) k i e → P i e
   split P before first_in i e l =
       elim (cases_lt i at) [
         | inl lt ↦ before i e (earlier i e lt l)
         | inr ge ↦
             let same : i ≡ at = let lt = l.below in omega (arith, lt, ge) in
-            subst (λ (j : ℕ). P j e) (sym same) (first_in e (subst (λ (j : ℕ). LeadsTo words A nodes (at + 1) k j e) same l))
+            subst (λ (j : ℕ). P j e) (sym same) (first_in e (subst (λ (j : ℕ). LeadsTo task nodes (at + 1) k j e) same l))
       ]
 
   abbrev Before : Lead → Type 0
-  Before lead = IsLead words A nodes at k lead
+  Before lead = IsLead task nodes at k lead
 
   abbrev After : Lead → Type 0
-  After lead = IsLead words A nodes (at + 1) k lead
+  After lead = IsLead task nodes (at + 1) k lead
 
   -- no edge from the node leads there
   without : kinds_at p landings ≡ [] → (lead : Lead) → Before lead → After lead
@@ -257,24 +256,24 @@ folded_at at (l ∷ ls) leads p lt =
     by true = refl
     by false = refl
 
-led_more : {device : Device} (words : Program) (A : List Entry) (nodes : List Node) → AreShown device nodes → (at : ℕ) (n : Node) → slice_get nodes at ≡ Some n → (landings : List Landing)
-    → AreLandingsOf words A nodes n landings → (leads : List Lead) → AreLeads words A nodes at leads → AreLeads words A nodes (at + 1) (fold (noted at) leads landings)
-led_more words A nodes shown at n is landings exact leads are = record {
+led_more : {device : Device} (task : Task) (nodes : List Node) → AreShown device nodes → (at : ℕ) (n : Node) → slice_get nodes at ≡ Some n → (landings : List Landing)
+    → AreLandingsOf task nodes n landings → (leads : List Lead) → AreLeads task nodes at leads → AreLeads task nodes (at + 1) (fold (noted at) leads landings)
+led_more task nodes shown at n is landings exact leads are = record {
   all = folded_long at landings leads ∙ are.all;
   each = λ p m e.
       let lt = slice_get_within nodes p m e in
-      subst (IsLead words A nodes (at + 1) m.key) (sym (folded_at at landings leads p (omega (arith, lt, are.all))))
-      (step words A nodes shown at n is landings exact p m e (lead_at leads p) (are.each p m e));
+      subst (IsLead task nodes (at + 1) m.key) (sym (folded_at at landings leads p (omega (arith, lt, are.all))))
+      (step task nodes shown at n is landings exact p m e (lead_at leads p) (are.each p m e));
 }
 
 all_written : (xs ys : List Lead) (n : ℕ) → n ≡ length xs → length ys ≡ length xs → take n (ys ++ drop (length ys) xs) ≡ ys
 all_written xs ys n size same = grind (arith, common_steps)
 
 -- after writing back
-pub led_written : {device : Device} (words : Program) (A : List Entry) (nodes : List Node) → AreShown device nodes → (at : ℕ) (n : Node) → slice_get nodes at ≡ Some n → (landings : List Landing)
-    → AreLandingsOf words A nodes n landings → (leads ys zs : List Lead) (size : ℕ) → AreLeads words A nodes at leads → zs ≡ leads
-    → ys ≡ fold (noted at) zs landings → size ≡ length leads → AreLeads words A nodes (at + 1) (take size (ys ++ drop (length ys) leads))
-led_written words A nodes shown at n is landings exact leads ys zs size are from whole sized =
+pub led_written : {device : Device} (task : Task) (nodes : List Node) → AreShown device nodes → (at : ℕ) (n : Node) → slice_get nodes at ≡ Some n → (landings : List Landing)
+    → AreLandingsOf task nodes n landings → (leads ys zs : List Lead) (size : ℕ) → AreLeads task nodes at leads → zs ≡ leads
+    → ys ≡ fold (noted at) zs landings → size ≡ length leads → AreLeads task nodes (at + 1) (take size (ys ++ drop (length ys) leads))
+led_written task nodes shown at n is landings exact leads ys zs size are from whole sized =
     let folded : ys ≡ fold (noted at) leads landings = whole ∙ ap (λ (z : List Lead). fold (noted at) z landings) from in
     let long : length ys ≡ length leads = ap length folded ∙ folded_long at landings leads in
-    subst (AreLeads words A nodes (at + 1)) (sym (all_written leads ys size sized long ∙ folded)) (led_more words A nodes shown at n is landings exact leads are)
+    subst (AreLeads task nodes (at + 1)) (sym (all_written leads ys size sized long ∙ folded)) (led_more task nodes shown at n is landings exact leads are)

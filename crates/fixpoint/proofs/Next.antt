@@ -2,9 +2,8 @@
 use Rattle.std.proofs.Common.{◌≡◌, refl, sym, ap, ◌∙◌, subst, ℕ, ◌<◌, ◌⊎◌, inl, inr, ⊎_elim, Bool, true, false, List, [], ◌∷◌, Contains, arith}
 use Rattle.std.specs.FinMap.{empty, get-empty, same_map}
 use Rattle.basics.specs.Items.{none_in, first_in, further_in as there, first_or_further}
-use Rattle.avr_model.specs.declared.assumption.Entry.{Entry}
 use Rattle.avr_model.specs.Assumptions.{has_pairs}
-use Rattle.avr_model.specs.Devices.{Program, device_of}
+use Rattle.avr_model.specs.Devices.{device_of}
 use Rattle.abs_state.specs.declared.state.AbsState.{AbsState}
 use Rattle.abs_state.proofs.AllLaws.{states_are_ordered}
 use Rattle.mask_states.specs.declared.keys.InstKey.{InstKey}
@@ -27,6 +26,7 @@ use Rattle.round_steps.specs.Notings.{blank}
 use Rattle.round_steps.specs.Joins.{KeptBut}
 use Rattle.fixpoint.specs.Progress.{IsCaller, IsLeaver, AreTrue, AreKnown, Turn}
 use Rattle.fixpoint.proofs.Aims.{own_aim, back_aim}
+use Rattle.local_rules.specs.Site.{Task}
 
 pub there_or_not : (xs : List NodeKey) (k : NodeKey) → Contains xs k ⊎ (Contains xs k → ⊥)
 there_or_not [] k = inr (none_in k)
@@ -37,14 +37,14 @@ there_or_not (x ∷ xs) k = by (there_or_not xs k) (same_node k x) refl
     by rest false e = ⊎_elim (λ i. inl (there x k xs i))
         (λ no. inr (λ i. ⊎_elim (λ is. let t = (keys_are_ordered.same_nodes k x).1 is in absurd (cc)) no (first_or_further x k xs i))) rest
 
-module _ (words : Program) (A : List Entry) where
+module _ (task : Task) where
   -- ---- what is noted stays so in a greater family without faults
 
-  module _ (f g : Family) (low : AreFormed (device_of words) (has_pairs A) f) (high : AreFormed (device_of words) (has_pairs A) g) (below : Below f g) (clean : HasNoFault words A g) where
+  module _ (f g : Family) (low : AreFormed (device_of task.flash) (has_pairs task.assumptions) f) (high : AreFormed (device_of task.flash) (has_pairs task.assumptions) g) (below : Below f g) (clean : HasNoFault task g) where
     abbrev up : (n : Node) → FamilyHas f n → Node
     up n has = with_state n (below n has).at
 
-    caller_up : (inst : InstKey) (p : Crossing) → IsCaller words A f inst p → IsCaller words A g inst p
+    caller_up : (inst : InstKey) (p : Crossing) → IsCaller task f inst p → IsCaller task g inst p
     caller_up inst p c =
         let l = below c.node c.has in
         let m = with_state c.node l.at in
@@ -52,17 +52,17 @@ module _ (words : Program) (A : List Entry) where
           node = m;
           has = l.is;
           at = c.at;
-          enters = edges_grow.enters words A c.node l.at p.kind inst p.back (low c.node c.has) (high m l.is) l.above (clean m l.is) c.enters;
+          enters = edges_grow.enters task c.node l.at p.kind inst p.back (low c.node c.has) (high m l.is) l.above (clean m l.is) c.enters;
         }
 
-    leaver_up : (inst : InstKey) (p : Crossing) → IsLeaver words A f inst p → IsLeaver words A g inst p
+    leaver_up : (inst : InstKey) (p : Crossing) → IsLeaver task f inst p → IsLeaver task g inst p
     leaver_up inst p c =
         let l = below c.node c.has in
         let m = with_state c.node l.at in
-        let w = (local_parts_are_monotone.below words A c.node.key c.node.state l.at (low c.node c.has) (high m l.is) l.above).within (clean m l.is) in
+        let w = (local_parts_are_monotone.below task c.node.key c.node.state l.at (low c.node c.has) (high m l.is) l.above).within (clean m l.is) in
         record { node = m; has = l.is; at = c.at; of = c.of; exit = sym w.exit ∙ c.exit }
 
-    entering_up : (i j : InstKey) (offset : ℕ) → Entering words A f i j offset → Entering words A g i j offset
+    entering_up : (i j : InstKey) (offset : ℕ) → Entering task f i j offset → Entering task g i j offset
     entering_up i j offset c =
         let l = below c.node c.has in
         let m = with_state c.node l.at in
@@ -73,10 +73,10 @@ module _ (words : Program) (A : List Entry) where
           at = c.at;
           way = c.way;
           back = c.back;
-          enters = edges_grow.enters words A c.node l.at c.way j c.back (low c.node c.has) (high m l.is) l.above (clean m l.is) c.enters;
+          enters = edges_grow.enters task c.node l.at c.way j c.back (low c.node c.has) (high m l.is) l.above (clean m l.is) c.enters;
         }
 
-    pub so_up : (notes : Notes) → AreTrue words A f notes → AreTrue words A g notes
+    pub so_up : (notes : Notes) → AreTrue task f notes → AreTrue task g notes
     so_up notes so = record {
       callers = λ i p h. caller_up i p (so.callers i p h);
       leavers = λ i p h. leaver_up i p (so.leavers i p h);
@@ -87,15 +87,15 @@ module _ (words : Program) (A : List Entry) where
 
   -- ---- the next turn
 
-  pub next_turn : (f g : Family) (notes : Notes) (changed : List NodeKey) → AreFormed (device_of words) (has_pairs A) f → IsNext words A f g → AreKnown words A f notes → AreOnce notes.nesting.insts
-      → KeptBut f g changed → Turn words A g changed notes
+  pub next_turn : (f g : Family) (notes : Notes) (changed : List NodeKey) → AreFormed (device_of task.flash) (has_pairs task.assumptions) f → IsNext task f g → AreKnown task f notes → AreOnce notes.nesting.insts
+      → KeptBut f g changed → Turn task g changed notes
   next_turn f g notes changed formed next known once kept = record {
     held = λ n has. ⊎_elim (λ i. inl i)
         (λ no. let was : FamilyHas f n = sym (kept n.key no) ∙ has in
         inr (record {
           faultless = known.faultless n was;
           known = known.each n was;
-          own = λ to own. let a = own_aim words A f n to was own in subst (Lands g) a.at (next.edges a.from a.edge a.has a.is);
+          own = λ to own. let a = own_aim task f n to was own in subst (Lands g) a.at (next.edges a.from a.edge a.has a.is);
         }))
         (there_or_not changed n.key);
     backs = λ n m to has there comes. ⊎_elim (λ i. inl i)
@@ -103,7 +103,7 @@ module _ (words : Program) (A : List Entry) where
         (λ neither.
         let was : FamilyHas f n = sym (kept n.key no) ∙ has in
         let were : FamilyHas f m = sym (kept m.key neither) ∙ there in
-        let a = back_aim words A f n m to was were comes in
+        let a = back_aim task f n m to was were comes in
         inr (inr (subst (Lands g) a.at (next.edges a.from a.edge a.has a.is))))
         (there_or_not changed m.key))
         (there_or_not changed n.key);
@@ -113,7 +113,7 @@ module _ (words : Program) (A : List Entry) where
 
   -- ---- the first turn
 
-  pub first_turn : (f : Family) (work : List NodeKey) → KeptBut empty f work → Turn words A f work blank
+  pub first_turn : (f : Family) (work : List NodeKey) → KeptBut empty f work → Turn task f work blank
   first_turn f work kept =
       let there : (n : Node) → FamilyHas f n → Contains work n.key = λ n has.
       ⊎_elim (λ i. i) (λ no. absurd (let never = sym (get-empty {X = AbsState} node_cmp n.key) ∙ sym (kept n.key no) ∙ has in cc)) (there_or_not work n.key) in
@@ -136,7 +136,7 @@ module _ (words : Program) (A : List Entry) where
   below_itself f n has = record { at = n.state; is = has; above = states_are_ordered.same n.state }
 
   -- a family that the round raises is not closed
-  pub not_closed : (f g : Family) → AreFormed (device_of words) (has_pairs A) f → IsNext words A f g → weight f < weight g → IsClosed words A f → ⊥
+  pub not_closed : (f g : Family) → AreFormed (device_of task.flash) (has_pairs task.assumptions) f → IsNext task f g → weight f < weight g → IsClosed task f → ⊥
   not_closed f g formed next lt closed =
       let e = families_are_their_nodes.same f g formed next.formed next.above (next.least f (below_itself f) closed) in
       let same : weight f ≡ weight g = ap weight e in
@@ -146,5 +146,5 @@ module _ (words : Program) (A : List Entry) where
   unchanged f g changed none kept =
       same_map node_total node_exact g f (λ k. kept k (λ i. none_in k (subst (λ (l : List NodeKey). Contains l k) none i)))
 
-  pub closed_then : (f g : Family) → IsNext words A f g → g ≡ f → IsClosed words A f
+  pub closed_then : (f g : Family) → IsNext task f g → g ≡ f → IsClosed task f
   closed_then f g next same n e has edge = subst (λ h. Lands h (Rattle.edge_rules.specs.Edges.target e)) same (next.edges n e has edge)

@@ -1,7 +1,5 @@
 -- The results of a round's tests.
 use Rattle.std.specs.Prelude.{ℕ, ◌≡◌, List, Option, Some}
-use Rattle.avr_model.specs.declared.assumption.Entry.{Entry}
-use Rattle.avr_model.specs.Devices.{Program}
 use Rattle.certificate.specs.declared.limit.Limit.{Limit}
 use Rattle.local_rules.specs.declared.local.Node.{Node}
 use Rattle.local_rules.specs.declared.local.NodeFault.{NodeFault}
@@ -18,6 +16,7 @@ use Rattle.round_laws.specs.Steps.{IsRoundOf, HaveOwnKeys}
 use Rattle.round_steps.specs.declared.noting.Notes.{Notes}
 use Rattle.round_steps.specs.Joins.{AreNew}
 use Rattle.fixpoint.specs.Progress.{AreKnown}
+use Rattle.local_rules.specs.Site.{Task}
 
 -- the refusal says which limit the family is above
 pub record IsTooLarge (f : Family) (r : Refusal) : Type 0 where
@@ -44,16 +43,16 @@ pub record IsVerdictTold (size : ℕ) (n : Noted) (r : Refusal) : Type 0 where
   pub is : r ≡ nesting_refusal verdict
 
 -- the refusal is that of the first test that holds
-pub record AreRoundsStopped (words : Program) (A : List Entry) (f : Family) (r : Refusal) : Type 0 where
+pub record AreRoundsStopped (task : Task) (f : Family) (r : Refusal) : Type 0 where
   pub test : Test
-  pub holds : FirstHolds words A f test
+  pub holds : FirstHolds task f test
   pub is : r ≡ refusal_of test
 
 -- No test holds; the nodes are a round of the family, none lands in it, no two have the same key, and the notes have its nodes.
-pub record IsReady (words : Program) (A : List Entry) (f : Family) (notes : Notes) (nodes : List Node) : Type 0 where
-  pub passes : PassesTests words A f
-  pub round : IsRoundOf words A f nodes
+pub record IsReady (task : Task) (f : Family) (notes : Notes) (nodes : List Node) : Type 0 where
+  pub passes : PassesTests task f
+  pub round : IsRoundOf task f nodes
   pub fresh : AreNew f nodes
   pub apart : HaveOwnKeys nodes
-  pub known : AreKnown words A f notes
+  pub known : AreKnown task f notes
   pub once : AreOnce notes.nesting.insts

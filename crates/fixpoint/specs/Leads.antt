@@ -1,7 +1,5 @@
 -- The edges that lead to each node, and the forms of nodes that follow from them.
 use Rattle.std.specs.Prelude.{ℕ, ◌+◌, ◌≡◌, ◌<◌, ◌==◌, nat_lt, if◌then◌else◌, List, [], ◌∷◌, length, Some, slice_get, slice_set, slice_index_or}
-use Rattle.avr_model.specs.declared.assumption.Entry.{Entry}
-use Rattle.avr_model.specs.Devices.{Program}
 use Rattle.abs_state.specs.declared.state.AbsState.{AbsState}
 use Rattle.mask_states.specs.declared.keys.EdgeKind.{EdgeKind}
 use Rattle.mask_states.specs.declared.keys.EdgeKind.TheVariants.{Local, Call, Interrupt, Return}
@@ -16,6 +14,7 @@ use Rattle.call_graph.specs.declared.landing.Landing.{Landing}
 use Rattle.round_rules.specs.Sparse.{IsOnlyFrom}
 use Rattle.fixpoint.specs.declared.leading.Lead.{Lead}
 use Rattle.fixpoint.specs.declared.leading.Lead.TheVariants.{Nothing, Only, More}
+use Rattle.local_rules.specs.Site.{Task}
 
 -- ---- one edge more
 
@@ -41,25 +40,25 @@ noted at leads l = slice_set leads l.at (led (lead_at leads l.at) at l.kind)
 -- ---- all edges
 
 -- an edge from one of the first nodes leads to this key
-pub record LeadsTo (words : Program) (A : List Entry) (nodes : List Node) (count : ℕ) (k : NodeKey) (from : ℕ) (e : Edge) : Type 0 where
+pub record LeadsTo (task : Task) (nodes : List Node) (count : ℕ) (k : NodeKey) (from : ℕ) (e : Edge) : Type 0 where
   pub node : Node
   pub below : from < count
   pub at : slice_get nodes from ≡ Some node
-  pub is : IsEdge words A nodes node e
+  pub is : IsEdge task nodes node e
   pub leads : e.to ≡ k
 
 -- How edges from the first nodes lead to this key: none does, only a local one from the node of this number does, or there is no only
 -- one.
-abbrev pub IsLead : Program → List Entry → List Node → ℕ → NodeKey → Lead → Type 0
-IsLead words A nodes count k Nothing = (i : ℕ) (e : Edge) → LeadsTo words A nodes count k i e → ⊥
-IsLead words A nodes count k (Only m) =
-    ((e : Edge) × LeadsTo words A nodes count k m e) × ((i : ℕ) (e : Edge) → LeadsTo words A nodes count k i e → (i ≡ m) × (e.kind ≡ Local))
-IsLead words A nodes count k More = (m : ℕ) → IsOnlyFrom words A nodes k m → ⊥
+abbrev pub IsLead : Task → List Node → ℕ → NodeKey → Lead → Type 0
+IsLead task nodes count k Nothing = (i : ℕ) (e : Edge) → LeadsTo task nodes count k i e → ⊥
+IsLead task nodes count k (Only m) =
+    ((e : Edge) × LeadsTo task nodes count k m e) × ((i : ℕ) (e : Edge) → LeadsTo task nodes count k i e → (i ≡ m) × (e.kind ≡ Local))
+IsLead task nodes count k More = (m : ℕ) → IsOnlyFrom task nodes k m → ⊥
 
 -- for each node, how edges from the first nodes lead to it
-pub record AreLeads (words : Program) (A : List Entry) (nodes : List Node) (count : ℕ) (leads : List Lead) : Type 0 where
+pub record AreLeads (task : Task) (nodes : List Node) (count : ℕ) (leads : List Lead) : Type 0 where
   pub all : length leads ≡ length nodes
-  pub each : (p : ℕ) (n : Node) → slice_get nodes p ≡ Some n → IsLead words A nodes count n.key (lead_at leads p)
+  pub each : (p : ℕ) (n : Node) → slice_get nodes p ≡ Some n → IsLead task nodes count n.key (lead_at leads p)
 
 -- ---- forms
 

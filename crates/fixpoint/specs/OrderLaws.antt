@@ -1,8 +1,7 @@
 -- Families built in any order, and how that ends.
 use Rattle.std.specs.Prelude.{ℕ, ◌≡◌, List, None, Contains}
-use Rattle.avr_model.specs.declared.assumption.Entry.{Entry}
 use Rattle.avr_model.specs.Assumptions.{has_pairs}
-use Rattle.avr_model.specs.Devices.{Program, device_of}
+use Rattle.avr_model.specs.Devices.{device_of}
 use Rattle.local_rules.specs.declared.local.Node.{Node}
 use Rattle.local_laws.specs.Laws.{AreNodesIn}
 use Rattle.round_rules.specs.Families.{Family, AreFormed, IsClosed, cells}
@@ -18,18 +17,19 @@ use Rattle.round_steps.specs.Gathers.{AreBeyond}
 use Rattle.fixpoint.specs.Progress.{AreRoundsFound}
 use Rattle.round_laws.specs.Closed.{IsMade}
 use Rattle.fixpoint.specs.Order.{WereTrue, IsUnderWay}
+use Rattle.local_rules.specs.Site.{Task}
 
 pub record OrdersEnd : Type 0 where
-  pub begins : (words : Program) (A : List Entry) (count : ℕ) → count ≡ cells (first A) → IsUnderWay words A (first A) count blank
+  pub begins : (task : Task) (count : ℕ) → count ≡ cells (first task.assumptions) → IsUnderWay task (first task.assumptions) count blank
   -- what visits of some nodes find is added to the notes
-  pub noted : (words : Program) (A : List Entry) (f : Family) (old new : Notes) (xs : List Look) → AreFormed (device_of words) (has_pairs A) f → WereTrue words A f old
-      → ((x : Look) → Contains xs x → IsLook words A f x) → AreNoted old xs new → WereTrue words A f new
+  pub noted : (task : Task) (f : Family) (old new : Notes) (xs : List Look) → AreFormed (device_of task.flash) (has_pairs task.assumptions) f → WereTrue task f old
+      → ((x : Look) → Contains xs x → IsLook task f x) → AreNoted old xs new → WereTrue task f new
   -- the targets of visited nodes are nodes of the analysis
-  pub nodes : (words : Program) (A : List Entry) (f : Family) (notes : Notes) (xs : List Look) → AreFormed (device_of words) (has_pairs A) f → WereTrue words A f notes
-      → ((x : Look) → Contains xs x → IsLook words A f x) → AreNodesIn (device_of words) (has_pairs A) (all_targets f notes xs)
+  pub nodes : (task : Task) (f : Family) (notes : Notes) (xs : List Look) → AreFormed (device_of task.flash) (has_pairs task.assumptions) f → WereTrue task f notes
+      → ((x : Look) → Contains xs x → IsLook task f x) → AreNodesIn (device_of task.flash) (has_pairs task.assumptions) (all_targets f notes xs)
   -- these are joined into the family
-  pub goes_on : (words : Program) (A : List Entry) (f : Family) (count : ℕ) (notes : Notes) (xs : List Look) (items : List Node) → IsMade words A f
-      → WereTrue words A f notes → AreOnce notes.nesting.insts → ((x : Look) → Contains xs x → IsLook words A f x) → AreBeyond (device_of words) (has_pairs A) f (all_targets f notes xs) items
-      → count ≡ cells (raised_all f items) → IsUnderWay words A (raised_all f items) count notes
+  pub goes_on : (task : Task) (f : Family) (count : ℕ) (notes : Notes) (xs : List Look) (items : List Node) → IsMade task f
+      → WereTrue task f notes → AreOnce notes.nesting.insts → ((x : Look) → Contains xs x → IsLook task f x) → AreBeyond (device_of task.flash) (has_pairs task.assumptions) f (all_targets f notes xs) items
+      → count ≡ cells (raised_all f items) → IsUnderWay task (raised_all f items) count notes
   -- if such a family is closed and no test holds on it, the rounds end there
-  pub ends : (words : Program) (A : List Entry) (f : Family) → IsMade words A f → IsClosed words A f → PassesTests words A f → AreRoundsFound words A None f
+  pub ends : (task : Task) (f : Family) → IsMade task f → IsClosed task f → PassesTests task f → AreRoundsFound task None f

@@ -1,7 +1,5 @@
 -- Invariants between rounds. Source: own.
 use Rattle.std.specs.Prelude.{ℕ, ◌+◌, ◌≡◌, ◌⊎◌, ⊤, List, [], Option, Some, None, Contains}
-use Rattle.avr_model.specs.declared.assumption.Entry.{Entry}
-use Rattle.avr_model.specs.Devices.{Program}
 use Rattle.abs_state.specs.declared.state.AbsState.{AbsState}
 use Rattle.abs_state.specs.Frames.{entered}
 use Rattle.abs_state.specs.PairsBack.{returned}
@@ -25,71 +23,72 @@ use Rattle.round_rules.specs.Refusals.{IsSolved}
 use Rattle.round_rules.specs.Solutions.{IsWithinBudget}
 use Rattle.round_steps.specs.declared.noting.Notes.{Notes}
 use Rattle.round_steps.specs.Notings.{caller, leaver}
+use Rattle.local_rules.specs.Site.{Task}
 
 -- ---- where a node leads, alone and with one that leaves what it enters
 
-pub data IsOwn (words : Program) (A : List Entry) (n : Node) : Node → Type 0 where
-  own_move : (to : Node) → IsFaultless words A n → Contains (joined_onto [] (raw_of words A n).moves) to → IsOwn words A n to
-  own_entry : (way : EdgeKind) (inst : InstKey) (back : ℕ) → Enters words A n way inst back → IsOwn words A n (record { key = entry_key inst; state = entered n.state })
+pub data IsOwn (task : Task) (n : Node) : Node → Type 0 where
+  own_move : (to : Node) → IsFaultless task n → Contains (joined_onto [] (raw_of task n).moves) to → IsOwn task n to
+  own_entry : (way : EdgeKind) (inst : InstKey) (back : ℕ) → Enters task n way inst back → IsOwn task n (record { key = entry_key inst; state = entered n.state })
 
-pub data ComesBack (words : Program) (A : List Entry) (n m : Node) : Node → Type 0 where
-  comes_back : (way : EdgeKind) (inst : InstKey) (back : ℕ) (x : Exit) (state : AbsState) → Enters words A n way inst back → m.key.inst ≡ inst → IsFaultless words A m
-      → (raw_of words A m).exit ≡ Some x → returned n.state m.state ≡ Some state → ComesBack words A n m (record { key = returned_key way n.key back x; state = state })
+pub data ComesBack (task : Task) (n m : Node) : Node → Type 0 where
+  comes_back : (way : EdgeKind) (inst : InstKey) (back : ℕ) (x : Exit) (state : AbsState) → Enters task n way inst back → m.key.inst ≡ inst → IsFaultless task m
+      → (raw_of task m).exit ≡ Some x → returned n.state m.state ≡ Some state → ComesBack task n m (record { key = returned_key way n.key back x; state = state })
 
 -- ---- what the notes say
 
 -- a node of the family enters the instance, as the crossing says
-pub record IsCaller (words : Program) (A : List Entry) (f : Family) (inst : InstKey) (p : Crossing) : Type 0 where
+pub record IsCaller (task : Task) (f : Family) (inst : InstKey) (p : Crossing) : Type 0 where
   pub node : Node
   pub has : FamilyHas f node
   pub at : node.key ≡ p.node
-  pub enters : Enters words A node p.kind inst p.back
+  pub enters : Enters task node p.kind inst p.back
 
 -- a node of the family leaves its instance, as the crossing says
-pub record IsLeaver (words : Program) (A : List Entry) (f : Family) (inst : InstKey) (p : Crossing) : Type 0 where
+pub record IsLeaver (task : Task) (f : Family) (inst : InstKey) (p : Crossing) : Type 0 where
   pub node : Node
   pub has : FamilyHas f node
   pub at : node.key ≡ p.node
   pub of : node.key.inst ≡ inst
-  pub exit : (raw_of words A node).exit ≡ Some p.exit
+  pub exit : (raw_of task node).exit ≡ Some p.exit
 
 -- the notes hold of the family
-pub record AreTrue (words : Program) (A : List Entry) (f : Family) (notes : Notes) : Type 0 where
-  pub callers : (inst : InstKey) (p : Crossing) → IsCrossing notes.callers inst p → IsCaller words A f inst p
-  pub leavers : (inst : InstKey) (p : Crossing) → IsCrossing notes.leavers inst p → IsLeaver words A f inst p
+pub record AreTrue (task : Task) (f : Family) (notes : Notes) : Type 0 where
+  pub callers : (inst : InstKey) (p : Crossing) → IsCrossing notes.callers inst p → IsCaller task f inst p
+  pub leavers : (inst : InstKey) (p : Crossing) → IsCrossing notes.leavers inst p → IsLeaver task f inst p
   pub insts : (inst : InstKey) → Contains notes.nesting.insts inst → FamilyHasInst f inst
   pub spots : (s : Spot) → Contains notes.nesting.spots s → IsSpotOf f s
-  pub entrances : (e : Entrance) → Contains notes.nesting.entrances e → Entering words A f e.from e.into e.offset
+  pub entrances : (e : Entrance) → Contains notes.nesting.entrances e → Entering task f e.from e.into e.offset
 
 -- the notes have all that the node contributes
-pub record IsKnown (words : Program) (A : List Entry) (notes : Notes) (n : Node) : Type 0 where
-  pub callers : (way : EdgeKind) (inst : InstKey) (back : ℕ) → Enters words A n way inst back
+pub record IsKnown (task : Task) (notes : Notes) (n : Node) : Type 0 where
+  pub callers : (way : EdgeKind) (inst : InstKey) (back : ℕ) → Enters task n way inst back
       → IsCrossing notes.callers inst (caller n.key (record { kind = way; inst = inst; back = back }))
-  pub leavers : (x : Exit) → (raw_of words A n).exit ≡ Some x → IsCrossing notes.leavers n.key.inst (leaver n.key x)
+  pub leavers : (x : Exit) → (raw_of task n).exit ≡ Some x → IsCrossing notes.leavers n.key.inst (leaver n.key x)
   pub inst : Contains notes.nesting.insts n.key.inst
   pub spot : (offset : ℕ) → n.key.sp ≡ Closed offset → Contains notes.nesting.spots (record { inst = n.key.inst; offset = offset })
-  pub entrances : (way : EdgeKind) (inst : InstKey) (back : ℕ) → Enters words A n way inst back
+  pub entrances : (way : EdgeKind) (inst : InstKey) (back : ℕ) → Enters task n way inst back
       → Contains notes.nesting.entrances (record { from = n.key.inst; into = inst; offset = offset_of n.key.sp })
 
 -- the notes have all nodes of a family without faults, and hold
-pub record AreKnown (words : Program) (A : List Entry) (f : Family) (notes : Notes) : Type 0 where
-  pub faultless : HasNoFault words A f
-  pub each : (n : Node) → FamilyHas f n → IsKnown words A notes n
-  pub so : AreTrue words A f notes
+pub record AreKnown (task : Task) (f : Family) (notes : Notes) : Type 0 where
+  pub faultless : HasNoFault task f
+  pub each : (n : Node) → FamilyHas f n → IsKnown task notes n
+  pub so : AreTrue task f notes
 
 -- ---- before a round
 
 -- the node needs no visit
-pub record IsHeld (words : Program) (A : List Entry) (f : Family) (notes : Notes) (n : Node) : Type 0 where
-  pub faultless : IsFaultless words A n
-  pub known : IsKnown words A notes n
-  pub own : (to : Node) → IsOwn words A n to → Lands f to
+pub record IsHeld (task : Task) (f : Family) (notes : Notes) (n : Node) : Type 0 where
+  pub faultless : IsFaultless task n
+  pub known : IsKnown task notes n
+  pub own : (to : Node) → IsOwn task n to → Lands f to
 
 -- Each node that is not in the list needs no visit, and between two such nodes returns land. If no node has a fault, the notes hold.
-pub record Turn (words : Program) (A : List Entry) (f : Family) (work : List NodeKey) (notes : Notes) : Type 0 where
-  pub held : (n : Node) → FamilyHas f n → Contains work n.key ⊎ IsHeld words A f notes n
-  pub backs : (n m to : Node) → FamilyHas f n → FamilyHas f m → ComesBack words A n m to → Contains work n.key ⊎ (Contains work m.key ⊎ Lands f to)
-  pub so : HasNoFault words A f → AreTrue words A f notes
+pub record Turn (task : Task) (f : Family) (work : List NodeKey) (notes : Notes) : Type 0 where
+  pub held : (n : Node) → FamilyHas f n → Contains work n.key ⊎ IsHeld task f notes n
+  pub backs : (n m to : Node) → FamilyHas f n → FamilyHas f m → ComesBack task n m to → Contains work n.key ⊎ (Contains work m.key ⊎ Lands f to)
+  pub so : HasNoFault task f → AreTrue task f notes
   pub once : AreOnce notes.nesting.insts
 
 -- ---- the budget
@@ -102,11 +101,11 @@ IsBudgetLeft (Some steps) None n = ⊥
 IsBudgetLeft (Some steps) (Some left) n = left + n ≡ steps
 
 -- the state of the rounds so far
-pub record RoundsProgress (words : Program) (A : List Entry) (steps left : Option ℕ) (f : Family) (count : ℕ) (work : List NodeKey) (notes : Notes) : Type 0 where
+pub record RoundsProgress (task : Task) (steps left : Option ℕ) (f : Family) (count : ℕ) (work : List NodeKey) (notes : Notes) : Type 0 where
   pub number : ℕ
-  pub comes : Comes words A number f
+  pub comes : Comes task number f
   pub budget : IsBudgetLeft steps left number
-  pub turn : Turn words A f work notes
+  pub turn : Turn task f work notes
   pub counted : count ≡ cells f
 
 -- the budget was for n rounds, and the refusal says so
@@ -114,7 +113,7 @@ abbrev pub IsSpent : Option ℕ → ℕ → Refusal → Type 0
 IsSpent steps n r = (r ≡ Spent n) × (steps ≡ Some n)
 
 -- the rounds end within the budget at this family
-pub record AreRoundsFound (words : Program) (A : List Entry) (steps : Option ℕ) (f : Family) : Type 0 where
+pub record AreRoundsFound (task : Task) (steps : Option ℕ) (f : Family) : Type 0 where
   pub number : ℕ
   pub within : IsWithinBudget steps number
-  pub solved : IsSolved words A number f
+  pub solved : IsSolved task number f

@@ -13,6 +13,7 @@ ghost use Rattle.round_steps.specs.Looks.{AreSeen};
 ghost use Rattle.round_steps.specs.Notings.{blank};
 ghost use Rattle.fixpoint.specs.Progress.{AreKnown, AreRoundsFound};
 ghost use Rattle.fixpoint.specs.Confirm.{AreKnownAt, LandAt};
+ghost use Rattle.call_graph.specs.Tasks.{task_of};
 
 use crate::checking::{check_nesting, check_size, note_seen};
 use crate::unfound::Unfound;
@@ -27,7 +28,7 @@ use std::alloc::AllocError;
 // The result of a visit of one node.
 fn look_at(task: &Task<'_>, table: &Table, key: &NodeKey) -> Result<Seen, AllocError>
     requires { AreFormed (device_of task.now.flash.now) (has_pairs task.now.assumptions.now) table.now }
-    ensures { IfOk result (λ seen. AreSeen task.now.flash.now task.now.assumptions.now table.now (key.now ∷ []) seen) }
+    ensures { IfOk result (λ seen. AreSeen (task_of task.now) table.now (key.now ∷ []) seen) }
 {
     let one = [*key];
     look_all(task, table, &one)
@@ -42,7 +43,7 @@ fn note_each(
 ) -> Result<(), Refusal>
     requires formed { AreFormed (device_of task.now.flash.now) (has_pairs task.now.assumptions.now) table.now }
     requires no_notes { notes.old ≡ blank }
-    ensures known { OnOk result (AreKnownAt task.now.flash.now task.now.assumptions.now table.now keys.now notes.new) }
+    ensures known { OnOk result (AreKnownAt (task_of task.now) table.now keys.now notes.new) }
     ensures once { OnOk result (AreOnce notes.new.nesting.insts) }
 {
     for at in 0..keys.len() {
@@ -62,8 +63,8 @@ fn check_all_edges(
     keys: &[NodeKey],
 ) -> Result<(), Unfound>
     requires formed { AreFormed (device_of task.now.flash.now) (has_pairs task.now.assumptions.now) table.now }
-    requires known { AreKnown task.now.flash.now task.now.assumptions.now table.now notes.now }
-    ensures { OnOk result (LandAt task.now.flash.now task.now.assumptions.now table.now keys.now) }
+    requires known { AreKnown (task_of task.now) table.now notes.now }
+    ensures { OnOk result (LandAt (task_of task.now) table.now keys.now) }
 {
     for at in 0..keys.len() {
         let seen = look_at(task, table, &keys[at])?;
@@ -85,11 +86,11 @@ pub fn confirm(
     notes: &mut Notes,
     keys: &[NodeKey],
 ) -> Result<(), Unfound>
-    requires made { IsMade task.now.flash.now task.now.assumptions.now table.now }
+    requires made { IsMade (task_of task.now) table.now }
     requires count { counted ≡ cells table.now }
     requires no_notes { notes.old ≡ blank }
     requires all { (k : key_type.NodeKey) (s : state_type.AbsState) → get table.now k ≡ Some s → Contains keys.now k }
-    ensures { OnOk result (AreRoundsFound task.now.flash.now task.now.assumptions.now None table.now) }
+    ensures { OnOk result (AreRoundsFound (task_of task.now) None table.now) }
 {
     check_size(table, counted)?;
     note_each(task, table, notes, keys)?;

@@ -4,6 +4,7 @@ ghost use Rattle.std.specs.Prelude.{◌≡◌, ◌≤◌, ◌<◌, length, IfOk}
 ghost use Rattle.call_graph.specs.Landings.{AreLandings};
 ghost use Rattle.round_solutions.specs.Parts.{AreForms};
 ghost use Rattle.fixpoint.specs.Leads.{lead_at, form_by, forms_from};
+ghost use Rattle.call_graph.specs.Tasks.{task_of};
 
 use crate::leading::{Lead, leads};
 use abs_state::AbsState;
@@ -48,8 +49,8 @@ fn formed(
 /// from there, else the state. No local part is computed.
 pub fn forms(task: &Task<'_>, family: Worked) -> Result<Vec<(NodeKey, NodeForm)>, AllocError>
     requires few { length family.nodes ≤ 65536 }
-    requires landings { AreLandings task.now.flash.now task.now.assumptions.now family.nodes family.landings }
-    ensures { IfOk result (λ forms. AreForms task.now.flash.now task.now.assumptions.now family.nodes forms.items) }
+    requires landings { AreLandings (task_of task.now) family.nodes family.landings }
+    ensures { IfOk result (λ forms. AreForms (task_of task.now) family.nodes forms.items) }
 {
     match leads(task, &family) {
         Ok(leads) => formed(task.alloc, family.nodes.into_vec(), leads.as_slice()),

@@ -4,6 +4,7 @@ ghost use Rattle.std.specs.Prelude.{◌≡◌, ◌<◌, ◌≤◌, fold, length,
 ghost use Rattle.call_graph.specs.declared.landing.Landing as landing_type;
 ghost use Rattle.call_graph.specs.Landings.{AreLandings};
 ghost use Rattle.fixpoint.specs.Leads.{led, noted, AreLeads};
+ghost use Rattle.call_graph.specs.Tasks.{task_of};
 
 use call_graph::{Landing, Task, Worked};
 use mask_states::EdgeKind;
@@ -48,8 +49,8 @@ fn note_all(at: u32, landings: &[Landing], leads: &mut [Lead])
 // The edges that lead to each node of a family, by its landings.
 pub(crate) fn leads(task: &Task<'_>, family: &Worked) -> Result<Vec<Lead>, AllocError>
     requires few { length family.now.nodes ≤ 65536 }
-    requires landings { AreLandings task.now.flash.now task.now.assumptions.now family.now.nodes family.now.landings }
-    ensures { IfOk result (λ leads. AreLeads task.now.flash.now task.now.assumptions.now family.now.nodes (length family.now.nodes) leads.items) }
+    requires landings { AreLandings (task_of task.now) family.now.nodes family.now.landings }
+    ensures { IfOk result (λ l. AreLeads (task_of task.now) family.now.nodes (length family.now.nodes) l.items) }
 {
     let landings = family.landings.as_slice();
     let mut leads = vec![in task.alloc; Lead::Nothing; family.nodes.count()]?;

@@ -12,6 +12,7 @@ ghost use Rattle.round_steps.specs.Notings.{blank};
 ghost use Rattle.fixpoint.specs.Progress.{AreRoundsFound};
 ghost use Rattle.fixpoint.specs.Order.{IsUnderWay};
 ghost use Rattle.fixpoint.specs.OrderLaws.{OrdersEnd};
+ghost use Rattle.call_graph.specs.Tasks.{task_of};
 
 use crate::checking::{check_nesting, check_size, note_seen};
 use crate::confirming::confirm;
@@ -43,8 +44,8 @@ fn look_on(
     notes: &mut Notes,
     key: NodeKey,
 ) -> Result<Vec<NodeKey>, Refusal>
-    requires way { IsUnderWay task.now.flash.now task.now.assumptions.now table.old counted.old notes.old }
-    ensures way { OnOk result (IsUnderWay task.now.flash.now task.now.assumptions.now table.new counted.new notes.new) }
+    requires way { IsUnderWay (task_of task.now) table.old counted.old notes.old }
+    ensures way { OnOk result (IsUnderWay (task_of task.now) table.new counted.new notes.new) }
     ensures more { IfOk result (λ changed. weight table.old + length changed.items ≤ weight table.new) }
 {
     let one = [key];
@@ -127,7 +128,7 @@ fn walk(
 ) -> Result<(), Unfound>
     requires no_nodes { table.old ≡ empty }
     requires no_notes { notes.old ≡ blank }
-    ensures { OnOk result (IsUnderWay task.now.flash.now task.now.assumptions.now table.new counted.new notes.new) }
+    ensures { OnOk result (IsUnderWay (task_of task.now) table.new counted.new notes.new) }
 {
     let first = start(task, table, counted)?;
     await_all(waiting, first)?;
@@ -151,9 +152,9 @@ fn walk(
 // Checks with new notes whether the rounds end at the family. `drop` releases the notes: a call is one step of the proof, whatever they
 // own.
 fn is_end(task: &Task<'_>, table: &Table, counted: u64) -> Result<(), Unfound>
-    requires made { IsMade task.now.flash.now task.now.assumptions.now table.now }
+    requires made { IsMade (task_of task.now) table.now }
     requires count { counted ≡ cells table.now }
-    ensures { OnOk result (AreRoundsFound task.now.flash.now task.now.assumptions.now None table.now) }
+    ensures { OnOk result (AreRoundsFound (task_of task.now) None table.now) }
 {
     let keys = table.keys(task.alloc)?;
     let mut notes = Notes::new(task.alloc);
@@ -166,7 +167,7 @@ fn is_end(task: &Task<'_>, table: &Table, counted: u64) -> Result<(), Unfound>
 // Worklist iteration from an empty family and with new notes. Returns the number of the family's cells.
 fn walked(task: &Task<'_>, table: &mut Table, most: usize) -> Result<u64, Unfound>
     requires { table.old ≡ empty }
-    ensures made { OnOk result (IsMade task.now.flash.now task.now.assumptions.now table.new) }
+    ensures made { OnOk result (IsMade (task_of task.now) table.new) }
     ensures count { IfOk result (λ counted. counted ≡ cells table.new) }
 {
     let mut notes = Notes::new(task.alloc);
@@ -184,7 +185,7 @@ fn walked(task: &Task<'_>, table: &mut Table, most: usize) -> Result<u64, Unfoun
 // Worklist iteration from an empty family to one at which the rounds end.
 fn walk_to_end(task: &Task<'_>, table: &mut Table, most: usize) -> Result<(), Unfound>
     requires { table.old ≡ empty }
-    ensures { OnOk result (AreRoundsFound task.now.flash.now task.now.assumptions.now None table.new) }
+    ensures { OnOk result (AreRoundsFound (task_of task.now) None table.new) }
 {
     let counted = walked(task, table, most)?;
     is_end(task, table, counted)?;
@@ -193,7 +194,7 @@ fn walk_to_end(task: &Task<'_>, table: &mut Table, most: usize) -> Result<(), Un
 
 /// The family at which the rounds end, found in another order with so many looks at most. An error says nothing of it.
 pub fn ordered_family(task: &Task<'_>, most: usize) -> Result<Table, Unfound>
-    ensures { IfOk result (λ f. AreRoundsFound task.now.flash.now task.now.assumptions.now None f) }
+    ensures { IfOk result (λ f. AreRoundsFound (task_of task.now) None f) }
 {
     let mut table = Table::new(task.alloc);
     walk_to_end(task, &mut table, most).and(Ok(table))
@@ -201,8 +202,8 @@ pub fn ordered_family(task: &Task<'_>, most: usize) -> Result<Table, Unfound>
 
 // The family at which the rounds end, or why they end at none within the budget, with no hurry.
 fn unhurried_family(task: &Task<'_>, steps: Option<u64>) -> Result<Table, Refusal>
-    ensures found { IfOk result (λ f. AreRoundsFound task.now.flash.now task.now.assumptions.now steps f) }
-    ensures why_not { IfErr result (λ r. AreRoundsWithout task.now.flash.now task.now.assumptions.now steps r) }
+    ensures found { IfOk result (λ f. AreRoundsFound (task_of task.now) steps f) }
+    ensures why_not { IfErr result (λ r. AreRoundsWithout (task_of task.now) steps r) }
 {
     match least_family(task, steps, None) {
         Ok(Some(table)) => Ok(table),
@@ -219,8 +220,8 @@ const TURNS: [usize; 4] = [65_536, 524_288, 4_194_304, 33_554_432];
 /// begin in a hurry; if they are late, the other order is tried, and if that is late too, the rounds again, each turn with more looks: so
 /// neither costs much more than the other. If the other order stops, the rounds go to their end.
 pub fn found_family(task: &Task<'_>, steps: Option<u64>) -> Result<Table, Refusal>
-    ensures found { IfOk result (λ f. AreRoundsFound task.now.flash.now task.now.assumptions.now steps f) }
-    ensures why_not { IfErr result (λ r. AreRoundsWithout task.now.flash.now task.now.assumptions.now steps r) }
+    ensures found { IfOk result (λ f. AreRoundsFound (task_of task.now) steps f) }
+    ensures why_not { IfErr result (λ r. AreRoundsWithout (task_of task.now) steps r) }
 {
     if steps.is_some() {
         return unhurried_family(task, steps);

@@ -13,6 +13,7 @@ ghost use Rattle.round_steps.specs.Joins.{KeptBut};
 ghost use Rattle.round_steps.specs.Notings.{blank};
 ghost use Rattle.fixpoint.specs.Progress.{Turn, IsBudgetLeft, IsSpent, AreRoundsFound};
 ghost use Rattle.fixpoint.specs.Checks.{AreRoundsStopped, IsReady};
+ghost use Rattle.call_graph.specs.Tasks.{task_of};
 
 use crate::checking::{check_nesting, check_size, note_seen};
 use call_graph::Task;
@@ -35,9 +36,9 @@ fn next_nodes(
     requires count { counted ≡ cells table.now }
     requires formed { AreFormed (device_of task.now.flash.now) (has_pairs task.now.assumptions.now) table.now }
     requires root { FamilyHasInst table.now root_inst }
-    requires turn { Turn task.now.flash.now task.now.assumptions.now table.now work.now notes.old }
-    ensures ready { IfOk result (λ nodes. IsReady task.now.flash.now task.now.assumptions.now table.now notes.new nodes.items) }
-    ensures stopped { IfErr result (λ r. r ≢ Memory → AreRoundsStopped task.now.flash.now task.now.assumptions.now table.now r) }
+    requires turn { Turn (task_of task.now) table.now work.now notes.old }
+    ensures ready { IfOk result (λ nodes. IsReady (task_of task.now) table.now notes.new nodes.items) }
+    ensures stopped { IfErr result (λ r. r ≢ Memory → AreRoundsStopped (task_of task.now) table.now r) }
 {
     check_size(table, counted)?;
     let seen = look_all(task, table, work)?;
@@ -109,9 +110,9 @@ fn go_on(
 ) -> Result<bool, Refusal>
     requires no_nodes { table.old ≡ empty }
     requires no_notes { notes.old ≡ blank }
-    ensures found { IfOk result (λ ended. ended ≡ true → AreRoundsFound task.now.flash.now task.now.assumptions.now steps table.new) }
+    ensures found { IfOk result (λ ended. ended ≡ true → AreRoundsFound (task_of task.now) steps table.new) }
     ensures late { IfOk result (λ ended. ended ≡ false → IsSome hurry) }
-    ensures why_not { IfErr result (λ r. AreRoundsWithout task.now.flash.now task.now.assumptions.now steps r) }
+    ensures why_not { IfErr result (λ r. AreRoundsWithout (task_of task.now) steps r) }
 {
     let mut counted = 0;
     let mut work = start(task, table, &mut counted)?;
@@ -139,9 +140,9 @@ pub fn least_family(
     steps: Option<u64>,
     hurry: Option<usize>,
 ) -> Result<Option<Table>, Refusal>
-    ensures found { IfOk result (λ told. IfSome told (λ f. AreRoundsFound task.now.flash.now task.now.assumptions.now steps f)) }
+    ensures found { IfOk result (λ told. IfSome told (λ f. AreRoundsFound (task_of task.now) steps f)) }
     ensures late { IfOk result (λ told. told ≡ None → IsSome hurry) }
-    ensures why_not { IfErr result (λ r. AreRoundsWithout task.now.flash.now task.now.assumptions.now steps r) }
+    ensures why_not { IfErr result (λ r. AreRoundsWithout (task_of task.now) steps r) }
 {
     let mut table = Table::new(task.alloc);
     let mut notes = Notes::new(task.alloc);

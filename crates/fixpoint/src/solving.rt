@@ -5,6 +5,7 @@ ghost use Rattle.certificate.specs.Claims.{Claim};
 ghost use Rattle.certificate.specs.Valid.{IsValid};
 ghost use Rattle.round_rules.specs.declared.refusal.Refusal.TheVariants.{Memory};
 ghost use Rattle.round_rules.specs.Solutions.{IsAnswer, IsWhyNot, IsShown};
+ghost use Rattle.call_graph.specs.Tasks.{task_of};
 
 use crate::fitting::first_misfit;
 use crate::ordering::found_family;
@@ -18,11 +19,11 @@ use round_rules::Refusal;
 /// assumption does not fit the device, else with the refusal of the rounds, with `Spent` if they end at none of the families 0 to `steps`,
 /// or if memory runs out. Without `steps`, a refusal other than running out of memory says that no certificate is valid.
 pub fn solve(task: &Task<'_>, steps: Option<u64>) -> Result<Certificate, Refusal>
-    ensures answer { IfOk result (λ c. IsAnswer task.now.flash.now task.now.assumptions.now steps c) }
-    ensures valid { IfOk result (λ c. IsValid task.now.flash.now task.now.assumptions.now c) }
-    ensures least { IfOk result (λ c. (other : Claim) → IsShown task.now.flash.now task.now.assumptions.now other → c.bound ≤ other.bound) }
-    ensures why_not { IfErr result (λ r. IsWhyNot task.now.flash.now task.now.assumptions.now steps r) }
-    ensures none { steps ≡ None → IfErr result (λ r. r ≢ Memory → (other : Claim) → IsShown task.now.flash.now task.now.assumptions.now other → ⊥) }
+    ensures answer { IfOk result (λ c. IsAnswer (task_of task.now) steps c) }
+    ensures valid { IfOk result (λ c. IsValid (task_of task.now) c) }
+    ensures least { IfOk result (λ c. (other : Claim) → IsShown (task_of task.now) other → c.bound ≤ other.bound) }
+    ensures why_not { IfErr result (λ r. IsWhyNot (task_of task.now) steps r) }
+    ensures none { steps ≡ None → IfErr result (λ r. r ≢ Memory → (c : _) → IsShown (task_of task.now) c → ⊥) }
 {
     if let Some(at) = first_misfit(task) {
         return Err(Refusal::Misfit(at));

@@ -9,6 +9,7 @@ ghost use Rattle.round_rules.specs.Refusals.{IsSolved};
 ghost use Rattle.round_rules.specs.Solutions.{IsSolution};
 ghost use Rattle.round_solutions.specs.Parts.{AreInsts};
 ghost use Rattle.fixpoint.specs.Insts.{AreSolvedNodes, AreInstsOf};
+ghost use Rattle.call_graph.specs.Tasks.{task_of};
 
 use crate::forming::forms;
 use call_graph::{Filled, Task, Worked};
@@ -42,10 +43,10 @@ fn instances(alloc: Global, graph: &Graph, composed: &Composed) -> Result<Vec<In
 
 // The assumptions, and the instances of the family at which the rounds end.
 fn heading(task: &Task<'_>, family: &Worked) -> Result<(Assumptions, Vec<Inst>), AllocError>
-    requires solved { AreSolvedNodes task.now.flash.now task.now.assumptions.now family.now.nodes }
-    requires landings { AreLandings task.now.flash.now task.now.assumptions.now family.now.nodes family.now.landings }
+    requires solved { AreSolvedNodes (task_of task.now) family.now.nodes }
+    requires landings { AreLandings (task_of task.now) family.now.nodes family.now.landings }
     ensures listed { IfOk result (λ head. head.0 ≡ task.now.assumptions.now) }
-    ensures insts { IfOk result (λ head. AreInstsOf task.now.flash.now task.now.assumptions.now family.now.nodes head.1.items) }
+    ensures insts { IfOk result (λ head. AreInstsOf (task_of task.now) family.now.nodes head.1.items) }
 {
     solved_families_are_shown();
     let ways = entered_by(task, family)?;
@@ -58,9 +59,9 @@ fn heading(task: &Task<'_>, family: &Worked) -> Result<(Assumptions, Vec<Inst>),
 
 // The certificate of the family at which the rounds end, without a schedule. Each local part is computed twice.
 pub(crate) fn certificate_of(task: &Task<'_>, table: Table) -> Result<Certificate, AllocError>
-    requires solved { (n : ℕ) × IsSolved task.now.flash.now task.now.assumptions.now n table }
+    requires solved { (n : ℕ) × IsSolved (task_of task.now) n table }
     requires of_device { All (λ e. fits_device (device_of task.now.flash.now) e ≡ true) task.now.assumptions.now }
-    ensures { IfOk result (λ c. IsSolution task.now.flash.now task.now.assumptions.now table c) }
+    ensures { IfOk result (λ c. IsSolution (task_of task.now) table c) }
 {
     solved_families_are_shown();
     // These entries are those of a valid list of assumptions.

@@ -4,7 +4,7 @@ use Rattle.std.proofs.lemmas.Bool.Decides.{nat_tests}
 use Rattle.basics.specs.Booleans.{never_both}
 use Rattle.avr_model.specs.declared.device.Device.{Device}
 use Rattle.avr_model.proofs.AllLaws.{devices_are_alike}
-use Rattle.avr_model.specs.Devices.{Program, words_of, wrapped, device_of}
+use Rattle.avr_model.specs.Devices.{words_of, wrapped, device_of}
 use Rattle.avr_model.specs.declared.assumption.Entry.{Entry}
 use Rattle.avr_model.specs.declared.instruction.Instr.{Instr}
 use Rattle.avr_model.specs.declared.choice.Choice.{Choice}
@@ -37,6 +37,7 @@ use Rattle.edge_rules.specs.Families.{RankedFamily, IsSoundFamily}
 use Rattle.edge_rules.specs.Frames.{Frame, Runs, called, interrupted, IsFine}
 use Rattle.frame_laws.proofs.Answers.{IsFineFor, StepGoesOn, answer_fine, protected_is_store, store_pushes_nothing}
 use Rattle.frame_laws.proofs.Steps.{Follow, frames_local, frames_enter, frames_return}
+use Rattle.local_rules.specs.Site.{Task}
 
 -- ---- where an interrupt may come
 
@@ -45,9 +46,9 @@ not_hung true pc r h = absurd (cc)
 not_hung false pc r h = refl
 
 -- a node without a fault isn't hung
-faultless_not_hung : (words : Program) (A : List Entry) (k : NodeKey) (s : AbsState) → (raw words A k s).faults ≡ [] → is_hung (device_of words) A k k.sp ≡ false
+faultless_not_hung : (task : Task) (k : NodeKey) (s : AbsState) → (raw task k s).faults ≡ [] → is_hung (device_of task.flash) task.assumptions k k.sp ≡ false
 unfolding raw
-faultless_not_hung words A k s h = not_hung (is_hung (device_of words) A k k.sp) k.pc _ h
+faultless_not_hung task k s h = not_hung (is_hung (device_of task.flash) task.assumptions k k.sp) k.pc _ h
 
 all_four : (a b c d : Bool) → (a && b && not c && d) ≡ true → (a ≡ true) × (b ≡ true) × (c ≡ false) × (d ≡ true)
 all_four a b c d h = (grind arith, grind arith, grind arith, grind arith)
@@ -75,101 +76,101 @@ flag_cleared : (sreg : ℕ) → flag (sreg % 128) 7 ≡ false
 flag_cleared sreg = grind (arith, nat_tests)
 
 -- the goal of an answer, if the state is a machine's
-fine_if : (words : Program) (A : List Entry) (f : RankedFamily) (c : Choice) (g : Frame) (gs : List Frame) (a : Answer) → ((n : State) → a ≡ Done n → IsMachine n)
-    → IsFineFor (Follow words A f c g gs) a → IsFine words A f c g gs a
-fine_if words A f c g gs Illegal machine h = tt
-fine_if words A f c g gs (Undefined pc) machine h = h
-fine_if words A f c g gs (Overflow pc) machine h = h
-fine_if words A f c g gs (Flagged flag) machine h = tt
-fine_if words A f c g gs (Done n) machine h = h (machine n refl)
+fine_if : (task : Task) (f : RankedFamily) (c : Choice) (g : Frame) (gs : List Frame) (a : Answer) → ((n : State) → a ≡ Done n → IsMachine n)
+    → IsFineFor (Follow task f c g gs) a → IsFine task f c g gs a
+fine_if task f c g gs Illegal machine h = tt
+fine_if task f c g gs (Undefined pc) machine h = h
+fine_if task f c g gs (Overflow pc) machine h = h
+fine_if task f c g gs (Flagged flag) machine h = tt
+fine_if task f c g gs (Done n) machine h = h (machine n refl)
 
-module _ (cover : LocalPartsCover) (machines : MachinesStay) (live : LiveBytesStay) (words : Program) (A : List Entry) (f : RankedFamily) (sized : AreWords words) (sound : IsSoundFamily words A f) where
-  module _ (m : State) (g : Frame) (gs : List Frame) (runs : Runs words A f m g gs) where
-    faultless : IsFaultless words A g.node
+module _ (cover : LocalPartsCover) (machines : MachinesStay) (live : LiveBytesStay) (task : Task) (f : RankedFamily) (sized : AreWords task.flash) (sound : IsSoundFamily task f) where
+  module _ (m : State) (g : Frame) (gs : List Frame) (runs : Runs task f m g gs) where
+    faultless : IsFaultless task g.node
     faultless = sound.faultless g.node runs.present
 
     module _ (b1 b2 : ℕ) where
       -- a called word is in the device's flash
-      calls_inside : (site : CallSite) → Contains (raw_of words A g.node).calls site → wrapped m.device site.entry ≡ site.entry
+      calls_inside : (site : CallSite) → Contains (raw_of task g.node).calls site → wrapped m.device site.entry ≡ site.entry
       calls_inside site member =
           devices_are_alike.same m.device site.entry
-          (subst (λ device. site.entry < words_of device) (sym runs.device) ((local_parts_fit.fit words A g.node.key g.node.state).calls site member).0)
+          (subst (λ device. site.entry < words_of device) (sym runs.device) ((local_parts_fit.fit task g.node.key g.node.state).calls site member).0)
 
-      follows_on : (guarded : Bool) (e : Effect) → Follows (reads_masks (device_of words) A) m g.origin g.node.key guarded b1 b2 e (raw_of words A g.node) → StepGoesOn (Follow words A f (Go b1 b2) g gs) m guarded e
-      follows_on guarded e (stays to member inst lands) = frames_local live words A f sound m g gs runs b1 b2 guarded e to faultless member inst lands
+      follows_on : (guarded : Bool) (e : Effect) → Follows (reads_masks (device_of task.flash) task.assumptions) m g.origin g.node.key guarded b1 b2 e (raw_of task g.node) → StepGoesOn (Follow task f (Go b1 b2) g gs) m guarded e
+      follows_on guarded e (stays to member inst lands) = frames_local live task f sound m g gs runs b1 b2 guarded e to faultless member inst lands
       follows_on guarded e (calls offset site member form on same) =
           let k = g.node.key in
-          subst (λ b. StepGoesOn (Follow words A f (Go b1 b2) g gs) m b e) (sym on)
-          (subst (StepGoesOn (Follow words A f (Go b1 b2) g gs) m true) (sym same)
-          (frames_enter live words A f sound m g gs runs kind.Call (called_inst k site.entry) site.back offset form (by_call offset site faultless form member)
+          subst (λ b. StepGoesOn (Follow task f (Go b1 b2) g gs) m b e) (sym on)
+          (subst (StepGoesOn (Follow task f (Go b1 b2) g gs) m true) (sym same)
+          (frames_enter live task f sound m g gs runs kind.Call (called_inst k site.entry) site.back offset form (by_call offset site faultless form member)
           site.entry m.sreg m.enables (calls_inside site member) refl runs.running.place.i runs.running.place.enables
           (Go b1 b2) (λ state above. called b1 b2 site state _ faultless member above)))
-      follows_on guarded e (leaves x exit kind form is) = frames_return live words A f sound m g gs runs b1 b2 guarded e x faultless exit form is kind
+      follows_on guarded e (leaves x exit kind form is) = frames_return live task f sound m g gs runs b1 b2 guarded e x faultless exit form is kind
 
       -- an instruction with its effect
-      answers : (instr : Instr) → CoversStep words A m g.origin g.node.key b1 b2 (Some instr) (raw_of words A g.node) → IsFineFor (Follow words A f (Go b1 b2) g gs) (go words A m (Some instr) b1 b2)
+      answers : (instr : Instr) → CoversStep task m g.origin g.node.key b1 b2 (Some instr) (raw_of task g.node) → IsFineFor (Follow task f (Go b1 b2) g gs) (go task.flash task.assumptions m (Some instr) b1 b2)
       answers instr covered =
-          let e = effect_of words m instr b1 b2 in
-          let guarded = not (is_scratch words m.pc) in
-          let on : protected_write words A m.pc instr e ≡ None → unlisted_transfer A m.pc instr e ≡ None → StepGoesOn (Follow words A f (Go b1 b2) g gs) m guarded e =
+          let e = effect_of task.flash m instr b1 b2 in
+          let guarded = not (is_scratch task.flash m.pc) in
+          let on : protected_write task.flash task.assumptions m.pc instr e ≡ None → unlisted_transfer task.assumptions m.pc instr e ≡ None → StepGoesOn (Follow task f (Go b1 b2) g gs) m guarded e =
           λ protected listed. follows_on guarded e (covered faultless (record { protected = protected; listed = listed })) in
-          answer_fine (Follow words A f (Go b1 b2) g gs) m.pc (after m guarded e) (all_inside m.device e.pushes) (live_write m.memory (e.stores ++ e.pushes)) (protected_write words A m.pc instr e) (unlisted_transfer A m.pc instr e)
-          (λ listed. inside_by (protected_write words A m.pc instr e) refl
+          answer_fine (Follow task f (Go b1 b2) g gs) m.pc (after m guarded e) (all_inside m.device e.pushes) (live_write m.memory (e.stores ++ e.pushes)) (protected_write task.flash task.assumptions m.pc instr e) (unlisted_transfer task.assumptions m.pc instr e)
+          (λ listed. inside_by (protected_write task.flash task.assumptions m.pc instr e) refl
           (λ protected. (on protected listed).inside)
-          (λ a is. ap (all_inside m.device) (store_pushes_nothing words m instr b1 b2 (protected_is_store words A m.pc instr e a is))))
+          (λ a is. ap (all_inside m.device) (store_pushes_nothing task.flash m instr b1 b2 (protected_is_store task m.pc instr e a is))))
           (λ missed protected listed. (on protected listed).done missed)
         where
           inside_by : {P : Type 0} (p : Option ℕ) {q : Option ℕ} → q ≡ p → (q ≡ None → P) → ((a : ℕ) → q ≡ Some a → P) → P
           inside_by None is none some = none is
           inside_by (Some a) is none some = some a is
 
-      goes : (o : Option Instr) → CoversStep words A m g.origin g.node.key b1 b2 o (raw_of words A g.node) → IsFineFor (Follow words A f (Go b1 b2) g gs) (go words A m o b1 b2)
+      goes : (o : Option Instr) → CoversStep task m g.origin g.node.key b1 b2 o (raw_of task g.node) → IsFineFor (Follow task f (Go b1 b2) g gs) (go task.flash task.assumptions m o b1 b2)
       goes None covered = absurd (covered faultless)
       goes (Some instr) covered = answers instr covered
 
     -- what holds of the machine's device holds of the image's
-    on_words : (P : Device → Type 0) → P m.device → P (device_of words)
+    on_words : (P : Device → Type 0) → P m.device → P (device_of task.flash)
     on_words P h = subst P runs.device h
 
-    vector_is : (v : ℕ) → is_enabled m.device m.enables v ≡ true → wrapped m.device (vector_word m.device v) ≡ vector_word (device_of words) v
+    vector_is : (v : ℕ) → is_enabled m.device m.enables v ≡ true → wrapped m.device (vector_word m.device v) ≡ vector_word (device_of task.flash) v
     vector_is v enabled =
         devices_are_alike.same m.device (vector_word m.device v) (devices_are_alike.vectors m.device v (vector_small m.device m.enables v enabled))
         ∙ ap (λ device. vector_word device v) runs.device
 
     -- the entry of an interrupt that may be taken
-    entered_by : (v : ℕ) (clears : Bool) → (offset : ℕ) × (g.node.key.sp ≡ Closed offset) → g.node.key.i ≡ true → g.node.key.delay ≡ false → is_enabled (device_of words) g.node.key.masks v ≡ true
-        → is_never A (vector_word (device_of words) v) ≡ false → (not clears || (v == watchdog (device_of words))) ≡ true → is_enabled m.device m.enables v ≡ true
-        → StepGoesOn (Follow words A f (Take v clears) g gs) m true (entering m v clears)
+    entered_by : (v : ℕ) (clears : Bool) → (offset : ℕ) × (g.node.key.sp ≡ Closed offset) → g.node.key.i ≡ true → g.node.key.delay ≡ false → is_enabled (device_of task.flash) g.node.key.masks v ≡ true
+        → is_never task.assumptions (vector_word (device_of task.flash) v) ≡ false → (not clears || (v == watchdog (device_of task.flash))) ≡ true → is_enabled m.device m.enables v ≡ true
+        → StepGoesOn (Follow task f (Take v clears) g gs) m true (entering m v clears)
     entered_by v clears closed i delay enabled allowed clearable on =
         let k = g.node.key in
         let place = runs.running.place in
-        let enters : Enters words A g.node (kind.Interrupt v clears) (vector_inst words k v clears) k.pc = by_interrupt closed.0 v clears faultless closed.1 i delay enabled allowed clearable in
-        subst (λ pc. StepGoesOn (Follow words A f (Take v clears) g gs) m true (record (entering m v clears) { pushes = way_back m.sp pc })) (sym place.pc)
-        (frames_enter live words A f sound m g gs runs (kind.Interrupt v clears) (vector_inst words k v clears) k.pc closed.0 closed.1 enters
-        (vector_word m.device v) (m.sreg % 128) (enables_taken m.device m.enables clears) (vector_is v on) (omega arith) (flag_cleared m.sreg) (on_words (λ device. EnablesAre (reads_masks (device_of words) A) (enables_taken m.device m.enables clears) (enables_taken device k.masks clears))
-        (taken_both (reads_masks (device_of words) A) m.device m.enables k.masks clears place.enables))
+        let enters : Enters task g.node (kind.Interrupt v clears) (vector_inst task.flash k v clears) k.pc = by_interrupt closed.0 v clears faultless closed.1 i delay enabled allowed clearable in
+        subst (λ pc. StepGoesOn (Follow task f (Take v clears) g gs) m true (record (entering m v clears) { pushes = way_back m.sp pc })) (sym place.pc)
+        (frames_enter live task f sound m g gs runs (kind.Interrupt v clears) (vector_inst task.flash k v clears) k.pc closed.0 closed.1 enters
+        (vector_word m.device v) (m.sreg % 128) (enables_taken m.device m.enables clears) (vector_is v on) (omega arith) (flag_cleared m.sreg) (on_words (λ device. EnablesAre (reads_masks (device_of task.flash) task.assumptions) (enables_taken m.device m.enables clears) (enables_taken device k.masks clears))
+        (taken_both (reads_masks (device_of task.flash) task.assumptions) m.device m.enables k.masks clears place.enables))
         (Take v clears) (λ state above. interrupted v clears state _ enters above))
 
-    taken : (v : ℕ) (clears t : Bool) → may_take m v clears ≡ t → IsFineFor (Follow words A f (Take v clears) g gs) (if t then take A m (entering m v clears) else Illegal)
+    taken : (v : ℕ) (clears t : Bool) → may_take m v clears ≡ t → IsFineFor (Follow task f (Take v clears) g gs) (if t then take task.assumptions m (entering m v clears) else Illegal)
     taken v clears false legal = tt
     taken v clears true legal =
         let k = g.node.key in
         let place = runs.running.place in
         let all = all_four (is_enabled m.device m.enables v) (i_flag m) m.delay (not clears || (v == watchdog m.device)) legal in
-        let enabled : is_enabled (device_of words) k.masks v ≡ true = on_words (λ device. is_enabled device k.masks v ≡ true) (enabled_too (reads_masks (device_of words) A) m.device m.enables k.masks v place.enables all.0) in
+        let enabled : is_enabled (device_of task.flash) k.masks v ≡ true = on_words (λ device. is_enabled device k.masks v ≡ true) (enabled_too (reads_masks (device_of task.flash) task.assumptions) m.device m.enables k.masks v place.enables all.0) in
         let i : k.i ≡ true = sym place.i ∙ all.1 in
         let delay : k.delay ≡ false = sym place.delay ∙ all.2 in
         let e = entering m v clears in
-        let unlined : never_target A e.pc ≡ None → is_never A (vector_word (device_of words) v) ≡ false =
-        λ none. subst (λ (word : ℕ). is_never A word ≡ false) (vector_is v all.0) (not_never A e.pc none) in
-        let on : is_never A (vector_word (device_of words) v) ≡ false → StepGoesOn (Follow words A f (Take v clears) g gs) m true e =
-        λ allowed. entered_by v clears (closed_where_taken (device_of words) A k v k.sp refl i delay enabled allowed (faultless_not_hung words A k g.node.state faultless)) i delay enabled allowed (on_words (λ device. (not clears || (v == watchdog device)) ≡ true) all.3) all.0 in
-        answer_fine (Follow words A f (Take v clears) g gs) m.pc (after m true e) (all_inside m.device e.pushes) (live_write m.memory e.pushes) None (never_target A e.pc)
+        let unlined : never_target task.assumptions e.pc ≡ None → is_never task.assumptions (vector_word (device_of task.flash) v) ≡ false =
+        λ none. subst (λ (word : ℕ). is_never task.assumptions word ≡ false) (vector_is v all.0) (not_never task.assumptions e.pc none) in
+        let on : is_never task.assumptions (vector_word (device_of task.flash) v) ≡ false → StepGoesOn (Follow task f (Take v clears) g gs) m true e =
+        λ allowed. entered_by v clears (closed_where_taken (device_of task.flash) task.assumptions k v k.sp refl i delay enabled allowed (faultless_not_hung task k g.node.state faultless)) i delay enabled allowed (on_words (λ device. (not clears || (v == watchdog device)) ≡ true) all.3) all.0 in
+        answer_fine (Follow task f (Take v clears) g gs) m.pc (after m true e) (all_inside m.device e.pushes) (live_write m.memory e.pushes) None (never_target task.assumptions e.pc)
         (λ none. (on (unlined none)).inside) (λ missed _ none. (on (unlined none)).done missed)
 
-    owed : (c : Choice) → HasBytes c → IsFineFor (Follow words A f c g gs) (step words A m c)
-    owed (Go b1 b2) bytes = goes b1 b2 (instruction_at words m.pc) (cover.covered words A m g.origin g.node.key g.node.state b1 b2 sized runs.device runs.running bytes.0 bytes.1)
+    owed : (c : Choice) → HasBytes c → IsFineFor (Follow task f c g gs) (step task.flash task.assumptions m c)
+    owed (Go b1 b2) bytes = goes b1 b2 (instruction_at task.flash m.pc) (cover.covered task m g.origin g.node.key g.node.state b1 b2 sized runs.device runs.running bytes.0 bytes.1)
     owed (Take v clears) bytes = taken v clears (may_take m v clears) refl
 
-    pub fine : (c : Choice) → HasBytes c → IsFine words A f c g gs (step words A m c)
-    fine c bytes = fine_if words A f c g gs (step words A m c) (λ n done. machines.step words A m n c sized runs.running.machine bytes done) (owed c bytes)
+    pub fine : (c : Choice) → HasBytes c → IsFine task f c g gs (step task.flash task.assumptions m c)
+    fine c bytes = fine_if task f c g gs (step task.flash task.assumptions m c) (λ n done. machines.step task m n c sized runs.running.machine bytes done) (owed c bytes)

@@ -1,7 +1,6 @@
 -- Suspended frames: memory that keeps them, and the needs above their bases.
 use Rattle.std.proofs.Common.{◌≡◌, ◌≢◌, ℕ, ◌+◌, ◌≤◌, List, [], ◌∷◌, ap, ◌∙◌, arith}
-use Rattle.avr_model.specs.Devices.{Program, ramend, device_of}
-use Rattle.avr_model.specs.declared.assumption.Entry.{Entry}
+use Rattle.avr_model.specs.Devices.{ramend, device_of}
 use Rattle.avr_model.specs.State.{Memory}
 use Rattle.sp_domain.specs.Tags.{Origin}
 use Rattle.abs_state.specs.Laws.{Keeps}
@@ -14,30 +13,31 @@ use Rattle.local_rules.specs.declared.local.Node.{Node}
 use Rattle.edge_rules.specs.Edges.{Enters, by_call, by_interrupt}
 use Rattle.edge_rules.specs.Families.{RankedFamily, IsSoundFamily}
 use Rattle.edge_rules.specs.Frames.{Frame, IsLeft, AreLeft}
+use Rattle.local_rules.specs.Site.{Task}
 
-pub not_root : {words : Program} {A : List Entry} {n : Node} {way : EdgeKind} {inst : InstKey} {back : ℕ} → Enters words A n way inst back → inst.kind ≢ Root
+pub not_root : {task : Task} {n : Node} {way : EdgeKind} {inst : InstKey} {back : ℕ} → Enters task n way inst back → inst.kind ≢ Root
 not_root (by_call offset site faultless form member) = λ e. cc
 not_root (by_interrupt offset v clears faultless form i delay enabled allowed clearable) = λ e. cc
 
-module _ (words : Program) (A : List Entry) (f : RankedFamily) where
+module _ (task : Task) (f : RankedFamily) where
   -- the root's frame is the last
-  pub root_base : (memory : Memory) (gs : List Frame) (inst : InstKey) (o : Origin) → AreLeft words A f memory gs inst o → inst.kind ≡ Root → o.base ≡ ramend (device_of words)
+  pub root_base : (memory : Memory) (gs : List Frame) (inst : InstKey) (o : Origin) → AreLeft task f memory gs inst o → inst.kind ≡ Root → o.base ≡ ramend (device_of task.flash)
   root_base memory [] inst o l e = l.1
   root_base memory (g ∷ gs) inst o l e = absurd (not_root l.0.enters e)
 
-  module _ (sound : IsSoundFamily words A f) where
+  module _ (sound : IsSoundFamily task f) where
     -- the frames above a base, and the need of its instance, are within the bound
-    pub within : (memory : Memory) (gs : List Frame) (inst : InstKey) (o : Origin) → AreLeft words A f memory gs inst o → ramend (device_of words) + f.need_of inst ≤ o.base + f.bound
+    pub within : (memory : Memory) (gs : List Frame) (inst : InstKey) (o : Origin) → AreLeft task f memory gs inst o → ramend (device_of task.flash) + f.need_of inst ≤ o.base + f.bound
     within memory [] inst o l = omega (arith, ap f.need_of l.0, l.1, sound.bounded)
     within memory (g ∷ gs) inst o l =
         omega (arith, within memory gs g.node.key.inst g.origin l.1, l.0.place, ap offset_of l.0.closed, sound.needs g.node l.0.way inst l.0.back l.0.present l.0.enters)
 
-    pub base_inside : (memory : Memory) (gs : List Frame) (inst : InstKey) (o : Origin) → AreLeft words A f memory gs inst o → o.base ≤ ramend (device_of words)
+    pub base_inside : (memory : Memory) (gs : List Frame) (inst : InstKey) (o : Origin) → AreLeft task f memory gs inst o → o.base ≤ ramend (device_of task.flash)
     base_inside memory [] inst o l = omega (arith, l.1)
     base_inside memory (g ∷ gs) inst o l = omega (arith, base_inside memory gs g.node.key.inst g.origin l.1, l.0.place)
 
     module _ (old new : Memory) (floor : ℕ) (kept : Keeps old new floor) where
-      is_left_kept : (g : Frame) (inst : InstKey) (o : Origin) → floor ≤ o.base → IsLeft words A f old g inst o → IsLeft words A f new g inst o
+      is_left_kept : (g : Frame) (inst : InstKey) (o : Origin) → floor ≤ o.base → IsLeft task f old g inst o → IsLeft task f new g inst o
       is_left_kept g inst o le l =
           record {
             present = l.present;
@@ -61,6 +61,6 @@ module _ (words : Program) (A : List Entry) (f : RankedFamily) where
           }
 
       -- frames above the floor are kept
-      pub left_kept : (gs : List Frame) (inst : InstKey) (o : Origin) → floor ≤ o.base → AreLeft words A f old gs inst o → AreLeft words A f new gs inst o
+      pub left_kept : (gs : List Frame) (inst : InstKey) (o : Origin) → floor ≤ o.base → AreLeft task f old gs inst o → AreLeft task f new gs inst o
       left_kept [] inst o le l = l
       left_kept (g ∷ gs) inst o le l = (is_left_kept g inst o le l.0, left_kept gs g.node.key.inst g.origin (omega (arith, l.0.place)) l.1)

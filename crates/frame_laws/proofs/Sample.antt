@@ -35,6 +35,7 @@ use Rattle.edge_rules.specs.Edges.{raw_of, IsFaultless, Enters, by_call, by_inte
 use Rattle.edge_rules.specs.Families.{IsCovered, IsSoundFamily}
 use Rattle.edge_rules.specs.Roots.{root_by}
 use Rattle.edge_rules.specs.Examples.{sample, callee, top, at_call, at_loop, at_return, family, plain_exit, call_leads, loop_leads, return_leads}
+use Rattle.local_rules.specs.Site.{bare}
 
 -- ---- states
 
@@ -88,17 +89,17 @@ each P a b c n h =
 
 -- ---- entries
 
-call_enters : (P : InstKey → ℕ → Type 0) → P callee 1 → (way : EdgeKind) (inst : InstKey) (back : ℕ) → Enters sample [] at_call way inst back → P inst back
+call_enters : (P : InstKey → ℕ → Type 0) → P callee 1 → (way : EdgeKind) (inst : InstKey) (back : ℕ) → Enters (bare sample) at_call way inst back → P inst back
 call_enters P p _ _ _ (by_call offset s faultless form member) =
     let e : s ≡ site 2 1 = only_one_in (site 2 1) s (subst (λ (r : Raw). Contains r.calls s) call_leads member) in
     subst (λ (x : CallSite). P (called_inst at_call.key x.entry) x.back) (sym e) p
 call_enters P p _ _ _ (by_interrupt offset v clears faultless form i delay enabled allowed clearable) = absurd (cc)
 
-loop_enters : (way : EdgeKind) (inst : InstKey) (back : ℕ) → Enters sample [] at_loop way inst back → ⊥
+loop_enters : (way : EdgeKind) (inst : InstKey) (back : ℕ) → Enters (bare sample) at_loop way inst back → ⊥
 loop_enters _ _ _ (by_call offset s faultless form member) = none_in s (subst (λ (r : Raw). Contains r.calls s) loop_leads member)
 loop_enters _ _ _ (by_interrupt offset v clears faultless form i delay enabled allowed clearable) = cc
 
-return_enters : (way : EdgeKind) (inst : InstKey) (back : ℕ) → Enters sample [] at_return way inst back → ⊥
+return_enters : (way : EdgeKind) (inst : InstKey) (back : ℕ) → Enters (bare sample) at_return way inst back → ⊥
 return_enters _ _ _ (by_call offset s faultless form member) = none_in s (subst (λ (r : Raw). Contains r.calls s) return_leads member)
 return_enters _ _ _ (by_interrupt offset v clears faultless form i delay enabled allowed clearable) = cc
 
@@ -115,10 +116,10 @@ no_pick kind.Return = refl
 
 -- the return goes to the word after the call
 return_covered : (way : EdgeKind) (inst : InstKey) (back : ℕ) → inst ≡ callee → back ≡ 1 → (leaver : Node) → Contains family.nodes leaver → leaver.key.inst ≡ inst → (x : Exit) (s : AbsState)
-    → (raw_of sample [] leaver).exit ≡ Some x → returned top leaver.state ≡ Some s → IsCovered family.nodes (record { key = returned_key way at_call.key back x; state = s })
+    → (raw_of (bare sample) leaver).exit ≡ Some x → returned top leaver.state ≡ Some s → IsCovered family.nodes (record { key = returned_key way at_call.key back x; state = s })
 return_covered way inst back inst_is back_is =
     each
-    (λ leaver. leaver.key.inst ≡ inst → (x : Exit) (s : AbsState) → (raw_of sample [] leaver).exit ≡ Some x → returned top leaver.state ≡ Some s
+    (λ leaver. leaver.key.inst ≡ inst → (x : Exit) (s : AbsState) → (raw_of (bare sample) leaver).exit ≡ Some x → returned top leaver.state ≡ Some s
     → IsCovered family.nodes (record { key = returned_key way at_call.key back x; state = s }))
     (λ same x s exit is. absurd (let k = ap (λ (i : InstKey). i.kind) (same ∙ inst_is) in cc))
     (λ same x s exit is. absurd (let k = ap (λ (i : InstKey). i.kind) (same ∙ inst_is) in cc))
@@ -133,12 +134,12 @@ no_moves : (to : Node) (r : Raw) → r.moves ≡ [] → Contains (joined_onto []
 unfolding joined_onto
 no_moves to r none member = none_in to (subst (λ (ns : List Node). Contains (joined_onto [] ns) to) none member)
 
-one_move : (to : Node) → Contains (joined_onto [] (raw_of sample [] at_loop).moves) to → to ≡ at_loop
+one_move : (to : Node) → Contains (joined_onto [] (raw_of (bare sample) at_loop).moves) to → to ≡ at_loop
 unfolding joined_onto placed
 one_move to member = only_one_in at_loop to (subst (λ (r : Raw). Contains (joined_onto [] r.moves) to) loop_leads member)
 
-call_edges : (e : Edge) → IsEdge sample [] family.nodes at_call e → IsCovered family.nodes (target e)
-call_edges _ (moving to faultless member) = absurd (no_moves to (raw_of sample [] at_call) (ap (λ (r : Raw). r.moves) call_leads) member)
+call_edges : (e : Edge) → IsEdge (bare sample) family.nodes at_call e → IsCovered family.nodes (target e)
+call_edges _ (moving to faultless member) = absurd (no_moves to (raw_of (bare sample) at_call) (ap (λ (r : Raw). r.moves) call_leads) member)
 call_edges _ (entering way inst back enters) =
     call_enters (λ i b. IsCovered family.nodes (record { key = entry_key i; state = entered top }))
     record { state = entered top; present = (2, omega arith, refl); above = states_are_ordered.same (entered top) } way inst back enters
@@ -146,13 +147,13 @@ call_edges _ (returning way inst back leaver x state enters present same faultle
     let both = call_enters (λ i b. (i ≡ callee) × (b ≡ 1)) (refl, refl) way inst back enters in
     return_covered way inst back both.0 both.1 leaver present same x state exit is
 
-loop_edges : (e : Edge) → IsEdge sample [] family.nodes at_loop e → IsCovered family.nodes (target e)
+loop_edges : (e : Edge) → IsEdge (bare sample) family.nodes at_loop e → IsCovered family.nodes (target e)
 loop_edges _ (moving to faultless member) = subst (IsCovered family.nodes) (sym (one_move to member)) (covered_by_loop top top_formed)
 loop_edges _ (entering way inst back enters) = absurd (loop_enters way inst back enters)
 loop_edges _ (returning way inst back leaver x state enters present same faultless exit is) = absurd (loop_enters way inst back enters)
 
-return_edges : (e : Edge) → IsEdge sample [] family.nodes at_return e → IsCovered family.nodes (target e)
-return_edges _ (moving to faultless member) = absurd (no_moves to (raw_of sample [] at_return) (ap (λ (r : Raw). r.moves) return_leads) member)
+return_edges : (e : Edge) → IsEdge (bare sample) family.nodes at_return e → IsCovered family.nodes (target e)
+return_edges _ (moving to faultless member) = absurd (no_moves to (raw_of (bare sample) at_return) (ap (λ (r : Raw). r.moves) return_leads) member)
 return_edges _ (entering way inst back enters) = absurd (return_enters way inst back enters)
 return_edges _ (returning way inst back leaver x state enters present same faultless exit is) = absurd (return_enters way inst back enters)
 
@@ -169,21 +170,21 @@ sample_small : 2 ≤ size_of (device_of sample)
 unfolding device_row
 sample_small = omega arith
 
-pub the_sample_is_sound : IsSoundFamily sample [] family
+pub the_sample_is_sound : IsSoundFamily (bare sample) family
 the_sample_is_sound = record {
   formed = each (λ n. IsNodeIn (device_of sample) (has_pairs []) n.key n.state)
       record { word = omega arith; small = omega arith; masks = pow_pos (enable_count (device_of sample)); fits = tt; pick = tt; formed = top_formed; tags = tags_stay_fit.less root top (top_above root reset_stands.formed) tags_stay_fit.at_reset; carry_bytes = tt; untagged = λ k. top_untagged; mode = sym no_pairs; hulls = tt }
       record { word = omega arith; small = omega arith; masks = pow_pos (enable_count (device_of sample)); fits = tt; pick = tt; formed = top_formed; tags = tags_stay_fit.less root top (top_above root reset_stands.formed) tags_stay_fit.at_reset; carry_bytes = tt; untagged = λ k. top_untagged; mode = sym no_pairs; hulls = tt }
       record { word = omega arith; small = omega arith; masks = pow_pos (enable_count (device_of sample)); fits = tt; pick = tt; formed = entries_are_true.formed top 0 top_formed; tags = (tags_stay_fit.at_entry top).0; carry_bytes = tt; untagged = λ k. absurd (cc); mode = sym no_pairs; hulls = tt };
   reset = record { state = top; present = (0, omega arith, refl); above = subst (λ b. IsStateWithin (root_by b) top) (sym no_pairs) (top_above root reset_stands.formed) };
-  faultless = each (λ n. IsFaultless sample [] n)
+  faultless = each (λ n. IsFaultless (bare sample) n)
       (ap (λ (r : Raw). r.faults) call_leads) (ap (λ (r : Raw). r.faults) loop_leads) (ap (λ (r : Raw). r.faults) return_leads);
-  edges = λ n e h. each (λ x. IsEdge sample [] family.nodes x e → IsCovered family.nodes (target e)) (call_edges e) (loop_edges e) (return_edges e) n h;
-  ranks = λ n way inst back h. each (λ x. Enters sample [] x way inst back → family.rank_of inst < family.rank_of x.key.inst)
+  edges = λ n e h. each (λ x. IsEdge (bare sample) family.nodes x e → IsCovered family.nodes (target e)) (call_edges e) (loop_edges e) (return_edges e) n h;
+  ranks = λ n way inst back h. each (λ x. Enters (bare sample) x way inst back → family.rank_of inst < family.rank_of x.key.inst)
       (call_enters (λ i b. family.rank_of i < 1) (omega arith) way inst back) (λ e. absurd (loop_enters way inst back e)) (λ e. absurd (return_enters way inst back e)) n h;
   offsets = λ n offset h. each (λ x. x.key.sp ≡ Closed offset → offset ≤ family.need_of x.key.inst)
       (λ e. omega (arith, offset_is offset e)) (λ e. omega (arith, offset_is offset e)) (λ e. omega (arith, offset_is offset e)) n h;
-  needs = λ n way inst back h. each (λ x. Enters sample [] x way inst back → offset_of x.key.sp + 2 + family.need_of inst ≤ family.need_of x.key.inst)
+  needs = λ n way inst back h. each (λ x. Enters (bare sample) x way inst back → offset_of x.key.sp + 2 + family.need_of inst ≤ family.need_of x.key.inst)
       (call_enters (λ i b. 0 + 2 + family.need_of i ≤ 2) (omega arith) way inst back) (λ e. absurd (loop_enters way inst back e)) (λ e. absurd (return_enters way inst back e)) n h;
   bounded = omega arith;
   small = sample_small;

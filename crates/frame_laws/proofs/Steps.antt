@@ -2,8 +2,7 @@
 use Rattle.std.proofs.Common.{◌≡◌, ◌≢◌, ℕ, ◌+◌, ◌%◌, ◌≤◌, Bool, true, false, List, [], ◌∷◌, ◌++◌, length, Some, None, refl, sym, ap, ap₂, ◌∙◌, subst, subst₂, arith, Contains, ◌<◌}
 use Rattle.avr_model.specs.declared.device.Device.{Device}
 use Rattle.avr_model.proofs.AllLaws.{devices_are_alike}
-use Rattle.avr_model.specs.Devices.{Program, words_of, io_end, size_of, ramend, wrapped, device_of}
-use Rattle.avr_model.specs.declared.assumption.Entry.{Entry}
+use Rattle.avr_model.specs.Devices.{words_of, io_end, size_of, ramend, wrapped, device_of}
 use Rattle.avr_model.specs.Assumptions.{has_pairs}
 use Rattle.avr_model.specs.declared.choice.Choice.{Choice}
 use Rattle.avr_model.specs.declared.choice.Choice.TheVariants.{Go}
@@ -42,6 +41,7 @@ use Rattle.edge_rules.specs.Frames.{Frame, AreLeft, Runs, Change, moved, returne
 use Rattle.frame_laws.proofs.Left.{not_root, root_base, within, base_inside, left_kept}
 use Rattle.frame_laws.proofs.Way.{WayBack, two_inside, way_pushed, way_read}
 use Rattle.frame_laws.proofs.Answers.{StepGoesOn}
+use Rattle.local_rules.specs.Site.{Task}
 
 -- an entry: the return address is pushed, and registers stay
 abbrev pub entry_effect : State → ℕ → ℕ → ℕ → ℕ → Effect
@@ -59,25 +59,25 @@ pub facts_less : (s t : AbsState) (m : State) → IsStateWithin s t → HoldsAt 
 facts_less s t m le h = known_is_ordered.less s.facts t.facts m.registers (flag m.sreg 0) (flag m.sreg 1) (flag m.sreg 4) le.facts h
 
 -- the machine has frames after this choice, if its state is a machine's
-abbrev pub Follow : Program → List Entry → RankedFamily → Choice → Frame → List Frame → State → Type 0
-Follow words A f c g gs n = IsMachine n → HasNext words A f c g gs n
+abbrev pub Follow : Task → RankedFamily → Choice → Frame → List Frame → State → Type 0
+Follow task f c g gs n = IsMachine n → HasNext task f c g gs n
 
 -- the word that an entry pushes is in the device's flash
-back_inside : {words : Program} {A : List Entry} {n : Node} {way : EdgeKind} {inst : InstKey} {back : ℕ} → Enters words A n way inst back → back < words_of (device_of words)
-back_inside {words = words} {A = A} {n = n} (by_call offset site faultless form member) = ((local_parts_fit.fit words A n.key n.state).calls site member).1
-back_inside {words = words} {A = A} {n = n} (by_interrupt offset v clears faultless form i delay enabled allowed clearable) = (local_parts_fit.inside words A n.key n.state faultless).0
+back_inside : {task : Task} {n : Node} {way : EdgeKind} {inst : InstKey} {back : ℕ} → Enters task n way inst back → back < words_of (device_of task.flash)
+back_inside {task = task} {n = n} (by_call offset site faultless form member) = ((local_parts_fit.fit task n.key n.state).calls site member).1
+back_inside {task = task} {n = n} (by_interrupt offset v clears faultless form i delay enabled allowed clearable) = (local_parts_fit.inside task n.key n.state faultless).0
 
-module _ (live : LiveBytesStay) (words : Program) (A : List Entry) (f : RankedFamily) (sound : IsSoundFamily words A f) where
-  module _ (m : State) (g : Frame) (gs : List Frame) (runs : Runs words A f m g gs) where
+module _ (live : LiveBytesStay) (task : Task) (f : RankedFamily) (sound : IsSoundFamily task f) where
+  module _ (m : State) (g : Frame) (gs : List Frame) (runs : Runs task f m g gs) where
     -- a property of the words' device holds of the machine's
-    on_machine : (P : Device → Type 0) → P (device_of words) → P m.device
+    on_machine : (P : Device → Type 0) → P (device_of task.flash) → P m.device
     on_machine P h = subst P (sym runs.device) h
 
     in_bound : ramend m.device + f.need_of g.node.key.inst ≤ g.origin.base + f.bound
-    in_bound = on_machine (λ device. ramend device + f.need_of g.node.key.inst ≤ g.origin.base + f.bound) (within words A f sound m.memory gs g.node.key.inst g.origin runs.left)
+    in_bound = on_machine (λ device. ramend device + f.need_of g.node.key.inst ≤ g.origin.base + f.bound) (within task f sound m.memory gs g.node.key.inst g.origin runs.left)
 
     low_base : g.origin.base ≤ ramend m.device
-    low_base = on_machine (λ device. g.origin.base ≤ ramend device) (base_inside words A f sound m.memory gs g.node.key.inst g.origin runs.left)
+    low_base = on_machine (λ device. g.origin.base ≤ ramend device) (base_inside task f sound m.memory gs g.node.key.inst g.origin runs.left)
 
     small : f.bound ≤ size_of m.device
     small = on_machine (λ device. f.bound ≤ size_of device) sound.small
@@ -108,16 +108,16 @@ module _ (live : LiveBytesStay) (words : Program) (A : List Entry) (f : RankedFa
 
     -- a successor's slots lie in SRAM or above it: a closed one has room, and an open one keeps the offset
     place_at : (to : Node) → Contains f.nodes to → to.key.inst ≡ g.node.key.inst → (form : SpForm) → to.key.sp ≡ form
-        → ((offset : ℕ) (high : High) → form ≡ Open offset high → offset ≡ offset_of g.node.key.sp) → reads_masks (device_of words) A ≡ true → offset_of form + io_end m.device ≤ g.origin.base
+        → ((offset : ℕ) (high : High) → form ≡ Open offset high → offset ≡ offset_of g.node.key.sp) → reads_masks (device_of task.flash) task.assumptions ≡ true → offset_of form + io_end m.device ≤ g.origin.base
     place_at to present inst (Closed offset) is stays may = omega (arith, in_bound, small, sound.offsets to offset present is, ap f.need_of inst)
     place_at to present inst (Open offset high) is stays may = omega (arith, runs.running.room may, stays offset high refl)
 
     module _ (b1 b2 : ℕ) (guarded : Bool) (e : Effect) where
-      pub frames_local : (to : Node) → IsFaultless words A g.node → Contains (raw_of words A g.node).moves to → to.key.inst ≡ g.node.key.inst → ArrivesAt (reads_masks (device_of words) A) m g.origin guarded e to
-          → StepGoesOn (Follow words A f (Go b1 b2) g gs) m guarded e
+      pub frames_local : (to : Node) → IsFaultless task g.node → Contains (raw_of task g.node).moves to → to.key.inst ≡ g.node.key.inst → ArrivesAt (reads_masks (device_of task.flash) task.assumptions) m g.origin guarded e to
+          → StepGoesOn (Follow task f (Go b1 b2) g gs) m guarded e
       frames_local to faultless member inst lands =
-          let moves = (raw_of words A g.node).moves in
-          let joined = joins_are_least.above moves to (λ x i. (local_parts_are_nodes.nodes words A g.node.key g.node.state x (sound.formed g.node runs.present) faultless i).1) member in
+          let moves = (raw_of task g.node).moves in
+          let joined = joins_are_least.above moves to (λ x i. (local_parts_are_nodes.nodes task g.node.key g.node.state x (sound.formed g.node runs.present) faultless i).1) member in
           let edge : Node = record { key = to.key; state = joined.state } in
           let cov = sound.edges g.node _ runs.present (moving edge faultless joined.present) in
           let node : Node = record { key = to.key; state = cov.state } in
@@ -134,7 +134,7 @@ module _ (live : LiveBytesStay) (words : Program) (A : List Entry) (f : RankedFa
                   less = lands.less;
                   slots = lands.slots (base_at g.origin.base to.key.sp room) (lands.inside room) kept;
                 } in
-                let left = left_kept words A f sound m.memory n.memory _ kept gs g.node.key.inst g.origin (floor_fits g.origin.base n.is_open n.sp to.key.sp place.sp) runs.left in (
+                let left = left_kept task f sound m.memory n.memory _ kept gs g.node.key.inst g.origin (floor_fits g.origin.base n.is_open n.sp to.key.sp place.sp) runs.left in (
                   record { node = node; origin = g.origin },
                   gs,
                   record {
@@ -142,15 +142,15 @@ module _ (live : LiveBytesStay) (words : Program) (A : List Entry) (f : RankedFa
                     present = cov.present;
                     running = record {
                       machine = machine;
-                      node = on_machine (λ device. IsNodeIn device (has_pairs A) to.key cov.state) (sound.formed node cov.present);
+                      node = on_machine (λ device. IsNodeIn device (has_pairs task.assumptions) to.key cov.state) (sound.formed node cov.present);
                       place = place;
                       stands = values_say_less.state g.origin to.state cov.state n (states_are_ordered.through to.state joined.state cov.state joined.above cov.above) stands;
                       facts = facts_less to.state cov.state n (states_are_ordered.through to.state joined.state cov.state joined.above cov.above) lands.facts;
                       root = subst (λ (i : InstKey). i.kind ≡ Root → g.origin.base ≡ ramend m.device) (sym inst) runs.running.root;
                       base_word = runs.running.base_word;
-                      room = λ may. place_at node cov.present inst to.key.sp refl (λ offset high is. open_pairs_stay.stays words A g.node.key g.node.state to offset high faultless member is) may;
+                      room = λ may. place_at node cov.present inst to.key.sp refl (λ offset high is. open_pairs_stay.stays task g.node.key g.node.state to offset high faultless member is) may;
                     };
-                    left = subst (λ i. AreLeft words A f n.memory gs i g.origin) (sym inst) left;
+                    left = subst (λ i. AreLeft task f n.memory gs i g.origin) (sym inst) left;
                   },
                   moved b1 b2 edge cov.state faultless joined.present cov.above,
                 );
@@ -165,7 +165,7 @@ module _ (live : LiveBytesStay) (words : Program) (A : List Entry) (f : RankedFa
     abbrev entry_origin : Origin
     entry_origin = record { registers = m.registers; sreg = m.sreg; base = minus16 m.sp 2 }
 
-    module _ (way : EdgeKind) (inst : InstKey) (back offset : ℕ) (form : g.node.key.sp ≡ Closed offset) (enters : Enters words A g.node way inst back) where
+    module _ (way : EdgeKind) (inst : InstKey) (back offset : ℕ) (form : g.node.key.sp ≡ Closed offset) (enters : Enters task g.node way inst back) where
       room : ramend m.device + 2 ≤ m.sp + size_of m.device
       room = omega (arith, in_bound, small, sound.needs g.node way inst back runs.present enters, ap offset_of form, closed_sp offset form)
 
@@ -178,7 +178,7 @@ module _ (live : LiveBytesStay) (words : Program) (A : List Entry) (f : RankedFa
       abbrev entry_frame : Frame
       entry_frame = record { node = record { key = entry_key inst; state = covered.state }; origin = entry_origin }
 
-      left_by : (n : Memory) → Keeps m.memory n (minus16 m.sp 2) → WayBack n (minus16 m.sp 2) back → AreLeft words A f n (g ∷ gs) inst entry_origin
+      left_by : (n : Memory) → Keeps m.memory n (minus16 m.sp 2) → WayBack n (minus16 m.sp 2) back → AreLeft task f n (g ∷ gs) inst entry_origin
       left_by n kept pushed =
           let sp = closed_sp offset form in (
             record {
@@ -200,13 +200,13 @@ module _ (live : LiveBytesStay) (words : Program) (A : List Entry) (f : RankedFa
               low_live = pushed.low_live;
               high_live = pushed.high_live;
             },
-            left_kept words A f sound m.memory n (minus16 m.sp 2) kept gs g.node.key.inst g.origin (omega (arith, room, top, few, low_io, sp)) runs.left,
+            left_kept task f sound m.memory n (minus16 m.sp 2) kept gs g.node.key.inst g.origin (omega (arith, room, top, few, low_io, sp)) runs.left,
           )
 
-      module _ (target sreg enables : ℕ) (to : wrapped m.device target ≡ inst.entry) (flags : sreg % 128 ≡ m.sreg % 128) (i : flag sreg 7 ≡ inst.i) (masks : EnablesAre (reads_masks (device_of words) A) enables inst.masks) where
+      module _ (target sreg enables : ℕ) (to : wrapped m.device target ≡ inst.entry) (flags : sreg % 128 ≡ m.sreg % 128) (i : flag sreg 7 ≡ inst.i) (masks : EnablesAre (reads_masks (device_of task.flash) task.assumptions) enables inst.masks) where
         pub frames_enter : (c : Choice)
-            → ((state : AbsState) → IsStateWithin (entered g.node.state) state → Change words A g gs c (record { node = record { key = entry_key inst; state = state }; origin = entry_origin }) (g ∷ gs))
-            → StepGoesOn (Follow words A f c g gs) m true (entry_effect m target sreg enables back)
+            → ((state : AbsState) → IsStateWithin (entered g.node.state) state → Change task g gs c (record { node = record { key = entry_key inst; state = state }; origin = entry_origin }) (g ∷ gs))
+            → StepGoesOn (Follow task f c g gs) m true (entry_effect m target sreg enables back)
         frames_enter c change =
             let n = after m true (entry_effect m target sreg enables back) in
             let formed = runs.running.node.formed in
@@ -226,7 +226,7 @@ module _ (live : LiveBytesStay) (words : Program) (A : List Entry) (f : RankedFa
                   present = covered.present;
                   running = record {
                     machine = machine;
-                    node = on_machine (λ device. IsNodeIn device (has_pairs A) (entry_key inst) covered.state) (sound.formed _ covered.present);
+                    node = on_machine (λ device. IsNodeIn device (has_pairs task.assumptions) (entry_key inst) covered.state) (sound.formed _ covered.present);
                     place = record { pc = to; enables = masks; i = i; delay = refl; sp = (refl, omega arith) };
                     stands = values_say_less.state entry_origin (entered g.node.state) covered.state n covered.above stands;
                     facts =
@@ -244,7 +244,7 @@ module _ (live : LiveBytesStay) (words : Program) (A : List Entry) (f : RankedFa
 
     -- ---- a return
 
-    module _ (b1 b2 : ℕ) (guarded : Bool) (e : Effect) (x : Exit) (faultless : IsFaultless words A g.node) (exit : (raw_of words A g.node).exit ≡ Some x) (form : g.node.key.sp ≡ Closed 0) (is : IsReturn (reads_masks (device_of words) A) m b1 b2 x e) where
+    module _ (b1 b2 : ℕ) (guarded : Bool) (e : Effect) (x : Exit) (faultless : IsFaultless task g.node) (exit : (raw_of task g.node).exit ≡ Some x) (form : g.node.key.sp ≡ Closed 0) (is : IsReturn (reads_masks (device_of task.flash) task.assumptions) m b1 b2 x e) where
       abbrev returned_state : State
       returned_state = after m guarded e
 
@@ -261,14 +261,14 @@ module _ (live : LiveBytesStay) (words : Program) (A : List Entry) (f : RankedFa
       still_closed = ap₂ open_after is.closed is.stores
 
       -- the slots of the frame that continues lie in SRAM or above it
-      caller_room : (h : Frame) (hs : List Frame) → AreLeft words A f m.memory hs h.node.key.inst h.origin → Contains f.nodes h.node → (offset : ℕ) → h.node.key.sp ≡ Closed offset
+      caller_room : (h : Frame) (hs : List Frame) → AreLeft task f m.memory hs h.node.key.inst h.origin → Contains f.nodes h.node → (offset : ℕ) → h.node.key.sp ≡ Closed offset
           → offset_of h.node.key.sp + io_end m.device ≤ h.origin.base
       caller_room h hs left present offset closed =
           on_machine (λ device. offset_of h.node.key.sp + io_end device ≤ h.origin.base)
-          (omega (arith, ap offset_of closed, sound.offsets h.node offset present closed, within words A f sound m.memory hs h.node.key.inst h.origin left, sound.small))
+          (omega (arith, ap offset_of closed, sound.offsets h.node offset present closed, within task f sound m.memory hs h.node.key.inst h.origin left, sound.small))
 
-      pops : (hs : List Frame) → gs ≡ hs → g.node.key.inst.kind ≢ Root → AreLeft words A f m.memory hs g.node.key.inst g.origin
-          → live_write m.memory (e.stores ++ e.pushes) ≡ None → Follow words A f (Go b1 b2) g gs returned_state
+      pops : (hs : List Frame) → gs ≡ hs → g.node.key.inst.kind ≢ Root → AreLeft task f m.memory hs g.node.key.inst g.origin
+          → live_write m.memory (e.stores ++ e.pushes) ≡ None → Follow task f (Go b1 b2) g gs returned_state
       pops [] frames kind left miss machine = absurd (kind (ap (λ (i : InstKey). i.kind) left.0))
       pops (h ∷ hs) frames kind left miss machine =
           let n = returned_state in
@@ -299,30 +299,30 @@ module _ (live : LiveBytesStay) (words : Program) (A : List Entry) (f : RankedFa
               present = cov.present;
               running = record {
                 machine = machine;
-                node = on_machine (λ device. IsNodeIn device (has_pairs A) key cov.state) node;
+                node = on_machine (λ device. IsNodeIn device (has_pairs task.assumptions) key cov.state) node;
                 place = record {
                   pc = is.pc
                       ∙ ap (wrapped m.device)
                       (way_read m g.origin.base was.back b1 b2 runs.running.machine.below runs.running.machine.count_live sp low_base
                       record { low_byte = was.low_byte; high_byte = was.high_byte; low_live = was.low_live; high_live = was.high_live })
                       ∙ devices_are_alike.same m.device was.back (on_machine (λ device. was.back < words_of device) (back_inside was.enters));
-                  enables = subst (λ ws. EnablesAre (reads_masks (device_of words) A) (enables_after m.device e.enables ws) x.masks) (sym is.stores) is.enables;
+                  enables = subst (λ ws. EnablesAre (reads_masks (device_of task.flash) task.assumptions) (enables_after m.device e.enables ws) x.masks) (sym is.stores) is.enables;
                   i = ap (λ s. flag s 7) same_sreg ∙ is.i;
                   delay = is.delay;
                   sp = subst (SpIs h.origin.base n.is_open n.sp) (sym was.closed) (still_closed, omega (arith, raised_sp, was.place, low_base, few, low_io, sp));
                 };
                 stands = values_say_less.state h.origin back.0 cov.state n cov.above stands;
                 facts = facts_less back.0 cov.state n cov.above (subst₂ (HoldsAt back.0.facts) (sym same_registers) (sym same_sreg) back.6);
-                root = λ kind. root_base words A f n.memory hs h.node.key.inst h.origin (left_kept words A f sound m.memory n.memory (g.origin.base + 2) kept hs h.node.key.inst h.origin (omega (arith, was.place)) left.1) kind ∙ ap ramend (sym runs.device);
-                base_word = omega (arith, base_inside words A f sound m.memory hs h.node.key.inst h.origin left.1, devices_are_alike.most_bytes (device_of words), devices_are_alike.most_io (device_of words));
+                root = λ kind. root_base task f n.memory hs h.node.key.inst h.origin (left_kept task f sound m.memory n.memory (g.origin.base + 2) kept hs h.node.key.inst h.origin (omega (arith, was.place)) left.1) kind ∙ ap ramend (sym runs.device);
+                base_word = omega (arith, base_inside task f sound m.memory hs h.node.key.inst h.origin left.1, devices_are_alike.most_bytes (device_of task.flash), devices_are_alike.most_io (device_of task.flash));
                 room = λ may. caller_room h hs left.1 was.present was.offset was.closed;
               };
-              left = left_kept words A f sound m.memory n.memory (g.origin.base + 2) kept hs h.node.key.inst h.origin (omega (arith, was.place)) left.1;
+              left = left_kept task f sound m.memory n.memory (g.origin.base + 2) kept hs h.node.key.inst h.origin (omega (arith, was.place)) left.1;
             },
             returned_to b1 b2 h hs was.way was.back x back.0 cov.state frames was.enters faultless exit back.1 cov.above,
           )
 
-      pub frames_return : g.node.key.inst.kind ≢ Root → StepGoesOn (Follow words A f (Go b1 b2) g gs) m guarded e
+      pub frames_return : g.node.key.inst.kind ≢ Root → StepGoesOn (Follow task f (Go b1 b2) g gs) m guarded e
       frames_return kind =
           record {
             inside = ap (all_inside m.device) is.pushes;

@@ -6,12 +6,13 @@ use Rattle.avr_model.specs.Run.{Bounded}
 use Rattle.avr_model.specs.declared.device.Device.{Device}
 use Rattle.avr_model.specs.Devices.{Program, device_of}
 use Rattle.witness_replay.specs.Spelling.{Plan, IsSchedule}
+use Rattle.local_rules.specs.Site.{task_with}
 use Rattle.certificate.specs.Claims.{Claim, IsClaim}
-use Rattle.certificate.specs.Valid.{IsSound, Attains, IsAttained, IsValid}
+use Rattle.certificate.specs.Valid.{IsSound, IsAttained, IsValid}
 use Rattle.guided_trials.specs.declared.guide.Guide.{Guide}
 use Rattle.guided_trials.specs.Guides.{guide_of}
 use Rattle.guided_trials.specs.Trials.{IsGuidedFound}
-use Rattle.guided_trials.specs.Attaining.{IsScheduled, IsCompleted, SomeSucceeds, AttainedWhere}
+use Rattle.guided_trials.specs.Attaining.{IsScheduled, IsCompleted, SomeSucceeds, AttainedWhere, AttainsIfBounded, KeepsValid}
 
 -- ---- the same certificate with another schedule
 
@@ -34,7 +35,7 @@ claim_with c found h =
       of_device = h.of_device;
     }
 
-pub sound_with : (words : Program) (A : List Entry) (c : Claim) (found : Option Plan) → IsSound words A c → IsSound words A (record c { witness = found })
+pub sound_with : (words : Program) (A : List Entry) (c : Claim) (found : Option Plan) → IsSound (task_with words A) c → IsSound (task_with words A) (record c { witness = found })
 sound_with words A c found h =
     record {
       nodes = h.nodes;
@@ -83,11 +84,10 @@ module _ (words : Program) (A : List Entry) (n : ℕ) (c : Claim) where
   pub attained_where : (d : Claim) → IsCompleted words A n c d → AttainedWhere words A n c d
   attained_where d h = attained_by c.witness d.witness h.schedule
 
-  attains_if : (found : Option Plan) → IfSome found (λ plan. Bounded words A c.bound → Attains words A c.bound plan) → Bounded words A c.bound → IsAttained words A c.bound found
+  attains_if : (found : Option Plan) → AttainsIfBounded words A c.bound found → Bounded words A c.bound → IsAttained (task_with words A) c.bound found
   attains_if None h all = tt
   attains_if (Some plan) h all = h all
 
-  pub valid_with : (d : Claim) (found : Option Plan) → IfSome found (λ plan. Bounded words A c.bound → Attains words A c.bound plan) → d ≡ record c { witness = found }
-      → Bounded words A c.bound → IsValid words A c → IsValid words A d
+  pub valid_with : (d : Claim) (found : Option Plan) → AttainsIfBounded words A c.bound found → d ≡ record c { witness = found } → KeepsValid words A c d
   valid_with d found h is all valid =
-      subst (IsValid words A) (sym is) (record { sound = sound_with words A c found valid.sound; attained = attains_if found h all })
+      subst (IsValid (task_with words A)) (sym is) (record { sound = sound_with words A c found valid.sound; attained = attains_if found h all })

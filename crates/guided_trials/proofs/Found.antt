@@ -10,11 +10,12 @@ use Rattle.avr_model.specs.Run.{IsRun, Bounded, starting, depth_of, stop_of}
 use Rattle.stimulus.specs.Laws.{DepthIsKept}
 use Rattle.witness_replay.specs.Spelling.{Plan, IsSchedule, choices_of}
 use Rattle.witness_replay.specs.Replay.{replay_from, report_unless, steps_of}
+use Rattle.local_rules.specs.Site.{task_with}
 use Rattle.certificate.specs.Valid.{Attains}
 use Rattle.guided_trials.specs.declared.guide.Guide.{Guide}
 use Rattle.guided_trials.specs.Choosing.{pick, left}
 use Rattle.trial_runs.specs.Length.{most_choices}
-use Rattle.guided_trials.specs.Trials.{fill_of, start_of, trial_by, trial_of, GuidedSucceeds, NoGuidedSucceeds, IsGuidedTried, IsGuidedFound}
+use Rattle.guided_trials.specs.Trials.{fill_of, initial, start_of, trial_by, trial_of, GuidedSucceeds, NoGuidedSucceeds, IsGuidedTried, IsGuidedFound}
 use Rattle.trial_runs.proofs.AllLaws.{few, ends_well, run_legal}
 
 choices_are : most_choices ≡ 200000
@@ -23,7 +24,7 @@ choices_are = refl
 
 module _ (words : Program) (A : List Entry) (g : Guide) (t : ℕ) where
   abbrev reset : State
-  reset = filled (device_of words) (fill_of g t)
+  reset = initial words g t
 
   -- the trial with all its choices
   pub whole : (steps : ℕ) → steps ≡ most_choices → trial_by steps words A g t ≡ trial_of words A g t
@@ -60,7 +61,7 @@ module _ (words : Program) (A : List Entry) (g : Guide) (t : ℕ) where
     exactly cs at run deep all = omega (arith, deep, all.depth reset cs at run)
 
     pub attains : (steps : ℕ) (cs : List Choice) (plan : Plan) → IsReset (device_of words) reset → cs ≡ trial_by steps words A g t
-        → IsRun words A cs reset → g.bound ≤ depth_of words A cs reset → plan.fill ≡ fill_of g t → choices_of plan.runs ≡ cs → Bounded words A g.bound → Attains words A g.bound plan
+        → IsRun words A cs reset → g.bound ≤ depth_of words A cs reset → plan.fill ≡ fill_of g t → choices_of plan.runs ≡ cs → Bounded words A g.bound → Attains (task_with words A) g.bound plan
     attains steps cs plan at is run deep filling choices all =
         subst (λ (xs : List Choice). IsOkAnd (replay_from words A xs (filled (device_of words) plan.fill)) (λ r. (r.stop ≡ stop.End) × (r.depth ≡ g.bound))) (sym choices)
         (subst (λ (b : ℕ). IsOkAnd (replay_from words A cs (filled (device_of words) b)) (λ r. (r.stop ≡ stop.End) × (r.depth ≡ g.bound))) (sym filling)

@@ -27,7 +27,7 @@ use Rattle.guided_trials.specs.declared.guide.TrialMoment.{TrialMoment}
 use Rattle.guided_trials.specs.Numbers.{next, high, middle, low}
 use Rattle.guided_trials.specs.Telling.{fills, told_if, is_told, is_telling, passing, telling}
 use Rattle.guided_trials.specs.Guides.{need_of, takes_of, takes_at, first_takes, guide_of}
-use Rattle.guided_trials.specs.Choosing.{hold, rate, reads, member, fallen, is_wanted, is_there, taken, taken_or, by_chance, may_be, after, left, pick}
+use Rattle.guided_trials.specs.Choosing.{hold, rate, reads, member, fallen, is_wanted, is_there, taken_or, by_chance, wanted_at, taken_at, may_be, after, left, pick}
 use Rattle.guided_trials.specs.Laws.{IsByteTold, TrialsAreLed}
 use Rattle.guided_trials.proofs.Found.{short}
 use Rattle.guided_trials.proofs.Points.{PassesIfAny, passes_if, picked_stands, picked_is}
@@ -217,9 +217,9 @@ module _ (words : Program) (A : List Entry) where
   every_take insts (suc n) =
       every_append may_come (first_takes words A insts n) (takes_at words A insts (n + 2)) (every_take insts n) (at_if (n + 2) (need_of insts (n + 2)) (is_never A (vector_word (device_of words) (n + 2))) refl)
 
-  taken_every : (t x depth : ℕ) (g : Guide) (p : Candidate → Bool) → Every may_come g.takes → PassesIfAny may_come (taken t x (filter p g.takes) (find (λ k. p k && is_wanted g depth k) g.takes))
+  taken_every : (t x depth : ℕ) (g : Guide) (p : Candidate → Bool) → Every may_come g.takes → PassesIfAny may_come (taken_at g t x depth p)
   taken_every t x depth g p h =
-      let wanted : Option Candidate = find (λ k. p k && is_wanted g depth k) g.takes in
+      let wanted : Option Candidate = wanted_at g depth p in
       passes_if may_come wanted (by_chance t x (filter p g.takes)) (is_there wanted && not (high x % 4 == 0))
       (found_every may_come (λ k. p k && is_wanted g depth k) g.takes h)
       (passes_if may_come (slice_get (filter p g.takes) (middle x % length (filter p g.takes))) None (high x / 4 % rate t == 0)
@@ -237,7 +237,7 @@ never : (words : Program) (A : List Entry) (c : Claim) (t : ℕ) (l : TrialMomen
     → pick words (guide_of words A c) t l m ≡ Take v clears → is_never A (vector_word (device_of words) v) ≡ false
 never words A c t l m v clears e =
     let g : Guide = guide_of words A c in
-    only_taken words A (taken t (next l.number) (filter (may_be m) g.takes) (find (λ k. may_be m k && is_wanted g (fallen words m.sp) k) g.takes)) (left words g t l m).byte v clears
+    only_taken words A (taken_at g t (next l.number) (fallen words m.sp) (may_be m)) (left words g t l m).byte v clears
     (taken_every words A t (next l.number) (fallen words m.sp) g (may_be m) (every_take words A c.instances (enable_count (device_of words)))) e
 
 -- ---- the law

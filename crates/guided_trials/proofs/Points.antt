@@ -14,7 +14,7 @@ use Rattle.guided_trials.specs.declared.guide.Candidate.{Candidate}
 use Rattle.guided_trials.specs.declared.guide.Guide.{Guide}
 use Rattle.guided_trials.specs.declared.guide.TrialMoment.{TrialMoment}
 use Rattle.guided_trials.specs.Numbers.{next, high, middle}
-use Rattle.guided_trials.specs.Choosing.{is_there, is_wanted, fallen, taken, taken_or, by_chance, rate, choice_by, may_be, stands, after, left, left_by, pick, picked}
+use Rattle.guided_trials.specs.Choosing.{is_there, is_wanted, fallen, taken, taken_or, by_chance, rate, wanted_at, taken_at, choice_by, may_be, stands, after, left, left_by, pick, picked}
 
 -- ---- tests that agree pick the same
 
@@ -66,11 +66,11 @@ passes_if p a b false h k = k
 -- ---- a choice stands in its menu
 
 module _ (menu : Menu) (words : Program) (g : Guide) (t x : ℕ) where
-  taken_passes : (depth : ℕ) → PassesIfAny (stands menu) (taken t x (filter (stands menu) g.takes) (find (λ k. stands menu k && is_wanted g depth k) g.takes))
+  taken_passes : (depth : ℕ) → PassesIfAny (stands menu) (taken_at g t x depth (stands menu))
   taken_passes depth =
-      passes_if (stands menu) (find (λ k. stands menu k && is_wanted g depth k) g.takes) (by_chance t x (filter (stands menu) g.takes))
-      (is_there (find (λ k. stands menu k && is_wanted g depth k) g.takes) && not (high x % 4 == 0))
-      (weaker (stands menu) (is_wanted g depth) (find (λ k. stands menu k && is_wanted g depth k) g.takes) (find_passes (λ k. stands menu k && is_wanted g depth k) g.takes))
+      passes_if (stands menu) (wanted_at g depth (stands menu)) (by_chance t x (filter (stands menu) g.takes))
+      (is_there (wanted_at g depth (stands menu)) && not (high x % 4 == 0))
+      (weaker (stands menu) (is_wanted g depth) (wanted_at g depth (stands menu)) (find_passes (λ k. stands menu k && is_wanted g depth k) g.takes))
       (passes_if (stands menu) (slice_get (filter (stands menu) g.takes) (middle x % length (filter (stands menu) g.takes))) None (high x / 4 % rate t == 0)
       (get_passes (stands menu) g.takes (middle x % length (filter (stands menu) g.takes))) tt)
 
@@ -99,15 +99,15 @@ legal_as menu m is k =
 pub left_is : (words : Program) (g : Guide) (t : ℕ) (l : TrialMoment) (menu : Menu) (m : State) → IsMenuOf menu m → left_by words g t l menu ≡ left words g t l m
 left_is words g t l menu m is = ap (after words g t l) is.pc
 
-module _ (words : Program) (g : Guide) (t x byte sp : ℕ) where
-  choice_as : (p q : Candidate → Bool) → ((k : Candidate) → p k ≡ q k) → choice_by words g t x byte sp p ≡ choice_by words g t x byte sp q
+module _ (g : Guide) (t : ℕ) (now : TrialMoment) (depth : ℕ) where
+  choice_as : (p q : Candidate → Bool) → ((k : Candidate) → p k ≡ q k) → choice_by g t now depth p ≡ choice_by g t now depth q
   choice_as p q same =
-      ap (λ (ks : List Candidate). taken_or (Go byte byte) (taken t x ks (find (λ k. p k && is_wanted g (fallen words sp) k) g.takes))) (filter_as p q same g.takes)
-      ∙ ap (λ (o : Option Candidate). taken_or (Go byte byte) (taken t x (filter q g.takes) o))
-      (find_as (λ k. p k && is_wanted g (fallen words sp) k) (λ k. q k && is_wanted g (fallen words sp) k) (λ k. ap (λ (b : Bool). b && is_wanted g (fallen words sp) k) (same k)) g.takes)
+      ap (λ (ks : List Candidate). taken_or (Go now.byte now.byte) (taken t now.number ks (wanted_at g depth p))) (filter_as p q same g.takes)
+      ∙ ap (λ (o : Option Candidate). taken_or (Go now.byte now.byte) (taken t now.number (filter q g.takes) o))
+      (find_as (λ k. p k && is_wanted g depth k) (λ k. q k && is_wanted g depth k) (λ k. ap (λ (b : Bool). b && is_wanted g depth k) (same k)) g.takes)
 
 pub picked_is : (words : Program) (g : Guide) (t : ℕ) (l : TrialMoment) (menu : Menu) (m : State) → IsMenuOf menu m → picked words g t l menu ≡ pick words g t l m
 picked_is words g t l menu m is =
-    choice_as words g t (next l.number) (left_by words g t l menu).byte menu.sp (stands menu) (may_be m) (legal_as menu m is)
-    ∙ ap (λ (after : TrialMoment). choice_by words g t (next l.number) after.byte menu.sp (may_be m)) (left_is words g t l menu m is)
-    ∙ ap (λ (sp : ℕ). choice_by words g t (next l.number) (left words g t l m).byte sp (may_be m)) is.sp
+    choice_as g t (left_by words g t l menu) (fallen words menu.sp) (stands menu) (may_be m) (legal_as menu m is)
+    ∙ ap (λ (now : TrialMoment). choice_by g t now (fallen words menu.sp) (may_be m)) (left_is words g t l menu m is)
+    ∙ ap (λ (sp : ℕ). choice_by g t (left words g t l m) (fallen words sp) (may_be m)) is.sp

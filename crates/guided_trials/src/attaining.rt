@@ -1,13 +1,10 @@
 //! The guided trials of a certificate.
 
-ghost use Rattle.std.specs.Prelude.{◌≡◌, ◌≢◌, ◌≤◌, ◌<◌, ◌+◌, ◌++◌, Err, IfOk, IfSome, OnOk};
+ghost use Rattle.std.specs.Prelude.{◌≡◌, ◌≢◌, ◌≤◌, ◌<◌, ◌+◌, ◌++◌, Err, IfOk, OnOk};
 ghost use Rattle.avr_model.specs.Devices.{device_of};
 ghost use Rattle.avr_model.specs.Vectors.{last_vector};
-ghost use Rattle.avr_model.specs.Run.{Bounded};
-ghost use Rattle.certificate.specs.Valid.{Attains, IsValid};
-ghost use Rattle.guided_trials.specs.Attaining.{IsCompleted, AttainedWhere};
+ghost use Rattle.guided_trials.specs.Attaining.{IsFoundFor, IsCompleted, AttainedWhere, AttainsIfBounded, KeepsValid};
 ghost use Rattle.guided_trials.specs.Guides as guides;
-ghost use Rattle.guided_trials.specs.Trials.{IsGuidedFound};
 
 use crate::guide::{Candidate, Candidates, Guide};
 use crate::telling::telling;
@@ -110,8 +107,8 @@ fn found(
     certificate: &Certificate,
     trials: u32,
 ) -> Result<Option<Schedule>, AllocError>
-    ensures first { IfOk result (IsGuidedFound flash.now assumptions.now (guides.guide_of flash.now assumptions.now certificate.now) trials) }
-    ensures attained { IfOk result (λ found. IfSome found (λ plan. Bounded flash.now assumptions.now certificate.now.bound → Attains flash.now assumptions.now certificate.now.bound plan)) }
+    ensures first { IfOk result (IsFoundFor flash.now assumptions.now trials certificate.now) }
+    ensures attained { IfOk result (AttainsIfBounded flash.now assumptions.now certificate.now.bound) }
 {
     let guide = guide_of(alloc, flash, assumptions, certificate)?;
     first_trial(alloc, flash, assumptions, &guide, trials)
@@ -128,7 +125,7 @@ fn with_schedule(
     requires { certificate.device ≡ device_of flash.now }
     ensures completed { IfOk result (IsCompleted flash.now assumptions.now trials certificate) }
     ensures attained { IfOk result (AttainedWhere flash.now assumptions.now trials certificate) }
-    ensures valid { IfOk result (λ c. Bounded flash.now assumptions.now certificate.bound → IsValid flash.now assumptions.now certificate → IsValid flash.now assumptions.now c) }
+    ensures valid { IfOk result (KeepsValid flash.now assumptions.now certificate) }
 {
     if certificate.witness().is_some() {
         return Ok(certificate);
@@ -159,7 +156,7 @@ pub fn attain(
 ) -> Result<Certificate, AttainFault>
     ensures completed { IfOk result (IsCompleted flash.now assumptions.now trials certificate) }
     ensures attained { IfOk result (AttainedWhere flash.now assumptions.now trials certificate) }
-    ensures valid { IfOk result (λ c. Bounded flash.now assumptions.now certificate.bound → IsValid flash.now assumptions.now certificate → IsValid flash.now assumptions.now c) }
+    ensures valid { IfOk result (KeepsValid flash.now assumptions.now certificate) }
     ensures other { result ≡ Err AttainFault.Device → certificate.device ≢ device_of flash.now }
 {
     if certificate.device() != flash.device() {

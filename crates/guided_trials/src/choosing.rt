@@ -1,9 +1,9 @@
 //! The choice of a trial at each step.
 
-ghost use Rattle.std.specs.Prelude.{◌≡◌, ◌+◌, ◌-◌, ◌%◌, ◌/◌, ◌==◌, ◌&&◌, length, slice_get};
-ghost use Rattle.std.specs.List.{filter, find};
+ghost use Rattle.std.specs.Prelude.{◌≡◌, ◌-◌, ◌%◌, ◌/◌, ◌==◌, length, slice_get};
+ghost use Rattle.std.specs.List.{filter};
 ghost use Rattle.guided_trials.specs.Numbers as numbers;
-ghost use Rattle.guided_trials.specs.Choosing as choosing;
+ghost use Rattle.guided_trials.specs.Choosing as spec;
 
 use crate::guide::{Candidate, Guide, TrialMoment};
 use crate::numbers::{high, low, middle, next};
@@ -13,7 +13,7 @@ use flash_image::Flash;
 
 // The mask by which trial `t` changes its byte: a power of two less one.
 fn held_bits(t: u32) -> u16
-    ensures { result ≡ choosing.hold t - 1 }
+    ensures { result ≡ spec.hold t - 1 }
 {
     match t % 4 {
         0 => 0,
@@ -25,14 +25,14 @@ fn held_bits(t: u32) -> u16
 
 // Whether trial `t` may change its byte at this number.
 fn is_change(t: u32, number: u64) -> bool
-    ensures { result ≡ (numbers.low number % choosing.hold t == 0) }
+    ensures { result ≡ (numbers.low number % spec.hold t == 0) }
 {
     low(number) & held_bits(t) == 0
 }
 
 // Whether trial `t` takes an interrupt by chance at this number.
 fn is_chance(t: u32, number: u64) -> bool
-    ensures { result ≡ (numbers.high number / 4 % choosing.rate t == 0) }
+    ensures { result ≡ (numbers.high number / 4 % spec.rate t == 0) }
 {
     let high = high(number) / 4;
     match t / 4 % 4 {
@@ -45,7 +45,7 @@ fn is_chance(t: u32, number: u64) -> bool
 
 // Whether the instruction may read an input.
 fn is_input(instr: &Instr) -> bool
-    ensures { result ≡ choosing.is_input instr.now }
+    ensures { result ≡ spec.is_input instr.now }
 {
     match instr {
         Instr::In(_, _) | Instr::Lds(_, _) | Instr::Ld(_, _) => true,
@@ -56,7 +56,7 @@ fn is_input(instr: &Instr) -> bool
 
 // Whether the instruction at a word address may read an input.
 fn reads(flash: &Flash, pc: u16) -> bool
-    ensures { result ≡ choosing.reads flash.now pc }
+    ensures { result ≡ spec.reads flash.now pc }
 {
     match flash.instruction(pc) {
         Some(instr) => is_input(&instr),
@@ -67,7 +67,7 @@ fn reads(flash: &Flash, pc: u16) -> bool
 /// The moment after this one, at a word address.
 #[inline(always)]
 pub fn after(flash: &Flash, guide: &Guide, t: u32, moment: TrialMoment, pc: u16) -> TrialMoment
-    ensures { result ≡ choosing.after flash.now guide.now t moment pc }
+    ensures { result ≡ spec.after flash.now guide.now t moment pc }
 {
     let number = next(moment.number);
     let byte = if is_change(t, number) && reads(flash, pc) {
@@ -80,21 +80,21 @@ pub fn after(flash: &Flash, guide: &Guide, t: u32, moment: TrialMoment, pc: u16)
 
 // How far the stack pointer has fallen below its place at reset.
 fn fallen(flash: &Flash, sp: u16) -> u16
-    ensures { result ≡ choosing.fallen flash.now sp }
+    ensures { result ≡ spec.fallen flash.now sp }
 {
     flash.device().ramend().wrapping_sub(sp)
 }
 
 // Whether the interrupt is in the menu.
 fn stands(menu: &Menu, candidate: &Candidate) -> bool
-    ensures { result ≡ choosing.stands menu.now candidate.now }
+    ensures { result ≡ spec.stands menu.now candidate.now }
 {
     menu.has(Choice::Take(candidate.vector, candidate.clears))
 }
 
 // Whether the stack with the interrupt's need reaches the bound.
 fn is_wanted(guide: &Guide, depth: u16, candidate: &Candidate) -> bool
-    ensures { result ≡ choosing.is_wanted guide.now depth candidate.now }
+    ensures { result ≡ spec.is_wanted guide.now depth candidate.now }
 {
     let need = candidate.need;
     let back = u64::from(depth) + 2;
@@ -103,7 +103,7 @@ fn is_wanted(guide: &Guide, depth: u16, candidate: &Candidate) -> bool
 
 // The first interrupt in the menu that is wanted.
 fn wanted(guide: &Guide, menu: &Menu, depth: u16) -> Option<Candidate>
-    ensures { result ≡ find (λ k. choosing.stands menu.now k && choosing.is_wanted guide.now depth k) guide.now.takes }
+    ensures { result ≡ spec.wanted_at guide.now depth (spec.stands menu.now) }
 {
     if !guide.takes.reach(guide.bound, depth) {
         return None;
@@ -118,7 +118,7 @@ fn wanted(guide: &Guide, menu: &Menu, depth: u16) -> Option<Candidate>
 
 // The number of interrupts in the menu.
 fn count(guide: &Guide, menu: &Menu) -> usize
-    ensures { result ≡ length (filter (choosing.stands menu.now) guide.now.takes) }
+    ensures { result ≡ length (filter (spec.stands menu.now) guide.now.takes) }
 {
     let mut count = 0;
     for candidate in guide.takes.as_slice() {
@@ -131,7 +131,7 @@ fn count(guide: &Guide, menu: &Menu) -> usize
 
 // The interrupt of this number among those in the menu.
 fn standing(guide: &Guide, menu: &Menu, number: usize) -> Option<Candidate>
-    ensures { result ≡ slice_get (filter (choosing.stands menu.now) guide.now.takes) number }
+    ensures { result ≡ slice_get (filter (spec.stands menu.now) guide.now.takes) number }
 {
     let mut before = 0;
     for candidate in guide.takes.as_slice() {
@@ -147,7 +147,7 @@ fn standing(guide: &Guide, menu: &Menu, number: usize) -> Option<Candidate>
 
 // The interrupt taken by chance.
 fn by_chance(guide: &Guide, menu: &Menu, t: u32, number: u64) -> Option<Candidate>
-    ensures { result ≡ choosing.by_chance t number (filter (choosing.stands menu.now) guide.now.takes) }
+    ensures { result ≡ spec.by_chance t number (filter (spec.stands menu.now) guide.now.takes) }
 {
     if !is_chance(t, number) {
         return None;
@@ -162,7 +162,7 @@ fn by_chance(guide: &Guide, menu: &Menu, t: u32, number: u64) -> Option<Candidat
 // The interrupt to take.
 #[inline(always)]
 fn taken(flash: &Flash, guide: &Guide, t: u32, number: u64, menu: &Menu) -> Option<Candidate>
-    ensures { result ≡ choosing.taken t number (filter (choosing.stands menu.now) guide.now.takes) (find (λ k. choosing.stands menu.now k && choosing.is_wanted guide.now (choosing.fallen flash.now menu.now.sp) k) guide.now.takes) }
+    ensures { result ≡ spec.taken_at guide.now t number (spec.fallen flash.now menu.now.sp) (spec.stands menu.now) }
 {
     // No vector has the number 0: if it is the open one, none is open.
     if !menu.takes || (menu.masks.bits() == 0 && menu.device.is_open_vector(0)) {
@@ -180,7 +180,7 @@ fn taken(flash: &Flash, guide: &Guide, t: u32, number: u64, menu: &Menu) -> Opti
 /// The choice from a menu; `now` is the next moment.
 #[inline(always)]
 pub fn chosen(flash: &Flash, guide: &Guide, t: u32, now: TrialMoment, menu: &Menu) -> Choice
-    ensures { result ≡ choosing.choice_by flash.now guide.now t now.number now.byte menu.now.sp (choosing.stands menu.now) }
+    ensures { result ≡ spec.choice_by guide.now t now (spec.fallen flash.now menu.now.sp) (spec.stands menu.now) }
 {
     match taken(flash, guide, t, now.number, menu) {
         Some(candidate) => Choice::Take(candidate.vector, candidate.clears),

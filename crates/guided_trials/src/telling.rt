@@ -1,6 +1,6 @@
 //! The input bytes that a firmware's tests distinguish.
 
-ghost use Rattle.std.specs.Prelude.{◌≡◌, ◌<◌, ◌==◌, ◌||◌, ◌++◌, ◌∷◌, [], ℕ, false, if◌then◌else◌, slice_index_or, IfOk, OnOk};
+ghost use Rattle.std.specs.Prelude.{◌≡◌, ◌<◌, ◌==◌, ◌++◌, IfOk, OnOk};
 ghost use Rattle.avr_model.specs.Assumptions.{lists};
 ghost use Rattle.avr_model.specs.Devices.{device_of, words_of};
 ghost use Rattle.avr_model.specs.Sites.{instruction_at};
@@ -14,14 +14,14 @@ use std::alloc::{AllocError, Global};
 
 // Marks the byte.
 fn mark(told: &mut [bool; 256], byte: u8)
-    ensures { (b : ℕ) → b < 256 → slice_index_or told.new b false ≡ (slice_index_or told.old b false || (byte == b)) }
+    ensures { spec.MarksToo told.old told.new (λ b. byte == b) }
 {
     told[usize::from(byte)] = true;
 }
 
 // Marks the bytes that are always tried.
 fn mark_fills(told: &mut [bool; 256])
-    ensures { (b : ℕ) → b < 256 → slice_index_or told.new b false ≡ (slice_index_or told.old b false || lists spec.fills b) }
+    ensures { spec.MarksToo told.old told.new (lists spec.fills) }
 {
     mark(told, 0x00);
     mark(told, 0xFF);
@@ -36,7 +36,7 @@ fn mark_fills(told: &mut [bool; 256])
 // Marks a byte with bit `index` set, and one with all others set.
 fn mark_bit(told: &mut [bool; 256], index: u16)
     requires { index < 8 }
-    ensures { (b : ℕ) → b < 256 → slice_index_or told.new b false ≡ (slice_index_or told.old b false || lists (spec.of_bit index) b) }
+    ensures { spec.MarksToo told.old told.new (lists (spec.of_bit index)) }
 {
     let byte = 1u8 << index;
     mark(told, byte);
@@ -45,7 +45,7 @@ fn mark_bit(told: &mut [bool; 256], index: u16)
 
 // Marks the bytes that an instruction distinguishes.
 fn mark_told(told: &mut [bool; 256], instr: &Instr)
-    ensures { (b : ℕ) → b < 256 → slice_index_or told.new b false ≡ (slice_index_or told.old b false || lists (spec.told instr.now) b) }
+    ensures { spec.MarksToo told.old told.new (lists (spec.told instr.now)) }
 {
     match instr {
         Instr::Immediate(ImmediateOp::Cpi, _, byte) => {
@@ -61,7 +61,7 @@ fn mark_told(told: &mut [bool; 256], instr: &Instr)
 
 // Marks the bytes that the word at an address distinguishes, if it is an instruction.
 fn mark_at(told: &mut [bool; 256], flash: &Flash, at: u16)
-    ensures { (b : ℕ) → b < 256 → slice_index_or told.new b false ≡ (slice_index_or told.old b false || lists (spec.told_if (instruction_at flash.now at)) b) }
+    ensures { spec.MarksToo told.old told.new (lists (spec.told_if (instruction_at flash.now at))) }
 {
     if let Some(instr) = flash.instruction(at) {
         mark_told(told, &instr);
@@ -70,7 +70,7 @@ fn mark_at(told: &mut [bool; 256], flash: &Flash, at: u16)
 
 // Marks the bytes that the words of flash distinguish.
 fn mark_words(told: &mut [bool; 256], flash: &Flash)
-    ensures { (b : ℕ) → b < 256 → slice_index_or told.new b false ≡ (slice_index_or told.old b false || spec.is_told flash.now (words_of (device_of flash.now)) b) }
+    ensures { spec.MarksToo told.old told.new (spec.is_told flash.now (words_of (device_of flash.now))) }
 {
     for at in 0..flash.device().words() {
         mark_at(told, flash, at as u16);
@@ -79,7 +79,7 @@ fn mark_words(told: &mut [bool; 256], flash: &Flash)
 
 // Appends the byte if it is marked.
 fn keep(bytes: &mut Vec<u8>, told: &[bool; 256], byte: u8) -> Result<(), AllocError>
-    ensures { OnOk result (bytes.new.items ≡ bytes.old.items ++ (if slice_index_or told.now byte false then byte ∷ [] else [])) }
+    ensures { OnOk result (bytes.new.items ≡ bytes.old.items ++ spec.if_passing (spec.is_marked told.now) byte) }
 {
     if told[usize::from(byte)] {
         bytes.push(byte)?;
@@ -89,7 +89,7 @@ fn keep(bytes: &mut Vec<u8>, told: &[bool; 256], byte: u8) -> Result<(), AllocEr
 
 // The marked bytes, ascending.
 fn marked(alloc: Global, told: &[bool; 256]) -> Result<Vec<u8>, AllocError>
-    ensures { IfOk result (λ bytes. bytes.items ≡ spec.passing 256 (λ b. slice_index_or told.now b false)) }
+    ensures { IfOk result (λ bytes. bytes.items ≡ spec.passing 256 (spec.is_marked told.now)) }
 {
     let mut bytes = Vec::new(alloc);
     for byte in 0..256u16 {

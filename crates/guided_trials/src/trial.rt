@@ -1,15 +1,15 @@
 //! Guided trials.
 
-ghost use Rattle.std.specs.Prelude.{◌≡◌, IfOk, IfSome};
+ghost use Rattle.std.specs.Prelude.{◌≡◌, IfOk};
 ghost use Rattle.std.specs.Fn.{CalledAt};
 ghost use Rattle.avr_model.specs.Devices.{device_of};
-ghost use Rattle.avr_model.specs.State.{IsReset, filled};
-ghost use Rattle.avr_model.specs.Run.{IsRun, Bounded, depth_of};
-ghost use Rattle.certificate.specs.Valid.{Attains};
+ghost use Rattle.avr_model.specs.State.{IsReset};
+ghost use Rattle.avr_model.specs.Run.{IsRun};
 ghost use Rattle.stimulus.specs.Steady.{IsSteady};
 ghost use Rattle.trial_runs.specs.Length.{most_choices};
+ghost use Rattle.guided_trials.specs.Attaining.{AttainsIfBounded};
 ghost use Rattle.guided_trials.specs.Choosing as choosing;
-ghost use Rattle.guided_trials.specs.Trials.{fill_of, trial_by, IsGuidedBy, IsGuidedTried, IsGuidedFound};
+ghost use Rattle.guided_trials.specs.Trials.{fill_of, initial, trial_by, depth_by, HasDepth, IsGuidedBy, IsGuidedTried, IsGuidedFound};
 
 use crate::choosing::{after, chosen};
 use crate::guide::{Guide, TrialMoment};
@@ -43,7 +43,7 @@ fn depth_of_trial<F: FnMut(&Menu) -> Choice + Drop>(
 ) -> u16
     requires steady { IsSteady F.FnMut choose }
     requires guided { IsGuidedBy (CalledAt F.FnMut) flash.now guide.now t choose }
-    ensures { result ≡ depth_of flash.now assumptions.now (trial_by steps flash.now assumptions.now guide.now t) (filled (device_of flash.now) (fill_of guide.now t)) }
+    ensures { result ≡ depth_by steps flash.now assumptions.now guide.now t }
 {
     depth_is_kept();
     let fill = fill_of(guide, t);
@@ -64,10 +64,10 @@ fn attempt<F: FnMut(&Menu) -> Choice + Drop>(
 ) -> Result<Trace, AllocError>
     requires steady { IsSteady F.FnMut choose }
     requires guided { IsGuidedBy (CalledAt F.FnMut) flash.now guide.now t choose }
-    ensures reset { IsReset (device_of flash.now) (filled (device_of flash.now) (fill_of guide.now t)) }
-    ensures choices { IfOk result (λ trace. trace.choices ≡ trial_by most_choices flash.now assumptions.now guide.now t) }
-    ensures run { IfOk result (λ trace. IsRun flash.now assumptions.now trace.choices (filled (device_of flash.now) (fill_of guide.now t))) }
-    ensures depth { IfOk result (λ trace. trace.depth ≡ depth_of flash.now assumptions.now trace.choices (filled (device_of flash.now) (fill_of guide.now t))) }
+    ensures reset { IsReset (device_of flash.now) (initial flash.now guide.now t) }
+    ensures choices { IfOk result (λ x. x.choices ≡ trial_by most_choices flash.now assumptions.now guide.now t) }
+    ensures run { IfOk result (λ x. IsRun flash.now assumptions.now x.choices (initial flash.now guide.now t)) }
+    ensures depth { IfOk result (HasDepth flash.now assumptions.now (initial flash.now guide.now t)) }
 {
     depth_is_kept();
     let fill = fill_of(guide, t);
@@ -86,7 +86,7 @@ fn try_number(
     t: u32,
 ) -> Result<Option<Schedule>, AllocError>
     ensures tried { IfOk result (IsGuidedTried flash.now assumptions.now guide.now t) }
-    ensures attained { IfOk result (λ found. IfSome found (λ plan. Bounded flash.now assumptions.now guide.now.bound → Attains flash.now assumptions.now guide.now.bound plan)) }
+    ensures attained { IfOk result (AttainsIfBounded flash.now assumptions.now guide.now.bound) }
 {
     depth_is_kept();
     let steps = most_choices();
@@ -121,7 +121,7 @@ pub fn first_trial(
     trials: u32,
 ) -> Result<Option<Schedule>, AllocError>
     ensures first { IfOk result (IsGuidedFound flash.now assumptions.now guide.now trials) }
-    ensures attained { IfOk result (λ found. IfSome found (λ plan. Bounded flash.now assumptions.now guide.now.bound → Attains flash.now assumptions.now guide.now.bound plan)) }
+    ensures attained { IfOk result (AttainsIfBounded flash.now assumptions.now guide.now.bound) }
 {
     for t in 0..trials {
         if let Some(schedule) = try_number(alloc, flash, assumptions, guide, t)? {

@@ -51,6 +51,7 @@ use Rattle.local_laws.proofs.Bytes.{byte_in_list}
 use Rattle.local_laws.proofs.EffectSizes.{shift_small, wide_small}
 use Rattle.local_laws.proofs.Frame.{register_stands, set_one, set_two, sets}
 use Rattle.local_laws.proofs.Less.{Spares, SparesAll, NamesNone, less_set, less_two, less_of_none, borrow_names_none, untagged_holds}
+use Rattle.local_rules.specs.Site.{site_at}
 
 -- ---- bytes
 
@@ -125,7 +126,7 @@ module _ {may : Bool} (m : State) (o : Origin) (k : NodeKey) (s : AbsState) (at 
     -- sets one register and the flags; the carry tag names no register
     answers : (d result flags : ℕ) (answer : TriByte × TriByte) (t : Tag) (c : CarryTag) → Covers answer result flags → result < 256 → flag flags 7 ≡ flag m.sreg 7
         → TagHolds o t result → CarryHolds o c (flag flags 0) → NamesNone c
-        → FollowsWhere may m o s.facts k guarded b1 b2 (setting m (set d result) flags) (node_setting m.device k s (node_set s d (with_bits t answer.0)) (with_carry answer.1 c))
+        → FollowsWhere may m o s.facts k guarded b1 b2 (setting m (set d result) flags) (node_setting (site_at m.device k s) (node_set s d (with_bits t answer.0)) (with_carry answer.1 c))
     answers d result flags answer t c covers small i tagged borrow none =
         sets m o k s at guarded b1 b2 (set d result) flags (node_set s d (with_bits t answer.0)) (with_carry answer.1 c) i
         (set_one m o k s at d (with_bits t answer.0) result (bits_make_values.stands o t answer.0 result small tagged covers.0)) (record { entry = tt; bits = covers.1; carry = borrow })
@@ -133,7 +134,7 @@ module _ {may : Bool} (m : State) (o : Origin) (k : NodeKey) (s : AbsState) (at 
 
     -- sets one register and the flags, and keeps the carry
     kept : (d result flags : ℕ) (v : AbsByte) (b : TriByte) → ByteStands o v result → Has b flags → flag flags 7 ≡ flag m.sreg 7 → flag flags 0 ≡ flag m.sreg 0
-        → Spares s.flags.carry d → FollowsWhere may m o s.facts k guarded b1 b2 (setting m (set d result) flags) (node_setting m.device k s (node_set s d v) (but_carry s b))
+        → Spares s.flags.carry d → FollowsWhere may m o s.facts k guarded b1 b2 (setting m (set d result) flags) (node_setting (site_at m.device k s) (node_set s d v) (but_carry s b))
     kept d result flags v b h has i c spare =
         sets m o k s at guarded b1 b2 (set d result) flags (node_set s d v) (but_carry s b) i (set_one m o k s at d v result h)
         (record { entry = tt; bits = has; carry = subst (CarryHolds o s.flags.carry) (sym c) at.stands.flags.carry })
@@ -141,13 +142,13 @@ module _ {may : Bool} (m : State) (o : Origin) (k : NodeKey) (s : AbsState) (at 
 
     keeps : (d result flags : ℕ) (answer : TriByte × TriByte) → Covers answer result flags → result < 256 → flag flags 7 ≡ flag m.sreg 7 → flag flags 0 ≡ flag m.sreg 0
         → Spares s.flags.carry d
-        → FollowsWhere may m o s.facts k guarded b1 b2 (setting m (set d result) flags) (node_setting m.device k s (node_set s d (untagged answer.0)) (but_carry s answer.1))
+        → FollowsWhere may m o s.facts k guarded b1 b2 (setting m (set d result) flags) (node_setting (site_at m.device k s) (node_set s d (untagged answer.0)) (but_carry s answer.1))
     keeps d result flags answer covers small i c spare =
         kept d result flags (untagged answer.0) answer.1 (bits_make_values.stands o tag.None answer.0 result small tt covers.0) covers.1 i c spare
 
     -- sets one register and keeps the flags
     pub moves : (d x : ℕ) (v : AbsByte) → ByteStands o v x → Spares s.flags.carry d
-        → FollowsWhere may m o s.facts k guarded b1 b2 (setting m (set d x) m.sreg) (node_setting m.device k s (node_set s d v) s.flags)
+        → FollowsWhere may m o s.facts k guarded b1 b2 (setting m (set d x) m.sreg) (node_setting (site_at m.device k s) (node_set s d v) s.flags)
     moves d x v h spare =
         sets m o k s at guarded b1 b2 (set d x) m.sreg (node_set s d v) s.flags refl (set_one m o k s at d v x h) at.stands.flags
         (less_set m.registers s.flags.carry (flag m.sreg 0) d x spare at.stands.less)
@@ -156,14 +157,14 @@ module _ {may : Bool} (m : State) (o : Origin) (k : NodeKey) (s : AbsState) (at 
 
     pub sum_tagged_covered : (d y : ℕ) (b : TriByte) (c : Bool) (t : Tri) (v : Tag) (w : CarryTag) → y < 256 → Has b y → Permits t (from_bool c)
         → TagHolds o v (sum_of (register m d) y c % 256) → CarryHolds o w (nat_le 256 (sum_of (register m d) y c)) → NamesNone w
-        → FollowsWhere may m o s.facts k guarded b1 b2 (sum_effect m d (register m d) y c) (going_with m.device k s (sum_tagged s d b t v w))
+        → FollowsWhere may m o s.facts k guarded b1 b2 (sum_effect m d (register m d) y c) (going_with (site_at m.device k s) (sum_tagged s d b t (v, w)))
     sum_tagged_covered d y b c t v w small has may tagged carries none =
         answers d (sum_of (register m d) y c % 256) (flags_of_sum (register m d) y c m.sreg) (abs_add (bits s d) b t s.flags.bits) v w
         (all_sums_cover.sums (bits s d) b s.flags.bits t (register m d) y m.sreg c (register_byte d) small (register_bits d) has flag_bits may)
         (omega arith) (with_flags_i _ _ _ _ _ m.sreg) tagged (subst (CarryHolds o w) (sym (with_flags_carry _ _ _ _ _ m.sreg)) carries) none
 
     pub sum_covered : (d y : ℕ) (b : TriByte) (c : Bool) (t : Tri) → y < 256 → Has b y → Permits t (from_bool c)
-        → FollowsWhere may m o s.facts k guarded b1 b2 (sum_effect m d (register m d) y c) (going_with m.device k s (sum_after s d b t))
+        → FollowsWhere may m o s.facts k guarded b1 b2 (sum_effect m d (register m d) y c) (going_with (site_at m.device k s) (sum_after s d b t))
     sum_covered d y b c t small has may = sum_tagged_covered d y b c t tag.None carry_tag.None small has may tt tt tt
 
     difference_covers : (x y : ℕ) (a b : TriByte) (c : Bool) (t : Tri) (keep_zero : Bool) → x < 256 → y < 256 → Has a x → Has b y → Permits t (from_bool c)
@@ -174,7 +175,7 @@ module _ {may : Bool} (m : State) (o : Origin) (k : NodeKey) (s : AbsState) (at 
     -- the carry tag names a register, or is none
     pub compare_covered : (x y : ℕ) (a b : TriByte) (c : Bool) (t : Tri) (keep_zero : Bool) (w : CarryTag) → x < 256 → y < 256 → Has a x → Has b y → Permits t (from_bool c)
         → CarryIsUntagged w → LessHolds m.registers w (nat_lt x (y + from_bool c))
-        → FollowsWhere may m o s.facts k guarded b1 b2 (compare_effect m x y c keep_zero) (going_with m.device k s (compare_after s a b t keep_zero w))
+        → FollowsWhere may m o s.facts k guarded b1 b2 (compare_effect m x y c keep_zero) (going_with (site_at m.device k s) (compare_after s (a, b) (t, keep_zero) w))
     compare_covered x y a b c t keep_zero w small_x small_y has_x has_y may free less =
         sets m o k s at guarded b1 b2 [] (flags_of_difference x y c keep_zero m.sreg) s.registers (with_carry (abs_sub a b t keep_zero s.flags.bits).1 w)
         (with_flags_i _ _ _ _ _ m.sreg) at.stands.registers
@@ -183,7 +184,7 @@ module _ {may : Bool} (m : State) (o : Origin) (k : NodeKey) (s : AbsState) (at 
 
     pub difference_covered : (d x y : ℕ) (a b : TriByte) (c : Bool) (t : Tri) (keep_zero : Bool) (v : Tag) (w : CarryTag) → x < 256 → y < 256 → Has a x → Has b y
         → Permits t (from_bool c) → TagHolds o v (difference_of x y c) → CarryHolds o w (nat_lt x (y + from_bool c)) → NamesNone w
-        → FollowsWhere may m o s.facts k guarded b1 b2 (difference_effect m d x y c keep_zero) (going_with m.device k s (difference_after s d a b t keep_zero v w))
+        → FollowsWhere may m o s.facts k guarded b1 b2 (difference_effect m d x y c keep_zero) (going_with (site_at m.device k s) (difference_after s d (a, b) (t, keep_zero) (v, w)))
     difference_covered d x y a b c t keep_zero v w small_x small_y has_x has_y may tagged borrow none =
         answers d (difference_of x y c) (flags_of_difference x y c keep_zero m.sreg) (abs_sub a b t keep_zero s.flags.bits) v w
         (difference_covers x y a b c t keep_zero small_x small_y has_x has_y may) (difference_small x y c)
@@ -216,21 +217,21 @@ module _ {may : Bool} (m : State) (o : Origin) (k : NodeKey) (s : AbsState) (at 
     no_carry y = omega arith
 
     pub sub_covered : (d y : ℕ) (b : TriByte) (number : Option ℕ) → y < 256 → Has b y → ((l : ℕ) → number ≡ Some l → y ≡ l)
-        → FollowsWhere may m o s.facts k guarded b1 b2 (difference_effect m d (register m d) y false false) (going_with m.device k s (sub_after s d (bits s d) b number))
+        → FollowsWhere may m o s.facts k guarded b1 b2 (difference_effect m d (register m d) y false false) (going_with (site_at m.device k s) (sub_after s d (bits s d) b number))
     sub_covered d y b number small has is =
         difference_covered d (register m d) y (bits s d) b false Zero false _ _ (register_byte d) small (register_bits d) has refl (low_holds d y number small is)
         (subst (λ n. CarryHolds o (borrow_tag (value s d).tag number) (nat_lt (register m d) n)) (sym (no_carry y)) (borrow_holds d y number small is))
         (borrow_names_none (value s d).tag number)
 
     pub sbc_covered : (d y : ℕ) (b : TriByte) (number : Option ℕ) → y < 256 → Has b y → ((l : ℕ) → number ≡ Some l → y ≡ l)
-        → FollowsWhere may m o s.facts k guarded b1 b2 (difference_effect m d (register m d) y (carry m) true) (going_with m.device k s (sbc_after s d b number))
+        → FollowsWhere may m o s.facts k guarded b1 b2 (difference_effect m d (register m d) y (carry m) true) (going_with (site_at m.device k s) (sbc_after s d b number))
     sbc_covered d y b number small has is =
         difference_covered d (register m d) y (bits s d) b (carry m) (carry_bit s) true _ carry_tag.None (register_byte d) small (register_bits d) has carry_may (high_holds d y number small is) tt tt
 
     -- subtracts a register, possibly from itself
     pub sub_by : (d r : ℕ) (same : Bool) → (d == r) ≡ same
         → FollowsWhere may m o s.facts k guarded b1 b2 (difference_effect m d (register m d) (register m r) false false)
-        (going_with m.device k s (sub_after s d (if same then byte_known 0 else bits s d) (if same then byte_known 0 else bits s r) (byte_constant (bits s r))))
+        (going_with (site_at m.device k s) (sub_after s d (if same then byte_known 0 else bits s d) (if same then byte_known 0 else bits s r) (byte_constant (bits s r))))
     sub_by d r false e =
         sub_covered d (register m r) (bits s r) (byte_constant (bits s r)) (register_byte r) (register_bits r)
         (λ l some. constant_is (bits s r) (register m r) l some (register_byte r) (register_bits r))
@@ -253,7 +254,7 @@ module _ {may : Bool} (m : State) (o : Origin) (k : NodeKey) (s : AbsState) (at 
     -- ---- bit by bit
 
     pub logic_covered : (op : Logic) (d x y : ℕ) (a b : TriByte) → x < 256 → y < 256 → Has a x → Has b y → Spares s.flags.carry d
-        → FollowsWhere may m o s.facts k guarded b1 b2 (logic_effect m op d x y) (going_with m.device k s (logic_after s op d a b false))
+        → FollowsWhere may m o s.facts k guarded b1 b2 (logic_effect m op d x y) (going_with (site_at m.device k s) (logic_after s op d (a, b) false))
     logic_covered op d x y a b small_x small_y has_x has_y spare =
         keeps d (logic_of op x y) (flags_of_result (carry m) false (logic_of op x y) m.sreg) (abs_logic op a b s.flags.bits)
         (all_bitwise_cover.logics op a b s.flags.bits x y m.sreg small_x small_y has_x has_y flag_bits) (logic_small op x y small_x small_y)
@@ -261,7 +262,7 @@ module _ {may : Bool} (m : State) (o : Origin) (k : NodeKey) (s : AbsState) (at 
 
     -- a register with itself keeps its value
     kept_by : (op : Logic) → ((x : ℕ) → logic_of op x x ≡ x) → (d r : ℕ) → Spares s.flags.carry d → (same : Bool) → (d == r) ≡ same
-        → FollowsWhere may m o s.facts k guarded b1 b2 (logic_effect m op d (register m d) (register m r)) (going_with m.device k s (logic_after s op d (bits s d) (bits s r) same))
+        → FollowsWhere may m o s.facts k guarded b1 b2 (logic_effect m op d (register m d) (register m r)) (going_with (site_at m.device k s) (logic_after s op d (bits s d, bits s r) same))
     kept_by op itself d r spare false e = logic_covered op d (register m d) (register m r) (bits s d) (bits s r) (register_byte d) (register_byte r) (register_bits d) (register_bits r) spare
     kept_by op itself d r spare true e =
         let is : d ≡ r = grind (arith, nat_tests) in
@@ -272,21 +273,21 @@ module _ {may : Bool} (m : State) (o : Origin) (k : NodeKey) (s : AbsState) (at 
         (result_i (carry m) false x m.sreg) (result_carry (carry m) false x m.sreg) spare
 
     pub kept_covered : (op : Logic) → ((x : ℕ) → logic_of op x x ≡ x) → (d r : ℕ) → Spares s.flags.carry d
-        → FollowsWhere may m o s.facts k guarded b1 b2 (logic_effect m op d (register m d) (register m r)) (going_with m.device k s (logic_after s op d (bits s d) (bits s r) (d == r)))
+        → FollowsWhere may m o s.facts k guarded b1 b2 (logic_effect m op d (register m d) (register m r)) (going_with (site_at m.device k s) (logic_after s op d (bits s d, bits s r) (d == r)))
     kept_covered op itself d r spare = kept_by op itself d r spare (d == r) refl
 
     pub eor_by : (d r : ℕ) → Spares s.flags.carry d → (same : Bool) → (d == r) ≡ same
         → FollowsWhere may m o s.facts k guarded b1 b2 (logic_effect m logic.Eor d (register m d) (register m r))
-        (going_with m.device k s (logic_after s logic.Eor d (if same then byte_known 0 else bits s d) (if same then byte_known 0 else bits s r) false))
+        (going_with (site_at m.device k s) (logic_after s logic.Eor d (if same then byte_known 0 else bits s d, if same then byte_known 0 else bits s r) false))
     eor_by d r spare false e = logic_covered logic.Eor d (register m d) (register m r) (bits s d) (bits s r) (register_byte d) (register_byte r) (register_bits d) (register_bits r) spare
     eor_by d r spare true e =
         let is : d ≡ r = grind (arith, nat_tests) in
         let none : 0 ≡ bit_xor (register m d) (register m r) = sym (ap (λ n. bit_xor (register m d) (register m n)) (sym is) ∙ xor_self (register m d)) in
-        subst (λ n. FollowsWhere may m o s.facts k guarded b1 b2 (setting m (set d n) (flags_of_result (carry m) false n m.sreg)) (going_with m.device k s (logic_after s logic.Eor d (byte_known 0) (byte_known 0) false))) none
+        subst (λ n. FollowsWhere may m o s.facts k guarded b1 b2 (setting m (set d n) (flags_of_result (carry m) false n m.sreg)) (going_with (site_at m.device k s) (logic_after s logic.Eor d (byte_known 0, byte_known 0) false))) none
         (logic_covered logic.Eor d 0 0 (byte_known 0) (byte_known 0) (omega arith) (omega arith) (has_known 0 (omega arith)) (has_known 0 (omega arith)) spare)
 
     pub step_tagged_covered : (up : Bool) (d : ℕ) (v : Tag) → TagHolds o v (step_of up (register m d)) → Spares s.flags.carry d
-        → FollowsWhere may m o s.facts k guarded b1 b2 (step_effect m up d) (going_with m.device k s (step_tagged s up d v))
+        → FollowsWhere may m o s.facts k guarded b1 b2 (step_effect m up d) (going_with (site_at m.device k s) (step_tagged s up d v))
     step_tagged_covered up d v tagged spare =
         let answer = abs_step_one up (bits s d) s.flags.bits in
         let covers = all_bitwise_cover.steps up (bits s d) s.flags.bits (register m d) m.sreg (register_byte d) (register_bits d) flag_bits in
@@ -294,10 +295,10 @@ module _ {may : Bool} (m : State) (o : Origin) (k : NodeKey) (s : AbsState) (at 
         (with_bits v answer.0) answer.1 (bits_make_values.stands o v answer.0 (step_of up (register m d)) (step_small up (register m d)) tagged covers.0) covers.1
         (result_i (carry m) _ (step_of up (register m d)) m.sreg) (result_carry (carry m) _ (step_of up (register m d)) m.sreg) spare
 
-    pub step_covered : (up : Bool) (d : ℕ) → Spares s.flags.carry d → FollowsWhere may m o s.facts k guarded b1 b2 (step_effect m up d) (going_with m.device k s (step_after s up d))
+    pub step_covered : (up : Bool) (d : ℕ) → Spares s.flags.carry d → FollowsWhere may m o s.facts k guarded b1 b2 (step_effect m up d) (going_with (site_at m.device k s) (step_after s up d))
     step_covered up d spare = step_tagged_covered up d tag.None tt spare
 
-    pub shift_covered : (op : Shift) (d : ℕ) → FollowsWhere may m o s.facts k guarded b1 b2 (shift_effect m op d) (going_with m.device k s (shift_after s op d))
+    pub shift_covered : (op : Shift) (d : ℕ) → FollowsWhere may m o s.facts k guarded b1 b2 (shift_effect m op d) (going_with (site_at m.device k s) (shift_after s op d))
     shift_covered op d =
         answers d (shift_of op (register m d) m.sreg) (flags_of_shift (register m d) (shift_of op (register m d) m.sreg) m.sreg)
         (abs_shift op (bits s d) s.flags.bits) tag.None carry_tag.None
@@ -305,14 +306,14 @@ module _ {may : Bool} (m : State) (o : Origin) (k : NodeKey) (s : AbsState) (at 
         (shift_small op (register m d) m.sreg (register_byte d)) (with_flags_i _ _ _ _ _ m.sreg) tt tt tt
 
     pub com_covered : (d : ℕ)
-        → FollowsWhere may m o s.facts k guarded b1 b2 (setting m (set d (255 - register m d)) (flags_of_result true false (255 - register m d) m.sreg)) (going_with m.device k s (com_after s d))
+        → FollowsWhere may m o s.facts k guarded b1 b2 (setting m (set d (255 - register m d)) (flags_of_result true false (255 - register m d) m.sreg)) (going_with (site_at m.device k s) (com_after s d))
     com_covered d =
         answers d (255 - register m d) (flags_of_result true false (255 - register m d) m.sreg) (abs_com (bits s d) s.flags.bits) tag.None carry_tag.None
         (all_bitwise_cover.coms (bits s d) s.flags.bits (register m d) m.sreg (register_byte d) (register_bits d) flag_bits)
         (omega arith) (result_i true false (255 - register m d) m.sreg) tt tt tt
 
     pub swap_covered : (d : ℕ) → Spares s.flags.carry d
-        → FollowsWhere may m o s.facts k guarded b1 b2 (setting m (set d (register m d % 16 * 16 + register m d / 16)) m.sreg) (node_setting m.device k s (node_set s d (untagged (swapped (bits s d)))) s.flags)
+        → FollowsWhere may m o s.facts k guarded b1 b2 (setting m (set d (register m d % 16 * 16 + register m d / 16)) m.sreg) (node_setting (site_at m.device k s) (node_set s d (untagged (swapped (bits s d)))) s.flags)
     swap_covered d spare =
         moves d (register m d % 16 * 16 + register m d / 16) (untagged (swapped (bits s d)))
         (bits_make_values.stands o tag.None (swapped (bits s d)) (register m d % 16 * 16 + register m d / 16) (omega (arith, register_byte d)) tt
@@ -324,7 +325,7 @@ module _ {may : Bool} (m : State) (o : Origin) (k : NodeKey) (s : AbsState) (at 
         → RegistersStand o (node_pair s.registers d lo hi) (with_registers m.registers (set_pair d w))
     pair_stands d w lo hi h g = set_two m o k s at d (d + 1) lo hi (low w) (high w) h g
 
-    pub product_covered : (op : Mul) (d r : ℕ) → FollowsWhere may m o s.facts k guarded b1 b2 (product_effect m op (register m d) (register m r)) (product_row m.device k s op d r)
+    pub product_covered : (op : Mul) (d r : ℕ) → FollowsWhere may m o s.facts k guarded b1 b2 (product_effect m op (register m d) (register m r)) (product_row (site_at m.device k s) op d r)
     product_covered op d r =
         let covers = all_products_cover.products op (bits s d) (bits s r) s.flags.bits (register m d) (register m r) m.sreg (register_byte d) (register_byte r) (register_bits d) (register_bits r) flag_bits in
         let answer = abs_mul op (bits s d) (bits s r) s.flags.bits in
@@ -337,7 +338,7 @@ module _ {may : Bool} (m : State) (o : Origin) (k : NodeKey) (s : AbsState) (at 
         (record { entry = tt; bits = covers.2; carry = tt }) tt
 
     pub movw_covered : (d r : ℕ) → SparesAll s.flags.carry (d ∷ (d + 1) ∷ [])
-        → FollowsWhere may m o s.facts k guarded b1 b2 (setting m (set_pair d (pair m r)) m.sreg) (node_setting m.device k s (node_pair s.registers d (value s r) (value s (r + 1))) s.flags)
+        → FollowsWhere may m o s.facts k guarded b1 b2 (setting m (set_pair d (pair m r)) m.sreg) (node_setting (site_at m.device k s) (node_pair s.registers d (value s r) (value s (r + 1))) s.flags)
     movw_covered d r spares =
         sets m o k s at guarded b1 b2 (set_pair d (pair m r)) m.sreg (node_pair s.registers d (value s r) (value s (r + 1))) s.flags refl
         (pair_stands d (pair m r) (value s r) (value s (r + 1))
@@ -377,7 +378,7 @@ module _ {may : Bool} (m : State) (o : Origin) (k : NodeKey) (s : AbsState) (at 
         (bits_make_values.stands o (pair_tags s d up n).0 answer.0.0 (low (wide_of up (pair m d) n)) (omega arith) tags.low covers.0)
         (bits_make_values.stands o (pair_tags s d up n).1 answer.0.1 (high (wide_of up (pair m d) n)) (omega (arith, wide_small up (pair m d) n)) tags.high covers.1)
 
-    pub wide_covered : (up : Bool) (d n : ℕ) → n < 256 → FollowsWhere may m o s.facts k guarded b1 b2 (wide_effect m up d n) (wide_row m.device k s up d n)
+    pub wide_covered : (up : Bool) (d n : ℕ) → n < 256 → FollowsWhere may m o s.facts k guarded b1 b2 (wide_effect m up d n) (wide_row (site_at m.device k s) up d n)
     wide_covered up d n small =
         sets m o k s at guarded b1 b2 (set_pair d (wide_of up (pair m d) n)) (flags_of_wide up (pair m d) n m.sreg)
         (pair_moved s d up n) (with_carry (abs_wide up (bits s d, bits s (d + 1)) n s.flags.bits).1 carry_tag.None) (wide_i up (pair m d) n m.sreg)

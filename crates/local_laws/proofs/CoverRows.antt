@@ -46,7 +46,7 @@ use Rattle.local_rules.specs.Raw.{Raw, further}
 use Rattle.local_rules.specs.Registers.{value, bits, carry_bit, less_than, less_kept, going_by, binary_after}
 use Rattle.local_rules.specs.FrameLines.{is_followed, framed_binary}
 use Rattle.local_rules.specs.Flow.{skipping as node_skipping}
-use Rattle.local_rules.specs.Local.{binary_row, immediate_row, unary_row, row_of}
+use Rattle.local_rules.specs.Local.{immediate_row, unary_row, row_of}
 use Rattle.local_rules.specs.Cover.{IsUnflagged}
 use Rattle.local_laws.proofs.Bare.{InBareFrame}
 use Rattle.local_laws.proofs.Landing.{FollowsWhere}
@@ -60,6 +60,9 @@ use Rattle.local_laws.proofs.FlowRows.{not_may, going_covered, further_is, goes_
 use Rattle.local_laws.proofs.Sized.{IsInstrSized}
 use Rattle.local_laws.proofs.Stack.{pop_covered, push_covered, rcall_covered}
 use Rattle.local_laws.proofs.Targets.{MakesRoom}
+use Rattle.local_rules.specs.Site.{Task, site_at, task_with}
+use Rattle.local_rules.specs.Local.{equal_skip}
+use Rattle.local_rules.specs.FrameLines.{binary_at}
 
 -- rows that read or write data space by an address
 abbrev pub NamesAddress : Instr → Type 0
@@ -88,7 +91,7 @@ module _ {may : Bool} (m : State) (o : Origin) (k : NodeKey) (s : AbsState) (at 
   register_number r l some = constant_is (bits s r) (register m r) l some (register_byte m o k s at r) (register_bits m o k s at r)
 
   module _ (guarded : Bool) where
-    immediate_covered : (op : ImmediateOp) (d n : ℕ) → SparesAll s.flags.carry (set_by_immediate op d) → n < 256 → FollowsWhere may m o s.facts k guarded b1 b2 (immediate_effect m op d n) (immediate_row m.device false k s op d n)
+    immediate_covered : (op : ImmediateOp) (d n : ℕ) → SparesAll s.flags.carry (set_by_immediate op d) → n < 256 → FollowsWhere may m o s.facts k guarded b1 b2 (immediate_effect m op d n) (immediate_row false (site_at m.device k s) op d n)
     immediate_covered immediate.Cpi d n spares small =
         compare_covered m o k s at guarded b1 b2 (register m d) n (bits s d) (byte_known n) false Zero false (carry_tag.Less d n) (register_byte m o k s at d) small (register_bits m o k s at d)
         (has_known n small) refl tt (compared m.registers d n n refl)
@@ -100,7 +103,7 @@ module _ {may : Bool} (m : State) (o : Origin) (k : NodeKey) (s : AbsState) (at 
         logic_covered m o k s at guarded b1 b2 logic.And d (register m d) n (bits s d) (byte_known n) (register_byte m o k s at d) small (register_bits m o k s at d) (has_known n small) spares.0
     immediate_covered immediate.Ldi d n spares small = moves m o k s at guarded b1 b2 d n (known n) (bits_make_values.stands o tag.None (byte_known n) n small tt (has_known n small)) spares.0
 
-    unary_covered : (op : UnaryOp) (d : ℕ) → Spares s.flags.carry d → FollowsWhere may m o s.facts k guarded b1 b2 (unary_effect m op d) (unary_row m.device false k s op d)
+    unary_covered : (op : UnaryOp) (d : ℕ) → Spares s.flags.carry d → FollowsWhere may m o s.facts k guarded b1 b2 (unary_effect m op d) (unary_row false (site_at m.device k s) op d)
     unary_covered unary.Com d spare = com_covered m o k s at guarded b1 b2 d
     unary_covered unary.Neg d spare =
         difference_covered m o k s at guarded b1 b2 d 0 (register m d) (byte_known 0) (bits s d) false Zero false tag.None carry_tag.None (omega arith) (register_byte m o k s at d)
@@ -112,7 +115,7 @@ module _ {may : Bool} (m : State) (o : Origin) (k : NodeKey) (s : AbsState) (at 
     unary_covered unary.Ror d spare = shift_covered m o k s at guarded b1 b2 shift.Ror d
     unary_covered unary.Dec d spare = step_covered m o k s at guarded b1 b2 false d spare
 
-    binary_covered : (words : Program) (op : BinaryOp) (d r : ℕ) → SparesAll s.flags.carry (set_by_binary op d) → FollowsWhere may m o s.facts k guarded b1 b2 (binary_effect words m op d r) (binary_row m.device words false k s op d r)
+    binary_covered : (words : Program) (op : BinaryOp) (d r : ℕ) → SparesAll s.flags.carry (set_by_binary op d) → FollowsWhere may m o s.facts k guarded b1 b2 (binary_effect words m op d r) (going_by (site_at m.device k s) (binary_at false s op d r) (equal_skip words (site_at m.device k s) d r))
     binary_covered words binary.Cpc d r spares =
         compare_covered m o k s at guarded b1 b2 (register m d) (register m r) (bits s d) (bits s r) (carry m) (carry_bit s) true
         (less_kept (byte_constant (bits s d)) (byte_constant (bits s r)) s.flags.carry) (register_byte m o k s at d) (register_byte m o k s at r)
@@ -140,7 +143,7 @@ module _ {may : Bool} (m : State) (o : Origin) (k : NodeKey) (s : AbsState) (at 
 
     -- ---- at a site with a `frame` line
 
-    framed_immediate_covered : (op : ImmediateOp) (d n : ℕ) → SparesAll s.flags.carry (set_by_immediate op d) → n < 256 → FollowsWhere may m o s.facts k guarded b1 b2 (immediate_effect m op d n) (immediate_row m.device true k s op d n)
+    framed_immediate_covered : (op : ImmediateOp) (d n : ℕ) → SparesAll s.flags.carry (set_by_immediate op d) → n < 256 → FollowsWhere may m o s.facts k guarded b1 b2 (immediate_effect m op d n) (immediate_row true (site_at m.device k s) op d n)
     framed_immediate_covered immediate.Cpi d n spares small = immediate_covered immediate.Cpi d n spares small
     framed_immediate_covered immediate.Sbci d n spares small = immediate_covered immediate.Sbci d n spares small
     framed_immediate_covered immediate.Subi d n spares small = framed_sub_covered m o k s at guarded b1 b2 d n (byte_known n) (Some n) small (has_known n small) (same_Some n)
@@ -148,11 +151,11 @@ module _ {may : Bool} (m : State) (o : Origin) (k : NodeKey) (s : AbsState) (at 
     framed_immediate_covered immediate.Andi d n spares small = immediate_covered immediate.Andi d n spares small
     framed_immediate_covered immediate.Ldi d n spares small = immediate_covered immediate.Ldi d n spares small
 
-    immediate_line_covered : (line : Bool) (op : ImmediateOp) (d n : ℕ) → SparesAll s.flags.carry (set_by_immediate op d) → n < 256 → FollowsWhere may m o s.facts k guarded b1 b2 (immediate_effect m op d n) (immediate_row m.device line k s op d n)
+    immediate_line_covered : (line : Bool) (op : ImmediateOp) (d n : ℕ) → SparesAll s.flags.carry (set_by_immediate op d) → n < 256 → FollowsWhere may m o s.facts k guarded b1 b2 (immediate_effect m op d n) (immediate_row line (site_at m.device k s) op d n)
     immediate_line_covered true op d n spares small = framed_immediate_covered op d n spares small
     immediate_line_covered false op d n spares small = immediate_covered op d n spares small
 
-    framed_unary_covered : (op : UnaryOp) (d : ℕ) → Spares s.flags.carry d → FollowsWhere may m o s.facts k guarded b1 b2 (unary_effect m op d) (unary_row m.device true k s op d)
+    framed_unary_covered : (op : UnaryOp) (d : ℕ) → Spares s.flags.carry d → FollowsWhere may m o s.facts k guarded b1 b2 (unary_effect m op d) (unary_row true (site_at m.device k s) op d)
     framed_unary_covered unary.Com d spare = unary_covered unary.Com d spare
     framed_unary_covered unary.Neg d spare = unary_covered unary.Neg d spare
     framed_unary_covered unary.Swap d spare = unary_covered unary.Swap d spare
@@ -162,13 +165,13 @@ module _ {may : Bool} (m : State) (o : Origin) (k : NodeKey) (s : AbsState) (at 
     framed_unary_covered unary.Ror d spare = unary_covered unary.Ror d spare
     framed_unary_covered unary.Dec d spare = framed_step_covered m o k s at guarded b1 b2 false d spare
 
-    unary_line_covered : (line : Bool) (op : UnaryOp) (d : ℕ) → Spares s.flags.carry d → FollowsWhere may m o s.facts k guarded b1 b2 (unary_effect m op d) (unary_row m.device line k s op d)
+    unary_line_covered : (line : Bool) (op : UnaryOp) (d : ℕ) → Spares s.flags.carry d → FollowsWhere may m o s.facts k guarded b1 b2 (unary_effect m op d) (unary_row line (site_at m.device k s) op d)
     unary_line_covered true op d spare = framed_unary_covered op d spare
     unary_line_covered false op d spare = unary_covered op d spare
 
     -- the row of two registers, with pairs or without
     abbrev row_by : Program → Bool → BinaryOp → ℕ → ℕ → Raw
-    row_by words framed op d r = going_by m.device k s (if framed then framed_binary s op d r else binary_after s op d r) (node_skipping m.device words k k s (byte_equal (bits s d) (bits s r)))
+    row_by words framed op d r = going_by (site_at m.device k s) (if framed then framed_binary s op d r else binary_after s op d r) (node_skipping words (site_at m.device k s) k k (byte_equal (bits s d) (bits s r)))
 
     binary_line_covered : (words : Program) (framed : Bool) (op : BinaryOp) (d r : ℕ) → SparesAll s.flags.carry (set_by_binary op d) → FollowsWhere may m o s.facts k guarded b1 b2 (binary_effect words m op d r) (row_by words framed op d r)
     binary_line_covered words false op d r spares = binary_covered words op d r spares
@@ -195,14 +198,17 @@ unfolding unlisted_transfer
 listed_call A pc e h = h
 
 module _ (A : List Entry) (m : State) (o : Origin) (k : NodeKey) (s : AbsState) (at : InBareFrame (reads_masks m.device A) m o k s) (b1 b2 : ℕ) (words : Program) (scratch : Bool) where
+  abbrev task : Task
+  task = task_with words A
+
   bit_may : (r b : ℕ) → Permits (tri_at (bits s r) b) (from_bool (flag (register m r) b))
   bit_may r b = permits_flag (bits s r) (register m r) b (register_bits m o k s at r)
 
   -- the goal of a row
   abbrev pub RowIsCovered : Instr → Type 0
   RowIsCovered instr =
-      (row_of m.device words A scratch k s instr).faults ≡ [] → IsUnflagged words A m instr (effect_of words m instr b1 b2)
-      → FollowsWhere (reads_masks m.device A) m o s.facts k (not scratch) b1 b2 (effect_of words m instr b1 b2) (row_of m.device words A scratch k s instr)
+      (row_of task scratch (site_at m.device k s) instr).faults ≡ [] → IsUnflagged task m instr (effect_of words m instr b1 b2)
+      → FollowsWhere (reads_masks m.device A) m o s.facts k (not scratch) b1 b2 (effect_of words m instr b1 b2) (row_of task scratch (site_at m.device k s) instr)
 
   -- Each row is covered, if those that name an address are.
   pub row_covered : b1 < 256 → (instr : Instr) → SparesAll s.flags.carry (written instr) → IsInstrSized instr → (scratch ≡ true → MakesRoom instr) → (NamesAddress instr → RowIsCovered instr) → RowIsCovered instr

@@ -33,6 +33,7 @@ use Rattle.local_laws.proofs.SplitMembers.{are_written}
 use Rattle.local_laws.proofs.Targets.{scratch_makes_room}
 use Rattle.local_laws.proofs.Quiet.{Quiet}
 use Rattle.local_laws.proofs.Picks.{splits_at, at_quiet, in_picks, picked_at, all_covered}
+use Rattle.local_rules.specs.Site.{Task, site_at, task_with}
 
 module _ (ws : List ℕ) (A : List Entry) (m : State) (o : Origin) (k : NodeKey) (s : AbsState) (at : InBareFrame (reads_masks m.device A) m o k s) (b1 b2 : ℕ) (small : b1 < 256)
     (other : b2 < 256) (are : AreWords (image m.device ws)) where
@@ -40,20 +41,23 @@ module _ (ws : List ℕ) (A : List Entry) (m : State) (o : Origin) (k : NodeKey)
   abbrev words : Program
   words = image m.device ws
 
+  abbrev task : Task
+  task = task_with words A
+
   -- if no interrupt may come with a half-written stack pointer, and the frame fits SRAM, the row decides
-  not_hung : (hung : Bool) (instr : Option Instr) (r : Raw) → CoversStep words A m o k b1 b2 instr r → CoversStep words A m o k b1 b2 instr (untracked_if hung k.pc r)
+  not_hung : (hung : Bool) (instr : Option Instr) (r : Raw) → CoversStep task m o k b1 b2 instr r → CoversStep task m o k b1 b2 instr (untracked_if hung k.pc r)
   not_hung true None r h = λ clean. absurd (let e = clean in cc)
   not_hung true (Some instr) r h = λ clean. absurd (let e = clean in cc)
   not_hung false instr r h = h
 
-  not_deep : (deep : Bool) (offset : ℕ) (instr : Option Instr) (r : Raw) → CoversStep words A m o k b1 b2 instr r
-      → CoversStep words A m o k b1 b2 instr (too_deep_if deep k.pc offset r)
+  not_deep : (deep : Bool) (offset : ℕ) (instr : Option Instr) (r : Raw) → CoversStep task m o k b1 b2 instr r
+      → CoversStep task m o k b1 b2 instr (too_deep_if deep k.pc offset r)
   not_deep true offset None r h = λ clean. absurd (let e = clean in cc)
   not_deep true offset (Some instr) r h = λ clean. absurd (let e = clean in cc)
   not_deep false offset instr r h = h
 
   plain_covered : (instr : Instr) → instruction_at words m.pc ≡ Some instr
-      → CoversStep words A m o k b1 b2 (Some instr) (plain_row m.device words A (is_scratch words m.pc) k s instr)
+      → CoversStep task m o k b1 b2 (Some instr) (plain_row task (is_scratch words m.pc) (site_at m.device k s) instr)
   plain_covered instr e =
       let t = before instr s in
       let there = forgetting_at m o k s (written instr) (sets_flags instr) (sets_carry instr) at in
@@ -61,14 +65,14 @@ module _ (ws : List ℕ) (A : List Entry) (m : State) (o : Origin) (k : NodeKey)
       let sized = sized_at words m.pc instr e in
       let row =
       row_covered A m o k t there b1 b2 words (is_scratch words m.pc) small instr spares sized (λ scratch. scratch_makes_room words m.pc instr scratch e)
-      (λ names. addressed_covered words A m o k t there (is_scratch words m.pc) b1 b2 are_written are small instr spares names refl) in
+      (λ names. addressed_covered task m o k t there (is_scratch words m.pc) b1 b2 are_written are small instr spares names refl) in
       λ clean unflagged. (row clean unflagged).leads (held words m o k s b1 b2 instr are small other sized at)
 
-  at_instruction : (instr : Option Instr) → instruction_at words m.pc ≡ instr → CoversStep words A m o k b1 b2 instr (row_at m.device words A (is_scratch words m.pc) k s instr)
+  at_instruction : (instr : Option Instr) → instruction_at words m.pc ≡ instr → CoversStep task m o k b1 b2 instr (row_at task (is_scratch words m.pc) (site_at m.device k s) instr)
   at_instruction None e = λ clean. absurd (let e = clean in cc)
   at_instruction (Some instr) e = by s.facts refl
     where
-      by : (f : Option PairFacts) → s.facts ≡ f → CoversStep words A m o k b1 b2 (Some instr) (row_by f m.device words A (is_scratch words m.pc) k s instr)
+      by : (f : Option PairFacts) → s.facts ≡ f → CoversStep task m o k b1 b2 (Some instr) (row_by f task (is_scratch words m.pc) (site_at m.device k s) instr)
       by None is = plain_covered instr e
       by (Some f) is = paired_covered ws A m o k s at b1 b2 small other are f is instr e (plain_covered instr e)
 
@@ -78,13 +82,13 @@ module _ (ws : List ℕ) (A : List Entry) (m : State) (o : Origin) (k : NodeKey)
 
   -- the local part covers the machine's instruction
   abbrev Covering : Raw → Type 0
-  Covering r = CoversStep words A m o k b1 b2 (instruction_at words m.pc) r
+  Covering r = CoversStep task m o k b1 b2 (instruction_at words m.pc) r
 
   -- the node's row, for the machine's word
-  row_in_covered : Covering (row_in m.device words A k s)
+  row_in_covered : Covering (row_in m.device task k s)
   row_in_covered =
-      let here = subst (λ x. Covering (row_at m.device words A (is_scratch words m.pc) k s x)) is_fetched (at_instruction (instruction_at words m.pc) refl) in
-      subst (λ pc. Covering (row_at m.device words A (is_scratch words pc) k s (fetched m.device words pc))) at.place.pc here
+      let here = subst (λ x. Covering (row_at task (is_scratch words m.pc) (site_at m.device k s) x)) is_fetched (at_instruction (instruction_at words m.pc) refl) in
+      subst (λ pc. Covering (row_at task (is_scratch words pc) (site_at m.device k s) (fetched m.device words pc))) at.place.pc here
 
 module _ (ws : List ℕ) (A : List Entry) (m : State) (o : Origin) (k : NodeKey) (s : AbsState) (at : InBareFrame (reads_masks m.device A) m o k s) (b1 b2 : ℕ) (small : b1 < 256)
     (other : b2 < 256) (are : AreWords (image m.device ws)) where
@@ -93,58 +97,58 @@ module _ (ws : List ℕ) (A : List Entry) (m : State) (o : Origin) (k : NodeKey)
   flash = image m.device ws
 
   abbrev Covers : Raw → Type 0
-  Covers r = CoversStep flash A m o k b1 b2 (instruction_at flash m.pc) r
+  Covers r = CoversStep (task_with flash A) m o k b1 b2 (instruction_at flash m.pc) r
 
-  unresolved : (jump : ℕ) (instr : Option Instr) → CoversStep flash A m o k b1 b2 instr (fails (UnresolvedJump jump))
+  unresolved : (jump : ℕ) (instr : Option Instr) → CoversStep (task_with flash A) m o k b1 b2 instr (fails (UnresolvedJump jump))
   unresolved jump None = λ clean. absurd (let e = clean in cc)
   unresolved jump (Some instr) = λ clean. absurd (let e = clean in cc)
 
   -- the row with one byte picked
   abbrev row_picked : ℕ → Raw
-  row_picked x = picked_row (row_in m.device flash A) (picking k x) (pick_cut x s)
+  row_picked x = picked_row (row_in m.device (task_with flash A)) (picking k x) (pick_cut x s)
 
   -- a node that splits is covered by the row with r30's byte picked
-  splitting_covered : (site : Option ℕ) → split_site flash A k.pc k.pick ≡ site → Covers (splitting site (row_in m.device flash A) k s)
+  splitting_covered : (site : Option ℕ) → split_site (task_with flash A) k.pc k.pick ≡ site → Covers (splitting site (row_in m.device (task_with flash A)) k s)
   splitting_covered None e = row_in_covered ws A m o k s at b1 b2 small other are
   splitting_covered (Some jump) e = by (nat_le (length (picks s)) 64)
     where
       x : ℕ
       x = register m 30
 
-      quiet : (cut : Option AbsState) → Quiet (picked_row (row_in m.device flash A) (picking k x) cut)
+      quiet : (cut : Option AbsState) → Quiet (picked_row (row_in m.device (task_with flash A)) (picking k x) cut)
       quiet None = (refl, refl)
       quiet (Some t) =
-          at_quiet m.device flash A (is_scratch flash k.pc) (picking k x) t (fetched m.device flash k.pc) (splits_at flash A k.pc k.pick jump e).1
+          at_quiet m.device (task_with flash A) (is_scratch flash k.pc) (picking k x) t (fetched m.device flash k.pc) (splits_at (task_with flash A) k.pc k.pick jump e).1
 
       found : (t : AbsState) × (pick_cut x s ≡ Some t) × InBareFrame (reads_masks m.device A) m o (picking k x) t
       found = picked_at m o k s at
 
-      at_pick : CoversStep flash A m o (picking k x) b1 b2 (instruction_at flash m.pc) (row_picked x)
+      at_pick : CoversStep (task_with flash A) m o (picking k x) b1 b2 (instruction_at flash m.pc) (row_picked x)
       at_pick =
-          subst (λ (cut : Option AbsState). CoversStep flash A m o (picking k x) b1 b2 (instruction_at flash m.pc) (picked_row (row_in m.device flash A) (picking k x) cut)) (sym found.1)
+          subst (λ (cut : Option AbsState). CoversStep (task_with flash A) m o (picking k x) b1 b2 (instruction_at flash m.pc) (picked_row (row_in m.device (task_with flash A)) (picking k x) cut)) (sym found.1)
           (row_in_covered ws A m o (picking k x) found.0 found.2 b1 b2 small other are)
 
       by : (few : Bool) → Covers (if few then all_of (map row_picked (picks s)) else fails (UnresolvedJump jump))
       by true =
-          all_covered flash A m o k b1 b2 row_picked (picks s) x (in_picks m o k s at) (quiet (pick_cut x s)) (instruction_at flash m.pc) at_pick
+          all_covered (task_with flash A) m o k b1 b2 row_picked (picks s) x (in_picks m o k s at) (quiet (pick_cut x s)) (instruction_at flash m.pc) at_pick
       by false = unresolved jump (instruction_at flash m.pc)
 
-  covered : Covers (raw flash A k s)
+  covered : Covers (raw (task_with flash A) k s)
   unfolding raw
   covered =
       not_hung ws A m o k s at b1 b2 small other are (is_hung m.device A k k.sp) (instruction_at flash m.pc) _
       (not_deep ws A m o k s at b1 b2 small other are (nat_lt (size_of m.device) (offset_of k.sp)) (offset_of k.sp) (instruction_at flash m.pc) _
-      (splitting_covered (split_site flash A k.pc k.pick) refl))
+      (splitting_covered (split_site (task_with flash A) k.pc k.pick) refl))
 
 -- for words of the machine's device
 covered_on : {followed : Bool} (device : Device) (ws : List ℕ) (A : List Entry) (m : State) (o : Origin) (k : NodeKey) (s : AbsState) (b1 b2 : ℕ) → m.device ≡ device
     → AreWords (image device ws) → InFrameIn followed (reads_masks device A) m o k s → b1 < 256 → b2 < 256
-    → CoversStep (image device ws) A m o k b1 b2 (instruction_at (image device ws) m.pc) (raw (image device ws) A k s)
+    → CoversStep (task_with (image device ws) A) m o k b1 b2 (instruction_at (image device ws) m.pc) (raw (task_with (image device ws) A) k s)
 covered_on {followed = followed} device ws A m o k s b1 b2 told =
     subst
     (λ (d : Device). AreWords (image d ws) → InFrameIn followed (reads_masks d A) m o k s → b1 < 256 → b2 < 256
-    → CoversStep (image d ws) A m o k b1 b2 (instruction_at (image d ws) m.pc) (raw (image d ws) A k s))
+    → CoversStep (task_with (image d ws) A) m o k b1 b2 (instruction_at (image d ws) m.pc) (raw (task_with (image d ws) A) k s))
     told (λ are at small other. covered ws A m o k s (bare_frame m o k s at) b1 b2 small other are)
 
 pub local_parts_cover : LocalPartsCover
-local_parts_cover = record { covered = λ words A m o k s b1 b2 are told at small other. covered_on (device_of words) words.words A m o k s b1 b2 told are at small other }
+local_parts_cover = record { covered = λ task m o k s b1 b2 are told at small other. covered_on (device_of task.flash) task.flash.words task.assumptions m o k s b1 b2 told are at small other }

@@ -29,6 +29,7 @@ use Rattle.mask_states.proofs.AllLaws.{enables_stay_among}
 use Rattle.local_rules.specs.Reads.{loosened, enable_read}
 use Rattle.local_rules.specs.Writes.{masks_written, written_at}
 use Rattle.local_laws.proofs.Machine.{io_value}
+use Rattle.local_rules.specs.Writes.{write_at}
 
 -- ---- what a key says
 
@@ -140,7 +141,7 @@ io_read m a input h = fifth (nat_lt a 0x20) (a == SPL) (a == SPH) (a == SREG) _ 
 
 -- a write of such an address goes to the enable bits
 pub io_written : (device : Device) (pc : ℕ) (k : NodeKey) (s : AbsState) (is_out : Bool) (a : ℕ) (v : AbsByte) → IsIo device a
-    → written_at device pc k s is_out a v ≡ masks_written device k s a v
+    → written_at (write_at device pc k s v) is_out a ≡ masks_written device k s a v
 unfolding written_at
 io_written device pc k s is_out a v h = fifth (nat_lt a 0x20) (a == SPL) (a == SPH) (a == SREG) _ _ _ _ _ h.0 h.1.0 h.1.1.0 h.1.1.1.0
 

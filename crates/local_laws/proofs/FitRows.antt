@@ -5,7 +5,7 @@ use Rattle.std.proofs.lemmas.Map.Views.{Contains-from_any}
 use Rattle.std.proofs.lemmas.Option.{same_Some}
 use Rattle.basics.specs.Items.{none_in}
 use Rattle.avr_model.proofs.AllLaws.{devices_are_alike}
-use Rattle.avr_model.specs.Devices.{Program, size_of, wrapped, width, device_of, words_of, limit_width}
+use Rattle.avr_model.specs.Devices.{size_of, wrapped, width, device_of, words_of, limit_width}
 use Rattle.avr_model.specs.declared.device.Device.{Device}
 use Rattle.avr_model.specs.declared.assumption.Entry.{Entry}
 use Rattle.avr_model.specs.declared.instruction.Instr.{Instr}
@@ -49,6 +49,9 @@ use Rattle.local_laws.proofs.MonotoneRaw.{no_calls, no_exit}
 use Rattle.local_laws.proofs.Picks.{splits_at}
 use Rattle.local_laws.proofs.Ascending.{Ascends, site_targets_ascend, sites_ascend, one_ascends}
 use Rattle.local_laws.proofs.Quiet.{IsFit, none_ascend, quiet_fits, if_quiet, branch_quiet, flag_branch_quiet, skipping_quiet, going_by_quiet, loading_quiet, flag_quiet, written_quiet, pointer_quiet, jumping_quiet, closed_quiet, pushing_quiet, room_quiet, popping_quiet, untracked_fits, too_deep_fits}
+use Rattle.local_rules.specs.Site.{Task, site_at}
+use Rattle.local_rules.specs.Local.{cut_skip}
+use Rattle.pair_cuts.specs.Cuts.{equal_cut}
 
 -- ---- the targets of indirect calls are words
 
@@ -93,8 +96,8 @@ indirect_fits : (device : Device) (A : List Entry) (k : NodeKey) (o : Option (Li
 indirect_fits device A k None are = untracked_fits A k (is_half_written k.sp) k.pc (fails (UnresolvedJump k.pc)) (quiet_fits A k (fails (UnresolvedJump k.pc)) (refl, refl))
 indirect_fits device A k (Some targets) are = calls_fit device A k (further device k 1) targets (further_small device k 1) (are targets refl)
 
-relative_fits : (device : Device) (A : List Entry) (scratch : Bool) (k : NodeKey) (s : AbsState) (target : ℕ) → target < words_of device → IsFit device A k (relative_call device scratch k s target)
-relative_fits device A true k s target small = quiet_fits A k _ (closed_quiet k.sp k.pc (making_room device k s target) (room_quiet device k s target))
+relative_fits : (device : Device) (A : List Entry) (scratch : Bool) (k : NodeKey) (s : AbsState) (target : ℕ) → target < words_of device → IsFit device A k (relative_call scratch (site_at device k s) target)
+relative_fits device A true k s target small = quiet_fits A k _ (closed_quiet k.sp k.pc (making_room (site_at device k s) target) (room_quiet device k s target))
 relative_fits device A false k s target small = one_call device A k (further device k 1) target (further_small device k 1) small
 
 -- ---- returns
@@ -120,125 +123,125 @@ return_fits device A k x masks = at k.sp refl
 
 -- ---- the table
 
-module _ (device : Device) (words : Program) (A : List Entry) (k : NodeKey) (s : AbsState) where
-  all_words : (targets : List ℕ) → targets_at device A k s ≡ Some targets → AreTargetWords device A targets
+module _ (device : Device) (task : Task) (k : NodeKey) (s : AbsState) where
+  all_words : (targets : List ℕ) → targets_at task.assumptions (site_at device k s) ≡ Some targets → AreTargetWords device task.assumptions targets
   all_words targets e =
       let f = pointer_bit (bits s 30) (bits s 31) in
       record {
-        small = targets_small device (jump_line A k.pc) (bits s 30) (bits s 31) targets (λ z h. ((numbers_are_permitted.members f (width device) z).0 h).small) e;
-        ascending = λ entries. site_targets_ascend device A k.pc (bits s 30) (bits s 31) targets entries (numbers_are_permitted.ascending f (width device)) e;
+        small = targets_small device (jump_line task.assumptions k.pc) (bits s 30) (bits s 31) targets (λ z h. ((numbers_are_permitted.members f (width device) z).0 h).small) e;
+        ascending = λ entries. site_targets_ascend device task.assumptions k.pc (bits s 30) (bits s 31) targets entries (numbers_are_permitted.ascending f (width device)) e;
       }
 
-  row_fits : (scratch : Bool) (instr : Instr) → InstrFits instr → IsFit device A k (row_of device words A scratch k s instr)
-  row_fits scratch (i.Movw d r) fits = quiet_fits A k _ (refl, refl)
-  row_fits scratch (i.Muls d r) fits = quiet_fits A k _ (refl, refl)
-  row_fits scratch (i.Mulsu d r) fits = quiet_fits A k _ (refl, refl)
-  row_fits scratch (i.Fmul d r) fits = quiet_fits A k _ (refl, refl)
-  row_fits scratch (i.Fmuls d r) fits = quiet_fits A k _ (refl, refl)
-  row_fits scratch (i.Fmulsu d r) fits = quiet_fits A k _ (refl, refl)
+  row_fits : (scratch : Bool) (instr : Instr) → InstrFits instr → IsFit device task.assumptions k (row_of task scratch (site_at device k s) instr)
+  row_fits scratch (i.Movw d r) fits = quiet_fits task.assumptions k _ (refl, refl)
+  row_fits scratch (i.Muls d r) fits = quiet_fits task.assumptions k _ (refl, refl)
+  row_fits scratch (i.Mulsu d r) fits = quiet_fits task.assumptions k _ (refl, refl)
+  row_fits scratch (i.Fmul d r) fits = quiet_fits task.assumptions k _ (refl, refl)
+  row_fits scratch (i.Fmuls d r) fits = quiet_fits task.assumptions k _ (refl, refl)
+  row_fits scratch (i.Fmulsu d r) fits = quiet_fits task.assumptions k _ (refl, refl)
   row_fits scratch (i.Binary op d r) fits =
-      quiet_fits A k _ (going_by_quiet device k s (binary_at (is_frame A k.pc) s op d r) _ (skipping_quiet device words k k s (byte_equal (bits s d) (bits s r))))
-  row_fits scratch (i.Immediate op d n) fits = quiet_fits A k _ (refl, refl)
-  row_fits scratch (i.Unary op d) fits = quiet_fits A k _ (refl, refl)
-  row_fits scratch (i.Adiw d n) fits = quiet_fits A k _ (refl, refl)
-  row_fits scratch (i.Sbiw d n) fits = quiet_fits A k _ (refl, refl)
-  row_fits scratch (i.Bset n) fits = quiet_fits A k _ (flag_quiet device k s n true)
-  row_fits scratch (i.Bclr n) fits = quiet_fits A k _ (flag_quiet device k s n false)
-  row_fits scratch (i.Bld d b) fits = quiet_fits A k _ (refl, refl)
-  row_fits scratch (i.Bst d b) fits = quiet_fits A k _ (refl, refl)
-  row_fits scratch (i.Ldd d b q) fits = quiet_fits A k _ (loading_quiet device k s s.registers d (read_pointed device (reads_masks device A) k s (pointed s (base_register b) q)))
+      quiet_fits task.assumptions k _ (going_by_quiet device k s (binary_at (is_frame task.assumptions k.pc) s op d r) _ (skipping_quiet device task.flash k k s (byte_equal (bits s d) (bits s r))))
+  row_fits scratch (i.Immediate op d n) fits = quiet_fits task.assumptions k _ (refl, refl)
+  row_fits scratch (i.Unary op d) fits = quiet_fits task.assumptions k _ (refl, refl)
+  row_fits scratch (i.Adiw d n) fits = quiet_fits task.assumptions k _ (refl, refl)
+  row_fits scratch (i.Sbiw d n) fits = quiet_fits task.assumptions k _ (refl, refl)
+  row_fits scratch (i.Bset n) fits = quiet_fits task.assumptions k _ (flag_quiet device k s n true)
+  row_fits scratch (i.Bclr n) fits = quiet_fits task.assumptions k _ (flag_quiet device k s n false)
+  row_fits scratch (i.Bld d b) fits = quiet_fits task.assumptions k _ (refl, refl)
+  row_fits scratch (i.Bst d b) fits = quiet_fits task.assumptions k _ (refl, refl)
+  row_fits scratch (i.Ldd d b q) fits = quiet_fits task.assumptions k _ (loading_quiet device k s s.registers d (read_pointed device (reads_masks device task.assumptions) k s (pointed s (base_register b) q)))
   row_fits scratch (i.Std b q r) fits =
-      quiet_fits A k _ (pointer_quiet device words A s (base_register b) q (pointed s (base_register b) q) k.pc (next device k) s (value s r))
-  row_fits scratch (i.Lds d a) fits = quiet_fits A k _ (refl, refl)
-  row_fits scratch (i.Sts a r) fits = quiet_fits A k _ (written_quiet device k.pc (at_word k (further device k 2)) s false a (value s r))
+      quiet_fits task.assumptions k _ (pointer_quiet device task s (base_register b) q k.pc (next device k) s (value s r))
+  row_fits scratch (i.Lds d a) fits = quiet_fits task.assumptions k _ (refl, refl)
+  row_fits scratch (i.Sts a r) fits = quiet_fits task.assumptions k _ (written_quiet device k.pc (at_word k (further device k 2)) s false a (value s r))
   row_fits scratch (i.Ld d p) fits =
-      quiet_fits A k _ (loading_quiet device k s (pointer_moved p s) d (read_pointed device (reads_masks device A) k s (pointed s (pointer_register p) (step_before p))))
+      quiet_fits task.assumptions k _ (loading_quiet device k s (pointer_moved p s) d (read_pointed device (reads_masks device task.assumptions) k s (pointed s (pointer_register p) (step_before p))))
   row_fits scratch (i.St p r) fits =
-      quiet_fits A k _ (pointer_quiet device words A s (pointer_register p) (step_before p) (pointed s (pointer_register p) (step_before p)) k.pc (next device k)
+      quiet_fits task.assumptions k _ (pointer_quiet device task s (pointer_register p) (step_before p) k.pc (next device k)
       (record s { registers = pointer_moved p s }) (value s r))
-  row_fits scratch (i.LpmZ d) fits = quiet_fits A k _ (refl, refl)
-  row_fits scratch (i.ElpmZ d) fits = quiet_fits A k _ (refl, refl)
-  row_fits scratch (i.LpmZPlus d) fits = quiet_fits A k _ (refl, refl)
-  row_fits scratch (i.ElpmZPlus d) fits = quiet_fits A k _ (refl, refl)
-  row_fits scratch i.Lpm fits = quiet_fits A k _ (refl, refl)
-  row_fits scratch i.Elpm fits = quiet_fits A k _ (refl, refl)
-  row_fits scratch (i.Pop d) fits = quiet_fits A k _ (closed_quiet k.sp k.pc (popping device k s d) (popping_quiet device k s d))
-  row_fits scratch (i.Push r) fits = quiet_fits A k _ (closed_quiet k.sp k.pc (pushing device scratch k s r) (pushing_quiet device scratch k s r))
-  row_fits scratch (i.In d a) fits = quiet_fits A k _ (refl, refl)
-  row_fits scratch (i.Out a r) fits = quiet_fits A k _ (written_quiet device k.pc (next device k) s true (port a) (value s r))
-  row_fits scratch (i.Cbi a b) fits = quiet_fits A k _ (written_quiet device k.pc (next device k) s false (port a) _)
-  row_fits scratch (i.Sbi a b) fits = quiet_fits A k _ (written_quiet device k.pc (next device k) s false (port a) _)
-  row_fits scratch i.Ijmp fits = quiet_fits A k _ (jumping_quiet (targets_at device A k s) k s)
-  row_fits scratch i.Icall fits = indirect_fits device A k (targets_at device A k s) all_words
-  row_fits scratch i.Ret fits = return_fits device A k (ret_exit k) refl
-  row_fits scratch i.Reti fits = return_fits device A k (reti_exit k) refl
-  row_fits scratch (i.Jmp target) fits = quiet_fits A k _ (refl, refl)
-  row_fits scratch (i.Call target) fits = one_call device A k (further device k 2) (wrapped device target) (further_small device k 2) (devices_are_alike.inside device target)
-  row_fits scratch (i.Rjmp target) fits = quiet_fits A k _ (refl, refl)
-  row_fits scratch (i.Rcall target) fits = relative_fits device A scratch k s (wrapped device (far k.pc target)) (devices_are_alike.inside device (far k.pc target))
+  row_fits scratch (i.LpmZ d) fits = quiet_fits task.assumptions k _ (refl, refl)
+  row_fits scratch (i.ElpmZ d) fits = quiet_fits task.assumptions k _ (refl, refl)
+  row_fits scratch (i.LpmZPlus d) fits = quiet_fits task.assumptions k _ (refl, refl)
+  row_fits scratch (i.ElpmZPlus d) fits = quiet_fits task.assumptions k _ (refl, refl)
+  row_fits scratch i.Lpm fits = quiet_fits task.assumptions k _ (refl, refl)
+  row_fits scratch i.Elpm fits = quiet_fits task.assumptions k _ (refl, refl)
+  row_fits scratch (i.Pop d) fits = quiet_fits task.assumptions k _ (closed_quiet k.sp k.pc (popping (site_at device k s) d) (popping_quiet device k s d))
+  row_fits scratch (i.Push r) fits = quiet_fits task.assumptions k _ (closed_quiet k.sp k.pc (pushing scratch (site_at device k s) r) (pushing_quiet device scratch k s r))
+  row_fits scratch (i.In d a) fits = quiet_fits task.assumptions k _ (refl, refl)
+  row_fits scratch (i.Out a r) fits = quiet_fits task.assumptions k _ (written_quiet device k.pc (next device k) s true (port a) (value s r))
+  row_fits scratch (i.Cbi a b) fits = quiet_fits task.assumptions k _ (written_quiet device k.pc (next device k) s false (port a) _)
+  row_fits scratch (i.Sbi a b) fits = quiet_fits task.assumptions k _ (written_quiet device k.pc (next device k) s false (port a) _)
+  row_fits scratch i.Ijmp fits = quiet_fits task.assumptions k _ (jumping_quiet (targets_at task.assumptions (site_at device k s)) k s)
+  row_fits scratch i.Icall fits = indirect_fits device task.assumptions k (targets_at task.assumptions (site_at device k s)) all_words
+  row_fits scratch i.Ret fits = return_fits device task.assumptions k (ret_exit k) refl
+  row_fits scratch i.Reti fits = return_fits device task.assumptions k (reti_exit k) refl
+  row_fits scratch (i.Jmp target) fits = quiet_fits task.assumptions k _ (refl, refl)
+  row_fits scratch (i.Call target) fits = one_call device task.assumptions k (further device k 2) (wrapped device target) (further_small device k 2) (devices_are_alike.inside device target)
+  row_fits scratch (i.Rjmp target) fits = quiet_fits task.assumptions k _ (refl, refl)
+  row_fits scratch (i.Rcall target) fits = relative_fits device task.assumptions scratch k s (wrapped device (far k.pc target)) (devices_are_alike.inside device (far k.pc target))
   row_fits scratch (i.Brbs n target) fits =
-      quiet_fits A k _ (flag_branch_quiet n k s (wrapped device (near k.pc target)) (further device k 1) _ (branch_quiet k s (flag_at k s n) (wrapped device (near k.pc target)) (further device k 1)))
+      quiet_fits task.assumptions k _ (flag_branch_quiet n k s (wrapped device (near k.pc target)) (further device k 1) _ (branch_quiet k s (flag_at k s n) (wrapped device (near k.pc target)) (further device k 1)))
   row_fits scratch (i.Brbc n target) fits =
-      quiet_fits A k _ (flag_branch_quiet n k s (further device k 1) (wrapped device (near k.pc target)) _ (branch_quiet k s (tri_not (flag_at k s n)) (wrapped device (near k.pc target)) (further device k 1)))
-  row_fits scratch (i.Sbic a b) fits = quiet_fits A k _ (skipping_quiet device words (reading_zero device (reads_masks device A) k (port a) b) k s (tri_not (tri_at (read_at device (reads_masks device A) k s (port a)).bits b)))
-  row_fits scratch (i.Sbis a b) fits = quiet_fits A k _ (skipping_quiet device words k (reading_zero device (reads_masks device A) k (port a) b) s (tri_at (read_at device (reads_masks device A) k s (port a)).bits b))
-  row_fits scratch (i.Sbrc r b) fits = quiet_fits A k _ (skipping_quiet device words k k s (tri_not (tri_at (bits s r) b)))
-  row_fits scratch (i.Sbrs r b) fits = quiet_fits A k _ (skipping_quiet device words k k s (tri_at (bits s r) b))
-  row_fits scratch i.Nop fits = quiet_fits A k _ (refl, refl)
-  row_fits scratch i.Sleep fits = quiet_fits A k _ (refl, refl)
-  row_fits scratch i.Break fits = quiet_fits A k _ (refl, refl)
-  row_fits scratch i.Wdr fits = quiet_fits A k _ (refl, refl)
+      quiet_fits task.assumptions k _ (flag_branch_quiet n k s (further device k 1) (wrapped device (near k.pc target)) _ (branch_quiet k s (tri_not (flag_at k s n)) (wrapped device (near k.pc target)) (further device k 1)))
+  row_fits scratch (i.Sbic a b) fits = quiet_fits task.assumptions k _ (skipping_quiet device task.flash (reading_zero device (reads_masks device task.assumptions) k (port a) b) k s (tri_not (tri_at (read_at device (reads_masks device task.assumptions) k s (port a)).bits b)))
+  row_fits scratch (i.Sbis a b) fits = quiet_fits task.assumptions k _ (skipping_quiet device task.flash k (reading_zero device (reads_masks device task.assumptions) k (port a) b) s (tri_at (read_at device (reads_masks device task.assumptions) k s (port a)).bits b))
+  row_fits scratch (i.Sbrc r b) fits = quiet_fits task.assumptions k _ (skipping_quiet device task.flash k k s (tri_not (tri_at (bits s r) b)))
+  row_fits scratch (i.Sbrs r b) fits = quiet_fits task.assumptions k _ (skipping_quiet device task.flash k k s (tri_at (bits s r) b))
+  row_fits scratch i.Nop fits = quiet_fits task.assumptions k _ (refl, refl)
+  row_fits scratch i.Sleep fits = quiet_fits task.assumptions k _ (refl, refl)
+  row_fits scratch i.Break fits = quiet_fits task.assumptions k _ (refl, refl)
+  row_fits scratch i.Wdr fits = quiet_fits task.assumptions k _ (refl, refl)
 
 -- ---- where pairs are followed
 
 -- replacing the moves keeps calls and returns
-refining_fits : (device : Device) (words : Program) (A : List Entry) (k : NodeKey) (s : AbsState) (instr : Instr) (r : Raw) → IsFit device A k r → IsFit device A k (refining words instr s r)
-refining_fits device words A k s instr r h = record { words = record { calls = h.words.calls; exit = h.words.exit }; ascending = h.ascending }
+refining_fits : (device : Device) (task : Task) (k : NodeKey) (s : AbsState) (instr : Instr) (r : Raw) → IsFit device task.assumptions k r → IsFit device task.assumptions k (refining task.flash instr s r)
+refining_fits device task k s instr r h = record { words = record { calls = h.words.calls; exit = h.words.exit }; ascending = h.ascending }
 
-module _ (device : Device) (words : Program) (A : List Entry) (k : NodeKey) (s : AbsState) where
-  storing_fits : (p : Pointer) (r : ℕ) (moved : Option AbsState) → IsFit device A k (storing device words A k s p r moved)
-  storing_fits p r None = quiet_fits A k _ (refl, refl)
+module _ (device : Device) (task : Task) (k : NodeKey) (s : AbsState) where
+  storing_fits : (p : Pointer) (r : ℕ) (moved : Option AbsState) → IsFit device task.assumptions k (storing task (site_at device k s) p r moved)
+  storing_fits p r None = quiet_fits task.assumptions k _ (refl, refl)
   storing_fits p r (Some moved) =
-      quiet_fits A k _ (pointer_quiet device words A s (pointer_register p) (step_before p) (pointed s (pointer_register p) (step_before p)) k.pc (next device k) moved (value s r))
+      quiet_fits task.assumptions k _ (pointer_quiet device task s (pointer_register p) (step_before p) k.pc (next device k) moved (value s r))
 
-  if_fits : (b : Bool) (p q : Raw) → IsFit device A k p → IsFit device A k q → IsFit device A k (if b then p else q)
+  if_fits : (b : Bool) (p q : Raw) → IsFit device task.assumptions k p → IsFit device task.assumptions k q → IsFit device task.assumptions k (if b then p else q)
   if_fits true p q h g = h
   if_fits false p q h g = g
 
-  paired_binary_fits : (op : BinaryOp) (d r : ℕ) (other : Raw) → IsFit device A k other → IsFit device A k (paired_binary device words op k s d r other)
-  paired_binary_fits binary.Cpse d r other h = quiet_fits A k _ (refl, refl)
+  paired_binary_fits : (op : BinaryOp) (d r : ℕ) (other : Raw) → IsFit device task.assumptions k other → IsFit device task.assumptions k (paired_binary op (cut_skip task.flash (site_at device k s) (equal_cut d r true s) (equal_cut d r false s)) other)
+  paired_binary_fits binary.Cpse d r other h = quiet_fits task.assumptions k _ (refl, refl)
   paired_binary_fits op d r other h = h
 
-  paired_fits : (scratch : Bool) (instr : Instr) → InstrFits instr → IsFit device A k (paired_row device words A scratch k s instr)
-  paired_fits scratch (i.Brbs n t) fits = if_fits (nat_lt n 7) _ _ (quiet_fits A k _ (refl, refl)) (row_fits device words A k (before (i.Brbs n t) s) scratch (i.Brbs n t) fits)
-  paired_fits scratch (i.Brbc n t) fits = if_fits (nat_lt n 7) _ _ (quiet_fits A k _ (refl, refl)) (row_fits device words A k (before (i.Brbc n t) s) scratch (i.Brbc n t) fits)
-  paired_fits scratch (i.Sbrc r b) fits = quiet_fits A k _ (refl, refl)
-  paired_fits scratch (i.Sbrs r b) fits = quiet_fits A k _ (refl, refl)
+  paired_fits : (scratch : Bool) (instr : Instr) → InstrFits instr → IsFit device task.assumptions k (paired_row task scratch (site_at device k s) instr)
+  paired_fits scratch (i.Brbs n t) fits = if_fits (nat_lt n 7) _ _ (quiet_fits task.assumptions k _ (refl, refl)) (row_fits device task k (before (i.Brbs n t) s) scratch (i.Brbs n t) fits)
+  paired_fits scratch (i.Brbc n t) fits = if_fits (nat_lt n 7) _ _ (quiet_fits task.assumptions k _ (refl, refl)) (row_fits device task k (before (i.Brbc n t) s) scratch (i.Brbc n t) fits)
+  paired_fits scratch (i.Sbrc r b) fits = quiet_fits task.assumptions k _ (refl, refl)
+  paired_fits scratch (i.Sbrs r b) fits = quiet_fits task.assumptions k _ (refl, refl)
   paired_fits scratch (i.Binary op d r) fits =
       paired_binary_fits op d r _
-      (refining_fits device words A k s (i.Binary op d r) _ (row_fits device words A k (before (i.Binary op d r) s) scratch (i.Binary op d r) fits))
+      (refining_fits device task k s (i.Binary op d r) _ (row_fits device task k (before (i.Binary op d r) s) scratch (i.Binary op d r) fits))
   paired_fits scratch (i.St p r) fits = storing_fits p r _
-  paired_fits scratch instr fits = refining_fits device words A k s instr _ (row_fits device words A k (before instr s) scratch instr fits)
+  paired_fits scratch instr fits = refining_fits device task k s instr _ (row_fits device task k (before instr s) scratch instr fits)
 
-module _ (words : Program) (A : List Entry) (k : NodeKey) (s : AbsState) where
-  at_fits : (scratch : Bool) (x : Option Instr) → ((instr : Instr) → x ≡ Some instr → InstrFits instr) → IsFit (device_of words) A k (row_at (device_of words) words A scratch k s x)
-  at_fits scratch None fits = quiet_fits A k _ (refl, refl)
+module _ (task : Task) (k : NodeKey) (s : AbsState) where
+  at_fits : (scratch : Bool) (x : Option Instr) → ((instr : Instr) → x ≡ Some instr → InstrFits instr) → IsFit (device_of task.flash) task.assumptions k (row_at task scratch (site_at (device_of task.flash) k s) x)
+  at_fits scratch None fits = quiet_fits task.assumptions k _ (refl, refl)
   at_fits scratch (Some instr) fits = by s.facts
     where
-      by : (f : Option PairFacts) → IsFit (device_of words) A k (row_by f (device_of words) words A scratch k s instr)
-      by None = row_fits (device_of words) words A k (before instr s) scratch instr (fits instr refl)
-      by (Some f) = paired_fits (device_of words) words A k s scratch instr (fits instr refl)
+      by : (f : Option PairFacts) → IsFit (device_of task.flash) task.assumptions k (row_by f task scratch (site_at (device_of task.flash) k s) instr)
+      by None = row_fits (device_of task.flash) task k (before instr s) scratch instr (fits instr refl)
+      by (Some f) = paired_fits (device_of task.flash) task k s scratch instr (fits instr refl)
 
   -- a node that splits neither calls nor returns
-  split_fits : (jump : Option ℕ) → IsFit (device_of words) A k (splitting jump (row_in (device_of words) words A) k s)
-  split_fits None = at_fits (is_scratch words k.pc) (fetched (device_of words) words k.pc) (fetched_fits (device_of words) words k.pc)
-  split_fits (Some jump) = quiet_fits A k _ (if_quiet (nat_le (length (picks s)) 64) _ _ (no_calls _, no_exit _) (refl, refl))
+  split_fits : (jump : Option ℕ) → IsFit (device_of task.flash) task.assumptions k (splitting jump (row_in (device_of task.flash) task) k s)
+  split_fits None = at_fits (is_scratch task.flash k.pc) (fetched (device_of task.flash) task.flash k.pc) (fetched_fits (device_of task.flash) task.flash k.pc)
+  split_fits (Some jump) = quiet_fits task.assumptions k _ (if_quiet (nat_le (length (picks s)) 64) _ _ (no_calls _, no_exit _) (refl, refl))
 
-  raw_fits : IsFit (device_of words) A k (raw words A k s)
+  raw_fits : IsFit (device_of task.flash) task.assumptions k (raw task k s)
   unfolding raw
   raw_fits =
-      untracked_fits A k (is_hung (device_of words) A k k.sp) k.pc _
-      (too_deep_fits A k (nat_lt (size_of (device_of words)) (offset_of k.sp)) k.pc (offset_of k.sp) _ (split_fits (split_site words A k.pc k.pick)))
+      untracked_fits task.assumptions k (is_hung (device_of task.flash) task.assumptions k k.sp) k.pc _
+      (too_deep_fits task.assumptions k (nat_lt (size_of (device_of task.flash)) (offset_of k.sp)) k.pc (offset_of k.sp) _ (split_fits (split_site task k.pc k.pick)))
 
   -- there is no fault
   not_untracked : (b : Bool) (pc : ℕ) (r : Raw) → (untracked_if b pc r).faults ≡ [] → r.faults ≡ []
@@ -249,26 +252,26 @@ module _ (words : Program) (A : List Entry) (k : NodeKey) (s : AbsState) where
   not_deep true pc offset r e = absurd (cc)
   not_deep false pc offset r e = (refl, e)
 
-  is_inside : (device : Device) (scratch b : Bool) → (row_at device words A scratch k s (if b then instruction_at words k.pc else None)).faults ≡ [] → b ≡ true
+  is_inside : (device : Device) (scratch b : Bool) → (row_at task scratch (site_at device k s) (if b then instruction_at task.flash k.pc else None)).faults ≡ [] → b ≡ true
   is_inside device scratch true e = refl
   is_inside device scratch false e = absurd (cc)
 
   -- a node lies in flash if its instruction has no fault, and if it splits
-  is_within : (jump : Option ℕ) → split_site words A k.pc k.pick ≡ jump → (splitting jump (row_in (device_of words) words A) k s).faults ≡ [] → nat_lt k.pc (words_of (device_of words)) ≡ true
-  is_within None site e = is_inside (device_of words) (is_scratch words k.pc) (nat_lt k.pc (words_of (device_of words))) e
-  is_within (Some jump) site e = (splits_at words A k.pc k.pick jump site).0
+  is_within : (jump : Option ℕ) → split_site task k.pc k.pick ≡ jump → (splitting jump (row_in (device_of task.flash) task) k s).faults ≡ [] → nat_lt k.pc (words_of (device_of task.flash)) ≡ true
+  is_within None site e = is_inside (device_of task.flash) (is_scratch task.flash k.pc) (nat_lt k.pc (words_of (device_of task.flash))) e
+  is_within (Some jump) site e = (splits_at task k.pc k.pick jump site).0
 
-  lies_inside : (raw words A k s).faults ≡ [] → (k.pc < words_of (device_of words)) × (offset_of k.sp ≤ size_of (device_of words))
+  lies_inside : (raw task k s).faults ≡ [] → (k.pc < words_of (device_of task.flash)) × (offset_of k.sp ≤ size_of (device_of task.flash))
   unfolding raw
   lies_inside e =
-      let row = not_untracked (is_hung (device_of words) A k k.sp) k.pc _ e in
-      let shallow = not_deep (nat_lt (size_of (device_of words)) (offset_of k.sp)) k.pc (offset_of k.sp) _ row in
-      let small : offset_of k.sp ≤ size_of (device_of words) = grind (arith, nat_tests, shallow.0) in
-      (ltb-true k.pc (words_of (device_of words)) (is_within (split_site words A k.pc k.pick) refl shallow.1), small)
+      let row = not_untracked (is_hung (device_of task.flash) task.assumptions k k.sp) k.pc _ e in
+      let shallow = not_deep (nat_lt (size_of (device_of task.flash)) (offset_of k.sp)) k.pc (offset_of k.sp) _ row in
+      let small : offset_of k.sp ≤ size_of (device_of task.flash) = grind (arith, nat_tests, shallow.0) in
+      (ltb-true k.pc (words_of (device_of task.flash)) (is_within (split_site task k.pc k.pick) refl shallow.1), small)
 
 pub all_local_parts_fit : LocalPartsFit
 all_local_parts_fit = record {
-  fit = λ words A k s. (raw_fits words A k s).words;
-  ascending = λ words A k s are. (raw_fits words A k s).ascending are;
-  inside = λ words A k s. lies_inside words A k s;
+  fit = λ task k s. (raw_fits task k s).words;
+  ascending = λ task k s are. (raw_fits task k s).ascending are;
+  inside = λ task k s. lies_inside task k s;
 }

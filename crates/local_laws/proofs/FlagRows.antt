@@ -24,6 +24,7 @@ use Rattle.local_laws.proofs.Less.{Spares}
 use Rattle.local_laws.proofs.Bits.{with_bit_small, with_bit_7_low, with_bit_other, with_bit_same, has_with, permits_flag}
 use Rattle.local_laws.proofs.Frame.{only, same_frame, sets, next_is}
 use Rattle.local_laws.proofs.Alu.{register_bits, moves}
+use Rattle.local_rules.specs.Site.{site_at}
 
 tri_may : (on : Bool) → Permits (tri_of_bool on) (from_bool on)
 tri_may true = refl
@@ -46,7 +47,7 @@ module _ {may : Bool} (m : State) (o : Origin) (k : NodeKey) (s : AbsState) (at 
   with_i_less on = subst (LessHolds m.registers s.flags.carry) (sym (with_bit_other m.sreg 7 on 0 (omega arith) (λ e. omega arith))) at.stands.less
 
   module _ (guarded : Bool) (b1 b2 : ℕ) where
-    interrupts_covered : (on : Bool) → FollowsWhere may m o s.facts k guarded b1 b2 (flag_effect m 7 on) (interrupts_row m.device k s on)
+    interrupts_covered : (on : Bool) → FollowsWhere may m o s.facts k guarded b1 b2 (flag_effect m 7 on) (interrupts_row (site_at m.device k s) on)
     interrupts_covered true =
         only m o k s at guarded b1 b2 (flag_effect m 7 true) (record { key = record (next m.device k) { i = true; delay = not k.i }; state = s }) refl
         (same_frame m o k s at guarded (flag_effect m 7 true) (record { key = record (next m.device k) { i = true; delay = not k.i }; state = s }) refl refl refl refl refl
@@ -70,10 +71,10 @@ module _ {may : Bool} (m : State) (o : Origin) (k : NodeKey) (s : AbsState) (at 
 
     flag_by : (n : ℕ) (on is_i : Bool) → (n == 7) ≡ is_i
         → FollowsWhere may m o s.facts k guarded b1 b2 (record (setting m [] (with_bit m.sreg n on)) { delay = is_i && on && not (i_flag m) })
-        (if is_i then interrupts_row m.device k s on else node_setting m.device k s s.registers (with_carry (byte_with s.flags.bits n (tri_of_bool on)) (carry_tag_at s n)))
+        (if is_i then interrupts_row (site_at m.device k s) on else node_setting (site_at m.device k s) s.registers (with_carry (byte_with s.flags.bits n (tri_of_bool on)) (carry_tag_at s n)))
     flag_by n on true e =
         let is : 7 ≡ n = grind (arith, nat_tests) in
-        subst (λ x. FollowsWhere may m o s.facts k guarded b1 b2 (record (setting m [] (with_bit m.sreg x on)) { delay = true && on && not (i_flag m) }) (interrupts_row m.device k s on)) is (interrupts_covered on)
+        subst (λ x. FollowsWhere may m o s.facts k guarded b1 b2 (record (setting m [] (with_bit m.sreg x on)) { delay = true && on && not (i_flag m) }) (interrupts_row (site_at m.device k s) on)) is (interrupts_covered on)
     flag_by n on false e =
         let ne : 7 ≢ n = grind (arith, nat_tests) in
         sets m o k s at guarded b1 b2 [] (with_bit m.sreg n on) s.registers (with_carry (byte_with s.flags.bits n (tri_of_bool on)) (carry_tag_at s n))
@@ -81,18 +82,18 @@ module _ {may : Bool} (m : State) (o : Origin) (k : NodeKey) (s : AbsState) (at 
         (record { entry = tt; bits = has_with s.flags.bits m.sreg n (tri_of_bool on) on at.stands.flags.bits (tri_may on); carry = carry_at n on (n == 0) refl })
         (less_at n on (n == 0) refl)
 
-    pub flag_covered : (n : ℕ) (on : Bool) → FollowsWhere may m o s.facts k guarded b1 b2 (flag_effect m n on) (flag_row m.device k s n on)
+    pub flag_covered : (n : ℕ) (on : Bool) → FollowsWhere may m o s.facts k guarded b1 b2 (flag_effect m n on) (flag_row (site_at m.device k s) n on)
     flag_covered n on = flag_by n on (n == 7) refl
 
     pub bld_covered : (d b : ℕ) → Spares s.flags.carry d
-        → FollowsWhere may m o s.facts k guarded b1 b2 (setting m (set d (with_bit (register m d) b (t_flag m))) m.sreg) (node_setting m.device k s (node_set s d (untagged (byte_with (bits s d) b (tri_at s.flags.bits 6)))) s.flags)
+        → FollowsWhere may m o s.facts k guarded b1 b2 (setting m (set d (with_bit (register m d) b (t_flag m))) m.sreg) (node_setting (site_at m.device k s) (node_set s d (untagged (byte_with (bits s d) b (tri_at s.flags.bits 6)))) s.flags)
     bld_covered d b spare =
         moves m o k s at guarded b1 b2 d (with_bit (register m d) b (t_flag m)) (untagged (byte_with (bits s d) b (tri_at s.flags.bits 6)))
         (bits_make_values.stands o tag.None (byte_with (bits s d) b (tri_at s.flags.bits 6)) (with_bit (register m d) b (t_flag m)) (with_bit_small (register m d) b (t_flag m)) tt
         (has_with (bits s d) (register m d) b (tri_at s.flags.bits 6) (t_flag m) (register_bits m o k s at d) (permits_flag s.flags.bits m.sreg 6 at.stands.flags.bits))) spare
 
     pub bst_covered : (d b : ℕ)
-        → FollowsWhere may m o s.facts k guarded b1 b2 (setting m [] (with_bit m.sreg 6 (flag (register m d) b))) (node_setting m.device k s s.registers (with_carry (byte_with s.flags.bits 6 (tri_at (bits s d) b)) s.flags.carry))
+        → FollowsWhere may m o s.facts k guarded b1 b2 (setting m [] (with_bit m.sreg 6 (flag (register m d) b))) (node_setting (site_at m.device k s) s.registers (with_carry (byte_with s.flags.bits 6 (tri_at (bits s d) b)) s.flags.carry))
     bst_covered d b =
         sets m o k s at guarded b1 b2 [] (with_bit m.sreg 6 (flag (register m d) b)) s.registers (with_carry (byte_with s.flags.bits 6 (tri_at (bits s d) b)) s.flags.carry)
         (with_bit_other m.sreg 6 (flag (register m d) b) 7 (omega arith) (λ e. omega arith)) at.stands.registers

@@ -30,7 +30,7 @@ use Rattle.mask_states.specs.declared.keys.SpForm.{SpForm}
 use Rattle.mask_states.specs.declared.keys.SpForm.TheVariants.{Closed, Open}
 use Rattle.local_rules.specs.declared.local.Exit.{Exit}
 use Rattle.local_rules.specs.declared.local.Node.{Node}
-use Rattle.local_rules.specs.Raw.{Raw, moves_to, all_of, untracked_if, at_word, off_table, turning_to, going_to as node_going_to, further as node_further}
+use Rattle.local_rules.specs.Raw.{Raw, moves_to, all_of, untracked_if, at_word, off_table, going_to as node_going_to, further as node_further}
 use Rattle.local_rules.specs.Registers.{value, bits, set, carry_bit}
 use Rattle.local_rules.specs.Flow.{branch, branch_by as node_branch_by, skipping as node_skipping, flag_at, with_value, where_carry, going_where, carry_branch, flag_branch, words_on, targets_by, jumping, is_half_written, at_closed, calling as node_calling, indirect_call, site, returning as node_returning, ret_exit, reti_exit}
 use Rattle.local_rules.specs.Cover.{stays, calls, leaves, IsReturn}
@@ -45,6 +45,7 @@ use Rattle.local_laws.proofs.Less.{part_stands}
 use Rattle.local_laws.proofs.Frame.{second, set_one, only, goes_to, turns_to, goes_cut}
 use Rattle.local_laws.proofs.Alu.{register_byte, register_bits}
 use Rattle.local_laws.proofs.Targets.{in_map, word_permitted, targets_have}
+use Rattle.local_rules.specs.Site.{site_at}
 
 pub not_may : (t : Tri) (b : Bool) → Permits t (from_bool b) → Permits (tri_not t) (from_bool (not b))
 not_may Zero true h = absurd (omega arith)
@@ -77,7 +78,7 @@ module _ {may : Bool} (m : State) (o : Origin) (k : NodeKey) (s : AbsState) (at 
   branch_keys : (t : Tri) (test : Bool) (j l : NodeKey) (taken taken' other other' : ℕ) → j.inst ≡ k.inst → l.inst ≡ k.inst
       → (test ≡ true → ArrivesWhere may m o s.facts guarded (going_to m taken) (record { key = off_table j taken'; state = s }))
       → (test ≡ false → ArrivesWhere may m o s.facts guarded (going_to m other) (record { key = off_table l other'; state = s })) → Permits t (from_bool test)
-      → FollowsWhere may m o s.facts k guarded b1 b2 (going_to m (if test then taken else other)) (node_branch_by t j l s taken' other')
+      → FollowsWhere may m o s.facts k guarded b1 b2 (going_to m (if test then taken else other)) (node_branch_by t (off_table j taken') (off_table l other') s)
   branch_keys Zero true j l taken taken' other other' same same' goes goes' can = absurd (omega arith)
   branch_keys Zero false j l taken taken' other other' same same' goes goes' can =
       only m o k s at guarded b1 b2 (going_to m other) (record { key = off_table l other'; state = s }) same' (goes' refl)
@@ -188,7 +189,7 @@ module _ {may : Bool} (m : State) (o : Origin) (k : NodeKey) (s : AbsState) (at 
 
   pub brbs_covered : (n t : ℕ)
       → FollowsWhere may m o s.facts k guarded b1 b2 (branch_effect m (flag m.sreg n) t)
-      (flag_branch n k s (wrapped m.device (near k.pc t)) (node_further m.device k 1) (branch (flag_at k s n) k s (wrapped m.device (near k.pc t)) (node_further m.device k 1)))
+      (flag_branch n (record { key = k; state = s }) (wrapped m.device (near k.pc t)) (node_further m.device k 1) (branch (flag_at k s n) k s (wrapped m.device (near k.pc t)) (node_further m.device k 1)))
   brbs_covered n t =
       by_flag n (n == 0) refl (wrapped m.device (near k.pc t)) (node_further m.device k 1) _ _
       (λ is. subst (λ (i : ℕ). FollowsWhere may m o s.facts k guarded b1 b2 (branch_effect m (flag m.sreg i) t) (carry_branch (carry_bit s) k s (wrapped m.device (near k.pc t)) (node_further m.device k 1))) is
@@ -197,7 +198,7 @@ module _ {may : Bool} (m : State) (o : Origin) (k : NodeKey) (s : AbsState) (at 
 
   pub brbc_covered : (n t : ℕ)
       → FollowsWhere may m o s.facts k guarded b1 b2 (branch_effect m (not (flag m.sreg n)) t)
-      (flag_branch n k s (node_further m.device k 1) (wrapped m.device (near k.pc t)) (branch (tri_not (flag_at k s n)) k s (wrapped m.device (near k.pc t)) (node_further m.device k 1)))
+      (flag_branch n (record { key = k; state = s }) (node_further m.device k 1) (wrapped m.device (near k.pc t)) (branch (tri_not (flag_at k s n)) k s (wrapped m.device (near k.pc t)) (node_further m.device k 1)))
   brbc_covered n t =
       by_flag n (n == 0) refl (node_further m.device k 1) (wrapped m.device (near k.pc t)) _ _
       (λ is. subst (λ (i : ℕ). FollowsWhere may m o s.facts k guarded b1 b2 (branch_effect m (not (flag m.sreg i)) t) (carry_branch (carry_bit s) k s (node_further m.device k 1) (wrapped m.device (near k.pc t)))) is
@@ -212,7 +213,7 @@ module _ {may : Bool} (m : State) (o : Origin) (k : NodeKey) (s : AbsState) (at 
       → ((pc pc' : ℕ) → wrapped m.device pc ≡ pc' → test ≡ false → ArrivesWhere may m o s.facts guarded (going_to m pc) (record { key = off_table l pc'; state = s }))
       → Permits t (from_bool test)
       → FollowsWhere may m o s.facts k guarded b1 b2 (skipping words m test)
-      (node_branch_by t j l s (node_further m.device k (1 + length_of (word_at words (k.pc + 1)))) (node_further m.device k 1))
+      (node_branch_by t (off_table j (node_further m.device k (1 + length_of (word_at words (k.pc + 1))))) (off_table l (node_further m.device k 1)) s)
   skip_keys words test t j l same same' goes goes' can =
       by_test test
       (branch_keys t test j l (further m (1 + length_of (word_at words (m.pc + 1)))) (node_further m.device k (1 + length_of (word_at words (k.pc + 1)))) (further m 1) (node_further m.device k 1) same same'
@@ -222,13 +223,13 @@ module _ {may : Bool} (m : State) (o : Origin) (k : NodeKey) (s : AbsState) (at 
       -- the test is inside the sum
       by_test : (b : Bool)
           → FollowsWhere may m o s.facts k guarded b1 b2 (going_to m (if b then further m (1 + length_of (word_at words (m.pc + 1))) else further m 1))
-          (node_branch_by t j l s (node_further m.device k (1 + length_of (word_at words (k.pc + 1)))) (node_further m.device k 1))
+          (node_branch_by t (off_table j (node_further m.device k (1 + length_of (word_at words (k.pc + 1))))) (off_table l (node_further m.device k 1)) s)
           → FollowsWhere may m o s.facts k guarded b1 b2 (skipping words m b)
-          (node_branch_by t j l s (node_further m.device k (1 + length_of (word_at words (k.pc + 1)))) (node_further m.device k 1))
+          (node_branch_by t (off_table j (node_further m.device k (1 + length_of (word_at words (k.pc + 1))))) (off_table l (node_further m.device k 1)) s)
       by_test true h = h
       by_test false h = h
 
-  pub skip_covered : (words : Program) (test : Bool) (t : Tri) → Permits t (from_bool test) → FollowsWhere may m o s.facts k guarded b1 b2 (skipping words m test) (node_skipping m.device words k k s t)
+  pub skip_covered : (words : Program) (test : Bool) (t : Tri) → Permits t (from_bool test) → FollowsWhere may m o s.facts k guarded b1 b2 (skipping words m test) (node_skipping words (site_at m.device k s) k k t)
   skip_covered words test t can =
       skip_keys words test t k k refl refl (λ pc pc' is e. turns_to m o k s at guarded pc pc' is) (λ pc pc' is e. turns_to m o k s at guarded pc pc' is) can
 

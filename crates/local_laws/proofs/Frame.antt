@@ -38,6 +38,7 @@ use Rattle.local_rules.specs.Cover.{stays}
 use Rattle.local_laws.proofs.Bare.{InBareFrame}
 use Rattle.local_laws.proofs.Landing.{HeldAt, ArrivesWhere, FollowsWhere}
 use Rattle.local_laws.proofs.Bytes.{byte_in_list}
+use Rattle.local_rules.specs.Site.{site_at}
 
 pub second : {A : Type 0} (x y : A) (xs : List A) → Contains (x ∷ y ∷ xs) y
 second x y xs = (1, omega arith, refl)
@@ -153,7 +154,7 @@ module _ {may : Bool} (m : State) (o : Origin) (k : NodeKey) (s : AbsState) (at 
   pub sets : (guarded : Bool) (b1 b2 : ℕ) (writes : List Write) (sreg : ℕ) (registers : List AbsByte) (flags : AbsFlags) → flag sreg 7 ≡ flag m.sreg 7
       → RegistersStand o registers (with_registers m.registers writes) → FlagsStand o flags sreg
       → LessHolds (with_registers m.registers writes) flags.carry (flag sreg 0)
-      → FollowsWhere may m o s.facts k guarded b1 b2 (setting m writes sreg) (node_setting m.device k s registers flags)
+      → FollowsWhere may m o s.facts k guarded b1 b2 (setting m writes sreg) (node_setting (site_at m.device k s) registers flags)
   sets guarded b1 b2 writes sreg registers flags i h g less =
       only guarded b1 b2 _ _ refl
       (same_frame guarded (setting m writes sreg) (record { key = next m.device k; state = record s { registers = registers; flags = flags } }) refl refl refl refl refl next_is at.place.enables (i ∙ at.place.i) refl h g less (λ held. held))

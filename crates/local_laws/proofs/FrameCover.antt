@@ -20,6 +20,7 @@ use Rattle.local_laws.proofs.Bits.{constant_is}
 use Rattle.local_laws.proofs.Frame.{register_stands}
 use Rattle.local_laws.proofs.Alu.{register_byte, register_bits, carry_may, no_carry, borrow_holds, sum_tagged_covered, difference_covered, step_tagged_covered}
 use Rattle.local_laws.proofs.Less.{Spares, borrow_names_none, sum_names_none}
+use Rattle.local_rules.specs.Site.{site_at}
 
 -- addition commutes
 turned : (x y : ℕ) (c : Bool) → sum_of y x c ≡ sum_of x y c
@@ -100,21 +101,21 @@ module _ {may : Bool} (m : State) (o : Origin) (k : NodeKey) (s : AbsState) (at 
   -- ---- rows
 
   module _ (guarded : Bool) (b1 b2 : ℕ) where
-    pub framed_add_covered : (d r : ℕ) → FollowsWhere may m o s.facts k guarded b1 b2 (sum_effect m d (register m d) (register m r) false) (going_with m.device k s (framed_add s d r))
+    pub framed_add_covered : (d r : ℕ) → FollowsWhere may m o s.facts k guarded b1 b2 (sum_effect m d (register m d) (register m r) false) (going_with (site_at m.device k s) (framed_add s d r))
     framed_add_covered d r =
         sum_tagged_covered m o k s at guarded b1 b2 d (register m r) (bits s r) false Zero
         (more_tag (tag_followed s d r) (number_added s d r)) (sum_tag (tag_followed s d r) (number_added s d r))
         (register_byte m o k s at r) (register_bits m o k s at r) refl (more_by (is_second d r) d r) (sum_by (is_second d r) d r)
         (sum_names_none (tag_followed s d r) (number_added s d r))
 
-    pub framed_adc_covered : (d r : ℕ) → FollowsWhere may m o s.facts k guarded b1 b2 (sum_effect m d (register m d) (register m r) (carry m)) (going_with m.device k s (framed_adc s d r))
+    pub framed_adc_covered : (d r : ℕ) → FollowsWhere may m o s.facts k guarded b1 b2 (sum_effect m d (register m d) (register m r) (carry m)) (going_with (site_at m.device k s) (framed_adc s d r))
     framed_adc_covered d r =
         sum_tagged_covered m o k s at guarded b1 b2 d (register m r) (bits s r) (carry m) (carry_bit s)
         (high_more_tag (tag_followed s d r) (number_added s d r) s.flags.carry) carry_tag.None
         (register_byte m o k s at r) (register_bits m o k s at r) (carry_may m o k s at guarded b1 b2) (high_by (is_second d r) d r) tt tt
 
     pub framed_sub_covered : (d y : ℕ) (b : TriByte) (number : Option ℕ) → y < 256 → Has b y → ((l : ℕ) → number ≡ Some l → y ≡ l)
-        → FollowsWhere may m o s.facts k guarded b1 b2 (difference_effect m d (register m d) y false false) (going_with m.device k s (framed_sub s d b number))
+        → FollowsWhere may m o s.facts k guarded b1 b2 (difference_effect m d (register m d) y false false) (going_with (site_at m.device k s) (framed_sub s d b number))
     framed_sub_covered d y b number small has is =
         difference_covered m o k s at guarded b1 b2 d (register m d) y (bits s d) b false Zero false
         (less_tag (value s d).tag number) (borrow_tag (value s d).tag number) (register_byte m o k s at d) small (register_bits m o k s at d) has refl
@@ -122,5 +123,5 @@ module _ {may : Bool} (m : State) (o : Origin) (k : NodeKey) (s : AbsState) (at 
         (subst (λ n. CarryHolds o (borrow_tag (value s d).tag number) (nat_lt (register m d) n)) (sym (no_carry m o k s at guarded b1 b2 y)) (borrow_holds m o k s at guarded b1 b2 d y number small is))
         (borrow_names_none (value s d).tag number)
 
-    pub framed_step_covered : (up : Bool) (d : ℕ) → Spares s.flags.carry d → FollowsWhere may m o s.facts k guarded b1 b2 (step_effect m up d) (going_with m.device k s (framed_step s up d))
+    pub framed_step_covered : (up : Bool) (d : ℕ) → Spares s.flags.carry d → FollowsWhere may m o s.facts k guarded b1 b2 (step_effect m up d) (going_with (site_at m.device k s) (framed_step s up d))
     framed_step_covered up d spare = step_tagged_covered m o k s at guarded b1 b2 up d (high_moved (value s d).tag up 1) (step_holds up d) spare

@@ -24,6 +24,7 @@ use Rattle.local_laws.proofs.MonotoneValues.{IsStateLess, IsSameWhere, any_bit_w
 use Rattle.local_laws.proofs.MonotoneRaw.{LeadsLess}
 use Rattle.local_laws.proofs.MonotoneAlu.{reg, reg_bits, flag_bits, borrow_bytes, no_borrow, borrow_names, borrow_within, number_tells, number_small, sum_tagged_less, difference_less, step_tagged_less, immediate_less, unary_less}
 use Rattle.local_laws.proofs.FrameTags.{high_moved_of, more_of, less_of, high_of_sum, sum_bytes, no_sum, sum_names, more_within, less_within, sum_within, high_within}
+use Rattle.local_rules.specs.Site.{site_at}
 
 module _ (device : Device) (k : NodeKey) (at : IsKey device k) (s t : AbsState) (le : IsStateLess k.inst.kind (offset_of k.sp) s t) where
   abbrev kind : Kind
@@ -32,7 +33,7 @@ module _ (device : Device) (k : NodeKey) (at : IsKey device k) (s t : AbsState) 
   added_tells : (d r : ℕ) → IsSameWhere (number_added s d r) (number_added t d r)
   added_tells d r = constant_tells (bits s (added d r)) (bits t (added d r)) (reg_bits device k at s t le (added d r))
 
-  pub add_less : (d r : ℕ) → LeadsLess device k.inst (going_with device k s (framed_add s d r)) (going_with device k t (framed_add t d r))
+  pub add_less : (d r : ℕ) → LeadsLess device k.inst (going_with (site_at device k s) (framed_add s d r)) (going_with (site_at device k t) (framed_add t d r))
   add_less d r =
       let v = reg device k at s t le (followed d r) in
       let tells = added_tells d r in
@@ -46,7 +47,7 @@ module _ (device : Device) (k : NodeKey) (at : IsKey device k) (s t : AbsState) 
       (sum_names (tag_followed s d r) (number_added s d r)) (λ root. no_sum (tag_followed s d r) (number_added s d r) (v.good.none root))
       (sum_within (tag_followed s d r) (tag_followed t d r) (number_added s d r) (number_added t d r) v.within.tag tells)
 
-  pub adc_less : (d r : ℕ) → LeadsLess device k.inst (going_with device k s (framed_adc s d r)) (going_with device k t (framed_adc t d r))
+  pub adc_less : (d r : ℕ) → LeadsLess device k.inst (going_with (site_at device k s) (framed_adc s d r)) (going_with (site_at device k t) (framed_adc t d r))
   adc_less d r =
       let v = reg device k at s t le (followed d r) in
       sum_tagged_less device k at s t le d (bits s r) (bits t r) (carry_bit s) (carry_bit t)
@@ -57,7 +58,7 @@ module _ (device : Device) (k : NodeKey) (at : IsKey device k) (s t : AbsState) 
       tt tt (λ root. tt) tt
 
   pub framed_sub_less : (d : ℕ) (b b' : TriByte) (f g : Option ℕ) → IsWithin b b' → IsSameWhere f g → ((n : ℕ) → f ≡ Some n → n < 256)
-      → LeadsLess device k.inst (going_with device k s (framed_sub s d b f)) (going_with device k t (framed_sub t d b' g))
+      → LeadsLess device k.inst (going_with (site_at device k s) (framed_sub s d b f)) (going_with (site_at device k t) (framed_sub t d b' g))
   framed_sub_less d b b' f g under tells small =
       let v = reg device k at s t le d in
       difference_less device k at s t le d (bits s d) (bits t d) b b' Zero Zero false
@@ -66,7 +67,7 @@ module _ (device : Device) (k : NodeKey) (at : IsKey device k) (s t : AbsState) 
       (borrow_bytes kind (value s d).tag f v.good small) (borrow_names (value s d).tag f) (λ root. no_borrow (value s d).tag f (v.good.none root))
       (borrow_within (value s d).tag (value t d).tag f g v.within.tag tells)
 
-  framed_step_less : (up : Bool) (d : ℕ) → LeadsLess device k.inst (going_with device k s (framed_step s up d)) (going_with device k t (framed_step t up d))
+  framed_step_less : (up : Bool) (d : ℕ) → LeadsLess device k.inst (going_with (site_at device k s) (framed_step s up d)) (going_with (site_at device k t) (framed_step t up d))
   framed_step_less up d =
       let v = reg device k at s t le d in
       step_tagged_less device k at s t le up d (high_moved (value s d).tag up 1) (high_moved (value t d).tag up 1)
@@ -74,7 +75,7 @@ module _ (device : Device) (k : NodeKey) (at : IsKey device k) (s t : AbsState) 
 
   -- ---- by the operation
 
-  framed_immediate_less : (op : ImmediateOp) (d n : ℕ) → d < 32 → n < 256 → LeadsLess device k.inst (immediate_row device true k s op d n) (immediate_row device true k t op d n)
+  framed_immediate_less : (op : ImmediateOp) (d n : ℕ) → d < 32 → n < 256 → LeadsLess device k.inst (immediate_row true (site_at device k s) op d n) (immediate_row true (site_at device k t) op d n)
   framed_immediate_less immediate.Cpi d n low lt = immediate_less device k at s t le immediate.Cpi d n low lt
   framed_immediate_less immediate.Sbci d n low lt = immediate_less device k at s t le immediate.Sbci d n low lt
   framed_immediate_less immediate.Subi d n low lt =
@@ -83,11 +84,11 @@ module _ (device : Device) (k : NodeKey) (at : IsKey device k) (s t : AbsState) 
   framed_immediate_less immediate.Andi d n low lt = immediate_less device k at s t le immediate.Andi d n low lt
   framed_immediate_less immediate.Ldi d n low lt = immediate_less device k at s t le immediate.Ldi d n low lt
 
-  pub immediate_line_less : (line : Bool) (op : ImmediateOp) (d n : ℕ) → d < 32 → n < 256 → LeadsLess device k.inst (immediate_row device line k s op d n) (immediate_row device line k t op d n)
+  pub immediate_line_less : (line : Bool) (op : ImmediateOp) (d n : ℕ) → d < 32 → n < 256 → LeadsLess device k.inst (immediate_row line (site_at device k s) op d n) (immediate_row line (site_at device k t) op d n)
   immediate_line_less true op d n low lt = framed_immediate_less op d n low lt
   immediate_line_less false op d n low lt = immediate_less device k at s t le op d n low lt
 
-  framed_unary_less : (op : UnaryOp) (d : ℕ) → LeadsLess device k.inst (unary_row device true k s op d) (unary_row device true k t op d)
+  framed_unary_less : (op : UnaryOp) (d : ℕ) → LeadsLess device k.inst (unary_row true (site_at device k s) op d) (unary_row true (site_at device k t) op d)
   framed_unary_less unary.Com d = unary_less device k at s t le unary.Com d
   framed_unary_less unary.Neg d = unary_less device k at s t le unary.Neg d
   framed_unary_less unary.Swap d = unary_less device k at s t le unary.Swap d
@@ -97,6 +98,6 @@ module _ (device : Device) (k : NodeKey) (at : IsKey device k) (s t : AbsState) 
   framed_unary_less unary.Ror d = unary_less device k at s t le unary.Ror d
   framed_unary_less unary.Dec d = framed_step_less false d
 
-  pub unary_line_less : (line : Bool) (op : UnaryOp) (d : ℕ) → LeadsLess device k.inst (unary_row device line k s op d) (unary_row device line k t op d)
+  pub unary_line_less : (line : Bool) (op : UnaryOp) (d : ℕ) → LeadsLess device k.inst (unary_row line (site_at device k s) op d) (unary_row line (site_at device k t) op d)
   unary_line_less true op d = framed_unary_less op d
   unary_line_less false op d = unary_less device k at s t le op d

@@ -5,7 +5,7 @@ use Rattle.std.proofs.lemmas.Bool.{cases_eq, ne_eqb}
 use Rattle.std.proofs.lemmas.Grind.{elements}
 use Rattle.std.proofs.lemmas.List.Elements.{Contains-append_cases}
 use Rattle.basics.specs.Items.{none_in}
-use Rattle.avr_model.specs.Devices.{Program, size_of}
+use Rattle.avr_model.specs.Devices.{size_of}
 use Rattle.avr_model.specs.declared.device.Device.{Device}
 use Rattle.avr_model.specs.declared.assumption.Entry.{Entry}
 use Rattle.avr_model.specs.Assumptions.{is_fixed_site, store_line}
@@ -33,13 +33,15 @@ use Rattle.mask_states.specs.declared.keys.High.{High}
 use Rattle.mask_states.specs.Splits.{splits}
 use Rattle.mask_states.specs.Wakes.{widened}
 use Rattle.local_rules.specs.declared.local.Node.{Node}
-use Rattle.local_rules.specs.declared.pointers.Pointed.{Pointed}
 use Rattle.local_rules.specs.Raw.{Raw, nowhere, one, all_of, off_table}
 use Rattle.local_rules.specs.Registers.{value, carry_bit, forgetting}
 use Rattle.local_rules.specs.Flow.{branch, part_of, with_value, where_carry, going_where, carry_branch, flag_branch}
 use Rattle.local_rules.specs.Writes.{opening, closing, sreg_written, written_at, fixed_write, may_wake, waking, pointer_write, high_part, closing_offset, flags_written, register_written, put_flags, reaches}
 use Rattle.local_laws.proofs.Members.{each_of, each_in_map}
 use Rattle.local_laws.proofs.MonotoneValues.{set_other}
+use Rattle.local_rules.specs.Site.{Task}
+use Rattle.local_rules.specs.Writes.{write_at}
+use Rattle.local_rules.specs.Reads.{pointed}
 
 -- it follows pairs as `followed` says, and its intervals lie in their hulls
 pub record IsModeKept (followed : Bool) (t : AbsState) : Type 0 where
@@ -174,7 +176,7 @@ module _ (followed : Bool) where
   kept_sreg Any k s is_out h = kept_two _ _ s h
 
   pub kept_written : (device : Device) (pc : ℕ) (k : NodeKey) (s : AbsState) (is_out : Bool) (a : ℕ) (v : AbsByte) → HasSixteen s.facts → IsModeKept followed s
-      → AllKept (written_at device pc k s is_out a v)
+      → AllKept (written_at (write_at device pc k s v) is_out a)
   unfolding written_at
   kept_written device pc k s is_out a v sixteen h =
       kept_if (nat_lt a 0x20) _ _ (λ e. kept_one k (register_written s a v) (register_kept s a v (ltb-true a 0x20 e) sixteen h)) (λ e.
@@ -183,20 +185,20 @@ module _ (followed : Bool) where
       kept_if (a == SREG) _ _ (λ e. kept_sreg (tri_at v.bits 7) k (put_flags s (flags_written v)) is_out (flags_kept s (flags_written v) h)) (λ e.
       each_in_map (λ m. record { key = record k { masks = m }; state = s }) (λ (n : Node). IsModeKept followed n.state) (splits device k.masks a v.bits) (λ m j. h)))))
 
-  kept_fixed : (device : Device) (a : Option ℕ) (pc : ℕ) (k : NodeKey) (s : AbsState) (v : AbsByte) → HasSixteen s.facts → IsModeKept followed s → AllKept (fixed_write device a pc k s v)
+  kept_fixed : (device : Device) (a : Option ℕ) (pc : ℕ) (k : NodeKey) (s : AbsState) (v : AbsByte) → HasSixteen s.facts → IsModeKept followed s → AllKept (fixed_write a (write_at device pc k s v))
   kept_fixed device None pc k s v sixteen h = kept_none
   kept_fixed device (Some a) pc k s v sixteen h = kept_written device pc k s false a v sixteen h
 
-  kept_waking : (b : Bool) (device : Device) (A : List Entry) (k : NodeKey) (s : AbsState) (r : Raw) → IsModeKept followed s → AllKept r → AllKept (waking b device A k s r)
+  kept_waking : (b : Bool) (device : Device) (A : List Entry) (k : NodeKey) (s : AbsState) (r : Raw) → IsModeKept followed s → AllKept r → AllKept (waking b (record { key = record k { masks = widened device A k.masks }; state = s }) r)
   kept_waking false device A k s r h all to j = all to j
   kept_waking true device A k s r h all to j = ⊎_elim (all to) (kept_one _ s h to) (Contains-append_cases r.moves (record { key = record k { masks = widened device A k.masks }; state = s } ∷ []) to j)
 
-  pub kept_pointer : (device : Device) (words : Program) (A : List Entry) (was : AbsState) (r up : ℕ) (p : Pointed) (pc : ℕ) (k : NodeKey) (s : AbsState) (v : AbsByte)
-      → HasSixteen s.facts → IsModeKept followed s → AllKept (pointer_write device words A was r up p pc k s v)
-  kept_pointer device words A was r up p pc k s v sixteen h =
-      kept_if (is_fixed_site words A pc) _ _ (λ e. kept_fixed device p.constant pc k s v sixteen h) (λ e. kept_waking (may_wake device A was r up p pc k v) device A k s _ h (λ to j.
-      ⊎_elim (kept_one k s h to) (kept_all (λ a. written_at device pc k s false a v) (filter (λ a. reaches was r up a) (store_line A pc)) (λ a. kept_written device pc k s false a v sixteen h) to)
-      (Contains-append_cases (one k s).moves (all_of (map (λ a. written_at device pc k s false a v) (filter (λ a. reaches was r up a) (store_line A pc)))).moves to j)))
+  pub kept_pointer : (device : Device) (task : Task) (was : AbsState) (r up : ℕ) (pc : ℕ) (k : NodeKey) (s : AbsState) (v : AbsByte)
+      → HasSixteen s.facts → IsModeKept followed s → AllKept (pointer_write task was r up (write_at device pc k s v))
+  kept_pointer device task was r up pc k s v sixteen h =
+      kept_if (is_fixed_site task.flash task.assumptions pc) _ _ (λ e. kept_fixed device (pointed was r up).constant pc k s v sixteen h) (λ e. kept_waking (may_wake task.assumptions was r up (write_at device pc k s v)) device task.assumptions k s _ h (λ to j.
+      ⊎_elim (kept_one k s h to) (kept_all (λ a. written_at (write_at device pc k s v) false a) (filter (λ a. reaches was r up a) (store_line task.assumptions pc)) (λ a. kept_written device pc k s false a v sixteen h) to)
+      (Contains-append_cases (one k s).moves (all_of (map (λ a. written_at (write_at device pc k s v) false a) (filter (λ a. reaches was r up a) (store_line task.assumptions pc)))).moves to j)))
 
 -- ---- branches on C, where pairs aren't followed
 
@@ -218,6 +220,6 @@ carry_branch_none One k s set clear e = where_none k s true set e
 carry_branch_none Zero k s set clear e = where_none k s false clear e
 carry_branch_none Any k s set clear e = kept_both false (going_where k (where_carry s.flags.carry s false) clear) (going_where k (where_carry s.flags.carry s true) set) (where_none k s false clear e) (where_none k s true set e)
 
-pub flag_branch_none : (n : ℕ) (k : NodeKey) (s : AbsState) (set clear : ℕ) (t : Tri) (taken other : ℕ) → s.facts ≡ None → AllKept false (flag_branch n k s set clear (branch t k s taken other))
+pub flag_branch_none : (n : ℕ) (k : NodeKey) (s : AbsState) (set clear : ℕ) (t : Tri) (taken other : ℕ) → s.facts ≡ None → AllKept false (flag_branch n (record { key = k; state = s }) set clear (branch t k s taken other))
 flag_branch_none n k s set clear t taken other e =
     kept_if false (n == 0) _ _ (λ is. carry_branch_none (carry_bit s) k s set clear e) (λ is. kept_branch false t k s taken other (none_kept s e))

@@ -3,13 +3,12 @@ use Rattle.std.proofs.Common.{◌≡◌, refl, sym, subst, ap, ◌∙◌, ℕ, �
 use Rattle.std.proofs.lemmas.List.Elements.{Contains-append_cases}
 use Rattle.basics.specs.Items.{none_in, further_in, first_in}
 use Rattle.basics.specs.Lists.{both_empty}
-use Rattle.avr_model.specs.Devices.{Program, size_of, wrapped, device_of}
+use Rattle.avr_model.specs.Devices.{size_of, wrapped, device_of}
 use Rattle.avr_model.specs.Image.{word_at}
 use Rattle.avr_model.specs.Marks.{marks}
 use Rattle.avr_model.specs.Table.{length_of}
 use Rattle.avr_model.specs.Text.{near}
 use Rattle.avr_model.specs.declared.device.Device.{Device}
-use Rattle.avr_model.specs.declared.assumption.Entry.{Entry}
 use Rattle.avr_model.specs.declared.instruction.Instr.{Instr}
 use Rattle.avr_model.specs.declared.instruction.Instr.TheVariants as i
 use Rattle.avr_model.specs.declared.instruction.BinaryOp.TheVariants as binary
@@ -42,7 +41,6 @@ use Rattle.local_rules.specs.declared.local.NodeFault.TheVariants.{UnresolvedJum
 use Rattle.local_rules.specs.Raw.{Raw, fails, all_of, at_word, next, further, untracked_if, too_deep_if}
 use Rattle.local_rules.specs.Registers.{value, before, forgetting, going_by, binary_after}
 use Rattle.local_rules.specs.FrameLines.{framed_binary, is_followed as is_followed_by}
-use Rattle.local_rules.specs.Reads.{pointed}
 use Rattle.local_rules.specs.Flow.{going_where, flag_at, skipping}
 use Rattle.local_rules.specs.Local.{step_before, pointer_moved, plain_row, paired_row, row_by, row_at, row_in, refining, storing, is_hung, fetched, below, picks, picking, picked_row, split_site, splitting, raw}
 use Rattle.local_rules.specs.Permitted.{may_be}
@@ -59,12 +57,13 @@ use Rattle.local_laws.proofs.PairedPlain.{row_plain}
 use Rattle.local_laws.proofs.PairedStep.{IsStored, stored_same}
 use Rattle.local_laws.proofs.Picks.{below_small}
 use Rattle.local_laws.proofs.PlainRows.{IsRefinedInstr, row_leaves, pointer_set}
+use Rattle.local_rules.specs.Site.{Task, site_at}
 
 -- ---- where pairs aren't followed
 
-module _ (device : Device) (words : Program) (A : List Entry) (scratch : Bool) (k : NodeKey) (s : AbsState) (none : s.facts ≡ None) where
+module _ (device : Device) (task : Task) (scratch : Bool) (k : NodeKey) (s : AbsState) (none : s.facts ≡ None) where
   abbrev plain : Instr → Raw
-  plain instr = plain_row device words A scratch k s instr
+  plain instr = plain_row task scratch (site_at device k s) instr
 
   none_before : (instr : Instr) → (before instr s).facts ≡ None
   none_before instr = ap (ended (is_one_of (written instr)) (sets_flags instr) (sets_carry instr)) none
@@ -76,17 +75,15 @@ module _ (device : Device) (words : Program) (A : List Entry) (scratch : Bool) (
   sixteen instr = subst HasSixteen (sym (none_before instr)) tt
 
   refined_none : (instr : Instr) → IsRefinedInstr instr → AllKept false (plain instr)
-  refined_none instr is to j = none_kept to.state ((row_leaves device words A scratch k (before instr s) instr is to j).facts ∙ none_before instr)
+  refined_none instr is to j = none_kept to.state ((row_leaves device task scratch k (before instr s) instr is to j).facts ∙ none_before instr)
 
   -- `cpse` computes no result, with or without a line
-  cpse_kept : (framed : Bool) (d r : ℕ) → AllKept false (going_by device k (before (i.Binary binary.Cpse d r) s)
-      (if framed then framed_binary (before (i.Binary binary.Cpse d r) s) binary.Cpse d r else binary_after (before (i.Binary binary.Cpse d r) s) binary.Cpse d r)
-      (skipping device words k k (before (i.Binary binary.Cpse d r) s) (byte_equal (value_at s.registers d).bits (value_at s.registers r).bits)))
+  cpse_kept : (framed : Bool) (d r : ℕ) → AllKept false (going_by (site_at device k (before (i.Binary binary.Cpse d r) s)) (if framed then framed_binary (before (i.Binary binary.Cpse d r) s) binary.Cpse d r else binary_after (before (i.Binary binary.Cpse d r) s) binary.Cpse d r) (skipping task.flash (site_at device k (before (i.Binary binary.Cpse d r) s)) k k (byte_equal (value_at s.registers d).bits (value_at s.registers r).bits)))
   cpse_kept true d r = kept_branch false (byte_equal (value_at s.registers d).bits (value_at s.registers r).bits) k (before (i.Binary binary.Cpse d r) s) _ _ (kept_before (i.Binary binary.Cpse d r))
   cpse_kept false d r = kept_branch false (byte_equal (value_at s.registers d).bits (value_at s.registers r).bits) k (before (i.Binary binary.Cpse d r) s) _ _ (kept_before (i.Binary binary.Cpse d r))
 
   plain_kept : (instr : Instr) → AllKept false (plain instr)
-  plain_kept (i.Binary binary.Cpse d r) = cpse_kept (is_followed_by (is_frame A k.pc) d r) d r
+  plain_kept (i.Binary binary.Cpse d r) = cpse_kept (is_followed_by (is_frame task.assumptions k.pc) d r) d r
   plain_kept (i.Binary binary.Cpc d r) = refined_none (i.Binary binary.Cpc d r) tt
   plain_kept (i.Binary binary.Sbc d r) = refined_none (i.Binary binary.Sbc d r) tt
   plain_kept (i.Binary binary.Add d r) = refined_none (i.Binary binary.Add d r) tt
@@ -98,9 +95,9 @@ module _ (device : Device) (words : Program) (A : List Entry) (scratch : Bool) (
   plain_kept (i.Binary binary.Or d r) = refined_none (i.Binary binary.Or d r) tt
   plain_kept (i.Binary binary.Mov d r) = refined_none (i.Binary binary.Mov d r) tt
   plain_kept (i.Binary binary.Mul d r) = refined_none (i.Binary binary.Mul d r) tt
-  plain_kept (i.Std b q r) = kept_pointer false device words A (before (i.Std b q r) s) (base_register b) q (pointed (before (i.Std b q r) s) (base_register b) q) k.pc (next device k) (before (i.Std b q r) s) (value s r) (sixteen (i.Std b q r)) (kept_before (i.Std b q r))
+  plain_kept (i.Std b q r) = kept_pointer false device task (before (i.Std b q r) s) (base_register b) q k.pc (next device k) (before (i.Std b q r) s) (value s r) (sixteen (i.Std b q r)) (kept_before (i.Std b q r))
   plain_kept (i.St p r) =
-      kept_pointer false device words A (before (i.St p r) s) (pointer_register p) (step_before p) (pointed (before (i.St p r) s) (pointer_register p) (step_before p)) k.pc (next device k) (record (before (i.St p r) s) { registers = pointer_moved p (before (i.St p r) s) }) (value s r)
+      kept_pointer false device task (before (i.St p r) s) (pointer_register p) (step_before p) k.pc (next device k) (record (before (i.St p r) s) { registers = pointer_moved p (before (i.St p r) s) }) (value s r)
       (sixteen (i.St p r)) (none_kept (record (before (i.St p r) s) { registers = pointer_moved p (before (i.St p r) s) }) (none_before (i.St p r)))
   plain_kept (i.Sts a r) = kept_written false device k.pc (at_word k (further device k 2)) (before (i.Sts a r) s) false a (value s r) (sixteen (i.Sts a r)) (kept_before (i.Sts a r))
   plain_kept (i.Out a r) = kept_written false device k.pc (next device k) (before (i.Out a r) s) true (port a) (value s r) (sixteen (i.Out a r)) (kept_before (i.Out a r))
@@ -114,12 +111,12 @@ module _ (device : Device) (words : Program) (A : List Entry) (scratch : Bool) (
 
 -- ---- where they are
 
-module _ (device : Device) (words : Program) (A : List Entry) (scratch : Bool) (k : NodeKey) (s : AbsState) (h : IsNodeIn device true k s) (f : PairFacts) (known : s.facts ≡ Some f) where
+module _ (device : Device) (task : Task) (scratch : Bool) (k : NodeKey) (s : AbsState) (h : IsNodeIn device true k s) (f : PairFacts) (known : s.facts ≡ Some f) where
   abbrev row : Instr → Raw
-  row instr = plain_row device words A scratch k s instr
+  row instr = plain_row task scratch (site_at device k s) instr
 
   abbrev paired : Instr → Raw
-  paired instr = paired_row device words A scratch k s instr
+  paired instr = paired_row task scratch (site_at device k s) instr
 
   low : IsBare device k s
   low = bare k s h
@@ -134,29 +131,29 @@ module _ (device : Device) (words : Program) (A : List Entry) (scratch : Bool) (
   count instr = known_is_ordered.count (before instr s).facts (writes_end_facts.fits (is_one_of (written instr)) (sets_flags instr) (sets_carry instr) s.facts h.formed.facts)
 
   -- a refined state follows pairs, as the plain one does
-  refined_kept : (instr : Instr) (n : ℕ) (t u : AbsState) → HasRegisters instr → IsFormed t n → IsPlain words instr s t
+  refined_kept : (instr : Instr) (n : ℕ) (t u : AbsState) → HasRegisters instr → IsFormed t n → IsPlain task.flash instr s t
       → ((r : ℕ) → r < 32 → is_one_of (written instr) r ≡ false → set_of (value_at t.registers r) ≡ set_of (value_at s.registers r))
-      → refined (marks words) words instr s t ≡ Some u → IsModeKept true u
+      → refined (marks task.flash) task.flash instr s t ≡ Some u → IsModeKept true u
   refined_kept instr n t u has formed plain others e =
-      let under = refined_is_ordered.under (marks words) words instr (offset_of k.sp) n s t u has h.formed formed plain e in
+      let under = refined_is_ordered.under (marks task.flash) task.flash instr (offset_of k.sp) n s t u has h.formed formed plain e in
       let mode : is_followed t.facts ≡ true = ap is_followed plain.facts ∙ writes_end_facts.followed (is_one_of (written instr)) (sets_flags instr) (sets_carry instr) s.facts ∙ h.mode in
       record {
         mode = mode_within u.facts t.facts under.facts mode;
-        hulls = refined_is_ordered.hulls (marks words) words instr (offset_of k.sp) n s t u has h.formed formed plain.facts others h.hulls e;
+        hulls = refined_is_ordered.hulls (marks task.flash) task.flash instr (offset_of k.sp) n s t u has h.formed formed plain.facts others h.hulls e;
       }
 
-  refining_kept : (instr : Instr) → InstrFits instr → HasRegisters instr → IsRefinedInstr instr → (row instr).faults ≡ [] → AllKept true (refining words instr s (row instr))
+  refining_kept : (instr : Instr) → InstrFits instr → HasRegisters instr → IsRefinedInstr instr → (row instr).faults ≡ [] → AllKept true (refining task.flash instr s (row instr))
   refining_kept instr fits has is clean x j =
-      let of = from_refined words instr s (row instr).moves (row instr).moves (λ n m. m) x j in
+      let of = from_refined task.flash instr s (row instr).moves (row instr).moves (λ n m. m) x j in
       let le : IsStateLess k.inst.kind (offset_of k.sp) (before instr s) (before instr s) =
       forgetting_both k.inst.kind (offset_of k.sp) (written instr) (sets_flags instr) (sets_carry instr) s s (node_less k s s low low (states_are_ordered.same s)) in
-      let met = (row_less device words A k (bare_key k s low) (before instr s) (before instr s) le scratch instr fits clean).moves of.to of.member in
-      let leaves = row_leaves device words A scratch k (before instr s) instr is of.to of.member in
-      refined_kept instr (offset_of of.to.key.sp) of.to.state x.state has met.node.formed (row_plain device words A scratch k s h.formed.count_registers instr is has of.to of.member)
+      let met = (row_less device task k (bare_key k s low) (before instr s) (before instr s) le scratch instr fits clean).moves of.to of.member in
+      let leaves = row_leaves device task scratch k (before instr s) instr is of.to of.member in
+      refined_kept instr (offset_of of.to.key.sp) of.to.state x.state has met.node.formed (row_plain device task scratch k s h.formed.count_registers instr is has of.to of.member)
       (λ r lt other. ap set_of (leaves.others r other)) of.left
 
-  stored_kept : (instr : Instr) → IsStored instr → AllKept true (row instr) → AllKept true (refining words instr s (row instr))
-  stored_kept instr is all = subst (AllKept true) (sym (stored_same words s f instr is known (row instr))) all
+  stored_kept : (instr : Instr) → IsStored instr → AllKept true (row instr) → AllKept true (refining task.flash instr s (row instr))
+  stored_kept instr is all = subst (AllKept true) (sym (stored_same task.flash s f instr is known (row instr))) all
 
   -- ---- cuts
 
@@ -173,7 +170,7 @@ module _ (device : Device) (words : Program) (A : List Entry) (scratch : Bool) (
   equal_kept d r b lt lt' pc = kept_where true k (equal_cut d r b s) pc (λ u e. left_kept u (equals_are_cut.leaves d r b lt lt' s u (offset_of k.sp) h.formed e))
 
   abbrev past : ℕ
-  past = further device k (1 + length_of (word_at words (k.pc + 1)))
+  past = further device k (1 + length_of (word_at task.flash (k.pc + 1)))
 
   -- flag 7 isn't C
   high_flag : (n : ℕ) (low : Bool) (p q other : Raw) → nat_lt n 7 ≡ low → (n < 7 → AllKept true p) → AllKept true other
@@ -183,15 +180,15 @@ module _ (device : Device) (words : Program) (A : List Entry) (scratch : Bool) (
 
   -- ---- a store through a pointer
 
-  moved_kept : (p : Pointer) (r : ℕ) (x : Option AbsState) → refined (marks words) words (i.St p r) s (record (before (i.St p r) s) { registers = pointer_moved p s }) ≡ x
-      → AllKept true (storing device words A k s p r x)
+  moved_kept : (p : Pointer) (r : ℕ) (x : Option AbsState) → refined (marks task.flash) task.flash (i.St p r) s (record (before (i.St p r) s) { registers = pointer_moved p s }) ≡ x
+      → AllKept true (storing task (site_at device k s) p r x)
   moved_kept p r None e = kept_none true
   moved_kept p r (Some u) e =
       let t : AbsState = record (before (i.St p r) s) { registers = pointer_moved p s } in
-      let formed : IsFormed t (offset_of k.sp) = (moved_bare device words A k s s low low (states_are_ordered.same s) h.hulls f f known known p r s low).formed in
+      let formed : IsFormed t (offset_of k.sp) = (moved_bare device task k s s low low (states_are_ordered.same s) h.hulls f f known known p r s low).formed in
       let kept = refined_kept (i.St p r) (offset_of k.sp) t u tt formed (record { facts = refl; value = tt }) (λ q lt other. ap set_of (pointer_set p s q other)) e in
-      let left = refined_is_ordered.formed (marks words) words (i.St p r) (offset_of k.sp) (offset_of k.sp) s t u tt h.formed formed e in
-      kept_pointer true device words A s (pointer_register p) (step_before p) (pointed s (pointer_register p) (step_before p)) k.pc (next device k) u (value s r)
+      let left = refined_is_ordered.formed (marks task.flash) task.flash (i.St p r) (offset_of k.sp) (offset_of k.sp) s t u tt h.formed formed e in
+      kept_pointer true device task s (pointer_register p) (step_before p) k.pc (next device k) u (value s r)
       (known_is_ordered.count u.facts left.facts) kept
 
   -- ---- all rows
@@ -224,7 +221,7 @@ module _ (device : Device) (words : Program) (A : List Entry) (scratch : Bool) (
   paired_kept (i.Binary binary.Mul d r) fits has clean = refining_kept (i.Binary binary.Mul d r) fits has tt clean
   paired_kept (i.St p r) fits has clean = moved_kept p r _ refl
   paired_kept (i.Std b q r) fits has clean =
-      stored_kept (i.Std b q r) tt (kept_pointer true device words A (before (i.Std b q r) s) (base_register b) q (pointed (before (i.Std b q r) s) (base_register b) q) k.pc (next device k) (before (i.Std b q r) s) (value s r) (count (i.Std b q r)) (still false false))
+      stored_kept (i.Std b q r) tt (kept_pointer true device task (before (i.Std b q r) s) (base_register b) q k.pc (next device k) (before (i.Std b q r) s) (value s r) (count (i.Std b q r)) (still false false))
   paired_kept (i.Sts a r) fits has clean = stored_kept (i.Sts a r) tt (kept_written true device k.pc (at_word k (further device k 2)) (before (i.Sts a r) s) false a (value s r) (count (i.Sts a r)) (still false false))
   paired_kept (i.Out a r) fits has clean = stored_kept (i.Out a r) tt (kept_written true device k.pc (next device k) (before (i.Out a r) s) true (port a) (value s r) (count (i.Out a r)) (still false false))
   paired_kept (i.Cbi a b) fits has clean = stored_kept (i.Cbi a b) tt (kept_written true device k.pc (next device k) (before (i.Cbi a b) s) false (port a) _ (count (i.Cbi a b)) (still false false))
@@ -233,35 +230,35 @@ module _ (device : Device) (words : Program) (A : List Entry) (scratch : Bool) (
 
 -- ---- the node
 
-module _ {device : Device} {followed : Bool} (words : Program) (A : List Entry) (k : NodeKey) (s : AbsState) (h : IsNodeIn device followed k s) where
+module _ {device : Device} {followed : Bool} (task : Task) (k : NodeKey) (s : AbsState) (h : IsNodeIn device followed k s) where
   by_mode : (scratch : Bool) (instr : Instr) → InstrFits instr → HasRegisters instr → (f : Option PairFacts) → s.facts ≡ f
-      → (row_by f device words A scratch k s instr).faults ≡ [] → AllKept followed (row_by f device words A scratch k s instr)
+      → (row_by f task scratch (site_at device k s) instr).faults ≡ [] → AllKept followed (row_by f task scratch (site_at device k s) instr)
   by_mode scratch instr fits has None e clean =
       let mode : false ≡ followed = ap is_followed (sym e) ∙ h.mode in
-      subst (λ (b : Bool). AllKept b (row_by None device words A scratch k s instr)) mode (plain_kept device words A scratch k s e instr)
+      subst (λ (b : Bool). AllKept b (row_by None task scratch (site_at device k s) instr)) mode (plain_kept device task scratch k s e instr)
   by_mode scratch instr fits has (Some f) e clean =
       let mode : true ≡ followed = ap is_followed (sym e) ∙ h.mode in
-      subst (λ (b : Bool). AllKept b (row_by (Some f) device words A scratch k s instr)) mode
-      (paired_kept device words A scratch k s (subst (λ (b : Bool). IsNodeIn device b k s) (sym mode) h) f e instr fits has clean)
+      subst (λ (b : Bool). AllKept b (row_by (Some f) task scratch (site_at device k s) instr)) mode
+      (paired_kept device task scratch k s (subst (λ (b : Bool). IsNodeIn device b k s) (sym mode) h) f e instr fits has clean)
 
   at_kept : (scratch : Bool) (x : Option Instr) → ((instr : Instr) → x ≡ Some instr → InstrFits instr) → ((instr : Instr) → x ≡ Some instr → HasRegisters instr)
-      → (row_at device words A scratch k s x).faults ≡ [] → AllKept followed (row_at device words A scratch k s x)
+      → (row_at task scratch (site_at device k s) x).faults ≡ [] → AllKept followed (row_at task scratch (site_at device k s) x)
   at_kept scratch None fits has clean = kept_none followed
   at_kept scratch (Some instr) fits has clean = by_mode scratch instr (fits instr refl) (has instr refl) s.facts refl clean
 
-module _ {followed : Bool} (words : Program) (A : List Entry) (k : NodeKey) (s : AbsState) (h : IsNodeIn (device_of words) followed k s) where
-  in_kept : (row_in (device_of words) words A k s).faults ≡ [] → AllKept followed (row_in (device_of words) words A k s)
+module _ {followed : Bool} (task : Task) (k : NodeKey) (s : AbsState) (h : IsNodeIn (device_of task.flash) followed k s) where
+  in_kept : (row_in (device_of task.flash) task k s).faults ≡ [] → AllKept followed (row_in (device_of task.flash) task k s)
   in_kept clean =
-      at_kept words A k s h (is_scratch words k.pc) (fetched (device_of words) words k.pc) (fetched_fits (device_of words) words k.pc) (fetched_has (device_of words) words k.pc) clean
+      at_kept task k s h (is_scratch task.flash k.pc) (fetched (device_of task.flash) task.flash k.pc) (fetched_fits (device_of task.flash) task.flash k.pc) (fetched_has (device_of task.flash) task.flash k.pc) clean
 
-module _ {followed : Bool} (words : Program) (A : List Entry) (k : NodeKey) (s : AbsState) (h : IsNodeIn (device_of words) followed k s) where
+module _ {followed : Bool} (task : Task) (k : NodeKey) (s : AbsState) (h : IsNodeIn (device_of task.flash) followed k s) where
   abbrev row_picked : ℕ → Raw
-  row_picked byte = picked_row (row_in (device_of words) words A) (picking k byte) (pick_cut byte s)
+  row_picked byte = picked_row (row_in (device_of task.flash) task) (picking k byte) (pick_cut byte s)
 
-  picked_by : (byte : ℕ) → byte < 256 → (x : Option AbsState) → pick_cut byte s ≡ x → (picked_row (row_in (device_of words) words A) (picking k byte) x).faults ≡ []
-      → AllKept followed (picked_row (row_in (device_of words) words A) (picking k byte) x)
+  picked_by : (byte : ℕ) → byte < 256 → (x : Option AbsState) → pick_cut byte s ≡ x → (picked_row (row_in (device_of task.flash) task) (picking k byte) x).faults ≡ []
+      → AllKept followed (picked_row (row_in (device_of task.flash) task) (picking k byte) x)
   picked_by byte small None e clean = kept_none followed
-  picked_by byte small (Some u) e clean = in_kept words A (picking k byte) u (picked_node k byte small s h u e) clean
+  picked_by byte small (Some u) e clean = in_kept task (picking k byte) u (picked_node k byte small s h u e) clean
 
   several_kept : (xs : List ℕ) → ((x : ℕ) → Contains xs x → x < 256) → (all_of (map row_picked xs)).faults ≡ [] → AllKept followed (all_of (map row_picked xs))
   several_kept [] small clean to j = absurd (none_in to j)
@@ -270,8 +267,8 @@ module _ {followed : Bool} (words : Program) (A : List Entry) (k : NodeKey) (s :
       ⊎_elim (picked_by x (small x (first_in x xs)) (pick_cut x s) refl none.0 to) (several_kept xs (λ y m. small y (further_in x y xs m)) none.1 to)
       (Contains-append_cases (row_picked x).moves (all_of (map row_picked xs)).moves to j)
 
-  splitting_kept : (jump : Option ℕ) → (splitting jump (row_in (device_of words) words A) k s).faults ≡ [] → AllKept followed (splitting jump (row_in (device_of words) words A) k s)
-  splitting_kept None clean = in_kept words A k s h clean
+  splitting_kept : (jump : Option ℕ) → (splitting jump (row_in (device_of task.flash) task) k s).faults ≡ [] → AllKept followed (splitting jump (row_in (device_of task.flash) task) k s)
+  splitting_kept None clean = in_kept task k s h clean
   splitting_kept (Some jump) clean = by (nat_le (length (picks s)) 64) clean
     where
       by : (few : Bool) → (if few then all_of (map row_picked (picks s)) else fails (UnresolvedJump jump)).faults ≡ []
@@ -287,8 +284,8 @@ module _ {followed : Bool} (words : Program) (A : List Entry) (k : NodeKey) (s :
   deep_kept true pc offset r all clean = absurd (cc)
   deep_kept false pc offset r all clean = all clean
 
-  pub raw_kept : (raw words A k s).faults ≡ [] → AllKept followed (raw words A k s)
+  pub raw_kept : (raw task k s).faults ≡ [] → AllKept followed (raw task k s)
   unfolding raw
   raw_kept clean =
-      untracked_kept (is_hung (device_of words) A k k.sp) k.pc _
-      (deep_kept (nat_lt (size_of (device_of words)) (offset_of k.sp)) k.pc (offset_of k.sp) _ (splitting_kept (split_site words A k.pc k.pick))) clean
+      untracked_kept (is_hung (device_of task.flash) task.assumptions k k.sp) k.pc _
+      (deep_kept (nat_lt (size_of (device_of task.flash)) (offset_of k.sp)) k.pc (offset_of k.sp) _ (splitting_kept (split_site task k.pc k.pick))) clean

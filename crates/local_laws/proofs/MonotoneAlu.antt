@@ -43,6 +43,7 @@ use Rattle.local_rules.specs.Local.{immediate_row, unary_row}
 use Rattle.local_laws.proofs.MonotoneValues.{IsTagOf, IsLess, AreFlagsLess, AreRegistersLess, IsStateLess, IsSameWhere, none_of, if_tag_of, bit_within, bits_less, if_less, untagged_less, known_same, registers_set}
 use Rattle.local_laws.proofs.Less.{kept_is}
 use Rattle.local_laws.proofs.MonotoneRaw.{LeadsLess, one_less, setting_less, further_small}
+use Rattle.local_rules.specs.Site.{site_at}
 
 -- ---- tags
 
@@ -239,46 +240,46 @@ module _ (device : Device) (k : NodeKey) (at : IsKey device k) (s t : AbsState) 
   kept_flags b c over top = written_flags b c s.flags.carry t.flags.carry over top le.flags.bytes le.flags.names le.flags.no_carry le.flags.within.carry
 
   pub setting_one : (d : ℕ) (v w : AbsByte) (f g : AbsFlags) → IsLess kind v w → AreFlagsLess kind f g
-      → LeadsLess device k.inst (setting device k s (set s d v) f) (setting device k t (set t d w) g)
+      → LeadsLess device k.inst (setting (site_at device k s) (set s d v) f) (setting (site_at device k t) (set t d w) g)
   setting_one d v w f g h flags =
       setting_less device k at s t le (set s d v) (set t d w) f g (registers_set kind s.registers t.registers le.registers d v w h) flags
 
-  pub setting_flags : (f g : AbsFlags) → AreFlagsLess kind f g → LeadsLess device k.inst (setting device k s s.registers f) (setting device k t t.registers g)
+  pub setting_flags : (f g : AbsFlags) → AreFlagsLess kind f g → LeadsLess device k.inst (setting (site_at device k s) s.registers f) (setting (site_at device k t) t.registers g)
   setting_flags f g flags = setting_less device k at s t le s.registers t.registers f g le.registers flags
 
-  pub setting_register : (d : ℕ) (v w : AbsByte) → IsLess kind v w → LeadsLess device k.inst (setting device k s (set s d v) s.flags) (setting device k t (set t d w) t.flags)
+  pub setting_register : (d : ℕ) (v w : AbsByte) → IsLess kind v w → LeadsLess device k.inst (setting (site_at device k s) (set s d v) s.flags) (setting (site_at device k t) (set t d w) t.flags)
   setting_register d v w h = setting_one d v w s.flags t.flags h le.flags
 
   -- ---- sums and differences
 
   pub sum_tagged_less : (d : ℕ) (b b' : TriByte) (c c' : Tri) (x x' : Tag) (w w' : CarryTag) → IsWithin b b' → IsTriWithin c c'
       → IsTagOf kind x → IsTagWithin x x' → HasByteNumbers w → CarryNamesRegister w → (kind ≡ Root → CarryIsUntagged w) → IsCarryWithin w w'
-      → LeadsLess device k.inst (going_with device k s (sum_tagged s d b c x w)) (going_with device k t (sum_tagged t d b' c' x' w'))
+      → LeadsLess device k.inst (going_with (site_at device k s) (sum_tagged s d b c (x, w))) (going_with (site_at device k t) (sum_tagged t d b' c' (x', w')))
   sum_tagged_less d b b' c c' x x' w w' over carries good tags bytes names none less =
       let r = all_are_monotone.sums (bits s d) b s.flags.bits (bits t d) b' t.flags.bits c c' (reg_bits d) over flag_bits carries in
       setting_one d _ _ _ _ (bits_less kind x x' _ _ good tags r.0)
       (written_flags _ _ w w' r.1 (flags_7 _ _ _ _ _ s.flags.bits le.flags.bit_7) bytes names none less)
 
-  pub sum_less : (d : ℕ) (b b' : TriByte) (c c' : Tri) → IsWithin b b' → IsTriWithin c c' → LeadsLess device k.inst (going_with device k s (sum_after s d b c)) (going_with device k t (sum_after t d b' c'))
+  pub sum_less : (d : ℕ) (b b' : TriByte) (c c' : Tri) → IsWithin b b' → IsTriWithin c c' → LeadsLess device k.inst (going_with (site_at device k s) (sum_after s d b c)) (going_with (site_at device k t) (sum_after t d b' c'))
   sum_less d b b' c c' over carries =
       sum_tagged_less d b b' c c' tag.None tag.None carry.None carry.None over carries (none_of kind) tt tt tt (λ root. tt) tt
 
   pub compare_less : (a a' b b' : TriByte) (w w' : Tri) (keep_zero : Bool) (c c' : CarryTag) → IsWithin a a' → IsWithin b b' → IsTriWithin w w' → IsOfRegister c → IsCarryWithin c c'
-      → LeadsLess device k.inst (going_with device k s (compare_after s a b w keep_zero c)) (going_with device k t (compare_after t a' b' w' keep_zero c'))
+      → LeadsLess device k.inst (going_with (site_at device k s) (compare_after s (a, b) (w, keep_zero) c)) (going_with (site_at device k t) (compare_after t (a', b') (w', keep_zero) c'))
   compare_less a a' b b' w w' keep_zero c c' over under borrow says less =
       let r = all_are_monotone.differences a b s.flags.bits a' b' t.flags.bits w w' keep_zero over under flag_bits borrow in
       setting_flags _ _ (written_flags _ _ c c' r.1 (flags_7 _ _ _ _ _ s.flags.bits le.flags.bit_7) says.bytes says.names (λ root. says.free) less)
 
   pub difference_less : (d : ℕ) (a a' b b' : TriByte) (w w' : Tri) (keep_zero : Bool) (x x' : Tag) (c c' : CarryTag) → IsWithin a a' → IsWithin b b' → IsTriWithin w w'
       → IsTagOf kind x → IsTagWithin x x' → HasByteNumbers c → CarryNamesRegister c → (kind ≡ Root → CarryIsUntagged c) → IsCarryWithin c c'
-      → LeadsLess device k.inst (going_with device k s (difference_after s d a b w keep_zero x c)) (going_with device k t (difference_after t d a' b' w' keep_zero x' c'))
+      → LeadsLess device k.inst (going_with (site_at device k s) (difference_after s d (a, b) (w, keep_zero) (x, c))) (going_with (site_at device k t) (difference_after t d (a', b') (w', keep_zero) (x', c')))
   difference_less d a a' b b' w w' keep_zero x x' c c' over under borrow good tags bytes names none carries =
       let r = all_are_monotone.differences a b s.flags.bits a' b' t.flags.bits w w' keep_zero over under flag_bits borrow in
       setting_one d _ _ _ _ (bits_less kind x x' _ _ good tags r.0)
       (written_flags _ _ c c' r.1 (flags_7 _ _ _ _ _ s.flags.bits le.flags.bit_7) bytes names none carries)
 
   pub sub_less : (d : ℕ) (a a' b b' : TriByte) (f g : Option ℕ) → IsWithin a a' → IsWithin b b' → IsSameWhere f g → ((n : ℕ) → f ≡ Some n → n < 256)
-      → LeadsLess device k.inst (going_with device k s (sub_after s d a b f)) (going_with device k t (sub_after t d a' b' g))
+      → LeadsLess device k.inst (going_with (site_at device k s) (sub_after s d a b f)) (going_with (site_at device k t) (sub_after t d a' b' g))
   sub_less d a a' b b' f g over under tells small =
       let v = reg d in
       difference_less d a a' b b' Zero Zero false (low_tag (value s d).tag f) (low_tag (value t d).tag g) (borrow_tag (value s d).tag f) (borrow_tag (value t d).tag g)
@@ -286,7 +287,7 @@ module _ (device : Device) (k : NodeKey) (at : IsKey device k) (s t : AbsState) 
       (borrow_bytes kind (value s d).tag f v.good small) (borrow_names (value s d).tag f) (λ root. no_borrow (value s d).tag f (v.good.none root))
       (borrow_within (value s d).tag (value t d).tag f g v.within.tag tells)
 
-  pub sbc_less : (d : ℕ) (b b' : TriByte) (f g : Option ℕ) → IsWithin b b' → IsSameWhere f g → LeadsLess device k.inst (going_with device k s (sbc_after s d b f)) (going_with device k t (sbc_after t d b' g))
+  pub sbc_less : (d : ℕ) (b b' : TriByte) (f g : Option ℕ) → IsWithin b b' → IsSameWhere f g → LeadsLess device k.inst (going_with (site_at device k s) (sbc_after s d b f)) (going_with (site_at device k t) (sbc_after t d b' g))
   sbc_less d b b' f g under tells =
       let v = reg d in
       difference_less d (bits s d) (bits t d) b b' (carry_bit s) (carry_bit t) true
@@ -300,33 +301,33 @@ module _ (device : Device) (k : NodeKey) (at : IsKey device k) (s t : AbsState) 
 
   -- ---- bit by bit
 
-  pub logic_less : (op : Logic) (d : ℕ) (a a' b b' : TriByte) (same : Bool) → IsWithin a a' → IsWithin b b' → LeadsLess device k.inst (going_with device k s (logic_after s op d a b same)) (going_with device k t (logic_after t op d a' b' same))
+  pub logic_less : (op : Logic) (d : ℕ) (a a' b b' : TriByte) (same : Bool) → IsWithin a a' → IsWithin b b' → LeadsLess device k.inst (going_with (site_at device k s) (logic_after s op d (a, b) same)) (going_with (site_at device k t) (logic_after t op d (a', b') same))
   logic_less op d a a' b b' same over under =
       let r = all_are_monotone.logics op a b s.flags.bits a' b' t.flags.bits over under flag_bits in
       setting_one d _ _ _ _ (if_less kind same _ _ _ _ (reg d) (untagged_less kind _ _ r.0)) (kept_flags _ _ r.1 (flags_7 _ _ _ _ _ s.flags.bits le.flags.bit_7))
 
   pub step_tagged_less : (up : Bool) (d : ℕ) (x x' : Tag) → IsTagOf kind x → IsTagWithin x x'
-      → LeadsLess device k.inst (going_with device k s (step_tagged s up d x)) (going_with device k t (step_tagged t up d x'))
+      → LeadsLess device k.inst (going_with (site_at device k s) (step_tagged s up d x)) (going_with (site_at device k t) (step_tagged t up d x'))
   step_tagged_less up d x x' good tags =
       let r = all_are_monotone.steps up (bits s d) s.flags.bits (bits t d) t.flags.bits (reg_bits d) flag_bits in
       setting_one d _ _ _ _ (bits_less kind x x' _ _ good tags r.0) (kept_flags _ _ r.1 (flags_7 _ _ _ _ _ s.flags.bits le.flags.bit_7))
 
-  step_less : (up : Bool) (d : ℕ) → LeadsLess device k.inst (going_with device k s (step_after s up d)) (going_with device k t (step_after t up d))
+  step_less : (up : Bool) (d : ℕ) → LeadsLess device k.inst (going_with (site_at device k s) (step_after s up d)) (going_with (site_at device k t) (step_after t up d))
   step_less up d = step_tagged_less up d tag.None tag.None (none_of kind) tt
 
-  shift_less : (op : Shift) (d : ℕ) → LeadsLess device k.inst (going_with device k s (shift_after s op d)) (going_with device k t (shift_after t op d))
+  shift_less : (op : Shift) (d : ℕ) → LeadsLess device k.inst (going_with (site_at device k s) (shift_after s op d)) (going_with (site_at device k t) (shift_after t op d))
   shift_less op d =
       let r = all_are_monotone.shifts op (bits s d) s.flags.bits (bits t d) t.flags.bits (reg_bits d) flag_bits in
       setting_one d _ _ _ _ (untagged_less kind _ _ r.0) (no_tag_flags _ _ r.1 (flags_7 _ _ _ _ _ s.flags.bits le.flags.bit_7))
 
-  com_less : (d : ℕ) → LeadsLess device k.inst (going_with device k s (com_after s d)) (going_with device k t (com_after t d))
+  com_less : (d : ℕ) → LeadsLess device k.inst (going_with (site_at device k s) (com_after s d)) (going_with (site_at device k t) (com_after t d))
   com_less d =
       let r = all_are_monotone.coms (bits s d) s.flags.bits (bits t d) t.flags.bits (reg_bits d) flag_bits in
       setting_one d _ _ _ _ (untagged_less kind _ _ r.0) (no_tag_flags _ _ r.1 (flags_7 _ _ _ _ _ s.flags.bits le.flags.bit_7))
 
   -- ---- words
 
-  pub product_less : (op : Mul) (d r : ℕ) → LeadsLess device k.inst (product_row device k s op d r) (product_row device k t op d r)
+  pub product_less : (op : Mul) (d r : ℕ) → LeadsLess device k.inst (product_row (site_at device k s) op d r) (product_row (site_at device k t) op d r)
   product_less op d r =
       let p = all_are_monotone.products op (bits s d) (bits s r) s.flags.bits (bits t d) (bits t r) t.flags.bits (reg_bits d) (reg_bits r) flag_bits in
       setting_less device k at s t le _ _ _ _ (pair_set kind s.registers t.registers 0 _ _ _ _ le.registers (untagged_less kind _ _ p.0.0) (untagged_less kind _ _ p.0.1))
@@ -348,14 +349,14 @@ module _ (device : Device) (k : NodeKey) (at : IsKey device k) (s t : AbsState) 
       (bits_less kind _ _ _ _ (high_below_of kind (frame_of (value s d).tag (value s (d + 1)).tag) down (no_frame d))
       (tag_arithmetic_is_monotone.high_below (value s d).tag (value s (d + 1)).tag (value t d).tag (value t (d + 1)).tag down lo hi) p.0.1)
 
-  pub wide_less : (up : Bool) (d n : ℕ) → LeadsLess device k.inst (wide_row device k s up d n) (wide_row device k t up d n)
+  pub wide_less : (up : Bool) (d n : ℕ) → LeadsLess device k.inst (wide_row (site_at device k s) up d n) (wide_row (site_at device k t) up d n)
   wide_less up d n =
       let p = all_are_monotone.words up (bits s d, bits s (d + 1)) (bits t d, bits t (d + 1)) n s.flags.bits t.flags.bits (reg_bits d, reg_bits (d + 1)) flag_bits in
       setting_less device k at s t le _ _ _ _ (pair_less d up n) (no_tag_flags _ _ p.1 (wide_7 up (bits s d, bits s (d + 1)) n s.flags.bits le.flags.bit_7))
 
   -- ---- flags
 
-  interrupts_less : (on : Bool) → LeadsLess device k.inst (interrupts_row device k s on) (interrupts_row device k t on)
+  interrupts_less : (on : Bool) → LeadsLess device k.inst (interrupts_row (site_at device k s) on) (interrupts_row (site_at device k t) on)
   interrupts_less true =
       one_less (record (next device k) { i = true; delay = not k.i }) s t (record { word = further_small device k 1; small = at.small; masks = at.masks; fits = at.fits; pick = at.pick }) le
   interrupts_less false = one_less (record (next device k) { i = false }) s t (record { word = further_small device k 1; small = at.small; masks = at.masks; fits = at.fits; pick = at.pick }) le
@@ -369,8 +370,8 @@ module _ (device : Device) (k : NodeKey) (at : IsKey device k) (s t : AbsState) 
   flag_carry_within false c d h = h
 
   flag_less_by : (b : Bool) (n : ℕ) (on : Bool) → (b ≡ false → n ≢ 7)
-      → LeadsLess device k.inst (if b then interrupts_row device k s on else setting device k s s.registers (with_carry (byte_with s.flags.bits n (tri_of_bool on)) (carry_tag_at s n)))
-      (if b then interrupts_row device k t on else setting device k t t.registers (with_carry (byte_with t.flags.bits n (tri_of_bool on)) (carry_tag_at t n)))
+      → LeadsLess device k.inst (if b then interrupts_row (site_at device k s) on else setting (site_at device k s) s.registers (with_carry (byte_with s.flags.bits n (tri_of_bool on)) (carry_tag_at s n)))
+      (if b then interrupts_row (site_at device k t) on else setting (site_at device k t) t.registers (with_carry (byte_with t.flags.bits n (tri_of_bool on)) (carry_tag_at t n)))
   flag_less_by true n on ne = interrupts_less on
   flag_less_by false n on ne =
       setting_flags _ _ (written_flags _ _ (carry_tag_at s n) (carry_tag_at t n)
@@ -380,7 +381,7 @@ module _ (device : Device) (k : NodeKey) (at : IsKey device k) (s t : AbsState) 
       (λ root. flag_carry_is CarryIsUntagged (n == 0) s.flags.carry (le.flags.no_carry root) tt)
       (flag_carry_within (n == 0) s.flags.carry t.flags.carry le.flags.within.carry))
 
-  pub flag_less : (n : ℕ) (on : Bool) → LeadsLess device k.inst (flag_row device k s n on) (flag_row device k t n on)
+  pub flag_less : (n : ℕ) (on : Bool) → LeadsLess device k.inst (flag_row (site_at device k s) n on) (flag_row (site_at device k t) n on)
   flag_less n on = flag_less_by (n == 7) n on (λ e. grind (arith, nat_tests))
 
   -- ---- by the operation
@@ -391,7 +392,7 @@ module _ (device : Device) (k : NodeKey) (at : IsKey device k) (s t : AbsState) 
   pub number_small : (n : ℕ) → n < 256 → (x : ℕ) → Some n ≡ Some x → x < 256
   number_small n lt x e = let is : n ≡ x = cc in omega (arith, is)
 
-  pub immediate_less : (op : ImmediateOp) (d n : ℕ) → d < 32 → n < 256 → LeadsLess device k.inst (immediate_row device false k s op d n) (immediate_row device false k t op d n)
+  pub immediate_less : (op : ImmediateOp) (d n : ℕ) → d < 32 → n < 256 → LeadsLess device k.inst (immediate_row false (site_at device k s) op d n) (immediate_row false (site_at device k t) op d n)
   immediate_less immediate.Cpi d n low lt =
       compare_less (bits s d) (bits t d) (byte_known n) (byte_known n) Zero Zero false (carry.Less d n) (carry.Less d n) (reg_bits d) (same_within (byte_known n)) (λ m p. p) (less_of d n low lt) refl
   immediate_less immediate.Sbci d n low lt = sbc_less d (byte_known n) (byte_known n) (Some n) (Some n) (same_within (byte_known n)) (number_tells n)
@@ -403,7 +404,7 @@ module _ (device : Device) (k : NodeKey) (at : IsKey device k) (s t : AbsState) 
       logic_less logic.And d (bits s d) (bits t d) (byte_known n) (byte_known n) false (reg_bits d) (same_within (byte_known n))
   immediate_less immediate.Ldi d n low lt = setting_register d (known n) (known n) (known_same kind n)
 
-  pub unary_less : (op : UnaryOp) (d : ℕ) → LeadsLess device k.inst (unary_row device false k s op d) (unary_row device false k t op d)
+  pub unary_less : (op : UnaryOp) (d : ℕ) → LeadsLess device k.inst (unary_row false (site_at device k s) op d) (unary_row false (site_at device k t) op d)
   unary_less unary.Com d = com_less d
   unary_less unary.Neg d =
       difference_less d (byte_known 0) (byte_known 0) (bits s d) (bits t d) Zero Zero false tag.None tag.None carry.None carry.None

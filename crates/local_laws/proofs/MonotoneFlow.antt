@@ -52,6 +52,7 @@ use Rattle.local_laws.proofs.MonotoneValues.{IsLess, IsSlotLess, AreSlotsLess, I
 use Rattle.local_laws.proofs.MonotoneRaw.{IsKeyPlace, LeadsLess, nodes_at, fails_less, untracked_less, if_leads, nowhere_less, above_first, above_rest, none_less, both_less, turning_less, several_less, one_less, choose, choose_more, choose_each, enters_less, leaves_less, further_small, off_table_key}
 use Rattle.local_laws.proofs.MonotoneAlu.{reg, reg_bits, flag_bits}
 use Rattle.local_laws.proofs.MonotoneReads.{IsReadLess, slot_value}
+use Rattle.local_rules.specs.Site.{site_at}
 
 -- ---- where an indirect transfer leads
 
@@ -221,7 +222,7 @@ room_by inst true n pc p q h = h refl
 room_by inst false n pc p q h = fails_less inst (fails (TooDeep pc n)) (TooDeep pc n)
 
 branch_nodes : (x : Tri) (k l : NodeKey) (s : AbsState) (taken other : ℕ)
-    → branch_by x k l s taken other ≡ moves_to (nodes_at (λ (j : NodeKey). j) s (choose x (off_table l other) (off_table k taken)))
+    → branch_by x (off_table k taken) (off_table l other) s ≡ moves_to (nodes_at (λ (j : NodeKey). j) s (choose x (off_table l other) (off_table k taken)))
 branch_nodes Zero k l s taken other = refl
 branch_nodes One k l s taken other = refl
 branch_nodes Any k l s taken other = refl
@@ -276,7 +277,7 @@ module _ (device : Device) (k : NodeKey) (at : IsKey device k) (s t : AbsState) 
       }
 
   ways_less : (x y : Tri) (j l : NodeKey) (taken other : ℕ) → IsPlace j → IsPlace l → IsTriWithin x y → taken < limit_of device → other < limit_of device
-      → LeadsLess device k.inst (branch_by x j l s taken other) (branch_by y j l t taken other)
+      → LeadsLess device k.inst (branch_by x (off_table j taken) (off_table l other) s) (branch_by y (off_table j taken) (off_table l other) t)
   ways_less x y j l taken other first second within a b =
       subst₂ (LeadsLess device k.inst) (sym (branch_nodes x j l s taken other)) (sym (branch_nodes y j l t taken other))
       (several_less k.inst (offset_of k.sp) (λ (i : NodeKey). i) s t (choose x (off_table l other) (off_table j taken)) (choose y (off_table l other) (off_table j taken))
@@ -407,11 +408,11 @@ module _ (device : Device) (k : NodeKey) (at : IsKey device k) (s t : AbsState) 
           (both_less k.inst (going_where k (where_carry s.flags.carry s true) set') (going_where k (where_carry t.flags.carry t true) set') [] [] one (none_less k.inst))
 
   pub flag_less : (n set' clear : ℕ) (p q : Raw) → set' < limit_of device → clear < limit_of device → LeadsLess device k.inst p q
-      → LeadsLess device k.inst (flag_branch n k s set' clear p) (flag_branch n k t set' clear q)
+      → LeadsLess device k.inst (flag_branch n (record { key = k; state = s }) set' clear p) (flag_branch n (record { key = k; state = t }) set' clear q)
   flag_less n set' clear p q lt lt' other =
       if_leads k.inst (n == 0) _ _ _ _ (carry_less (carry_bit s) (carry_bit t) set' clear (any_bit_within s.flags.bits t.flags.bits 0 (flag_bits device k at s t le)) lt lt') other
 
-  pub skipping_less : (words : Program) (j l : NodeKey) (x y : Tri) → IsPlace j → IsPlace l → IsTriWithin x y → LeadsLess device k.inst (skipping device words j l s x) (skipping device words j l t y)
+  pub skipping_less : (words : Program) (j l : NodeKey) (x y : Tri) → IsPlace j → IsPlace l → IsTriWithin x y → LeadsLess device k.inst (skipping words (site_at device j s) j l x) (skipping words (site_at device j t) j l y)
   skipping_less words j l x y first second within =
       ways_less x y j l (further device j (1 + length_of (word_at words (j.pc + 1)))) (further device j 1) first second within (further_small device j (1 + length_of (word_at words (j.pc + 1)))) (further_small device j 1)
 
@@ -436,14 +437,14 @@ module _ (device : Device) (k : NodeKey) (at : IsKey device k) (s t : AbsState) 
       let xs = h ys refl in
       subst (λ (z : Option (List ℕ)). LeadsLess device k.inst (indirect_call device z k) (indirect_call device (Some ys) k)) (sym xs.1.0) (sites_less k.inst k (further device k 1) xs.0 ys xs.1.1.0)
 
-  targets : (A : List Entry) → AreTargetsLess (limit_of device) (targets_at device A k s) (targets_at device A k t)
+  targets : (A : List Entry) → AreTargetsLess (limit_of device) (targets_at A (site_at device k s)) (targets_at A (site_at device k t))
   targets A = words_targets device (bits s 30) (bits s 31) (bits t 30) (bits t 31) (reg_bits device k at s t le 30) (reg_bits device k at s t le 31) (jump_line A k.pc)
 
-  pub jump_less : (A : List Entry) → LeadsLess device k.inst (jumping (targets_at device A k s) k s) (jumping (targets_at device A k t) k t)
-  jump_less A = jumping_by (targets_at device A k s) (targets_at device A k t) (targets A)
+  pub jump_less : (A : List Entry) → LeadsLess device k.inst (jumping (targets_at A (site_at device k s)) k s) (jumping (targets_at A (site_at device k t)) k t)
+  jump_less A = jumping_by (targets_at A (site_at device k s)) (targets_at A (site_at device k t)) (targets A)
 
-  pub indirect_less : (A : List Entry) → LeadsLess device k.inst (indirect_call device (targets_at device A k s) k) (indirect_call device (targets_at device A k t) k)
-  indirect_less A = indirect_by (targets_at device A k s) (targets_at device A k t) (targets A)
+  pub indirect_less : (A : List Entry) → LeadsLess device k.inst (indirect_call device (targets_at A (site_at device k s)) k) (indirect_call device (targets_at A (site_at device k t)) k)
+  indirect_less A = indirect_by (targets_at A (site_at device k s)) (targets_at A (site_at device k t)) (targets A)
 
   slots_at : (offset : ℕ) → k.sp ≡ Closed offset → AreSlotsLess kind offset s.slots t.slots
   slots_at offset e = subst (λ (n : ℕ). AreSlotsLess kind n s.slots t.slots) (ap offset_of e) le.slots
@@ -452,9 +453,9 @@ module _ (device : Device) (k : NodeKey) (at : IsKey device k) (s t : AbsState) 
   room_small : {n : ℕ} → nat_le n (size_of device) ≡ true → n ≤ depth_of device
   room_small {n = n} e = omega (arith, leb-true n (size_of device) e, devices_are_alike.in_depth device)
 
-  pub push_less : (scratch : Bool) (r : ℕ) → LeadsLess device k.inst (at_closed k.sp k.pc (pushing device scratch k s r)) (at_closed k.sp k.pc (pushing device scratch k t r))
+  pub push_less : (scratch : Bool) (r : ℕ) → LeadsLess device k.inst (at_closed k.sp k.pc (pushing scratch (site_at device k s) r)) (at_closed k.sp k.pc (pushing scratch (site_at device k t) r))
   push_less scratch r =
-      closed_less k.inst k.sp k.pc (pushing device scratch k s r) (pushing device scratch k t r)
+      closed_less k.inst k.sp k.pc (pushing scratch (site_at device k s) r) (pushing scratch (site_at device k t) r)
       (λ offset e. room_by k.inst (nat_le (offset + 1) (size_of device)) (offset + 1) k.pc _ _ (λ small.
       one_less (record (next device k) { sp = Closed (offset + 1) }) (record s { slots = s.slots ++ pushed_slot scratch (value s r) ∷ [] }) (record t { slots = t.slots ++ pushed_slot scratch (value t r) ∷ [] })
       (record { word = further_small device k 1; small = room_small small; masks = at.masks; fits = tt; pick = at.pick })
@@ -465,19 +466,19 @@ module _ (device : Device) (k : NodeKey) (at : IsKey device k) (s t : AbsState) 
         facts = le.facts;
       })))
 
-  room_row : (target : ℕ) → target < limit_of device → LeadsLess device k.inst (at_closed k.sp k.pc (making_room device k s target)) (at_closed k.sp k.pc (making_room device k t target))
+  room_row : (target : ℕ) → target < limit_of device → LeadsLess device k.inst (at_closed k.sp k.pc (making_room (site_at device k s) target)) (at_closed k.sp k.pc (making_room (site_at device k t) target))
   room_row target lt =
-      closed_less k.inst k.sp k.pc (making_room device k s target) (making_room device k t target)
+      closed_less k.inst k.sp k.pc (making_room (site_at device k s) target) (making_room (site_at device k t) target)
       (λ offset e. room_by k.inst (nat_le (offset + 2) (size_of device)) (offset + 2) k.pc _ _ (λ small.
       one_less (record (at_word k target) { sp = Closed (offset + 2) }) (record s { slots = s.slots ++ Free ∷ Free ∷ [] }) (record t { slots = t.slots ++ Free ∷ Free ∷ [] })
       (record { word = lt; small = room_small small; masks = at.masks; fits = tt; pick = at.pick })
       (record { registers = le.registers; flags = le.flags; slots = room_less kind offset s.slots t.slots (slots_at offset e); facts = le.facts })))
 
-  pub relative_less : (scratch : Bool) (target : ℕ) → target < limit_of device → LeadsLess device k.inst (relative_call device scratch k s target) (relative_call device scratch k t target)
+  pub relative_less : (scratch : Bool) (target : ℕ) → target < limit_of device → LeadsLess device k.inst (relative_call scratch (site_at device k s) target) (relative_call scratch (site_at device k t) target)
   relative_less true target lt = room_row target lt
   relative_less false target lt = calling_less k.inst k (further device k 1) (target ∷ [])
 
-  pop_by : (d offset : ℕ) → k.sp ≡ Closed offset → LeadsLess device k.inst (popping device k s d offset) (popping device k t d offset)
+  pop_by : (d offset : ℕ) → k.sp ≡ Closed offset → LeadsLess device k.inst (popping (site_at device k s) d offset) (popping (site_at device k t) d offset)
   pop_by d zero e = fails_less k.inst (fails (UntrackedSp k.pc)) (UntrackedSp k.pc)
   pop_by d (suc n) e =
       one_less (record (next device k) { sp = Closed n })
@@ -490,8 +491,8 @@ module _ (device : Device) (k : NodeKey) (at : IsKey device k) (s t : AbsState) 
         facts = le.facts;
       })
 
-  pub pop_less : (d : ℕ) → LeadsLess device k.inst (at_closed k.sp k.pc (popping device k s d)) (at_closed k.sp k.pc (popping device k t d))
-  pop_less d = closed_less k.inst k.sp k.pc (popping device k s d) (popping device k t d) (pop_by d)
+  pub pop_less : (d : ℕ) → LeadsLess device k.inst (at_closed k.sp k.pc (popping (site_at device k s) d)) (at_closed k.sp k.pc (popping (site_at device k t) d))
+  pop_less d = closed_less k.inst k.sp k.pc (popping (site_at device k s) d) (popping (site_at device k t) d) (pop_by d)
 
   pub return_less : (x : Exit) → LeadsLess device k.inst (at_closed k.sp k.pc (returning x k.pc k.inst.kind)) (at_closed k.sp k.pc (returning x k.pc k.inst.kind))
   return_less x =

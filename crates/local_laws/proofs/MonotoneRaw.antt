@@ -26,6 +26,7 @@ use Rattle.local_laws.proofs.Bare.{IsBare}
 use Rattle.local_rules.specs.Order.{IsBelowOne}
 use Rattle.local_laws.proofs.Members.{each_of, in_map, each_in_map, not_empty}
 use Rattle.local_laws.proofs.MonotoneValues.{AreFlagsLess, AreRegistersLess, IsStateLess, less_within, less_node}
+use Rattle.local_rules.specs.Site.{site_at}
 
 -- ---- definitions
 
@@ -250,11 +251,11 @@ module _ (device : Device) (k : NodeKey) (at : IsKey device k) (s t : AbsState) 
   pub turning_less : (pc : ℕ) → pc < limit_of device → LeadsLess device k.inst (turning_to k s pc) (turning_to k t pc)
   turning_less pc lt = one_less (off_table k pc) s t (off_table_key k pc at lt) le
 
-  pub on_less : LeadsLess device k.inst (going_on device k s) (going_on device k t)
+  pub on_less : LeadsLess device k.inst (going_on (site_at device k s)) (going_on (site_at device k t))
   on_less = going_less (further device k 1) (further_small device k 1)
 
   pub setting_less : (vs ws : List AbsByte) (f g : AbsFlags) → AreRegistersLess k.inst.kind vs ws → AreFlagsLess k.inst.kind f g
-      → LeadsLess device k.inst (setting device k s vs f) (setting device k t ws g)
+      → LeadsLess device k.inst (setting (site_at device k s) vs f) (setting (site_at device k t) ws g)
   setting_less vs ws f g values flags =
       one_less (next device k) (record s { registers = vs; flags = f }) (record t { registers = ws; flags = g }) (next_key device k at)
       (record { registers = values; flags = flags; slots = le.slots; facts = le.facts })

@@ -36,6 +36,7 @@ use Rattle.local_rules.specs.Local.{loading}
 use Rattle.local_laws.proofs.MonotoneValues.{IsTagOf, IsLess, AreFlagsLess, AreRegistersLess, IsSlotLess, IsStateLess, IsSameWhere, tells_by, none_of, below_any, constant_tells, value_same, bits_less, untagged_less, unknown_same, range_less, known_same, below_unknown, if_less, registers_set}
 use Rattle.local_laws.proofs.MonotoneRaw.{LeadsLess, nowhere_less, setting_less}
 use Rattle.local_laws.proofs.MonotoneAlu.{reg, reg_bits}
+use Rattle.local_rules.specs.Site.{site_at}
 
 -- ---- the stack pointer and the status register
 
@@ -203,12 +204,12 @@ module _ (device : Device) (k : NodeKey) (at : IsKey device k) (s t : AbsState) 
   pointed_frames r up = tells_by (lowered up) refl (frame_of (value s r).tag (value s (r + 1)).tag) (frame_of (value t r).tag (value t (r + 1)).tag) (frames r)
 
   pub loading_less : (vs ws : List AbsByte) (d : ℕ) (x y : Option AbsByte) → AreRegistersLess kind vs ws → IsReadLess kind x y
-      → LeadsLess device k.inst (loading device k s vs d x) (loading device k t ws d y)
+      → LeadsLess device k.inst (loading (site_at device k s) vs d x) (loading (site_at device k t) ws d y)
   loading_less vs ws d None None registers h = nowhere_less k.inst []
   loading_less vs ws d None (Some w) registers h = nowhere_less k.inst _
   loading_less vs ws d (Some v) y registers h =
       let above = h v refl in
-      subst (λ (z : Option AbsByte). LeadsLess device k.inst (loading device k s vs d (Some v)) (loading device k t ws d z)) (sym above.1.0)
+      subst (λ (z : Option AbsByte). LeadsLess device k.inst (loading (site_at device k s) vs d (Some v)) (loading (site_at device k t) ws d z)) (sym above.1.0)
       (setting_less device k at s t le (slice_set vs d v) (slice_set ws d above.0) s.flags t.flags (registers_set kind vs ws registers d v above.0 above.1.1) le.flags)
 
 module _ (device : Device) (may : Bool) (k : NodeKey) (at : IsKey device k) (s t : AbsState) (le : IsStateLess k.inst.kind (offset_of k.sp) s t) where

@@ -1,9 +1,8 @@
 -- The instruction table, row by row, is monotone.
-use Rattle.std.proofs.Common.{ℕ, ◌+◌, ◌*◌, ◌<◌, ◌==◌, Bool, true, false, List, [], ◌∷◌, if◌then◌else◌, arith}
+use Rattle.std.proofs.Common.{ℕ, ◌+◌, ◌*◌, ◌<◌, ◌==◌, Bool, true, false, [], ◌∷◌, if◌then◌else◌, arith}
 use Rattle.local_rules.specs.Cover.{IsKey}
-use Rattle.avr_model.specs.Devices.{Program, wrapped}
+use Rattle.avr_model.specs.Devices.{wrapped}
 use Rattle.avr_model.specs.declared.device.Device.{Device}
-use Rattle.avr_model.specs.declared.assumption.Entry.{Entry}
 use Rattle.avr_model.specs.declared.instruction.Instr.{Instr}
 use Rattle.avr_model.specs.declared.instruction.Instr.TheVariants as i
 use Rattle.avr_model.specs.declared.instruction.BinaryOp.{BinaryOp}
@@ -32,9 +31,9 @@ use Rattle.mask_states.specs.Keys.{offset_of}
 use Rattle.local_rules.specs.Raw.{Raw, at_word, next, further}
 use Rattle.local_rules.specs.Registers.{value, bits, carry_bit, set, less_than, less_kept, or_nothing, pair_moved, going_by, binary_after}
 use Rattle.local_rules.specs.FrameLines.{is_followed, framed_binary}
-use Rattle.local_rules.specs.Reads.{read_at, pointed, pair_constant, kept_bits}
+use Rattle.local_rules.specs.Reads.{read_at, pair_constant, kept_bits}
 use Rattle.local_rules.specs.Flow.{skipping, reading_zero, flag_at, ret_exit, reti_exit}
-use Rattle.local_rules.specs.Local.{binary_row, step_before, pointer_moved, bit_row, row_of}
+use Rattle.local_rules.specs.Local.{step_before, pointer_moved, bit_row, row_of}
 use Rattle.local_laws.proofs.MonotoneValues.{unknown_same, AreRegistersLess, IsStateLess, any_bit_within, constant_is, constant_tells, untagged_less, registers_set}
 use Rattle.local_laws.proofs.MonotoneRaw.{LeadsLess, further_small, wrapped_small, word_key, next_key, going_less, on_less, setting_less}
 use Rattle.local_laws.proofs.MonotoneAlu.{with_7, pair_set, reg, reg_bits, flag_bits, kept_flags, setting_flags, setting_register, sum_less, compare_less, sub_less, sbc_less, or_nothing_within, logic_less, than_of, than_within, kept_of, kept_within, product_less, pair_less, wide_less, flag_less as one_flag_less}
@@ -44,6 +43,9 @@ use Rattle.local_laws.proofs.MonotoneReads.{flash_less, read_less, constants, po
 use Rattle.local_laws.proofs.MonotoneWrites.{write_less, pointer_less}
 use Rattle.local_laws.proofs.MonotoneFlow.{calling_less, here, zero_place, branch_less, flag_less, skipping_less, flag_within, jump_less, indirect_less, push_less, relative_less, pop_less, return_less}
 use Rattle.local_laws.proofs.MonotoneFields.{InstrFits}
+use Rattle.local_rules.specs.Site.{Task, site_at}
+use Rattle.local_rules.specs.Local.{equal_skip}
+use Rattle.local_rules.specs.FrameLines.{binary_at}
 
 base_small : (b : Base) → base_register b < 32
 base_small base_of.Y = omega arith
@@ -58,7 +60,7 @@ pointer_small pointer.X = omega arith
 pointer_small pointer.XPlus = omega arith
 pointer_small pointer.MinusX = omega arith
 
-module _ (device : Device) (words : Program) (A : List Entry) (k : NodeKey) (at : IsKey device k) (s t : AbsState) (le : IsStateLess k.inst.kind (offset_of k.sp) s t) where
+module _ (device : Device) (task : Task) (k : NodeKey) (at : IsKey device k) (s t : AbsState) (le : IsStateLess k.inst.kind (offset_of k.sp) s t) where
   abbrev kind : Kind
   kind = k.inst.kind
 
@@ -68,7 +70,7 @@ module _ (device : Device) (words : Program) (A : List Entry) (k : NodeKey) (at 
   register_bit : (r b : ℕ) → IsTriWithin (tri_at (bits s r) b) (tri_at (bits t r) b)
   register_bit r b = any_bit_within (bits s r) (bits t r) b (reg_bits device k at s t le r)
 
-  binary_less : (op : BinaryOp) (d r : ℕ) → d < 32 → LeadsLess device k.inst (binary_row device words false k s op d r) (binary_row device words false k t op d r)
+  binary_less : (op : BinaryOp) (d r : ℕ) → d < 32 → LeadsLess device k.inst (going_by (site_at device k s) (binary_at false s op d r) (equal_skip task.flash (site_at device k s) d r)) (going_by (site_at device k t) (binary_at false t op d r) (equal_skip task.flash (site_at device k t) d r))
   binary_less binary.Cpc d r low =
       compare_less device k at s t le (bits s d) (bits t d) (bits s r) (bits t r) (carry_bit s) (carry_bit t) true
       (less_kept (byte_constant (bits s d)) (byte_constant (bits s r)) s.flags.carry) (less_kept (byte_constant (bits t d)) (byte_constant (bits t r)) t.flags.carry)
@@ -80,7 +82,7 @@ module _ (device : Device) (words : Program) (A : List Entry) (k : NodeKey) (at 
       (constant_tells (bits s r) (bits t r) (reg_bits device k at s t le r))
   binary_less binary.Add d r low = sum_less device k at s t le d (bits s r) (bits t r) Zero Zero (reg_bits device k at s t le r) (λ n p. p)
   binary_less binary.Cpse d r low =
-      skipping_less device k at s t le words k k (byte_equal (bits s d) (bits s r)) (byte_equal (bits t d) (bits t r)) (here device k at s t le) (here device k at s t le)
+      skipping_less device k at s t le task.flash k k (byte_equal (bits s d) (bits s r)) (byte_equal (bits t d) (bits t r)) (here device k at s t le) (here device k at s t le)
       (logic_is_monotone.tests (bits s d) (bits s r) (bits t d) (bits t r) (reg_bits device k at s t le d) (reg_bits device k at s t le r))
   binary_less binary.Cp d r low =
       compare_less device k at s t le (bits s d) (bits t d) (bits s r) (bits t r) Zero Zero false (less_than d (byte_constant (bits s r))) (less_than d (byte_constant (bits t r)))
@@ -104,7 +106,7 @@ module _ (device : Device) (words : Program) (A : List Entry) (k : NodeKey) (at 
 
   -- the row of two registers, with pairs or without
   abbrev row_by : Bool → AbsState → BinaryOp → ℕ → ℕ → Raw
-  row_by framed u op d r = going_by device k u (if framed then framed_binary u op d r else binary_after u op d r) (skipping device words k k u (byte_equal (bits u d) (bits u r)))
+  row_by framed u op d r = going_by (site_at device k u) (if framed then framed_binary u op d r else binary_after u op d r) (skipping task.flash (site_at device k u) k k (byte_equal (bits u d) (bits u r)))
 
   binary_line_less : (framed : Bool) (op : BinaryOp) (d r : ℕ) → d < 32 → LeadsLess device k.inst (row_by framed s op d r) (row_by framed t op d r)
   binary_line_less false op d r low = binary_less op d r low
@@ -135,9 +137,9 @@ module _ (device : Device) (words : Program) (A : List Entry) (k : NodeKey) (at 
   moved_less pointer.MinusX = pair_less device k at s t le 26 false 1
 
   abbrev may : Bool
-  may = reads_masks device A
+  may = reads_masks device task.assumptions
 
-  bit_less : (a b : ℕ) (on : Bool) → LeadsLess device k.inst (bit_row device k s a b on) (bit_row device k t a b on)
+  bit_less : (a b : ℕ) (on : Bool) → LeadsLess device k.inst (bit_row (site_at device k s) a b on) (bit_row (site_at device k t) a b on)
   bit_less a b on =
       write_less device (next device k) (next_key device k at) s t le k.pc false a _ _
       (untagged_less kind _ _ (writes_cover.more (kept_bits device k.masks a) (kept_bits device k.masks a) b (if on then One else Zero) (if on then One else Zero)
@@ -152,7 +154,7 @@ module _ (device : Device) (words : Program) (A : List Entry) (k : NodeKey) (at 
 
   -- ---- the whole table
 
-  pub row_less : (scratch : Bool) (instr : Instr) → InstrFits instr → LeadsLess device k.inst (row_of device words A scratch k s instr) (row_of device words A scratch k t instr)
+  pub row_less : (scratch : Bool) (instr : Instr) → InstrFits instr → LeadsLess device k.inst (row_of task scratch (site_at device k s) instr) (row_of task scratch (site_at device k t) instr)
   row_less scratch (i.Movw d r) fits =
       setting_less device k at s t le _ _ s.flags t.flags
       (pair_set kind s.registers t.registers (2 * d) _ _ _ _ le.registers (reg device k at s t le (2 * r)) (reg device k at s t le (2 * r + 1))) le.flags
@@ -161,9 +163,9 @@ module _ (device : Device) (words : Program) (A : List Entry) (k : NodeKey) (at 
   row_less scratch (i.Fmul d r) fits = product_less device k at s t le product.Fmul d r
   row_less scratch (i.Fmuls d r) fits = product_less device k at s t le product.Fmuls d r
   row_less scratch (i.Fmulsu d r) fits = product_less device k at s t le product.Fmulsu d r
-  row_less scratch (i.Binary op d r) fits = binary_line_less (is_followed (is_frame A k.pc) d r) op d r fits
-  row_less scratch (i.Immediate op d n) fits = immediate_line_less device k at s t le (is_frame A k.pc) op d n fits.0 fits.1
-  row_less scratch (i.Unary op d) fits = unary_line_less device k at s t le (is_frame A k.pc) op d
+  row_less scratch (i.Binary op d r) fits = binary_line_less (is_followed (is_frame task.assumptions k.pc) d r) op d r fits
+  row_less scratch (i.Immediate op d n) fits = immediate_line_less device k at s t le (is_frame task.assumptions k.pc) op d n fits.0 fits.1
+  row_less scratch (i.Unary op d) fits = unary_line_less device k at s t le (is_frame task.assumptions k.pc) op d
   row_less scratch (i.Adiw d n) fits = wide_less device k at s t le true (2 * d) n
   row_less scratch (i.Sbiw d n) fits = wide_less device k at s t le false (2 * d) n
   row_less scratch (i.Bset n) fits = one_flag_less device k at s t le n true
@@ -179,8 +181,8 @@ module _ (device : Device) (words : Program) (A : List Entry) (k : NodeKey) (at 
       (with_7 s.flags.bits 6 (tri_at (bits s d) b) (omega arith) le.flags.bit_7))
   row_less scratch (i.Ldd d b q) fits = loading_less device k at s t le s.registers t.registers d _ _ le.registers (pointer_read device may k at s t le (base_register b) q)
   row_less scratch (i.Std b q r) fits =
-      pointer_less device (next device k) (next_key device k at) s t le k.pc (value s r) (value t r) (reg device k at s t le r) words A s t (base_register b) q
-      (pointed s (base_register b) q) (pointed t (base_register b) q) (pointed_constants device k at s t le (base_register b) q)
+      pointer_less device (next device k) (next_key device k at) s t le k.pc (value s r) (value t r) (reg device k at s t le r) task s t (base_register b) q
+      (pointed_constants device k at s t le (base_register b) q)
       (pointed_frames device k at s t le (base_register b) q) (pair_less_at (base_register b) (base_small b))
   row_less scratch (i.Lds d a) fits =
       going_less device k at (record s { registers = set s d (read_at device may k s a) }) (record t { registers = set t d (read_at device may k t a) })
@@ -192,15 +194,15 @@ module _ (device : Device) (words : Program) (A : List Entry) (k : NodeKey) (at 
       loading_less device k at s t le (pointer_moved p s) (pointer_moved p t) d _ _ (moved_less p) (pointer_read device may k at s t le (pointer_register p) (step_before p))
   row_less scratch (i.St p r) fits =
       pointer_less device (next device k) (next_key device k at) (record s { registers = pointer_moved p s }) (record t { registers = pointer_moved p t })
-      (record { registers = moved_less p; flags = le.flags; slots = le.slots; facts = le.facts }) k.pc (value s r) (value t r) (reg device k at s t le r) words A s t (pointer_register p) (step_before p)
-      (pointed s (pointer_register p) (step_before p)) (pointed t (pointer_register p) (step_before p)) (pointed_constants device k at s t le (pointer_register p) (step_before p))
+      (record { registers = moved_less p; flags = le.flags; slots = le.slots; facts = le.facts }) k.pc (value s r) (value t r) (reg device k at s t le r) task s t (pointer_register p) (step_before p)
+      (pointed_constants device k at s t le (pointer_register p) (step_before p))
       (pointed_frames device k at s t le (pointer_register p) (step_before p)) (pair_less_at (pointer_register p) (pointer_small p))
-  row_less scratch (i.LpmZ d) fits = setting_register device k at s t le d _ _ (flash_less kind words (pair_constant s 30) (pair_constant t 30) (constants device k at s t le 30))
+  row_less scratch (i.LpmZ d) fits = setting_register device k at s t le d _ _ (flash_less kind task.flash (pair_constant s 30) (pair_constant t 30) (constants device k at s t le 30))
   row_less scratch (i.LpmZPlus d) fits =
       setting_less device k at s t le _ _ s.flags t.flags
       (registers_set kind (pair_moved s 30 true 1) (pair_moved t 30 true 1) (pair_less device k at s t le 30 true 1) d _ _
-      (flash_less kind words (pair_constant s 30) (pair_constant t 30) (constants device k at s t le 30))) le.flags
-  row_less scratch i.Lpm fits = setting_register device k at s t le 0 _ _ (flash_less kind words (pair_constant s 30) (pair_constant t 30) (constants device k at s t le 30))
+      (flash_less kind task.flash (pair_constant s 30) (pair_constant t 30) (constants device k at s t le 30))) le.flags
+  row_less scratch i.Lpm fits = setting_register device k at s t le 0 _ _ (flash_less kind task.flash (pair_constant s 30) (pair_constant t 30) (constants device k at s t le 30))
   row_less scratch (i.ElpmZ d) fits = setting_register device k at s t le d _ _ (unknown_same kind)
   row_less scratch (i.ElpmZPlus d) fits =
       setting_less device k at s t le _ _ s.flags t.flags
@@ -212,8 +214,8 @@ module _ (device : Device) (words : Program) (A : List Entry) (k : NodeKey) (at 
   row_less scratch (i.Out a r) fits = write_less device (next device k) (next_key device k at) s t le k.pc true (port a) (value s r) (value t r) (reg device k at s t le r)
   row_less scratch (i.Cbi a b) fits = bit_less (port a) b false
   row_less scratch (i.Sbi a b) fits = bit_less (port a) b true
-  row_less scratch i.Ijmp fits = jump_less device k at s t le A
-  row_less scratch i.Icall fits = indirect_less device k at s t le A
+  row_less scratch i.Ijmp fits = jump_less device k at s t le task.assumptions
+  row_less scratch i.Icall fits = indirect_less device k at s t le task.assumptions
   row_less scratch i.Ret fits = return_less device k at s t le (ret_exit k)
   row_less scratch i.Reti fits = return_less device k at s t le (reti_exit k)
   row_less scratch (i.Jmp target) fits = going_less device k at s t le (wrapped device target) (wrapped_small device target)
@@ -228,11 +230,11 @@ module _ (device : Device) (words : Program) (A : List Entry) (k : NodeKey) (at 
       (branch_less device k at s t le (tri_not (flag_at k s n)) (tri_not (flag_at k t n)) (wrapped device (near k.pc target)) (further device k 1)
       (bits_cover.nots_within (flag_at k s n) (flag_at k t n) (flag_within device k at s t le n)) (wrapped_small device (near k.pc target)) (further_small device k 1))
   row_less scratch (i.Sbic a b) fits =
-      skipping_less device k at s t le words (reading_zero device may k (port a) b) k _ _ (zero_place device k at s t le may (port a) b) (here device k at s t le) (bits_cover.nots_within _ _ (port_bit (port a) b))
+      skipping_less device k at s t le task.flash (reading_zero device may k (port a) b) k _ _ (zero_place device k at s t le may (port a) b) (here device k at s t le) (bits_cover.nots_within _ _ (port_bit (port a) b))
   row_less scratch (i.Sbis a b) fits =
-      skipping_less device k at s t le words k (reading_zero device may k (port a) b) _ _ (here device k at s t le) (zero_place device k at s t le may (port a) b) (port_bit (port a) b)
-  row_less scratch (i.Sbrc r b) fits = skipping_less device k at s t le words k k _ _ (here device k at s t le) (here device k at s t le) (bits_cover.nots_within _ _ (register_bit r b))
-  row_less scratch (i.Sbrs r b) fits = skipping_less device k at s t le words k k _ _ (here device k at s t le) (here device k at s t le) (register_bit r b)
+      skipping_less device k at s t le task.flash k (reading_zero device may k (port a) b) _ _ (here device k at s t le) (zero_place device k at s t le may (port a) b) (port_bit (port a) b)
+  row_less scratch (i.Sbrc r b) fits = skipping_less device k at s t le task.flash k k _ _ (here device k at s t le) (here device k at s t le) (bits_cover.nots_within _ _ (register_bit r b))
+  row_less scratch (i.Sbrs r b) fits = skipping_less device k at s t le task.flash k k _ _ (here device k at s t le) (here device k at s t le) (register_bit r b)
   row_less scratch i.Nop fits = on_less device k at s t le
   row_less scratch i.Sleep fits = on_less device k at s t le
   row_less scratch i.Break fits = on_less device k at s t le

@@ -1,11 +1,10 @@
 -- A node, with pairs or without, and split or not, is monotone.
-use Rattle.std.proofs.Common.{◌≡◌, refl, sym, subst, ap, ◌∙◌, ℕ, ◌<◌, ◌≤◌, Bool, true, false, List, length, map, Option, Some, None, if◌then◌else◌, Contains, arith, nat_lt, nat_le}
+use Rattle.std.proofs.Common.{◌≡◌, refl, sym, subst, ap, ◌∙◌, ℕ, ◌<◌, ◌≤◌, Bool, true, false, length, map, Option, Some, None, if◌then◌else◌, Contains, arith, nat_lt, nat_le}
 use Rattle.std.proofs.lemmas.Bool.Decides.{nat_tests}
 use Rattle.basics.specs.Booleans.{all_three}
 use Rattle.basics.specs.Items.{none_in}
 use Rattle.avr_model.specs.Devices.{Program, size_of, words_of, device_of}
 use Rattle.avr_model.specs.declared.device.Device.{Device}
-use Rattle.avr_model.specs.declared.assumption.Entry.{Entry}
 use Rattle.avr_model.specs.declared.instruction.Instr.{Instr}
 use Rattle.avr_model.specs.Sites.{instruction_at, is_scratch}
 use Rattle.avr_model.specs.Written.{written}
@@ -42,6 +41,7 @@ use Rattle.local_laws.proofs.PairedCover.{left_bare}
 use Rattle.local_laws.proofs.PairedMonotone.{paired_less}
 use Rattle.local_laws.proofs.Picks.{below_small, picked_less, splits_at, at_quiet}
 use Rattle.local_laws.proofs.Quiet.{Quiet}
+use Rattle.local_rules.specs.Site.{Task, site_at}
 
 -- an instruction of flash names registers
 pub fetched_has : (device : Device) (words : Program) (pc : ℕ) (instr : Instr) → fetched device words pc ≡ Some instr → HasRegisters instr
@@ -51,32 +51,32 @@ fetched_has device words pc instr e = by (nat_lt pc (words_of device)) e
     by true same = operands_fit.fit words pc instr same
     by false same = absurd (cc)
 
-module _ {followed : Bool} (words : Program) (A : List Entry) (k : NodeKey) (s t : AbsState) (a : IsNodeIn (device_of words) followed k s) (b : IsNodeIn (device_of words) followed k t) (within : IsStateWithin s t) where
-  low : IsBare (device_of words) k s
+module _ {followed : Bool} (task : Task) (k : NodeKey) (s t : AbsState) (a : IsNodeIn (device_of task.flash) followed k s) (b : IsNodeIn (device_of task.flash) followed k t) (within : IsStateWithin s t) where
+  low : IsBare (device_of task.flash) k s
   low = bare k s a
 
-  high : IsBare (device_of words) k t
+  high : IsBare (device_of task.flash) k t
   high = bare k t b
 
   row_by_less : (scratch : Bool) (instr : Instr) → InstrFits instr → HasRegisters instr → (f g : Option PairFacts) → s.facts ≡ f → t.facts ≡ g
-      → LeadsLess (device_of words) k.inst (row_by f (device_of words) words A scratch k s instr) (row_by g (device_of words) words A scratch k t instr)
+      → LeadsLess (device_of task.flash) k.inst (row_by f task scratch (site_at (device_of task.flash) k s) instr) (row_by g task scratch (site_at (device_of task.flash) k t) instr)
   row_by_less scratch instr fits has None None e e' =
-      row_less (device_of words) words A k (bare_key k s low) (before instr s) (before instr t)
+      row_less (device_of task.flash) task k (bare_key k s low) (before instr s) (before instr t)
       (forgetting_both k.inst.kind (offset_of k.sp) (written instr) (sets_flags instr) (sets_carry instr) s t (node_less k s t low high within)) scratch instr fits
   row_by_less scratch instr fits has None (Some g) e e' =
       let no : false ≡ true = sym (ap is_followed e) ∙ a.mode ∙ sym b.mode ∙ ap is_followed e' in absurd (cc)
   row_by_less scratch instr fits has (Some f) None e e' =
       let no : true ≡ false = sym (ap is_followed e) ∙ a.mode ∙ sym b.mode ∙ ap is_followed e' in absurd (cc)
-  row_by_less scratch instr fits has (Some f) (Some g) e e' = paired_less (device_of words) words A k s t low high within a.hulls f g e e' scratch instr fits has
+  row_by_less scratch instr fits has (Some f) (Some g) e e' = paired_less (device_of task.flash) task k s t low high within a.hulls f g e e' scratch instr fits has
 
   row_at_less : (scratch : Bool) (x : Option Instr) → ((instr : Instr) → x ≡ Some instr → InstrFits instr) → ((instr : Instr) → x ≡ Some instr → HasRegisters instr)
-      → LeadsLess (device_of words) k.inst (row_at (device_of words) words A scratch k s x) (row_at (device_of words) words A scratch k t x)
+      → LeadsLess (device_of task.flash) k.inst (row_at task scratch (site_at (device_of task.flash) k s) x) (row_at task scratch (site_at (device_of task.flash) k t) x)
   row_at_less scratch None fits has = fails_less k.inst (fails (Unsupported k.pc)) (Unsupported k.pc)
   row_at_less scratch (Some instr) fits has = row_by_less scratch instr (fits instr refl) (has instr refl) s.facts t.facts refl refl
 
-  row_in_less : LeadsLess (device_of words) k.inst (row_in (device_of words) words A k s) (row_in (device_of words) words A k t)
+  row_in_less : LeadsLess (device_of task.flash) k.inst (row_in (device_of task.flash) task k s) (row_in (device_of task.flash) task k t)
   row_in_less =
-      row_at_less (is_scratch words k.pc) (fetched (device_of words) words k.pc) (fetched_fits (device_of words) words k.pc) (fetched_has (device_of words) words k.pc)
+      row_at_less (is_scratch task.flash k.pc) (fetched (device_of task.flash) task.flash k.pc) (fetched_fits (device_of task.flash) task.flash k.pc) (fetched_has (device_of task.flash) task.flash k.pc)
 
 -- ---- a byte that is picked
 
@@ -109,10 +109,10 @@ module _ {device : Device} {followed : Bool} (k : NodeKey) (byte : ℕ) (small :
       node_of (picking k byte) u (left_bare (picking k byte) (with_index byte s) u index_bare (picks_are_cut.leaves byte s u (offset_of k.sp) a.formed e))
       (picked_mode u e s.facts refl ∙ a.mode) (picks_are_cut.hulls byte s u (offset_of k.sp) a.formed a.hulls e)
 
-module _ {followed : Bool} (words : Program) (A : List Entry) (k : NodeKey) (s t : AbsState) (a : IsNodeIn (device_of words) followed k s) (b : IsNodeIn (device_of words) followed k t) (within : IsStateWithin s t) where
+module _ {followed : Bool} (task : Task) (k : NodeKey) (s t : AbsState) (a : IsNodeIn (device_of task.flash) followed k s) (b : IsNodeIn (device_of task.flash) followed k t) (within : IsStateWithin s t) where
   -- the row with one byte picked
   abbrev row_picked : AbsState → ℕ → Raw
-  row_picked state byte = picked_row (row_in (device_of words) words A) (picking k byte) (pick_cut byte state)
+  row_picked state byte = picked_row (row_in (device_of task.flash) task) (picking k byte) (pick_cut byte state)
 
   bytes_within : IsStateLess k.inst.kind (offset_of k.sp) s t
   bytes_within = node_less k s t (bare k s a) (bare k t b) within
@@ -128,45 +128,45 @@ module _ {followed : Bool} (words : Program) (A : List Entry) (k : NodeKey) (s t
       let high : nat_le byte w.high ≡ true = grind (arith, nat_tests, less.high) in
       all_three (has w.bits byte) _ _ ((tests_tell_members.bytes w.bits byte).1 (less.bits byte (below_small 256 byte i) ((tests_tell_members.bytes v.bits byte).0 has_it))) low high
 
-  module _ (jump : ℕ) (site : split_site words A k.pc k.pick ≡ Some jump) where
+  module _ (jump : ℕ) (site : split_site task k.pc k.pick ≡ Some jump) where
     -- the row neither calls nor returns
-    row_quiet : (byte : ℕ) (y : Option AbsState) → Quiet (picked_row (row_in (device_of words) words A) (picking k byte) y)
+    row_quiet : (byte : ℕ) (y : Option AbsState) → Quiet (picked_row (row_in (device_of task.flash) task) (picking k byte) y)
     row_quiet byte None = (refl, refl)
     row_quiet byte (Some u) =
-        at_quiet (device_of words) words A (is_scratch words k.pc) (picking k byte) u (fetched (device_of words) words k.pc) (splits_at words A k.pc k.pick jump site).1
+        at_quiet (device_of task.flash) task (is_scratch task.flash k.pc) (picking k byte) u (fetched (device_of task.flash) task.flash k.pc) (splits_at task k.pc k.pick jump site).1
 
-    nowhere_below : (q : Raw) → Quiet q → LeadsLess (device_of words) k.inst nowhere q
+    nowhere_below : (q : Raw) → Quiet q → LeadsLess (device_of task.flash) k.inst nowhere q
     nowhere_below q quiet e = record { faultless = refl; moves = λ to j. absurd (none_in to j); calls = λ at j. absurd (none_in at j); exit = sym quiet.1 }
 
     picked_by : (byte : ℕ) → byte < 256 → (x : Option AbsState) → pick_cut byte s ≡ x
-        → LeadsLess (device_of words) k.inst (picked_row (row_in (device_of words) words A) (picking k byte) x) (row_picked t byte)
+        → LeadsLess (device_of task.flash) k.inst (picked_row (row_in (device_of task.flash) task) (picking k byte) x) (row_picked t byte)
     picked_by byte small None e = nowhere_below (row_picked t byte) (row_quiet byte (pick_cut byte t))
     picked_by byte small (Some u) e =
         let more = picks_are_cut.more byte s t u (offset_of k.sp) a.formed b.formed within e in
-        subst (λ (y : Option AbsState). LeadsLess (device_of words) k.inst (row_in (device_of words) words A (picking k byte) u) (picked_row (row_in (device_of words) words A) (picking k byte) y)) (sym more.1.0)
-        (row_in_less words A (picking k byte) u more.0 (picked_node k byte small s a u e) (picked_node k byte small t b more.0 more.1.0) more.1.1)
+        subst (λ (y : Option AbsState). LeadsLess (device_of task.flash) k.inst (row_in (device_of task.flash) task (picking k byte) u) (picked_row (row_in (device_of task.flash) task) (picking k byte) y)) (sym more.1.0)
+        (row_in_less task (picking k byte) u more.0 (picked_node k byte small s a u e) (picked_node k byte small t b more.0 more.1.0) more.1.1)
 
-    picked_row_less : (byte : ℕ) → Contains (below 256) byte → LeadsLess (device_of words) k.inst (row_picked s byte) (row_picked t byte)
+    picked_row_less : (byte : ℕ) → Contains (below 256) byte → LeadsLess (device_of task.flash) k.inst (row_picked s byte) (row_picked t byte)
     picked_row_less byte i = picked_by byte (below_small 256 byte i) (pick_cut byte s) refl
 
   -- if the greater splits, so does the lesser, and in no more parts
-  splitting_less : (jump : Option ℕ) → split_site words A k.pc k.pick ≡ jump
-      → LeadsLess (device_of words) k.inst (splitting jump (row_in (device_of words) words A) k s) (splitting jump (row_in (device_of words) words A) k t)
-  splitting_less None site = row_in_less words A k s t a b within
+  splitting_less : (jump : Option ℕ) → split_site task k.pc k.pick ≡ jump
+      → LeadsLess (device_of task.flash) k.inst (splitting jump (row_in (device_of task.flash) task) k s) (splitting jump (row_in (device_of task.flash) task) k t)
+  splitting_less None site = row_in_less task k s t a b within
   splitting_less (Some jump) site = by (nat_le (length (picks s)) 64) (nat_le (length (picks t)) 64) (λ is. grind (arith, nat_tests, few))
     where
       few : length (picks s) ≤ length (picks t)
       few = fewer (may_be (value s 30)) (may_be (value t 30)) (below 256) may_more
 
       by : (c d : Bool) → (d ≡ true → c ≡ true)
-          → LeadsLess (device_of words) k.inst (if c then all_of (map (row_picked s) (picks s)) else fails (UnresolvedJump jump))
+          → LeadsLess (device_of task.flash) k.inst (if c then all_of (map (row_picked s) (picks s)) else fails (UnresolvedJump jump))
           (if d then all_of (map (row_picked t) (picks t)) else fails (UnresolvedJump jump))
       by c false h = fails_less k.inst _ (UnresolvedJump jump)
       by true true h = filtered_less k.inst (row_picked s) (row_picked t) (may_be (value s 30)) (may_be (value t 30)) (below 256) (picked_row_less jump site) may_more
       by false true h = let never : false ≡ true = h refl in absurd (cc)
 
-  pub raw_less : LeadsLess (device_of words) k.inst (raw words A k s) (raw words A k t)
+  pub raw_less : LeadsLess (device_of task.flash) k.inst (raw task k s) (raw task k t)
   unfolding raw
   raw_less =
-      untracked_less k.inst (is_hung (device_of words) A k k.sp) k.pc _ _
-      (too_deep_less k.inst (nat_lt (size_of (device_of words)) (offset_of k.sp)) k.pc (offset_of k.sp) _ _ (splitting_less (split_site words A k.pc k.pick) refl))
+      untracked_less k.inst (is_hung (device_of task.flash) task.assumptions k k.sp) k.pc _ _
+      (too_deep_less k.inst (nat_lt (size_of (device_of task.flash)) (offset_of k.sp)) k.pc (offset_of k.sp) _ _ (splitting_less (split_site task k.pc k.pick) refl))

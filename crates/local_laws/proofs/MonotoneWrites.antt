@@ -6,7 +6,7 @@ use Rattle.std.proofs.lemmas.List.{get_or_past}
 use Rattle.std.proofs.lemmas.List.Elements.{Contains-append_cases}
 use Rattle.basics.specs.Items.{none_in}
 use Rattle.avr_model.proofs.AllLaws.{devices_are_alike}
-use Rattle.avr_model.specs.Devices.{Program, size_of}
+use Rattle.avr_model.specs.Devices.{size_of}
 use Rattle.avr_model.specs.Vectors.{enable_count}
 use Rattle.avr_model.specs.declared.device.Device.{Device}
 use Rattle.avr_model.specs.declared.assumption.Entry.{Entry}
@@ -43,7 +43,6 @@ use Rattle.mask_states.proofs.AllLaws.{splits_are_writes, enables_stay_among}
 use Rattle.local_rules.specs.declared.local.NodeFault.TheVariants.{UntrackedSp, TooDeep, UnknownPointer}
 use Rattle.local_rules.specs.Raw.{Raw, moves_to, one, fails}
 use Rattle.local_rules.specs.Registers.{bits}
-use Rattle.local_rules.specs.declared.pointers.Pointed.{Pointed}
 use Rattle.local_rules.specs.Permitted.{permits_number}
 use Rattle.local_rules.specs.Writes.{known_high, tagged_high, high_part, opening, root_closing, frame_closing, closing_offset, closing, is_entry_flags, flags_written, with_i, sreg_written, masks_written, hulled, register_written, put_flags, written_at, reaches, fixed_write, listed_writes, is_own_slot, may_wake, waking, pointer_write}
 use Rattle.abs_state.specs.Formed.{TagFits}
@@ -52,6 +51,9 @@ use Rattle.local_laws.proofs.Members.{each_of}
 use Rattle.local_laws.proofs.MonotonePermits.{and_more, has_more, IsPairWithin, permits_more}
 use Rattle.local_laws.proofs.MonotoneValues.{IsTagOf, IsLess, AreFlagsLess, AreSlotsLess, IsSlotLess, IsStateLess, IsSameWhere, tells_by, tag_tells, free_less, constant_is, constant_tells, bit_within, bits_less, registers_set, ended_both, forgetting_both}
 use Rattle.local_laws.proofs.MonotoneRaw.{IsKeyPlace, LeadsLess, nodes_at, met_left, met_right, fails_less, if_leads, several_less, one_less, choose, choose_more, both_less, filtered_less}
+use Rattle.local_rules.specs.Site.{Task}
+use Rattle.local_rules.specs.Writes.{write_at}
+use Rattle.local_rules.specs.Reads.{pointed}
 
 -- ---- the high byte of the stack pointer
 
@@ -198,7 +200,7 @@ module _ (device : Device) (k : NodeKey) (at : IsKey device k) (s t : AbsState) 
       })
       le
 
-  pub write_less : (pc : ℕ) (is_out : Bool) (a : ℕ) (v w : AbsByte) → IsLess k.inst.kind v w → LeadsLess device k.inst (written_at device pc k s is_out a v) (written_at device pc k t is_out a w)
+  pub write_less : (pc : ℕ) (is_out : Bool) (a : ℕ) (v w : AbsByte) → IsLess k.inst.kind v w → LeadsLess device k.inst (written_at (write_at device pc k s v) is_out a) (written_at (write_at device pc k t w) is_out a)
   unfolding written_at
   write_less pc is_out a v w h =
       if_leads k.inst (nat_lt a 0x20) _ _ _ _
@@ -231,27 +233,27 @@ own_more : (f g : Option ℕ) (n : ℕ) → IsSameWhere f g → not (is_own_slot
 own_more f None n same e = refl
 own_more f (Some d) n same e = subst (λ (x : Option ℕ). not (is_own_slot x n) ≡ true) (same d refl) e
 
-wakes_more : (device : Device) (A : List Entry) (s t : AbsState) (r up : ℕ) (p q : Pointed) (pc : ℕ) (k : NodeKey) (v w : AbsByte) → IsSameWhere p.frame q.frame
-    → IsPairWithin s t r → IsWithin v.bits w.bits → may_wake device A s r up p pc k v ≡ true → may_wake device A t r up q pc k w ≡ true
+wakes_more : (A : List Entry) (s t : AbsState) (r up : ℕ) (device : Device) (pc : ℕ) (k : NodeKey) (after after' : AbsState) (v w : AbsByte) → IsSameWhere (pointed s r up).frame (pointed t r up).frame
+    → IsPairWithin s t r → IsWithin v.bits w.bits → may_wake A s r up (write_at device pc k after v) ≡ true → may_wake A t r up (write_at device pc k after' w) ≡ true
 unfolding may_wake
-wakes_more device A s t r up p q pc k v w slots within bits =
+wakes_more A s t r up device pc k after after' v w slots within bits =
     and_more _ _ _ _
-    (and_more (admits_enables device A pc) _ (admits_enables device A pc) _ (λ e. e) (own_more p.frame q.frame (offset_of k.sp) slots))
+    (and_more (admits_enables device A pc) _ (admits_enables device A pc) _ (λ e. e) (own_more (pointed s r up).frame (pointed t r up).frame (offset_of k.sp) slots))
     (enables_stay_among.other device A (λ a. permits_number s r (minus16 a up)) (λ a. permits_number t r (minus16 a up)) v.bits w.bits
     (λ a. permits_more s t r (minus16 a up) within) bits)
 
 module _ (device : Device) (k : NodeKey) (at : IsKey device k) (s t : AbsState) (le : IsStateLess k.inst.kind (offset_of k.sp) s t) (pc : ℕ) (v w : AbsByte) (h : IsLess k.inst.kind v w) where
-  fixed_less : (f g : Option ℕ) → IsSameWhere f g → LeadsLess device k.inst (fixed_write device f pc k s v) (fixed_write device g pc k t w)
-  fixed_less f None tells = fails_less k.inst (fixed_write device f pc k s v) (UnknownPointer pc)
+  fixed_less : (f g : Option ℕ) → IsSameWhere f g → LeadsLess device k.inst (fixed_write f (write_at device pc k s v)) (fixed_write g (write_at device pc k t w))
+  fixed_less f None tells = fails_less k.inst (fixed_write f (write_at device pc k s v)) (UnknownPointer pc)
   fixed_less f (Some a) tells =
-      subst (λ (x : Option ℕ). LeadsLess device k.inst (fixed_write device x pc k s v) (fixed_write device (Some a) pc k t w)) (sym (tells a refl)) (write_less device k at s t le pc false a v w h)
+      subst (λ (x : Option ℕ). LeadsLess device k.inst (fixed_write x (write_at device pc k s v)) (fixed_write (Some a) (write_at device pc k t w))) (sym (tells a refl)) (write_less device k at s t le pc false a v w h)
 
   listed_less : (p q : ℕ → Bool) (addresses : List ℕ) → ((a : ℕ) → p a ≡ true → q a ≡ true)
-      → LeadsLess device k.inst (listed_writes device pc k s (filter p addresses) v) (listed_writes device pc k t (filter q addresses) w)
+      → LeadsLess device k.inst (listed_writes (filter p addresses) (write_at device pc k s v)) (listed_writes (filter q addresses) (write_at device pc k t w))
   listed_less p q addresses more =
-      both_less k.inst (one k s) (one k t) (map (λ a. written_at device pc k s false a v) (filter p addresses)) (map (λ a. written_at device pc k t false a w) (filter q addresses))
+      both_less k.inst (one k s) (one k t) (map (λ a. written_at (write_at device pc k s v) false a) (filter p addresses)) (map (λ a. written_at (write_at device pc k t w) false a) (filter q addresses))
       (one_less k s t at le)
-      (filtered_less k.inst (λ (a : ℕ). written_at device pc k s false a v) (λ (a : ℕ). written_at device pc k t false a w) p q addresses (λ a i. write_less device k at s t le pc false a v w h) (λ a i. more a))
+      (filtered_less k.inst (λ (a : ℕ). written_at (write_at device pc k s v) false a) (λ (a : ℕ). written_at (write_at device pc k t w) false a) p q addresses (λ a i. write_less device k at s t le pc false a v w h) (λ a i. more a))
 
   woken_place : (A : List Entry) → IsKeyPlace device k.inst (offset_of k.sp) (record k { masks = widened device A k.masks })
   woken_place A =
@@ -262,7 +264,7 @@ module _ (device : Device) (k : NodeKey) (at : IsKey device k) (s t : AbsState) 
       }
 
   -- the greater has one more successor, or both have
-  waking_less : (A : List Entry) (b c : Bool) (p q : Raw) → (b ≡ true → c ≡ true) → LeadsLess device k.inst p q → LeadsLess device k.inst (waking b device A k s p) (waking c device A k t q)
+  waking_less : (A : List Entry) (b c : Bool) (p q : Raw) → (b ≡ true → c ≡ true) → LeadsLess device k.inst p q → LeadsLess device k.inst (waking b (record { key = record k { masks = widened device A k.masks }; state = s }) p) (waking c (record { key = record k { masks = widened device A k.masks }; state = t }) q)
   waking_less A true false p q more rest e = let no : false ≡ true = more refl in absurd (cc)
   waking_less A false false p q more rest e = rest e
   waking_less A false true p q more rest e =
@@ -284,11 +286,12 @@ module _ (device : Device) (k : NodeKey) (at : IsKey device k) (s t : AbsState) 
       }
 
   -- the pointer as it was in these states
-  pub pointer_less : (words : Program) (A : List Entry) (was_s was_t : AbsState) (r up : ℕ) (p q : Pointed) → IsSameWhere p.constant q.constant → IsSameWhere p.frame q.frame
+  pub pointer_less : (task : Task) (was_s was_t : AbsState) (r up : ℕ) → IsSameWhere (pointed was_s r up).constant (pointed was_t r up).constant
+      → IsSameWhere (pointed was_s r up).frame (pointed was_t r up).frame
       → IsPairWithin was_s was_t r
-      → LeadsLess device k.inst (pointer_write device words A was_s r up p pc k s v) (pointer_write device words A was_t r up q pc k t w)
-  pointer_less words A was_s was_t r up p q tells slots was =
-      if_leads k.inst (is_fixed_site words A pc) _ _ _ _ (fixed_less p.constant q.constant tells)
-      (waking_less A (may_wake device A was_s r up p pc k v) (may_wake device A was_t r up q pc k w) _ _
-      (wakes_more device A was_s was_t r up p q pc k v w slots was h.within.bits)
-      (listed_less (λ a. reaches was_s r up a) (λ a. reaches was_t r up a) (store_line A pc) (λ a. reaches_more was_s was_t r up a was.low.bits was.high.bits)))
+      → LeadsLess device k.inst (pointer_write task was_s r up (write_at device pc k s v)) (pointer_write task was_t r up (write_at device pc k t w))
+  pointer_less task was_s was_t r up tells slots was =
+      if_leads k.inst (is_fixed_site task.flash task.assumptions pc) _ _ _ _ (fixed_less (pointed was_s r up).constant (pointed was_t r up).constant tells)
+      (waking_less task.assumptions (may_wake task.assumptions was_s r up (write_at device pc k s v)) (may_wake task.assumptions was_t r up (write_at device pc k t w)) _ _
+      (wakes_more task.assumptions was_s was_t r up device pc k s t v w slots was h.within.bits)
+      (listed_less (λ a. reaches was_s r up a) (λ a. reaches was_t r up a) (store_line task.assumptions pc) (λ a. reaches_more was_s was_t r up a was.low.bits was.high.bits)))

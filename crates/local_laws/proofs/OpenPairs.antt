@@ -40,7 +40,6 @@ use Rattle.local_rules.specs.declared.computed.Computed.{Computed}
 use Rattle.local_rules.specs.declared.local.Exit.{Exit}
 use Rattle.local_rules.specs.declared.local.Node.{Node}
 use Rattle.local_rules.specs.declared.local.NodeFault.TheVariants.{UnresolvedJump}
-use Rattle.local_rules.specs.declared.pointers.Pointed.{Pointed}
 use Rattle.local_rules.specs.Raw.{Raw, nowhere, one, fails, moves_to, enters, all_of, at_word, off_table, next, further, untracked_if, too_deep_if}
 use Rattle.local_rules.specs.FrameLines.{binary_at}
 use Rattle.local_rules.specs.Registers.{bits, carry_bit, before, going_by, interrupts_row, flag_row}
@@ -49,6 +48,11 @@ use Rattle.local_rules.specs.Flow.{branch_by, where_carry, going_where, carry_br
 use Rattle.local_rules.specs.Local.{loading, pointer_moved, row_of, plain_row, row_by, row_at, row_in, cut_branch, cut_skip, paired_branch, paired_row, paired_binary, refined_nodes, refining, node_where, storing, fetched, is_hung, picks, picking, picked_row, split_site, splitting, raw}
 use Rattle.local_laws.specs.Laws.{OpenPairsStay}
 use Rattle.local_laws.proofs.Members.{each_of, each_in_map}
+use Rattle.local_rules.specs.Site.{Task, site_at}
+use Rattle.local_rules.specs.Writes.{write_at}
+use Rattle.local_rules.specs.Reads.{pointed}
+use Rattle.local_rules.specs.Local.{zeroing}
+use Rattle.avr_model.specs.Effects.{port}
 
 -- if it is half written, it has this offset
 abbrev StaysAt : ℕ → SpForm → Type 0
@@ -88,7 +92,7 @@ module _ (n : ℕ) where
   stay_all f [] h to j = stay_none to j
   stay_all f (x ∷ xs) h to j = ⊎_elim (h x to) (stay_all f xs h to) (Contains-append_cases (f x).moves (all_of (map f xs)).moves to j)
 
-  stay_ways : (t : Tri) (j k : NodeKey) (s : AbsState) (taken other : ℕ) → StaysAt n j.sp → StaysAt n k.sp → AllStay (branch_by t j k s taken other)
+  stay_ways : (t : Tri) (j k : NodeKey) (s : AbsState) (taken other : ℕ) → StaysAt n j.sp → StaysAt n k.sp → AllStay (branch_by t (off_table j taken) (off_table k other) s)
   stay_ways One j k s taken other h g = stay_one (off_table j taken) s h
   stay_ways Zero j k s taken other h g = stay_one (off_table k other) s g
   stay_ways Any j k s taken other h g = stay_two (off_table k other) (off_table j taken) s g h
@@ -104,22 +108,22 @@ module _ (n : ℕ) where
       stay_both (going_where k (where_carry s.flags.carry s false) clear) (going_where k (where_carry s.flags.carry s true) set)
       (stay_where k (where_carry s.flags.carry s false) clear h) (stay_where k (where_carry s.flags.carry s true) set h)
 
-  stay_branch : (m : ℕ) (k : NodeKey) (s : AbsState) (set clear : ℕ) (other : Raw) → StaysAt n k.sp → AllStay other → AllStay (flag_branch m k s set clear other)
+  stay_branch : (m : ℕ) (k : NodeKey) (s : AbsState) (set clear : ℕ) (other : Raw) → StaysAt n k.sp → AllStay other → AllStay (flag_branch m (record { key = k; state = s }) set clear other)
   stay_branch m k s set clear other h g = stay_if (m == 0) _ _ (stay_carry (carry_bit s) k s set clear h) g
 
-  stay_by : (device : Device) (k : NodeKey) (s : AbsState) (c : Option Computed) (r : Raw) → StaysAt n k.sp → AllStay r → AllStay (going_by device k s c r)
+  stay_by : (device : Device) (k : NodeKey) (s : AbsState) (c : Option Computed) (r : Raw) → StaysAt n k.sp → AllStay r → AllStay (going_by (site_at device k s) c r)
   stay_by device k s None r h g = g
   stay_by device k s (Some c) r h g = stay_one _ _ h
 
-  stay_loading : (device : Device) (k : NodeKey) (s : AbsState) (registers : List AbsByte) (d : ℕ) (v : Option AbsByte) → StaysAt n k.sp → AllStay (loading device k s registers d v)
+  stay_loading : (device : Device) (k : NodeKey) (s : AbsState) (registers : List AbsByte) (d : ℕ) (v : Option AbsByte) → StaysAt n k.sp → AllStay (loading (site_at device k s) registers d v)
   stay_loading device k s registers d None h = stay_none
   stay_loading device k s registers d (Some v) h = stay_one _ _ h
 
-  stay_interrupts : (device : Device) (k : NodeKey) (s : AbsState) (on : Bool) → StaysAt n k.sp → AllStay (interrupts_row device k s on)
+  stay_interrupts : (device : Device) (k : NodeKey) (s : AbsState) (on : Bool) → StaysAt n k.sp → AllStay (interrupts_row (site_at device k s) on)
   stay_interrupts device k s true h = stay_one _ _ h
   stay_interrupts device k s false h = stay_one _ _ h
 
-  stay_flag : (device : Device) (k : NodeKey) (s : AbsState) (m : ℕ) (on : Bool) → StaysAt n k.sp → AllStay (flag_row device k s m on)
+  stay_flag : (device : Device) (k : NodeKey) (s : AbsState) (m : ℕ) (on : Bool) → StaysAt n k.sp → AllStay (flag_row (site_at device k s) m on)
   stay_flag device k s m on h = stay_if (m == 7) _ _ (stay_interrupts device k s on h) (stay_one _ _ h)
 
   stay_jumping : (targets : Option (List ℕ)) (k : NodeKey) (s : AbsState) → StaysAt n k.sp → AllStay (jumping targets k s)
@@ -132,14 +136,14 @@ module _ (n : ℕ) where
   stay_closed (Closed offset) pc f h = h offset
   stay_closed (Open offset high) pc f h = stay_none
 
-  stay_pushing : (device : Device) (scratch : Bool) (k : NodeKey) (s : AbsState) (r offset : ℕ) → AllStay (pushing device scratch k s r offset)
+  stay_pushing : (device : Device) (scratch : Bool) (k : NodeKey) (s : AbsState) (r offset : ℕ) → AllStay (pushing scratch (site_at device k s) r offset)
   stay_pushing device scratch k s r offset = stay_if (nat_le (offset + 1) (size_of device)) _ _ (stay_one _ _ tt) stay_none
 
-  stay_popping : (device : Device) (k : NodeKey) (s : AbsState) (d offset : ℕ) → AllStay (popping device k s d offset)
+  stay_popping : (device : Device) (k : NodeKey) (s : AbsState) (d offset : ℕ) → AllStay (popping (site_at device k s) d offset)
   stay_popping device k s d zero = stay_none
   stay_popping device k s d (suc offset) = stay_one _ _ tt
 
-  stay_room : (device : Device) (k : NodeKey) (s : AbsState) (target offset : ℕ) → AllStay (making_room device k s target offset)
+  stay_room : (device : Device) (k : NodeKey) (s : AbsState) (target offset : ℕ) → AllStay (making_room (site_at device k s) target offset)
   stay_room device k s target offset = stay_if (nat_le (offset + 2) (size_of device)) _ _ (stay_one _ _ tt) stay_none
 
   stay_untracked : (b : Bool) (pc : ℕ) (r : Raw) → AllStay r → AllStay (untracked_if b pc r)
@@ -154,7 +158,7 @@ module _ (n : ℕ) where
   stay_indirect device None k = stay_untracked (is_half_written k.sp) k.pc (fails (UnresolvedJump k.pc)) stay_none
   stay_indirect device (Some targets) k = stay_untracked (is_half_written k.sp) k.pc (enters _) stay_none
 
-  stay_relative : (device : Device) (scratch : Bool) (k : NodeKey) (s : AbsState) (target : ℕ) → AllStay (relative_call device scratch k s target)
+  stay_relative : (device : Device) (scratch : Bool) (k : NodeKey) (s : AbsState) (target : ℕ) → AllStay (relative_call scratch (site_at device k s) target)
   stay_relative device true k s target = stay_closed k.sp k.pc _ (stay_room device k s target)
   stay_relative device false k s target = stay_untracked (is_half_written k.sp) k.pc (enters _) stay_none
 
@@ -207,7 +211,7 @@ module _ (k : NodeKey) where
   stay_sreg One s is_out = stay_one at (with_i k is_out true) s (itself k.sp)
   stay_sreg Any s is_out = stay_two at (with_i k is_out false) (with_i k is_out true) s (itself k.sp) (itself k.sp)
 
-  stay_written : (device : Device) (pc : ℕ) (s : AbsState) (is_out : Bool) (a : ℕ) (v : AbsByte) → FromKey k (written_at device pc k s is_out a v)
+  stay_written : (device : Device) (pc : ℕ) (s : AbsState) (is_out : Bool) (a : ℕ) (v : AbsByte) → FromKey k (written_at (write_at device pc k s v) is_out a)
   unfolding written_at
   stay_written device pc s is_out a v =
       stay_if at (nat_lt a 0x20) _ _ (same _)
@@ -216,37 +220,37 @@ module _ (k : NodeKey) where
       (stay_if at (a == SREG) _ _ (stay_sreg (tri_at v.bits 7) (put_flags s (flags_written v)) is_out)
       (each_in_map (λ m. record { key = record k { masks = m }; state = s }) (IsStaying at) (splits device k.masks a v.bits) (λ m i. itself k.sp)))))
 
-  stay_fixed : (device : Device) (a : Option ℕ) (pc : ℕ) (s : AbsState) (v : AbsByte) → FromKey k (fixed_write device a pc k s v)
+  stay_fixed : (device : Device) (a : Option ℕ) (pc : ℕ) (s : AbsState) (v : AbsByte) → FromKey k (fixed_write a (write_at device pc k s v))
   stay_fixed device None pc s v = stay_none at
   stay_fixed device (Some a) pc s v = stay_written device pc s false a v
 
-  stay_listed : (device : Device) (pc : ℕ) (s : AbsState) (addresses : List ℕ) (v : AbsByte) → FromKey k (listed_writes device pc k s addresses v)
+  stay_listed : (device : Device) (pc : ℕ) (s : AbsState) (addresses : List ℕ) (v : AbsByte) → FromKey k (listed_writes addresses (write_at device pc k s v))
   stay_listed device pc s addresses v to j =
-      ⊎_elim (same s to) (stay_all at (λ a. written_at device pc k s false a v) addresses (λ a. stay_written device pc s false a v) to)
-      (Contains-append_cases (one k s).moves (all_of (map (λ a. written_at device pc k s false a v) addresses)).moves to j)
+      ⊎_elim (same s to) (stay_all at (λ a. written_at (write_at device pc k s v) false a) addresses (λ a. stay_written device pc s false a v) to)
+      (Contains-append_cases (one k s).moves (all_of (map (λ a. written_at (write_at device pc k s v) false a) addresses)).moves to j)
 
-  stay_waking : (b : Bool) (device : Device) (A : List Entry) (s : AbsState) (r : Raw) → FromKey k r → FromKey k (waking b device A k s r)
+  stay_waking : (b : Bool) (device : Device) (A : List Entry) (s : AbsState) (r : Raw) → FromKey k r → FromKey k (waking b (record { key = record k { masks = widened device A k.masks }; state = s }) r)
   stay_waking false device A s r h to j = h to j
   stay_waking true device A s r h to j =
       let woken : NodeKey = record k { masks = widened device A k.masks } in
       ⊎_elim (h to) (stay_one at woken s (itself k.sp) to) (Contains-append_cases r.moves (record { key = woken; state = s } ∷ []) to j)
 
-  stay_pointer : (device : Device) (words : Program) (A : List Entry) (was : AbsState) (r up : ℕ) (p : Pointed) (pc : ℕ) (s : AbsState) (v : AbsByte)
-      → FromKey k (pointer_write device words A was r up p pc k s v)
-  stay_pointer device words A was r up p pc s v =
-      stay_if at (is_fixed_site words A pc) _ _ (stay_fixed device p.constant pc s v)
-      (stay_waking (may_wake device A was r up p pc k v) device A s _ (stay_listed device pc s (filter (λ a. reaches was r up a) (store_line A pc)) v))
+  stay_pointer : (device : Device) (task : Task) (was : AbsState) (r up : ℕ) (pc : ℕ) (s : AbsState) (v : AbsByte)
+      → FromKey k (pointer_write task was r up (write_at device pc k s v))
+  stay_pointer device task was r up pc s v =
+      stay_if at (is_fixed_site task.flash task.assumptions pc) _ _ (stay_fixed device (pointed was r up).constant pc s v)
+      (stay_waking (may_wake task.assumptions was r up (write_at device pc k s v)) device task.assumptions s _ (stay_listed device pc s (filter (λ a. reaches was r up a) (store_line task.assumptions pc)) v))
 
 -- ---- the table
 
-module _ (device : Device) (words : Program) (A : List Entry) (scratch : Bool) (k : NodeKey) where
+module _ (device : Device) (task : Task) (scratch : Bool) (k : NodeKey) where
   abbrev place : ℕ
   place = offset_of k.sp
 
   held : StaysAt place k.sp
   held = itself k.sp
 
-  row_stays : (s : AbsState) (instr : Instr) → FromKey k (row_of device words A scratch k s instr)
+  row_stays : (s : AbsState) (instr : Instr) → FromKey k (row_of task scratch (site_at device k s) instr)
   row_stays s (i.Movw d r) = stay_one place _ _ held
   row_stays s (i.Muls d r) = stay_one place _ _ held
   row_stays s (i.Mulsu d r) = stay_one place _ _ held
@@ -254,7 +258,7 @@ module _ (device : Device) (words : Program) (A : List Entry) (scratch : Bool) (
   row_stays s (i.Fmuls d r) = stay_one place _ _ held
   row_stays s (i.Fmulsu d r) = stay_one place _ _ held
   row_stays s (i.Binary op d r) =
-      stay_by place device k s (binary_at (is_frame A k.pc) s op d r) (skipping device words k k s (byte_equal (bits s d) (bits s r))) held
+      stay_by place device k s (binary_at (is_frame task.assumptions k.pc) s op d r) (skipping task.flash (site_at device k s) k k (byte_equal (bits s d) (bits s r))) held
       (stay_ways place (byte_equal (bits s d) (bits s r)) k k s _ _ held held)
   row_stays s (i.Immediate op d m) = stay_one place _ _ held
   row_stays s (i.Unary op d) = stay_one place _ _ held
@@ -265,11 +269,11 @@ module _ (device : Device) (words : Program) (A : List Entry) (scratch : Bool) (
   row_stays s (i.Bld d b) = stay_one place _ _ held
   row_stays s (i.Bst d b) = stay_one place _ _ held
   row_stays s (i.Ldd d b q) = stay_loading place device k s s.registers d _ held
-  row_stays s (i.Std b q r) = stay_pointer (next device k) device words A s _ q _ k.pc s _
+  row_stays s (i.Std b q r) = stay_pointer (next device k) device task s _ q k.pc s _
   row_stays s (i.Lds d a) = stay_one place _ _ held
   row_stays s (i.Sts a r) = stay_written (at_word k _) device k.pc s false a _
   row_stays s (i.Ld d p) = stay_loading place device k s _ d _ held
-  row_stays s (i.St p r) = stay_pointer (next device k) device words A s _ _ _ k.pc _ _
+  row_stays s (i.St p r) = stay_pointer (next device k) device task s _ _ k.pc _ _
   row_stays s (i.LpmZ d) = stay_one place _ _ held
   row_stays s (i.ElpmZ d) = stay_one place _ _ held
   row_stays s (i.LpmZPlus d) = stay_one place _ _ held
@@ -282,8 +286,8 @@ module _ (device : Device) (words : Program) (A : List Entry) (scratch : Bool) (
   row_stays s (i.Out a r) = stay_written (next device k) device k.pc s true _ _
   row_stays s (i.Cbi a b) = stay_written (next device k) device k.pc s false _ _
   row_stays s (i.Sbi a b) = stay_written (next device k) device k.pc s false _ _
-  row_stays s i.Ijmp = stay_jumping place (targets_at device A k s) k s held
-  row_stays s i.Icall = stay_indirect place device (targets_at device A k s) k
+  row_stays s i.Ijmp = stay_jumping place (targets_at task.assumptions (site_at device k s)) k s held
+  row_stays s i.Icall = stay_indirect place device (targets_at task.assumptions (site_at device k s)) k
   row_stays s i.Ret = stay_closed place k.sp k.pc _ (stay_returning place (ret_exit k) k.pc k.inst.kind)
   row_stays s i.Reti = stay_closed place k.sp k.pc _ (stay_returning place (reti_exit k) k.pc k.inst.kind)
   row_stays s (i.Jmp target) = stay_one place _ _ held
@@ -292,8 +296,8 @@ module _ (device : Device) (words : Program) (A : List Entry) (scratch : Bool) (
   row_stays s (i.Rcall target) = stay_relative place device scratch k s (wrapped device (far k.pc target))
   row_stays s (i.Brbs m target) = stay_branch place m k s _ _ _ held (stay_ways place _ k k s _ _ held held)
   row_stays s (i.Brbc m target) = stay_branch place m k s _ _ _ held (stay_ways place _ k k s _ _ held held)
-  row_stays s (i.Sbic a b) = stay_ways place _ _ k s _ _ held held
-  row_stays s (i.Sbis a b) = stay_ways place _ k _ s _ _ held held
+  row_stays s (i.Sbic a b) = stay_ways place _ (zeroing task.assumptions (site_at device k s) (port a) b) k s _ _ held held
+  row_stays s (i.Sbis a b) = stay_ways place _ k (zeroing task.assumptions (site_at device k s) (port a) b) s _ _ held held
   row_stays s (i.Sbrc r b) = stay_ways place _ k k s _ _ held held
   row_stays s (i.Sbrs r b) = stay_ways place _ k k s _ _ held held
   row_stays s i.Nop = stay_one place _ _ held
@@ -304,67 +308,67 @@ module _ (device : Device) (words : Program) (A : List Entry) (scratch : Bool) (
   cuts_stay : (x y : Option AbsState) (p q : ℕ) → FromKey k (all_of (going_where k x p ∷ going_where k y q ∷ []))
   cuts_stay x y p q = stay_both place (going_where k x p) (going_where k y q) (stay_where place k x p held) (stay_where place k y q held)
 
-  branch_stays : (s : AbsState) (m set clear : ℕ) (other : Raw) → FromKey k other → FromKey k (paired_branch m k s set clear other)
+  branch_stays : (s : AbsState) (m set clear : ℕ) (other : Raw) → FromKey k other → FromKey k (paired_branch m (record { key = k; state = s }) set clear other)
   branch_stays s m set clear other h = stay_if place (nat_lt m 7) (cut_branch m k s set clear) other (cuts_stay (flag_cut m false s) (flag_cut m true s) clear set) h
 
-  skip_stays : (x y : Option AbsState) → FromKey k (cut_skip device words k x y)
-  skip_stays x y = cuts_stay y x (further device k 1) (further device k (1 + length_of (word_at words (k.pc + 1))))
+  skip_stays : (s : AbsState) (x y : Option AbsState) → FromKey k (cut_skip task.flash (site_at device k s) x y)
+  skip_stays s x y = cuts_stay y x (further device k 1) (further device k (1 + length_of (word_at task.flash (k.pc + 1))))
 
-  refining_stays : (s : AbsState) (instr : Instr) → FromKey k (refining words instr s (plain_row device words A scratch k s instr))
-  refining_stays s instr = stay_refining place words instr s (plain_row device words A scratch k s instr) (row_stays (before instr s) instr)
+  refining_stays : (s : AbsState) (instr : Instr) → FromKey k (refining task.flash instr s (plain_row task scratch (site_at device k s) instr))
+  refining_stays s instr = stay_refining place task.flash instr s (plain_row task scratch (site_at device k s) instr) (row_stays (before instr s) instr)
 
-  binary_stays : (op : BinaryOp) (s : AbsState) (d r : ℕ) (other : Raw) → FromKey k other → FromKey k (paired_binary device words op k s d r other)
-  binary_stays binary.Cpse s d r other h = skip_stays (equal_cut d r true s) (equal_cut d r false s)
+  binary_stays : (op : BinaryOp) (s : AbsState) (d r : ℕ) (other : Raw) → FromKey k other → FromKey k (paired_binary op (cut_skip task.flash (site_at device k s) (equal_cut d r true s) (equal_cut d r false s)) other)
+  binary_stays binary.Cpse s d r other h = skip_stays s (equal_cut d r true s) (equal_cut d r false s)
   binary_stays op s d r other h = h
 
-  storing_stays : (s : AbsState) (p : Pointer) (r : ℕ) (x : Option AbsState) → FromKey k (storing device words A k s p r x)
+  storing_stays : (s : AbsState) (p : Pointer) (r : ℕ) (x : Option AbsState) → FromKey k (storing task (site_at device k s) p r x)
   storing_stays s p r None = stay_none place
-  storing_stays s p r (Some moved) = stay_pointer (next device k) device words A s _ _ _ k.pc moved _
+  storing_stays s p r (Some moved) = stay_pointer (next device k) device task s _ _ k.pc moved _
 
-  paired_stays : (s : AbsState) (instr : Instr) → FromKey k (paired_row device words A scratch k s instr)
+  paired_stays : (s : AbsState) (instr : Instr) → FromKey k (paired_row task scratch (site_at device k s) instr)
   paired_stays s (i.Brbs m t) =
-      branch_stays s m (wrapped device (near k.pc t)) (further device k 1) (plain_row device words A scratch k s (i.Brbs m t)) (row_stays (before (i.Brbs m t) s) (i.Brbs m t))
+      branch_stays s m (wrapped device (near k.pc t)) (further device k 1) (plain_row task scratch (site_at device k s) (i.Brbs m t)) (row_stays (before (i.Brbs m t) s) (i.Brbs m t))
   paired_stays s (i.Brbc m t) =
-      branch_stays s m (further device k 1) (wrapped device (near k.pc t)) (plain_row device words A scratch k s (i.Brbc m t)) (row_stays (before (i.Brbc m t) s) (i.Brbc m t))
-  paired_stays s (i.Sbrc r b) = skip_stays (bit_cut r b false s) (bit_cut r b true s)
-  paired_stays s (i.Sbrs r b) = skip_stays (bit_cut r b true s) (bit_cut r b false s)
+      branch_stays s m (further device k 1) (wrapped device (near k.pc t)) (plain_row task scratch (site_at device k s) (i.Brbc m t)) (row_stays (before (i.Brbc m t) s) (i.Brbc m t))
+  paired_stays s (i.Sbrc r b) = skip_stays s (bit_cut r b false s) (bit_cut r b true s)
+  paired_stays s (i.Sbrs r b) = skip_stays s (bit_cut r b true s) (bit_cut r b false s)
   paired_stays s (i.Binary op d r) =
-      binary_stays op s d r (refining words (i.Binary op d r) s (plain_row device words A scratch k s (i.Binary op d r))) (refining_stays s (i.Binary op d r))
-  paired_stays s (i.St p r) = storing_stays s p r (refined (marks words) words (i.St p r) s (record (before (i.St p r) s) { registers = pointer_moved p s }))
+      binary_stays op s d r (refining task.flash (i.Binary op d r) s (plain_row task scratch (site_at device k s) (i.Binary op d r))) (refining_stays s (i.Binary op d r))
+  paired_stays s (i.St p r) = storing_stays s p r (refined (marks task.flash) task.flash (i.St p r) s (record (before (i.St p r) s) { registers = pointer_moved p s }))
   paired_stays s instr = refining_stays s instr
 
-  by_stays : (f : Option PairFacts) (s : AbsState) (instr : Instr) → FromKey k (row_by f device words A scratch k s instr)
+  by_stays : (f : Option PairFacts) (s : AbsState) (instr : Instr) → FromKey k (row_by f task scratch (site_at device k s) instr)
   by_stays None s instr = row_stays (before instr s) instr
   by_stays (Some f) s instr = paired_stays s instr
 
-  at_stays : (s : AbsState) (x : Option Instr) → FromKey k (row_at device words A scratch k s x)
+  at_stays : (s : AbsState) (x : Option Instr) → FromKey k (row_at task scratch (site_at device k s) x)
   at_stays s None = stay_none place
   at_stays s (Some instr) = by_stays s.facts s instr
 
 -- ---- the node
 
-module _ (words : Program) (A : List Entry) where
-  in_stays : (k : NodeKey) (s : AbsState) → FromKey k (row_in (device_of words) words A k s)
-  in_stays k s = at_stays (device_of words) words A (is_scratch words k.pc) k s (fetched (device_of words) words k.pc)
+module _ (task : Task) where
+  in_stays : (k : NodeKey) (s : AbsState) → FromKey k (row_in (device_of task.flash) task k s)
+  in_stays k s = at_stays (device_of task.flash) task (is_scratch task.flash k.pc) k s (fetched (device_of task.flash) task.flash k.pc)
 
-  picked_stays : (k : NodeKey) (byte : ℕ) (x : Option AbsState) → FromKey k (picked_row (row_in (device_of words) words A) (picking k byte) x)
+  picked_stays : (k : NodeKey) (byte : ℕ) (x : Option AbsState) → FromKey k (picked_row (row_in (device_of task.flash) task) (picking k byte) x)
   picked_stays k byte None = stay_none (offset_of k.sp)
   picked_stays k byte (Some u) = in_stays (picking k byte) u
 
-  split_stays : (k : NodeKey) (s : AbsState) (jump : Option ℕ) → FromKey k (splitting jump (row_in (device_of words) words A) k s)
+  split_stays : (k : NodeKey) (s : AbsState) (jump : Option ℕ) → FromKey k (splitting jump (row_in (device_of task.flash) task) k s)
   split_stays k s None = in_stays k s
   split_stays k s (Some jump) =
       stay_if (offset_of k.sp) (nat_le (length (picks s)) 64) _ _
-      (stay_all (offset_of k.sp) (λ byte. picked_row (row_in (device_of words) words A) (picking k byte) (pick_cut byte s)) (picks s) (λ byte. picked_stays k byte (pick_cut byte s)))
+      (stay_all (offset_of k.sp) (λ byte. picked_row (row_in (device_of task.flash) task) (picking k byte) (pick_cut byte s)) (picks s) (λ byte. picked_stays k byte (pick_cut byte s)))
       (stay_none (offset_of k.sp))
 
-  raw_stays : (k : NodeKey) (s : AbsState) → FromKey k (raw words A k s)
+  raw_stays : (k : NodeKey) (s : AbsState) → FromKey k (raw task k s)
   unfolding raw
   raw_stays k s =
-      stay_untracked (offset_of k.sp) (is_hung (device_of words) A k k.sp) k.pc _
-      (stay_deep (offset_of k.sp) (nat_lt (size_of (device_of words)) (offset_of k.sp)) k.pc (offset_of k.sp) _ (split_stays k s (split_site words A k.pc k.pick)))
+      stay_untracked (offset_of k.sp) (is_hung (device_of task.flash) task.assumptions k k.sp) k.pc _
+      (stay_deep (offset_of k.sp) (nat_lt (size_of (device_of task.flash)) (offset_of k.sp)) k.pc (offset_of k.sp) _ (split_stays k s (split_site task k.pc k.pick)))
 
 pub all_open_pairs_stay : OpenPairsStay
 all_open_pairs_stay = record {
-  stays = λ words A k s to offset high clean i is. subst (StaysAt (offset_of k.sp)) is (raw_stays words A k s to i);
+  stays = λ task k s to offset high clean i is. subst (StaysAt (offset_of k.sp)) is (raw_stays task k s to i);
 }

@@ -8,7 +8,6 @@ use Rattle.avr_model.specs.Marks.{marks}
 use Rattle.avr_model.specs.Table.{length_of}
 use Rattle.avr_model.specs.Text.{near}
 use Rattle.avr_model.specs.declared.device.Device.{Device}
-use Rattle.avr_model.specs.declared.assumption.Entry.{Entry}
 use Rattle.avr_model.specs.declared.instruction.Instr.{Instr}
 use Rattle.avr_model.specs.declared.instruction.Instr.TheVariants as i
 use Rattle.avr_model.specs.declared.instruction.BinaryOp.TheVariants as binary
@@ -33,7 +32,6 @@ use Rattle.mask_states.specs.Keys.{offset_of}
 use Rattle.local_rules.specs.declared.local.Node.{Node}
 use Rattle.local_rules.specs.Raw.{Raw, nowhere, all_of, off_table, next, further}
 use Rattle.local_rules.specs.Registers.{value, before}
-use Rattle.local_rules.specs.Reads.{pointed}
 use Rattle.local_rules.specs.Flow.{going_where}
 use Rattle.local_rules.specs.Local.{step_before, pointer_moved, plain_row, paired_row, cut_branch, cut_skip, refined_nodes, refining, node_where, storing, paired_store}
 use Rattle.local_rules.specs.Cover.{IsKey}
@@ -51,6 +49,7 @@ use Rattle.local_laws.proofs.PairedPlain.{row_plain}
 use Rattle.local_laws.proofs.PairedStep.{IsStored, stored_same, same_moved}
 use Rattle.local_laws.proofs.PlainRows.{IsRefinedInstr}
 use Rattle.local_laws.proofs.Quiet.{Quiet, pointer_quiet}
+use Rattle.local_rules.specs.Site.{Task, site_at}
 
 -- ---- refined nodes
 
@@ -142,7 +141,7 @@ two_less k x x' y y' p q lt lt' h h' =
 
 -- ---- two states
 
-module _ (device : Device) (words : Program) (A : List Entry) (k : NodeKey) (s t : AbsState) (low : IsBare device k s) (high : IsBare device k t) (within : IsStateWithin s t)
+module _ (device : Device) (task : Task) (k : NodeKey) (s t : AbsState) (low : IsBare device k s) (high : IsBare device k t) (within : IsStateWithin s t)
     (hulls : IsInHulls s) (f g : PairFacts) (known : s.facts ≡ Some f) (known' : t.facts ≡ Some g) where
   abbrev at : IsKey device k
   at = bare_key k s low
@@ -156,43 +155,43 @@ module _ (device : Device) (words : Program) (A : List Entry) (k : NodeKey) (s t
   ended_less : (instr : Instr) → IsStateLess k.inst.kind (offset_of k.sp) (before instr s) (before instr t)
   ended_less instr = forgetting_both k.inst.kind (offset_of k.sp) (written instr) (sets_flags instr) (sets_carry instr) s t le
 
-  plain_less : (scratch : Bool) (instr : Instr) → InstrFits instr → Less (plain_row device words A scratch k s instr) (plain_row device words A scratch k t instr)
-  plain_less scratch instr fits = row_less device words A k at (before instr s) (before instr t) (ended_less instr) scratch instr fits
+  plain_less : (scratch : Bool) (instr : Instr) → InstrFits instr → Less (plain_row task scratch (site_at device k s) instr) (plain_row task scratch (site_at device k t) instr)
+  plain_less scratch instr fits = row_less device task k at (before instr s) (before instr t) (ended_less instr) scratch instr fits
 
   same_less : IsStateLess k.inst.kind (offset_of k.sp) t t
   same_less = node_less k t t high high (states_are_ordered.same t)
 
   -- the successors of the greater are nodes too
-  plain_nodes : (scratch : Bool) (instr : Instr) → InstrFits instr → Less (plain_row device words A scratch k t instr) (plain_row device words A scratch k t instr)
+  plain_nodes : (scratch : Bool) (instr : Instr) → InstrFits instr → Less (plain_row task scratch (site_at device k t) instr) (plain_row task scratch (site_at device k t) instr)
   plain_nodes scratch instr fits =
-      row_less device words A k at (before instr t) (before instr t) (forgetting_both k.inst.kind (offset_of k.sp) (written instr) (sets_flags instr) (sets_carry instr) t t same_less) scratch instr fits
+      row_less device task k at (before instr t) (before instr t) (forgetting_both k.inst.kind (offset_of k.sp) (written instr) (sets_flags instr) (sets_carry instr) t t same_less) scratch instr fits
 
   refining_less : (scratch : Bool) (instr : Instr) → InstrFits instr → HasRegisters instr → IsRefinedInstr instr
-      → Less (refining words instr s (plain_row device words A scratch k s instr)) (refining words instr t (plain_row device words A scratch k t instr))
+      → Less (refining task.flash instr s (plain_row task scratch (site_at device k s) instr)) (refining task.flash instr t (plain_row task scratch (site_at device k t) instr))
   refining_less scratch instr fits has is clean =
       let below = plain_less scratch instr fits clean in
       let above = plain_nodes scratch instr fits clean in
       record {
         faultless = below.faultless;
         moves = λ x member.
-            let of = from_refined words instr s (plain_row device words A scratch k s instr).moves (plain_row device words A scratch k s instr).moves (λ n j. j) x member in
+            let of = from_refined task.flash instr s (plain_row task scratch (site_at device k s) instr).moves (plain_row task scratch (site_at device k s) instr).moves (λ n j. j) x member in
             let met = below.moves of.to of.member in
             let top : Node = record { key = of.to.key; state = met.below.state } in
             let node = (above.moves top met.below.present).node in
             let more =
-            refined_is_ordered.more (marks words) words instr (offset_of k.sp) (offset_of of.to.key.sp) s t of.to.state met.below.state x.state has low.formed high.formed met.node.formed node.formed
-            (row_plain device words A scratch k s low.formed.count_registers instr is has of.to of.member)
-            (row_plain device words A scratch k t high.formed.count_registers instr is has top met.below.present) within met.below.above of.left in
-            let is_met : IsMetAbove device k.inst (refining words instr t (plain_row device words A scratch k t instr)).moves (record { key = of.to.key; state = x.state }) = record {
+            refined_is_ordered.more (marks task.flash) task.flash instr (offset_of k.sp) (offset_of of.to.key.sp) s t of.to.state met.below.state x.state has low.formed high.formed met.node.formed node.formed
+            (row_plain device task scratch k s low.formed.count_registers instr is has of.to of.member)
+            (row_plain device task scratch k t high.formed.count_registers instr is has top met.below.present) within met.below.above of.left in
+            let is_met : IsMetAbove device k.inst (refining task.flash instr t (plain_row task scratch (site_at device k t) instr)).moves (record { key = of.to.key; state = x.state }) = record {
               same = met.same;
-              node = refined_bare words instr (offset_of k.sp) s of.to.key of.to.state x.state has low.formed met.node of.left;
+              node = refined_bare task.flash instr (offset_of k.sp) s of.to.key of.to.state x.state has low.formed met.node of.left;
               below = record {
                 state = more.0;
-                present = in_refined words instr t (plain_row device words A scratch k t instr).moves top more.0 met.below.present more.1;
+                present = in_refined task.flash instr t (plain_row task scratch (site_at device k t) instr).moves top more.0 met.below.present more.1;
                 above = more.2;
               };
             } in
-            subst (λ (key : NodeKey). IsMetAbove device k.inst (refining words instr t (plain_row device words A scratch k t instr)).moves (record { key = key; state = x.state })) (sym of.same) is_met;
+            subst (λ (key : NodeKey). IsMetAbove device k.inst (refining task.flash instr t (plain_row task scratch (site_at device k t) instr)).moves (record { key = key; state = x.state })) (sym of.same) is_met;
         calls = below.calls;
         exit = below.exit;
       }
@@ -217,17 +216,17 @@ module _ (device : Device) (words : Program) (A : List Entry) (k : NodeKey) (s t
       two_less k (flag_cut n false s) (flag_cut n true s) (flag_cut n false t) (flag_cut n true t) clear set lt' lt (flag_left_less n false (ltb-true n 7 e)) (flag_left_less n true (ltb-true n 7 e))
   branch_cut_less n set clear false p q e lt lt' h = h
 
-  skip_less : (x x' y y' : Option AbsState) → IsLeftLess device k x y → IsLeftLess device k x' y' → Less (cut_skip device words k x x') (cut_skip device words k y y')
+  skip_less : (x x' y y' : Option AbsState) → IsLeftLess device k x y → IsLeftLess device k x' y' → Less (cut_skip task.flash (site_at device k s) x x') (cut_skip task.flash (site_at device k s) y y')
   skip_less x x' y y' h h' =
-      two_less k x' x y' y (further device k 1) (further device k (1 + length_of (word_at words (k.pc + 1)))) (further_small device k 1) (further_small device k (1 + length_of (word_at words (k.pc + 1)))) h' h
+      two_less k x' x y' y (further device k 1) (further device k (1 + length_of (word_at task.flash (k.pc + 1)))) (further_small device k 1) (further_small device k (1 + length_of (word_at task.flash (k.pc + 1)))) h' h
 
   -- ---- stores
 
   stored_less : (scratch : Bool) (instr : Instr) → InstrFits instr → IsStored instr
-      → Less (refining words instr s (plain_row device words A scratch k s instr)) (refining words instr t (plain_row device words A scratch k t instr))
+      → Less (refining task.flash instr s (plain_row task scratch (site_at device k s) instr)) (refining task.flash instr t (plain_row task scratch (site_at device k t) instr))
   stored_less scratch instr fits is =
-      subst₂ Less (sym (stored_same words s f instr is known (plain_row device words A scratch k s instr)))
-      (sym (stored_same words t g instr is known' (plain_row device words A scratch k t instr))) (plain_less scratch instr fits)
+      subst₂ Less (sym (stored_same task.flash s f instr is known (plain_row task scratch (site_at device k s) instr)))
+      (sym (stored_same task.flash t g instr is known' (plain_row task scratch (site_at device k t) instr))) (plain_less scratch instr fits)
 
   module _ (p : Pointer) (r : ℕ) where
     abbrev instr : Instr
@@ -241,7 +240,7 @@ module _ (device : Device) (words : Program) (A : List Entry) (k : NodeKey) (s t
         let ends = forgetting_both k.inst.kind (offset_of k.sp) (written instr) (sets_flags instr) (sets_carry instr) u v h in
         record {
           registers =
-              subst₂ (AreRegistersLess k.inst.kind) (same_moved p instr u) (same_moved p instr v) (moved_less device words A k (bare_key k u bare_u) (before instr u) (before instr v) ends p);
+              subst₂ (AreRegistersLess k.inst.kind) (same_moved p instr u) (same_moved p instr v) (moved_less device task k (bare_key k u bare_u) (before instr u) (before instr v) ends p);
           flags = ends.flags;
           slots = ends.slots;
           facts = ends.facts;
@@ -250,39 +249,39 @@ module _ (device : Device) (words : Program) (A : List Entry) (k : NodeKey) (s t
     pub moved_bare : (u : AbsState) → IsBare device k u → IsBare device k (moved u)
     moved_bare u h = less_node k (moved u) (moved u) h.word h.small h.masks h.fits h.pick (moved_both u u h (node_less k u u h h (states_are_ordered.same u)))
 
-    moved_plain : (u : AbsState) → IsPlain words instr u (moved u)
+    moved_plain : (u : AbsState) → IsPlain task.flash instr u (moved u)
     moved_plain u = record { facts = refl; value = tt }
 
     nowhere_below : (q : Raw) → Quiet q → Less nowhere q
     nowhere_below q quiet e = record { faultless = refl; moves = λ to j. absurd (none_in to j); calls = λ site j. absurd (none_in site j); exit = sym quiet.1 }
 
-    storing_quiet : (y : Option AbsState) → Quiet (storing device words A k t p r y)
+    storing_quiet : (y : Option AbsState) → Quiet (storing task (site_at device k t) p r y)
     storing_quiet None = (refl, refl)
-    storing_quiet (Some u) = pointer_quiet device words A t (pointer_register p) (step_before p) (pointed t (pointer_register p) (step_before p)) k.pc (next device k) u (value t r)
+    storing_quiet (Some u) = pointer_quiet device task t (pointer_register p) (step_before p) k.pc (next device k) u (value t r)
 
-    storing_less : (x : Option AbsState) → refined (marks words) words instr s (moved s) ≡ x
-        → Less (storing device words A k s p r x) (storing device words A k t p r (refined (marks words) words instr t (moved t)))
-    storing_less None e = nowhere_below _ (storing_quiet (refined (marks words) words instr t (moved t)))
+    storing_less : (x : Option AbsState) → refined (marks task.flash) task.flash instr s (moved s) ≡ x
+        → Less (storing task (site_at device k s) p r x) (storing task (site_at device k t) p r (refined (marks task.flash) task.flash instr t (moved t)))
+    storing_less None e = nowhere_below _ (storing_quiet (refined (marks task.flash) task.flash instr t (moved t)))
     storing_less (Some u) e =
         let low_moved = moved_bare s low in
         let high_moved = moved_bare t high in
         let more =
-        refined_is_ordered.more (marks words) words instr (offset_of k.sp) (offset_of k.sp) s t (moved s) (moved t) u tt low.formed high.formed low_moved.formed high_moved.formed
+        refined_is_ordered.more (marks task.flash) task.flash instr (offset_of k.sp) (offset_of k.sp) s t (moved s) (moved t) u tt low.formed high.formed low_moved.formed high_moved.formed
         (moved_plain s) (moved_plain t) within (less_within k.inst.kind (offset_of k.sp) (moved s) (moved t) (moved_both s t low le)) e in
-        let lower = refined_bare words instr (offset_of k.sp) s k (moved s) u tt low.formed low_moved e in
-        let upper = refined_bare words instr (offset_of k.sp) t k (moved t) more.0 tt high.formed high_moved more.1 in
-        subst (λ (y : Option AbsState). Less (storing device words A k s p r (Some u)) (storing device words A k t p r y)) (sym more.1)
-        (pointer_less device (next device k) (next_key device k at) u more.0 (node_less k u more.0 lower upper more.2) k.pc (value s r) (value t r) (reg device k at s t le r) words A s t
-        (pointer_register p) (step_before p) (pointed s (pointer_register p) (step_before p)) (pointed t (pointer_register p) (step_before p))
+        let lower = refined_bare task.flash instr (offset_of k.sp) s k (moved s) u tt low.formed low_moved e in
+        let upper = refined_bare task.flash instr (offset_of k.sp) t k (moved t) more.0 tt high.formed high_moved more.1 in
+        subst (λ (y : Option AbsState). Less (storing task (site_at device k s) p r (Some u)) (storing task (site_at device k t) p r y)) (sym more.1)
+        (pointer_less device (next device k) (next_key device k at) u more.0 (node_less k u more.0 lower upper more.2) k.pc (value s r) (value t r) (reg device k at s t le r) task s t
+        (pointer_register p) (step_before p)
         (pointed_constants device k at s t le (pointer_register p) (step_before p)) (pointed_frames device k at s t le (pointer_register p) (step_before p))
-        (pair_less_at device words A k at s t le (pointer_register p) (pointer_small p)))
+        (pair_less_at device task k at s t le (pointer_register p) (pointer_small p)))
 
-    pub store_less : Less (paired_store device words A k s p r) (paired_store device words A k t p r)
-    store_less = storing_less (refined (marks words) words instr s (moved s)) refl
+    pub store_less : Less (paired_store task (site_at device k s) p r) (paired_store task (site_at device k t) p r)
+    store_less = storing_less (refined (marks task.flash) task.flash instr s (moved s)) refl
 
   -- ---- all rows
 
-  pub paired_less : (scratch : Bool) (instr : Instr) → InstrFits instr → HasRegisters instr → Less (paired_row device words A scratch k s instr) (paired_row device words A scratch k t instr)
+  pub paired_less : (scratch : Bool) (instr : Instr) → InstrFits instr → HasRegisters instr → Less (paired_row task scratch (site_at device k s) instr) (paired_row task scratch (site_at device k t) instr)
   paired_less scratch (i.Brbs n target) fits has =
       branch_cut_less n (wrapped device (near k.pc target)) (further device k 1) (nat_lt n 7) _ _ refl (wrapped_small device (near k.pc target)) (further_small device k 1) (plain_less scratch (i.Brbs n target) fits)
   paired_less scratch (i.Brbc n target) fits has =

@@ -3,7 +3,6 @@
 use Rattle.std.proofs.Common.{◌≡◌, refl, sym, subst, ap, ◌∙◌, ℕ, ◌<◌, Bool, true, false, not, List, [], length, Option, Some, None, if◌then◌else◌, slice_set, length-set, eq-eqb, Contains, arith}
 use Rattle.basics.specs.Items.{none_in}
 use Rattle.avr_model.specs.declared.device.Device.{Device}
-use Rattle.avr_model.specs.declared.assumption.Entry.{Entry}
 use Rattle.avr_model.specs.declared.instruction.Instr.{Instr}
 use Rattle.avr_model.specs.declared.instruction.Instr.TheVariants as i
 use Rattle.avr_model.specs.declared.instruction.BinaryOp.{BinaryOp}
@@ -34,6 +33,7 @@ use Rattle.local_rules.specs.Local.{plain_row}
 use Rattle.local_laws.proofs.Members.{each_of}
 use Rattle.local_laws.proofs.MonotoneValues.{set_same}
 use Rattle.local_laws.proofs.PlainRows.{IsRefinedInstr, row_leaves}
+use Rattle.local_rules.specs.Site.{Task, site_at}
 
 only_one : (P : Node → Type 0) (k : NodeKey) (s : AbsState) → P (record { key = k; state = s }) → (to : Node) → Contains (one k s).moves to → P to
 only_one P k s h = each_of P (record { key = k; state = s }) [] h (λ n i. absurd (none_in n i))
@@ -51,21 +51,21 @@ not_followed : (line : Bool) (d : ℕ) → is_followed line d d ≡ false
 not_followed true d = ap not (eq-eqb d d refl)
 not_followed false d = refl
 
-module _ (device : Device) (words : Program) (A : List Entry) (scratch : Bool) (k : NodeKey) (s : AbsState) (count : length s.registers ≡ 32) where
+module _ (device : Device) (task : Task) (scratch : Bool) (k : NodeKey) (s : AbsState) (count : length s.registers ≡ 32) where
   row_doubled : (op : BinaryOp) (d : ℕ) (low : Tri) (framed : Bool) (c : Option Computed) (v : AbsByte) (flags : AbsFlags) (other : Raw) → d < 32 → framed ≡ false
       → IsByteWithin (doubled_value s d low) v → (to : Node)
-      → Contains (going_by device k (before (i.Binary op d d) s) (if framed then c else Some (both_set (slice_set s.registers d v) flags)) other).moves to
+      → Contains (going_by (site_at device k (before (i.Binary op d d) s)) (if framed then c else Some (both_set (slice_set s.registers d v) flags)) other).moves to
       → IsByteWithin (doubled_value s d low) (value_at to.state.registers d)
   row_doubled op d low true c v flags other lt unframed h to member = absurd (cc)
   row_doubled op d low false c v flags other lt unframed h to member =
       only_one (λ (n : Node). IsByteWithin (doubled_value s d low) (value_at n.state.registers d)) _ _
       (subst (IsByteWithin (doubled_value s d low)) (sym (set_same s.registers d d v refl (omega (arith, lt, count)))) h) to member
 
-  same_doubled : (op : BinaryOp) (d : ℕ) → d < 32 → (to : Node) → Contains (plain_row device words A scratch k s (i.Binary op d d)).moves to → CoversDoubled s op d (value_at to.state.registers d)
+  same_doubled : (op : BinaryOp) (d : ℕ) → d < 32 → (to : Node) → Contains (plain_row task scratch (site_at device k s) (i.Binary op d d)).moves to → CoversDoubled s op d (value_at to.state.registers d)
   same_doubled binary.Add d lt to i =
-      row_doubled binary.Add d Zero (is_followed (is_frame A k.pc) d d) _ _ _ _ lt (not_followed (is_frame A k.pc) d) (values_are_covered.doubled (value_at s.registers d).bits s.flags.bits Zero) to i
+      row_doubled binary.Add d Zero (is_followed (is_frame task.assumptions k.pc) d d) _ _ _ _ lt (not_followed (is_frame task.assumptions k.pc) d) (values_are_covered.doubled (value_at s.registers d).bits s.flags.bits Zero) to i
   same_doubled binary.Adc d lt to i =
-      row_doubled binary.Adc d (tri_at s.flags.bits 0) (is_followed (is_frame A k.pc) d d) _ _ _ _ lt (not_followed (is_frame A k.pc) d)
+      row_doubled binary.Adc d (tri_at s.flags.bits 0) (is_followed (is_frame task.assumptions k.pc) d d) _ _ _ _ lt (not_followed (is_frame task.assumptions k.pc) d)
       (values_are_covered.doubled (value_at s.registers d).bits s.flags.bits (tri_at s.flags.bits 0)) to i
   same_doubled binary.Cpc d lt to i = tt
   same_doubled binary.Sbc d lt to i = tt
@@ -81,25 +81,25 @@ module _ (device : Device) (words : Program) (A : List Entry) (scratch : Bool) (
   abbrev Z : Option ℕ
   Z = pair_constant s 30
 
-  flash_set : (registers : List AbsByte) (d : ℕ) → d < length registers → (f : PairFacts) → CoversFlash words (z_of s f) (value_at (slice_set registers d (flash_value words Z)) d)
+  flash_set : (registers : List AbsByte) (d : ℕ) → d < length registers → (f : PairFacts) → CoversFlash task.flash (z_of s f) (value_at (slice_set registers d (flash_value task.flash Z)) d)
   flash_set registers d lt f =
-      subst (CoversFlash words (z_of s f)) (sym (set_same registers d d (flash_value words Z) refl lt))
-      (flash_covers words (z_of s f) (byte_constant (value_at s.registers 30).bits) (byte_constant (value_at s.registers 31).bits) refl refl)
+      subst (CoversFlash task.flash (z_of s f)) (sym (set_same registers d d (flash_value task.flash Z) refl lt))
+      (flash_covers task.flash (z_of s f) (byte_constant (value_at s.registers 30).bits) (byte_constant (value_at s.registers 31).bits) refl refl)
 
   -- ---- the row
 
-  told_covered : (instr : Instr) → IsRefinedInstr instr → HasRegisters instr → (to : Node) → Contains (plain_row device words A scratch k s instr).moves to → CoversTold words s instr to.state
+  told_covered : (instr : Instr) → IsRefinedInstr instr → HasRegisters instr → (to : Node) → Contains (plain_row task scratch (site_at device k s) instr).moves to → CoversTold task.flash s instr to.state
   told_covered (i.Binary op d r) is has to member = λ same.
-      subst (λ (x : ℕ). Contains (plain_row device words A scratch k s (i.Binary op d x)).moves to → CoversDoubled s op d (value_at to.state.registers d)) same (same_doubled op d has.0 to) member
-  told_covered (i.LpmZ d) is has to member = only_one (λ (n : Node). (f : PairFacts) → CoversFlash words (z_of s f) (value_at n.state.registers d)) _ _ (flash_set s.registers d (omega (arith, has, count))) to member
+      subst (λ (x : ℕ). Contains (plain_row task scratch (site_at device k s) (i.Binary op d x)).moves to → CoversDoubled s op d (value_at to.state.registers d)) same (same_doubled op d has.0 to) member
+  told_covered (i.LpmZ d) is has to member = only_one (λ (n : Node). (f : PairFacts) → CoversFlash task.flash (z_of s f) (value_at n.state.registers d)) _ _ (flash_set s.registers d (omega (arith, has, count))) to member
   told_covered (i.LpmZPlus d) is has to member =
-      only_one (λ (n : Node). (f : PairFacts) → CoversFlash words (z_of s f) (value_at n.state.registers d)) _ _
+      only_one (λ (n : Node). (f : PairFacts) → CoversFlash task.flash (z_of s f) (value_at n.state.registers d)) _ _
       (flash_set (pair_moved s 30 true 1) d (omega (arith, has, count, moved_count))) to member
     where
       moved_count : length (pair_moved s 30 true 1) ≡ length s.registers
       moved_count = length-set _ 31 _ ∙ length-set s.registers 30 _
-  told_covered i.Lpm is has to member = only_one (λ (n : Node). (f : PairFacts) → CoversFlash words (z_of s f) (value_at n.state.registers 0)) _ _ (flash_set s.registers 0 (omega (arith, count))) to member
+  told_covered i.Lpm is has to member = only_one (λ (n : Node). (f : PairFacts) → CoversFlash task.flash (z_of s f) (value_at n.state.registers 0)) _ _ (flash_set s.registers 0 (omega (arith, count))) to member
   told_covered instr is has to member = tt
 
-  pub row_plain : (instr : Instr) → IsRefinedInstr instr → HasRegisters instr → (to : Node) → Contains (plain_row device words A scratch k s instr).moves to → IsPlain words instr s to.state
-  row_plain instr is has to member = record { facts = (row_leaves device words A scratch k (before instr s) instr is to member).facts; value = told_covered instr is has to member }
+  pub row_plain : (instr : Instr) → IsRefinedInstr instr → HasRegisters instr → (to : Node) → Contains (plain_row task scratch (site_at device k s) instr).moves to → IsPlain task.flash instr s to.state
+  row_plain instr is has to member = record { facts = (row_leaves device task scratch k (before instr s) instr is to member).facts; value = told_covered instr is has to member }

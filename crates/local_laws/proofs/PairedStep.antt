@@ -38,7 +38,6 @@ use Rattle.mask_states.specs.Keys.{offset_of}
 use Rattle.local_rules.specs.declared.local.Node.{Node}
 use Rattle.local_rules.specs.Raw.{Raw, all_of, next, further as node_further}
 use Rattle.local_rules.specs.Registers.{value, before}
-use Rattle.local_rules.specs.Reads.{pointed}
 use Rattle.local_rules.specs.Flow.{going_where}
 use Rattle.local_rules.specs.Writes.{pointer_write}
 use Rattle.local_rules.specs.Local.{step_before, pointer_moved, plain_row, paired_row, cut_branch, cut_skip, refined_nodes, refining, node_where, storing, paired_store}
@@ -59,6 +58,8 @@ use Rattle.local_laws.proofs.Permitted.{pointer_pair, number_permitted}
 use Rattle.local_laws.proofs.PointerReads.{pointer_stands}
 use Rattle.local_laws.proofs.Sized.{sized_at}
 use Rattle.local_laws.proofs.SplitMembers.{are_written}
+use Rattle.local_rules.specs.Site.{Task, site_at, task_with}
+use Rattle.local_rules.specs.Writes.{write_at}
 
 -- ---- stores tell nothing of pairs but by the pointer that they move
 
@@ -120,11 +121,14 @@ module _ (ws : List ℕ) (A : List Entry) (m : State) (o : Origin) (k : NodeKey)
   abbrev words : Program
   words = image m.device ws
 
+  abbrev task : Task
+  task = task_with words A
+
   abbrev scratch : Bool
   scratch = is_scratch words m.pc
 
   abbrev Covered : Instr → Raw → Type 0
-  Covered instr r = CoversStep words A m o k b1 b2 (Some instr) r
+  Covered instr r = CoversStep task m o k b1 b2 (Some instr) r
 
   -- ---- branches and skips
 
@@ -172,9 +176,9 @@ module _ (ws : List ℕ) (A : List Entry) (m : State) (o : Origin) (k : NodeKey)
   near_is : (t : ℕ) → wrapped m.device (near m.pc t) ≡ wrapped m.device (near k.pc t)
   near_is t = goes_near m o k s at (not scratch) b1 b2 t
 
-  skip_by : (cut : Bool → Option AbsState) (test : Bool) → Left cut test → Follows (reads_masks m.device A) m o k (not scratch) b1 b2 (skipping words m test) (cut_skip m.device words k (cut true) (cut false))
+  skip_by : (cut : Bool → Option AbsState) (test : Bool) → Left cut test → Follows (reads_masks m.device A) m o k (not scratch) b1 b2 (skipping words m test) (cut_skip words (site_at m.device k s) (cut true) (cut false))
   skip_by cut test h =
-      skip_is test (cut_skip m.device words k (cut true) (cut false))
+      skip_is test (cut_skip words (site_at m.device k s) (cut true) (cut false))
       (by_test cut test h (further m (1 + length_of (word_at words (m.pc + 1)))) (node_further m.device k (1 + length_of (word_at words (k.pc + 1)))) (further m 1) (node_further m.device k 1) past_is next_is)
 
   negated : (cut : Bool → Option AbsState) (test : Bool) → Left cut test → Left (λ (b : Bool). cut (not b)) (not test)
@@ -196,14 +200,14 @@ module _ (ws : List ℕ) (A : List Entry) (m : State) (o : Origin) (k : NodeKey)
 
   -- ---- a store through a pointer that moves
 
-  module _ (p : Pointer) (r : ℕ) (is_there : instruction_at words m.pc ≡ Some (i.St p r)) where
+  module _ (p : Pointer) (r : ℕ) (is_there : instruction_at task.flash m.pc ≡ Some (i.St p r)) where
     abbrev instr : Instr
     instr = i.St p r
 
     abbrev ended : AbsState
     ended = before instr s
 
-    there : InBareFrame (reads_masks m.device A) m o k ended
+    there : InBareFrame (reads_masks m.device task.assumptions) m o k ended
     there = forgetting_at m o k s (written instr) (sets_flags instr) (sets_carry instr) at
 
     abbrev moved_state : AbsState
@@ -213,51 +217,51 @@ module _ (ws : List ℕ) (A : List Entry) (m : State) (o : Origin) (k : NodeKey)
     moved_bare =
         let le : IsStateLess k.inst.kind (offset_of k.sp) ended ended = node_less k ended ended there.node there.node (states_are_ordered.same ended) in
         less_node k moved_state moved_state at.node.word at.node.small at.node.masks at.node.fits at.node.pick
-        (record { registers = subst (λ vs. AreRegistersLess k.inst.kind vs vs) (same_moved p instr s) (moved_less m.device words A k (bare_key k s at.node) ended ended le p); flags = le.flags; slots = le.slots; facts = le.facts })
+        (record { registers = subst (λ vs. AreRegistersLess k.inst.kind vs vs) (same_moved p instr s) (moved_less m.device task k (bare_key k s at.node) ended ended le p); flags = le.flags; slots = le.slots; facts = le.facts })
 
-    behind : IsBehind o moved_state (registers_set words m instr b1 b2) (sreg_set words m instr b1 b2)
-    behind = record { registers = subst (λ vs. RegistersStand o vs (registers_set words m instr b1 b2)) (same_moved p instr s) (pointer_stands m o k ended there p); facts = held words m o k s b1 b2 instr are small other (sized_at words m.pc instr is_there) at }
+    behind : IsBehind o moved_state (registers_set task.flash m instr b1 b2) (sreg_set task.flash m instr b1 b2)
+    behind = record { registers = subst (λ vs. RegistersStand o vs (registers_set task.flash m instr b1 b2)) (same_moved p instr s) (pointer_stands m o k ended there p); facts = held task.flash m o k s b1 b2 instr are small other (sized_at task.flash m.pc instr is_there) at }
 
-    found : (u : AbsState) × (refined (marks words) words instr s moved_state ≡ Some u) × IsBehind o u (registers_set words m instr b1 b2) (sreg_set words m instr b1 b2)
+    found : (u : AbsState) × (refined (marks task.flash) task.flash instr s moved_state ≡ Some u) × IsBehind o u (registers_set task.flash m instr b1 b2) (sreg_set task.flash m instr b1 b2)
     found =
-        refined_holds.holds (marks words) words o m instr b1 b2 (offset_of k.sp) (offset_of k.sp) s moved_state are tt at.node.formed moved_bare.formed
-        (is_before words are m o k s at b1 b2 (not scratch) instr tt) behind
+        refined_holds.holds (marks task.flash) task.flash o m instr b1 b2 (offset_of k.sp) (offset_of k.sp) s moved_state are tt at.node.formed moved_bare.formed
+        (is_before task.flash are m o k s at b1 b2 (not scratch) instr tt) behind
 
     abbrev left : AbsState
     left = found.0
 
     formed : IsFormed left (offset_of k.sp)
-    formed = refined_is_ordered.formed (marks words) words instr (offset_of k.sp) (offset_of k.sp) s moved_state left tt at.node.formed moved_bare.formed found.1
+    formed = refined_is_ordered.formed (marks task.flash) task.flash instr (offset_of k.sp) (offset_of k.sp) s moved_state left tt at.node.formed moved_bare.formed found.1
 
     abbrev row_with : AbsState → Raw
-    row_with u = pointer_write m.device words A s (pointer_register p) (step_before p) (pointed s (pointer_register p) (step_before p)) k.pc (next m.device k) u (value s r)
+    row_with u = pointer_write task s (pointer_register p) (step_before p) (write_at m.device k.pc (next m.device k) u (value s r))
 
     left_covered : Covered instr (row_with (record ended { registers = left.registers; facts = left.facts }))
     left_covered clean unflagged =
-        (st_covered words A m o k ended there scratch b1 b2 are_written refl p r s left.registers left.facts (forgotten_spares (written instr) s.flags.carry) formed.count_registers formed.facts
+        (st_covered task m o k ended there scratch b1 b2 are_written refl p r s.flags s.facts left.registers left.facts (forgotten_spares (written instr) s.flags.carry) formed.count_registers formed.facts
         (number_permitted m o k s at (pointer_register p) (step_before p) (pointer_pair p)) found.2.registers unflagged.protected clean).leads found.2.facts
 
-    pub store_covered : Covered instr (paired_store m.device words A k s p r)
+    pub store_covered : Covered instr (paired_store task (site_at m.device k s) p r)
     store_covered =
-        let like = refined_is_ordered.like (marks words) words instr s moved_state left found.1 in
-        subst (λ (x : Option AbsState). Covered instr (storing m.device words A k s p r x)) (sym found.1)
+        let like = refined_is_ordered.like (marks task.flash) task.flash instr s moved_state left found.1 in
+        subst (λ (x : Option AbsState). Covered instr (storing task (site_at m.device k s) p r x)) (sym found.1)
         (subst (λ (u : AbsState). Covered instr (row_with u)) (sym (like_parts left ended like.flags like.slots)) left_covered)
 
   -- ---- all rows
 
-  refined_covered : (instr : Instr) → instruction_at words m.pc ≡ Some instr → IsRefinedInstr instr → Covered instr (plain_row m.device words A scratch k s instr)
-      → Covered instr (refining words instr s (plain_row m.device words A scratch k s instr))
+  refined_covered : (instr : Instr) → instruction_at words m.pc ≡ Some instr → IsRefinedInstr instr → Covered instr (plain_row task scratch (site_at m.device k s) instr)
+      → Covered instr (refining words instr s (plain_row task scratch (site_at m.device k s) instr))
   refined_covered instr e is h clean unflagged =
       let there = forgetting_at m o k s (written instr) (sets_flags instr) (sets_carry instr) at in
       let le = node_less k (before instr s) (before instr s) there.node there.node (states_are_ordered.same (before instr s)) in
-      let leads = row_less m.device words A k (bare_key k s at.node) (before instr s) (before instr s) le scratch instr (instruction_fits words m.pc instr e) clean in
-      refining_follows words are m o k s at b1 b2 (not scratch) instr (operands_fit.fit words m.pc instr e) is (plain_row m.device words A scratch k s instr)
+      let leads = row_less m.device task k (bare_key k s at.node) (before instr s) (before instr s) le scratch instr (instruction_fits words m.pc instr e) clean in
+      refining_follows words are m o k s at b1 b2 (not scratch) instr (operands_fit.fit words m.pc instr e) is (plain_row task scratch (site_at m.device k s) instr)
       (λ to member. (leads.moves to member).node) (h clean unflagged)
 
-  same_covered : (instr : Instr) → IsStored instr → Covered instr (plain_row m.device words A scratch k s instr) → Covered instr (refining words instr s (plain_row m.device words A scratch k s instr))
-  same_covered instr is h = subst (Covered instr) (sym (stored_same words s f instr is followed (plain_row m.device words A scratch k s instr))) h
+  same_covered : (instr : Instr) → IsStored instr → Covered instr (plain_row task scratch (site_at m.device k s) instr) → Covered instr (refining words instr s (plain_row task scratch (site_at m.device k s) instr))
+  same_covered instr is h = subst (Covered instr) (sym (stored_same words s f instr is followed (plain_row task scratch (site_at m.device k s) instr))) h
 
-  pub paired_covered : (instr : Instr) → instruction_at words m.pc ≡ Some instr → Covered instr (plain_row m.device words A scratch k s instr) → Covered instr (paired_row m.device words A scratch k s instr)
+  pub paired_covered : (instr : Instr) → instruction_at words m.pc ≡ Some instr → Covered instr (plain_row task scratch (site_at m.device k s) instr) → Covered instr (paired_row task scratch (site_at m.device k s) instr)
   paired_covered (i.Brbs n t) e h = branch_by n t (nat_lt n 7) refl _ h
   paired_covered (i.Brbc n t) e h = branch_not_by n t (nat_lt n 7) refl _ h
   paired_covered (i.Sbrc r b) e h = λ clean unflagged.

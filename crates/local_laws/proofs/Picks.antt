@@ -42,6 +42,7 @@ use Rattle.local_laws.proofs.WriteValues.{ReachesNode}
 use Rattle.local_laws.proofs.PointerWrites.{by_first, by_rest}
 use Rattle.local_laws.proofs.MonotoneValues.{IsLess, IsStateLess, registers_set, bits_less, node_less, less_node}
 use Rattle.local_laws.proofs.Quiet.{Quiet}
+use Rattle.local_rules.specs.Site.{Task, site_at}
 
 -- ---- the site
 
@@ -58,18 +59,18 @@ site_adds words a jump e = by (is_some_that adds_low (instruction_at words a)) (
     by false high e = absurd (cc)
 
 -- the node lies in flash, and its instruction adds to r30
-pub splits_at : (words : Program) (A : List Entry) (pc : ℕ) (pick : Option ℕ) (jump : ℕ) → split_site words A pc pick ≡ Some jump
-    → (nat_lt pc (words_of (device_of words)) ≡ true) × (is_some_that adds_low (fetched (device_of words) words pc) ≡ true)
-splits_at words A pc (Some byte) jump e = absurd (cc)
-splits_at words A pc None jump e = by (nat_lt pc (words_of (device_of words))) e
+pub splits_at : (task : Task) (pc : ℕ) (pick : Option ℕ) (jump : ℕ) → split_site task pc pick ≡ Some jump
+    → (nat_lt pc (words_of (device_of task.flash)) ≡ true) × (is_some_that adds_low (fetched (device_of task.flash) task.flash pc) ≡ true)
+splits_at task pc (Some byte) jump e = absurd (cc)
+splits_at task pc None jump e = by (nat_lt pc (words_of (device_of task.flash))) e
   where
-    by : (inside : Bool) → (if inside then unlined A (table_site words pc) else None) ≡ Some jump
-        → (inside ≡ true) × (is_some_that adds_low (if inside then instruction_at words pc else None) ≡ true)
-    by true e = let found = unlined_some A (table_site words pc) jump e in (refl, site_adds words pc found.0 found.1)
+    by : (inside : Bool) → (if inside then unlined task.assumptions (table_site task.flash pc) else None) ≡ Some jump
+        → (inside ≡ true) × (is_some_that adds_low (if inside then instruction_at task.flash pc else None) ≡ true)
+    by true e = let found = unlined_some task.assumptions (table_site task.flash pc) jump e in (refl, site_adds task.flash pc found.0 found.1)
     by false e = absurd (cc)
 
-module _ (device : Device) (words : Program) (A : List Entry) (scratch : Bool) (k : NodeKey) where
-  adds_quiet : (s : AbsState) (x : Instr) → adds_low x ≡ true → Quiet (row_of device words A scratch k s x)
+module _ (device : Device) (task : Task) (scratch : Bool) (k : NodeKey) where
+  adds_quiet : (s : AbsState) (x : Instr) → adds_low x ≡ true → Quiet (row_of task scratch (site_at device k s) x)
   adds_quiet s (i.Immediate op d n) e = (refl, refl)
   adds_quiet s (i.Movw d r) e = absurd (cc)
   adds_quiet s (i.Muls d r) e = absurd (cc)
@@ -123,16 +124,16 @@ module _ (device : Device) (words : Program) (A : List Entry) (scratch : Bool) (
   adds_quiet s i.Wdr e = absurd (cc)
 
   -- this holds with pairs
-  adds_paired : (s : AbsState) (x : Instr) → adds_low x ≡ true → Quiet (paired_row device words A scratch k s x)
+  adds_paired : (s : AbsState) (x : Instr) → adds_low x ≡ true → Quiet (paired_row task scratch (site_at device k s) x)
   adds_paired s (i.Immediate op d n) e = (refl, refl)
   adds_paired s x e = absurd (cc)
 
   -- an instruction that adds to r30 neither calls nor returns
-  pub at_quiet : (s : AbsState) (x : Option Instr) → is_some_that adds_low x ≡ true → Quiet (row_at device words A scratch k s x)
+  pub at_quiet : (s : AbsState) (x : Option Instr) → is_some_that adds_low x ≡ true → Quiet (row_at task scratch (site_at device k s) x)
   at_quiet s None e = absurd (cc)
   at_quiet s (Some x) e = by s.facts
     where
-      by : (f : Option PairFacts) → Quiet (row_by f device words A scratch k s x)
+      by : (f : Option PairFacts) → Quiet (row_by f task scratch (site_at device k s) x)
       by None = adds_quiet (before x s) x e
       by (Some f) = adds_paired s x e
 
@@ -232,11 +233,11 @@ module _ {may : Bool} (m : State) (o : Origin) (k : NodeKey) (guarded : Bool) (e
   reached_by byte b1 b2 r quiet (leaves x is kind closed return) = absurd (let e = sym quiet.1 in let no = is in cc)
 
 -- what one part covers, all parts cover
-pub all_covered : (words : Program) (A : List Entry) (m : State) (o : Origin) (k : NodeKey) (b1 b2 : ℕ) (f : ℕ → Raw) (xs : List ℕ) (x : ℕ) → Contains xs x → Quiet (f x)
-    → (instr : Option Instr) → CoversStep words A m o (picking k x) b1 b2 instr (f x) → CoversStep words A m o k b1 b2 instr (all_of (map f xs))
-all_covered words A m o k b1 b2 f xs x h quiet None covered = λ clean. covered (faultless_in f xs x h clean)
-all_covered words A m o k b1 b2 f xs x h quiet (Some instr) covered = λ clean unflagged.
-    let guarded : Bool = not (is_scratch words m.pc) in
-    let e : Effect = effect_of words m instr b1 b2 in
+pub all_covered : (task : Task) (m : State) (o : Origin) (k : NodeKey) (b1 b2 : ℕ) (f : ℕ → Raw) (xs : List ℕ) (x : ℕ) → Contains xs x → Quiet (f x)
+    → (instr : Option Instr) → CoversStep task m o (picking k x) b1 b2 instr (f x) → CoversStep task m o k b1 b2 instr (all_of (map f xs))
+all_covered task m o k b1 b2 f xs x h quiet None covered = λ clean. covered (faultless_in f xs x h clean)
+all_covered task m o k b1 b2 f xs x h quiet (Some instr) covered = λ clean unflagged.
+    let guarded : Bool = not (is_scratch task.flash m.pc) in
+    let e : Effect = effect_of task.flash m instr b1 b2 in
     let found = reached_in m o k guarded e f xs x h (reached_by m o k guarded e x b1 b2 (f x) quiet (covered (faultless_in f xs x h clean) unflagged)) in
     stays found.to found.present found.inst (found.at_node.lands tt)

@@ -3,9 +3,8 @@ use Rattle.std.proofs.Common.{◌≡◌, ◌≢◌, refl, sym, ◌∙◌, ℕ, s
 use Rattle.std.specs.Prelude.{⊤}
 use Rattle.std.proofs.lemmas.Bool.{or_parts}
 use Rattle.basics.specs.Items.{none_in}
-use Rattle.avr_model.specs.Devices.{Program, size_of, wrapped}
+use Rattle.avr_model.specs.Devices.{size_of, wrapped}
 use Rattle.avr_model.specs.declared.device.Device.{Device}
-use Rattle.avr_model.specs.declared.assumption.Entry.{Entry}
 use Rattle.avr_model.specs.declared.instruction.Instr.{Instr}
 use Rattle.avr_model.specs.declared.instruction.Instr.TheVariants as i
 use Rattle.avr_model.specs.declared.instruction.BinaryOp.{BinaryOp}
@@ -47,6 +46,7 @@ use Rattle.local_rules.specs.Flow.{branch_by, reading_zero, targets_at, jumping,
 use Rattle.local_rules.specs.Local.{step_before, pointer_moved, loading, row_of}
 use Rattle.local_laws.proofs.Members.{each_of, each_in_map}
 use Rattle.local_laws.proofs.MonotoneValues.{set_other}
+use Rattle.local_rules.specs.Site.{Task, site_at}
 
 -- ---- registers
 
@@ -114,13 +114,13 @@ module _ (rs : List ℕ) (s : AbsState) where
   leaves_if true p q h g = h
   leaves_if false p q h g = g
 
-  leaves_branch : (t : Tri) (j k : NodeKey) (taken other : ℕ) → Leaves (branch_by t j k s taken other)
+  leaves_branch : (t : Tri) (j k : NodeKey) (taken other : ℕ) → Leaves (branch_by t (off_table j taken) (off_table k other) s)
   leaves_branch One j k taken other = leaves_same (off_table j taken)
   leaves_branch Zero j k taken other = leaves_same (off_table k other)
   leaves_branch Any j k taken other =
       each_of (λ (n : Node). AreOthersKept rs s n.state) (record { key = off_table k other; state = s }) (record { key = off_table j taken; state = s } ∷ []) same_state (leaves_same (off_table j taken))
 
-  leaves_by : (device : Device) (k : NodeKey) (c : Option Computed) (r : Raw) → ComputedKeeps c → Leaves r → Leaves (going_by device k s c r)
+  leaves_by : (device : Device) (k : NodeKey) (c : Option Computed) (r : Raw) → ComputedKeeps c → Leaves r → Leaves (going_by (site_at device k s) c r)
   leaves_by device k None r h g = g
   leaves_by device k (Some d) r h g = leaves_one _ _ (record { facts = refl; others = h })
 
@@ -128,15 +128,15 @@ module _ (rs : List ℕ) (s : AbsState) where
   leaves_set device k t facts others = leaves_one k t (record { facts = facts; others = others })
 
   leaves_loading : (device : Device) (k : NodeKey) (registers : List AbsByte) (d : ℕ) (v : Option AbsByte) → ((w : AbsByte) → KeepOthers rs s.registers (slice_set registers d w))
-      → Leaves (loading device k s registers d v)
+      → Leaves (loading (site_at device k s) registers d v)
   leaves_loading device k registers d None h = leaves_none
   leaves_loading device k registers d (Some v) h = leaves_one _ _ (record { facts = refl; others = h v })
 
-  leaves_interrupts : (device : Device) (k : NodeKey) (on : Bool) → Leaves (interrupts_row device k s on)
+  leaves_interrupts : (device : Device) (k : NodeKey) (on : Bool) → Leaves (interrupts_row (site_at device k s) on)
   leaves_interrupts device k true = leaves_same _
   leaves_interrupts device k false = leaves_same _
 
-  leaves_flag : (device : Device) (k : NodeKey) (n : ℕ) (on : Bool) → Leaves (flag_row device k s n on)
+  leaves_flag : (device : Device) (k : NodeKey) (n : ℕ) (on : Bool) → Leaves (flag_row (site_at device k s) n on)
   leaves_flag device k n on = leaves_if (n == 7) _ _ (leaves_interrupts device k on) (leaves_one _ _ (record { facts = refl; others = none_set rs s.registers }))
 
   leaves_jumping : (targets : Option (List ℕ)) (k : NodeKey) → Leaves (jumping targets k s)
@@ -147,10 +147,10 @@ module _ (rs : List ℕ) (s : AbsState) where
   leaves_closed (Closed offset) pc f h = h offset
   leaves_closed (Open offset high) pc f h = leaves_none
 
-  leaves_pushing : (device : Device) (scratch : Bool) (k : NodeKey) (r offset : ℕ) → Leaves (pushing device scratch k s r offset)
+  leaves_pushing : (device : Device) (scratch : Bool) (k : NodeKey) (r offset : ℕ) → Leaves (pushing scratch (site_at device k s) r offset)
   leaves_pushing device scratch k r offset = leaves_if (nat_le (offset + 1) (size_of device)) _ _ (leaves_one _ _ (record { facts = refl; others = none_set rs s.registers })) leaves_none
 
-  leaves_room : (device : Device) (k : NodeKey) (target offset : ℕ) → Leaves (making_room device k s target offset)
+  leaves_room : (device : Device) (k : NodeKey) (target offset : ℕ) → Leaves (making_room (site_at device k s) target offset)
   leaves_room device k target offset = leaves_if (nat_le (offset + 2) (size_of device)) _ _ (leaves_one _ _ (record { facts = refl; others = none_set rs s.registers })) leaves_none
 
   leaves_calling : (half : Bool) (pc : ℕ) (r : Raw) → Leaves r → Leaves (untracked_if half pc r)
@@ -161,7 +161,7 @@ module _ (rs : List ℕ) (s : AbsState) where
   leaves_indirect device None k = leaves_calling (is_half_written k.sp) k.pc _ leaves_none
   leaves_indirect device (Some targets) k = leaves_calling (is_half_written k.sp) k.pc _ leaves_none
 
-  leaves_relative : (device : Device) (scratch : Bool) (k : NodeKey) (target : ℕ) → Leaves (relative_call device scratch k s target)
+  leaves_relative : (device : Device) (scratch : Bool) (k : NodeKey) (target : ℕ) → Leaves (relative_call scratch (site_at device k s) target)
   leaves_relative device true k target = leaves_closed k.sp k.pc _ (leaves_room device k target)
   leaves_relative device false k target = leaves_calling (is_half_written k.sp) k.pc _ leaves_none
 
@@ -270,27 +270,27 @@ IsRefinedInstr (i.Sbrc r b) = ⊥
 IsRefinedInstr (i.Sbrs r b) = ⊥
 IsRefinedInstr _ = ⊤
 
-module _ (device : Device) (words : Program) (A : List Entry) (scratch : Bool) (k : NodeKey) (s : AbsState) where
-  pub row_leaves : (instr : Instr) → IsRefinedInstr instr → Leaves (written instr) s (row_of device words A scratch k s instr)
+module _ (device : Device) (task : Task) (scratch : Bool) (k : NodeKey) (s : AbsState) where
+  pub row_leaves : (instr : Instr) → IsRefinedInstr instr → Leaves (written instr) s (row_of task scratch (site_at device k s) instr)
   row_leaves (i.Movw d r) is = leaves_set _ s device _ _ refl (two_set s.registers (2 * d) (2 * d + 1) _ _)
   row_leaves (i.Muls d r) is = leaves_set _ s device _ _ refl (two_set s.registers 0 1 _ _)
   row_leaves (i.Mulsu d r) is = leaves_set _ s device _ _ refl (two_set s.registers 0 1 _ _)
   row_leaves (i.Fmul d r) is = leaves_set _ s device _ _ refl (two_set s.registers 0 1 _ _)
   row_leaves (i.Fmuls d r) is = leaves_set _ s device _ _ refl (two_set s.registers 0 1 _ _)
   row_leaves (i.Fmulsu d r) is = leaves_set _ s device _ _ refl (two_set s.registers 0 1 _ _)
-  row_leaves (i.Binary op d r) is = leaves_by _ s device k _ _ (binary_line_keeps s (is_followed (is_frame A k.pc) d r) op d r) (leaves_branch _ s (byte_equal (value_at s.registers d).bits (value_at s.registers r).bits) k k _ _)
-  row_leaves (i.Immediate op d n) is = leaves_set _ s device _ _ refl (immediate_line_keeps s (is_frame A k.pc) op d n)
-  row_leaves (i.Unary op d) is = leaves_set _ s device _ _ refl (unary_line_keeps s (is_frame A k.pc) op d)
+  row_leaves (i.Binary op d r) is = leaves_by _ s device k _ _ (binary_line_keeps s (is_followed (is_frame task.assumptions k.pc) d r) op d r) (leaves_branch _ s (byte_equal (value_at s.registers d).bits (value_at s.registers r).bits) k k _ _)
+  row_leaves (i.Immediate op d n) is = leaves_set _ s device _ _ refl (immediate_line_keeps s (is_frame task.assumptions k.pc) op d n)
+  row_leaves (i.Unary op d) is = leaves_set _ s device _ _ refl (unary_line_keeps s (is_frame task.assumptions k.pc) op d)
   row_leaves (i.Adiw d n) is = leaves_set _ s device _ _ refl (two_set s.registers (2 * d) (2 * d + 1) _ _)
   row_leaves (i.Sbiw d n) is = leaves_set _ s device _ _ refl (two_set s.registers (2 * d) (2 * d + 1) _ _)
   row_leaves (i.Bset n) is = leaves_flag _ s device k n true
   row_leaves (i.Bclr n) is = leaves_flag _ s device k n false
   row_leaves (i.Bld d b) is = leaves_set _ s device _ _ refl (one_set s.registers d _)
   row_leaves (i.Bst d b) is = leaves_set _ s device _ _ refl (none_set [] s.registers)
-  row_leaves (i.Ldd d b q) is = leaves_loading _ s device k s.registers d (read_pointed device (reads_masks device A) k s (pointed s (base_register b) q)) (λ w. one_set s.registers d w)
+  row_leaves (i.Ldd d b q) is = leaves_loading _ s device k s.registers d (read_pointed device (reads_masks device task.assumptions) k s (pointed s (base_register b) q)) (λ w. one_set s.registers d w)
   row_leaves (i.Lds d a) is = leaves_set _ s device _ _ refl (one_set s.registers d _)
   row_leaves (i.Ld d p) is =
-      leaves_loading _ s device k (pointer_moved p s) d (read_pointed device (reads_masks device A) k s (pointed s (pointer_register p) (step_before p))) (λ w. more_set (moved_pair p) s.registers (pointer_moved p s) d w (pointer_set p s))
+      leaves_loading _ s device k (pointer_moved p s) d (read_pointed device (reads_masks device task.assumptions) k s (pointed s (pointer_register p) (step_before p))) (λ w. more_set (moved_pair p) s.registers (pointer_moved p s) d w (pointer_set p s))
   row_leaves (i.LpmZ d) is = leaves_set _ s device _ _ refl (one_set s.registers d _)
   row_leaves (i.ElpmZ d) is = leaves_set _ s device _ _ refl (one_set s.registers d _)
   row_leaves (i.LpmZPlus d) is = leaves_set _ s device _ _ refl (more_set (30 ∷ 31 ∷ []) s.registers _ d _ (two_set s.registers 30 31 _ _))
@@ -299,21 +299,21 @@ module _ (device : Device) (words : Program) (A : List Entry) (scratch : Bool) (
   row_leaves i.Elpm is = leaves_set _ s device _ _ refl (one_set s.registers 0 _)
   row_leaves (i.Pop d) is = leaves_closed _ s k.sp k.pc _ popped
     where
-      popped : (offset : ℕ) → Leaves (d ∷ []) s (popping device k s d offset)
+      popped : (offset : ℕ) → Leaves (d ∷ []) s (popping (site_at device k s) d offset)
       popped zero = leaves_none _ s
       popped (suc n) = leaves_set _ s device _ _ refl (one_set s.registers d _)
   row_leaves (i.Push r) is = leaves_closed _ s k.sp k.pc _ (leaves_pushing _ s device scratch k r)
   row_leaves (i.In d a) is = leaves_set _ s device _ _ refl (one_set s.registers d _)
-  row_leaves i.Ijmp is = leaves_jumping _ s (targets_at device A k s) k
-  row_leaves i.Icall is = leaves_indirect _ s device (targets_at device A k s) k
+  row_leaves i.Ijmp is = leaves_jumping _ s (targets_at task.assumptions (site_at device k s)) k
+  row_leaves i.Icall is = leaves_indirect _ s device (targets_at task.assumptions (site_at device k s)) k
   row_leaves i.Ret is = leaves_closed _ s k.sp k.pc _ (leaves_returning _ s (ret_exit k) k.pc k.inst.kind)
   row_leaves i.Reti is = leaves_closed _ s k.sp k.pc _ (leaves_returning _ s (reti_exit k) k.pc k.inst.kind)
   row_leaves (i.Jmp t) is = leaves_same _ s _
   row_leaves (i.Call t) is = leaves_calling _ s (is_half_written k.sp) k.pc _ (leaves_none _ s)
   row_leaves (i.Rjmp t) is = leaves_same _ s _
   row_leaves (i.Rcall t) is = leaves_relative _ s device scratch k (wrapped device (far k.pc t))
-  row_leaves (i.Sbic a b) is = leaves_branch _ s (tri_not (tri_at (read_at device (reads_masks device A) k s (port a)).bits b)) (reading_zero device (reads_masks device A) k (port a) b) k _ _
-  row_leaves (i.Sbis a b) is = leaves_branch _ s (tri_at (read_at device (reads_masks device A) k s (port a)).bits b) k (reading_zero device (reads_masks device A) k (port a) b) _ _
+  row_leaves (i.Sbic a b) is = leaves_branch _ s (tri_not (tri_at (read_at device (reads_masks device task.assumptions) k s (port a)).bits b)) (reading_zero device (reads_masks device task.assumptions) k (port a) b) k _ _
+  row_leaves (i.Sbis a b) is = leaves_branch _ s (tri_at (read_at device (reads_masks device task.assumptions) k s (port a)).bits b) k (reading_zero device (reads_masks device task.assumptions) k (port a) b) _ _
   row_leaves i.Nop is = leaves_same _ s _
   row_leaves i.Sleep is = leaves_same _ s _
   row_leaves i.Break is = leaves_same _ s _

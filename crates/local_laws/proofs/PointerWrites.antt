@@ -11,7 +11,7 @@ use Rattle.avr_model.specs.declared.effect.Write.{Write}
 use Rattle.avr_model.specs.declared.effect.Effect.{Effect}
 use Rattle.avr_model.specs.Assumptions.{store_line, is_fixed_site, lists}
 use Rattle.avr_model.specs.declared.device.Device.{Device}
-use Rattle.avr_model.specs.Devices.{Program, io_end, device_of}
+use Rattle.avr_model.specs.Devices.{io_end, device_of}
 use Rattle.avr_model.specs.Masks.{reads_masks, enables_barred, is_unlisted_site, admits_enables, is_flagged_write}
 use Rattle.avr_model.specs.Sreg.{flag}
 use Rattle.avr_model.specs.State.{State, pair, SPL, SPH, SREG, low, high, plus16, minus16}
@@ -43,6 +43,9 @@ use Rattle.local_laws.proofs.Permitted.{has_where_may}
 use Rattle.local_laws.proofs.PointerReads.{number_is, frame_is}
 use Rattle.local_laws.proofs.SplitMembers.{AreSplitsWritten}
 use Rattle.local_laws.proofs.WriteValues.{stored, ReachesNode, enables_stay, chosen, only, elsewhere, changes_none, less_still, facts_still, written}
+use Rattle.local_rules.specs.Site.{Task}
+use Rattle.local_rules.specs.Writes.{write_at}
+use Rattle.abs_state.specs.declared.values.AbsFlags.{AbsFlags}
 
 -- ---- addresses of no register, nor of the stack pointer or the status register
 
@@ -146,13 +149,13 @@ module _ {may : Bool} (m : State) (o : Origin) (k : NodeKey) (s : AbsState) (at 
   abbrev effect : ℕ → Effect
   effect a = stored m pc writes false a byte
 
-  known_written : (a : ℕ) → (written_at m.device k.pc key state false a v).faults ≡ [] → ReachesNode may m o told k guarded (effect a) (written_at m.device k.pc key state false a v)
+  known_written : (a : ℕ) → (written_at (write_at m.device k.pc key state v) false a).faults ≡ [] → ReachesNode may m o told k guarded (effect a) (written_at (write_at m.device k.pc key state v) false a)
   known_written = written m o k s at guarded pc pc' pc_is writes registers stand less told told_fits false byte small v stands count_values count members
 
-  fixed_written : (a : ℕ) (c : Option ℕ) → ((x : ℕ) → c ≡ Some x → a ≡ x) → (fixed_write m.device c k.pc key state v).faults ≡ []
-      → ReachesNode may m o told k guarded (effect a) (fixed_write m.device c k.pc key state v)
+  fixed_written : (a : ℕ) (c : Option ℕ) → ((x : ℕ) → c ≡ Some x → a ≡ x) → (fixed_write c (write_at m.device k.pc key state v)).faults ≡ []
+      → ReachesNode may m o told k guarded (effect a) (fixed_write c (write_at m.device k.pc key state v))
   fixed_written a None is clean = absurd (cc)
-  fixed_written a (Some x) is clean = subst (λ b. ReachesNode may m o told k guarded (effect b) (fixed_write m.device (Some x) k.pc key state v)) (sym (is x refl)) (known_written x clean)
+  fixed_written a (Some x) is clean = subst (λ b. ReachesNode may m o told k guarded (effect b) (fixed_write (Some x) (write_at m.device k.pc key state v))) (sym (is x refl)) (known_written x clean)
 
   -- an address outside registers, stack pointer and status register
   elsewhere_written : (a masks : ℕ) → is_core a ≡ false → EnablesAre may (written_enables m.device m.enables a byte) masks
@@ -173,8 +176,12 @@ module _ {may : Bool} (m : State) (o : Origin) (k : NodeKey) (s : AbsState) (at 
 
   -- ---- a store at a site that isn't fixed
 
-  module _ (words : Program) (A : List Entry) (mode : may ≡ reads_masks m.device A) (is_device : m.device ≡ device_of words) (was : AbsState) (r up : ℕ)
-      (permitted : permits_number was r (minus16 (plus16 (pair m r) up) up) ≡ true) where
+  module _ (task : Task) (mode : may ≡ reads_masks m.device task.assumptions) (is_device : m.device ≡ device_of task.flash) (flags : AbsFlags) (facts : Option PairFacts) (r up : ℕ)
+      (permitted : permits_number (record s { flags = flags; facts = facts }) r (minus16 (plus16 (pair m r) up) up) ≡ true) where
+    -- the state before the instruction
+    abbrev was : AbsState
+    was = record s { flags = flags; facts = facts }
+
     abbrev a : ℕ
     a = plus16 (pair m r) up
 
@@ -189,32 +196,32 @@ module _ {may : Bool} (m : State) (o : Origin) (k : NodeKey) (s : AbsState) (at 
 
     -- the successors of the possible listed addresses
     abbrev listed_ones : List Raw
-    listed_ones = map (λ b. written_at m.device k.pc key state false b v) (filter (λ b. reaches was r up b) (store_line A k.pc))
+    listed_ones = map (λ b. written_at (write_at m.device k.pc key state v) false b) (filter (λ b. reaches was r up b) (store_line task.assumptions k.pc))
 
     abbrev listed : Raw
-    listed = listed_writes m.device k.pc key state (filter (λ b. reaches was r up b) (store_line A k.pc)) v
+    listed = listed_writes (filter (λ b. reaches was r up b) (store_line task.assumptions k.pc)) (write_at m.device k.pc key state v)
 
     -- the successor in which vectors may be enabled
     abbrev woken : Node
-    woken = record { key = record key { masks = widened m.device A k.masks }; state = state }
+    woken = record { key = record key { masks = widened m.device task.assumptions k.masks }; state = state }
 
     by_none : is_core a ≡ false → EnablesAre may (written_enables m.device m.enables a byte) k.masks → Reaches listed
     by_none free enables = by_first m o told k guarded (effect a) (one key state) listed_ones (nothing_written a free enables)
 
     -- ---- where the line doesn't admit it
 
-    listed_by : (b : Bool) → is_protected m.device a ≡ b → (is_protected m.device a && not (lists (store_line A k.pc) a)) ≡ false → listed.faults ≡ [] → Reaches listed
+    listed_by : (b : Bool) → is_protected m.device a ≡ b → (is_protected m.device a && not (lists (store_line task.assumptions k.pc) a)) ≡ false → listed.faults ≡ [] → Reaches listed
     listed_by false is unflagged clean = let parts = or_parts (is_core a) (has_enables m.device a) is in by_none parts.0 (kept_enables a parts.1)
     listed_by true is unflagged clean =
         by_rest m o told k guarded (effect a) (one key state) listed_ones
-        (by_listed m o told k guarded (effect a) (λ b. written_at m.device k.pc key state false b v) (λ b. reaches was r up b) a (store_line A k.pc)
-        (is_listed (is_protected m.device a) (lists (store_line A k.pc) a) is unflagged) reached (known_written a) clean)
+        (by_listed m o told k guarded (effect a) (λ b. written_at (write_at m.device k.pc key state v) false b) (λ b. reaches was r up b) a (store_line task.assumptions k.pc)
+        (is_listed (is_protected m.device a) (lists (store_line task.assumptions k.pc) a) is unflagged) reached (known_written a) clean)
 
     -- ---- where it does
 
-    module _ (admitted : admits_enables m.device A k.pc ≡ true) (free : is_core a ≡ false) (unbarred : enables_barred m.device A a byte ≡ false) where
+    module _ (admitted : admits_enables m.device task.assumptions k.pc ≡ true) (free : is_core a ≡ false) (unbarred : enables_barred m.device task.assumptions a byte ≡ false) where
       may_is : may ≡ true
-      may_is = mode ∙ admitting m.device A k.pc admitted
+      may_is = mode ∙ admitting m.device task.assumptions k.pc admitted
 
       among : AreAmong m.enables k.masks
       among = subst (λ x. EnablesAre x m.enables k.masks) may_is at.place.enables
@@ -222,13 +229,13 @@ module _ {may : Bool} (m : State) (o : Origin) (k : NodeKey) (s : AbsState) (at 
       from_among : (masks : ℕ) → AreAmong (written_enables m.device m.enables a byte) masks → EnablesAre may (written_enables m.device m.enables a byte) masks
       from_among masks h = subst (λ x. EnablesAre x (written_enables m.device m.enables a byte) masks) (sym may_is) h
 
-      wakes : Reaches (waking true m.device A key state listed)
+      wakes : Reaches (waking true (record { key = record key { masks = widened m.device task.assumptions key.masks }; state = state }) listed)
       wakes =
           record {
             to = woken;
             present = Contains-append_right listed.moves (woken ∷ []) woken (first_in woken []);
             inst = refl;
-            at_node = elsewhere_written a (widened m.device A k.masks) free (from_among (widened m.device A k.masks) (enables_stay_among.woken m.device A m.enables k.masks a byte among unbarred));
+            at_node = elsewhere_written a (widened m.device task.assumptions k.masks) free (from_among (widened m.device task.assumptions k.masks) (enables_stay_among.woken m.device task.assumptions m.enables k.masks a byte among unbarred));
           }
 
       own : is_own_slot (pointed s r up).frame (offset_of k.sp) ≡ true → EnablesAre may (written_enables m.device m.enables a byte) k.masks
@@ -237,51 +244,51 @@ module _ {may : Bool} (m : State) (o : Origin) (k : NodeKey) (s : AbsState) (at 
           kept_enables a (none_above m.device a (slot_above (io_end m.device) a o.base slot.0 (offset_of k.sp) (frame_is m o k s at r up slot.0 slot.1.0) slot.1.1 (at.room may_is) at.base_word))
 
       asleep : (own_slot other : Bool) → is_own_slot (pointed s r up).frame (offset_of k.sp) ≡ own_slot
-          → may_enable_other m.device A (λ b. permits_number was r (minus16 b up)) v.bits ≡ other → (not own_slot && other) ≡ false
+          → may_enable_other m.device task.assumptions (λ b. permits_number was r (minus16 b up)) v.bits ≡ other → (not own_slot && other) ≡ false
           → EnablesAre may (written_enables m.device m.enables a byte) k.masks
       asleep true other is is' none = own is
       asleep false other is is' none =
           from_among k.masks
-          (enables_stay_among.asleep m.device A (λ b. permits_number was r (minus16 b up)) v.bits m.enables k.masks a byte among unbarred (is' ∙ none) permitted stands.bits)
+          (enables_stay_among.asleep m.device task.assumptions (λ b. permits_number was r (minus16 b up)) v.bits m.enables k.masks a byte among unbarred (is' ∙ none) permitted stands.bits)
 
-      unless_woken : may_wake m.device A was r up (pointed s r up) k.pc key v ≡ false → EnablesAre may (written_enables m.device m.enables a byte) k.masks
+      unless_woken : may_wake task.assumptions was r up (write_at m.device k.pc key state v) ≡ false → EnablesAre may (written_enables m.device m.enables a byte) k.masks
       unfolding may_wake
       unless_woken is =
-          asleep (is_own_slot (pointed s r up).frame (offset_of k.sp)) (may_enable_other m.device A (λ b. permits_number was r (minus16 b up)) v.bits) refl refl
-          (rest_false (admits_enables m.device A k.pc) _ _ admitted is)
+          asleep (is_own_slot (pointed s r up).frame (offset_of k.sp)) (may_enable_other m.device task.assumptions (λ b. permits_number was r (minus16 b up)) v.bits) refl refl
+          (rest_false (admits_enables m.device task.assumptions k.pc) _ _ admitted is)
 
-      admitted_by : (b : Bool) → may_wake m.device A was r up (pointed s r up) k.pc key v ≡ b → Reaches (waking b m.device A key state listed)
+      admitted_by : (b : Bool) → may_wake task.assumptions was r up (write_at m.device k.pc key state v) ≡ b → Reaches (waking b (record { key = record key { masks = widened m.device task.assumptions key.masks }; state = state }) listed)
       admitted_by true is = wakes
       admitted_by false is = by_none free (unless_woken is)
 
     -- ---- both
 
-    still : (b : Bool) → Reaches listed → Reaches (waking b m.device A key state listed)
+    still : (b : Bool) → Reaches listed → Reaches (waking b (record { key = record key { masks = widened m.device task.assumptions key.masks }; state = state }) listed)
     still true h = record { to = h.to; present = Contains-append_left listed.moves (woken ∷ []) h.to h.present; inst = h.inst; at_node = h.at_node }
     still false h = h
 
-    listed_clean : (b : Bool) → (waking b m.device A key state listed).faults ≡ [] → listed.faults ≡ []
+    listed_clean : (b : Bool) → (waking b (record { key = record key { masks = widened m.device task.assumptions key.masks }; state = state }) listed).faults ≡ [] → listed.faults ≡ []
     listed_clean true clean = clean
     listed_clean false clean = clean
 
     abbrev waken : Bool
-    waken = may_wake m.device A was r up (pointed s r up) k.pc key v
+    waken = may_wake task.assumptions was r up (write_at m.device k.pc key state v)
 
-    unfixed_by : (b : Bool) → admits_enables m.device A k.pc ≡ b → is_flagged_write m.device A k.pc a byte ≡ false → (waking waken m.device A key state listed).faults ≡ []
-        → Reaches (waking waken m.device A key state listed)
+    unfixed_by : (b : Bool) → admits_enables m.device task.assumptions k.pc ≡ b → is_flagged_write m.device task.assumptions k.pc a byte ≡ false → (waking waken (record { key = record key { masks = widened m.device task.assumptions key.masks }; state = state }) listed).faults ≡ []
+        → Reaches (waking waken (record { key = record key { masks = widened m.device task.assumptions key.masks }; state = state }) listed)
     unfixed_by true is unflagged clean =
-        let parts = or_parts (is_core a) (enables_barred m.device A a byte) (first_flag (admits_enables m.device A k.pc) _ _ unflagged is) in
+        let parts = or_parts (is_core a) (enables_barred m.device task.assumptions a byte) (first_flag (admits_enables m.device task.assumptions k.pc) _ _ unflagged is) in
         admitted_by is parts.0 parts.1 waken refl
     unfixed_by false is unflagged clean =
-        still waken (listed_by (is_protected m.device a) refl (second_flag (admits_enables m.device A k.pc) _ _ unflagged is) (listed_clean waken clean))
+        still waken (listed_by (is_protected m.device a) refl (second_flag (admits_enables m.device task.assumptions k.pc) _ _ unflagged is) (listed_clean waken clean))
 
     -- a byte stored through a pointer, if the store isn't flagged
-    pub pointer_written : (is_fixed_site words A k.pc ≡ false → flagged_write (device_of words) A k.pc (set a byte) ≡ None)
-        → (pointer_write m.device words A was r up (pointed s r up) k.pc key state v).faults ≡ []
-        → Reaches (pointer_write m.device words A was r up (pointed s r up) k.pc key state v)
+    pub pointer_written : (is_fixed_site task.flash task.assumptions k.pc ≡ false → flagged_write (device_of task.flash) task.assumptions k.pc (set a byte) ≡ None)
+        → (pointer_write task was r up (write_at m.device k.pc key state v)).faults ≡ []
+        → Reaches (pointer_write task was r up (write_at m.device k.pc key state v))
     pointer_written unflagged clean =
-        chosen m o k s at guarded pc pc' pc_is writes registers stand less told told_fits false (effect a) (is_fixed_site words A k.pc)
-        (fixed_write m.device (pointed s r up).constant k.pc key state v) (waking waken m.device A key state listed)
+        chosen m o k s at guarded pc pc' pc_is writes registers stand less told told_fits false (effect a) (is_fixed_site task.flash task.assumptions k.pc)
+        (fixed_write (pointed s r up).constant (write_at m.device k.pc key state v)) (waking waken (record { key = record key { masks = widened m.device task.assumptions key.masks }; state = state }) listed)
         (λ is rest. fixed_written a (pointed s r up).constant (number_is m o k s at r up) rest)
-        (λ is rest. unfixed_by (admits_enables m.device A k.pc) refl
-        (subst (λ d. is_flagged_write d A k.pc a byte ≡ false) (sym is_device) (flag_none (is_flagged_write (device_of words) A k.pc a byte) a (unflagged is))) rest) clean
+        (λ is rest. unfixed_by (admits_enables m.device task.assumptions k.pc) refl
+        (subst (λ d. is_flagged_write d task.assumptions k.pc a byte ≡ false) (sym is_device) (flag_none (is_flagged_write (device_of task.flash) task.assumptions k.pc a byte) a (unflagged is))) rest) clean

@@ -21,11 +21,15 @@ use Rattle.local_rules.specs.declared.local.CallSite.{CallSite}
 use Rattle.local_rules.specs.Raw.{Raw, untracked_if, too_deep_if}
 use Rattle.local_rules.specs.Registers.{carry_bit, going_by, interrupts_row, flag_row}
 use Rattle.local_rules.specs.declared.computed.Computed.{Computed}
-use Rattle.local_rules.specs.declared.pointers.Pointed.{Pointed}
 use Rattle.local_rules.specs.Writes.{opening, closing, sreg_written, written_at, fixed_write, may_wake, waking, pointer_write, high_part, closing_offset, flags_written, put_flags}
 use Rattle.local_rules.specs.Flow.{branch, branch_by, where_carry, going_where, carry_branch, flag_branch, skipping, jumping, at_closed, pushing, popping, making_room}
 use Rattle.local_rules.specs.Local.{loading}
 use Rattle.local_laws.specs.Laws.{LeadsToWords, AscendByEntry}
+use Rattle.local_rules.specs.Site.{Task, site_at}
+use Rattle.local_rules.specs.Writes.{write_at}
+use Rattle.mask_states.specs.Wakes.{widened}
+use Rattle.local_rules.specs.Raw.{off_table}
+use Rattle.local_rules.specs.Reads.{pointed}
 
 abbrev pub Quiet : Raw → Type 0
 Quiet r = (r.calls ≡ []) × (r.exit ≡ None)
@@ -52,7 +56,7 @@ pub if_quiet : (b : Bool) (p q : Raw) → Quiet p → Quiet q → Quiet (if b th
 if_quiet true p q h k = h
 if_quiet false p q h k = k
 
-ways_quiet : (j k : NodeKey) (s : AbsState) (t : Tri) (taken other : ℕ) → Quiet (branch_by t j k s taken other)
+ways_quiet : (j k : NodeKey) (s : AbsState) (t : Tri) (taken other : ℕ) → Quiet (branch_by t (off_table j taken) (off_table k other) s)
 ways_quiet j k s Zero taken other = (refl, refl)
 ways_quiet j k s One taken other = (refl, refl)
 ways_quiet j k s Any taken other = (refl, refl)
@@ -69,25 +73,25 @@ carry_quiet k s Zero set clear = where_quiet k (where_carry s.flags.carry s fals
 carry_quiet k s One set clear = where_quiet k (where_carry s.flags.carry s true) set
 carry_quiet k s Any set clear = (refl, refl)
 
-pub flag_branch_quiet : (n : ℕ) (k : NodeKey) (s : AbsState) (set clear : ℕ) (other : Raw) → Quiet other → Quiet (flag_branch n k s set clear other)
+pub flag_branch_quiet : (n : ℕ) (k : NodeKey) (s : AbsState) (set clear : ℕ) (other : Raw) → Quiet other → Quiet (flag_branch n (record { key = k; state = s }) set clear other)
 flag_branch_quiet n k s set clear other h = if_quiet (n == 0) (carry_branch (carry_bit s) k s set clear) other (carry_quiet k s (carry_bit s) set clear) h
 
-pub skipping_quiet : (device : Device) (words : Program) (j k : NodeKey) (s : AbsState) (t : Tri) → Quiet (skipping device words j k s t)
+pub skipping_quiet : (device : Device) (words : Program) (j k : NodeKey) (s : AbsState) (t : Tri) → Quiet (skipping words (site_at device j s) j k t)
 skipping_quiet device words j k s t = ways_quiet j k s t _ _
 
-pub going_by_quiet : (device : Device) (k : NodeKey) (s : AbsState) (c : Option Computed) (r : Raw) → Quiet r → Quiet (going_by device k s c r)
+pub going_by_quiet : (device : Device) (k : NodeKey) (s : AbsState) (c : Option Computed) (r : Raw) → Quiet r → Quiet (going_by (site_at device k s) c r)
 going_by_quiet device k s None r q = q
 going_by_quiet device k s (Some c) r q = (refl, refl)
 
-pub loading_quiet : (device : Device) (k : NodeKey) (s : AbsState) (registers : List AbsByte) (d : ℕ) (v : Option AbsByte) → Quiet (loading device k s registers d v)
+pub loading_quiet : (device : Device) (k : NodeKey) (s : AbsState) (registers : List AbsByte) (d : ℕ) (v : Option AbsByte) → Quiet (loading (site_at device k s) registers d v)
 loading_quiet device k s registers d None = (refl, refl)
 loading_quiet device k s registers d (Some v) = (refl, refl)
 
-interrupts_quiet : (device : Device) (k : NodeKey) (s : AbsState) (on : Bool) → Quiet (interrupts_row device k s on)
+interrupts_quiet : (device : Device) (k : NodeKey) (s : AbsState) (on : Bool) → Quiet (interrupts_row (site_at device k s) on)
 interrupts_quiet device k s true = (refl, refl)
 interrupts_quiet device k s false = (refl, refl)
 
-pub flag_quiet : (device : Device) (k : NodeKey) (s : AbsState) (n : ℕ) (on : Bool) → Quiet (flag_row device k s n on)
+pub flag_quiet : (device : Device) (k : NodeKey) (s : AbsState) (n : ℕ) (on : Bool) → Quiet (flag_row (site_at device k s) n on)
 flag_quiet device k s n on = if_quiet (n == 7) _ _ (interrupts_quiet device k s on) (refl, refl)
 
 opening_quiet : (h : Option High) (k : NodeKey) (s : AbsState) (pc : ℕ) → Quiet (opening h k s pc)
@@ -103,7 +107,7 @@ sreg_quiet Zero k s is_out = (refl, refl)
 sreg_quiet One k s is_out = (refl, refl)
 sreg_quiet Any k s is_out = (refl, refl)
 
-pub written_quiet : (device : Device) (pc : ℕ) (k : NodeKey) (s : AbsState) (is_out : Bool) (a : ℕ) (v : AbsByte) → Quiet (written_at device pc k s is_out a v)
+pub written_quiet : (device : Device) (pc : ℕ) (k : NodeKey) (s : AbsState) (is_out : Bool) (a : ℕ) (v : AbsByte) → Quiet (written_at (write_at device pc k s v) is_out a)
 unfolding written_at
 written_quiet device pc k s is_out a v =
     if_quiet (nat_lt a 0x20) _ _ (refl, refl)
@@ -111,18 +115,18 @@ written_quiet device pc k s is_out a v =
     (if_quiet (a == SPH) _ _ (opening_quiet (high_part k.inst.kind v) k s pc)
     (if_quiet (a == SREG) _ _ (sreg_quiet (tri_at v.bits 7) k (put_flags s (flags_written v)) is_out) (refl, refl))))
 
-fixed_quiet : (device : Device) (a : Option ℕ) (pc : ℕ) (k : NodeKey) (s : AbsState) (v : AbsByte) → Quiet (fixed_write device a pc k s v)
+fixed_quiet : (device : Device) (a : Option ℕ) (pc : ℕ) (k : NodeKey) (s : AbsState) (v : AbsByte) → Quiet (fixed_write a (write_at device pc k s v))
 fixed_quiet device None pc k s v = (refl, refl)
 fixed_quiet device (Some a) pc k s v = written_quiet device pc k s false a v
 
-waking_quiet : (b : Bool) (device : Device) (A : List Entry) (k : NodeKey) (s : AbsState) (r : Raw) → Quiet r → Quiet (waking b device A k s r)
+waking_quiet : (b : Bool) (device : Device) (A : List Entry) (k : NodeKey) (s : AbsState) (r : Raw) → Quiet r → Quiet (waking b (record { key = record k { masks = widened device A k.masks }; state = s }) r)
 waking_quiet true device A k s r h = h
 waking_quiet false device A k s r h = h
 
-pub pointer_quiet : (device : Device) (words : Program) (A : List Entry) (was : AbsState) (r up : ℕ) (p : Pointed) (pc : ℕ) (k : NodeKey) (s : AbsState) (v : AbsByte)
-    → Quiet (pointer_write device words A was r up p pc k s v)
-pointer_quiet device words A was r up p pc k s v =
-    if_quiet (is_fixed_site words A pc) _ _ (fixed_quiet device p.constant pc k s v) (waking_quiet (may_wake device A was r up p pc k v) device A k s _ (refl, refl))
+pub pointer_quiet : (device : Device) (task : Task) (was : AbsState) (r up : ℕ) (pc : ℕ) (k : NodeKey) (s : AbsState) (v : AbsByte)
+    → Quiet (pointer_write task was r up (write_at device pc k s v))
+pointer_quiet device task was r up pc k s v =
+    if_quiet (is_fixed_site task.flash task.assumptions pc) _ _ (fixed_quiet device (pointed was r up).constant pc k s v) (waking_quiet (may_wake task.assumptions was r up (write_at device pc k s v)) device task.assumptions k s _ (refl, refl))
 
 pub jumping_quiet : (targets : Option (List ℕ)) (k : NodeKey) (s : AbsState) → Quiet (jumping targets k s)
 jumping_quiet None k s = (refl, refl)
@@ -132,13 +136,13 @@ pub closed_quiet : (sp : SpForm) (pc : ℕ) (f : ℕ → Raw) → ((offset : ℕ
 closed_quiet (Closed offset) pc f h = h offset
 closed_quiet (Open offset high) pc f h = (refl, refl)
 
-pub pushing_quiet : (device : Device) (scratch : Bool) (k : NodeKey) (s : AbsState) (r offset : ℕ) → Quiet (pushing device scratch k s r offset)
+pub pushing_quiet : (device : Device) (scratch : Bool) (k : NodeKey) (s : AbsState) (r offset : ℕ) → Quiet (pushing scratch (site_at device k s) r offset)
 pushing_quiet device scratch k s r offset = if_quiet (nat_le (offset + 1) (size_of device)) _ _ (refl, refl) (refl, refl)
 
-pub room_quiet : (device : Device) (k : NodeKey) (s : AbsState) (target offset : ℕ) → Quiet (making_room device k s target offset)
+pub room_quiet : (device : Device) (k : NodeKey) (s : AbsState) (target offset : ℕ) → Quiet (making_room (site_at device k s) target offset)
 room_quiet device k s target offset = if_quiet (nat_le (offset + 2) (size_of device)) _ _ (refl, refl) (refl, refl)
 
-pub popping_quiet : (device : Device) (k : NodeKey) (s : AbsState) (d offset : ℕ) → Quiet (popping device k s d offset)
+pub popping_quiet : (device : Device) (k : NodeKey) (s : AbsState) (d offset : ℕ) → Quiet (popping (site_at device k s) d offset)
 popping_quiet device k s d zero = (refl, refl)
 popping_quiet device k s d (suc n) = (refl, refl)
 

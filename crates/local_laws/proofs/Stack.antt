@@ -36,6 +36,7 @@ use Rattle.local_laws.proofs.Memory.{inside_if_live, pushed_byte, pushed_live}
 use Rattle.local_laws.proofs.Less.{Spares, less_set}
 use Rattle.local_laws.proofs.ReadValues.{read_small}
 use Rattle.local_laws.proofs.FlowRows.{closed, call_covered, further_is}
+use Rattle.local_rules.specs.Site.{site_at}
 
 inside_one : (device : Device) (sp offset base : ℕ) → sp + offset ≡ base → base ≤ ramend device → ramend device + (offset + 1) ≤ base + size_of device
     → is_sram device sp ≡ true
@@ -94,7 +95,7 @@ module _ {may : Bool} (m : State) (o : Origin) (k : NodeKey) (s : AbsState) (at 
 
     -- ---- pop
 
-    popped : (d offset : ℕ) → b1 < 256 → Spares s.flags.carry d → k.sp ≡ Closed offset → (popping m.device k s d offset).faults ≡ [] → FollowsWhere may m o s.facts k guarded b1 b2 (pop_effect m d b1) (popping m.device k s d offset)
+    popped : (d offset : ℕ) → b1 < 256 → Spares s.flags.carry d → k.sp ≡ Closed offset → (popping (site_at m.device k s) d offset).faults ≡ [] → FollowsWhere may m o s.facts k guarded b1 b2 (pop_effect m d b1) (popping (site_at m.device k s) d offset)
     popped d zero small spare form none = absurd (cc)
     popped d (suc n) small spare form none =
         let sp = sp_is (suc n) form in
@@ -118,8 +119,8 @@ module _ {may : Bool} (m : State) (o : Origin) (k : NodeKey) (s : AbsState) (at 
           };
         })
 
-    pub pop_covered : (d : ℕ) → b1 < 256 → Spares s.flags.carry d → (at_closed k.sp k.pc (popping m.device k s d)).faults ≡ [] → FollowsWhere may m o s.facts k guarded b1 b2 (pop_effect m d b1) (at_closed k.sp k.pc (popping m.device k s d))
-    pop_covered d small spare none = closed m o k s at guarded b1 b2 k.sp k.pc (pop_effect m d b1) (popping m.device k s d) none (λ offset. popped d offset small spare)
+    pub pop_covered : (d : ℕ) → b1 < 256 → Spares s.flags.carry d → (at_closed k.sp k.pc (popping (site_at m.device k s) d)).faults ≡ [] → FollowsWhere may m o s.facts k guarded b1 b2 (pop_effect m d b1) (at_closed k.sp k.pc (popping (site_at m.device k s) d))
+    pop_covered d small spare none = closed m o k s at guarded b1 b2 k.sp k.pc (pop_effect m d b1) (popping (site_at m.device k s) d) none (λ offset. popped d offset small spare)
 
   module _ (scratch : Bool) (b1 b2 : ℕ) where
     -- ---- push
@@ -132,7 +133,7 @@ module _ {may : Bool} (m : State) (o : Origin) (k : NodeKey) (s : AbsState) (at 
       subst (ByteStands o (value s r)) (sym (pushed_byte m.device m.memory (minus16 m.sp 1) at.machine.below at.machine.count_bytes at.machine.count_live true m.sp (register m r) inside)) (register_stands m o k s at r),
     )
 
-    pushed : (r offset : ℕ) → k.sp ≡ Closed offset → (pushing m.device scratch k s r offset).faults ≡ [] → FollowsWhere may m o s.facts k (not scratch) b1 b2 (push_effect m r) (pushing m.device scratch k s r offset)
+    pushed : (r offset : ℕ) → k.sp ≡ Closed offset → (pushing scratch (site_at m.device k s) r offset).faults ≡ [] → FollowsWhere may m o s.facts k (not scratch) b1 b2 (push_effect m r) (pushing scratch (site_at m.device k s) r offset)
     pushed r offset form none =
         let sp = sp_is offset form in
         let slots = count offset form in
@@ -156,14 +157,14 @@ module _ {may : Bool} (m : State) (o : Origin) (k : NodeKey) (s : AbsState) (at 
           };
         }))
 
-    pub push_covered : (r : ℕ) → (at_closed k.sp k.pc (pushing m.device scratch k s r)).faults ≡ []
-        → FollowsWhere may m o s.facts k (not scratch) b1 b2 (push_effect m r) (at_closed k.sp k.pc (pushing m.device scratch k s r))
-    push_covered r none = closed m o k s at (not scratch) b1 b2 k.sp k.pc (push_effect m r) (pushing m.device scratch k s r) none (pushed r)
+    pub push_covered : (r : ℕ) → (at_closed k.sp k.pc (pushing scratch (site_at m.device k s) r)).faults ≡ []
+        → FollowsWhere may m o s.facts k (not scratch) b1 b2 (push_effect m r) (at_closed k.sp k.pc (pushing scratch (site_at m.device k s) r))
+    push_covered r none = closed m o k s at (not scratch) b1 b2 k.sp k.pc (push_effect m r) (pushing scratch (site_at m.device k s) r) none (pushed r)
 
     -- ---- calls
 
-    roomier : (target target' offset : ℕ) → wrapped m.device target ≡ target' → k.sp ≡ Closed offset → (making_room m.device k s target' offset).faults ≡ []
-        → FollowsWhere may m o s.facts k (not scratch) b1 b2 (calling m target (further m 1)) (making_room m.device k s target' offset)
+    roomier : (target target' offset : ℕ) → wrapped m.device target ≡ target' → k.sp ≡ Closed offset → (making_room (site_at m.device k s) target' offset).faults ≡ []
+        → FollowsWhere may m o s.facts k (not scratch) b1 b2 (calling m target (further m 1)) (making_room (site_at m.device k s) target' offset)
     roomier target target' offset is form none =
         let sp = sp_is offset form in
         let slots = count offset form in
@@ -186,14 +187,14 @@ module _ {may : Bool} (m : State) (o : Origin) (k : NodeKey) (s : AbsState) (at 
           };
         }))
 
-    rcall_by : (b : Bool) (target target' : ℕ) → b ≡ scratch → wrapped m.device target ≡ target' → (relative_call m.device b k s target').faults ≡ []
-        → FollowsWhere may m o s.facts k (not scratch) b1 b2 (calling m target (further m 1)) (relative_call m.device b k s target')
+    rcall_by : (b : Bool) (target target' : ℕ) → b ≡ scratch → wrapped m.device target ≡ target' → (relative_call b (site_at m.device k s) target').faults ≡ []
+        → FollowsWhere may m o s.facts k (not scratch) b1 b2 (calling m target (further m 1)) (relative_call b (site_at m.device k s) target')
     rcall_by true target target' small is none =
-        closed m o k s at (not scratch) b1 b2 k.sp k.pc (calling m target (further m 1)) (making_room m.device k s target') none (λ offset form free. roomier target target' offset is form free)
+        closed m o k s at (not scratch) b1 b2 k.sp k.pc (calling m target (further m 1)) (making_room (site_at m.device k s) target') none (λ offset form free. roomier target target' offset is form free)
     rcall_by false target target' small is none =
         call_covered m o k s at (not scratch) b1 b2 target target' (further m 1) (node_further m.device k 1) (target' ∷ []) (ap not (sym small)) is
         (further_is m o k s at (not scratch) b1 b2 1) (first_in target' []) none
 
-    pub rcall_covered : (target target' : ℕ) → wrapped m.device target ≡ target' → (relative_call m.device scratch k s target').faults ≡ []
-        → FollowsWhere may m o s.facts k (not scratch) b1 b2 (calling m target (further m 1)) (relative_call m.device scratch k s target')
+    pub rcall_covered : (target target' : ℕ) → wrapped m.device target ≡ target' → (relative_call scratch (site_at m.device k s) target').faults ≡ []
+        → FollowsWhere may m o s.facts k (not scratch) b1 b2 (calling m target (further m 1)) (relative_call scratch (site_at m.device k s) target')
     rcall_covered target target' is none = rcall_by scratch target target' refl is none

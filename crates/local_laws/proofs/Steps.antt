@@ -2,7 +2,6 @@
 use Rattle.std.proofs.Common.{◌≡◌, ◌≢◌, refl, sym, ap₂, subst, ℕ, ◌<◌, ◌||◌, Bool, true, false, not, if◌then◌else◌, List, [], ◌∷◌, ◌++◌, Option, Some, None, Ok, Contains}
 use Rattle.local_laws.proofs.Stays.{done_is}
 use Rattle.avr_model.specs.Masks.{reads_masks}
-use Rattle.avr_model.specs.declared.assumption.Entry.{Entry}
 use Rattle.avr_model.specs.declared.choice.Flag.{Flag}
 use Rattle.avr_model.specs.declared.effect.Effect.{Effect}
 use Rattle.avr_model.specs.declared.instruction.Instr.{Instr}
@@ -11,7 +10,7 @@ use Rattle.avr_model.specs.Sreg.{flag}
 use Rattle.avr_model.specs.State.{State}
 use Rattle.avr_model.specs.Effects.{effect_of}
 use Rattle.avr_model.specs.Step.{Answer, Undefined, Overflow, Done, after, all_inside, live_write, protected_write, unlisted_transfer, flag_by, flagged_or, is_unlisted, go}
-use Rattle.avr_model.specs.Devices.{Program, device_of}
+use Rattle.avr_model.specs.Devices.{device_of}
 use Rattle.sp_domain.specs.Tags.{Origin}
 use Rattle.abs_state.specs.declared.state.AbsState.{AbsState}
 use Rattle.pair_domain.proofs.AllLaws.{known_is_ordered}
@@ -26,6 +25,7 @@ use Rattle.local_rules.specs.Cover.{InFrameIn, IsNodeIn, IsWithinBase, CoversSte
 use Rattle.local_laws.specs.Laws.{JoinsAreLeast, LocalPartsAreNodes, AreNodesIn, StepsAreCovered}
 use Rattle.local_laws.proofs.Covered.{local_parts_cover}
 use Rattle.local_laws.proofs.Memory.{live_bytes_stay}
+use Rattle.local_rules.specs.Site.{Task}
 
 -- ---- a local part that is there
 
@@ -37,9 +37,9 @@ settled_is : (r : Raw) (faults : List NodeFault) (l : Local) → settled r fault
 settled_is r [] l e = (refl, cc)
 settled_is r (f ∷ fs) l e = absurd (cc)
 
-local_is : (words : Program) (A : List Entry) (k : NodeKey) (s : AbsState) (l : Local) → local words A k s ≡ Ok l → ((raw words A k s).faults ≡ []) × (joined (raw words A k s) ≡ l)
+local_is : (task : Task) (k : NodeKey) (s : AbsState) (l : Local) → local task k s ≡ Ok l → ((raw task k s).faults ≡ []) × (joined (raw task k s) ≡ l)
 unfolding local
-local_is words A k s l e = settled_is (raw words A k s) (raw words A k s).faults l e
+local_is task k s l e = settled_is (raw task k s) (raw task k s).faults l e
 
 -- ---- a step that is done
 
@@ -69,21 +69,21 @@ some_defined : (test : Bool) (flags : Option Flag) (m : State) (at pc : ℕ) →
 some_defined true flags m at pc e = flagged_defined flags m pc e
 some_defined false flags m at pc e = cc
 
-module _ {followed : Bool} (words : Program) (A : List Entry) (m : State) (o : Origin) (k : NodeKey) (s : AbsState) (b1 b2 : ℕ) (told : m.device ≡ device_of words) (at : InFrameIn followed (reads_masks (device_of words) A) m o k s) (small1 : b1 < 256) (small2 : b2 < 256) where
-  is_defined : (r : Raw) (found : Option Instr) (pc : ℕ) → CoversStep words A m o k b1 b2 found r → r.faults ≡ [] → go words A m found b1 b2 ≢ Undefined pc
+module _ {followed : Bool} (task : Task) (m : State) (o : Origin) (k : NodeKey) (s : AbsState) (b1 b2 : ℕ) (told : m.device ≡ device_of task.flash) (at : InFrameIn followed (reads_masks (device_of task.flash) task.assumptions) m o k s) (small1 : b1 < 256) (small2 : b2 < 256) where
+  is_defined : (r : Raw) (found : Option Instr) (pc : ℕ) → CoversStep task m o k b1 b2 found r → r.faults ≡ [] → go task.flash task.assumptions m found b1 b2 ≢ Undefined pc
   is_defined r None pc covered none e = covered none
   is_defined r (Some instr) pc covered none e = some_defined _ _ _ m.pc pc e
 
-  module _ (joins : JoinsAreLeast) (nodes : LocalPartsAreNodes) (none : (raw words A k s).faults ≡ [])
-      (within : (to : Node) → Contains (joined (raw words A k s)).same to → IsWithinBase o.base to.key.sp) where
-    are_nodes : AreNodesIn (device_of words) followed (raw words A k s).moves
-    are_nodes to member = (nodes.nodes words A k s to (subst (λ device. IsNodeIn device followed k s) told at.node) none member).1
+  module _ (joins : JoinsAreLeast) (nodes : LocalPartsAreNodes) (none : (raw task k s).faults ≡ [])
+      (within : (to : Node) → Contains (joined (raw task k s)).same to → IsWithinBase o.base to.key.sp) where
+    are_nodes : AreNodesIn (device_of task.flash) followed (raw task k s).moves
+    are_nodes to member = (nodes.nodes task k s to (subst (λ device. IsNodeIn device followed k s) told at.node) none member).1
 
     -- a raw successor is below a joined one, and the machine is there too
-    lands_joined : (guarded : Bool) (e : Effect) (to : Node) → Contains (raw words A k s).moves to → to.key.inst ≡ k.inst → ArrivesAt (reads_masks (device_of words) A) m o guarded e to
-        → live_write m.memory (e.stores ++ e.pushes) ≡ None → all_inside m.device e.pushes ≡ true → IsStep (reads_masks (device_of words) A) m o k b1 b2 (joined (raw words A k s)) (after m guarded e)
+    lands_joined : (guarded : Bool) (e : Effect) (to : Node) → Contains (raw task k s).moves to → to.key.inst ≡ k.inst → ArrivesAt (reads_masks (device_of task.flash) task.assumptions) m o guarded e to
+        → live_write m.memory (e.stores ++ e.pushes) ≡ None → all_inside m.device e.pushes ≡ true → IsStep (reads_masks (device_of task.flash) task.assumptions) m o k b1 b2 (joined (raw task k s)) (after m guarded e)
     lands_joined guarded e to member inst lands unhit inside =
-        let above = joins.above (raw words A k s).moves to are_nodes member in
+        let above = joins.above (raw task k s).moves to are_nodes member in
         let whole : IsWithinBase o.base to.key.sp = within (record { key = to.key; state = above.state }) above.present in
         let kept = live_bytes_stay.kept m guarded e at.machine unhit in
         let n = after m guarded e in
@@ -92,32 +92,32 @@ module _ {followed : Bool} (words : Program) (A : List Entry) (m : State) (o : O
         (known_is_ordered.less to.state.facts above.state.facts n.registers (flag n.sreg 0) (flag n.sreg 1) (flag n.sreg 4) above.above.facts lands.facts)
 
     follows_steps : (guarded : Bool) (e : Effect) → live_write m.memory (e.stores ++ e.pushes) ≡ None → all_inside m.device e.pushes ≡ true
-        → Follows (reads_masks (device_of words) A) m o k guarded b1 b2 e (raw words A k s) → IsStep (reads_masks (device_of words) A) m o k b1 b2 (joined (raw words A k s)) (after m guarded e)
+        → Follows (reads_masks (device_of task.flash) task.assumptions) m o k guarded b1 b2 e (raw task k s) → IsStep (reads_masks (device_of task.flash) task.assumptions) m o k b1 b2 (joined (raw task k s)) (after m guarded e)
     follows_steps guarded e unhit inside (stays to member inst lands) = lands_joined guarded e to member inst lands unhit inside
     follows_steps guarded e unhit inside (calls offset site member form guards is) = calls offset site member form (ap₂ (after m) guards is)
     follows_steps guarded e unhit inside (leaves x exit kind form returns) = leaves x guarded e exit kind form returns refl
 
-    go_steps : (n : State) (found : Option Instr) → CoversStep words A m o k b1 b2 found (raw words A k s) → go words A m found b1 b2 ≡ Done n
-        → IsStep (reads_masks (device_of words) A) m o k b1 b2 (joined (raw words A k s)) n
+    go_steps : (n : State) (found : Option Instr) → CoversStep task m o k b1 b2 found (raw task k s) → go task.flash task.assumptions m found b1 b2 ≡ Done n
+        → IsStep (reads_masks (device_of task.flash) task.assumptions) m o k b1 b2 (joined (raw task k s)) n
     go_steps n None covered e = absurd (covered none)
     go_steps n (Some instr) covered e =
-        let effect = effect_of words m instr b1 b2 in
-        let passed = passes (all_inside m.device effect.pushes || is_unlisted (unlisted_transfer A m.pc instr effect)) _ m.pc n e in
-        let unflagged = flags_none m.pc (live_write m.memory (effect.stores ++ effect.pushes)) (protected_write words A m.pc instr effect) (unlisted_transfer A m.pc instr effect)
-        (after m (not (is_scratch words m.pc)) effect) n passed.1 in
-        let inside = inside_if_listed (all_inside m.device effect.pushes) (unlisted_transfer A m.pc instr effect) passed.0 unflagged.1.1.0 in
-        subst (IsStep (reads_masks (device_of words) A) m o k b1 b2 (joined (raw words A k s))) unflagged.1.1.1
-        (follows_steps (not (is_scratch words m.pc)) effect unflagged.0 inside
+        let effect = effect_of task.flash m instr b1 b2 in
+        let passed = passes (all_inside m.device effect.pushes || is_unlisted (unlisted_transfer task.assumptions m.pc instr effect)) _ m.pc n e in
+        let unflagged = flags_none m.pc (live_write m.memory (effect.stores ++ effect.pushes)) (protected_write task.flash task.assumptions m.pc instr effect) (unlisted_transfer task.assumptions m.pc instr effect)
+        (after m (not (is_scratch task.flash m.pc)) effect) n passed.1 in
+        let inside = inside_if_listed (all_inside m.device effect.pushes) (unlisted_transfer task.assumptions m.pc instr effect) passed.0 unflagged.1.1.0 in
+        subst (IsStep (reads_masks (device_of task.flash) task.assumptions) m o k b1 b2 (joined (raw task k s))) unflagged.1.1.1
+        (follows_steps (not (is_scratch task.flash m.pc)) effect unflagged.0 inside
         (covered none (record { protected = unflagged.1.0; listed = unflagged.1.1.0 })))
 
 pub steps_are_covered : JoinsAreLeast → LocalPartsAreNodes → StepsAreCovered
 steps_are_covered joins nodes = record {
-  defined = λ words A m o k s l b1 b2 pc are told at small1 small2 there.
-      let here = local_is words A k s l there in
-      is_defined words A m o k s b1 b2 told at small1 small2 (raw words A k s) (instruction_at words m.pc) pc (local_parts_cover.covered words A m o k s b1 b2 are told at small1 small2) here.0;
-  done = λ words A m n o k s l b1 b2 are told at small1 small2 there within e.
-      let here = local_is words A k s l there in
-      subst (λ x. IsStep (reads_masks (device_of words) A) m o k b1 b2 x n) here.1
-      (go_steps words A m o k s b1 b2 told at small1 small2 joins nodes here.0 (subst (λ x. (to : Node) → Contains x.same to → IsWithinBase o.base to.key.sp) (sym here.1) within)
-      n (instruction_at words m.pc) (local_parts_cover.covered words A m o k s b1 b2 are told at small1 small2) e);
+  defined = λ task m o k s l b1 b2 pc are told at small1 small2 there.
+      let here = local_is task k s l there in
+      is_defined task m o k s b1 b2 told at small1 small2 (raw task k s) (instruction_at task.flash m.pc) pc (local_parts_cover.covered task m o k s b1 b2 are told at small1 small2) here.0;
+  done = λ task m n o k s l b1 b2 are told at small1 small2 there within e.
+      let here = local_is task k s l there in
+      subst (λ x. IsStep (reads_masks (device_of task.flash) task.assumptions) m o k b1 b2 x n) here.1
+      (go_steps task m o k s b1 b2 told at small1 small2 joins nodes here.0 (subst (λ x. (to : Node) → Contains x.same to → IsWithinBase o.base to.key.sp) (sym here.1) within)
+      n (instruction_at task.flash m.pc) (local_parts_cover.covered task m o k s b1 b2 are told at small1 small2) e);
 }

@@ -57,6 +57,7 @@ use Rattle.local_laws.proofs.Less.{less_set, forgotten_less, forgotten_spares}
 use Rattle.local_laws.proofs.Targets.{in_map}
 use Rattle.local_laws.proofs.SpWrites.{opened, closes}
 use Rattle.local_laws.proofs.SplitMembers.{AreSplitsWritten}
+use Rattle.local_rules.specs.Writes.{write_at}
 
 -- The instruction goes to a word, sets registers, and stores a byte; `out` may give a delay.
 abbrev pub stored : State → ℕ → List Write → Bool → ℕ → ℕ → Effect
@@ -222,7 +223,7 @@ module _ {may : Bool} (m : State) (o : Origin) (k : NodeKey) (s : AbsState) (at 
 
   -- a byte at an address of enable bits, with one of its splits
   pub split_written : (a byte left : ℕ) (v : AbsByte) → IsIo m.device a → Contains (splits m.device k.masks a v.bits) left → EnablesAre may (written_enables m.device m.enables a byte) left
-      → ReachesNode may m o told k guarded (stored m pc writes is_out a byte) (written_at m.device k.pc key state is_out a v)
+      → ReachesNode may m o told k guarded (stored m pc writes is_out a byte) (written_at (write_at m.device k.pc key state v) is_out a)
   split_written a byte left v io present enables =
       subst (ReachesNode may m o told k guarded (stored m pc writes is_out a byte)) (sym (io_written m.device k.pc key state is_out a v io))
       (split_lands a byte left v io.0 io.1.0 io.1.1.0 io.1.1.1.0 present enables)
@@ -378,8 +379,8 @@ module _ {may : Bool} (m : State) (o : Origin) (k : NodeKey) (s : AbsState) (at 
     at_address a b r e h = subst (λ x. ReachesNode may m o told k guarded (stored m pc writes is_out x byte) r) (sym (eqb-true a b e)) h
 
     -- a byte written to a known address
-    pub written : AreSplitsWritten → (a : ℕ) → (written_at m.device k.pc key state is_out a v).faults ≡ []
-        → ReachesNode may m o told k guarded (stored m pc writes is_out a byte) (written_at m.device k.pc key state is_out a v)
+    pub written : AreSplitsWritten → (a : ℕ) → (written_at (write_at m.device k.pc key state v) is_out a).faults ≡ []
+        → ReachesNode may m o told k guarded (stored m pc writes is_out a byte) (written_at (write_at m.device k.pc key state v) is_out a)
     unfolding written_at
     written members a clean =
         let e = stored m pc writes is_out a byte in

@@ -2,7 +2,7 @@
 use Rattle.std.specs.Prelude.{ℕ, Some, None, Ok, Bool, true, false, ◌≢◌, ◌≡◌, ◌<◌, List, [], ◌++◌, map, Contains, ◌≤◌}
 use Rattle.std.specs.List.Sorted.{IsStrictlySortedBy}
 use Rattle.std.specs.Ordering.{nat_cmp}
-use Rattle.avr_model.specs.Devices.{Program, device_of, words_of, size_of}
+use Rattle.avr_model.specs.Devices.{device_of, words_of, size_of}
 use Rattle.avr_model.specs.declared.device.Device.{Device}
 use Rattle.avr_model.specs.declared.assumption.Entry.{Entry}
 use Rattle.avr_model.specs.Assumptions.{is_never}
@@ -34,11 +34,12 @@ use Rattle.avr_model.specs.declared.effect.Effect.{Effect}
 use Rattle.avr_model.specs.Run.{HasBytes}
 use Rattle.avr_model.specs.Step.{step, Done, Undefined, after, live_write}
 use Rattle.local_rules.specs.Order.{IsBelowOne, IsBelow}
+use Rattle.local_rules.specs.Site.{Task}
 
 -- The local part of a node covers each step of the machine at the node, with flash of its device, whose words have 16 bits.
 pub record LocalPartsCover : Type 0 where
-  pub covered : {followed : Bool} (words : Program) (A : List Entry) (m : State) (o : Origin) (k : NodeKey) (s : AbsState) (b1 b2 : ℕ) → AreWords words → m.device ≡ device_of words
-      → InFrameIn followed (reads_masks (device_of words) A) m o k s → b1 < 256 → b2 < 256 → CoversStep words A m o k b1 b2 (instruction_at words m.pc) (raw words A k s)
+  pub covered : {followed : Bool} (task : Task) (m : State) (o : Origin) (k : NodeKey) (s : AbsState) (b1 b2 : ℕ) → AreWords task.flash → m.device ≡ device_of task.flash
+      → InFrameIn followed (reads_masks (device_of task.flash) task.assumptions) m o k s → b1 < 256 → b2 < 256 → CoversStep task m o k b1 b2 (instruction_at task.flash m.pc) (raw task k s)
 
 -- each joined successor is below one of the same key, calls are among the others' calls, and the return is the same
 pub record IsLocalWithin (l m : Local) : Type 0 where
@@ -47,19 +48,19 @@ pub record IsLocalWithin (l m : Local) : Type 0 where
   pub exit : l.exit ≡ m.exit
 
 -- the local part of the node exists, and is within m
-pub record LeadsWithin (words : Program) (A : List Entry) (k : NodeKey) (s : AbsState) (m : Local) : Type 0 where
+pub record LeadsWithin (task : Task) (k : NodeKey) (s : AbsState) (m : Local) : Type 0 where
   pub part : Local
-  pub leads : local words A k s ≡ Ok part
+  pub leads : local task k s ≡ Ok part
   pub within : IsLocalWithin part m
 
 -- The local part is monotone in the state, also after successors of one key are joined.
 pub record LocalPartsAreMonotone : Type 0 where
-  pub below : {followed : Bool} (words : Program) (A : List Entry) (k : NodeKey) (s t : AbsState) → IsNodeIn (device_of words) followed k s
-      → IsNodeIn (device_of words) followed k t → IsStateWithin s t
-      → IsBelow (raw words A k s) (raw words A k t)
-  pub joined : {followed : Bool} (words : Program) (A : List Entry) (k : NodeKey) (s t : AbsState) (m : Local) → IsNodeIn (device_of words) followed k s
-      → IsNodeIn (device_of words) followed k t → IsStateWithin s t
-      → local words A k t ≡ Ok m → LeadsWithin words A k s m
+  pub below : {followed : Bool} (task : Task) (k : NodeKey) (s t : AbsState) → IsNodeIn (device_of task.flash) followed k s
+      → IsNodeIn (device_of task.flash) followed k t → IsStateWithin s t
+      → IsBelow (raw task k s) (raw task k t)
+  pub joined : {followed : Bool} (task : Task) (k : NodeKey) (s t : AbsState) (m : Local) → IsNodeIn (device_of task.flash) followed k s
+      → IsNodeIn (device_of task.flash) followed k t → IsStateWithin s t
+      → local task k t ≡ Ok m → LeadsWithin task k s m
 
 -- Calls enter words of the device's flash and return to such words. A return is at the frame's base, and keeps the enable bits.
 pub record LeadsToWords (device : Device) (k : NodeKey) (r : Raw) : Type 0 where
@@ -73,20 +74,20 @@ AscendByEntry sites = IsStrictlySortedBy nat_cmp (map (λ (site : CallSite). sit
 -- Words and offsets of calls and returns fit their types. For a valid assumption list calls ascend. A node without a fault lies in the
 -- device's flash, and its offset in the SRAM.
 pub record LocalPartsFit : Type 0 where
-  pub fit : (words : Program) (A : List Entry) (k : NodeKey) (s : AbsState) → LeadsToWords (device_of words) k (raw words A k s)
-  pub ascending : (words : Program) (A : List Entry) (k : NodeKey) (s : AbsState) → AreEntries A → AscendByEntry (raw words A k s).calls
-  pub inside : (words : Program) (A : List Entry) (k : NodeKey) (s : AbsState) → (raw words A k s).faults ≡ []
-      → (k.pc < words_of (device_of words)) × (offset_of k.sp ≤ size_of (device_of words))
+  pub fit : (task : Task) (k : NodeKey) (s : AbsState) → LeadsToWords (device_of task.flash) k (raw task k s)
+  pub ascending : (task : Task) (k : NodeKey) (s : AbsState) → AreEntries task.assumptions → AscendByEntry (raw task k s).calls
+  pub inside : (task : Task) (k : NodeKey) (s : AbsState) → (raw task k s).faults ≡ []
+      → (k.pc < words_of (device_of task.flash)) × (offset_of k.sp ≤ size_of (device_of task.flash))
 
 -- Successors of a node of the analysis are nodes of the analysis, in the same instance.
 pub record LocalPartsAreNodes : Type 0 where
-  pub nodes : {followed : Bool} (words : Program) (A : List Entry) (k : NodeKey) (s : AbsState) (to : Node) → IsNodeIn (device_of words) followed k s → (raw words A k s).faults ≡ []
-      → Contains (raw words A k s).moves to → (to.key.inst ≡ k.inst) × IsNodeIn (device_of words) followed to.key to.state
+  pub nodes : {followed : Bool} (task : Task) (k : NodeKey) (s : AbsState) (to : Node) → IsNodeIn (device_of task.flash) followed k s → (raw task k s).faults ≡ []
+      → Contains (raw task k s).moves to → (to.key.inst ≡ k.inst) × IsNodeIn (device_of task.flash) followed to.key to.state
 
 -- If the stack pointer is half written after an instruction, its offset is that before the instruction.
 pub record OpenPairsStay : Type 0 where
-  pub stays : (words : Program) (A : List Entry) (k : NodeKey) (s : AbsState) (to : Node) (offset : ℕ) (high : High) → (raw words A k s).faults ≡ []
-      → Contains (raw words A k s).moves to → to.key.sp ≡ Open offset high → offset ≡ offset_of k.sp
+  pub stays : (task : Task) (k : NodeKey) (s : AbsState) (to : Node) (offset : ℕ) (high : High) → (raw task k s).faults ≡ []
+      → Contains (raw task k s).moves to → to.key.sp ≡ Open offset high → offset ≡ offset_of k.sp
 
 -- some node of the list has this key
 abbrev pub HasKey : List Node → NodeKey → Type 0
@@ -108,7 +109,7 @@ pub record JoinsAreLeast : Type 0 where
 -- A reset state is a machine's state, and so is each state after a step that is done.
 pub record MachinesStay : Type 0 where
   pub reset : (device : Device) (m : State) → IsReset device m → IsMachine m
-  pub step : (words : Program) (A : List Entry) (m n : State) (c : Choice) → AreWords words → IsMachine m → HasBytes c → step words A m c ≡ Done n
+  pub step : (task : Task) (m n : State) (c : Choice) → AreWords task.flash → IsMachine m → HasBytes c → step task.flash task.assumptions m c ≡ Done n
       → IsMachine n
 
 -- An effect that writes no live byte keeps the live bytes above the stack pointer.
@@ -125,9 +126,9 @@ pub record OpenPairsHang : Type 0 where
 -- The local part in terms of a step: without a fault no step is undefined, and a step that is done is covered. No closed successor may
 -- lie deeper than the base.
 pub record StepsAreCovered : Type 0 where
-  pub defined : {followed : Bool} (words : Program) (A : List Entry) (m : State) (o : Origin) (k : NodeKey) (s : AbsState) (l : Local) (b1 b2 pc : ℕ)
-      → AreWords words → m.device ≡ device_of words → InFrameIn followed (reads_masks (device_of words) A) m o k s → b1 < 256 → b2 < 256 → local words A k s ≡ Ok l → step words A m (Go b1 b2) ≢ Undefined pc
-  pub done : {followed : Bool} (words : Program) (A : List Entry) (m n : State) (o : Origin) (k : NodeKey) (s : AbsState) (l : Local) (b1 b2 : ℕ)
-      → AreWords words → m.device ≡ device_of words → InFrameIn followed (reads_masks (device_of words) A) m o k s → b1 < 256 → b2 < 256 → local words A k s ≡ Ok l
+  pub defined : {followed : Bool} (task : Task) (m : State) (o : Origin) (k : NodeKey) (s : AbsState) (l : Local) (b1 b2 pc : ℕ)
+      → AreWords task.flash → m.device ≡ device_of task.flash → InFrameIn followed (reads_masks (device_of task.flash) task.assumptions) m o k s → b1 < 256 → b2 < 256 → local task k s ≡ Ok l → step task.flash task.assumptions m (Go b1 b2) ≢ Undefined pc
+  pub done : {followed : Bool} (task : Task) (m n : State) (o : Origin) (k : NodeKey) (s : AbsState) (l : Local) (b1 b2 : ℕ)
+      → AreWords task.flash → m.device ≡ device_of task.flash → InFrameIn followed (reads_masks (device_of task.flash) task.assumptions) m o k s → b1 < 256 → b2 < 256 → local task k s ≡ Ok l
       → ((to : Node) → Contains l.same to → IsWithinBase o.base to.key.sp)
-      → step words A m (Go b1 b2) ≡ Done n → IsStep (reads_masks (device_of words) A) m o k b1 b2 l n
+      → step task.flash task.assumptions m (Go b1 b2) ≡ Done n → IsStep (reads_masks (device_of task.flash) task.assumptions) m o k b1 b2 l n

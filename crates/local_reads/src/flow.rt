@@ -13,16 +13,13 @@ ghost use Rattle.local_rules.specs.Flow.{words_on, reading_zero};
 
 use crate::reads::read_at;
 use abs_state::AbsState;
-use avr_model::device::Device;
+use avr_model::device::{Device, IO};
 use avr_model::instruction::{Base, Bit, LowPort, Register, Six};
 use bit_domain::{Tri, TriByte};
 use local_rows::registers::{bits, pair};
 use local_rows::transfer::base_register;
 use mask_states::{NodeKey, without};
 use vector_table::held_of;
-
-// The data address of I/O address 0.
-const IO_START: u16 = 0x20;
 
 /// The word this many words further on, modulo the number of words.
 #[tactic(auto, using(avr_model::proofs::AllLaws::devices_are_alike))]
@@ -36,7 +33,7 @@ pub fn further(device: Device, key: &NodeKey, words: u16) -> u16
 pub fn port(address: Six) -> u16
     ensures { result ≡ effects.port address }
 {
-    address.get() + IO_START
+    address.get() + IO
 }
 
 /// A bit of an I/O address, which `sbic` and `sbis` test. `may` says whether the key has what may be enabled.

@@ -1,10 +1,8 @@
 //! Stores through a pointer that may enable a vector.
 
 ghost use Rattle.std.specs.Prelude.{◌≡◌};
-ghost use Rattle.avr_model.specs.State.{minus16};
 ghost use Rattle.mask_states.specs.Wakes.{may_enable_other};
-ghost use Rattle.local_rules.specs.Permitted as permitted;
-ghost use Rattle.local_reads.specs.Waking.{may_enable_reached};
+ghost use Rattle.local_reads.specs.Waking.{is_permitted, may_enable_reached};
 
 use crate::members::permits_number;
 use abs_state::AbsState;
@@ -33,7 +31,7 @@ pub struct PointerByte<'a> {
 
 // Whether the byte may go to the place, and enable its vector.
 fn may_enable_reached(byte: &PointerByte<'_>, place: &Place) -> bool
-    ensures { result ≡ may_enable_reached (λ a. permitted.permits_number byte.now.state.now byte.now.r (minus16 a byte.now.up)) byte.now.bits place.now }
+    ensures { result ≡ may_enable_reached (is_permitted byte.now) byte.now.bits place.now }
 {
     let number = place.address.wrapping_sub(byte.up);
     permits_number(byte.state, byte.r, number) && may_enable(&byte.bits, place)
@@ -41,7 +39,7 @@ fn may_enable_reached(byte: &PointerByte<'_>, place: &Place) -> bool
 
 /// Whether the byte may enable a vector that isn't barred, at an address that the pointer permits.
 pub fn may_enable_other(byte: &PointerByte<'_>) -> bool
-    ensures { result ≡ may_enable_other byte.now.device byte.now.assumptions.now (λ a. permitted.permits_number byte.now.state.now byte.now.r (minus16 a byte.now.up)) byte.now.bits }
+    ensures { result ≡ may_enable_other byte.now.device byte.now.assumptions.now (is_permitted byte.now) byte.now.bits }
 {
     for place in byte.device.places() {
         if may_enable_reached(byte, place)

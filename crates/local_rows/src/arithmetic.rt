@@ -33,7 +33,7 @@ pub(crate) fn sum_tagged(
     carry: Tri,
     tags: (Tag, CarryTag),
 ) -> Computed
-    ensures { result ≡ sum_tagged state.now d other carry tags.0 tags.1 }
+    ensures { result ≡ sum_tagged state.now d other carry tags }
 {
     let (tag, says) = tags;
     let (sum, flags) = abs_alu::add(bits(state, d), other, carry, state.flags.bits);
@@ -65,7 +65,7 @@ pub(crate) fn compare(
     borrow: BorrowIn,
     says: CarryTag,
 ) -> Computed
-    ensures { result ≡ compare_after state.now operands.0 operands.1 borrow.bit borrow.keep_zero says }
+    ensures { result ≡ compare_after state.now operands (borrow.bit, borrow.keep_zero) says }
 {
     let (a, b) = operands;
     let (_, flags) = abs_alu::sub(a, b, borrow.bit, borrow.keep_zero, state.flags.bits);
@@ -103,7 +103,7 @@ pub(crate) fn difference(
     borrow: BorrowIn,
     tags: (Tag, CarryTag),
 ) -> Computed
-    ensures { result ≡ difference_after state.now d operands.0 operands.1 borrow.bit borrow.keep_zero tags.0 tags.1 }
+    ensures { result ≡ difference_after state.now d operands (borrow.bit, borrow.keep_zero) tags }
 {
     let (a, b) = operands;
     let (tag, carry) = tags;
@@ -170,7 +170,7 @@ pub(crate) fn logic(
     operands: (TriByte, TriByte),
     same: bool,
 ) -> Computed
-    ensures { result ≡ logic_after state.now op d operands.0 operands.1 same }
+    ensures { result ≡ logic_after state.now op d operands same }
 {
     let (a, b) = operands;
     let (result, flags) = abs_alu::logic(op, a, b, state.flags.bits);

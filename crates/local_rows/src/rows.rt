@@ -1,15 +1,9 @@
 //! Rows that only set registers and flags.
 
-ghost use Rattle.std.specs.Prelude.{◌≡◌, ℕ, List, Bool};
-ghost use Rattle.avr_model.specs.declared.device.Device.{Device};
-ghost use Rattle.avr_model.specs.declared.assumption.Entry.{Entry};
-ghost use Rattle.mask_states.specs.declared.keys.NodeKey.{NodeKey};
-ghost use Rattle.avr_model.specs.Assumptions.{is_frame};
-ghost use Rattle.avr_model.specs.Devices.{Program};
+ghost use Rattle.std.specs.Prelude.{◌≡◌};
 ghost use Rattle.local_rules.specs.FrameLines.{binary_at, immediate_at, unary_at};
-ghost use Rattle.local_rules.specs.Registers.{binary_after, going_by};
-ghost use Rattle.local_rules.specs.Local.{row_of};
-ghost use Rattle.local_rows.specs.Sections.{other_row};
+ghost use Rattle.local_rules.specs.Registers.{binary_after};
+ghost use Rattle.local_rows.specs.Sections.{IsRow};
 ghost use Rattle.local_rows.specs.Sections as sections;
 
 use crate::arithmetic::{
@@ -125,7 +119,7 @@ pub fn binary_at(
 /// instructions, and for loads.
 pub fn computed_by(state: &AbsState, line: bool, instr: &Instr) -> Option<Computed>
     ensures value { result ≡ sections.computed_by line state.now instr.now }
-    ensures row { (device : Device) (words : Program) (A : List Entry) (scratch : Bool) (k : NodeKey) → line ≡ is_frame A k.pc → row_of device words A scratch k state.now instr.now ≡ going_by device k state.now result (other_row device words A scratch k state.now instr.now) }
+    ensures row { IsRow line state.now instr.now result }
 {
     // one place for the result of all instructions: each further one would be cleared at each call
     let computed = match instr {

@@ -1,10 +1,9 @@
 -- A node's local part covers a step of the machine in the node's frame.
-use Rattle.std.specs.Prelude.{ℕ, ◌+◌, ◌^◌, ◌%◌, ◌≡◌, ◌≢◌, ◌<◌, ◌≤◌, ⊤, Bool, true, false, not, List, [], Option, Some, None, Contains}
+use Rattle.std.specs.Prelude.{ℕ, ◌+◌, ◌^◌, ◌%◌, ◌≡◌, ◌≢◌, ◌<◌, ◌≤◌, ⊤, Bool, true, false, not, [], Option, Some, None, Contains}
 use Rattle.avr_model.specs.declared.device.Device.{Device}
-use Rattle.avr_model.specs.declared.assumption.Entry.{Entry}
 use Rattle.avr_model.specs.declared.effect.Effect.{Effect}
 use Rattle.avr_model.specs.declared.instruction.Instr.{Instr}
-use Rattle.avr_model.specs.Devices.{Program, io_end, size_of, ramend, wrapped, limit_of, depth_of, device_of}
+use Rattle.avr_model.specs.Devices.{io_end, size_of, ramend, wrapped, limit_of, depth_of, device_of}
 use Rattle.avr_model.specs.Sreg.{flag}
 use Rattle.avr_model.specs.Masks.{reads_masks}
 use Rattle.avr_model.specs.Vectors.{enable_count}
@@ -29,6 +28,7 @@ use Rattle.mask_states.specs.declared.keys.SpForm.{SpForm}
 use Rattle.mask_states.specs.declared.keys.SpForm.TheVariants.{Closed, Open}
 use Rattle.mask_states.specs.Keys.{offset_of, PickFits}
 use Rattle.mask_states.specs.Place.{EnablesAre, AtNode}
+use Rattle.local_rules.specs.Site.{Task}
 use Rattle.local_rules.specs.declared.local.Node.{Node}
 use Rattle.local_rules.specs.declared.local.Local.{Local}
 use Rattle.local_rules.specs.declared.local.CallSite.{CallSite}
@@ -109,9 +109,9 @@ HasRoom device base (Open offset h) = ⊤
 
 -- The step writes no protected address and goes to no unlisted word. It may write a live byte: that it pushes nothing outside SRAM
 -- follows from its cover.
-pub record IsUnflagged (words : Program) (A : List Entry) (m : State) (instr : Instr) (e : Effect) : Type 0 where
-  pub protected : protected_write words A m.pc instr e ≡ None
-  pub listed : unlisted_transfer A m.pc instr e ≡ None
+pub record IsUnflagged (task : Task) (m : State) (instr : Instr) (e : Effect) : Type 0 where
+  pub protected : protected_write task.flash task.assumptions m.pc instr e ≡ None
+  pub listed : unlisted_transfer task.assumptions m.pc instr e ≡ None
 
 -- after the effect the machine is at the node, in a frame with this origin, and the node's state holds
 pub record ArrivesAt (may : Bool) (m : State) (o : Origin) (guarded : Bool) (e : Effect) (to : Node) : Type 0 where
@@ -147,11 +147,11 @@ pub data Follows (may : Bool) (m : State) (o : Origin) (k : NodeKey) (guarded : 
 
 -- If the local part has no fault, the instruction exists, and its effect is covered unless it is flagged for a protected address or an
 -- unlisted word.
-abbrev pub CoversStep : Program → List Entry → State → Origin → NodeKey → ℕ → ℕ → Option Instr → Raw → Type 0
-CoversStep words A m o k b1 b2 None r = r.faults ≡ [] → ⊥
-CoversStep words A m o k b1 b2 (Some instr) r =
-    r.faults ≡ [] → IsUnflagged words A m instr (effect_of words m instr b1 b2)
-    → Follows (reads_masks (device_of words) A) m o k (not (is_scratch words m.pc)) b1 b2 (effect_of words m instr b1 b2) r
+abbrev pub CoversStep : Task → State → Origin → NodeKey → ℕ → ℕ → Option Instr → Raw → Type 0
+CoversStep task m o k b1 b2 None r = r.faults ≡ [] → ⊥
+CoversStep task m o k b1 b2 (Some instr) r =
+    r.faults ≡ [] → IsUnflagged task m instr (effect_of task.flash m instr b1 b2)
+    → Follows (reads_masks (device_of task.flash) task.assumptions) m o k (not (is_scratch task.flash m.pc)) b1 b2 (effect_of task.flash m instr b1 b2) r
 
 -- a step of the machine that the local part has
 pub data IsStep (may : Bool) (m : State) (o : Origin) (k : NodeKey) (b1 b2 : ℕ) (l : Local) (n : State) : Type 0 where

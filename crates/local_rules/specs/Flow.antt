@@ -10,6 +10,7 @@ use Rattle.avr_model.specs.Vectors.{held_of}
 use Rattle.bit_domain.specs.declared.bits.Tri.{Tri}
 use Rattle.bit_domain.specs.declared.bits.Tri.TheVariants.{Zero, One, Any}
 use Rattle.bit_domain.specs.declared.bytes.TriByte.{TriByte}
+use Rattle.bit_domain.specs.Tri.{tri_not}
 use Rattle.bit_domain.specs.TriByte.{tri_at}
 use Rattle.bit_domain.specs.Numbers.{numbers_of, pointer_bit, targets_of}
 use Rattle.sp_domain.specs.declared.tags.CarryTag.{CarryTag}
@@ -25,27 +26,37 @@ use Rattle.mask_states.specs.declared.keys.Kind.TheVariants.{Root, Call, Vector}
 use Rattle.mask_states.specs.declared.keys.SpForm.{SpForm}
 use Rattle.mask_states.specs.declared.keys.SpForm.TheVariants.{Closed, Open}
 use Rattle.mask_states.specs.Wakes.{without}
+use Rattle.local_rules.specs.Site.{Site}
+use Rattle.local_rules.specs.declared.local.Node.{Node}
 use Rattle.local_rules.specs.declared.local.CallSite.{CallSite}
 use Rattle.local_rules.specs.declared.local.Exit.{Exit}
 use Rattle.local_rules.specs.declared.local.NodeFault.TheVariants.{UnresolvedJump, UntrackedSp, TooDeep}
-use Rattle.local_rules.specs.Raw.{Raw, nowhere, moves_to, one, fails, all_of, enters, untracked_if, leaves_by, at_word, off_table, further, next, turning_to}
+use Rattle.local_rules.specs.Raw.{Raw, nowhere, moves_to, one, two, fails, all_of, enters, untracked_if, leaves_by, at_word, off_table, further, next, turning_to}
 use Rattle.local_rules.specs.Registers.{value, bits, set, carry_bit}
 use Rattle.local_rules.specs.Reads.{value_of}
 
 -- ---- branches and skips
 
--- one successor if the condition is known, else two, each with its key; the state stays
-abbrev pub branch_by : Tri → NodeKey → NodeKey → AbsState → ℕ → ℕ → Raw
-branch_by One k l s taken other = turning_to k s taken
-branch_by Zero k l s taken other = turning_to l s other
-branch_by Any k l s taken other = moves_to (record { key = off_table l other; state = s } ∷ record { key = off_table k taken; state = s } ∷ [])
+-- one successor if the condition is known, else two, each at its key; the state stays
+abbrev pub branch_by : Tri → NodeKey → NodeKey → AbsState → Raw
+branch_by One taken other s = one taken s
+branch_by Zero taken other s = one other s
+branch_by Any taken other s = two other taken s
 
 abbrev pub branch : Tri → NodeKey → AbsState → ℕ → ℕ → Raw
-branch t k s taken other = branch_by t k k s taken other
+branch t k s taken other = branch_by t (off_table k taken) (off_table k other) s
 
--- past the next instruction, of one or two words, with one key, and to it with the other
-abbrev pub skipping : Device → Program → NodeKey → NodeKey → AbsState → Tri → Raw
-skipping device words k l s t = branch_by t k l s (further device k (1 + length_of (word_at words (k.pc + 1)))) (further device k 1)
+-- the word past the next instruction, which has one or two words
+abbrev pub past : Program → Site → ℕ
+past words at = further at.device at.key (1 + length_of (word_at words (at.key.pc + 1)))
+
+-- past the next instruction with one key, and to it with the other
+abbrev pub skipping : Program → Site → NodeKey → NodeKey → Tri → Raw
+skipping words at k l t = branch_by t (off_table k (past words at)) (off_table l (further at.device at.key 1)) at.state
+
+-- skips with the same key if the condition holds
+abbrev pub skip_if : Program → Site → Tri → Raw
+skip_if words at t = skipping words at at.key at.key t
 
 -- The key after this bit of an address reads 0. If reads give it as a vector's enable bit and `may`, the vector is removed.
 abbrev pub reading_zero : Device → Bool → NodeKey → ℕ → ℕ → NodeKey
@@ -77,16 +88,24 @@ abbrev pub going_where : NodeKey → Option AbsState → ℕ → Raw
 going_where k None pc = nowhere
 going_where k (Some s) pc = turning_to k s pc
 
+-- to a word, where C has this value
+abbrev pub carry_to : NodeKey → AbsState → Bool → ℕ → Raw
+carry_to k s c pc = going_where k (where_carry s.flags.carry s c) pc
+
 -- to one word if C is 1, and to the other if it is 0
 abbrev pub carry_branch : Tri → NodeKey → AbsState → ℕ → ℕ → Raw
-carry_branch One k s set clear = going_where k (where_carry s.flags.carry s true) set
-carry_branch Zero k s set clear = going_where k (where_carry s.flags.carry s false) clear
-carry_branch Any k s set clear =
-    all_of (going_where k (where_carry s.flags.carry s false) clear ∷ going_where k (where_carry s.flags.carry s true) set ∷ [])
+carry_branch One k s set clear = carry_to k s true set
+carry_branch Zero k s set clear = carry_to k s false clear
+carry_branch Any k s set clear = all_of (carry_to k s false clear ∷ carry_to k s true set ∷ [])
 
--- a branch on flag n; `other` for flags but C
-abbrev pub flag_branch : ℕ → NodeKey → AbsState → ℕ → ℕ → Raw → Raw
-flag_branch n k s set clear other = if n == 0 then carry_branch (carry_bit s) k s set clear else other
+-- to one word if flag n is 1, and to the other if it is 0; `other` for flags but C
+abbrev pub flag_branch : ℕ → Node → ℕ → ℕ → Raw → Raw
+flag_branch n m set clear other = if n == 0 then carry_branch (carry_bit m.state) m.key m.state set clear else other
+
+-- to the word `taken` if flag n is as given, and else to the other
+abbrev pub flag_turn : Bool → ℕ → Node → ℕ → ℕ → Raw
+flag_turn true n m taken other = flag_branch n m taken other (branch (flag_at m.key m.state n) m.key m.state taken other)
+flag_turn false n m taken other = flag_branch n m other taken (branch (tri_not (flag_at m.key m.state n)) m.key m.state taken other)
 
 -- ---- where an indirect transfer leads
 
@@ -99,12 +118,15 @@ abbrev pub targets_by : Device → Option (List ℕ) → TriByte → TriByte →
 targets_by device None lo hi = if nat_le (length (targets_of (limit_width device) lo hi)) 64 then Some (words_on device lo hi) else None
 targets_by device (Some listed) lo hi = Some (filter (lists (words_on device lo hi)) listed)
 
-abbrev pub targets_at : Device → List Entry → NodeKey → AbsState → Option (List ℕ)
-targets_at device A k s = targets_by device (jump_line A k.pc) (bits s 30) (bits s 31)
+abbrev pub targets_at : List Entry → Site → Option (List ℕ)
+targets_at A at = targets_by at.device (jump_line A at.key.pc) (bits at.state 30) (bits at.state 31)
 
 abbrev pub jumping : Option (List ℕ) → NodeKey → AbsState → Raw
 jumping None k s = fails (UnresolvedJump k.pc)
 jumping (Some targets) k s = moves_to (map (λ t. record { key = off_table k t; state = s }) targets)
+
+abbrev pub ijmp_row : List Entry → Site → Raw
+ijmp_row A at = jumping (targets_at A at) at.key at.state
 
 -- ---- the stack
 
@@ -125,21 +147,31 @@ abbrev pub pushed_slot : Bool → AbsByte → Slot AbsByte
 pushed_slot true v = Free
 pushed_slot false v = Guarded v
 
-abbrev pub pushing : Device → Bool → NodeKey → AbsState → ℕ → ℕ → Raw
-pushing device scratch k s r offset =
-    if_room device (offset + 1) k.pc
-    (one (record (next device k) { sp = Closed (offset + 1) }) (record s { slots = s.slots ++ pushed_slot scratch (value s r) ∷ [] }))
+abbrev pub pushing : Bool → Site → ℕ → ℕ → Raw
+pushing scratch at r offset =
+    if_room at.device (offset + 1) at.key.pc
+    (one (record (next at.device at.key) { sp = Closed (offset + 1) }) (record at.state { slots = at.state.slots ++ pushed_slot scratch (value at.state r) ∷ [] }))
 
-abbrev pub popping : Device → NodeKey → AbsState → ℕ → ℕ → Raw
-popping device k s d zero = fails (UntrackedSp k.pc)
-popping device k s d (suc n) =
-    one (record (next device k) { sp = Closed n }) (record s { registers = set s d (value_of (slot_at s.slots n)); slots = take n s.slots })
+abbrev pub popping : Site → ℕ → ℕ → Raw
+popping at d zero = fails (UntrackedSp at.key.pc)
+popping at d (suc n) =
+    one (record (next at.device at.key) { sp = Closed n })
+    (record at.state { registers = set at.state d (value_of (slot_at at.state.slots n)); slots = take n at.state.slots })
+
+abbrev pub push_row : Bool → Site → ℕ → Raw
+push_row scratch at r = at_closed at.key.sp at.key.pc (pushing scratch at r)
+
+abbrev pub pop_row : Site → ℕ → Raw
+pop_row at d = at_closed at.key.sp at.key.pc (popping at d)
 
 -- a call of the next word only makes room on the stack, and stays in its frame
-abbrev pub making_room : Device → NodeKey → AbsState → ℕ → ℕ → Raw
-making_room device k s target offset =
-    if_room device (offset + 2) k.pc
-    (one (record (at_word k target) { sp = Closed (offset + 2) }) (record s { slots = s.slots ++ Free ∷ Free ∷ [] }))
+abbrev pub making_room : Site → ℕ → ℕ → Raw
+making_room at target offset =
+    if_room at.device (offset + 2) at.key.pc
+    (one (record (at_word at.key target) { sp = Closed (offset + 2) }) (record at.state { slots = at.state.slots ++ Free ∷ Free ∷ [] }))
+
+abbrev pub room_row : Site → ℕ → Raw
+room_row at target = at_closed at.key.sp at.key.pc (making_room at target)
 
 abbrev pub site : ℕ → ℕ → CallSite
 site target back = record { entry = target; back = back }
@@ -152,9 +184,12 @@ abbrev pub indirect_call : Device → Option (List ℕ) → NodeKey → Raw
 indirect_call device None k = untracked_if (is_half_written k.sp) k.pc (fails (UnresolvedJump k.pc))
 indirect_call device (Some targets) k = calling k (further device k 1) targets
 
-abbrev pub relative_call : Device → Bool → NodeKey → AbsState → ℕ → Raw
-relative_call device true k s target = at_closed k.sp k.pc (making_room device k s target)
-relative_call device false k s target = calling k (further device k 1) (target ∷ [])
+abbrev pub icall_row : List Entry → Site → Raw
+icall_row A at = indirect_call at.device (targets_at A at) at.key
+
+abbrev pub relative_call : Bool → Site → ℕ → Raw
+relative_call true at target = room_row at target
+relative_call false at target = calling at.key (further at.device at.key 1) (target ∷ [])
 
 -- a return at this offset, in this kind of instance
 abbrev pub returning : Exit → ℕ → Kind → ℕ → Raw
@@ -162,6 +197,9 @@ returning x pc kind (suc n) = fails (UntrackedSp pc)
 returning x pc Root zero = fails (UntrackedSp pc)
 returning x pc Call zero = leaves_by x
 returning x pc (Vector v) zero = leaves_by x
+
+abbrev pub return_row : Site → Exit → Raw
+return_row at x = at_closed at.key.sp at.key.pc (returning x at.key.pc at.key.inst.kind)
 
 -- `ret` keeps I; `reti` sets it, and one more instruction executes before any interrupt
 abbrev pub ret_exit : NodeKey → Exit

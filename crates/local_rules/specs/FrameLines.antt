@@ -66,13 +66,13 @@ number_added s d r = byte_constant (bits s (added d r))
 
 abbrev pub framed_add : AbsState → ℕ → ℕ → Computed
 framed_add s d r =
-    sum_tagged s d (bits s r) Zero (more_tag (tag_followed s d r) (number_added s d r)) (sum_tag (tag_followed s d r) (number_added s d r))
+    sum_tagged s d (bits s r) Zero (more_tag (tag_followed s d r) (number_added s d r), sum_tag (tag_followed s d r) (number_added s d r))
 
 abbrev pub framed_adc : AbsState → ℕ → ℕ → Computed
-framed_adc s d r = sum_tagged s d (bits s r) (carry_bit s) (high_more_tag (tag_followed s d r) (number_added s d r) s.flags.carry) carry.None
+framed_adc s d r = sum_tagged s d (bits s r) (carry_bit s) (high_more_tag (tag_followed s d r) (number_added s d r) s.flags.carry, carry.None)
 
 abbrev pub framed_sub : AbsState → ℕ → TriByte → Option ℕ → Computed
-framed_sub s d b number = difference_after s d (bits s d) b Zero false (less_tag (value s d).tag number) (borrow_tag (value s d).tag number)
+framed_sub s d b number = difference_after s d (bits s d, b) (Zero, false) (less_tag (value s d).tag number, borrow_tag (value s d).tag number)
 
 abbrev pub framed_step : AbsState → Bool → ℕ → Computed
 framed_step s up d = step_tagged s up d (high_moved (value s d).tag up 1)

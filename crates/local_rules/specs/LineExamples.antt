@@ -29,6 +29,7 @@ use Rattle.local_rules.specs.declared.local.NodeFault.TheVariants.{UntrackedSp, 
 use Rattle.local_rules.specs.Raw.{Raw}
 use Rattle.local_rules.specs.Registers.{with_bits}
 use Rattle.local_rules.specs.Writes.{may_wake}
+use Rattle.local_rules.specs.Site.{task_with}
 use Rattle.local_rules.specs.Local.{raw, may_come}
 
 -- ---- `frame` lines
@@ -48,10 +49,10 @@ state_of lo hi n c = record {
 
 -- the successors of one word there, with and without the line
 abbrev lined : ℕ → AbsState → Raw
-lined word s = raw (image M328 (word ∷ replicate 16383 0xFFFF)) (Frame 0 ∷ []) (in_call (Closed 2)) s
+lined word s = raw (task_with (image M328 (word ∷ replicate 16383 0xFFFF)) (Frame 0 ∷ [])) (in_call (Closed 2)) s
 
 abbrev plain : ℕ → AbsState → Raw
-plain word s = raw (image M328 (word ∷ replicate 16383 0xFFFF)) (Frame 1 ∷ []) (in_call (Closed 2)) s
+plain word s = raw (task_with (image M328 (word ∷ replicate 16383 0xFFFF)) (Frame 1 ∷ [])) (in_call (Closed 2)) s
 
 -- the tag of a register, and that of C
 abbrev says : ℕ → Raw → List (Tag × CarryTag)
@@ -147,7 +148,7 @@ steps_low = refl
 -- ---- `free` lines: `ldi r26, 0`, `ldi r27, 1` and `st X, r0`, at the store, where X isn't known
 
 abbrev storing : List Entry → Raw
-storing A = raw (image M328 (0xE0A0 ∷ 0xE0B1 ∷ 0x920C ∷ replicate 16381 0xFFFF)) A (record (in_call (Closed 0)) { pc = 2 }) (entered root)
+storing A = raw (task_with (image M328 (0xE0A0 ∷ 0xE0B1 ∷ 0x920C ∷ replicate 16381 0xFFFF)) A) (record (in_call (Closed 0)) { pc = 2 }) (entered root)
 
 abbrev leads : Raw → List ℕ × List NodeFault
 leads r = (map (λ n. n.key.pc) r.moves, r.faults)
@@ -172,7 +173,7 @@ is_proved_too = refl
 -- ---- `never` lines: while the pair is open, with TIMER0 COMPA's and OVF's vectors enabled at words 28 and 32
 
 abbrev waiting : List Entry → List NodeFault
-waiting A = (raw (image M328 (0x0000 ∷ replicate 16383 0xFFFF)) A (record (in_call (Open 0 (Tagged 2))) { i = true; masks = 40960 }) root).faults
+waiting A = (raw (task_with (image M328 (0x0000 ∷ replicate 16383 0xFFFF)) A) (record (in_call (Open 0 (Tagged 2))) { i = true; masks = 40960 }) root).faults
 
 may_be_entered : waiting [] ≡ UntrackedSp 0 ∷ []
 unfolding raw table_site ijmp_from is_scratch may_come is_enabled has_place places is_never any_below all_below decoded device_row

@@ -16,8 +16,6 @@ use Rattle.avr_model.specs.declared.operation.Mul.TheVariants as product
 use Rattle.avr_model.specs.Devices.{Program, words_of, size_of, wrapped, device_of}
 use Rattle.avr_model.specs.Marks.{marks}
 use Rattle.avr_model.specs.Text.{far, near}
-use Rattle.avr_model.specs.Image.{word_at}
-use Rattle.avr_model.specs.Table.{length_of}
 use Rattle.avr_model.specs.Assumptions.{jump_line, is_never, is_frame}
 use Rattle.avr_model.specs.Masks.{reads_masks}
 use Rattle.avr_model.specs.Bits.{any_below}
@@ -38,6 +36,7 @@ use Rattle.mask_states.specs.declared.keys.SpForm.{SpForm}
 use Rattle.mask_states.specs.declared.keys.SpForm.TheVariants.{Closed, Open}
 use Rattle.mask_states.specs.Keys.{offset_of}
 use Rattle.mask_states.specs.Order.{node_cmp}
+use Rattle.local_rules.specs.Site.{Task, Site, site_at}
 use Rattle.local_rules.specs.declared.local.Local.{Local}
 use Rattle.local_rules.specs.declared.local.Node.{Node}
 use Rattle.local_rules.specs.declared.local.NodeFault.{NodeFault}
@@ -50,22 +49,33 @@ use Rattle.local_rules.specs.Registers.{value, bits, set, going_with, going_by, 
 use Rattle.local_rules.specs.FrameLines.{binary_at, immediate_at, unary_at}
 use Rattle.local_rules.specs.Permitted.{may_be}
 use Rattle.local_rules.specs.Reads.{read_at, kept_bits, pointed, pair_constant, read_pointed, flash_value}
-use Rattle.local_rules.specs.Writes.{written_at, pointer_write}
-use Rattle.local_rules.specs.Flow.{branch, skipping, reading_zero, flag_at, flag_branch, going_where, targets_at, jumping, at_closed, pushing, popping, relative_call, calling, indirect_call, returning, ret_exit, reti_exit}
+use Rattle.local_rules.specs.Writes.{ByteWrite, write_at, written_at, pointer_write}
+use Rattle.local_rules.specs.Flow.{past, skipping, skip_if, reading_zero, flag_turn, going_where, ijmp_row, icall_row, push_row, pop_row, relative_call, calling, return_row, ret_exit, reti_exit}
+use Rattle.local_rules.specs.declared.pointers.Pointed.{Pointed}
 
 -- ---- registers
 
+abbrev pub immediate_row : Bool → Site → ImmediateOp → ℕ → ℕ → Raw
+immediate_row line at op d n = going_with at (immediate_at line at.state op d n)
+
+abbrev pub unary_row : Bool → Site → UnaryOp → ℕ → Raw
+unary_row line at op d = going_with at (unary_at line at.state op d)
+
 -- `cpse` skips if the registers are equal
-abbrev pub binary_row : Device → Program → Bool → NodeKey → AbsState → BinaryOp → ℕ → ℕ → Raw
-binary_row device words line k s op d r = going_by device k s (binary_at line s op d r) (skipping device words k k s (byte_equal (bits s d) (bits s r)))
+abbrev pub equal_skip : Program → Site → ℕ → ℕ → Raw
+equal_skip words at d r = skip_if words at (byte_equal (bits at.state d) (bits at.state r))
 
-abbrev pub immediate_row : Device → Bool → NodeKey → AbsState → ImmediateOp → ℕ → ℕ → Raw
-immediate_row device line k s op d n = going_with device k s (immediate_at line s op d n)
-
-abbrev pub unary_row : Device → Bool → NodeKey → AbsState → UnaryOp → ℕ → Raw
-unary_row device line k s op d = going_with device k s (unary_at line s op d)
+abbrev pub binary_row : Task → Site → BinaryOp → ℕ → ℕ → Raw
+binary_row task at op d r = going_by at (binary_at (is_frame task.assumptions at.key.pc) at.state op d r) (equal_skip task.flash at d r)
 
 -- ---- loads and stores
+
+-- the value at a data address, and the key after this bit of the address reads 0
+abbrev pub reading : List Entry → Site → ℕ → AbsByte
+reading A at a = read_at at.device (reads_masks at.device A) at.key at.state a
+
+abbrev pub zeroing : List Entry → Site → ℕ → ℕ → NodeKey
+zeroing A at a b = reading_zero at.device (reads_masks at.device A) at.key a b
 
 -- the change of a pointer before the access: -P subtracts one
 abbrev pub step_before : Pointer → ℕ
@@ -88,98 +98,119 @@ pointer_moved pointer.XPlus s = pair_moved s 26 true 1
 pointer_moved pointer.MinusX s = pair_moved s 26 false 1
 
 -- The register gets the byte that is read; no successor if nothing can be read.
-abbrev pub loading : Device → NodeKey → AbsState → List AbsByte → ℕ → Option AbsByte → Raw
-loading device k s registers d None = nowhere
-loading device k s registers d (Some v) = setting device k s (slice_set registers d v) s.flags
+abbrev pub loading : Site → List AbsByte → ℕ → Option AbsByte → Raw
+loading at registers d None = nowhere
+loading at registers d (Some v) = setting at (slice_set registers d v) at.state.flags
 
-abbrev pub load_row : Device → Bool → NodeKey → AbsState → ℕ → Pointer → Raw
-load_row device may k s d p = loading device k s (pointer_moved p s) d (read_pointed device may k s (pointed s (pointer_register p) (step_before p)))
+-- `in`, of one word, and `lds`, of two, from a data address
+abbrev pub read_row : List Entry → Site → ℕ → ℕ → ℕ → Raw
+read_row A at n d a = going_to at.key (record at.state { registers = set at.state d (reading A at a) }) (further at.device at.key n)
 
-abbrev pub store_row : Device → Program → List Entry → NodeKey → AbsState → Pointer → ℕ → Raw
-store_row device words A k s p r =
-    pointer_write device words A s (pointer_register p) (step_before p) (pointed s (pointer_register p) (step_before p)) k.pc (next device k)
-    (record s { registers = pointer_moved p s }) (value s r)
+-- `lpm` with the registers as given
+abbrev pub lpm_row : Program → Site → List AbsByte → ℕ → Raw
+lpm_row words at registers d = loading at registers d (Some (flash_value words (pair_constant at.state 30)))
 
-abbrev pub std_row : Device → Program → List Entry → NodeKey → AbsState → ℕ → ℕ → ℕ → Raw
-std_row device words A k s b q r = pointer_write device words A s b q (pointed s b q) k.pc (next device k) s (value s r)
+-- loads from the address of a pointer; other registers are as given
+abbrev pub pointer_load : List Entry → Site → List AbsByte → ℕ → Pointed → Raw
+pointer_load A at registers d p = loading at registers d (read_pointed at.device (reads_masks at.device A) at.key at.state p)
+
+-- the register r, written after the instruction, where the state is otherwise as given
+abbrev pub register_write : Site → AbsState → ℕ → ByteWrite
+register_write at after r = write_at at.device at.key.pc (next at.device at.key) after (value at.state r)
+
+-- `out`, of one word, and `sts`, of two, to a data address
+abbrev pub known_write : Site → Bool → ℕ → ℕ → Raw
+known_write at is_out a r =
+    written_at
+    (write_at at.device at.key.pc (at_word at.key (further at.device at.key (if is_out then 1 else 2))) at.state (value at.state r))
+    is_out a
+
+abbrev pub store_row : Task → Site → Pointer → ℕ → Raw
+store_row task at p r =
+    pointer_write task at.state (pointer_register p) (step_before p) (register_write at (record at.state { registers = pointer_moved p at.state }) r)
 
 -- Sets or clears one bit of an I/O address. Other enable bits stay as in the key.
-abbrev pub bit_row : Device → NodeKey → AbsState → ℕ → ℕ → Bool → Raw
-bit_row device k s a b on = written_at device k.pc (next device k) s false a (untagged (byte_with (kept_bits device k.masks a) b (if on then One else Zero)))
+abbrev pub bit_row : Site → ℕ → ℕ → Bool → Raw
+bit_row at a b on =
+    written_at
+    (write_at at.device at.key.pc (next at.device at.key) at.state (untagged (byte_with (kept_bits at.device at.key.masks a) b (if on then One else Zero))))
+    false a
 
 -- ---- the whole table, in three parts
 
+-- skips if this bit of an I/O address is as given
+abbrev pub bit_skip : Task → Site → ℕ → ℕ → Bool → Raw
+bit_skip task at a b true = skipping task.flash at at.key (zeroing task.assumptions at a b) (tri_at (reading task.assumptions at a).bits b)
+bit_skip task at a b false = skipping task.flash at (zeroing task.assumptions at a b) at.key (tri_not (tri_at (reading task.assumptions at a).bits b))
+
+abbrev pub node_of : Site → Node
+node_of at = record { key = at.key; state = at.state }
+
 -- control flow, and instructions without operands
-abbrev pub flow_row : Device → Program → List Entry → Bool → NodeKey → AbsState → Instr → Raw
-flow_row device words A scratch k s i.Ijmp = jumping (targets_at device A k s) k s
-flow_row device words A scratch k s i.Icall = indirect_call device (targets_at device A k s) k
-flow_row device words A scratch k s i.Ret = at_closed k.sp k.pc (returning (ret_exit k) k.pc k.inst.kind)
-flow_row device words A scratch k s i.Reti = at_closed k.sp k.pc (returning (reti_exit k) k.pc k.inst.kind)
-flow_row device words A scratch k s (i.Jmp t) = going_to k s (wrapped device t)
-flow_row device words A scratch k s (i.Call t) = calling k (further device k 2) (wrapped device t ∷ [])
-flow_row device words A scratch k s (i.Rjmp t) = going_to k s (wrapped device (far k.pc t))
-flow_row device words A scratch k s (i.Rcall t) = relative_call device scratch k s (wrapped device (far k.pc t))
-flow_row device words A scratch k s (i.Brbs n t) =
-    flag_branch n k s (wrapped device (near k.pc t)) (further device k 1)
-    (branch (flag_at k s n) k s (wrapped device (near k.pc t)) (further device k 1))
-flow_row device words A scratch k s (i.Brbc n t) =
-    flag_branch n k s (further device k 1) (wrapped device (near k.pc t))
-    (branch (tri_not (flag_at k s n)) k s (wrapped device (near k.pc t)) (further device k 1))
-flow_row device words A scratch k s (i.Sbic a b) =
-    skipping device words (reading_zero device (reads_masks device A) k (port a) b) k s (tri_not (tri_at (read_at device (reads_masks device A) k s (port a)).bits b))
-flow_row device words A scratch k s (i.Sbis a b) =
-    skipping device words k (reading_zero device (reads_masks device A) k (port a) b) s (tri_at (read_at device (reads_masks device A) k s (port a)).bits b)
-flow_row device words A scratch k s (i.Sbrc r b) = skipping device words k k s (tri_not (tri_at (bits s r) b))
-flow_row device words A scratch k s (i.Sbrs r b) = skipping device words k k s (tri_at (bits s r) b)
+abbrev pub flow_row : Task → Bool → Site → Instr → Raw
+flow_row task scratch at i.Ijmp = ijmp_row task.assumptions at
+flow_row task scratch at i.Icall = icall_row task.assumptions at
+flow_row task scratch at i.Ret = return_row at (ret_exit at.key)
+flow_row task scratch at i.Reti = return_row at (reti_exit at.key)
+flow_row task scratch at (i.Jmp t) = going_to at.key at.state (wrapped at.device t)
+flow_row task scratch at (i.Call t) = calling at.key (further at.device at.key 2) (wrapped at.device t ∷ [])
+flow_row task scratch at (i.Rjmp t) = going_to at.key at.state (wrapped at.device (far at.key.pc t))
+flow_row task scratch at (i.Rcall t) = relative_call scratch at (wrapped at.device (far at.key.pc t))
+flow_row task scratch at (i.Brbs n t) = flag_turn true n (node_of at) (wrapped at.device (near at.key.pc t)) (further at.device at.key 1)
+flow_row task scratch at (i.Brbc n t) = flag_turn false n (node_of at) (wrapped at.device (near at.key.pc t)) (further at.device at.key 1)
+flow_row task scratch at (i.Sbic a b) = bit_skip task at (port a) b false
+flow_row task scratch at (i.Sbis a b) = bit_skip task at (port a) b true
+flow_row task scratch at (i.Sbrc r b) = skip_if task.flash at (tri_not (tri_at (bits at.state r) b))
+flow_row task scratch at (i.Sbrs r b) = skip_if task.flash at (tri_at (bits at.state r) b)
 -- nop, sleep, break and wdr
-flow_row device words A scratch k s _ = going_on device k s
+flow_row task scratch at _ = going_on at
 
 -- loads, stores and I/O
-abbrev pub memory_row : Device → Program → List Entry → Bool → NodeKey → AbsState → Instr → Raw
-memory_row device words A scratch k s (i.Ldd d b q) = loading device k s s.registers d (read_pointed device (reads_masks device A) k s (pointed s (base_register b) q))
-memory_row device words A scratch k s (i.Std b q r) = std_row device words A k s (base_register b) q r
-memory_row device words A scratch k s (i.Lds d a) = going_to k (record s { registers = set s d (read_at device (reads_masks device A) k s a) }) (further device k 2)
-memory_row device words A scratch k s (i.Sts a r) = written_at device k.pc (at_word k (further device k 2)) s false a (value s r)
-memory_row device words A scratch k s (i.Ld d p) = load_row device (reads_masks device A) k s d p
-memory_row device words A scratch k s (i.St p r) = store_row device words A k s p r
-memory_row device words A scratch k s (i.LpmZ d) = setting device k s (set s d (flash_value words (pair_constant s 30))) s.flags
-memory_row device words A scratch k s (i.LpmZPlus d) = setting device k s (slice_set (pair_moved s 30 true 1) d (flash_value words (pair_constant s 30))) s.flags
-memory_row device words A scratch k s i.Lpm = setting device k s (set s 0 (flash_value words (pair_constant s 30))) s.flags
+abbrev pub memory_row : Task → Bool → Site → Instr → Raw
+memory_row task scratch at (i.Ldd d b q) = pointer_load task.assumptions at at.state.registers d (pointed at.state (base_register b) q)
+memory_row task scratch at (i.Std b q r) = pointer_write task at.state (base_register b) q (register_write at at.state r)
+memory_row task scratch at (i.Lds d a) = read_row task.assumptions at 2 d a
+memory_row task scratch at (i.Sts a r) = known_write at false a r
+memory_row task scratch at (i.Ld d p) = pointer_load task.assumptions at (pointer_moved p at.state) d (pointed at.state (pointer_register p) (step_before p))
+memory_row task scratch at (i.St p r) = store_row task at p r
+memory_row task scratch at (i.LpmZ d) = lpm_row task.flash at at.state.registers d
+memory_row task scratch at (i.LpmZPlus d) = lpm_row task.flash at (pair_moved at.state 30 true 1) d
+memory_row task scratch at i.Lpm = lpm_row task.flash at at.state.registers 0
 -- `elpm` gives any byte
-memory_row device words A scratch k s (i.ElpmZ d) = setting device k s (set s d unknown) s.flags
-memory_row device words A scratch k s (i.ElpmZPlus d) = setting device k s (slice_set (pair_moved s 30 true 1) d unknown) s.flags
-memory_row device words A scratch k s i.Elpm = setting device k s (set s 0 unknown) s.flags
-memory_row device words A scratch k s (i.Pop d) = at_closed k.sp k.pc (popping device k s d)
-memory_row device words A scratch k s (i.Push r) = at_closed k.sp k.pc (pushing device scratch k s r)
-memory_row device words A scratch k s (i.In d a) = setting device k s (set s d (read_at device (reads_masks device A) k s (port a))) s.flags
-memory_row device words A scratch k s (i.Out a r) = written_at device k.pc (next device k) s true (port a) (value s r)
-memory_row device words A scratch k s (i.Cbi a b) = bit_row device k s (port a) b false
-memory_row device words A scratch k s (i.Sbi a b) = bit_row device k s (port a) b true
-memory_row device words A scratch k s instr = flow_row device words A scratch k s instr
+memory_row task scratch at (i.ElpmZ d) = setting at (set at.state d unknown) at.state.flags
+memory_row task scratch at (i.ElpmZPlus d) = setting at (slice_set (pair_moved at.state 30 true 1) d unknown) at.state.flags
+memory_row task scratch at i.Elpm = setting at (set at.state 0 unknown) at.state.flags
+memory_row task scratch at (i.Pop d) = pop_row at d
+memory_row task scratch at (i.Push r) = push_row scratch at r
+memory_row task scratch at (i.In d a) = read_row task.assumptions at 1 d (port a)
+memory_row task scratch at (i.Out a r) = known_write at true (port a) r
+memory_row task scratch at (i.Cbi a b) = bit_row at (port a) b false
+memory_row task scratch at (i.Sbi a b) = bit_row at (port a) b true
+memory_row task scratch at instr = flow_row task scratch at instr
 
 -- The successors of an instruction; `scratch` says that its pushes make a compiler's small frame.
-abbrev pub row_of : Device → Program → List Entry → Bool → NodeKey → AbsState → Instr → Raw
-row_of device words A scratch k s (i.Movw d r) = going_with device k s (pair_copied s (2 * d) (2 * r))
-row_of device words A scratch k s (i.Muls d r) = product_row device k s product.Muls d r
-row_of device words A scratch k s (i.Mulsu d r) = product_row device k s product.Mulsu d r
-row_of device words A scratch k s (i.Fmul d r) = product_row device k s product.Fmul d r
-row_of device words A scratch k s (i.Fmuls d r) = product_row device k s product.Fmuls d r
-row_of device words A scratch k s (i.Fmulsu d r) = product_row device k s product.Fmulsu d r
-row_of device words A scratch k s (i.Binary op d r) = binary_row device words (is_frame A k.pc) k s op d r
-row_of device words A scratch k s (i.Immediate op d n) = immediate_row device (is_frame A k.pc) k s op d n
-row_of device words A scratch k s (i.Unary op d) = unary_row device (is_frame A k.pc) k s op d
-row_of device words A scratch k s (i.Adiw d n) = wide_row device k s true (2 * d) n
-row_of device words A scratch k s (i.Sbiw d n) = wide_row device k s false (2 * d) n
-row_of device words A scratch k s (i.Bset n) = flag_row device k s n true
-row_of device words A scratch k s (i.Bclr n) = flag_row device k s n false
-row_of device words A scratch k s (i.Bld d b) = going_with device k s (bit_loaded s d b)
-row_of device words A scratch k s (i.Bst d b) = going_with device k s (bit_stored s d b)
-row_of device words A scratch k s instr = memory_row device words A scratch k s instr
+abbrev pub row_of : Task → Bool → Site → Instr → Raw
+row_of task scratch at (i.Movw d r) = going_with at (pair_copied at.state (2 * d) (2 * r))
+row_of task scratch at (i.Muls d r) = product_row at product.Muls d r
+row_of task scratch at (i.Mulsu d r) = product_row at product.Mulsu d r
+row_of task scratch at (i.Fmul d r) = product_row at product.Fmul d r
+row_of task scratch at (i.Fmuls d r) = product_row at product.Fmuls d r
+row_of task scratch at (i.Fmulsu d r) = product_row at product.Fmulsu d r
+row_of task scratch at (i.Binary op d r) = binary_row task at op d r
+row_of task scratch at (i.Immediate op d n) = immediate_row (is_frame task.assumptions at.key.pc) at op d n
+row_of task scratch at (i.Unary op d) = unary_row (is_frame task.assumptions at.key.pc) at op d
+row_of task scratch at (i.Adiw d n) = wide_row at true (2 * d) n
+row_of task scratch at (i.Sbiw d n) = wide_row at false (2 * d) n
+row_of task scratch at (i.Bset n) = flag_row at n true
+row_of task scratch at (i.Bclr n) = flag_row at n false
+row_of task scratch at (i.Bld d b) = going_with at (bit_loaded at.state d b)
+row_of task scratch at (i.Bst d b) = going_with at (bit_stored at.state d b)
+row_of task scratch at instr = memory_row task scratch at instr
 
 -- Only a branch on C and `cpc` read the carry tag of a register, and they set no register. So the tag ends before the row, if the
 -- instruction sets that register; so do facts on pairs.
-abbrev pub plain_row : Device → Program → List Entry → Bool → NodeKey → AbsState → Instr → Raw
-plain_row device words A scratch k s instr = row_of device words A scratch k (before instr s) instr
+abbrev pub plain_row : Task → Bool → Site → Instr → Raw
+plain_row task scratch at instr = row_of task scratch (record at { state = before instr at.state }) instr
 
 -- ---- where pairs are followed
 
@@ -188,9 +219,8 @@ abbrev pub cut_branch : ℕ → NodeKey → AbsState → ℕ → ℕ → Raw
 cut_branch n k s set clear = all_of (going_where k (flag_cut n false s) clear ∷ going_where k (flag_cut n true s) set ∷ [])
 
 -- past the next instruction with one state, and to it with the other
-abbrev pub cut_skip : Device → Program → NodeKey → Option AbsState → Option AbsState → Raw
-cut_skip device words k skips stays =
-    all_of (going_where k stays (further device k 1) ∷ going_where k skips (further device k (1 + length_of (word_at words (k.pc + 1)))) ∷ [])
+abbrev pub cut_skip : Program → Site → Option AbsState → Option AbsState → Raw
+cut_skip words at skips stays = all_of (going_where at.key stays (further at.device at.key 1) ∷ going_where at.key skips (past words at) ∷ [])
 
 abbrev pub node_where : NodeKey → Option AbsState → List Node
 node_where k None = []
@@ -204,46 +234,46 @@ abbrev pub refining : Program → Instr → AbsState → Raw → Raw
 refining words instr s r = record r { moves = refined_nodes words instr s r.moves }
 
 -- The pointer moves first, and its pair is refined. Then the byte is stored, possibly to a register of the pointer.
-abbrev pub storing : Device → Program → List Entry → NodeKey → AbsState → Pointer → ℕ → Option AbsState → Raw
-storing device words A k s p r None = nowhere
-storing device words A k s p r (Some moved) =
-    pointer_write device words A s (pointer_register p) (step_before p) (pointed s (pointer_register p) (step_before p)) k.pc (next device k) moved (value s r)
+abbrev pub storing : Task → Site → Pointer → ℕ → Option AbsState → Raw
+storing task at p r None = nowhere
+storing task at p r (Some moved) = pointer_write task at.state (pointer_register p) (step_before p) (register_write at moved r)
 
-abbrev pub paired_store : Device → Program → List Entry → NodeKey → AbsState → Pointer → ℕ → Raw
-paired_store device words A k s p r =
-    storing device words A k s p r
-    (refined (marks words) words (i.St p r) s (record (before (i.St p r) s) { registers = pointer_moved p s }))
+abbrev pub paired_store : Task → Site → Pointer → ℕ → Raw
+paired_store task at p r =
+    storing task at p r
+    (refined (marks task.flash) task.flash (i.St p r) at.state (record (before (i.St p r) at.state) { registers = pointer_moved p at.state }))
 
 -- branches on flags 0 to 6
-abbrev pub paired_branch : ℕ → NodeKey → AbsState → ℕ → ℕ → Raw → Raw
-paired_branch n k s set clear other = if nat_lt n 7 then cut_branch n k s set clear else other
+abbrev pub paired_branch : ℕ → Node → ℕ → ℕ → Raw → Raw
+paired_branch n m set clear other = if nat_lt n 7 then cut_branch n m.key m.state set clear else other
 
 -- `cpse` skips if the registers are equal
-abbrev pub paired_binary : Device → Program → BinaryOp → NodeKey → AbsState → ℕ → ℕ → Raw → Raw
-paired_binary device words binary.Cpse k s d r other = cut_skip device words k (equal_cut d r true s) (equal_cut d r false s)
-paired_binary device words _ k s d r other = other
+abbrev pub paired_binary : BinaryOp → Raw → Raw → Raw
+paired_binary binary.Cpse cut other = cut
+paired_binary _ cut other = other
 
 -- Branches and skips cut the state by their outcome. Other rows are the plain ones, refined.
-abbrev pub paired_row : Device → Program → List Entry → Bool → NodeKey → AbsState → Instr → Raw
-paired_row device words A scratch k s (i.Brbs n t) =
-    paired_branch n k s (wrapped device (near k.pc t)) (further device k 1) (plain_row device words A scratch k s (i.Brbs n t))
-paired_row device words A scratch k s (i.Brbc n t) =
-    paired_branch n k s (further device k 1) (wrapped device (near k.pc t)) (plain_row device words A scratch k s (i.Brbc n t))
-paired_row device words A scratch k s (i.Sbrc r b) = cut_skip device words k (bit_cut r b false s) (bit_cut r b true s)
-paired_row device words A scratch k s (i.Sbrs r b) = cut_skip device words k (bit_cut r b true s) (bit_cut r b false s)
-paired_row device words A scratch k s (i.Binary op d r) =
-    paired_binary device words op k s d r (refining words (i.Binary op d r) s (plain_row device words A scratch k s (i.Binary op d r)))
-paired_row device words A scratch k s (i.St p r) = paired_store device words A k s p r
-paired_row device words A scratch k s instr = refining words instr s (plain_row device words A scratch k s instr)
+abbrev pub paired_row : Task → Bool → Site → Instr → Raw
+paired_row task scratch at (i.Brbs n t) =
+    paired_branch n (node_of at) (wrapped at.device (near at.key.pc t)) (further at.device at.key 1) (plain_row task scratch at (i.Brbs n t))
+paired_row task scratch at (i.Brbc n t) =
+    paired_branch n (node_of at) (further at.device at.key 1) (wrapped at.device (near at.key.pc t)) (plain_row task scratch at (i.Brbc n t))
+paired_row task scratch at (i.Sbrc r b) = cut_skip task.flash at (bit_cut r b false at.state) (bit_cut r b true at.state)
+paired_row task scratch at (i.Sbrs r b) = cut_skip task.flash at (bit_cut r b true at.state) (bit_cut r b false at.state)
+paired_row task scratch at (i.Binary op d r) =
+    paired_binary op (cut_skip task.flash at (equal_cut d r true at.state) (equal_cut d r false at.state))
+    (refining task.flash (i.Binary op d r) at.state (plain_row task scratch at (i.Binary op d r)))
+paired_row task scratch at (i.St p r) = paired_store task at p r
+paired_row task scratch at instr = refining task.flash instr at.state (plain_row task scratch at instr)
 
 -- the row with pairs, or the plain row
-abbrev pub row_by : Option PairFacts → Device → Program → List Entry → Bool → NodeKey → AbsState → Instr → Raw
-row_by None device words A scratch k s instr = plain_row device words A scratch k s instr
-row_by (Some f) device words A scratch k s instr = paired_row device words A scratch k s instr
+abbrev pub row_by : Option PairFacts → Task → Bool → Site → Instr → Raw
+row_by None task scratch at instr = plain_row task scratch at instr
+row_by (Some f) task scratch at instr = paired_row task scratch at instr
 
-abbrev pub row_at : Device → Program → List Entry → Bool → NodeKey → AbsState → Option Instr → Raw
-row_at device words A scratch k s None = fails (Unsupported k.pc)
-row_at device words A scratch k s (Some instr) = row_by s.facts device words A scratch k s instr
+abbrev pub row_at : Task → Bool → Site → Option Instr → Raw
+row_at task scratch at None = fails (Unsupported at.key.pc)
+row_at task scratch at (Some instr) = row_by at.state.facts task scratch at instr
 
 -- ---- the node
 
@@ -290,9 +320,9 @@ unlined A None = None
 unlined A (Some jump) = unless_lined (jump_line A jump) jump
 
 -- The word of the `ijmp` at which a node splits: at a table site of flash, unless an entry is picked already.
-abbrev pub split_site : Program → List Entry → ℕ → Option ℕ → Option ℕ
-split_site words A pc None = if nat_lt pc (words_of (device_of words)) then unlined A (table_site words pc) else None
-split_site words A pc (Some byte) = None
+abbrev pub split_site : Task → ℕ → Option ℕ → Option ℕ
+split_site task pc None = if nat_lt pc (words_of (device_of task.flash)) then unlined task.assumptions (table_site task.flash pc) else None
+split_site task pc (Some byte) = None
 
 -- A node that splits has the successors of each possible byte of r30, picked. With more than 64 bytes its `ijmp` is unresolved.
 abbrev pub splitting : Option ℕ → (NodeKey → AbsState → Raw) → NodeKey → AbsState → Raw
@@ -301,15 +331,26 @@ splitting (Some jump) row k s =
     if nat_le (length (picks s)) 64 then all_of (map (λ byte. picked_row row (picking k byte) (pick_cut byte s)) (picks s)) else fails (UnresolvedJump jump)
 
 -- the successors of a node by its instruction, on this device
-abbrev pub row_in : Device → Program → List Entry → NodeKey → AbsState → Raw
-row_in device words A k s = row_at device words A (is_scratch words k.pc) k s (fetched device words k.pc)
+abbrev pub fetched_row : Task → Site → Raw
+fetched_row task at = row_at task (is_scratch task.flash at.key.pc) at (fetched at.device task.flash at.key.pc)
+
+abbrev pub row_in : Device → Task → NodeKey → AbsState → Raw
+row_in device task k s = fetched_row task (site_at device k s)
+
+-- with the word of the `ijmp` at which the node splits, if it does
+abbrev pub split_by : Option ℕ → Task → Site → Raw
+split_by jump task at = splitting jump (row_in at.device task) at.key at.state
+
+abbrev pub split_row : Task → Site → Raw
+split_row task at = split_by (split_site task at.key.pc at.key.pick) task at
+
+-- the successors with the fault of a node that is too deep
+abbrev pub deep_row : Task → Site → Raw
+deep_row task at = too_deep_if (nat_lt (size_of at.device) (offset_of at.key.sp)) at.key.pc (offset_of at.key.sp) (split_row task at)
 
 -- all successors of a node, with all its faults, on the image's device
-unfoldable pub raw : Program → List Entry → NodeKey → AbsState → Raw
-raw words A k s =
-    untracked_if (is_hung (device_of words) A k k.sp) k.pc
-    (too_deep_if (nat_lt (size_of (device_of words)) (offset_of k.sp)) k.pc (offset_of k.sp)
-    (splitting (split_site words A k.pc k.pick) (row_in (device_of words) words A) k s))
+unfoldable pub raw : Task → NodeKey → AbsState → Raw
+raw task k s = untracked_if (is_hung (device_of task.flash) task.assumptions k k.sp) k.pc (deep_row task (site_at (device_of task.flash) k s))
 
 -- ---- successors of one key are joined
 
@@ -333,5 +374,5 @@ settled r [] = Ok (record { same = joined_onto [] r.moves; calls = r.calls; exit
 settled r (f ∷ fs) = Err (least f fs)
 
 -- The joined successors, calls and return of a node, or the fault that counts.
-unfoldable pub local : Program → List Entry → NodeKey → AbsState → Result Local NodeFault
-local words A k s = settled (raw words A k s) (raw words A k s).faults
+unfoldable pub local : Task → NodeKey → AbsState → Result Local NodeFault
+local task k s = settled (raw task k s) (raw task k s).faults

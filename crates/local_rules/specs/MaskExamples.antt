@@ -28,6 +28,7 @@ use Rattle.local_rules.specs.Raw.{Raw}
 use Rattle.local_rules.specs.Registers.{with_bits}
 use Rattle.local_rules.specs.Reads.{read_at}
 use Rattle.local_rules.specs.Writes.{written_at, may_wake}
+use Rattle.local_rules.specs.Site.{task_with}
 use Rattle.local_rules.specs.Local.{raw}
 
 -- a node at word 0 of a call's frame with two pushed bytes; these vectors are enabled, or may be
@@ -47,7 +48,7 @@ pointing = record pushed { registers = slice_set (slice_set pushed.registers 28 
 
 -- the successors of one or two words there
 abbrev leads : ℕ → ℕ → List Entry → ℕ → AbsState → Raw
-leads w0 w1 A masks s = raw (image M328 (w0 ∷ w1 ∷ replicate 16382 0xFFFF)) A (node masks) s
+leads w0 w1 A masks s = raw (task_with (image M328 (w0 ∷ w1 ∷ replicate 16382 0xFFFF)) A) (node masks) s
 
 -- the words of successors, and the vectors there
 abbrev ways : Raw → List (ℕ × ℕ)

@@ -2,7 +2,6 @@
 -- the Instruction Set Manual DS40002198.
 use Rattle.std.specs.Prelude.{ℕ, ◌+◌, ◌%◌, ◌==◌, Bool, true, false, not, if◌then◌else◌, List, Option, Some, None, slice_set}
 use Rattle.std.specs.List.{list_any}
-use Rattle.avr_model.specs.declared.device.Device.{Device}
 use Rattle.avr_model.specs.declared.instruction.Instr.{Instr}
 use Rattle.avr_model.specs.declared.instruction.BinaryOp.{BinaryOp}
 use Rattle.avr_model.specs.declared.instruction.BinaryOp.TheVariants as binary
@@ -37,7 +36,7 @@ use Rattle.abs_state.specs.declared.state.AbsState.{AbsState}
 use Rattle.abs_state.specs.Values.{value_at, untagged, known}
 use Rattle.abs_state.specs.Ended.{is_one_of, ended}
 pub use Rattle.abs_state.specs.Values.{with_bits}
-use Rattle.mask_states.specs.declared.keys.NodeKey.{NodeKey}
+use Rattle.local_rules.specs.Site.{Site}
 use Rattle.local_rules.specs.declared.computed.Computed.{Computed}
 use Rattle.abs_state.specs.FlagsSet.{sets_flags, sets_carry}
 use Rattle.local_rules.specs.Raw.{Raw, setting, next, one}
@@ -89,13 +88,13 @@ but_carry s b = with_carry b s.flags.carry
 abbrev pub both_set : List AbsByte → AbsFlags → Computed
 both_set registers flags = record { registers = registers; flags = flags }
 
-abbrev pub going_with : Device → NodeKey → AbsState → Computed → Raw
-going_with device k s c = setting device k s c.registers c.flags
+abbrev pub going_with : Site → Computed → Raw
+going_with at c = setting at c.registers c.flags
 
 -- continues with a computed result, if there is one
-abbrev pub going_by : Device → NodeKey → AbsState → Option Computed → Raw → Raw
-going_by device k s None other = other
-going_by device k s (Some c) other = going_with device k s c
+abbrev pub going_by : Site → Option Computed → Raw → Raw
+going_by at None other = other
+going_by at (Some c) other = going_with at c
 
 -- sets one register; the flags stay
 abbrev pub register_set : AbsState → ℕ → AbsByte → Computed
@@ -104,17 +103,17 @@ register_set s d v = both_set (set s d v) s.flags
 -- ---- sums and differences
 
 -- a sum, with the tags of result and carry
-abbrev pub sum_tagged : AbsState → ℕ → TriByte → Tri → Tag → CarryTag → Computed
-sum_tagged s d b c t w =
+abbrev pub sum_tagged : AbsState → ℕ → TriByte → Tri → Tag × CarryTag → Computed
+sum_tagged s d b c tags =
     let r = abs_add (bits s d) b c s.flags.bits in
-    both_set (set s d (with_bits t r.0)) (with_carry r.1 w)
+    both_set (set s d (with_bits tags.0 r.0)) (with_carry r.1 tags.1)
 
 abbrev pub sum_after : AbsState → ℕ → TriByte → Tri → Computed
-sum_after s d b c = sum_tagged s d b c tag.None carry.None
+sum_after s d b c = sum_tagged s d b c (tag.None, carry.None)
 
--- a comparison sets the flags alone, and the carry tag
-abbrev pub compare_after : AbsState → TriByte → TriByte → Tri → Bool → CarryTag → Computed
-compare_after s a b borrow keep_zero c = both_set s.registers (with_carry (abs_sub a b borrow keep_zero s.flags.bits).1 c)
+-- A difference has two operands, and a borrow with whether a result of 0 keeps Z. A comparison sets the flags alone, and the carry tag.
+abbrev pub compare_after : AbsState → TriByte × TriByte → Tri × Bool → CarryTag → Computed
+compare_after s operands borrow c = both_set s.registers (with_carry (abs_sub operands.0 operands.1 borrow.0 borrow.1 s.flags.bits).1 c)
 
 -- the carry tag after a comparison with a known number: the register is below it
 abbrev pub less_than : ℕ → Option ℕ → CarryTag
@@ -134,10 +133,10 @@ less_kept (Some x) None c = carry.None
 less_kept (Some x) (Some y) c = if x == y then less_alone c else carry.None
 
 -- a difference, with the tags of result and borrow
-abbrev pub difference_after : AbsState → ℕ → TriByte → TriByte → Tri → Bool → Tag → CarryTag → Computed
-difference_after s d a b borrow keep_zero t c =
-    let r = abs_sub a b borrow keep_zero s.flags.bits in
-    both_set (set s d (with_bits t r.0)) (with_carry r.1 c)
+abbrev pub difference_after : AbsState → ℕ → TriByte × TriByte → Tri × Bool → Tag × CarryTag → Computed
+difference_after s d operands borrow tags =
+    let r = abs_sub operands.0 operands.1 borrow.0 borrow.1 s.flags.bits in
+    both_set (set s d (with_bits tags.0 r.0)) (with_carry r.1 tags.1)
 
 -- Subtracts a known number from the low byte of base - j, and from the high byte of base - k with the borrow of the low one.
 abbrev pub low_tag : Tag → Option ℕ → Tag
@@ -157,17 +156,17 @@ abbrev pub or_nothing : ℕ → ℕ → TriByte → TriByte
 or_nothing d r b = if d == r then byte_known 0 else b
 
 abbrev pub sub_after : AbsState → ℕ → TriByte → TriByte → Option ℕ → Computed
-sub_after s d a b number = difference_after s d a b Zero false (low_tag (value s d).tag number) (borrow_tag (value s d).tag number)
+sub_after s d a b number = difference_after s d (a, b) (Zero, false) (low_tag (value s d).tag number, borrow_tag (value s d).tag number)
 
 abbrev pub sbc_after : AbsState → ℕ → TriByte → Option ℕ → Computed
-sbc_after s d b number = difference_after s d (bits s d) b (carry_bit s) true (high_tag (value s d).tag number s.flags.carry) carry.None
+sbc_after s d b number = difference_after s d (bits s d, b) (carry_bit s, true) (high_tag (value s d).tag number s.flags.carry, carry.None)
 
 -- ---- bit by bit
 
 -- a bit operation; `and` and `or` of a register with itself keep the whole value
-abbrev pub logic_after : AbsState → Logic → ℕ → TriByte → TriByte → Bool → Computed
-logic_after s op d a b same =
-    let r = abs_logic op a b s.flags.bits in
+abbrev pub logic_after : AbsState → Logic → ℕ → TriByte × TriByte → Bool → Computed
+logic_after s op d operands same =
+    let r = abs_logic op operands.0 operands.1 s.flags.bits in
     both_set (set s d (if same then value s d else untagged r.0)) (but_carry s r.1)
 
 -- a register plus or less 1, with the tag of the result
@@ -200,8 +199,8 @@ product_after s op d r =
     let p = abs_mul op (bits s d) (bits s r) s.flags.bits in
     both_set (set_pair s.registers 0 (untagged p.0.0) (untagged p.0.1)) (with_carry p.1 carry.None)
 
-abbrev pub product_row : Device → NodeKey → AbsState → Mul → ℕ → ℕ → Raw
-product_row device k s op d r = going_with device k s (product_after s op d r)
+abbrev pub product_row : Site → Mul → ℕ → ℕ → Raw
+product_row at op d r = going_with at (product_after at.state op d r)
 
 -- copies registers r and r + 1 to d and d + 1
 abbrev pub pair_copied : AbsState → ℕ → ℕ → Computed
@@ -223,15 +222,15 @@ abbrev pub wide_after : AbsState → Bool → ℕ → ℕ → Computed
 wide_after s up d n =
     both_set (pair_moved s d up n) (with_carry (abs_wide up (bits s d, bits s (d + 1)) n s.flags.bits).1 carry.None)
 
-abbrev pub wide_row : Device → NodeKey → AbsState → Bool → ℕ → ℕ → Raw
-wide_row device k s up d n = going_with device k s (wide_after s up d n)
+abbrev pub wide_row : Site → Bool → ℕ → ℕ → Raw
+wide_row at up d n = going_with at (wide_after at.state up d n)
 
 -- ---- flags
 
 -- I is in the key
-abbrev pub interrupts_row : Device → NodeKey → AbsState → Bool → Raw
-interrupts_row device k s true = one (record (next device k) { i = true; delay = not k.i }) s
-interrupts_row device k s false = one (record (next device k) { i = false }) s
+abbrev pub interrupts_row : Site → Bool → Raw
+interrupts_row at true = one (record (next at.device at.key) { i = true; delay = not at.key.i }) at.state
+interrupts_row at false = one (record (next at.device at.key) { i = false }) at.state
 
 abbrev pub tri_of_bool : Bool → Tri
 tri_of_bool true = One
@@ -248,8 +247,8 @@ flag_after s n on = both_set s.registers (with_carry (byte_with s.flags.bits n (
 abbrev pub flag_unless_i : AbsState → ℕ → Bool → Option Computed
 flag_unless_i s n on = if n == 7 then None else Some (flag_after s n on)
 
-abbrev pub flag_row : Device → NodeKey → AbsState → ℕ → Bool → Raw
-flag_row device k s n on = if n == 7 then interrupts_row device k s on else going_with device k s (flag_after s n on)
+abbrev pub flag_row : Site → ℕ → Bool → Raw
+flag_row at n on = if n == 7 then interrupts_row at on else going_with at (flag_after at.state n on)
 
 -- copies T to bit b of register d, and that bit to T
 abbrev pub bit_loaded : AbsState → ℕ → ℕ → Computed
@@ -261,16 +260,16 @@ bit_stored s d b = both_set s.registers (with_carry (byte_with s.flags.bits 6 (t
 -- ---- by the operation
 
 abbrev pub immediate_after : AbsState → ImmediateOp → ℕ → ℕ → Computed
-immediate_after s immediate.Cpi d n = compare_after s (bits s d) (byte_known n) Zero false (carry.Less d n)
+immediate_after s immediate.Cpi d n = compare_after s (bits s d, byte_known n) (Zero, false) (carry.Less d n)
 immediate_after s immediate.Sbci d n = sbc_after s d (byte_known n) (Some n)
 immediate_after s immediate.Subi d n = sub_after s d (bits s d) (byte_known n) (Some n)
-immediate_after s immediate.Ori d n = logic_after s logic.Or d (bits s d) (byte_known n) false
-immediate_after s immediate.Andi d n = logic_after s logic.And d (bits s d) (byte_known n) false
+immediate_after s immediate.Ori d n = logic_after s logic.Or d (bits s d, byte_known n) false
+immediate_after s immediate.Andi d n = logic_after s logic.And d (bits s d, byte_known n) false
 immediate_after s immediate.Ldi d n = register_set s d (known n)
 
 abbrev pub unary_after : AbsState → UnaryOp → ℕ → Computed
 unary_after s unary.Com d = com_after s d
-unary_after s unary.Neg d = difference_after s d (byte_known 0) (bits s d) Zero false tag.None carry.None
+unary_after s unary.Neg d = difference_after s d (byte_known 0, bits s d) (Zero, false) (tag.None, carry.None)
 unary_after s unary.Swap d = register_set s d (untagged (swapped (bits s d)))
 unary_after s unary.Inc d = step_after s true d
 unary_after s unary.Asr d = shift_after s shift.Asr d
@@ -280,15 +279,15 @@ unary_after s unary.Dec d = step_after s false d
 
 -- all instructions of two registers but `cpse`
 abbrev pub binary_after : AbsState → BinaryOp → ℕ → ℕ → Option Computed
-binary_after s binary.Cpc d r = Some (compare_after s (bits s d) (bits s r) (carry_bit s) true (less_kept (byte_constant (bits s d)) (byte_constant (bits s r)) s.flags.carry))
+binary_after s binary.Cpc d r = Some (compare_after s (bits s d, bits s r) (carry_bit s, true) (less_kept (byte_constant (bits s d)) (byte_constant (bits s r)) s.flags.carry))
 binary_after s binary.Sbc d r = Some (sbc_after s d (bits s r) (byte_constant (bits s r)))
 binary_after s binary.Add d r = Some (sum_after s d (bits s r) Zero)
 binary_after s binary.Cpse d r = None
-binary_after s binary.Cp d r = Some (compare_after s (bits s d) (bits s r) Zero false (less_than d (byte_constant (bits s r))))
+binary_after s binary.Cp d r = Some (compare_after s (bits s d, bits s r) (Zero, false) (less_than d (byte_constant (bits s r))))
 binary_after s binary.Sub d r = Some (sub_after s d (or_nothing d r (bits s d)) (or_nothing d r (bits s r)) (byte_constant (bits s r)))
 binary_after s binary.Adc d r = Some (sum_after s d (bits s r) (carry_bit s))
-binary_after s binary.And d r = Some (logic_after s logic.And d (bits s d) (bits s r) (d == r))
-binary_after s binary.Eor d r = Some (logic_after s logic.Eor d (or_nothing d r (bits s d)) (or_nothing d r (bits s r)) false)
-binary_after s binary.Or d r = Some (logic_after s logic.Or d (bits s d) (bits s r) (d == r))
+binary_after s binary.And d r = Some (logic_after s logic.And d (bits s d, bits s r) (d == r))
+binary_after s binary.Eor d r = Some (logic_after s logic.Eor d (or_nothing d r (bits s d), or_nothing d r (bits s r)) false)
+binary_after s binary.Or d r = Some (logic_after s logic.Or d (bits s d, bits s r) (d == r))
 binary_after s binary.Mov d r = Some (register_set s d (value s r))
 binary_after s binary.Mul d r = Some (product_after s product.Mul d r)

@@ -29,6 +29,7 @@ use Rattle.local_rules.specs.declared.local.NodeFault.TheVariants.{UntrackedSp}
 use Rattle.local_rules.specs.Raw.{Raw}
 use Rattle.local_rules.specs.Reads.{read_at}
 use Rattle.local_rules.specs.Writes.{written_at}
+use Rattle.local_rules.specs.Site.{task_with}
 use Rattle.local_rules.specs.Local.{may_come, raw}
 
 -- SRAM begins at 0x60, and two bits of one address enable vector 3
@@ -62,7 +63,7 @@ at_0 kind masks sp = record { inst = record { kind = kind; entry = 0; masks = 0;
 abbrev ranges : Raw → List (ℕ × ℕ)
 ranges r = map (λ n. ((value_at n.state.registers 29).low, (value_at n.state.registers 29).high)) r.moves
 
-reads_top : ranges (raw (small 0xB7DE 0xFFFF) [] (at_0 Root 0 (Closed 0)) root) ≡ (1, 1) ∷ []
+reads_top : ranges (raw (task_with (small 0xB7DE 0xFFFF) []) (at_0 Root 0 (Closed 0)) root) ≡ (1, 1) ∷ []
 unfolding raw table_site ijmp_from is_scratch any_below all_below decoded read_at packed device_row
 reads_top = refl
 
@@ -79,7 +80,7 @@ bits_read r =
     ))
     r.moves
 
-reads_held : bits_read (raw (small 0x9100 0x005B) [] (at_0 Root 1 (Closed 0)) root) ≡ (Zero, Any, Any, Any) ∷ []
+reads_held : bits_read (raw (task_with (small 0x9100 0x005B) []) (at_0 Root 1 (Closed 0)) root) ≡ (Zero, Any, Any, Any) ∷ []
 unfolding raw table_site ijmp_from is_scratch any_below all_below decoded device_row read_at held_of places packed reads_masks has_masks length_of
 reads_held = refl
 
@@ -87,16 +88,16 @@ abbrev enables : Raw → List ℕ
 enables r = map (λ n. n.key.masks) r.moves
 
 -- `sts 0x005B, r16` of an unknown byte: vectors 2, 3 and 14
-splits_places : enables (raw (small 0x9300 0x005B) [] (at_0 Root 0 (Closed 0)) root) ≡ 0 ∷ 1 ∷ 2 ∷ 3 ∷ 4096 ∷ 4097 ∷ 4098 ∷ 4099 ∷ []
+splits_places : enables (raw (task_with (small 0x9300 0x005B) []) (at_0 Root 0 (Closed 0)) root) ≡ 0 ∷ 1 ∷ 2 ∷ 3 ∷ 4096 ∷ 4097 ∷ 4098 ∷ 4099 ∷ []
 unfolding raw table_site ijmp_from is_scratch any_below all_below decoded device_row written_at numbers_of enable_tri place_at places common_tri packed length_of
 splits_places = refl
 
 -- `sbi 0x13, 2` enables vector 2; `cbi 0x13, 2` leaves it, since the other bits of its place enable it too
-one_bit_enables : enables (raw (middle pwm81 0x9A9A 0xFFFF) [] (at_0 Root 0 (Closed 0)) root) ≡ 1 ∷ []
+one_bit_enables : enables (raw (task_with (middle pwm81 0x9A9A 0xFFFF) []) (at_0 Root 0 (Closed 0)) root) ≡ 1 ∷ []
 unfolding raw table_site ijmp_from is_scratch any_below all_below decoded device_row read_at written_at enable_of numbers_of enable_tri place_at places common_tri packed
 one_bit_enables = refl
 
-others_enable : enables (raw (middle pwm81 0x989A 0xFFFF) [] (at_0 Root 1 (Closed 0)) root) ≡ 1 ∷ []
+others_enable : enables (raw (task_with (middle pwm81 0x989A 0xFFFF) []) (at_0 Root 1 (Closed 0)) root) ≡ 1 ∷ []
 unfolding raw table_site ijmp_from is_scratch any_below all_below decoded device_row read_at written_at enable_of numbers_of enable_tri place_at places common_tri packed
 others_enable = refl
 
@@ -104,17 +105,17 @@ others_enable = refl
 abbrev holding : ℕ → AbsState
 holding n = record root { registers = slice_set root.registers 1 (known n) }
 
-stays_enabled : enables (raw (middle usb82 0x9210 0x00E2) [] (at_0 Root 1024 (Closed 0)) (holding 0)) ≡ 1024 ∷ []
+stays_enabled : enables (raw (task_with (middle usb82 0x9210 0x00E2) []) (at_0 Root 1024 (Closed 0)) (holding 0)) ≡ 1024 ∷ []
 unfolding raw table_site ijmp_from is_scratch any_below all_below decoded device_row written_at numbers_of enable_tri place_at places common_tri packed length_of
 stays_enabled = refl
 
-becomes_enabled : enables (raw (middle usb82 0x9210 0x00E2) [] (at_0 Root 0 (Closed 0)) (holding 1)) ≡ 1024 ∷ []
+becomes_enabled : enables (raw (task_with (middle usb82 0x9210 0x00E2) []) (at_0 Root 0 (Closed 0)) (holding 1)) ≡ 1024 ∷ []
 unfolding raw table_site ijmp_from is_scratch any_below all_below decoded device_row written_at numbers_of enable_tri place_at places common_tri packed length_of
 becomes_enabled = refl
 
 -- while the stack pointer is half written, vector 26 may come, whatever is enabled
 abbrev waiting : Device → List Entry → List NodeFault
-waiting device A = (raw (middle device 0x0000 0xFFFF) A (record (at_0 Call 0 (Open 0 (Tagged 2))) { i = true }) root).faults
+waiting device A = (raw (task_with (middle device 0x0000 0xFFFF) A) (record (at_0 Call 0 (Open 0 (Tagged 2))) { i = true }) root).faults
 
 may_come_always : waiting tiny828 [] ≡ UntrackedSp 0 ∷ []
 unfolding raw table_site ijmp_from is_scratch may_come is_enabled has_place places is_never any_below all_below decoded device_row number_of

@@ -2,7 +2,7 @@
 use Rattle.std.specs.Prelude.{ℕ, ◌+◌, ◌*◌, ◌-◌, ◌%◌, ◌==◌, ◌&&◌, Bool, true, false, not, nat_lt, nat_le, if◌then◌else◌, List, [], ◌∷◌, ◌++◌, map, filter, Option, Some, None, slice_set}
 use Rattle.avr_model.specs.declared.device.Device.{Device}
 use Rattle.avr_model.specs.declared.assumption.Entry.{Entry}
-use Rattle.avr_model.specs.Devices.{Program, size_of, ramend}
+use Rattle.avr_model.specs.Devices.{size_of, ramend}
 use Rattle.avr_model.specs.Assumptions.{store_line, is_fixed_site}
 use Rattle.avr_model.specs.Masks.{admits_enables}
 use Rattle.avr_model.specs.State.{SPL, SPH, SREG, low, high, minus16}
@@ -27,11 +27,13 @@ use Rattle.mask_states.specs.Keys.{offset_of}
 use Rattle.mask_states.specs.Splits.{splits}
 use Rattle.mask_states.specs.Wakes.{may_enable_other, widened}
 use Rattle.local_rules.specs.Permitted.{permits_number}
+use Rattle.local_rules.specs.declared.local.Node.{Node}
 use Rattle.local_rules.specs.declared.local.NodeFault.TheVariants.{UntrackedSp, TooDeep, UnknownPointer}
-use Rattle.local_rules.specs.Raw.{Raw, moves_to, one, fails, all_of}
+use Rattle.local_rules.specs.Raw.{Raw, moves_to, one, two, fails, all_of}
 use Rattle.abs_state.specs.Ended.{ended, written_hull}
 use Rattle.local_rules.specs.Registers.{bits, with_bits, forgetting}
-use Rattle.local_rules.specs.declared.pointers.Pointed.{Pointed}
+use Rattle.local_rules.specs.Site.{Task}
+use Rattle.local_rules.specs.Reads.{pointed}
 
 -- ---- the stack pointer
 
@@ -103,8 +105,7 @@ with_i k is_out on = record k { i = on; delay = is_out && on && not k.i }
 abbrev pub sreg_written : Tri → NodeKey → AbsState → Bool → Raw
 sreg_written Zero k s is_out = one (with_i k is_out false) s
 sreg_written One k s is_out = one (with_i k is_out true) s
-sreg_written Any k s is_out =
-    moves_to (record { key = with_i k is_out false; state = s } ∷ record { key = with_i k is_out true; state = s } ∷ [])
+sreg_written Any k s is_out = two (with_i k is_out false) (with_i k is_out true) s
 
 -- ---- at an address
 
@@ -124,14 +125,25 @@ register_written s a v = hulled a (forgetting (a ∷ []) false false (record s {
 abbrev pub put_flags : AbsState → AbsFlags → AbsState
 put_flags s f = record s { flags = f; facts = ended (λ r. false) true true s.facts }
 
--- The effect of writing a byte to a known address at the word pc. Key and state are otherwise those after the instruction.
-unfoldable pub written_at : Device → ℕ → NodeKey → AbsState → Bool → ℕ → AbsByte → Raw
-written_at device pc k s is_out a v =
-    if nat_lt a 0x20 then one k (register_written s a v)
-    else (if a == SPL then closing device (closing_offset device k.inst.kind k.sp v) k s pc
-    else (if a == SPH then opening (high_part k.inst.kind v) k s pc
-    else (if a == SREG then sreg_written (tri_at v.bits 7) k (put_flags s (flags_written v)) is_out
-    else masks_written device k s a v)))
+-- A byte that an instruction writes: the device, the word of the instruction, and the node that the machine is otherwise at afterwards.
+pub record ByteWrite : Type 0 where
+  pub device : Device
+  pub pc : ℕ
+  pub key : NodeKey
+  pub state : AbsState
+  pub value : AbsByte
+
+abbrev pub write_at : Device → ℕ → NodeKey → AbsState → AbsByte → ByteWrite
+write_at device pc k s v = record { device = device; pc = pc; key = k; state = s; value = v }
+
+-- the effect of the write at a known address
+unfoldable pub written_at : ByteWrite → Bool → ℕ → Raw
+written_at w is_out a =
+    if nat_lt a 0x20 then one w.key (register_written w.state a w.value)
+    else (if a == SPL then closing w.device (closing_offset w.device w.key.inst.kind w.key.sp w.value) w.key w.state w.pc
+    else (if a == SPH then opening (high_part w.key.inst.kind w.value) w.key w.state w.pc
+    else (if a == SREG then sreg_written (tri_at w.value.bits 7) w.key (put_flags w.state (flags_written w.value)) is_out
+    else masks_written w.device w.key w.state a w.value)))
 
 -- ---- through a pointer
 
@@ -140,13 +152,13 @@ abbrev pub reaches : AbsState → ℕ → ℕ → ℕ → Bool
 reaches s r up a = has (bits s r) (low (minus16 a up)) && has (bits s (r + 1)) (high (minus16 a up))
 
 -- at a fixed site the address is known
-abbrev pub fixed_write : Device → Option ℕ → ℕ → NodeKey → AbsState → AbsByte → Raw
-fixed_write device None pc k s v = fails (UnknownPointer pc)
-fixed_write device (Some a) pc k s v = written_at device pc k s false a v
+abbrev pub fixed_write : Option ℕ → ByteWrite → Raw
+fixed_write None w = fails (UnknownPointer w.pc)
+fixed_write (Some a) w = written_at w false a
 
 -- At an unfixed site: one successor in which nothing known changes, and those of each listed address that is possible.
-abbrev pub listed_writes : Device → ℕ → NodeKey → AbsState → List ℕ → AbsByte → Raw
-listed_writes device pc k s addresses v = all_of (one k s ∷ map (λ a. written_at device pc k s false a v) addresses)
+abbrev pub listed_writes : List ℕ → ByteWrite → Raw
+listed_writes addresses w = all_of (one w.key w.state ∷ map (λ a. written_at w false a) addresses)
 
 -- the pointer is a slot of the running frame
 abbrev pub is_own_slot : Option ℕ → ℕ → Bool
@@ -155,19 +167,28 @@ is_own_slot (Some d) offset = nat_lt d offset
 
 -- The byte may reach the enable bit of a vector that isn't barred: the line `masks` admits the site, the pointer is not known to be a
 -- slot of the running frame, and it permits an address at which the byte may set such a bit.
-unfoldable pub may_wake : Device → List Entry → AbsState → ℕ → ℕ → Pointed → ℕ → NodeKey → AbsByte → Bool
-may_wake device A was r up p pc k v =
-    admits_enables device A pc && not (is_own_slot p.frame (offset_of k.sp))
-    && may_enable_other device A (λ a. permits_number was r (minus16 a up)) v.bits
+unfoldable pub may_wake : List Entry → AbsState → ℕ → ℕ → ByteWrite → Bool
+may_wake A was r up w =
+    admits_enables w.device A w.pc && not (is_own_slot (pointed was r up).frame (offset_of w.key.sp))
+    && may_enable_other w.device A (λ a. permits_number was r (minus16 a up)) w.value.bits
 
--- adds a successor in which each vector that isn't barred may be enabled, whatever the state
-abbrev pub waking : Bool → Device → List Entry → NodeKey → AbsState → Raw → Raw
-waking false device A k s r = r
-waking true device A k s r = record r { moves = r.moves ++ record { key = record k { masks = widened device A k.masks }; state = s } ∷ [] }
+-- the node in which each vector that isn't barred may be enabled
+abbrev pub woken : List Entry → ByteWrite → Node
+woken A w = record { key = record w.key { masks = widened w.device A w.key.masks }; state = w.state }
 
--- Stores a byte v through registers r and r + 1 plus a number, as they were in the state `was`.
-abbrev pub pointer_write : Device → Program → List Entry → AbsState → ℕ → ℕ → Pointed → ℕ → NodeKey → AbsState → AbsByte → Raw
-pointer_write device words A was r up p pc k s v =
-    if is_fixed_site words A pc
-    then fixed_write device p.constant pc k s v
-    else waking (may_wake device A was r up p pc k v) device A k s (listed_writes device pc k s (filter (λ a. reaches was r up a) (store_line A pc)) v)
+-- adds a successor
+abbrev pub waking : Bool → Node → Raw → Raw
+waking false n r = r
+waking true n r = record r { moves = r.moves ++ n ∷ [] }
+
+-- At an unfixed site: the registers and the number are as they were in the state `was`.
+abbrev pub unfixed_write : List Entry → AbsState → ℕ → ℕ → ByteWrite → Raw
+unfixed_write A was r up w =
+    waking (may_wake A was r up w) (woken A w) (listed_writes (filter (λ a. reaches was r up a) (store_line A w.pc)) w)
+
+-- Stores the byte through registers r and r + 1 plus a number, as they were in the state `was`.
+abbrev pub pointer_write : Task → AbsState → ℕ → ℕ → ByteWrite → Raw
+pointer_write task was r up w =
+    if is_fixed_site task.flash task.assumptions w.pc
+    then fixed_write (pointed was r up).constant w
+    else unfixed_write task.assumptions was r up w

@@ -38,6 +38,7 @@ use Rattle.replies.specs.Reading.{Seen, Unread, Whole, Long, Contents}
 use Rattle.replies.specs.Reply.{Reply, Refuses, WithFile, WithOptional, ImageBy, WithImage, ListBy, WithList, is_end, attains, AttainedBy, WitnessReply, VerdictReply, JudgedReply, CertificateReply}
 use Rattle.replies.specs.Headline.{IsSeen, AreRead, IsListOf, StandFor}
 use Rattle.replies.proofs.ElfWords.{one_elf, some_elf, no_refusal}
+use Rattle.local_rules.specs.Site.{Task, task_with}
 
 not_long : ◌≡◌ {A = Status} exit.Done exit.TooLong → ⊥
 not_long e = cc
@@ -200,74 +201,74 @@ attains_by bound (Err step) h = absurd h
 attains_by bound (Ok r) h = let d : (r.depth == bound) ≡ true = (let e = h.1 in grind (arith, nat_tests)) in rw (h.0, d) refl
 
 -- the schedule attains the bound, and the answer continues
-pub record IsAttainmentTold (words : Program) (A : List Entry) (next : Reply) (bound : ℕ) (w : Option Plan) (text : List ℕ) : Type 0 where
-  pub attained : IsAttained words A bound w
+pub record IsAttainmentTold (task : Task) (next : Reply) (bound : ℕ) (w : Option Plan) (text : List ℕ) : Type 0 where
+  pub attained : IsAttained task bound w
   pub says : next exit.Done text
 
-zero_attained : (words : Program) (A : List Entry) (next : Reply) (bound : ℕ) (plan : Plan) (attained : Bool) (text : List ℕ) → attains bound (replay_of words A plan) ≡ attained
-    → AttainedBy next attained exit.Done text → IsAttainmentTold words A next bound (Some plan) text
-zero_attained words A next bound plan true text e h = record { attained = attained_by bound (replay_of words A plan) e; says = h }
-zero_attained words A next bound plan false text e h = absurd (not_rejected h.0)
+zero_attained : (task : Task) (next : Reply) (bound : ℕ) (plan : Plan) (attained : Bool) (text : List ℕ) → attains bound (replay_of task.flash task.assumptions plan) ≡ attained
+    → AttainedBy next attained exit.Done text → IsAttainmentTold task next bound (Some plan) text
+zero_attained task next bound plan true text e h = record { attained = attained_by bound (replay_of task.flash task.assumptions plan) e; says = h }
+zero_attained task next bound plan false text e h = absurd (not_rejected h.0)
 
-zero_witness : (words : Program) (A : List Entry) (next : Reply) (bound : ℕ) (w : Option Plan) (text : List ℕ) → WitnessReply words A next bound w exit.Done text → IsAttainmentTold words A next bound w text
-zero_witness words A next bound None text h = record { attained = tt; says = h }
-zero_witness words A next bound (Some plan) text h = zero_attained words A next bound plan (attains bound (replay_of words A plan)) text refl h
+zero_witness : (task : Task) (next : Reply) (bound : ℕ) (w : Option Plan) (text : List ℕ) → WitnessReply task next bound w exit.Done text → IsAttainmentTold task next bound w text
+zero_witness task next bound None text h = record { attained = tt; says = h }
+zero_witness task next bound (Some plan) text h = zero_attained task next bound plan (attains bound (replay_of task.flash task.assumptions plan)) text refl h
 
-pub witness_zero : (words : Program) (A : List Entry) (next : Reply) (bound : ℕ) (w : Option Plan) (status : Status) (text : List ℕ) → IsAttained words A bound w → next status text
-    → WitnessReply words A next bound w status text
-witness_zero words A next bound None status text h k = k
-witness_zero words A next bound (Some plan) status text h k = subst (λ b. AttainedBy next b status text) (sym (attains_by bound (replay_of words A plan) h)) k
+pub witness_zero : (task : Task) (next : Reply) (bound : ℕ) (w : Option Plan) (status : Status) (text : List ℕ) → IsAttained task bound w → next status text
+    → WitnessReply task next bound w status text
+witness_zero task next bound None status text h k = k
+witness_zero task next bound (Some plan) status text h k = subst (λ b. AttainedBy next b status text) (sym (attains_by bound (replay_of task.flash task.assumptions plan) h)) k
 
 -- ---- the verdict and the certificate
 
 -- the certificate is sound, its schedule attains its bound, and the answer continues
-pub record IsAccepted (words : Program) (A : List Entry) (next : Claim → Reply) (c : Claim) (text : List ℕ) : Type 0 where
-  pub sound : IsSound words A c
-  pub told : IsAttainmentTold words A (next c) c.bound c.witness text
+pub record IsAccepted (task : Task) (next : Claim → Reply) (c : Claim) (text : List ℕ) : Type 0 where
+  pub sound : IsSound task c
+  pub told : IsAttainmentTold task (next c) c.bound c.witness text
 
-zero_verdict : (words : Program) (A : List Entry) (next : Claim → Reply) (c : Claim) (v : Judgement ℕ) (text : List ℕ) → IsVerdict words A c v → VerdictReply words A next c v exit.Done text → IsAccepted words A next c text
-zero_verdict words A next c (Rejected reason) text is h = absurd (not_rejected h.0)
-zero_verdict words A next c (Accepted bound) text is h =
-    record { sound = is.0; told = subst (λ b. IsAttainmentTold words A (next c) b c.witness text) is.1 (zero_witness words A (next c) bound c.witness text h) }
+zero_verdict : (task : Task) (next : Claim → Reply) (c : Claim) (v : Judgement ℕ) (text : List ℕ) → IsVerdict task c v → VerdictReply task next c v exit.Done text → IsAccepted task next c text
+zero_verdict task next c (Rejected reason) text is h = absurd (not_rejected h.0)
+zero_verdict task next c (Accepted bound) text is h =
+    record { sound = is.0; told = subst (λ b. IsAttainmentTold task (next c) b c.witness text) is.1 (zero_witness task (next c) bound c.witness text h) }
 
-zero_certificate : (words : Program) (A : List Entry) (next : Claim → Reply) (x : Result Claim CertFault) (text : List ℕ) → CertificateReply words A next x exit.Done text
-    → (c : Claim) × (x ≡ Ok c) × IsAccepted words A next c text
-zero_certificate words A next (Err fault) text h = absurd (zero_refused exit.BadCertificate not_certificate (certificate_refused fault) text h)
-zero_certificate words A next (Ok c) text h = (c, refl, zero_verdict words A next c h.verdict text h.is h.reply)
+zero_certificate : (task : Task) (next : Claim → Reply) (x : Result Claim CertFault) (text : List ℕ) → CertificateReply task next x exit.Done text
+    → (c : Claim) × (x ≡ Ok c) × IsAccepted task next c text
+zero_certificate task next (Err fault) text h = absurd (zero_refused exit.BadCertificate not_certificate (certificate_refused fault) text h)
+zero_certificate task next (Ok c) text h = (c, refl, zero_verdict task next c h.verdict text h.is h.reply)
 
-certificate_zero : (words : Program) (A : List Entry) (next : Claim → Reply) (x : Result Claim CertFault) (c : Claim) (status : Status) (text : List ℕ) → x ≡ Ok c → IsSound words A c → IsAttained words A c.bound c.witness
-    → next c status text → CertificateReply words A next x status text
-certificate_zero words A next x c status text e sound attained k =
-    subst (λ y. CertificateReply words A next y status text) (sym e)
-    (record { verdict = Accepted c.bound; is = (sound, refl); reply = witness_zero words A (next c) c.bound c.witness status text attained k })
+certificate_zero : (task : Task) (next : Claim → Reply) (x : Result Claim CertFault) (c : Claim) (status : Status) (text : List ℕ) → x ≡ Ok c → IsSound task c → IsAttained task c.bound c.witness
+    → next c status text → CertificateReply task next x status text
+certificate_zero task next x c status text e sound attained k =
+    subst (λ y. CertificateReply task next y status text) (sym e)
+    (record { verdict = Accepted c.bound; is = (sound, refl); reply = witness_zero task (next c) c.bound c.witness status text attained k })
 
 -- ---- where a verdict is given
 
 -- the certificate is valid and the answer continues, or it isn't valid
-abbrev pub IsJudged : Program → List Entry → (Claim → Reply) → Claim → Reply
-IsJudged words A next c status text = (IsValid words A c × next c status text) ⊎ ((IsValid words A c → ⊥) × (status ≡ exit.Rejected))
+abbrev pub IsJudged : Task → (Claim → Reply) → Claim → Reply
+IsJudged task next c status text = (IsValid task c × next c status text) ⊎ ((IsValid task c → ⊥) × (status ≡ exit.Rejected))
 
-by_attained : (words : Program) (A : List Entry) (next : Claim → Reply) (c : Claim) (plan : Plan) (attained : Bool) (status : Status) (text : List ℕ) → IsSound words A c → c.witness ≡ Some plan
-    → attains c.bound (replay_of words A plan) ≡ attained → AttainedBy (next c) attained status text → IsJudged words A next c status text
-by_attained words A next c plan true status text sound is e h =
-    inl (record { sound = sound; attained = subst (IsAttained words A c.bound) (sym is) (attained_by c.bound (replay_of words A plan) e) }, h)
-by_attained words A next c plan false status text sound is e h =
-    inr (λ v. no_true (sym (attains_by c.bound (replay_of words A plan) (subst (IsAttained words A c.bound) is v.attained)) ∙ e), h.0)
+by_attained : (task : Task) (next : Claim → Reply) (c : Claim) (plan : Plan) (attained : Bool) (status : Status) (text : List ℕ) → IsSound task c → c.witness ≡ Some plan
+    → attains c.bound (replay_of task.flash task.assumptions plan) ≡ attained → AttainedBy (next c) attained status text → IsJudged task next c status text
+by_attained task next c plan true status text sound is e h =
+    inl (record { sound = sound; attained = subst (IsAttained task c.bound) (sym is) (attained_by c.bound (replay_of task.flash task.assumptions plan) e) }, h)
+by_attained task next c plan false status text sound is e h =
+    inr (λ v. no_true (sym (attains_by c.bound (replay_of task.flash task.assumptions plan) (subst (IsAttained task c.bound) is v.attained)) ∙ e), h.0)
 
-by_witness : (words : Program) (A : List Entry) (next : Claim → Reply) (c : Claim) (w : Option Plan) (status : Status) (text : List ℕ) → IsSound words A c → c.witness ≡ w
-    → WitnessReply words A (next c) c.bound w status text → IsJudged words A next c status text
-by_witness words A next c None status text sound is h = inl (record { sound = sound; attained = subst (IsAttained words A c.bound) (sym is) tt }, h)
-by_witness words A next c (Some plan) status text sound is h = by_attained words A next c plan (attains c.bound (replay_of words A plan)) status text sound is refl h
+by_witness : (task : Task) (next : Claim → Reply) (c : Claim) (w : Option Plan) (status : Status) (text : List ℕ) → IsSound task c → c.witness ≡ w
+    → WitnessReply task (next c) c.bound w status text → IsJudged task next c status text
+by_witness task next c None status text sound is h = inl (record { sound = sound; attained = subst (IsAttained task c.bound) (sym is) tt }, h)
+by_witness task next c (Some plan) status text sound is h = by_attained task next c plan (attains c.bound (replay_of task.flash task.assumptions plan)) status text sound is refl h
 
 rejected_apart : (reason : Reason) (bound : ℕ) → Rejected reason ≡ Accepted bound → ⊥
 rejected_apart reason bound e = cc
 
-by_verdict : VerdictsAreOne → (words : Program) (A : List Entry) (next : Claim → Reply) (c : Claim) → IsClaim c → (v : Judgement ℕ) (status : Status) (text : List ℕ) → IsVerdict words A c v
-    → VerdictReply words A next c v status text → IsJudged words A next c status text
-by_verdict verdicts words A next c claim (Rejected reason) status text is h =
-    inr (λ v. rejected_apart reason c.bound (verdicts words A c (Rejected reason) (Accepted c.bound) claim is (v.sound, refl)), h.0)
-by_verdict verdicts words A next c claim (Accepted bound) status text is h =
-    by_witness words A next c c.witness status text is.0 refl (subst (λ b. WitnessReply words A (next c) b c.witness status text) is.1 h)
+by_verdict : VerdictsAreOne → (task : Task) (next : Claim → Reply) (c : Claim) → IsClaim c → (v : Judgement ℕ) (status : Status) (text : List ℕ) → IsVerdict task c v
+    → VerdictReply task next c v status text → IsJudged task next c status text
+by_verdict verdicts task next c claim (Rejected reason) status text is h =
+    inr (λ v. rejected_apart reason c.bound (verdicts task c (Rejected reason) (Accepted c.bound) claim is (v.sound, refl)), h.0)
+by_verdict verdicts task next c claim (Accepted bound) status text is h =
+    by_witness task next c c.witness status text is.0 refl (subst (λ b. WitnessReply task (next c) b c.witness status text) is.1 h)
 
 -- ---- what follows files that were read
 
@@ -286,11 +287,11 @@ fault_none o reply status text e h = subst (λ x. ImageBy x reply status text) e
 
 -- the answer to an accepted certificate, for a firmware of these bytes with these words, under these assumptions
 abbrev pub Accepting : Type 1
-Accepting = List ℕ → Program → List Entry → Claim → Reply
+Accepting = List ℕ → Task → Claim → Reply
 
 -- the answer of a command that judges, by the bytes of its files
 abbrev JudgeReply : Device → Accepting → List ℕ → List ℕ → Option (List ℕ) → Reply
-JudgeReply device next firmware second list = WithImage device firmware (λ words. WithList device list (λ A. CertificateReply words A (next firmware words A) (certificate_in (device_of words) second)))
+JudgeReply device next firmware second list = WithImage device firmware (λ words. WithList device list (λ A. CertificateReply (task_with words A) (next firmware (task_with words A)) (certificate_in (device_of words) second)))
 
 -- the answer of a command that judges this certificate for this firmware, and how it continues if it accepts
 abbrev pub IsReplyJudged : Device → Accepting → List ℕ → List ℕ → Option (List ℕ) → Contents → Reply
@@ -317,16 +318,16 @@ module _
     image : IsFirmware device firmware (firmware_image device firmware)
     assumptions : IsListOf device list A
     is : certificate_in device certificate ≡ Ok claim
-    accepted : IsAccepted (firmware_image device firmware) A (next firmware (firmware_image device firmware) A) claim text
+    accepted : IsAccepted (task_with (firmware_image device firmware) A) (next firmware (task_with (firmware_image device firmware) A)) claim text
 
   zero_judgement : (fw cert : List ℕ) (assume : Option (List ℕ)) (seen : Contents) (text : List ℕ) → IsReplyJudged device next fw cert assume seen exit.Done text → IsZero assume seen text
   zero_judgement fw cert assume seen text h =
       let first = zero_file fw seen.firmware _ text h in
       let second = zero_file cert seen.second _ text first.2 in
       let third = zero_optional assume seen.assumptions (λ list. JudgeReply device next first.0 second.0 list) text second.2 in
-      let image = zero_image one images narrowing device first.0 (λ ws. WithList device third.0 (λ B. CertificateReply ws B (next first.0 ws B) (certificate_in (device_of ws) second.0))) text third.2 in
-      let list = zero_list lists device third.0 (λ B. CertificateReply (firmware_image device first.0) B (next first.0 (firmware_image device first.0) B) (certificate_in device second.0)) text image.1 in
-      let judged = zero_certificate (firmware_image device first.0) list.0 (next first.0 (firmware_image device first.0) list.0) (certificate_in device second.0) text list.2 in
+      let image = zero_image one images narrowing device first.0 (λ ws. WithList device third.0 (λ B. CertificateReply (task_with ws B) (next first.0 (task_with ws B)) (certificate_in (device_of ws) second.0))) text third.2 in
+      let list = zero_list lists device third.0 (λ B. CertificateReply (task_with (firmware_image device first.0) B) (next first.0 (task_with (firmware_image device first.0) B)) (certificate_in device second.0)) text image.1 in
+      let judged = zero_certificate (task_with (firmware_image device first.0) list.0) (next first.0 (task_with (firmware_image device first.0) list.0)) (certificate_in device second.0) text list.2 in
       record {
         firmware = first.0;
         certificate = second.0;
@@ -346,14 +347,13 @@ module _
     pub certificate : List ℕ
     pub list : Option (List ℕ)
     pub are_read : AreRead assume seen firmware certificate list
-    pub words : Program
+    pub task : Task
     pub claim : Claim
-    pub A : List Entry
-    pub stand : StandFor device firmware certificate list words claim A
-    pub fit : AreWords words
-    pub valid : IsValid words A claim
-    pub bounded : Bounded words A claim.bound
-    pub told : next firmware words A claim exit.Done text
+    pub stand : StandFor device firmware certificate list task claim
+    pub fit : AreWords task.flash
+    pub valid : IsValid task claim
+    pub bounded : Bounded task.flash task.assumptions claim.bound
+    pub told : next firmware task claim exit.Done text
 
   pub judgement_holds : (fw cert : List ℕ) (assume : Option (List ℕ)) (seen : Contents) (text : List ℕ) → ((firmware : List ℕ) → seen.firmware ≡ Whole firmware → AreWords (firmware_image device firmware))
       → IsReplyJudged device next fw cert assume seen exit.Done text → HoldsOf assume seen text
@@ -365,13 +365,12 @@ module _
         certificate = z.certificate;
         list = z.list;
         are_read = z.are_read;
-        words = firmware_image device z.firmware;
+        task = task_with (firmware_image device z.firmware) z.A;
         claim = z.claim;
-        A = z.A;
         stand = record { mean = record { image = z.image; assumptions = z.assumptions }; made_for = spelling.0; fits = spelling.2; bytes = spelling.1 };
         fit = has z.firmware z.are_read.loaded.firmware_read;
         valid = record { sound = z.accepted.sound; attained = z.accepted.told.attained };
-        bounded = bounds (firmware_image device z.firmware) z.A z.claim (has z.firmware z.are_read.loaded.firmware_read) spelling.2.claim z.accepted.sound;
+        bounded = bounds (task_with (firmware_image device z.firmware) z.A) z.claim (has z.firmware z.are_read.loaded.firmware_read) spelling.2.claim z.accepted.sound;
         told = z.accepted.told.says;
       }
 
@@ -387,28 +386,28 @@ module _
   list_read (Some bytes) A later status text e h = subst (λ x. ListBy x later status text) (lists.due device bytes (Ok A) e) h
 
   -- all files are well-formed
-  module _ (fw cert : List ℕ) (assume : Option (List ℕ)) (seen : Contents) (firmware certificate : List ℕ) (list : Option (List ℕ)) (words : Program) (claim : Claim) (A : List Entry)
-      (are : AreRead assume seen firmware certificate list) (stand : StandFor device firmware certificate list words claim A) where
+  module _ (fw cert : List ℕ) (assume : Option (List ℕ)) (seen : Contents) (firmware certificate : List ℕ) (list : Option (List ℕ)) (task : Task) (claim : Claim)
+      (are : AreRead assume seen firmware certificate list) (stand : StandFor device firmware certificate list task claim) where
     -- the answer by the verdict on the certificate
-    judged_so : (status : Status) (text : List ℕ) → IsReplyJudged device next fw cert assume seen status text → JudgedReply words A (next firmware words A) claim status text
+    judged_so : (status : Status) (text : List ℕ) → IsReplyJudged device next fw cert assume seen status text → JudgedReply task (next firmware task) claim status text
     judged_so status text h =
         let first = file_read fw seen.firmware firmware _ status text are.loaded.firmware_read h in
         let second = file_read cert seen.second certificate _ status text are.second_read first in
         let third = optional_read assume seen.assumptions list (λ l. JudgeReply device next firmware certificate l) status text are.loaded.list_read second in
-        let image = image_read firmware words (λ ws. WithList device list (λ B. CertificateReply ws B (next firmware ws B) (certificate_in (device_of ws) certificate))) status text stand.mean.image third in
-        subst (λ x. CertificateReply words A (next firmware words A) x status text) (ap₂ certificate_in (stand.mean.image.narrowed.is ∙ sym stand.made_for) stand.bytes ∙ spelled claim stand.fits)
-        (list_read list A (λ B. CertificateReply words B (next firmware words B) (certificate_in (device_of words) certificate)) status text stand.mean.assumptions image)
+        let image = image_read firmware task.flash (λ ws. WithList device list (λ B. CertificateReply (task_with ws B) (next firmware (task_with ws B)) (certificate_in (device_of ws) certificate))) status text stand.mean.image third in
+        subst (λ x. CertificateReply task (next firmware task) x status text) (ap₂ certificate_in (stand.mean.image.narrowed.is ∙ sym stand.made_for) stand.bytes ∙ spelled claim stand.fits)
+        (list_read list task.assumptions (λ B. CertificateReply (task_with task.flash B) (next firmware (task_with task.flash B)) (certificate_in (device_of task.flash) certificate)) status text stand.mean.assumptions image)
 
     -- the certificate is valid and the answer continues, or it isn't valid
-    pub judged_by : VerdictsAreOne → (status : Status) (text : List ℕ) → IsReplyJudged device next fw cert assume seen status text → IsJudged words A (next firmware words A) claim status text
+    pub judged_by : VerdictsAreOne → (status : Status) (text : List ℕ) → IsReplyJudged device next fw cert assume seen status text → IsJudged task (next firmware task) claim status text
     judged_by verdicts status text h =
-        let j = judged_so status text h in by_verdict verdicts words A (next firmware words A) claim stand.fits.claim j.verdict status text j.is j.reply
+        let j = judged_so status text h in by_verdict verdicts task (next firmware task) claim stand.fits.claim j.verdict status text j.is j.reply
 
-    pub valid_judged : (status : Status) (text : List ℕ) → IsValid words A claim → next firmware words A claim status text → IsReplyJudged device next fw cert assume seen status text
+    pub valid_judged : (status : Status) (text : List ℕ) → IsValid task claim → next firmware task claim status text → IsReplyJudged device next fw cert assume seen status text
     valid_judged status text v says =
         file_zero fw seen.firmware firmware _ status text are.loaded.firmware_read
         (file_zero cert seen.second certificate _ status text are.second_read
         (optional_zero assume seen.assumptions list (λ l. JudgeReply device next firmware certificate l) status text are.loaded.list_read
-        (image_zero one images narrowing device firmware words (λ ws. WithList device list (λ B. CertificateReply ws B (next firmware ws B) (certificate_in (device_of ws) certificate))) status text stand.mean.image
-        (list_zero lists device list A (λ B. CertificateReply words B (next firmware words B) (certificate_in (device_of words) certificate)) status text stand.mean.assumptions
-        (certificate_zero words A (next firmware words A) (certificate_in (device_of words) certificate) claim status text (ap₂ certificate_in (stand.mean.image.narrowed.is ∙ sym stand.made_for) stand.bytes ∙ spelled claim stand.fits) v.sound v.attained says)))))
+        (image_zero one images narrowing device firmware task.flash (λ ws. WithList device list (λ B. CertificateReply (task_with ws B) (next firmware (task_with ws B)) (certificate_in (device_of ws) certificate))) status text stand.mean.image
+        (list_zero lists device list task.assumptions (λ B. CertificateReply (task_with task.flash B) (next firmware (task_with task.flash B)) (certificate_in (device_of task.flash) certificate)) status text stand.mean.assumptions
+        (certificate_zero task (next firmware task) (certificate_in (device_of task.flash) certificate) claim status text (ap₂ certificate_in (stand.mean.image.narrowed.is ∙ sym stand.made_for) stand.bytes ∙ spelled claim stand.fits) v.sound v.attained says)))))

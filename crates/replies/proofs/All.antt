@@ -53,6 +53,7 @@ use Rattle.replies.specs.Headline.{AreLoaded, IsListOf, StandFor, Shows, HoldsAs
 use Rattle.replies.proofs.Accepting.{zero_file, zero_optional, zero_image, zero_list, zero_refused, not_rejected, IsJudged, file_read, optional_read, Accepting, IsReplyJudged, HoldsOf, judgement_holds, image_read, list_read, judged_by, valid_judged}
 use Rattle.replies.proofs.Attaining.{written_attained}
 use Rattle.replies.proofs.Least.{AnalysesFit, analysis_best, best_bounds, Ends, analyse_ends, says_ends, not_written}
+use Rattle.local_rules.specs.Site.{Task, task_with, bare}
 
 not_devices : ◌≡◌ {A = Status} exit.Done exit.BadDevices → ⊥
 not_devices e = cc
@@ -89,9 +90,9 @@ list_fits : (device : Device) (list : Option (List ℕ)) (A : List Entry) → Is
 list_fits device None A h = subst (AllFit device) (sym h) (none_fit device)
 list_fits device (Some bytes) A h = h.fits.fit
 
-means_fit : (device : Device) (firmware : List ℕ) (list : Option (List ℕ)) (words : Program) (A : List Entry) → IsFirmware device firmware words → IsListOf device list A
-    → AllFit (device_of words) A
-means_fit device firmware list words A image listed = subst (λ (d : Device). AllFit d A) (sym image.narrowed.is) (list_fits device list A listed)
+means_fit : (device : Device) (firmware : List ℕ) (list : Option (List ℕ)) (task : Task) → IsFirmware device firmware task.flash → IsListOf device list task.assumptions
+    → AllFit (device_of task.flash) task.assumptions
+means_fit device firmware list task image listed = subst (λ (d : Device). AllFit d task.assumptions) (sym image.narrowed.is) (list_fits device list task.assumptions listed)
 
 abbrev request : Device → List ℕ → Option (List ℕ) → Work → Command
 request device fw assume work = On (record { device = device; firmware = fw; assume = assume; work = work })
@@ -120,14 +121,14 @@ module _
   -- ---- commands that judge
 
   holds_as : (device : Device) (work : Work) (assume : Option (List ℕ)) (seen : Contents) (text : List ℕ) (h : HoldsOf raw images narrowing lists read spelled bounds device (AcceptedReply device work) assume seen text)
-      → Shows device work h.firmware h.words h.A h.claim text → HoldsAsRead device work assume seen text
+      → Shows device work h.firmware h.task h.claim text → HoldsAsRead device work assume seen text
   holds_as device work assume seen text h shows =
       record {
         firmware = h.firmware;
         certificate = h.certificate;
         list = h.list;
         read = h.are_read;
-        holds = record { words = h.words; claim = h.claim; assumptions = h.A; stand = h.stand; bounded = h.bounded; told = h.told; shows = shows };
+        holds = record { task = h.task; claim = h.claim; stand = h.stand; bounded = h.bounded; told = h.told; shows = shows };
       }
 
   explained_as : (device : Device) (cert : List ℕ) (assume : Option (List ℕ)) (seen : Contents) (text : List ℕ)
@@ -137,58 +138,58 @@ module _
       (record {
         explanation = h.told.explanation;
         is = h.told.is;
-        tells = explanations h.words h.A h.claim h.told.explanation h.valid.sound h.told.is;
+        tells = explanations h.task h.claim h.told.explanation h.valid.sound h.told.is;
         told = h.told.says.1;
       })
 
   attained_as : (device : Device) (cert : List ℕ) (assume : Option (List ℕ)) (trials : ℕ) (seen : Contents) (text : List ℕ)
       → HoldsOf raw images narrowing lists read spelled bounds device (AcceptedReply device (Attain cert trials)) assume seen text → IsAttainedAsRead device cert assume trials seen text
   attained_as device cert assume trials seen text h =
-      let shows = written_attained led texts_fit h.words h.A trials h.claim runs text h.told h.stand.fits h.valid in
-      let stand : StandFor device h.firmware text h.list h.words shows.claim h.A = record { mean = h.stand.mean; made_for = ap (λ (x : Claim). x.device) shows.completed.same ∙ h.stand.made_for; fits = shows.fits; bytes = shows.told } in
+      let shows = written_attained led texts_fit h.task trials h.claim runs text h.told h.stand.fits h.valid in
+      let stand : StandFor device h.firmware text h.list h.task shows.claim = record { mean = h.stand.mean; made_for = ap (λ (x : Claim). x.device) shows.completed.same ∙ h.stand.made_for; fits = shows.fits; bytes = shows.told } in
       record {
         holds = record {
           firmware = h.firmware;
           certificate = h.certificate;
           list = h.list;
           read = h.are_read;
-          holds = record { words = h.words; claim = h.claim; assumptions = h.A; stand = h.stand; bounded = h.bounded; told = h.told; shows = shows };
+          holds = record { task = h.task; claim = h.claim; stand = h.stand; bounded = h.bounded; told = h.told; shows = shows };
         };
         again = λ name other.
-            valid_judged raw images narrowing lists read spelled bounds device (AcceptedReply device (Check other)) name other assume (record seen { second = Whole text }) h.firmware text h.list h.words shows.claim h.A
+            valid_judged raw images narrowing lists read spelled bounds device (AcceptedReply device (Check other)) name other assume (record seen { second = Whole text }) h.firmware text h.list h.task shows.claim
             (record { loaded = record { firmware_read = h.are_read.loaded.firmware_read; list_read = h.are_read.loaded.list_read }; second_read = refl }) stand exit.Done (accepted shows.claim.bound (is_some shows.claim.witness)) shows.valid (refl, refl);
       }
 
   -- a command that answers 0 if a certificate is valid
-  record SaysValid (words : Program) (A : List Entry) (c : Claim) (status : Status) : Type 0 where
-    accepted : (status ≡ exit.Done) ↔ IsValid words A c
+  record SaysValid (task : Task) (c : Claim) (status : Status) : Type 0 where
+    accepted : (status ≡ exit.Done) ↔ IsValid task c
     unclear : status ≡ exit.Unclear → ⊥
-    rejected : (status ≡ exit.Rejected) ↔ (IsValid words A c → ⊥)
+    rejected : (status ≡ exit.Rejected) ↔ (IsValid task c → ⊥)
 
-  accepts_by : (words : Program) (A : List Entry) (next : Claim → Reply) (c : Claim) (status : Status) (text : List ℕ) → ((s : Status) (t : List ℕ) → next c s t → s ≡ exit.Done) → IsJudged words A next c status text
-      → SaysValid words A c status
-  accepts_by words A next c status text zero (inl h) =
+  accepts_by : (task : Task) (next : Claim → Reply) (c : Claim) (status : Status) (text : List ℕ) → ((s : Status) (t : List ℕ) → next c s t → s ≡ exit.Done) → IsJudged task next c status text
+      → SaysValid task c status
+  accepts_by task next c status text zero (inl h) =
       let z = zero status text h.1 in
       record { accepted = (λ e. h.0, λ v. z); unclear = λ e. not_unclear (sym z ∙ e); rejected = (λ e. absurd (not_rejected (sym z ∙ e)), λ n. absurd (n h.0)) }
-  accepts_by words A next c status text zero (inr h) =
+  accepts_by task next c status text zero (inr h) =
       record { accepted = (λ e. absurd (not_rejected (sym e ∙ h.1)), λ v. absurd (h.0 v)); unclear = λ e. rejected_apart_from_unclear (sym h.1 ∙ e); rejected = (λ e. h.0, λ n. h.1) }
 
   accepts_valid : (device : Device) (work : Work) (fw cert : List ℕ) (assume : Option (List ℕ)) (seen : Contents) (status : Status) (text : List ℕ)
-      → ((bytes : List ℕ) (words : Program) (A : List Entry) (c : Claim) (s : Status) (t : List ℕ) → AcceptedReply device work bytes words A c s t → s ≡ exit.Done)
-      → ((words : Program) (A : List Entry) (c : Claim) (s : Status) → SaysValid words A c s → SaysWhether work words A c s)
+      → ((bytes : List ℕ) (task : Task) (c : Claim) (s : Status) (t : List ℕ) → AcceptedReply device work bytes task c s t → s ≡ exit.Done)
+      → ((task : Task) (c : Claim) (s : Status) → SaysValid task c s → SaysWhether work task c s)
       → IsReplyJudged device (AcceptedReply device work) fw cert assume seen status text → AcceptsExactly device work assume seen status
-  accepts_valid device work fw cert assume seen status text zero says h firmware certificate list words claim A are stand =
-      says words A claim status
-      (accepts_by words A (AcceptedReply device work firmware words A) claim status text (zero firmware words A claim)
-      (judged_by raw images narrowing lists read spelled bounds device (AcceptedReply device work) fw cert assume seen firmware certificate list words claim A are stand verdicts status text h))
+  accepts_valid device work fw cert assume seen status text zero says h firmware certificate list task claim are stand =
+      says task claim status
+      (accepts_by task (AcceptedReply device work firmware task) claim status text (zero firmware task claim)
+      (judged_by raw images narrowing lists read spelled bounds device (AcceptedReply device work) fw cert assume seen firmware certificate list task claim are stand verdicts status text h))
 
   -- ---- clear and premises
 
   none_apart : (node pc : ℕ) → ◌≡◌ {A = ClearVerdict} clear.Clear (clear.Unclear node pc) → ⊥
   none_apart node pc e = cc
 
-  clear_by : (words : Program) (c : Claim) (status : Status) (text : List ℕ) (v : ClearVerdict) → IsClearVerdict words c v → ClearSays words c v status text → IsValid words [] c
-      → (cert : List ℕ) → SaysWhether (Clear cert) words [] c status
+  clear_by : (words : Program) (c : Claim) (status : Status) (text : List ℕ) (v : ClearVerdict) → IsClearVerdict words c v → ClearSays words c v status text → IsValid (bare words) c
+      → (cert : List ℕ) → SaysWhether (Clear cert) (bare words) c status
   clear_by words c status text clear.Clear is says valid cert =
       record {
         accepted = (λ e. (valid, is), λ a. says.0);
@@ -205,7 +206,7 @@ module _
         rejected = (λ e. absurd (rejected_apart_from_unclear (sym e ∙ says.0)), λ n. absurd (n valid));
       }
 
-  clear_says : (words : Program) (c : Claim) (status : Status) (text cert : List ℕ) → IsJudged words [] (ClearReply words) c status text → SaysWhether (Clear cert) words [] c status
+  clear_says : (words : Program) (c : Claim) (status : Status) (text cert : List ℕ) → IsJudged (bare words) (ClearReply words) c status text → SaysWhether (Clear cert) (bare words) c status
   clear_says words c status text cert (inl h) = clear_by words c status text h.1.verdict h.1.is h.1.says h.0 cert
   clear_says words c status text cert (inr h) =
       record {
@@ -220,32 +221,32 @@ module _
 
   clear_read : (device : Device) (fw cert : List ℕ) (seen : Contents) (status : Status) (text : List ℕ) → IsReplyJudged device (AcceptedReply device (Clear cert)) fw cert None seen status text
       → AcceptsExactly device (Clear cert) None seen status
-  clear_read device fw cert seen status text h firmware certificate list words claim A are stand =
-      let empty : [] ≡ A = no_list device list A are.loaded.list_read stand.mean.assumptions in
-      let judged = judged_by raw images narrowing lists read spelled bounds device (AcceptedReply device (Clear cert)) fw cert None seen firmware certificate list words claim A are stand verdicts status text h in
-      subst (λ B. SaysWhether (Clear cert) words B claim status) empty
-      (clear_says words claim status text cert (subst (λ B. IsJudged words B (ClearReply words) claim status text) (sym empty) judged))
+  clear_read device fw cert seen status text h firmware certificate list task claim are stand =
+      let empty : [] ≡ task.assumptions = no_list device list task.assumptions are.loaded.list_read stand.mean.assumptions in
+      let judged = judged_by raw images narrowing lists read spelled bounds device (AcceptedReply device (Clear cert)) fw cert None seen firmware certificate list task claim are stand verdicts status text h in
+      subst (λ B. SaysWhether (Clear cert) (task_with task.flash B) claim status) empty
+      (clear_says task.flash claim status text cert (subst (λ B. IsJudged (task_with task.flash B) (ClearReply task.flash) claim status text) (sym empty) judged))
 
-  all_clear : (words : Program) (c : Claim) (text : List ℕ) (v : ClearVerdict) → IsClearVerdict words c v → ClearSays words c v exit.Done text → AreAllClear words [] c
+  all_clear : (words : Program) (c : Claim) (text : List ℕ) (v : ClearVerdict) → IsClearVerdict words c v → ClearSays words c v exit.Done text → AreAllClear (bare words) c
   all_clear words c text clear.Clear is says = is
   all_clear words c text (clear.Unclear node pc) is says = absurd (not_unclear says.0)
 
   clear_as : (device : Device) (cert : List ℕ) (seen : Contents) (text : List ℕ)
       → HoldsOf raw images narrowing lists read spelled bounds device (AcceptedReply device (Clear cert)) None seen text → HoldsAsRead device (Clear cert) None seen text
   clear_as device cert seen text h =
-      let empty : [] ≡ h.A = no_list device h.list h.A h.are_read.loaded.list_read h.stand.mean.assumptions in
+      let empty : [] ≡ h.task.assumptions = no_list device h.list h.task.assumptions h.are_read.loaded.list_read h.stand.mean.assumptions in
       holds_as device (Clear cert) None seen text h
-      (told_clear.never h.words h.claim h.fit h.stand.fits.claim (subst (λ B. IsSound h.words B h.claim) (sym empty) h.valid.sound) (all_clear h.words h.claim text h.told.verdict h.told.is h.told.says))
+      (told_clear.never h.task.flash h.claim h.fit h.stand.fits.claim (subst (λ B. IsSound (task_with h.task.flash B) h.claim) (sym empty) h.valid.sound) (all_clear h.task.flash h.claim text h.told.verdict h.told.is h.told.says))
 
-  none_ends : (words : Program) (A : List Entry) (m : State) (choices : List Choice) (word : ℕ) → Contains [] word ⊎ EndsByTakeAt words A [] m choices → ⊥
-  none_ends words A m choices word (inl h) = none_in word h
-  none_ends words A m choices word (inr h) = none_in (vector_word (device_of words) h.vector) h.word
+  none_ends : (task : Task) (m : State) (choices : List Choice) (word : ℕ) → Contains [] word ⊎ EndsByTakeAt task [] m choices → ⊥
+  none_ends task m choices word (inl h) = none_in word h
+  none_ends task m choices word (inr h) = none_in (vector_word (device_of task.flash) h.vector) h.word
 
   premises_as : (device : Device) (cert : List ℕ) (assume : Option (List ℕ)) (seen : Contents) (text : List ℕ)
       → HoldsOf raw images narrowing lists read spelled bounds device (AcceptedReply device (Premises cert false)) assume seen text
       → HoldsAsRead device (Premises cert false) assume seen text
   premises_as device cert assume seen text h =
-      let ends = told_clear.ends h.words h.A h.claim h.told.sites h.told.nevers h.fit h.stand.fits.claim h.valid.sound h.told.are h.told.are_nevers in
+      let ends = told_clear.ends h.task h.claim h.told.sites h.told.nevers h.fit h.stand.fits.claim h.valid.sound h.told.are h.told.are_nevers in
       holds_as device (Premises cert false) assume seen text h
       (record {
         sites = h.told.sites;
@@ -254,44 +255,44 @@ module _
         are_nevers = h.told.are_nevers;
         ends = ends;
         none_flagged = λ no_sites no_nevers m choices flag reset run stops.
-            none_ends h.words h.A m choices (word_of_flag flag)
-            (subst (λ (xs : List ℕ). Contains xs (word_of_flag flag) ⊎ EndsByTakeAt h.words h.A [] m choices) no_sites
-            (subst (λ (xs : List ℕ). Contains h.told.sites (word_of_flag flag) ⊎ EndsByTakeAt h.words h.A xs m choices) no_nevers (ends m choices flag reset run stops)));
-        as_clear = λ none verdict is. told_clear.empty h.words h.claim verdict h.told.sites is (subst (λ B. AreSites h.words B h.claim h.told.sites) none h.told.are);
+            none_ends h.task m choices (word_of_flag flag)
+            (subst (λ (xs : List ℕ). Contains xs (word_of_flag flag) ⊎ EndsByTakeAt h.task [] m choices) no_sites
+            (subst (λ (xs : List ℕ). Contains h.told.sites (word_of_flag flag) ⊎ EndsByTakeAt h.task xs m choices) no_nevers (ends m choices flag reset run stops)));
+        as_clear = λ none verdict is. told_clear.empty h.task.flash h.claim verdict h.told.sites is (subst (λ B. AreSites (task_with h.task.flash B) h.claim h.told.sites) none h.told.are);
         told = h.told.says.1;
       })
 
-  none_told : (words : Program) (A : List Entry) (m : State) (choices : List Choice) (flag : Flag) (places : List FlaggedPlace) (nevers : List ℕ) → places ≡ [] → nevers ≡ []
-      → AreToldOf places flag ⊎ EndsByTakeAt words A nevers m choices → ⊥
-  none_told words A m choices flag places nevers no_places no_nevers (inl h) = none_in h.place (subst (λ (xs : List FlaggedPlace). Contains xs h.place) no_places h.present)
-  none_told words A m choices flag places nevers no_places no_nevers (inr h) =
-      none_in (vector_word (device_of words) h.vector) (subst (λ (xs : List ℕ). Contains xs (vector_word (device_of words) h.vector)) no_nevers h.word)
+  none_told : (task : Task) (m : State) (choices : List Choice) (flag : Flag) (places : List FlaggedPlace) (nevers : List ℕ) → places ≡ [] → nevers ≡ []
+      → AreToldOf places flag ⊎ EndsByTakeAt task nevers m choices → ⊥
+  none_told task m choices flag places nevers no_places no_nevers (inl h) = none_in h.place (subst (λ (xs : List FlaggedPlace). Contains xs h.place) no_places h.present)
+  none_told task m choices flag places nevers no_places no_nevers (inr h) =
+      none_in (vector_word (device_of task.flash) h.vector) (subst (λ (xs : List ℕ). Contains xs (vector_word (device_of task.flash) h.vector)) no_nevers h.word)
 
   causes_as : (device : Device) (cert : List ℕ) (assume : Option (List ℕ)) (seen : Contents) (text : List ℕ)
       → HoldsOf raw images narrowing lists read spelled bounds device (AcceptedReply device (Premises cert true)) assume seen text
       → HoldsAsRead device (Premises cert true) assume seen text
   causes_as device cert assume seen text h =
-      let ends = told_clear.places.ends h.words h.A h.claim h.told.places h.told.nevers h.fit h.stand.fits.claim h.valid.sound h.told.are h.told.are_nevers in
+      let ends = told_clear.places.ends h.task h.claim h.told.places h.told.nevers h.fit h.stand.fits.claim h.valid.sound h.told.are h.told.are_nevers in
       holds_as device (Premises cert true) assume seen text h
       (record {
         places = h.told.places;
         nevers = h.told.nevers;
         are = h.told.are;
         are_nevers = h.told.are_nevers;
-        causes = told_clear.places.told h.words h.A h.claim h.told.places h.told.are;
+        causes = told_clear.places.told h.task h.claim h.told.places h.told.are;
         ends = ends;
         none_flagged = λ no_places no_nevers m choices flag reset run stops.
-            none_told h.words h.A m choices flag h.told.places h.told.nevers no_places no_nevers (ends m choices flag reset run stops);
+            none_told h.task m choices flag h.told.places h.told.nevers no_places no_nevers (ends m choices flag reset run stops);
         as_clear = λ none verdict is.
             let same =
-            told_clear.empty h.words h.claim verdict (map word_of h.told.places) is (subst (λ B. AreSites h.words B h.claim (map word_of h.told.places)) none h.told.are.sites) in
+            told_clear.empty h.task.flash h.claim verdict (map word_of h.told.places) is (subst (λ B. AreSites (task_with h.task.flash B) h.claim (map word_of h.told.places)) none h.told.are.sites) in
             (λ e. no_words h.told.places (same.0 e), λ e. same.1 (ap (map word_of) e));
         told = h.told.says.1;
       })
 
-  places_zero : (why : Bool) (names : List Named) (words : Program) (A : List Entry) (c : Claim) (status : Status) (text : List ℕ) → PlacesReply why names words A c status text → status ≡ exit.Done
-  places_zero false names words A c status text k = k.says.0
-  places_zero true names words A c status text k = k.says.0
+  places_zero : (why : Bool) (names : List Named) (task : Task) (c : Claim) (status : Status) (text : List ℕ) → PlacesReply why names task c status text → status ≡ exit.Done
+  places_zero false names task c status text k = k.says.0
+  places_zero true names task c status text k = k.says.0
 
   places_as : (why : Bool) (device : Device) (cert : List ℕ) (assume : Option (List ℕ)) (seen : Contents) (text : List ℕ)
       → HoldsOf raw images narrowing lists read spelled bounds device (AcceptedReply device (Premises cert why)) assume seen text
@@ -300,38 +301,37 @@ module _
   places_as true device cert assume seen text h = causes_as device cert assume seen text h
 
   no_reply : Accepting
-  no_reply bytes words A c status text = ⊥
+  no_reply bytes task c status text = ⊥
 
   -- ---- analyse
 
   abbrev AfterAnalysis : Device → Option ℕ → List ℕ → Option (List ℕ) → Reply
-  AfterAnalysis device steps firmware list = WithImage device firmware (λ words. WithList device list (λ A. AnalyseReply words A steps))
+  AfterAnalysis device steps firmware list = WithImage device firmware (λ words. WithList device list (λ A. AnalyseReply (task_with words A) steps))
 
   least_text : (device : Device) (assume : Option (List ℕ)) (steps : Option ℕ) (seen : Contents) (text firmware : List ℕ) (list : Option (List ℕ)) (A : List Entry) → AreLoaded assume seen firmware list
-      → IsFirmware device firmware (firmware_image device firmware) → IsListOf device list A → AreWords (firmware_image device firmware) → AnalyseReply (firmware_image device firmware) A steps exit.Done text → IsLeastAsRead device assume seen text
-  least_text device assume steps seen text firmware list A loaded image listed has (inr h) = absurd (not_written answers rounds solutions bounds runs (firmware_image device firmware) A steps
-      (means_fit device firmware list (firmware_image device firmware) A image listed) text h)
+      → IsFirmware device firmware (firmware_image device firmware) → IsListOf device list A → AreWords (firmware_image device firmware) → AnalyseReply (task_with (firmware_image device firmware) A) steps exit.Done text → IsLeastAsRead device assume seen text
+  least_text device assume steps seen text firmware list A loaded image listed has (inr h) = absurd (not_written answers rounds solutions bounds runs (task_with (firmware_image device firmware) A) steps
+      (means_fit device firmware list (task_with (firmware_image device firmware) A) image listed) text h)
   least_text device assume steps seen text firmware list A loaded image listed has (inl h) =
-      let best = analysis_best answers rounds solutions bounds runs (firmware_image device firmware) A steps h.claim h.analysis in
-      let stand : StandFor device firmware text list (firmware_image device firmware) h.claim A = record { mean = record { image = image; assumptions = listed }; made_for = best.valid.sound.meets.device; fits = best.fits; bytes = h.says.1 } in
+      let best = analysis_best answers rounds solutions bounds runs (task_with (firmware_image device firmware) A) steps h.claim h.analysis in
+      let stand : StandFor device firmware text list (task_with (firmware_image device firmware) A) h.claim = record { mean = record { image = image; assumptions = listed }; made_for = best.valid.sound.meets.device; fits = best.fits; bytes = h.says.1 } in
       record {
         firmware = firmware;
         list = list;
         read = loaded;
         certificate = record {
-          words = firmware_image device firmware;
+          task = task_with (firmware_image device firmware) A;
           claim = h.claim;
-          assumptions = A;
           stand = stand;
           valid = best.valid;
           least = best.least;
-          bounded = best_bounds answers rounds solutions bounds runs (firmware_image device firmware) A steps h.claim has best;
+          bounded = best_bounds answers rounds solutions bounds runs (task_with (firmware_image device firmware) A) steps h.claim has best;
           reached = best.reached;
           trials = best.trials;
-          short = subst (λ (t : List ℕ). length t ≤ certificate_cap) (sym h.says.1) (fit (firmware_image device firmware) A steps h.claim h.analysis best.fits);
+          short = subst (λ (t : List ℕ). length t ≤ certificate_cap) (sym h.says.1) (fit (task_with (firmware_image device firmware) A) steps h.claim h.analysis best.fits);
         };
         again = λ fw cert.
-            valid_judged raw images narrowing lists read spelled bounds device (AcceptedReply device (Check cert)) fw cert assume (record seen { second = Whole text }) firmware text list (firmware_image device firmware) h.claim A
+            valid_judged raw images narrowing lists read spelled bounds device (AcceptedReply device (Check cert)) fw cert assume (record seen { second = Whole text }) firmware text list (task_with (firmware_image device firmware) A) h.claim
             (record { loaded = record { firmware_read = loaded.firmware_read; list_read = loaded.list_read }; second_read = refl }) stand exit.Done (accepted h.claim.bound (is_some h.claim.witness)) best.valid (refl, refl);
       }
 
@@ -340,28 +340,28 @@ module _
   zero_analysis device fw assume steps seen text has h =
       let first = zero_file fw seen.firmware _ text h in
       let second = zero_optional assume seen.assumptions (AfterAnalysis device steps first.0) text first.2 in
-      let image = zero_image raw images narrowing device first.0 (λ ws. WithList device second.0 (λ B. AnalyseReply ws B steps)) text second.2 in
-      let list = zero_list lists device second.0 (λ B. AnalyseReply (firmware_image device first.0) B steps) text image.1 in
+      let image = zero_image raw images narrowing device first.0 (λ ws. WithList device second.0 (λ B. AnalyseReply (task_with ws B) steps)) text second.2 in
+      let list = zero_list lists device second.0 (λ B. AnalyseReply (task_with (firmware_image device first.0) B) steps) text image.1 in
       least_text device assume steps seen text first.0 second.0 list.0 (record { firmware_read = first.1; list_read = second.1 }) image.0 list.1 (has first.0 first.1) list.2
 
   analysis_read : (device : Device) (fw : List ℕ) (assume : Option (List ℕ)) (steps : Option ℕ) (seen : Contents) (status : Status) (text : List ℕ) → IsReply (request device fw assume (Analyse steps)) seen status text → AnswersRounds device assume steps seen status
-  analysis_read device fw assume steps seen status text h firmware list words A loaded mean =
+  analysis_read device fw assume steps seen status text h firmware list task loaded mean =
       let first : WithOptional assume seen.assumptions (AfterAnalysis device steps firmware) status text = file_read fw seen.firmware firmware (λ b. WithOptional assume seen.assumptions (AfterAnalysis device steps b)) status text loaded.firmware_read h in
       let second = optional_read assume seen.assumptions list (AfterAnalysis device steps firmware) status text loaded.list_read first in
-      let image = image_read raw images narrowing lists read spelled bounds device no_reply firmware words (λ ws. WithList device list (λ B. AnalyseReply ws B steps)) status text mean.image second in
-      says_ends answers rounds solutions bounds runs words A steps (means_fit device firmware list words A mean.image mean.assumptions) status text
-      (analyse_ends answers rounds solutions bounds runs words A steps status text (list_read raw images narrowing lists read spelled bounds device no_reply list A (λ B. AnalyseReply words B steps) status text mean.assumptions image))
+      let image = image_read raw images narrowing lists read spelled bounds device no_reply firmware task.flash (λ ws. WithList device list (λ B. AnalyseReply (task_with ws B) steps)) status text mean.image second in
+      says_ends answers rounds solutions bounds runs task steps (means_fit device firmware list task mean.image mean.assumptions) status text
+      (analyse_ends answers rounds solutions bounds runs task steps status text (list_read raw images narrowing lists read spelled bounds device no_reply list task.assumptions (λ B. AnalyseReply (task_with task.flash B) steps) status text mean.assumptions image))
 
   -- ---- simulate
 
   abbrev AfterDevices : Device → ℕ → List ℕ → List ℕ → Option (List ℕ) → Reply
-  AfterDevices device steps firmware devices list = WithImage device firmware (λ words. WithList device list (λ A. SimulateReply words A steps (setup_in (device_of words) devices)))
+  AfterDevices device steps firmware devices list = WithImage device firmware (λ words. WithList device list (λ A. SimulateReply (task_with words A) steps (setup_in (device_of words) devices)))
 
   -- status 0 comes with a setup, and a setup gives status 0
-  zero_setup : (words : Program) (A : List Entry) (steps : ℕ) (x : Result Setup DevicesFault) (text : List ℕ) → SimulateReply words A steps x exit.Done text
-      → (setup : Setup) × (x ≡ Ok setup) × (text ≡ run_text (simulation_of words A setup steps))
-  zero_setup words A steps (Err fault) text h = absurd (zero_refused exit.BadDevices not_devices (devices_refused fault) text h)
-  zero_setup words A steps (Ok setup) text h = (setup, refl, h.1)
+  zero_setup : (task : Task) (steps : ℕ) (x : Result Setup DevicesFault) (text : List ℕ) → SimulateReply task steps x exit.Done text
+      → (setup : Setup) × (x ≡ Ok setup) × (text ≡ run_text (simulation_of task.flash task.assumptions setup steps))
+  zero_setup task steps (Err fault) text h = absurd (zero_refused exit.BadDevices not_devices (devices_refused fault) text h)
+  zero_setup task steps (Ok setup) text h = (setup, refl, h.1)
 
   zero_simulation : (device : Device) (fw dev : List ℕ) (assume : Option (List ℕ)) (steps : ℕ) (seen : Contents) (text : List ℕ) → ((firmware : List ℕ) → seen.firmware ≡ Whole firmware → AreWords (firmware_image device firmware))
       → IsReply (request device fw assume (Simulate dev steps)) seen exit.Done text → IsSimulatedAsRead device assume steps seen text
@@ -370,9 +370,9 @@ module _
       let second = zero_file dev seen.second _ text first.2 in
       let third = zero_optional assume seen.assumptions (AfterDevices device steps first.0 second.0) text second.2 in
       let words : Program = firmware_image device first.0 in
-      let image = zero_image raw images narrowing device first.0 (λ ws. WithList device third.0 (λ B. SimulateReply ws B steps (setup_in (device_of ws) second.0))) text third.2 in
-      let list = zero_list lists device third.0 (λ B. SimulateReply words B steps (setup_in (device_of words) second.0)) text image.1 in
-      let setup = zero_setup words list.0 steps (setup_in (device_of words) second.0) text list.2 in
+      let image = zero_image raw images narrowing device first.0 (λ ws. WithList device third.0 (λ B. SimulateReply (task_with ws B) steps (setup_in (device_of ws) second.0))) text third.2 in
+      let list = zero_list lists device third.0 (λ B. SimulateReply (task_with words B) steps (setup_in (device_of words) second.0)) text image.1 in
+      let setup = zero_setup (task_with words list.0) steps (setup_in (device_of words) second.0) text list.2 in
       let reads = devices.read device second.0 setup.0 setup.1 in
       record {
         firmware = first.0;
@@ -380,39 +380,38 @@ module _
         list = third.0;
         read = record { loaded = record { firmware_read = first.1; list_read = third.1 }; second_read = second.1 };
         simulated = record {
-          words = words;
+          task = task_with words list.0;
           setup = setup.0;
-          assumptions = list.0;
           mean = record { image = image.0; assumptions = list.1 };
           reads = reads;
           told = setup.2;
-          within = λ c claim valid. simulations device words list.0 setup.0 steps c.bound reads.fits (bounds words list.0 c (has first.0 first.1) claim valid.sound);
+          within = λ c claim valid. simulations device words list.0 setup.0 steps c.bound reads.fits (bounds (task_with words list.0) c (has first.0 first.1) claim valid.sound);
         };
       }
 
-  simulated_by : (words : Program) (A : List Entry) (steps : ℕ) (text bytes : List ℕ) (status : Status) → SimulateReply words A steps (setup_in (device_of words) bytes) status text → (status ≡ exit.Done) ↔ ((setup : Setup) × IsDevices (device_of words) bytes setup)
-  simulated_by words A steps text bytes status h = (
-    λ zero. let s = zero_setup words A steps (setup_in (device_of words) bytes) text (subst (λ x. SimulateReply words A steps (setup_in (device_of words) bytes) x text) zero h) in (s.0, devices.read (device_of words) bytes s.0 s.1),
-    λ s. (subst (λ x. SimulateReply words A steps x status text) (devices.spelled (device_of words) bytes s.0 s.1) h).0,
+  simulated_by : (task : Task) (steps : ℕ) (text bytes : List ℕ) (status : Status) → SimulateReply task steps (setup_in (device_of task.flash) bytes) status text → (status ≡ exit.Done) ↔ ((setup : Setup) × IsDevices (device_of task.flash) bytes setup)
+  simulated_by task steps text bytes status h = (
+    λ zero. let s = zero_setup task steps (setup_in (device_of task.flash) bytes) text (subst (λ x. SimulateReply task steps (setup_in (device_of task.flash) bytes) x text) zero h) in (s.0, devices.read (device_of task.flash) bytes s.0 s.1),
+    λ s. (subst (λ x. SimulateReply task steps x status text) (devices.spelled (device_of task.flash) bytes s.0 s.1) h).0,
   )
 
   simulation_read : (device : Device) (fw dev : List ℕ) (assume : Option (List ℕ)) (steps : ℕ) (seen : Contents) (status : Status) (text : List ℕ) → IsReply (request device fw assume (Simulate dev steps)) seen status text → AnswersDevices device assume seen status
-  simulation_read device fw dev assume steps seen status text h firmware devices list words A are mean =
+  simulation_read device fw dev assume steps seen status text h firmware devices list task are mean =
       let first = file_read fw seen.firmware firmware _ status text are.loaded.firmware_read h in
       let second = file_read dev seen.second devices _ status text are.second_read first in
       let third = optional_read assume seen.assumptions list (AfterDevices device steps firmware devices) status text are.loaded.list_read second in
-      let image = image_read raw images narrowing lists read spelled bounds device no_reply firmware words (λ ws. WithList device list (λ B. SimulateReply ws B steps (setup_in (device_of ws) devices))) status text mean.image third in
+      let image = image_read raw images narrowing lists read spelled bounds device no_reply firmware task.flash (λ ws. WithList device list (λ B. SimulateReply (task_with ws B) steps (setup_in (device_of ws) devices))) status text mean.image third in
       subst (λ (d : Device). (status ≡ exit.Done) ↔ ((setup : Setup) × IsDevices d devices setup)) mean.image.narrowed.is
-      (simulated_by words A steps text devices status
-      (list_read raw images narrowing lists read spelled bounds device no_reply list A (λ B. SimulateReply words B steps (setup_in (device_of words) devices)) status text mean.assumptions image))
+      (simulated_by task steps text devices status
+      (list_read raw images narrowing lists read spelled bounds device no_reply list task.assumptions (λ B. SimulateReply (task_with task.flash B) steps (setup_in (device_of task.flash) devices)) status text mean.assumptions image))
 
   -- ---- demo
 
   measured : (size : ℕ) (text : List ℕ) → DemoReply size exit.Done text → IsMeasured size text
   measured size text (inl h) = record { claim = h.claim; fits = h.fits; answer = h.answer; told = h.says.1 }
-  measured size text (inr k) = absurd (not_written answers rounds solutions bounds runs (demo_program size) [] None (none_fit (device_of (demo_program size))) text k)
+  measured size text (inr k) = absurd (not_written answers rounds solutions bounds runs (bare (demo_program size)) None (none_fit (device_of (demo_program size))) text k)
 
-  demo_ends : (size : ℕ) (status : Status) (text : List ℕ) → DemoReply size status text → Ends answers rounds solutions bounds runs (demo_program size) [] None status text
+  demo_ends : (size : ℕ) (status : Status) (text : List ℕ) → DemoReply size status text → Ends answers rounds solutions bounds runs (bare (demo_program size)) None status text
   demo_ends size status text (inl h) = inl (record { claim = h.claim; fits = h.fits; answer = h.answer; zero = h.says.0 })
   demo_ends size status text (inr k) = inr k
 
@@ -449,20 +448,20 @@ module _
   work_is_exact : (device : Device) (fw : List ℕ) (assume : Option (List ℕ)) (work : Work) (seen : Contents) (status : Status) (text : List ℕ) → IsReply (request device fw assume work) seen status text
       → IsWorkExact device assume work seen status
   work_is_exact device fw assume (Check cert) seen status text h =
-      accepts_valid device (Check cert) fw cert assume seen status text (λ bytes ws B c s t k. k.0) (λ ws B c s k. record { accepted = k.accepted; unclear = (k.unclear, λ b. absurd b); rejected = k.rejected }) h
+      accepts_valid device (Check cert) fw cert assume seen status text (λ bytes task c s t k. k.0) (λ task c s k. record { accepted = k.accepted; unclear = (k.unclear, λ b. absurd b); rejected = k.rejected }) h
   work_is_exact device fw assume (Analyse steps) seen status text h = analysis_read device fw assume steps seen status text h
   work_is_exact device fw assume (Run schedule) seen status text h = tt
   work_is_exact device fw assume (Report cert json) seen status text h =
-      accepts_valid device (Report cert json) fw cert assume seen status text (λ bytes ws B c s t k. k.0) (λ ws B c s k. record { accepted = k.accepted; unclear = (k.unclear, λ b. absurd b); rejected = k.rejected }) h
+      accepts_valid device (Report cert json) fw cert assume seen status text (λ bytes task c s t k. k.0) (λ task c s k. record { accepted = k.accepted; unclear = (k.unclear, λ b. absurd b); rejected = k.rejected }) h
   work_is_exact device fw assume (Explain cert) seen status text h =
-      accepts_valid device (Explain cert) fw cert assume seen status text (λ bytes ws B c s t k. k.says.0) (λ ws B c s k. record { accepted = k.accepted; unclear = (k.unclear, λ b. absurd b); rejected = k.rejected }) h
+      accepts_valid device (Explain cert) fw cert assume seen status text (λ bytes task c s t k. k.says.0) (λ task c s k. record { accepted = k.accepted; unclear = (k.unclear, λ b. absurd b); rejected = k.rejected }) h
   work_is_exact device fw assume (Clear cert) seen status text h = clear_read device fw cert seen status text h
   work_is_exact device fw assume (Premises cert why) seen status text h =
-      accepts_valid device (Premises cert why) fw cert assume seen status text (λ bytes ws B c s t k. places_zero why (firmware_names device bytes) ws B c s t k) (λ ws B c s k. record { accepted = k.accepted; unclear = (k.unclear, λ b. absurd b); rejected = k.rejected }) h
+      accepts_valid device (Premises cert why) fw cert assume seen status text (λ bytes task c s t k. places_zero why (firmware_names device bytes) task c s t k) (λ task c s k. record { accepted = k.accepted; unclear = (k.unclear, λ b. absurd b); rejected = k.rejected }) h
   work_is_exact device fw assume (Attain cert trials) seen status text h =
-      accepts_valid device (Attain cert trials) fw cert assume seen status text (λ bytes ws B c s t k. k.says.0) (λ ws B c s k. record { accepted = k.accepted; unclear = (k.unclear, λ b. absurd b); rejected = k.rejected }) h
+      accepts_valid device (Attain cert trials) fw cert assume seen status text (λ bytes task c s t k. k.says.0) (λ task c s k. record { accepted = k.accepted; unclear = (k.unclear, λ b. absurd b); rejected = k.rejected }) h
   work_is_exact device fw assume (Simulate dev steps) seen status text h = simulation_read device fw dev assume steps seen status text h
 
   pub replies_are_exact : RepliesAreExact
   replies_are_exact (On r) seen status text h = work_is_exact r.device r.firmware r.assume r.work seen status text h
-  replies_are_exact (Demo size) seen status text h = says_ends answers rounds solutions bounds runs (demo_program size) [] None (none_fit (device_of (demo_program size))) status text (demo_ends size status text h)
+  replies_are_exact (Demo size) seen status text h = says_ends answers rounds solutions bounds runs (bare (demo_program size)) None (none_fit (device_of (demo_program size))) status text (demo_ends size status text h)

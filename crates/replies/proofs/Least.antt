@@ -1,11 +1,10 @@
 -- The statement of an analysis that writes a certificate, and how its status says where the rounds end.
 use Rattle.std.proofs.Common.{◌≡◌, ◌≢◌, ◌≤◌, inl, inr, ◌⊎◌, ℕ, true, List, length, Option, Some, None, Result, Ok, Err, IfSome, IsOkAnd, refl, sym, ap, ◌∙◌, subst, arith}
 use Rattle.std.specs.Option.{is_some}
-use Rattle.avr_model.specs.declared.assumption.Entry.{Entry}
 use Rattle.avr_model.specs.declared.choice.Stop.TheVariants as stop
 use Rattle.avr_model.specs.Run.{Bounded}
 use Rattle.avr_model.specs.declared.device.Device.{Device}
-use Rattle.avr_model.specs.Devices.{Program, device_of}
+use Rattle.avr_model.specs.Devices.{device_of}
 use Rattle.local_rules.specs.Machine.{AreWords}
 use Rattle.witness_replay.specs.Spelling.{Plan, IsSchedule}
 use Rattle.witness_replay.specs.Replay.{Report as Replayed, replay_of}
@@ -34,23 +33,24 @@ use Rattle.replies.specs.Analysis.{TrialsFind, IsAnalysis}
 use Rattle.replies.specs.Reply.{Refuses, AnalyseReply, WhyNotReply}
 use Rattle.replies.specs.Headline.{IsDepthReached, HasValid, SaysHowRoundsEnd}
 use Rattle.replies.proofs.Analysing.{no_memory}
+use Rattle.local_rules.specs.Site.{Task}
 
-pub schedule_found : (words : Program) (A : List Entry) (points : List Waypoint) (bound : ℕ) (found : Option Plan) → IsFound words A points bound found → IfSome found (IsSchedule (device_of words))
-schedule_found words A points bound None h = tt
-schedule_found words A points bound (Some plan) h = h.trial.fits
+pub schedule_found : (task : Task) (points : List Waypoint) (bound : ℕ) (found : Option Plan) → IsFound task points bound found → IfSome found (IsSchedule (device_of task.flash))
+schedule_found task points bound None h = tt
+schedule_found task points bound (Some plan) h = h.trial.fits
 
 -- ---- what is written fits a file that is read
 
 -- the text of an analysis' certificate is within the limit
 abbrev pub AnalysesFit : Type 0
-AnalysesFit = (words : Program) (A : List Entry) (steps : Option ℕ) (c : Claim) → IsAnalysis words A steps c → IsCertificate c → length (text_of c) ≤ certificate_cap
+AnalysesFit = (task : Task) (steps : Option ℕ) (c : Claim) → IsAnalysis task steps c → IsCertificate c → length (text_of c) ≤ certificate_cap
 
-few_found : TrialsAreShort → (words : Program) (A : List Entry) (points : List Waypoint) (bound : ℕ) (found : Option Plan) → IsFound words A points bound found → IfSome found HasFewChoices
-few_found short words A points bound None h = tt
-few_found short words A points bound (Some plan) h = omega (arith, ap length h.trial.choices, short words A points bound plan.fill)
+few_found : TrialsAreShort → (task : Task) (points : List Waypoint) (bound : ℕ) (found : Option Plan) → IsFound task points bound found → IfSome found HasFewChoices
+few_found short task points bound None h = tt
+few_found short task points bound (Some plan) h = omega (arith, ap length h.trial.choices, short task points bound plan.fill)
 
 pub analyses_fit : TextsFit → TrialsAreShort → AnalysesFit
-analyses_fit fit short words A steps c h is = fit c is (subst (λ (x : Claim). IfSome x.witness HasFewChoices) (sym h.is) (few_found short words A h.trials.points h.least.bound h.found h.trials.first))
+analyses_fit fit short task steps c h is = fit c is (subst (λ (x : Claim). IfSome x.witness HasFewChoices) (sym h.is) (few_found short task h.trials.points h.least.bound h.found h.trials.first))
 
 -- ---- a schedule that attains the bound is a run
 
@@ -62,11 +62,11 @@ no_schedule : (w : Option Plan) → w ≡ None → is_some w ≡ true → ⊥
 no_schedule None e f = let wrong = f in cc
 no_schedule (Some plan) e f = let wrong = e in cc
 
-pub reached : (runs : ReplaysAreRuns) (words : Program) (A : List Entry) (bound : ℕ) (found : Option Plan) → IfSome found (IsSchedule (device_of words)) → IsAttained words A bound found → is_some found ≡ true → IsDepthReached words A bound
-reached runs words A bound None fits h e = absurd (no_schedule None refl e)
-reached runs words A bound (Some plan) fits h e =
-    let r = replayed bound (replay_of words A plan) (replay_of words A plan) refl h in
-    let run = runs (device_of words) words A plan r.0 fits r.1 in
+pub reached : (runs : ReplaysAreRuns) (task : Task) (bound : ℕ) (found : Option Plan) → IfSome found (IsSchedule (device_of task.flash)) → IsAttained task bound found → is_some found ≡ true → IsDepthReached task bound
+reached runs task bound None fits h e = absurd (no_schedule None refl e)
+reached runs task bound (Some plan) fits h e =
+    let r = replayed bound (replay_of task.flash task.assumptions plan) (replay_of task.flash task.assumptions plan) refl h in
+    let run = runs (device_of task.flash) task.flash task.assumptions plan r.0 fits r.1 in
     record { state = _; reset = run.reset; choices = run.choices; run = run.run; ends = sym run.stop ∙ r.2; deep = sym run.depth ∙ r.3 }
 
 -- ---- what is told in place of a certificate
@@ -78,16 +78,16 @@ never_spent (re_entry v word) n e = cc
 never_spent (recursion word) n e = cc
 never_spent (too_deep d) n e = cc
 
-module _ (words : Program) (A : List Entry) (steps : Option ℕ) where
+module _ (task : Task) (steps : Option ℕ) where
   abbrev IsSpent : Refusal → Type 0
-  IsSpent r = (n : ℕ) × (r ≡ refusal.Spent n) × (steps ≡ Some n) × GoesBeyond words A n
+  IsSpent r = (n : ℕ) × (r ≡ refusal.Spent n) × (steps ≡ Some n) × GoesBeyond task n
 
   abbrev IsCause : Refusal → Type 0
-  IsCause r = IsRefusal words A steps r × (why_not_status r ≡ exit.NoCertificate)
+  IsCause r = IsRefusal task steps r × (why_not_status r ≡ exit.NoCertificate)
 
-module _ (words : Program) (A : List Entry) (steps : Option ℕ) (fit : AllFit (device_of words) A) where
-  why_cases : (r : Refusal) → IsWhyNot words A steps r → r ≢ refusal.Memory → IsCause words A steps r ⊎ IsSpent words A steps r
-  why_cases (refusal.Misfit at) h m = absurd (misfit_fits (device_of words) A at h fit)
+module _ (task : Task) (steps : Option ℕ) (fit : AllFit (device_of task.flash) task.assumptions) where
+  why_cases : (r : Refusal) → IsWhyNot task steps r → r ≢ refusal.Memory → IsCause task steps r ⊎ IsSpent task steps r
+  why_cases (refusal.Misfit at) h m = absurd (misfit_fits (device_of task.flash) task.assumptions at h fit)
   why_cases (refusal.Node x) h m = inl (h.1, refl)
   why_cases (refusal.Recursion at) h m = inl (h.1, refl)
   why_cases (refusal.ReEntry v at) h m = inl (h.1, refl)
@@ -95,7 +95,7 @@ module _ (words : Program) (A : List Entry) (steps : Option ℕ) (fit : AllFit (
   why_cases (refusal.Spent n) h m = inr (n, refl, h.1.0, h.1.1)
   why_cases refusal.Memory h m = absurd (m refl)
 
-  why_of : (r : Refusal) → IsRefusal words A steps r → r ≢ refusal.Memory → IsWhyNot words A steps r × (why_not_status r ≡ exit.NoCertificate)
+  why_of : (r : Refusal) → IsRefusal task steps r → r ≢ refusal.Memory → IsWhyNot task steps r × (why_not_status r ≡ exit.NoCertificate)
   why_of (refusal.Misfit at) h m = absurd (never_misfit at h.refused.test h.refused.is)
   why_of (refusal.Node x) h m = ((fit, h), refl)
   why_of (refusal.Recursion at) h m = ((fit, h), refl)
@@ -128,29 +128,29 @@ module _
     (solutions : SolutionsAreValid)
     (bounds : SoundCertificatesBoundEveryRun)
     (runs : ReplaysAreRuns)
-    (words : Program) (A : List Entry) (steps : Option ℕ) where
+    (task : Task) (steps : Option ℕ) where
   -- the properties of an analysis' certificate
   pub record IsBest (c : Claim) : Type 0 where
     pub fits : IsCertificate c
-    pub valid : IsValid words A c
-    pub least : (other : Claim) → IsClaim other → IsValid words A other → c.bound ≤ other.bound
-    pub reached : is_some c.witness ≡ true → IsDepthReached words A c.bound
-    pub trials : TrialsFind words A c c.witness
+    pub valid : IsValid task c
+    pub least : (other : Claim) → IsClaim other → IsValid task other → c.bound ≤ other.bound
+    pub reached : is_some c.witness ≡ true → IsDepthReached task c.bound
+    pub trials : TrialsFind task c c.witness
 
-  best_of : (h : (c : Claim) × IsAnalysis words A steps c) → IsBest (record h.1.least { witness = h.1.found })
+  best_of : (h : (c : Claim) × IsAnalysis task steps c) → IsBest (record h.1.least { witness = h.1.found })
   best_of h =
       let a = h.1 in
-      let sound = (solutions.valid words A a.answer.number a.answer.family a.least a.claim a.answer.solved a.answer.solution).sound in
-      let schedule = schedule_found words A a.trials.points a.least.bound a.found a.trials.first in
+      let sound = (solutions.valid task a.answer.number a.answer.family a.least a.claim a.answer.solved a.answer.solution).sound in
+      let schedule = schedule_found task a.trials.points a.least.bound a.found a.trials.first in
       record {
         fits = record { claim = claim_with a.least a.found a.claim; schedule = subst (λ (d : Device). IfSome a.found (IsSchedule d)) (sym sound.meets.device) schedule };
-        valid = record { sound = sound_with words A a.least a.found sound; attained = a.attained };
-        least = λ other claim valid. solutions.least words A a.answer.number a.answer.family a.least other a.answer.solved a.answer.solution (record { claim = claim; sound = valid.sound });
-        reached = reached runs words A a.least.bound a.found schedule a.attained;
+        valid = record { sound = sound_with task.flash task.assumptions a.least a.found sound; attained = a.attained };
+        least = λ other claim valid. solutions.least task a.answer.number a.answer.family a.least other a.answer.solved a.answer.solution (record { claim = claim; sound = valid.sound });
+        reached = reached runs task a.least.bound a.found schedule a.attained;
         trials = record { points = a.trials.points; chain = record { nodes = a.trials.chain.nodes; filled = a.trials.chain.filled; interrupts = a.trials.chain.interrupts }; first = a.trials.first };
       }
 
-  pub analysis_best : (c : Claim) → IsAnalysis words A steps c → IsBest c
+  pub analysis_best : (c : Claim) → IsAnalysis task steps c → IsBest c
   analysis_best c h = subst IsBest (sym h.is) (best_of (c, h))
 
   -- ---- where the rounds end
@@ -159,33 +159,33 @@ module _
   pub record IsSolvedAt (status : Status) : Type 0 where
     pub claim : Claim
     pub fits : IsClaim claim
-    pub answer : IsAnswer words A steps claim
+    pub answer : IsAnswer task steps claim
     pub zero : status ≡ exit.Done
 
   abbrev pub Ends : Status → List ℕ → Type 0
-  Ends status text = IsSolvedAt status ⊎ WhyNotReply words A steps status text
+  Ends status text = IsSolvedAt status ⊎ WhyNotReply task steps status text
 
-  pub analyse_ends : (status : Status) (text : List ℕ) → AnalyseReply words A steps status text → Ends status text
+  pub analyse_ends : (status : Status) (text : List ℕ) → AnalyseReply task steps status text → Ends status text
   analyse_ends status text (inl h) = inl (record { claim = h.analysis.least; fits = h.analysis.claim; answer = h.analysis.answer; zero = h.says.0 })
   analyse_ends status text (inr k) = inr k
 
-  pub best_bounds : (c : Claim) → AreWords words → IsBest c → Bounded words A c.bound
-  best_bounds c has h = bounds words A c has h.fits.claim h.valid.sound
+  pub best_bounds : (c : Claim) → AreWords task.flash → IsBest c → Bounded task.flash task.assumptions c.bound
+  best_bounds c has h = bounds task c has h.fits.claim h.valid.sound
 
-  module _ (fit : AllFit (device_of words) A) (status : Status) (text : List ℕ) where
-    told_status : (k : WhyNotReply words A steps status text) → status ≡ why_not_status k.refusal
-    told_status k = says_status (why_not_status k.refusal) (why_not_text words k.refusal) status text k.says
+  module _ (fit : AllFit (device_of task.flash) task.assumptions) (status : Status) (text : List ℕ) where
+    told_status : (k : WhyNotReply task steps status text) → status ≡ why_not_status k.refusal
+    told_status k = says_status (why_not_status k.refusal) (why_not_text task.flash k.refusal) status text k.says
 
-    not_memory : (k : WhyNotReply words A steps status text) → k.refusal ≢ refusal.Memory
-    not_memory k = no_memory words k.refusal status text k.says
+    not_memory : (k : WhyNotReply task steps status text) → k.refusal ≢ refusal.Memory
+    not_memory k = no_memory task.flash k.refusal status text k.says
 
-    told_cases : (k : WhyNotReply words A steps status text) → IsCause words A steps k.refusal ⊎ IsSpent words A steps k.refusal
-        → ((status ≡ exit.NoCertificate) × IsRefusal words A steps k.refusal) ⊎ ((status ≡ exit.Spent) × ((n : ℕ) × (steps ≡ Some n) × GoesBeyond words A n))
+    told_cases : (k : WhyNotReply task steps status text) → IsCause task steps k.refusal ⊎ IsSpent task steps k.refusal
+        → ((status ≡ exit.NoCertificate) × IsRefusal task steps k.refusal) ⊎ ((status ≡ exit.Spent) × ((n : ℕ) × (steps ≡ Some n) × GoesBeyond task n))
     told_cases k (inl h) = inl (told_status k ∙ h.1, h.0)
     told_cases k (inr h) = inr (told_status k ∙ ap why_not_status h.1, (h.0, h.2, h.3))
 
-    told_by : (k : WhyNotReply words A steps status text) → ((status ≡ exit.NoCertificate) × IsRefusal words A steps k.refusal) ⊎ ((status ≡ exit.Spent) × ((n : ℕ) × (steps ≡ Some n) × GoesBeyond words A n))
-    told_by k = told_cases k (why_cases words A steps fit k.refusal k.why (not_memory k))
+    told_by : (k : WhyNotReply task steps status text) → ((status ≡ exit.NoCertificate) × IsRefusal task steps k.refusal) ⊎ ((status ≡ exit.Spent) × ((n : ℕ) × (steps ≡ Some n) × GoesBeyond task n))
+    told_by k = told_cases k (why_cases task steps fit k.refusal k.why (not_memory k))
 
     -- ---- where there is a certificate
 
@@ -193,31 +193,31 @@ module _
     not_told e (inl h) = done_refused status e h.0
     not_told e (inr h) = done_spent status e h.0
 
-    solved_if : Ends status text → status ≡ exit.Done → (c : Claim) × IsClaim c × IsAnswer words A steps c
+    solved_if : Ends status text → status ≡ exit.Done → (c : Claim) × IsClaim c × IsAnswer task steps c
     solved_if (inl h) e = (h.claim, h.fits, h.answer)
     solved_if (inr k) e = not_told e (told_by k)
 
-    if_solved : Ends status text → ((c : Claim) × IsClaim c × IsAnswer words A steps c) → status ≡ exit.Done
+    if_solved : Ends status text → ((c : Claim) × IsClaim c × IsAnswer task steps c) → status ≡ exit.Done
     if_solved (inl h) s = h.zero
-    if_solved (inr k) s = absurd (not_memory k (one.either words A steps s.0 k.refusal s.2 k.why))
+    if_solved (inr k) s = absurd (not_memory k (one.either task steps s.0 k.refusal s.2 k.why))
 
     -- ---- where there is a cause
 
-    cause_told : {Y : Type 0} (k : WhyNotReply words A steps status text) → status ≡ exit.NoCertificate → ((status ≡ exit.NoCertificate) × IsRefusal words A steps k.refusal) ⊎ ((status ≡ exit.Spent) × Y)
-        → (r : Refusal) × (r ≢ refusal.Memory) × IsRefusal words A steps r
+    cause_told : {Y : Type 0} (k : WhyNotReply task steps status text) → status ≡ exit.NoCertificate → ((status ≡ exit.NoCertificate) × IsRefusal task steps k.refusal) ⊎ ((status ≡ exit.Spent) × Y)
+        → (r : Refusal) × (r ≢ refusal.Memory) × IsRefusal task steps r
     cause_told k e (inl h) = (k.refusal, not_memory k, h.1)
     cause_told k e (inr h) = refused_spent status e h.0
 
-    refused_if : Ends status text → status ≡ exit.NoCertificate → (r : Refusal) × (r ≢ refusal.Memory) × IsRefusal words A steps r
+    refused_if : Ends status text → status ≡ exit.NoCertificate → (r : Refusal) × (r ≢ refusal.Memory) × IsRefusal task steps r
     refused_if (inl h) e = done_refused status h.zero e
     refused_if (inr k) e = cause_told k e (told_by k)
 
-    if_why : Ends status text → (r : Refusal) → r ≢ refusal.Memory → IsWhyNot words A steps r → status ≡ why_not_status r
-    if_why (inl h) r m why = absurd (m (one.either words A steps h.claim r h.answer why))
-    if_why (inr k) r m why = told_status k ∙ ap why_not_status (one.why_not words A steps k.refusal r k.why why (not_memory k) m)
+    if_why : Ends status text → (r : Refusal) → r ≢ refusal.Memory → IsWhyNot task steps r → status ≡ why_not_status r
+    if_why (inl h) r m why = absurd (m (one.either task steps h.claim r h.answer why))
+    if_why (inr k) r m why = told_status k ∙ ap why_not_status (one.why_not task steps k.refusal r k.why why (not_memory k) m)
 
-    if_refused : Ends status text → ((r : Refusal) × (r ≢ refusal.Memory) × IsRefusal words A steps r) → status ≡ exit.NoCertificate
-    if_refused reply h = let w = why_of words A steps fit h.0 h.2 h.1 in if_why reply h.0 h.1 w.0 ∙ w.1
+    if_refused : Ends status text → ((r : Refusal) × (r ≢ refusal.Memory) × IsRefusal task steps r) → status ≡ exit.NoCertificate
+    if_refused reply h = let w = why_of task steps fit h.0 h.2 h.1 in if_why reply h.0 h.1 w.0 ∙ w.1
 
     -- ---- where the budget is spent
 
@@ -225,29 +225,29 @@ module _
     spent_told e (inl h) = refused_spent status h.0 e
     spent_told e (inr h) = h.1
 
-    spent_if : Ends status text → status ≡ exit.Spent → (n : ℕ) × (steps ≡ Some n) × GoesBeyond words A n
+    spent_if : Ends status text → status ≡ exit.Spent → (n : ℕ) × (steps ≡ Some n) × GoesBeyond task n
     spent_if (inl h) e = done_spent status h.zero e
     spent_if (inr k) e = spent_told e (told_by k)
 
-    if_spent : Ends status text → ((n : ℕ) × (steps ≡ Some n) × GoesBeyond words A n) → status ≡ exit.Spent
+    if_spent : Ends status text → ((n : ℕ) × (steps ≡ Some n) × GoesBeyond task n) → status ≡ exit.Spent
     if_spent reply h = if_why reply (refusal.Spent h.0) (λ e. let wrong = e in cc) (fit, (h.1, h.2))
 
     -- ---- without a budget
 
-    valid_if : Ends status text → status ≡ exit.Done → HasValid words A
-    valid_if (inl h) e = (h.claim, h.fits, solutions.valid words A h.answer.number h.answer.family h.claim h.fits h.answer.solved h.answer.solution)
+    valid_if : Ends status text → status ≡ exit.Done → HasValid task
+    valid_if (inl h) e = (h.claim, h.fits, solutions.valid task h.answer.number h.answer.family h.claim h.fits h.answer.solved h.answer.solution)
     valid_if (inr k) e = not_told e (told_by k)
 
-    never_told : (k : WhyNotReply words A steps status text) → steps ≡ None → HasValid words A
-        → ((status ≡ exit.NoCertificate) × IsRefusal words A steps k.refusal) ⊎ ((status ≡ exit.Spent) × ((n : ℕ) × (steps ≡ Some n) × GoesBeyond words A n)) → status ≡ exit.Done
-    never_told k none v (inl h) = absurd (rounds.never words A h.1.number v.0 k.refusal (record { claim = v.1; sound = v.2.sound }) h.1.refused)
+    never_told : (k : WhyNotReply task steps status text) → steps ≡ None → HasValid task
+        → ((status ≡ exit.NoCertificate) × IsRefusal task steps k.refusal) ⊎ ((status ≡ exit.Spent) × ((n : ℕ) × (steps ≡ Some n) × GoesBeyond task n)) → status ≡ exit.Done
+    never_told k none v (inl h) = absurd (rounds.never task h.1.number v.0 k.refusal (record { claim = v.1; sound = v.2.sound }) h.1.refused)
     never_told k none v (inr h) = none_some steps h.1.0 none h.1.1
 
-    if_valid : Ends status text → steps ≡ None → HasValid words A → status ≡ exit.Done
+    if_valid : Ends status text → steps ≡ None → HasValid task → status ≡ exit.Done
     if_valid (inl h) none v = h.zero
     if_valid (inr k) none v = never_told k none v (told_by k)
 
-    pub says_ends : Ends status text → SaysHowRoundsEnd words A steps status
+    pub says_ends : Ends status text → SaysHowRoundsEnd task steps status
     says_ends reply =
         record {
           solved = (solved_if reply, if_solved reply);
@@ -257,5 +257,5 @@ module _
         }
 
   -- status 0 prints no cause
-  pub not_written : AllFit (device_of words) A → (text : List ℕ) → WhyNotReply words A steps exit.Done text → ⊥
+  pub not_written : AllFit (device_of task.flash) task.assumptions → (text : List ℕ) → WhyNotReply task steps exit.Done text → ⊥
   not_written fit text k = not_told fit exit.Done text refl (told_by fit exit.Done text k)

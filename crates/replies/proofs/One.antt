@@ -40,6 +40,7 @@ use Rattle.replies.specs.Reply.{Reply, Says, Refuses, WithFile, WithBytes, WithO
 use Rattle.replies.specs.Headline.{RepliesAreOne}
 use Rattle.replies.proofs.Analysing.{analyse_one, demo_one}
 use Rattle.replies.proofs.Attaining.{attain_one}
+use Rattle.local_rules.specs.Site.{Task, task_with, bare}
 
 -- at most one status with one text is the answer
 abbrev IsOneAnswer : Reply → Type 0
@@ -81,17 +82,17 @@ attained_one : (next : Reply) (attained : Bool) → IsOneAnswer next → IsOneAn
 attained_one next true f s t a b h k = f s t a b h k
 attained_one next false f s t a b h k = says_one exit.Rejected witness_rejected s t a b h k
 
-witness_one : (words : Program) (A : List Entry) (next : Reply) (bound : ℕ) (w : Option Plan) → IsOneAnswer next → IsOneAnswer (WitnessReply words A next bound w)
-witness_one words A next bound None f s t a b h k = f s t a b h k
-witness_one words A next bound (Some plan) f s t a b h k = attained_one next (attains bound (replay_of words A plan)) f s t a b h k
+witness_one : (task : Task) (next : Reply) (bound : ℕ) (w : Option Plan) → IsOneAnswer next → IsOneAnswer (WitnessReply task next bound w)
+witness_one task next bound None f s t a b h k = f s t a b h k
+witness_one task next bound (Some plan) f s t a b h k = attained_one next (attains bound (replay_of task.flash task.assumptions plan)) f s t a b h k
 
-verdict_one : (words : Program) (A : List Entry) (next : Claim → Reply) (c : Claim) (v : Judgement ℕ) → IsOneAnswer (next c) → IsOneAnswer (VerdictReply words A next c v)
-verdict_one words A next c (Rejected reason) f s t a b h k = says_one exit.Rejected (rejected (device_of words) reason) s t a b h k
-verdict_one words A next c (Accepted bound) f s t a b h k = witness_one words A (next c) bound c.witness f s t a b h k
+verdict_one : (task : Task) (next : Claim → Reply) (c : Claim) (v : Judgement ℕ) → IsOneAnswer (next c) → IsOneAnswer (VerdictReply task next c v)
+verdict_one task next c (Rejected reason) f s t a b h k = says_one exit.Rejected (rejected (device_of task.flash) reason) s t a b h k
+verdict_one task next c (Accepted bound) f s t a b h k = witness_one task (next c) bound c.witness f s t a b h k
 
-simulate_one : (words : Program) (A : List Entry) (steps : ℕ) (x : Result Setup DevicesFault) → IsOneAnswer (SimulateReply words A steps x)
-simulate_one words A steps (Err fault) s t a b h k = refuses_one exit.BadDevices (devices_refused fault) s t a b h k
-simulate_one words A steps (Ok setup) s t a b h k = says_one exit.Done (run_text (simulation_of words A setup steps)) s t a b h k
+simulate_one : (task : Task) (steps : ℕ) (x : Result Setup DevicesFault) → IsOneAnswer (SimulateReply task steps x)
+simulate_one task steps (Err fault) s t a b h k = refuses_one exit.BadDevices (devices_refused fault) s t a b h k
+simulate_one task steps (Ok setup) s t a b h k = says_one exit.Done (run_text (simulation_of task.flash task.assumptions setup steps)) s t a b h k
 
 run_one : (x : Result Replayed ℕ) → IsOneAnswer (RunReply x)
 run_one (Err step) s t a b h k = says_one exit.BadSchedule (schedule_illegal step) s t a b h k
@@ -101,29 +102,29 @@ ends_one : (ls : List TextLine) (at : ℕ) (reply : Reply) → IsOneAnswer reply
 ends_one [] at reply f s t a b h k = f s t a b h k
 ends_one (l ∷ ls) at reply f s t a b h k = says_one exit.BadSchedule (schedule_malformed at) s t a b h k
 
-schedule_one : (words : Program) (A : List Entry) (x : Result (Plan × Place) ℕ) → IsOneAnswer (ScheduleReply words A x)
-schedule_one words A (Err at) s t a b h k = says_one exit.BadSchedule (schedule_malformed at) s t a b h k
-schedule_one words A (Ok read) s t a b h k =
-    ends_one read.1.rest read.1.at (RunReply (replay_of words A read.0)) (run_one (replay_of words A read.0)) s t a b h k
+schedule_one : (task : Task) (x : Result (Plan × Place) ℕ) → IsOneAnswer (ScheduleReply task x)
+schedule_one task (Err at) s t a b h k = says_one exit.BadSchedule (schedule_malformed at) s t a b h k
+schedule_one task (Ok read) s t a b h k =
+    ends_one read.1.rest read.1.at (RunReply (replay_of task.flash task.assumptions read.0)) (run_one (replay_of task.flash task.assumptions read.0)) s t a b h k
 
 module _ (read : ReadCertificateIsSpelled) (one : VerdictsAreOne) (answers : AnswersAreOne) (chains : WaypointsAreOne) (explanations : ExplanationsAreOne)
     (clears : ClearVerdictsAreOne) (sites : SitesAreOne) (places : PlacesAreOne) (takes : NeversAreOne) where
-  judged_one : (words : Program) (A : List Entry) (next : Claim → Reply) (c : Claim) → IsClaim c → IsOneAnswer (next c) → IsOneAnswer (JudgedReply words A next c)
-  judged_one words A next c claim f s t a b h k =
-      let e = one words A c h.verdict k.verdict claim h.is k.is in
-      verdict_one words A next c k.verdict f s t a b (subst (λ v. VerdictReply words A next c v s a) e h.reply) k.reply
+  judged_one : (task : Task) (next : Claim → Reply) (c : Claim) → IsClaim c → IsOneAnswer (next c) → IsOneAnswer (JudgedReply task next c)
+  judged_one task next c claim f s t a b h k =
+      let e = one task c h.verdict k.verdict claim h.is k.is in
+      verdict_one task next c k.verdict f s t a b (subst (λ v. VerdictReply task next c v s a) e h.reply) k.reply
 
-  certificate_one : (words : Program) (A : List Entry) (next : Claim → Reply) (x : Result Claim CertFault) → ((c : Claim) → x ≡ Ok c → IsClaim c) → ((c : Claim) → IsClaim c → IsOneAnswer (next c)) → IsOneAnswer (CertificateReply words A next x)
-  certificate_one words A next (Err fault) f g s t a b h k = refuses_one exit.BadCertificate (certificate_refused fault) s t a b h k
-  certificate_one words A next (Ok c) f g s t a b h k = judged_one words A next c (f c refl) (g c (f c refl)) s t a b h k
+  certificate_one : (task : Task) (next : Claim → Reply) (x : Result Claim CertFault) → ((c : Claim) → x ≡ Ok c → IsClaim c) → ((c : Claim) → IsClaim c → IsOneAnswer (next c)) → IsOneAnswer (CertificateReply task next x)
+  certificate_one task next (Err fault) f g s t a b h k = refuses_one exit.BadCertificate (certificate_refused fault) s t a b h k
+  certificate_one task next (Ok c) f g s t a b h k = judged_one task next c (f c refl) (g c (f c refl)) s t a b h k
 
-  read_one : (words : Program) (A : List Entry) (next : Claim → Reply) (bytes : List ℕ) → ((c : Claim) → IsClaim c → IsOneAnswer (next c)) → IsOneAnswer (CertificateReply words A next (certificate_in (device_of words) bytes))
-  read_one words A next bytes g = certificate_one words A next (certificate_in (device_of words) bytes) (λ c e. (read (device_of words) bytes c e).2.claim) g
+  read_one : (task : Task) (next : Claim → Reply) (bytes : List ℕ) → ((c : Claim) → IsClaim c → IsOneAnswer (next c)) → IsOneAnswer (CertificateReply task next (certificate_in (device_of task.flash) bytes))
+  read_one task next bytes g = certificate_one task next (certificate_in (device_of task.flash) bytes) (λ c e. (read (device_of task.flash) bytes c e).2.claim) g
 
-  explain_one : (names : List Named) (words : Program) (A : List Entry) (c : Claim) → IsClaim c → IsOneAnswer (ExplainReply names words A c)
-  explain_one names words A c claim s t a b h k =
-      let e = explanations words A c h.explanation k.explanation claim h.is k.is in
-      (h.says.0 ∙ sym k.says.0, h.says.1 ∙ (ap (explanation_text (device_of words) c.bound names) e ∙ sym k.says.1))
+  explain_one : (names : List Named) (task : Task) (c : Claim) → IsClaim c → IsOneAnswer (ExplainReply names task c)
+  explain_one names task c claim s t a b h k =
+      let e = explanations task c h.explanation k.explanation claim h.is k.is in
+      (h.says.0 ∙ sym k.says.0, h.says.1 ∙ (ap (explanation_text (device_of task.flash) c.bound names) e ∙ sym k.says.1))
 
   clear_says_one : (words : Program) (c : Claim) (v : ClearVerdict) → IsOneAnswer (ClearSays words c v)
   clear_says_one words c clear.Clear s t a b h k = says_one exit.Done (clear_text c.bound) s t a b h k
@@ -133,42 +134,42 @@ module _ (read : ReadCertificateIsSpelled) (one : VerdictsAreOne) (answers : Ans
   clear_one words c claim s t a b h k =
       let e = clears words c h.verdict k.verdict h.is k.is in clear_says_one words c k.verdict s t a b (subst (λ v. ClearSays words c v s a) e h.says) k.says
 
-  premises_one : (names : List Named) (words : Program) (A : List Entry) (c : Claim) → IsClaim c → IsOneAnswer (PremisesReply names words A c)
-  premises_one names words A c claim s t a b h k =
-      let e = sites words A c h.sites k.sites h.are k.are in
-      let f = takes words A c h.nevers k.nevers h.are_nevers k.are_nevers in
-      (h.says.0 ∙ sym k.says.0, h.says.1 ∙ (ap₂ (premises_text words names c.bound) e f ∙ sym k.says.1))
+  premises_one : (names : List Named) (task : Task) (c : Claim) → IsClaim c → IsOneAnswer (PremisesReply names task c)
+  premises_one names task c claim s t a b h k =
+      let e = sites task c h.sites k.sites h.are k.are in
+      let f = takes task c h.nevers k.nevers h.are_nevers k.are_nevers in
+      (h.says.0 ∙ sym k.says.0, h.says.1 ∙ (ap₂ (premises_text task.flash names c.bound) e f ∙ sym k.says.1))
 
-  why_one : (names : List Named) (words : Program) (A : List Entry) (c : Claim) → IsClaim c → IsOneAnswer (WhyReply names words A c)
-  why_one names words A c claim s t a b h k =
-      let e = places words A c h.places k.places h.are k.are in
-      let f = takes words A c h.nevers k.nevers h.are_nevers k.are_nevers in
-      (h.says.0 ∙ sym k.says.0, h.says.1 ∙ (ap₂ (why_text words names c.bound) e f ∙ sym k.says.1))
+  why_one : (names : List Named) (task : Task) (c : Claim) → IsClaim c → IsOneAnswer (WhyReply names task c)
+  why_one names task c claim s t a b h k =
+      let e = places task c h.places k.places h.are k.are in
+      let f = takes task c h.nevers k.nevers h.are_nevers k.are_nevers in
+      (h.says.0 ∙ sym k.says.0, h.says.1 ∙ (ap₂ (why_text task.flash names c.bound) e f ∙ sym k.says.1))
 
-  places_one : (why : Bool) (names : List Named) (words : Program) (A : List Entry) (c : Claim) → IsClaim c → IsOneAnswer (PlacesReply why names words A c)
-  places_one false names words A c claim s t a b h k = premises_one names words A c claim s t a b h k
-  places_one true names words A c claim s t a b h k = why_one names words A c claim s t a b h k
+  places_one : (why : Bool) (names : List Named) (task : Task) (c : Claim) → IsClaim c → IsOneAnswer (PlacesReply why names task c)
+  places_one false names task c claim s t a b h k = premises_one names task c claim s t a b h k
+  places_one true names task c claim s t a b h k = why_one names task c claim s t a b h k
 
-  flash_one : (device : Device) (work : Work) (firmware bytes : List ℕ) (words : Program) (A : List Entry) → IsOneAnswer (FlashReply device work firmware bytes words A)
-  flash_one device (Check cert) firmware bytes words A =
-      read_one words A (AcceptedReply device (Check cert) firmware words A) bytes (λ c claim. says_one exit.Done (told_of device (Check cert) firmware c))
-  flash_one device (Analyse steps) firmware bytes words A = analyse_one answers chains words A steps
-  flash_one device (Run schedule) firmware bytes words A = schedule_one words A (schedule_in (device_of words) _)
-  flash_one device (Report cert json) firmware bytes words A =
-      read_one words A (AcceptedReply device (Report cert json) firmware words A) bytes (λ c claim. says_one exit.Done (told_of device (Report cert json) firmware c))
-  flash_one device (Explain cert) firmware bytes words A =
-      read_one words A (AcceptedReply device (Explain cert) firmware words A) bytes (explain_one (firmware_names device firmware) words A)
-  flash_one device (Clear cert) firmware bytes words A = read_one words [] (ClearReply words) bytes (clear_one words)
-  flash_one device (Premises cert why) firmware bytes words A =
-      read_one words A (AcceptedReply device (Premises cert why) firmware words A) bytes (places_one why (firmware_names device firmware) words A)
-  flash_one device (Attain cert trials) firmware bytes words A =
-      read_one words A (AcceptedReply device (Attain cert trials) firmware words A) bytes (λ c claim. attain_one words A trials c)
-  flash_one device (Simulate devices steps) firmware bytes words A = simulate_one words A steps (setup_in (device_of words) bytes)
+  flash_one : (device : Device) (work : Work) (firmware bytes : List ℕ) (task : Task) → IsOneAnswer (FlashReply device work firmware bytes task)
+  flash_one device (Check cert) firmware bytes task =
+      read_one task (AcceptedReply device (Check cert) firmware task) bytes (λ c claim. says_one exit.Done (told_of device (Check cert) firmware c))
+  flash_one device (Analyse steps) firmware bytes task = analyse_one answers chains task steps
+  flash_one device (Run schedule) firmware bytes task = schedule_one task (schedule_in (device_of task.flash) _)
+  flash_one device (Report cert json) firmware bytes task =
+      read_one task (AcceptedReply device (Report cert json) firmware task) bytes (λ c claim. says_one exit.Done (told_of device (Report cert json) firmware c))
+  flash_one device (Explain cert) firmware bytes task =
+      read_one task (AcceptedReply device (Explain cert) firmware task) bytes (explain_one (firmware_names device firmware) task)
+  flash_one device (Clear cert) firmware bytes task = read_one (bare task.flash) (ClearReply task.flash) bytes (clear_one task.flash)
+  flash_one device (Premises cert why) firmware bytes task =
+      read_one task (AcceptedReply device (Premises cert why) firmware task) bytes (places_one why (firmware_names device firmware) task)
+  flash_one device (Attain cert trials) firmware bytes task =
+      read_one task (AcceptedReply device (Attain cert trials) firmware task) bytes (λ c claim. attain_one task trials c)
+  flash_one device (Simulate devices steps) firmware bytes task = simulate_one task steps (setup_in (device_of task.flash) bytes)
 
   on_image_one : (device : Device) (work : Work) (firmware second : List ℕ) (list : Option (List ℕ)) → IsOneAnswer (ImageReply device work firmware second list)
   on_image_one device work firmware second list =
-      image_one (firmware_fault device firmware) (WithList device list (λ A. FlashReply device work firmware second (firmware_image device firmware) A))
-      (with_list_one device list (λ A. FlashReply device work firmware second (firmware_image device firmware) A) (flash_one device work firmware second (firmware_image device firmware)))
+      image_one (firmware_fault device firmware) (WithList device list (λ A. FlashReply device work firmware second (task_with (firmware_image device firmware) A)))
+      (with_list_one device list (λ A. FlashReply device work firmware second (task_with (firmware_image device firmware) A)) (λ A. flash_one device work firmware second (task_with (firmware_image device firmware) A)))
 
   work_one : (command : Command) (firmware second : List ℕ) (list : Option (List ℕ)) → IsOneAnswer (WorkReply command firmware second list)
   work_one (On request) firmware second list = on_image_one request.device request.work firmware second list

@@ -4,16 +4,16 @@ use Rattle.std.proofs.Common.{◌≡◌, ◌≢◌, ◌≤◌, ◌-◌, ◌==◌
 use Rattle.std.proofs.lemmas.Bool.Decides.{nat_tests}
 use Rattle.std.proofs.lemmas.List.Elements.{Contains-append_right}
 use Rattle.basics.specs.Items.{first_in, further_in}
-use Rattle.avr_model.specs.declared.assumption.Entry.{Entry}
 use Rattle.avr_model.specs.declared.choice.Choice.{Choice}
 use Rattle.avr_model.specs.declared.choice.Choice.TheVariants as choice
 use Rattle.avr_model.specs.declared.device.Device.{Device}
-use Rattle.avr_model.specs.Devices.{Program, device_of}
+use Rattle.avr_model.specs.Devices.{device_of}
 use Rattle.witness_replay.specs.declared.schedule.Run.{Run}
 use Rattle.witness_replay.specs.declared.schedule.Run.TheVariants.{Go, Take}
 use Rattle.witness_replay.specs.Spelling.{Plan, AreRuns, most_choices, choices_of}
 use Rattle.witness_search.specs.declared.waypoint.Waypoint.{Waypoint}
 use Rattle.witness_search.specs.Trials.{fills, trial_of, Succeeds, NoneSucceeds, IsFirstFilled, IsFound}
+use Rattle.local_rules.specs.Site.{Task}
 
 -- ---- the choices of a schedule determine its runs
 
@@ -101,12 +101,12 @@ num_heads a b xs ys e = cc
 num_tails : (a b : ℕ) (xs ys : List ℕ) → ◌≡◌ {A = List ℕ} (a ∷ xs) (b ∷ ys) → xs ≡ ys
 num_tails a b xs ys e = cc
 
-module _ (words : Program) (A : List Entry) (points : List Waypoint) (bound : ℕ) where
+module _ (task : Task) (points : List Waypoint) (bound : ℕ) where
   abbrev Works : ℕ → Type 0
-  Works fill = Succeeds words A points bound fill
+  Works fill = Succeeds task points bound fill
 
   abbrev Fail : List ℕ → Type 0
-  Fail ts = NoneSucceeds words A points bound ts
+  Fail ts = NoneSucceeds task points bound ts
 
   fill_one : (before after before' after' : List ℕ) (f g : ℕ) → before ++ f ∷ after ≡ before' ++ g ∷ after' → Fail before → Fail before' → Works f → Works g → f ≡ g
   fill_one [] after [] after' f g e h k x y = num_heads f g after after' e
@@ -115,16 +115,16 @@ module _ (words : Program) (A : List Entry) (points : List Waypoint) (bound : �
   fill_one (b ∷ bs) after (c ∷ cs) after' f g e h k x y =
       fill_one bs after cs after' f g (num_tails b c (bs ++ f ∷ after) (cs ++ g ∷ after') e) (λ t i. h t (further_in b t bs i)) (λ t i. k t (further_in c t cs i)) x y
 
-  in_fills : (plan : Plan) → IsFirstFilled words A points bound plan → Contains fills plan.fill
+  in_fills : (plan : Plan) → IsFirstFilled task points bound plan → Contains fills plan.fill
   in_fills plan h = subst (λ ts. Contains ts plan.fill) (sym h.order) (Contains-append_right h.before (plan.fill ∷ h.after) plan.fill (first_in plan.fill h.after))
 
-  first_one : (a b : Plan) → IsFirstFilled words A points bound a → IsFirstFilled words A points bound b → a ≡ b
+  first_one : (a b : Plan) → IsFirstFilled task points bound a → IsFirstFilled task points bound b → a ≡ b
   first_one a b h k =
       let fill : a.fill ≡ b.fill = fill_one h.before h.after k.before k.after a.fill b.fill (sym h.order ∙ k.order) h.failed k.failed h.succeeds k.succeeds in
-      let choices : choices_of a.runs ≡ choices_of b.runs = h.trial.choices ∙ (ap (trial_of words A points bound) fill ∙ sym k.trial.choices) in
-      same_plan a b fill (same_runs (device_of words) None None most_choices most_choices a.runs b.runs h.trial.fits.runs_fit k.trial.fits.runs_fit choices)
+      let choices : choices_of a.runs ≡ choices_of b.runs = h.trial.choices ∙ (ap (trial_of task points bound) fill ∙ sym k.trial.choices) in
+      same_plan a b fill (same_runs (device_of task.flash) None None most_choices most_choices a.runs b.runs h.trial.fits.runs_fit k.trial.fits.runs_fit choices)
 
-  pub found_one : (p q : Option Plan) → IsFound words A points bound p → IsFound words A points bound q → p ≡ q
+  pub found_one : (p q : Option Plan) → IsFound task points bound p → IsFound task points bound q → p ≡ q
   found_one None None h k = refl
   found_one None (Some b) h k = absurd (h b.fill (in_fills b k) k.succeeds)
   found_one (Some a) None h k = absurd (k a.fill (in_fills a h) h.succeeds)

@@ -43,6 +43,7 @@ use Rattle.replies.specs.Places.{premises_text, why_text}
 use Rattle.replies.specs.Reading.{Seen, Whole, Contents, certificate_cap}
 use Rattle.replies.specs.Analysis.{TrialsFind}
 use Rattle.replies.specs.Reply.{AcceptedReply, IsReply}
+use Rattle.local_rules.specs.Site.{Task, bare}
 
 -- these bytes were read of an optional file
 abbrev pub IsSeen : Option (List ℕ) → Seen → Option (List ℕ) → Type 0
@@ -66,13 +67,13 @@ IsListOf device None A = A ≡ []
 IsListOf device (Some bytes) A = IsListReading device bytes A
 
 -- the bytes of a firmware for a device and of an assumption file stand for these words and assumptions
-pub record Mean (device : Device) (firmware : List ℕ) (list : Option (List ℕ)) (words : Program) (A : List Entry) : Type 0 where
-  pub image : IsFirmware device firmware words
-  pub assumptions : IsListOf device list A
+pub record Mean (device : Device) (firmware : List ℕ) (list : Option (List ℕ)) (task : Task) : Type 0 where
+  pub image : IsFirmware device firmware task.flash
+  pub assumptions : IsListOf device list task.assumptions
 
 -- the bytes of a certificate stand for this claim too
-pub record StandFor (device : Device) (firmware certificate : List ℕ) (list : Option (List ℕ)) (words : Program) (claim : Claim) (A : List Entry) : Type 0 where
-  pub mean : Mean device firmware list words A
+pub record StandFor (device : Device) (firmware certificate : List ℕ) (list : Option (List ℕ)) (task : Task) (claim : Claim) : Type 0 where
+  pub mean : Mean device firmware list task
   pub made_for : claim.device ≡ device
   pub fits : IsCertificate claim
   pub bytes : certificate ≡ text_of claim
@@ -80,85 +81,84 @@ pub record StandFor (device : Device) (firmware certificate : List ℕ) (list : 
 -- ---- a certificate that is accepted
 
 -- The text is that of the certificate's explanation with these names of words, and the explanation accounts for the bytes of the bound.
-pub record IsExplained (names : List Named) (words : Program) (A : List Entry) (c : Claim) (text : List ℕ) : Type 0 where
+pub record IsExplained (names : List Named) (task : Task) (c : Claim) (text : List ℕ) : Type 0 where
   pub explanation : Explanation
-  pub is : IsExplanation words A c explanation
-  pub tells : Tells words A c explanation
-  pub told : text ≡ explanation_text (device_of words) c.bound names explanation
+  pub is : IsExplanation task c explanation
+  pub tells : Tells task c explanation
+  pub told : text ≡ explanation_text (device_of task.flash) c.bound names explanation
 
 -- The text lists, with these names, the words at which some node isn't clear, and those of vectors that may be taken despite `never`
 -- lines. Each run from reset that ends flagged ends at one of the first, or by taking a vector at one of the second, so no run does if
 -- there are none. Without assumptions there are none exactly if `clear` accepts the certificate.
-pub record TellsFlagged (names : List Named) (words : Program) (A : List Entry) (c : Claim) (text : List ℕ) : Type 0 where
+pub record TellsFlagged (names : List Named) (task : Task) (c : Claim) (text : List ℕ) : Type 0 where
   pub sites : List ℕ
   pub nevers : List ℕ
-  pub are : AreSites words A c sites
-  pub are_nevers : AreNevers words A c nevers
-  pub ends : EndFlaggedAt words A sites nevers
-  pub none_flagged : sites ≡ [] → nevers ≡ [] → NeverFlagged words A
-  pub as_clear : A ≡ [] → (verdict : ClearVerdict) → IsClearVerdict words c verdict → (verdict ≡ AllClear) ↔ (sites ≡ [])
-  pub told : text ≡ premises_text words names c.bound sites nevers
+  pub are : AreSites task c sites
+  pub are_nevers : AreNevers task c nevers
+  pub ends : EndFlaggedAt task sites nevers
+  pub none_flagged : sites ≡ [] → nevers ≡ [] → NeverFlagged task
+  pub as_clear : task.assumptions ≡ [] → (verdict : ClearVerdict) → IsClearVerdict task.flash c verdict → (verdict ≡ AllClear) ↔ (sites ≡ [])
+  pub told : text ≡ premises_text task.flash names c.bound sites nevers
 
 -- As `TellsFlagged`, and each word has its causes: each run from reset that ends flagged ends at a word with the cause of its flag (this
 -- protected address, a pushed byte, or an unlisted word), or by taking a vector at one of the other words.
-pub record TellsCauses (names : List Named) (words : Program) (A : List Entry) (c : Claim) (text : List ℕ) : Type 0 where
+pub record TellsCauses (names : List Named) (task : Task) (c : Claim) (text : List ℕ) : Type 0 where
   pub places : List FlaggedPlace
   pub nevers : List ℕ
-  pub are : ArePlaces words A c places
-  pub are_nevers : AreNevers words A c nevers
+  pub are : ArePlaces task c places
+  pub are_nevers : AreNevers task c nevers
   pub causes : AllTellCauses places
-  pub ends : EndFlaggedAsTold words A places nevers
-  pub none_flagged : places ≡ [] → nevers ≡ [] → NeverFlagged words A
-  pub as_clear : A ≡ [] → (verdict : ClearVerdict) → IsClearVerdict words c verdict → (verdict ≡ AllClear) ↔ (places ≡ [])
-  pub told : text ≡ why_text words names c.bound places nevers
+  pub ends : EndFlaggedAsTold task places nevers
+  pub none_flagged : places ≡ [] → nevers ≡ [] → NeverFlagged task
+  pub as_clear : task.assumptions ≡ [] → (verdict : ClearVerdict) → IsClearVerdict task.flash c verdict → (verdict ≡ AllClear) ↔ (places ≡ [])
+  pub told : text ≡ why_text task.flash names c.bound places nevers
 
 -- the list of words, with causes if they are asked for
-abbrev pub TellsPlaces : Bool → List Named → Program → List Entry → Claim → List ℕ → Type 0
-TellsPlaces false names words A c text = TellsFlagged names words A c text
-TellsPlaces true names words A c text = TellsCauses names words A c text
+abbrev pub TellsPlaces : Bool → List Named → Task → Claim → List ℕ → Type 0
+TellsPlaces false names task c text = TellsFlagged names task c text
+TellsPlaces true names task c text = TellsCauses names task c text
 
 -- some run of the machine from reset ends without a stop, exactly this deep
-pub record IsDepthReached (words : Program) (A : List Entry) (depth : ℕ) : Type 0 where
+pub record IsDepthReached (task : Task) (depth : ℕ) : Type 0 where
   pub state : State
-  pub reset : IsReset (device_of words) state
+  pub reset : IsReset (device_of task.flash) state
   pub choices : List Choice
-  pub run : IsRun words A choices state
-  pub ends : stop_of words A choices state ≡ End
-  pub deep : depth_of words A choices state ≡ depth
+  pub run : IsRun task.flash task.assumptions choices state
+  pub ends : stop_of task.flash task.assumptions choices state ≡ End
+  pub deep : depth_of task.flash task.assumptions choices state ≡ depth
 
 -- The text is that of a certificate that equals the accepted one but for its schedule, and is valid for the same words and assumptions.
 -- It is attained exactly if the accepted one is, or one of this many guided trials is as deep as the bound. Its schedule is that of the
 -- accepted one, or of the first such trial, and reaches the bound exactly. If the accepted text is within the limit for certificates, so
 -- is this one.
-pub record IsWrittenAttained (words : Program) (A : List Entry) (trials : ℕ) (c : Claim) (text : List ℕ) : Type 0 where
+pub record IsWrittenAttained (task : Task) (trials : ℕ) (c : Claim) (text : List ℕ) : Type 0 where
   pub claim : Claim
   pub fits : IsCertificate claim
   pub told : text ≡ text_of claim
-  pub completed : IsCompleted words A trials c claim
-  pub attained : AttainedWhere words A trials c claim
-  pub valid : IsValid words A claim
-  pub reached : is_some claim.witness ≡ true → IsDepthReached words A claim.bound
+  pub completed : IsCompleted task.flash task.assumptions trials c claim
+  pub attained : AttainedWhere task.flash task.assumptions trials c claim
+  pub valid : IsValid task claim
+  pub reached : is_some claim.witness ≡ true → IsDepthReached task claim.bound
   pub short : length (text_of c) ≤ certificate_cap → length text ≤ certificate_cap
 
 -- what a text of a work states of an accepted certificate besides its bound, for a firmware of these bytes on the device with these words
-abbrev pub Shows : Device → Work → List ℕ → Program → List Entry → Claim → List ℕ → Type 0
-Shows device (Explain certificate) bytes words A c text = IsExplained (firmware_names device bytes) words A c text
-Shows device (Clear certificate) bytes words A c text = IsBoundedAndClear words c.bound
-Shows device (Premises certificate why) bytes words A c text = TellsPlaces why (firmware_names device bytes) words A c text
-Shows device (Attain certificate trials) bytes words A c text = IsWrittenAttained words A trials c text
-Shows device work bytes words A c text = ⊤
+abbrev pub Shows : Device → Work → List ℕ → Task → Claim → List ℕ → Type 0
+Shows device (Explain certificate) bytes task c text = IsExplained (firmware_names device bytes) task c text
+Shows device (Clear certificate) bytes task c text = IsBoundedAndClear task.flash c.bound
+Shows device (Premises certificate why) bytes task c text = TellsPlaces why (firmware_names device bytes) task c text
+Shows device (Attain certificate trials) bytes task c text = IsWrittenAttained task trials c text
+Shows device work bytes task c text = ⊤
 
 -- No run of the firmware's words on the device, from reset, is deeper than the bound of the certificate with this text. This holds
 -- whatever memory held, whatever interrupts are taken and whatever bytes are read, up to the first step that is flagged under the
 -- assumption file. The printed text is the work's answer on this certificate, with its bound, and states what else it should.
 pub record Holds (device : Device) (work : Work) (firmware certificate : List ℕ) (list : Option (List ℕ)) (text : List ℕ) : Type 0 where
-  pub words : Program
+  pub task : Task
   pub claim : Claim
-  pub assumptions : List Entry
-  pub stand : StandFor device firmware certificate list words claim assumptions
-  pub bounded : Bounded words assumptions claim.bound
-  pub told : AcceptedReply device work firmware words assumptions claim exit.Done text
-  pub shows : Shows device work firmware words assumptions claim text
+  pub stand : StandFor device firmware certificate list task claim
+  pub bounded : Bounded task.flash task.assumptions claim.bound
+  pub told : AcceptedReply device work firmware task claim exit.Done text
+  pub shows : Shows device work firmware task claim text
 
 -- all files of a work that judges a certificate were read, and the bound holds of their bytes
 pub record HoldsAsRead (device : Device) (work : Work) (assume : Option (List ℕ)) (seen : Contents) (text : List ℕ) : Type 0 where
@@ -175,15 +175,14 @@ pub record HoldsAsRead (device : Device) (work : Work) (assume : Option (List �
 -- one of the trials along its deepest chain is as deep as the bound. The text is within the limit for certificates, so a file with it is
 -- not refused as too long.
 pub record IsLeastCertificate (device : Device) (firmware : List ℕ) (list : Option (List ℕ)) (text : List ℕ) : Type 0 where
-  pub words : Program
+  pub task : Task
   pub claim : Claim
-  pub assumptions : List Entry
-  pub stand : StandFor device firmware text list words claim assumptions
-  pub valid : IsValid words assumptions claim
-  pub least : (other : Claim) → IsClaim other → IsValid words assumptions other → claim.bound ≤ other.bound
-  pub bounded : Bounded words assumptions claim.bound
-  pub reached : is_some claim.witness ≡ true → IsDepthReached words assumptions claim.bound
-  pub trials : TrialsFind words assumptions claim claim.witness
+  pub stand : StandFor device firmware text list task claim
+  pub valid : IsValid task claim
+  pub least : (other : Claim) → IsClaim other → IsValid task other → claim.bound ≤ other.bound
+  pub bounded : Bounded task.flash task.assumptions claim.bound
+  pub reached : is_some claim.witness ≡ true → IsDepthReached task claim.bound
+  pub trials : TrialsFind task claim claim.witness
   pub short : length text ≤ certificate_cap
 
 -- `check` of this text accepts, with the same device, firmware and assumptions
@@ -209,13 +208,12 @@ pub record IsAttainedAsRead (device : Device) (certificate : List ℕ) (assume :
 -- The text reports the run that these devices choose. It is no deeper than the bound of any certificate that is valid for this firmware
 -- and these assumptions, and those are the ones that `check` accepts.
 pub record IsSimulated (device : Device) (steps : ℕ) (firmware devices : List ℕ) (list : Option (List ℕ)) (text : List ℕ) : Type 0 where
-  pub words : Program
+  pub task : Task
   pub setup : Setup
-  pub assumptions : List Entry
-  pub mean : Mean device firmware list words assumptions
+  pub mean : Mean device firmware list task
   pub reads : IsDevices device devices setup
-  pub told : text ≡ run_text (simulation_of words assumptions setup steps)
-  pub within : (c : Claim) → IsClaim c → IsValid words assumptions c → (simulation_of words assumptions setup steps).depth ≤ c.bound
+  pub told : text ≡ run_text (simulation_of task.flash task.assumptions setup steps)
+  pub within : (c : Claim) → IsClaim c → IsValid task c → (simulation_of task.flash task.assumptions setup steps).depth ≤ c.bound
 
 -- all files of a simulation were read, and its text is such a report
 pub record IsSimulatedAsRead (device : Device) (assume : Option (List ℕ)) (steps : ℕ) (seen : Contents) (text : List ℕ) : Type 0 where
@@ -231,7 +229,7 @@ pub record IsSimulatedAsRead (device : Device) (assume : Option (List ℕ)) (ste
 pub record IsMeasured (size : ℕ) (text : List ℕ) : Type 0 where
   pub claim : Claim
   pub fits : IsClaim claim
-  pub answer : IsAnswer (demo_program size) [] None claim
+  pub answer : IsAnswer (bare (demo_program size)) None claim
   pub told : text ≡ demo_text size claim
 
 -- ---- what status 0 says
@@ -254,51 +252,51 @@ Headline (Demo size) seen status text = status ≡ exit.Done → IsMeasured size
 -- ---- when the answers come
 
 -- the certificate that a work accepts, for these words under these assumptions: it is valid, and for `clear` all nodes are clear
-abbrev pub Accepts : Work → Program → List Entry → Claim → Type 0
-Accepts (Clear certificate) words A c = IsValid words A c × AreAllClear words A c
-Accepts work words A c = IsValid words A c
+abbrev pub Accepts : Work → Task → Claim → Type 0
+Accepts (Clear certificate) task c = IsValid task c × AreAllClear task c
+Accepts work task c = IsValid task c
 
 -- the certificate has a node that isn't clear, for a work that asks
-abbrev pub Blames : Work → Program → List Entry → Claim → Type 0
-Blames (Clear certificate) words A c = IsValid words A c × ((node pc : ℕ) × IsFirstUnclear words A c node pc)
-Blames work words A c = ⊥
+abbrev pub Blames : Work → Task → Claim → Type 0
+Blames (Clear certificate) task c = IsValid task c × ((node pc : ℕ) × IsFirstUnclear task c node pc)
+Blames work task c = ⊥
 
 -- the status says whether the certificate is accepted, has a node that isn't clear, or isn't valid
-pub record SaysWhether (work : Work) (words : Program) (A : List Entry) (c : Claim) (status : Status) : Type 0 where
-  pub accepted : (status ≡ exit.Done) ↔ Accepts work words A c
-  pub unclear : (status ≡ exit.Unclear) ↔ Blames work words A c
-  pub rejected : (status ≡ exit.Rejected) ↔ (IsValid words A c → ⊥)
+pub record SaysWhether (work : Work) (task : Task) (c : Claim) (status : Status) : Type 0 where
+  pub accepted : (status ≡ exit.Done) ↔ Accepts work task c
+  pub unclear : (status ≡ exit.Unclear) ↔ Blames work task c
+  pub rejected : (status ≡ exit.Rejected) ↔ (IsValid task c → ⊥)
 
 -- `SaysWhether` for the files of a command, if they are well-formed
 abbrev pub AcceptsExactly : Device → Work → Option (List ℕ) → Contents → Status → Type 0
 AcceptsExactly device work assume seen status =
-    (firmware certificate : List ℕ) (list : Option (List ℕ)) (words : Program) (claim : Claim) (A : List Entry)
-    → AreRead assume seen firmware certificate list → StandFor device firmware certificate list words claim A → SaysWhether work words A claim status
+    (firmware certificate : List ℕ) (list : Option (List ℕ)) (task : Task) (claim : Claim)
+    → AreRead assume seen firmware certificate list → StandFor device firmware certificate list task claim → SaysWhether work task claim status
 
 -- some certificate is valid for the words and the assumptions
-abbrev pub HasValid : Program → List Entry → Type 0
-HasValid words A = (c : Claim) × IsClaim c × IsValid words A c
+abbrev pub HasValid : Task → Type 0
+HasValid task = (c : Claim) × IsClaim c × IsValid task c
 
 -- The status says how the rounds end: within the budget with a certificate, or with a cause against it, or at no family within the
 -- budget. Without a budget the answer is a certificate exactly if a valid one exists.
-pub record SaysHowRoundsEnd (words : Program) (A : List Entry) (steps : Option ℕ) (status : Status) : Type 0 where
-  pub solved : (status ≡ exit.Done) ↔ ((c : Claim) × IsClaim c × IsAnswer words A steps c)
-  pub refused : (status ≡ exit.NoCertificate) ↔ ((r : Refusal) × (r ≢ Memory) × IsRefusal words A steps r)
-  pub spent : (status ≡ exit.Spent) ↔ ((n : ℕ) × (steps ≡ Some n) × GoesBeyond words A n)
-  pub valid : steps ≡ None → (status ≡ exit.Done) ↔ HasValid words A
+pub record SaysHowRoundsEnd (task : Task) (steps : Option ℕ) (status : Status) : Type 0 where
+  pub solved : (status ≡ exit.Done) ↔ ((c : Claim) × IsClaim c × IsAnswer task steps c)
+  pub refused : (status ≡ exit.NoCertificate) ↔ ((r : Refusal) × (r ≢ Memory) × IsRefusal task steps r)
+  pub spent : (status ≡ exit.Spent) ↔ ((n : ℕ) × (steps ≡ Some n) × GoesBeyond task n)
+  pub valid : steps ≡ None → (status ≡ exit.Done) ↔ HasValid task
 
 -- `SaysHowRoundsEnd` for the files of an analysis, if they are well-formed
 abbrev pub AnswersRounds : Device → Option (List ℕ) → Option ℕ → Contents → Status → Type 0
 AnswersRounds device assume steps seen status =
-    (firmware : List ℕ) (list : Option (List ℕ)) (words : Program) (A : List Entry)
-    → AreLoaded assume seen firmware list → Mean device firmware list words A → SaysHowRoundsEnd words A steps status
+    (firmware : List ℕ) (list : Option (List ℕ)) (task : Task)
+    → AreLoaded assume seen firmware list → Mean device firmware list task → SaysHowRoundsEnd task steps status
 
 -- If the files of a simulation were read, and firmware and assumptions are well-formed, it is refused exactly if the devices' text is
 -- malformed.
 abbrev pub AnswersDevices : Device → Option (List ℕ) → Contents → Status → Type 0
 AnswersDevices device assume seen status =
-    (firmware devices : List ℕ) (list : Option (List ℕ)) (words : Program) (A : List Entry)
-    → AreRead assume seen firmware devices list → Mean device firmware list words A → (status ≡ exit.Done) ↔ ((setup : Setup) × IsDevices device devices setup)
+    (firmware devices : List ℕ) (list : Option (List ℕ)) (task : Task)
+    → AreRead assume seen firmware devices list → Mean device firmware list task → (status ≡ exit.Done) ↔ ((setup : Setup) × IsDevices device devices setup)
 
 abbrev pub IsWorkExact : Device → Option (List ℕ) → Work → Contents → Status → Type 0
 IsWorkExact device assume (Analyse steps) seen status = AnswersRounds device assume steps seen status
@@ -309,7 +307,7 @@ IsWorkExact device assume work seen status = AcceptsExactly device work assume s
 
 abbrev pub IsExact : Command → Contents → Status → Type 0
 IsExact (On request) seen status = IsWorkExact request.device request.assume request.work seen status
-IsExact (Demo size) seen status = SaysHowRoundsEnd (demo_program size) [] None status
+IsExact (Demo size) seen status = SaysHowRoundsEnd (bare (demo_program size)) None status
 
 -- ---- laws
 

@@ -48,6 +48,7 @@ use Rattle.replies.specs.Places.{clear_text, unclear_text, premises_text, why_te
 use Rattle.replies.specs.Reading.{Seen, Unread, Whole, Long, Contents}
 use Rattle.replies.specs.Analysis.{IsAnalysis}
 pub use Rattle.replies.specs.Says.{Reply, Says, Refuses}
+use Rattle.local_rules.specs.Site.{Task, bare, task_with}
 
 -- ---- files
 
@@ -102,24 +103,24 @@ abbrev pub AttainedBy : Reply → Bool → Reply
 AttainedBy next true status text = next status text
 AttainedBy next false status text = Says exit.Rejected witness_rejected status text
 
-abbrev pub WitnessReply : Program → List Entry → Reply → ℕ → Option Plan → Reply
-WitnessReply words A next bound None status text = next status text
-WitnessReply words A next bound (Some plan) status text = AttainedBy next (attains bound (replay_of words A plan)) status text
+abbrev pub WitnessReply : Task → Reply → ℕ → Option Plan → Reply
+WitnessReply task next bound None status text = next status text
+WitnessReply task next bound (Some plan) status text = AttainedBy next (attains bound (replay_of task.flash task.assumptions plan)) status text
 
-abbrev pub VerdictReply : Program → List Entry → (Claim → Reply) → Claim → Judgement ℕ → Reply
-VerdictReply words A next c (Rejected reason) status text = Says exit.Rejected (rejected (device_of words) reason) status text
-VerdictReply words A next c (Accepted bound) status text = WitnessReply words A (next c) bound c.witness status text
+abbrev pub VerdictReply : Task → (Claim → Reply) → Claim → Judgement ℕ → Reply
+VerdictReply task next c (Rejected reason) status text = Says exit.Rejected (rejected (device_of task.flash) reason) status text
+VerdictReply task next c (Accepted bound) status text = WitnessReply task (next c) bound c.witness status text
 
 -- the answer by the verdict on a certificate
-pub record JudgedReply (words : Program) (A : List Entry) (next : Claim → Reply) (c : Claim) (status : Status) (text : List ℕ) : Type 0 where
+pub record JudgedReply (task : Task) (next : Claim → Reply) (c : Claim) (status : Status) (text : List ℕ) : Type 0 where
   pub verdict : Judgement ℕ
-  pub is : IsVerdict words A c verdict
-  pub reply : VerdictReply words A next c verdict status text
+  pub is : IsVerdict task c verdict
+  pub reply : VerdictReply task next c verdict status text
 
 -- the answer to a certificate that is read; continues with an accepted one
-abbrev pub CertificateReply : Program → List Entry → (Claim → Reply) → Result Claim CertFault → Reply
-CertificateReply words A next (Err fault) status text = Refuses exit.BadCertificate (certificate_refused fault) status text
-CertificateReply words A next (Ok c) status text = JudgedReply words A next c status text
+abbrev pub CertificateReply : Task → (Claim → Reply) → Result Claim CertFault → Reply
+CertificateReply task next (Err fault) status text = Refuses exit.BadCertificate (certificate_refused fault) status text
+CertificateReply task next (Ok c) status text = JudgedReply task next c status text
 
 abbrev pub report_by : Bool → Device → List Named → Option ℕ → Claim → List ℕ
 report_by true device names end c = json_text device c names end
@@ -131,10 +132,10 @@ told_of device (Report certificate json) bytes c = report_by json device (firmwa
 told_of device work bytes c = accepted c.bound (is_some c.witness)
 
 -- the answer is the explanation of a certificate, with these names of words
-pub record ExplainReply (names : List Named) (words : Program) (A : List Entry) (c : Claim) (status : Status) (text : List ℕ) : Type 0 where
+pub record ExplainReply (names : List Named) (task : Task) (c : Claim) (status : Status) (text : List ℕ) : Type 0 where
   pub explanation : Explanation
-  pub is : IsExplanation words A c explanation
-  pub says : Says exit.Done (explanation_text (device_of words) c.bound names explanation) status text
+  pub is : IsExplanation task c explanation
+  pub says : Says exit.Done (explanation_text (device_of task.flash) c.bound names explanation) status text
 
 -- the answer by whether all nodes of a certificate are clear
 abbrev pub ClearSays : Program → Claim → ClearVerdict → Reply
@@ -148,40 +149,40 @@ pub record ClearReply (words : Program) (c : Claim) (status : Status) (text : Li
 
 -- The answer lists all words at which some node of a certificate isn't clear, with these names, and those of vectors that may be taken
 -- despite `never` lines.
-pub record PremisesReply (names : List Named) (words : Program) (A : List Entry) (c : Claim) (status : Status) (text : List ℕ) : Type 0 where
+pub record PremisesReply (names : List Named) (task : Task) (c : Claim) (status : Status) (text : List ℕ) : Type 0 where
   pub sites : List ℕ
   pub nevers : List ℕ
-  pub are : AreSites words A c sites
-  pub are_nevers : AreNevers words A c nevers
-  pub says : Says exit.Done (premises_text words names c.bound sites nevers) status text
+  pub are : AreSites task c sites
+  pub are_nevers : AreNevers task c nevers
+  pub says : Says exit.Done (premises_text task.flash names c.bound sites nevers) status text
 
 -- the answer lists the words of `PremisesReply`, with causes
-pub record WhyReply (names : List Named) (words : Program) (A : List Entry) (c : Claim) (status : Status) (text : List ℕ) : Type 0 where
+pub record WhyReply (names : List Named) (task : Task) (c : Claim) (status : Status) (text : List ℕ) : Type 0 where
   pub places : List FlaggedPlace
   pub nevers : List ℕ
-  pub are : ArePlaces words A c places
-  pub are_nevers : AreNevers words A c nevers
-  pub says : Says exit.Done (why_text words names c.bound places nevers) status text
+  pub are : ArePlaces task c places
+  pub are_nevers : AreNevers task c nevers
+  pub says : Says exit.Done (why_text task.flash names c.bound places nevers) status text
 
 -- the list with causes, or without
-abbrev pub PlacesReply : Bool → List Named → Program → List Entry → Claim → Reply
-PlacesReply false names words A c status text = PremisesReply names words A c status text
-PlacesReply true names words A c status text = WhyReply names words A c status text
+abbrev pub PlacesReply : Bool → List Named → Task → Claim → Reply
+PlacesReply false names task c status text = PremisesReply names task c status text
+PlacesReply true names task c status text = WhyReply names task c status text
 
 -- The answer is the certificate with its own schedule, or else with the one that guided trials find, which attains its bound.
-pub record AttainReply (words : Program) (A : List Entry) (trials : ℕ) (c : Claim) (status : Status) (text : List ℕ) : Type 0 where
+pub record AttainReply (task : Task) (trials : ℕ) (c : Claim) (status : Status) (text : List ℕ) : Type 0 where
   pub claim : Claim
-  pub completed : IsCompleted words A trials c claim
-  pub attained : IsAttained words A c.bound claim.witness
+  pub completed : IsCompleted task.flash task.assumptions trials c claim
+  pub attained : IsAttained task c.bound claim.witness
   pub says : Says exit.Done (text_of claim) status text
 
 -- the answer of a work that accepts a certificate, for a firmware of these bytes on the device with these words, under these assumptions
-abbrev pub AcceptedReply : Device → Work → List ℕ → Program → List Entry → Claim → Reply
-AcceptedReply device (Explain certificate) bytes words A c = ExplainReply (firmware_names device bytes) words A c
-AcceptedReply device (Clear certificate) bytes words A c = ClearReply words c
-AcceptedReply device (Premises certificate why) bytes words A c = PlacesReply why (firmware_names device bytes) words A c
-AcceptedReply device (Attain certificate trials) bytes words A c = AttainReply words A trials c
-AcceptedReply device work bytes words A c = Says exit.Done (told_of device work bytes c)
+abbrev pub AcceptedReply : Device → Work → List ℕ → Task → Claim → Reply
+AcceptedReply device (Explain certificate) bytes task c = ExplainReply (firmware_names device bytes) task c
+AcceptedReply device (Clear certificate) bytes task c = ClearReply task.flash c
+AcceptedReply device (Premises certificate why) bytes task c = PlacesReply why (firmware_names device bytes) task c
+AcceptedReply device (Attain certificate trials) bytes task c = AttainReply task trials c
+AcceptedReply device work bytes task c = Says exit.Done (told_of device work bytes c)
 
 -- ---- run
 
@@ -194,58 +195,58 @@ abbrev pub EndsBefore : List TextLine → ℕ → Reply → Reply
 EndsBefore [] at reply status text = reply status text
 EndsBefore (l ∷ ls) at reply status text = Says exit.BadSchedule (schedule_malformed at) status text
 
-abbrev pub ScheduleReply : Program → List Entry → Result (Plan × Place) ℕ → Reply
-ScheduleReply words A (Err at) status text = Says exit.BadSchedule (schedule_malformed at) status text
-ScheduleReply words A (Ok read) status text = EndsBefore read.1.rest read.1.at (RunReply (replay_of words A read.0)) status text
+abbrev pub ScheduleReply : Task → Result (Plan × Place) ℕ → Reply
+ScheduleReply task (Err at) status text = Says exit.BadSchedule (schedule_malformed at) status text
+ScheduleReply task (Ok read) status text = EndsBefore read.1.rest read.1.at (RunReply (replay_of task.flash task.assumptions read.0)) status text
 
 -- ---- simulate
 
 -- the report of the run that devices choose, if their text is well-formed
-abbrev pub SimulateReply : Program → List Entry → ℕ → Result Setup DevicesFault → Reply
-SimulateReply words A steps (Err fault) status text = Refuses exit.BadDevices (devices_refused fault) status text
-SimulateReply words A steps (Ok setup) status text = Says exit.Done (run_text (simulation_of words A setup steps)) status text
+abbrev pub SimulateReply : Task → ℕ → Result Setup DevicesFault → Reply
+SimulateReply task steps (Err fault) status text = Refuses exit.BadDevices (devices_refused fault) status text
+SimulateReply task steps (Ok setup) status text = Says exit.Done (run_text (simulation_of task.flash task.assumptions setup steps)) status text
 
 -- ---- analyse and demo
 
 -- the answer is the certificate of an analysis
-pub record AnalysedReply (words : Program) (A : List Entry) (steps : Option ℕ) (status : Status) (text : List ℕ) : Type 0 where
+pub record AnalysedReply (task : Task) (steps : Option ℕ) (status : Status) (text : List ℕ) : Type 0 where
   pub claim : Claim
-  pub analysis : IsAnalysis words A steps claim
+  pub analysis : IsAnalysis task steps claim
   pub says : Says exit.Done (text_of claim) status text
 
 -- the answer is the reason for having no certificate
-pub record WhyNotReply (words : Program) (A : List Entry) (steps : Option ℕ) (status : Status) (text : List ℕ) : Type 0 where
+pub record WhyNotReply (task : Task) (steps : Option ℕ) (status : Status) (text : List ℕ) : Type 0 where
   pub refusal : Refusal
-  pub why : IsWhyNot words A steps refusal
-  pub says : Refuses (why_not_status refusal) (why_not_text words refusal) status text
+  pub why : IsWhyNot task steps refusal
+  pub says : Refuses (why_not_status refusal) (why_not_text task.flash refusal) status text
 
-abbrev pub AnalyseReply : Program → List Entry → Option ℕ → Reply
-AnalyseReply words A steps status text = AnalysedReply words A steps status text ⊎ WhyNotReply words A steps status text
+abbrev pub AnalyseReply : Task → Option ℕ → Reply
+AnalyseReply task steps status text = AnalysedReply task steps status text ⊎ WhyNotReply task steps status text
 
 -- the answer has the numbers of an image's certificate
 pub record MeasuredReply (size : ℕ) (status : Status) (text : List ℕ) : Type 0 where
   pub claim : Claim
   pub fits : IsClaim claim
-  pub answer : IsAnswer (demo_program size) [] None claim
+  pub answer : IsAnswer (bare (demo_program size)) None claim
   pub says : Says exit.Done (demo_text size claim) status text
 
 abbrev pub DemoReply : ℕ → Reply
-DemoReply size status text = MeasuredReply size status text ⊎ WhyNotReply (demo_program size) [] None status text
+DemoReply size status text = MeasuredReply size status text ⊎ WhyNotReply (bare (demo_program size)) None status text
 
 -- ---- all
 
 -- The answer of a work for the words of a firmware of these bytes on the device, the bytes of its second file, and these assumptions. `clear`
 -- has none.
-abbrev pub FlashReply : Device → Work → List ℕ → List ℕ → Program → List Entry → Reply
-FlashReply device (Analyse steps) firmware bytes words A = AnalyseReply words A steps
-FlashReply device (Run schedule) firmware bytes words A = ScheduleReply words A (schedule_in (device_of words) (record { at = 0; rest = lines_of bytes }))
-FlashReply device (Simulate devices steps) firmware bytes words A = SimulateReply words A steps (setup_in (device_of words) bytes)
-FlashReply device (Clear certificate) firmware bytes words A = CertificateReply words [] (ClearReply words) (certificate_in (device_of words) bytes)
-FlashReply device work firmware bytes words A = CertificateReply words A (AcceptedReply device work firmware words A) (certificate_in (device_of words) bytes)
+abbrev pub FlashReply : Device → Work → List ℕ → List ℕ → Task → Reply
+FlashReply device (Analyse steps) firmware bytes task = AnalyseReply task steps
+FlashReply device (Run schedule) firmware bytes task = ScheduleReply task (schedule_in (device_of task.flash) (record { at = 0; rest = lines_of bytes }))
+FlashReply device (Simulate devices steps) firmware bytes task = SimulateReply task steps (setup_in (device_of task.flash) bytes)
+FlashReply device (Clear certificate) firmware bytes task = CertificateReply (bare task.flash) (ClearReply task.flash) (certificate_in (device_of task.flash) bytes)
+FlashReply device work firmware bytes task = CertificateReply task (AcceptedReply device work firmware task) (certificate_in (device_of task.flash) bytes)
 
 -- the answer of a work for the bytes of a firmware, its second file and an assumption file, which are examined in this order
 abbrev pub ImageReply : Device → Work → List ℕ → List ℕ → Option (List ℕ) → Reply
-ImageReply device work firmware second list = WithImage device firmware (λ words. WithList device list (λ A. FlashReply device work firmware second words A))
+ImageReply device work firmware second list = WithImage device firmware (λ words. WithList device list (λ A. FlashReply device work firmware second (task_with words A)))
 
 -- `demo` has no files.
 abbrev pub WorkReply : Command → List ℕ → List ℕ → Option (List ℕ) → Reply

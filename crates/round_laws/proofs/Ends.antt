@@ -1,8 +1,7 @@
 -- The rounds end once, and without a refusal if a valid certificate exists.
-use Rattle.std.proofs.Common.{◌≡◌, refl, sym, ap, ap₂, ◌∙◌, subst, ℕ, zero, suc, ◌<◌, ◌≤◌, inl, inr, ⊎_elim, List, Option, arith}
+use Rattle.std.proofs.Common.{◌≡◌, refl, sym, ap, ap₂, ◌∙◌, subst, ℕ, zero, suc, ◌<◌, ◌≤◌, inl, inr, ⊎_elim, Option, arith}
 use Rattle.std.proofs.lemmas.Bool.{cases_lt, cases_order}
-use Rattle.avr_model.specs.declared.assumption.Entry.{Entry}
-use Rattle.avr_model.specs.Devices.{Program, device_of}
+use Rattle.avr_model.specs.Devices.{device_of}
 use Rattle.avr_model.specs.Vectors.{vector_word}
 use Rattle.mask_states.specs.declared.keys.InstKey.{InstKey}
 use Rattle.mask_states.specs.Keys.{root_inst}
@@ -26,36 +25,37 @@ use Rattle.round_laws.proofs.Stands.{stands}
 use Rattle.round_laws.proofs.Under.{under_root}
 use Rattle.round_laws.proofs.Sums.{below_few, below_cells}
 use Rattle.round_laws.proofs.Least.{lands_covered, comes_formed, comes_same, comes_root, none_faulty, ranks_of, needs_of, comes_below, reached_lower, entered_word}
+use Rattle.local_rules.specs.Site.{Task}
 
-module _ (words : Program) (A : List Entry) where
+module _ (task : Task) where
   -- ---- no refusal where a family is valid
 
-  never_faulty : (f : Family) (x : NodeFault) → HasNoFault words A f → FaultAt words A f x → ⊥
-  never_faulty f x clean at = never_both words A at.node.key at.node.state x (clean at.node at.has) at.is
+  never_faulty : (f : Family) (x : NodeFault) → HasNoFault task f → FaultAt task f x → ⊥
+  never_faulty f x clean at = never_both task at.node.key at.node.state x (clean at.node at.has) at.is
 
-  root_need : (f : Family) (d e : ℕ) → IsRootNeed words A f d → IsRootNeed words A f e → d ≤ e
+  root_need : (f : Family) (d e : ℕ) → IsRootNeed task f d → IsRootNeed task f e → d ≤ e
   root_need f d e a b = subst (λ (x : ℕ). d ≤ x) b.is (a.least b.need b.are)
 
-  module _ (g : Family) (valid : IsValidFamily words A g) (n : ℕ) (f : Family) (c : Comes words A n f) where
+  module _ (g : Family) (valid : IsValidFamily task g) (n : ℕ) (f : Family) (c : Comes task n f) where
     below : Below f g
-    below = comes_below words A g valid n f c
+    below = comes_below task g valid n f c
 
-    clean : HasNoFault words A f
-    clean = none_faulty words A g valid f (comes_formed words A n f c) below
+    clean : HasNoFault task f
+    clean = none_faulty task g valid f (comes_formed task n f c) below
 
-    low : AreRanks words A f valid.rank_of
-    low = ranks_of words A g valid f (comes_formed words A n f c) below
+    low : AreRanks task f valid.rank_of
+    low = ranks_of task g valid f (comes_formed task n f c) below
 
-    needs : AreNeeds words A f valid.need_of
-    needs = needs_of words A g valid f (comes_formed words A n f c) below
+    needs : AreNeeds task f valid.need_of
+    needs = needs_of task g valid f (comes_formed task n f c) below
 
-    acyclic : IsAcyclic words A f
-    acyclic i r = let lt = reached_lower words A f valid.rank_of low i i r in omega (arith, lt)
+    acyclic : IsAcyclic task f
+    acyclic i r = let lt = reached_lower task f valid.rank_of low i i r in omega (arith, lt)
 
-    bound : (d : ℕ) → IsRootNeed words A f d → d ≤ valid.bound
+    bound : (d : ℕ) → IsRootNeed task f d → d ≤ valid.bound
     bound d is = omega (arith, is.least valid.need_of needs, valid.sound.bounded)
 
-    never : (t : Test) → FitsLimits g → FirstHolds words A f t → ⊥
+    never : (t : Test) → FitsLimits g → FirstHolds task f t → ⊥
     never (over Nodes) fits h = omega (arith, below_few f g below, fits.few_nodes, h)
     never (over Cells) fits h = omega (arith, below_cells f g below, fits.few_cells, h.1)
     never (faulty x) fits h = never_faulty f x clean h.1.0
@@ -63,26 +63,26 @@ module _ (words : Program) (A : List Entry) where
     never (recursion word) fits h = acyclic h.2.inst h.2.reaches
     never (too_deep d) fits h = omega (arith, bound d h.3, valid.sound.small, h.4)
 
-  never_refused : (n : ℕ) (c : Claim) (r : Refusal) → IsShown words A c → IsRefused words A n r → ⊥
+  never_refused : (n : ℕ) (c : Claim) (r : Refusal) → IsShown task c → IsRefused task n r → ⊥
   never_refused n c r shown refused =
-      let s = stands words A c shown in
+      let s = stands task c shown in
       never s.family s.valid n refused.ends.family refused.ends.comes refused.test s.fits refused.ends.holds
 
-  bound_least : (n : ℕ) (f : Family) (c : Claim) (d : ℕ) → IsShown words A c → Comes words A n f → IsRootNeed words A f d → d ≤ c.bound
+  bound_least : (n : ℕ) (f : Family) (c : Claim) (d : ℕ) → IsShown task c → Comes task n f → IsRootNeed task f d → d ≤ c.bound
   bound_least n f c d shown comes is =
-      let s = stands words A c shown in
+      let s = stands task c shown in
       omega (arith, bound s.family s.valid n f comes d is, s.bound)
 
   -- ---- the solved family's certificate is valid
 
-  solved_valid : (n : ℕ) (f : Family) (c : Claim) → IsClaim c → IsSolved words A n f → IsSolution words A f c → IsValid words A c
+  solved_valid : (n : ℕ) (f : Family) (c : Claim) → IsClaim c → IsSolved task n f → IsSolution task f c → IsValid task c
   solved_valid n f c claim solved is = record {
     sound = record {
       nodes = nodes_of f;
       expanded = is.expands;
       meets = record {
         device = is.device;
-        reset = lands_covered f _ (comes_root words A n f solved.comes);
+        reset = lands_covered f _ (comes_root task n f solved.comes);
         faultless = λ m i. solved.passes.faultless m (has_member f m i);
         edges = λ m e i edge. lands_covered f _ (solved.closed m e (has_member f m i) edge);
         ranks = λ m way inst back i enters.
@@ -100,29 +100,29 @@ module _ (words : Program) (A : List Entry) where
         assumptions = is.assumptions;
       };
     };
-    attained = subst (λ (w : Option Plan). IsAttained words A c.bound w) (sym is.unwitnessed) tt;
+    attained = subst (λ (w : Option Plan). IsAttained task c.bound w) (sym is.unwitnessed) tt;
   }
 
-  solved_least : (n : ℕ) (f : Family) (c other : Claim) → IsSolved words A n f → IsSolution words A f c → IsShown words A other → c.bound ≤ other.bound
+  solved_least : (n : ℕ) (f : Family) (c other : Claim) → IsSolved task n f → IsSolution task f c → IsShown task other → c.bound ≤ other.bound
   solved_least n f c other solved is shown =
-      let s = stands words A other shown in
+      let s = stands task other shown in
       let le = is.least_needs s.valid.need_of (needs s.family s.valid n f solved.comes) root_inst in
       omega (arith, le, s.valid.sound.bounded, s.bound, is.bound)
 
   -- ---- before the end no test holds
 
   abbrev GoesOn : Family → Type 0
-  GoesOn f = PassesTests words A f × (IsClosed words A f → ⊥)
+  GoesOn f = PassesTests task f × (IsClosed task f → ⊥)
 
-  earlier : (m n : ℕ) (f g : Family) → m < n → Comes words A m f → Comes words A n g → GoesOn f
+  earlier : (m n : ℕ) (f g : Family) → m < n → Comes task m f → Comes task n g → GoesOn f
   earlier m zero f g lt c d = absurd (omega arith)
   earlier m (suc n) f g lt c d =
       ⊎_elim (λ less. earlier m n f d.0 less c d.1)
       (λ over. let is : n ≡ m = omega (arith, lt, over) in
-      let same = comes_same words A m d.0 f (subst (λ (k : ℕ). Comes words A k d.0) is d.1) c in
+      let same = comes_same task m d.0 f (subst (λ (k : ℕ). Comes task k d.0) is d.1) c in
       subst GoesOn same (d.2, d.3)) (cases_lt m n)
 
-  not_passes : (f : Family) (t : Test) → FirstHolds words A f t → PassesTests words A f → ⊥
+  not_passes : (f : Family) (t : Test) → FirstHolds task f t → PassesTests task f → ⊥
   not_passes f (over Nodes) h p = omega (arith, h, p.fits.few_nodes)
   not_passes f (over Cells) h p = omega (arith, h.1, p.fits.few_cells)
   not_passes f (faulty x) h p = never_faulty f x p.faultless h.1.0
@@ -132,23 +132,23 @@ module _ (words : Program) (A : List Entry) where
 
   -- ---- one family has one first test
 
-  over_fits : (f : Family) (limit : Limit) → FirstHolds words A f (over limit) → FitsLimits f → ⊥
+  over_fits : (f : Family) (limit : Limit) → FirstHolds task f (over limit) → FitsLimits f → ⊥
   over_fits f Nodes h fits = omega (arith, h, fits.few_nodes)
   over_fits f Cells h fits = omega (arith, h.1, fits.few_cells)
 
-  re_entry_same : (f : Family) (v word u other : ℕ) → IsReEntry words A f v word → IsReEntry words A f u other → re_entry v word ≡ re_entry u other
+  re_entry_same : (f : Family) (v word u other : ℕ) → IsReEntry task f v word → IsReEntry task f u other → re_entry v word ≡ re_entry u other
   re_entry_same f v word u other a b =
       let vs : v ≡ u = omega (arith, a.least b.inst u b.reaches b.kind, b.least a.inst v a.reaches a.kind) in
-      let ws : word ≡ other = sym a.entry ∙ entered_word words A f a.inst a.inst v a.reaches a.kind ∙ ap (vector_word (device_of words)) vs ∙ sym (entered_word words A f b.inst b.inst u b.reaches b.kind) ∙ b.entry in
+      let ws : word ≡ other = sym a.entry ∙ entered_word task f a.inst a.inst v a.reaches a.kind ∙ ap (vector_word (device_of task.flash)) vs ∙ sym (entered_word task f b.inst b.inst u b.reaches b.kind) ∙ b.entry in
       ap₂ re_entry vs ws
 
-  recursion_same : (f : Family) (word other : ℕ) → IsRecursion words A f word → IsRecursion words A f other → recursion word ≡ recursion other
+  recursion_same : (f : Family) (word other : ℕ) → IsRecursion task f word → IsRecursion task f other → recursion word ≡ recursion other
   recursion_same f word other a b = ap recursion (omega (arith, a.least b.inst b.reaches, a.entry, b.least a.inst a.reaches, b.entry))
 
-  not_both : (f : Family) (v word other : ℕ) → IsReEntry words A f v word → IsRecursion words A f other → ⊥
+  not_both : (f : Family) (v word other : ℕ) → IsReEntry task f v word → IsRecursion task f other → ⊥
   not_both f v word other a b = b.vectors a.inst v a.reaches a.kind
 
-  test_same : (f : Family) (t u : Test) → FirstHolds words A f t → FirstHolds words A f u → t ≡ u
+  test_same : (f : Family) (t u : Test) → FirstHolds task f t → FirstHolds task f u → t ≡ u
   test_same f (over Nodes) (over Nodes) h k = refl
   test_same f (over Nodes) (over Cells) h k = absurd (omega (arith, h, k.0))
   test_same f (over Cells) (over Nodes) h k = absurd (omega (arith, k, h.0))
@@ -180,51 +180,51 @@ module _ (words : Program) (A : List Entry) where
 
   -- ---- the rounds end once
 
-  solved_once : (m n : ℕ) (f g : Family) → IsSolved words A m f → IsSolved words A n g → (m ≡ n) × (f ≡ g)
+  solved_once : (m n : ℕ) (f g : Family) → IsSolved task m f → IsSolved task n g → (m ≡ n) × (f ≡ g)
   solved_once m n f g a b =
       elim (cases_order m n) [
-        | inl same ↦ (same, comes_same words A n f g (subst (λ (k : ℕ). Comes words A k f) same a.comes) b.comes)
+        | inl same ↦ (same, comes_same task n f g (subst (λ (k : ℕ). Comes task k f) same a.comes) b.comes)
         | inr (inl lt) ↦ absurd ((earlier m n f g lt a.comes b.comes).1 a.closed)
         | inr (inr gt) ↦ absurd ((earlier n m g f gt b.comes a.comes).1 b.closed)
       ]
 
-  either : (m n : ℕ) (f : Family) (r : Refusal) → IsSolved words A m f → IsRefused words A n r → ⊥
+  either : (m n : ℕ) (f : Family) (r : Refusal) → IsSolved task m f → IsRefused task n r → ⊥
   either m n f r a b =
       let g = b.ends.family in
       elim (cases_order m n) [
         | inl same ↦ not_passes g b.test b.ends.holds
-            (subst (PassesTests words A) (comes_same words A n f g (subst (λ (k : ℕ). Comes words A k f) same a.comes) b.ends.comes) a.passes)
+            (subst (PassesTests task) (comes_same task n f g (subst (λ (k : ℕ). Comes task k f) same a.comes) b.ends.comes) a.passes)
         | inr (inl lt) ↦ (earlier m n f g lt a.comes b.ends.comes).1 a.closed
         | inr (inr gt) ↦ not_passes g b.test b.ends.holds (earlier n m g f gt b.ends.comes a.comes).0
       ]
 
-  refused_once : (m n : ℕ) (r s : Refusal) → IsRefused words A m r → IsRefused words A n s → (m ≡ n) × (r ≡ s)
+  refused_once : (m n : ℕ) (r s : Refusal) → IsRefused task m r → IsRefused task n s → (m ≡ n) × (r ≡ s)
   refused_once m n r s a b =
       let f = a.ends.family in
       let g = b.ends.family in
       elim (cases_order m n) [
         | inl same ↦
-            let one = comes_same words A n f g (subst (λ (k : ℕ). Comes words A k f) same a.ends.comes) b.ends.comes in
-            let test = test_same g a.test b.test (subst (λ (x : Family). FirstHolds words A x a.test) one a.ends.holds) b.ends.holds in
+            let one = comes_same task n f g (subst (λ (k : ℕ). Comes task k f) same a.ends.comes) b.ends.comes in
+            let test = test_same g a.test b.test (subst (λ (x : Family). FirstHolds task x a.test) one a.ends.holds) b.ends.holds in
             (same, a.is ∙ ap refusal_of test ∙ sym b.is)
         | inr (inl lt) ↦ absurd (not_passes f a.test a.ends.holds (earlier m n f g lt a.ends.comes b.ends.comes).0)
         | inr (inr gt) ↦ absurd (not_passes g b.test b.ends.holds (earlier n m g f gt b.ends.comes a.ends.comes).0)
       ]
 
-  solved_beyond : (m n : ℕ) (f : Family) → IsSolved words A m f → GoesBeyond words A n → n < m
+  solved_beyond : (m n : ℕ) (f : Family) → IsSolved task m f → GoesBeyond task n → n < m
   solved_beyond m n f a b =
       elim (cases_order m n) [
-        | inl same ↦ absurd (b.more (subst (IsClosed words A) (comes_same words A n f b.family (subst (λ (k : ℕ). Comes words A k f) same a.comes) b.comes) a.closed))
+        | inl same ↦ absurd (b.more (subst (IsClosed task) (comes_same task n f b.family (subst (λ (k : ℕ). Comes task k f) same a.comes) b.comes) a.closed))
         | inr (inl lt) ↦ absurd ((earlier m n f b.family lt a.comes b.comes).1 a.closed)
         | inr (inr gt) ↦ gt
       ]
 
-  refused_beyond : (m n : ℕ) (r : Refusal) → IsRefused words A m r → GoesBeyond words A n → n < m
+  refused_beyond : (m n : ℕ) (r : Refusal) → IsRefused task m r → GoesBeyond task n → n < m
   refused_beyond m n r a b =
       let f = a.ends.family in
       elim (cases_order m n) [
         | inl same ↦ absurd (not_passes f a.test a.ends.holds
-            (subst (PassesTests words A) (sym (comes_same words A n f b.family (subst (λ (k : ℕ). Comes words A k f) same a.ends.comes) b.comes)) b.passes))
+            (subst (PassesTests task) (sym (comes_same task n f b.family (subst (λ (k : ℕ). Comes task k f) same a.ends.comes) b.comes)) b.passes))
         | inr (inl lt) ↦ absurd (not_passes f a.test a.ends.holds (earlier m n f b.family lt a.ends.comes b.comes).0)
         | inr (inr gt) ↦ gt
       ]
@@ -233,13 +233,13 @@ pub rounds_are_least : RoundsAreLeast
 rounds_are_least = record {
   one = comes_same;
   formed = comes_formed;
-  below = λ words A n f g valid c. below words A g valid n f c;
-  faultless = λ words A n f g valid c. clean words A g valid n f c;
-  ranks = λ words A n f g valid c. low words A g valid n f c;
-  needs = λ words A n f g valid c. needs words A g valid n f c;
-  acyclic = λ words A n f g valid c. acyclic words A g valid n f c;
-  few = λ words A n f g valid c. below_few f g (below words A g valid n f c);
-  fewer = λ words A n f g valid c. below_cells f g (below words A g valid n f c);
+  below = λ task n f g valid c. below task g valid n f c;
+  faultless = λ task n f g valid c. clean task g valid n f c;
+  ranks = λ task n f g valid c. low task g valid n f c;
+  needs = λ task n f g valid c. needs task g valid n f c;
+  acyclic = λ task n f g valid c. acyclic task g valid n f c;
+  few = λ task n f g valid c. below_few f g (below task g valid n f c);
+  fewer = λ task n f g valid c. below_cells f g (below task g valid n f c);
   stands = stands;
   never = never_refused;
   bound = bound_least;

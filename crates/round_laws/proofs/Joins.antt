@@ -1,5 +1,5 @@
 -- Joining nodes into a family one after the other gives the next one.
-use Rattle.std.proofs.Common.{◌≡◌, Bool, refl, sym, ap, ◌∙◌, subst, ℕ, ◌*◌, ◌<◌, ◌≤◌, cond, ◌⊎◌, inl, inr, ⊎_elim, List, [], ◌∷◌, map, Option, Some, None, Contains, arith}
+use Rattle.std.proofs.Common.{◌≡◌, Bool, refl, sym, ap, ◌∙◌, subst, ◌*◌, ◌<◌, ◌≤◌, cond, ◌⊎◌, inl, inr, ⊎_elim, List, [], ◌∷◌, map, Option, Some, None, Contains, arith}
 use Rattle.std.specs.declared.cmp.Ordering.TheVariants.{Less, Equal, Greater}
 use Rattle.std.specs.Ordering.{is_eq}
 use Rattle.std.specs.FinMap.{get, insert, entries, get-entries, entries-insert, same_map}
@@ -7,9 +7,8 @@ use Rattle.std.specs.FinMap.Entries.{find, put, by_order}
 use Rattle.basics.specs.Items.{none_in, first_in, further_in as there}
 use Rattle.std.proofs.lemmas.Option.{same_Some}
 use Rattle.avr_model.specs.declared.device.Device.{Device}
-use Rattle.avr_model.specs.declared.assumption.Entry.{Entry}
 use Rattle.avr_model.specs.Assumptions.{has_pairs}
-use Rattle.avr_model.specs.Devices.{Program, device_of}
+use Rattle.avr_model.specs.Devices.{device_of}
 use Rattle.abs_state.specs.declared.state.AbsState.{AbsState}
 use Rattle.abs_state.specs.Order.{IsStateWithin, IsLeastAbove, state_join}
 use Rattle.abs_state.proofs.AllLaws.{states_are_ordered, joins_are_formed}
@@ -35,6 +34,7 @@ use Rattle.round_laws.specs.Steps.{joined_with, raised, raised_all, IsRoundOf, A
 use Rattle.round_laws.specs.Laws.{RoundsAreJoins}
 use Rattle.round_laws.proofs.Keys.{node_exact, at_keys, get_same, get_other}
 use Rattle.round_laws.proofs.Least.{lands_up, formed_nodes}
+use Rattle.local_rules.specs.Site.{Task}
 
 -- ---- one join
 
@@ -135,8 +135,8 @@ covered_up g ns to lands c =
     let l = lands (with_state to c.state) c.present in
     record { at = l.at; is = l.is; above = states_are_ordered.through to.state c.state l.at c.above l.above }
 
-next_is : (words : Program) (A : List Entry) (f : Family) (ns : List Node) → AreFormed (device_of words) (has_pairs A) f → IsRoundOf words A f ns → IsNext words A f (raised_all f ns)
-next_is words A f ns formed round =
+next_is : (task : Task) (f : Family) (ns : List Node) → AreFormed (device_of task.flash) (has_pairs task.assumptions) f → IsRoundOf task f ns → IsNext task f (raised_all f ns)
+next_is task f ns formed round =
     let g = raised_all f ns in
     let joined = all_joined ns f formed round.formed in
     record {

@@ -5,7 +5,7 @@ use Rattle.std.proofs.lemmas.Option.{same_Some}
 use Rattle.avr_model.specs.declared.device.Device.{Device}
 use Rattle.avr_model.specs.declared.assumption.Entry.{Entry}
 use Rattle.avr_model.specs.Assumptions.{has_pairs}
-use Rattle.avr_model.specs.Devices.{Program, device_of}
+use Rattle.avr_model.specs.Devices.{device_of}
 use Rattle.abs_state.specs.declared.state.AbsState.{AbsState}
 use Rattle.abs_state.proofs.AllLaws.{states_are_ordered}
 use Rattle.mask_states.specs.declared.keys.InstKey.{InstKey}
@@ -28,6 +28,7 @@ use Rattle.round_rules.specs.Rounds.{Reaches, once, more, AreRanks, AreNeeds, fi
 use Rattle.round_laws.specs.Laws.{IsValidFamily}
 use Rattle.round_laws.proofs.Keys.{at_keys, get_same, get_other}
 use Rattle.round_laws.proofs.Nodes.{has_member, member_has, families_are_their_nodes}
+use Rattle.local_rules.specs.Site.{Task}
 
 -- ---- families
 
@@ -52,42 +53,42 @@ first_has A P h n =
     (λ s e. subst (P (entry_key root_inst)) (same_Some (root_of A) s (sym (get_same empty (entry_key root_inst) (root_of A)) ∙ e)) h)
     (λ ne s e. absurd (let never = sym (get-empty node_cmp n.key) ∙ sym (get_other empty (entry_key root_inst) (root_of A) n.key ne) ∙ e in cc)) n.state
 
-module _ (words : Program) (A : List Entry) where
-  pub comes_formed : (n : ℕ) (f : Family) → Comes words A n f → AreFormed (device_of words) (has_pairs A) f
-  comes_formed zero f c = subst (AreFormed (device_of words) (has_pairs A)) (sym c) (λ n h. first_has A (IsNodeIn (device_of words) (has_pairs A)) (edges_lead_to_nodes.reset (device_of words) (has_pairs A)) n h)
+module _ (task : Task) where
+  pub comes_formed : (n : ℕ) (f : Family) → Comes task n f → AreFormed (device_of task.flash) (has_pairs task.assumptions) f
+  comes_formed zero f c = subst (AreFormed (device_of task.flash) (has_pairs task.assumptions)) (sym c) (λ n h. first_has task.assumptions (IsNodeIn (device_of task.flash) (has_pairs task.assumptions)) (edges_lead_to_nodes.reset (device_of task.flash) (has_pairs task.assumptions)) n h)
   comes_formed (suc n) f c = c.4.formed
 
   -- ---- one family at each number
 
-  next_same : (f g g' : Family) → IsNext words A f g → IsNext words A f g' → g ≡ g'
+  next_same : (f g g' : Family) → IsNext task f g → IsNext task f g' → g ≡ g'
   next_same f g g' next next' =
       families_are_their_nodes.same g g' next.formed next'.formed (next.least g' next'.above next'.edges) (next'.least g next.above next.edges)
 
-  pub comes_same : (n : ℕ) (f g : Family) → Comes words A n f → Comes words A n g → f ≡ g
+  pub comes_same : (n : ℕ) (f g : Family) → Comes task n f → Comes task n g → f ≡ g
   comes_same zero f g c d = c ∙ sym d
   comes_same (suc n) f g c d =
       let e = comes_same n c.0 d.0 c.1 d.1 in
-      next_same d.0 f g (subst (λ x. IsNext words A x f) e c.4) d.4
+      next_same d.0 f g (subst (λ x. IsNext task x f) e c.4) d.4
 
-  pub comes_root : (n : ℕ) (f : Family) → Comes words A n f → Lands f (record { key = entry_key root_inst; state = root_of A })
+  pub comes_root : (n : ℕ) (f : Family) → Comes task n f → Lands f (record { key = entry_key root_inst; state = root_of task.assumptions })
   comes_root zero f c =
       record {
-        at = root_of A;
-        is = ap (λ x. get x (entry_key root_inst)) c ∙ get_same empty (entry_key root_inst) (root_of A);
-        above = states_are_ordered.same (root_of A);
+        at = root_of task.assumptions;
+        is = ap (λ x. get x (entry_key root_inst)) c ∙ get_same empty (entry_key root_inst) (root_of task.assumptions);
+        above = states_are_ordered.same (root_of task.assumptions);
       }
-  comes_root (suc n) f c = lands_up c.0 f (record { key = entry_key root_inst; state = root_of A }) c.4.above (comes_root n c.0 c.1)
+  comes_root (suc n) f c = lands_up c.0 f (record { key = entry_key root_inst; state = root_of task.assumptions }) c.4.above (comes_root n c.0 c.1)
 
   -- ---- below a valid family
 
-  module _ (g : Family) (valid : IsValidFamily words A g) where
-    module _ (f : Family) (formed : AreFormed (device_of words) (has_pairs A) f) (below : Below f g) where
+  module _ (g : Family) (valid : IsValidFamily task g) where
+    module _ (f : Family) (formed : AreFormed (device_of task.flash) (has_pairs task.assumptions) f) (below : Below f g) where
       covered : (n : Node) → Contains (nodes_of f) n → IsCovered (nodes_of g) n
       covered n i = lands_covered g n (below n (has_member f n i))
 
-      edges_land : LandIn words A f g
+      edges_land : LandIn task f g
       edges_land n e has edge =
-          let p = edges_grow.edges words A (nodes_of f) (nodes_of g) n e (formed_nodes f formed) valid.sound.formed covered valid.sound.faultless (member_has f n has) edge in
+          let p = edges_grow.edges task (nodes_of f) (nodes_of g) n e (formed_nodes f formed) valid.sound.formed covered valid.sound.faultless (member_has f n has) edge in
           let c = valid.sound.edges (with_state n p.from) (record { kind = e.kind; to = e.to; state = p.landed }) p.present p.is_edge in
           record {
             at = c.state;
@@ -95,26 +96,26 @@ module _ (words : Program) (A : List Entry) where
             above = states_are_ordered.through e.state p.landed c.state p.above c.above;
           }
 
-      pub none_faulty : HasNoFault words A f
+      pub none_faulty : HasNoFault task f
       none_faulty n has =
           let l = below n has in
           let i = member_has g (with_state n l.at) l.is in
-          edges_grow.faultless words A n l.at (formed n has) (valid.sound.formed (with_state n l.at) i) l.above (valid.sound.faultless (with_state n l.at) i)
+          edges_grow.faultless task n l.at (formed n has) (valid.sound.formed (with_state n l.at) i) l.above (valid.sound.faultless (with_state n l.at) i)
 
-      enters_up : (n : Node) (way : EdgeKind) (inst : InstKey) (back : ℕ) (has : FamilyHas f n) → Enters words A n way inst back → Enters words A (with_state n (below n has).at) way inst back
+      enters_up : (n : Node) (way : EdgeKind) (inst : InstKey) (back : ℕ) (has : FamilyHas f n) → Enters task n way inst back → Enters task (with_state n (below n has).at) way inst back
       enters_up n way inst back has enters =
           let l = below n has in
           let i = member_has g (with_state n l.at) l.is in
-          edges_grow.enters words A n l.at way inst back (formed n has) (valid.sound.formed (with_state n l.at) i) l.above (valid.sound.faultless (with_state n l.at) i) enters
+          edges_grow.enters task n l.at way inst back (formed n has) (valid.sound.formed (with_state n l.at) i) l.above (valid.sound.faultless (with_state n l.at) i) enters
 
-      pub ranks_of : AreRanks words A f valid.rank_of
+      pub ranks_of : AreRanks task f valid.rank_of
       ranks_of i j offset e =
           let l = below e.node e.has in
           let at = member_has g (with_state e.node l.at) l.is in
           subst (λ (x : InstKey). valid.rank_of j < valid.rank_of x) e.same
           (valid.sound.ranks (with_state e.node l.at) e.way j e.back at (enters_up e.node e.way j e.back e.has e.enters))
 
-      pub needs_of : AreNeeds words A f valid.need_of
+      pub needs_of : AreNeeds task f valid.need_of
       needs_of = record {
         offsets = λ n offset has is. let l = below n has in valid.sound.offsets (with_state n l.at) offset (member_has g (with_state n l.at) l.is) is;
         entered = λ i j offset e.
@@ -125,27 +126,27 @@ module _ (words : Program) (A : List Entry) where
             (subst (λ (d : ℕ). d + 2 + valid.need_of j ≤ valid.need_of e.node.key.inst) e.at le);
       }
 
-    pub comes_below : (n : ℕ) (f : Family) → Comes words A n f → Below f g
+    pub comes_below : (n : ℕ) (f : Family) → Comes task n f → Below f g
     comes_below zero f c =
-        subst (λ x. Below x g) (sym c) (λ n h. first_has A (λ q s. Lands g (record { key = q; state = s })) (covered_lands g (record { key = entry_key root_inst; state = root_of A }) valid.sound.reset) n h)
+        subst (λ x. Below x g) (sym c) (λ n h. first_has task.assumptions (λ q s. Lands g (record { key = q; state = s })) (covered_lands g (record { key = entry_key root_inst; state = root_of task.assumptions }) valid.sound.reset) n h)
     comes_below (suc n) f c = c.4.least g (comes_below n c.0 c.1) (edges_land c.0 (comes_formed n c.0 c.1) (comes_below n c.0 c.1))
 
 -- ---- ranks rule out cycles
 
-pub reached_lower : (words : Program) (A : List Entry) (f : Family) (rank : InstKey → ℕ) → AreRanks words A f rank → (i j : InstKey) → Reaches words A f i j → rank j < rank i
-reached_lower words A f rank are _ _ (once i j offset e) = are i j offset e
-reached_lower words A f rank are _ _ (more i j k offset e rest) = omega (arith, are i j offset e, reached_lower words A f rank are j k rest)
+pub reached_lower : (task : Task) (f : Family) (rank : InstKey → ℕ) → AreRanks task f rank → (i j : InstKey) → Reaches task f i j → rank j < rank i
+reached_lower task f rank are _ _ (once i j offset e) = are i j offset e
+reached_lower task f rank are _ _ (more i j k offset e rest) = omega (arith, are i j offset e, reached_lower task f rank are j k rest)
 
 -- ---- an entered instance of a vector begins at its word
 
 vector_same : (v u : ℕ) → Vector v ≡ Vector u → v ≡ u
 vector_same v u e = cc
 
-enters_word : (words : Program) (A : List Entry) (n : Node) (way : EdgeKind) (inst : InstKey) (back v : ℕ) → Enters words A n way inst back → inst.kind ≡ Vector v
-    → inst.entry ≡ vector_word (device_of words) v
-enters_word words A n _ _ _ v (by_call offset site clean form member) e = absurd (cc)
-enters_word words A n _ _ _ v (by_interrupt offset u clears clean form i delay enabled allowed clearable) e = ap (vector_word (device_of words)) (vector_same u v e)
+enters_word : (task : Task) (n : Node) (way : EdgeKind) (inst : InstKey) (back v : ℕ) → Enters task n way inst back → inst.kind ≡ Vector v
+    → inst.entry ≡ vector_word (device_of task.flash) v
+enters_word task n _ _ _ v (by_call offset site clean form member) e = absurd (cc)
+enters_word task n _ _ _ v (by_interrupt offset u clears clean form i delay enabled allowed clearable) e = ap (vector_word (device_of task.flash)) (vector_same u v e)
 
-pub entered_word : (words : Program) (A : List Entry) (f : Family) (i j : InstKey) (v : ℕ) → Reaches words A f i j → j.kind ≡ Vector v → j.entry ≡ vector_word (device_of words) v
-entered_word words A f _ _ v (once i j offset e) kind = enters_word words A e.node e.way j e.back v e.enters kind
-entered_word words A f _ _ v (more i j k offset e rest) kind = entered_word words A f j k v rest kind
+pub entered_word : (task : Task) (f : Family) (i j : InstKey) (v : ℕ) → Reaches task f i j → j.kind ≡ Vector v → j.entry ≡ vector_word (device_of task.flash) v
+entered_word task f _ _ v (once i j offset e) kind = enters_word task e.node e.way j e.back v e.enters kind
+entered_word task f _ _ v (more i j k offset e rest) kind = entered_word task f j k v rest kind

@@ -9,8 +9,6 @@ use Rattle.std.specs.FinMap.{entries, from_sorted, entries-from_sorted, len-entr
 use Rattle.std.specs.FinMap.Entries.{is_sorted, below_all}
 use Rattle.std.proofs.lemmas.Option.{same_Some}
 use Rattle.basics.specs.Booleans.{join_tests, so_if_less}
-use Rattle.avr_model.specs.declared.assumption.Entry.{Entry}
-use Rattle.avr_model.specs.Devices.{Program}
 use Rattle.abs_state.specs.declared.state.AbsState.{AbsState}
 use Rattle.mask_states.specs.declared.keys.NodeKey.{NodeKey}
 use Rattle.mask_states.specs.Order.{node_cmp}
@@ -24,6 +22,7 @@ use Rattle.certificate.proofs.AllLaws.{conditions_make_families_sound}
 use Rattle.round_rules.specs.Families.{Family, node_of, nodes_of}
 use Rattle.round_rules.specs.Solutions.{IsShown}
 use Rattle.round_laws.specs.Laws.{StandsForShown}
+use Rattle.local_rules.specs.Site.{Task}
 
 abbrev pair_of : Node → NodeKey × AbsState
 pair_of n = (n.key, n.state)
@@ -61,15 +60,15 @@ count_back : (ns : List Node) → length (map pair_of ns) ≡ length ns
 count_back [] = refl
 count_back (n ∷ ns) = omega (arith, count_back ns)
 
-pub stands : (words : Program) (A : List Entry) (c : Claim) → IsShown words A c → StandsForShown words A c
-stands words A c shown =
+pub stands : (task : Task) (c : Claim) → IsShown task c → StandsForShown task c
+stands task c shown =
     let ns = shown.sound.nodes in
     let keys : keys_at ns ≡ node_keys c.nodes = same_keys ns c.nodes shown.sound.expanded.count shown.sound.expanded.keys in
     let sorted = sorted_of ns (subst (IsStrictlySortedBy node_cmp) (sym keys) shown.claim.nodes_ascend) in
     let g : Family = from_sorted (map pair_of ns) in
     let are : entries g ≡ map pair_of ns = entries-from_sorted node_cmp (map pair_of ns) sorted in
     let nodes : nodes_of g ≡ ns = ap (map node_of) are ∙ nodes_back ns in
-    let sound = conditions_make_families_sound words A c ns shown.claim shown.sound.expanded shown.sound.meets in
+    let sound = conditions_make_families_sound task c ns shown.claim shown.sound.expanded shown.sound.meets in
     record {
       family = g;
       valid = record {
@@ -77,7 +76,7 @@ stands words A c shown =
         need_of = need_in c.instances;
         bound = c.bound;
         sound =
-            subst (λ (l : List Node). IsSoundFamily words A (record { nodes = l; rank_of = rank_in c.instances; need_of = need_in c.instances; bound = c.bound })) (sym nodes) sound;
+            subst (λ (l : List Node). IsSoundFamily task (record { nodes = l; rank_of = rank_in c.instances; need_of = need_in c.instances; bound = c.bound })) (sym nodes) sound;
       };
       fits = record {
         few_nodes = omega (arith, len-entries g, ap length are, count_back ns, shown.sound.expanded.count, shown.claim.few_nodes);

@@ -2,8 +2,6 @@
 use Rattle.std.proofs.Common.{◌≡◌, refl, sym, ap, ◌∙◌, subst, ℕ, zero, suc, ◌+◌, ◌<◌, ◌≤◌, ◌⊎◌, inl, inr, ⊎_elim, Bool, true, false, if◌then◌else◌, List, [], ◌∷◌, map, length, Option, Some, None, slice_get, slice_index, arith}
 use Rattle.std.proofs.lemmas.Option.{none-some, same_Some, slice_get_within}
 use Rattle.basics.specs.Lists.{get_inside}
-use Rattle.avr_model.specs.declared.assumption.Entry.{Entry}
-use Rattle.avr_model.specs.Devices.{Program}
 use Rattle.mask_states.specs.declared.keys.InstKey.{InstKey}
 use Rattle.mask_states.specs.declared.keys.Kind.{Kind}
 use Rattle.mask_states.specs.declared.keys.Kind.TheVariants.{Root, Call, Vector}
@@ -19,6 +17,7 @@ use Rattle.round_rules.specs.Refusals.{IsReEntry, IsRecursion}
 use Rattle.round_rules.specs.Families.{Family}
 use Rattle.round_rules.specs.Rounds.{Entering, Reaches, once, more, IsAcyclic, AreRanks, AreNeeds, IsRootNeed}
 use Rattle.round_laws.specs.Graphs.{IsNumber, IsNumberFor, IsGraphOver, valued, GraphsTell}
+use Rattle.local_rules.specs.Site.{Task}
 
 -- ---- values by numbers
 
@@ -91,9 +90,9 @@ by_entry Root entry never = (refl, refl)
 by_entry Call entry never = (refl, refl)
 by_entry (Vector v) entry never = absurd (never v refl)
 
-module _ (words : Program) (A : List Entry) (f : Family) (keys : List InstKey) (gs : List GraphInst) (is : IsGraphOver words A f keys gs) where
+module _ (task : Task) (f : Family) (keys : List InstKey) (gs : List GraphInst) (is : IsGraphOver task f keys gs) where
   -- an entering instance has a node, and so a number
-  from_number : (i j : InstKey) (offset : ℕ) → Entering words A f i j offset → (n : ℕ) × IsNumber keys n i
+  from_number : (i j : InstKey) (offset : ℕ) → Entering task f i j offset → (n : ℕ) × IsNumber keys n i
   from_number i j offset e = is.numbered i (e.node, e.has, e.same)
 
   -- an instance with a number has no other
@@ -107,28 +106,28 @@ module _ (words : Program) (A : List Entry) (f : Family) (keys : List InstKey) (
   into_is n k j (inl e) d = same_Some k j (sym e ∙ d)
   into_is n k j (inr h) d = let lt = slice_get_within keys n j d in absurd (omega (arith, lt, h.0))
 
-  entering_is : (a : ℕ) (e : Entered) (i j : InstKey) → graph.EntersAlong gs a e → IsNumber keys a i → IsNumber keys e.into j → Entering words A f i j e.offset
+  entering_is : (a : ℕ) (e : Entered) (i j : InstKey) → graph.EntersAlong gs a e → IsNumber keys a i → IsNumber keys e.into j → Entering task f i j e.offset
   entering_is a e i j h from to =
       let x = is.entered a e h in
       let is_i : x.inst ≡ i = same_Some x.inst i (sym x.from ∙ from) in
       let is_j : x.into ≡ j = into_is e.into x.into j x.to to in
-      subst (λ (k : InstKey). Entering words A f i k e.offset) is_j (subst (λ (k : InstKey). Entering words A f k x.into e.offset) is_i x.entering)
+      subst (λ (k : InstKey). Entering task f i k e.offset) is_j (subst (λ (k : InstKey). Entering task f k x.into e.offset) is_i x.entering)
 
   number_from : (a b : ℕ) → graph.ReachesBy gs a b → (k : InstKey) × IsNumber keys a k
   number_from _ _ (graph.once a e h) = let x = is.entered a e h in (x.inst, x.from)
   number_from _ _ (graph.more a b e h rest) = let x = is.entered a e h in (x.inst, x.from)
 
-  reached : (a b : ℕ) → graph.ReachesBy gs a b → (i j : InstKey) → IsNumber keys a i → IsNumber keys b j → Reaches words A f i j
+  reached : (a b : ℕ) → graph.ReachesBy gs a b → (i j : InstKey) → IsNumber keys a i → IsNumber keys b j → Reaches task f i j
   reached _ _ (graph.once a e h) i j from to = once i j e.offset (entering_is a e i j h from to)
   reached _ _ (graph.more a b e h rest) i j from to =
       let mid = number_from e.into b rest in
       more i mid.0 j e.offset (entering_is a e i mid.0 h from mid.1) (reached e.into b rest mid.0 j mid.1 to)
 
-  own_reach : (i j : InstKey) → Reaches words A f i j → (n : ℕ) × IsNumber keys n i
+  own_reach : (i j : InstKey) → Reaches task f i j → (n : ℕ) × IsNumber keys n i
   own_reach _ _ (once i j offset e) = from_number i j offset e
   own_reach _ _ (more i j k offset e rest) = from_number i j offset e
 
-  reaches : (i j : InstKey) → Reaches words A f i j → (a b : ℕ) → IsNumber keys a i → IsNumber keys b j → graph.ReachesBy gs a b
+  reaches : (i j : InstKey) → Reaches task f i j → (a b : ℕ) → IsNumber keys a i → IsNumber keys b j → graph.ReachesBy gs a b
   reaches _ _ (once i j offset e) a b from to =
       let h = is.all_entered i j offset e in
       let is_a = is.once h.number a i h.from from in
@@ -142,16 +141,16 @@ module _ (words : Program) (A : List Entry) (f : Family) (keys : List InstKey) (
       let tail = reaches j k rest mid.0 b mid.1 to in
       subst (λ (n : ℕ). graph.ReachesBy gs n b) is_a (graph.more h.number b h.edge h.enters (subst (λ (n : ℕ). graph.ReachesBy gs n b) (sym is_m) tail))
 
-  acyclic : ((i : ℕ) → graph.ReachesBy gs i i → ⊥) → IsAcyclic words A f
+  acyclic : ((i : ℕ) → graph.ReachesBy gs i i → ⊥) → IsAcyclic task f
   acyclic never i h = let n = own_reach i i h in never n.0 (reaches i i h n.0 n.0 n.1 n.1)
 
   -- ---- the instance that is named
 
   module _ (at : ℕ) (inst : InstKey) (named : IsNamed gs at) (at_is : IsNumber keys at inst) where
-    self : Reaches words A f inst inst
+    self : Reaches task f inst inst
     self = reached at at named.reaches inst inst at_is at_is
 
-    before : (other : InstKey) → Reaches words A f other other
+    before : (other : InstKey) → Reaches task f other other
         → (group_of inst.kind ≤ group_of other.kind) × (group_of inst.kind ≡ group_of other.kind → number_of inst.kind inst.entry ≤ number_of other.kind other.entry)
     before other h =
         let n = own_reach other other h in
@@ -162,7 +161,7 @@ module _ (words : Program) (A : List Entry) (f : Family) (keys : List InstKey) (
         (subst (λ (k : InstKey). IsNoLater k at other n.0) (is.keyed at mine.0 inst mine.1 at_is)
         (subst (λ (k : InstKey). IsNoLater mine.0.key at k n.0) (is.keyed n.0 its.0 other its.1 n.1) order))
 
-    re_entry : (v : ℕ) → inst.kind ≡ Vector v → IsReEntry words A f v inst.entry
+    re_entry : (v : ℕ) → inst.kind ≡ Vector v → IsReEntry task f v inst.entry
     re_entry v e = record {
       inst = inst;
       reaches = self;
@@ -174,10 +173,10 @@ module _ (words : Program) (A : List Entry) (f : Family) (keys : List InstKey) (
           omega (arith, le, ap (λ k. number_of k inst.entry) e, ap (λ k. number_of k other.entry) d);
     }
 
-    no_vector : group_of inst.kind ≡ 1 → (other : InstKey) (u : ℕ) → Reaches words A f other other → other.kind ≡ Vector u → ⊥
+    no_vector : group_of inst.kind ≡ 1 → (other : InstKey) (u : ℕ) → Reaches task f other other → other.kind ≡ Vector u → ⊥
     no_vector one other u h d = let b = before other h in let zero_is = ap group_of d in omega (arith, b.0, one, zero_is)
 
-    recursion : group_of inst.kind ≡ 1 → IsRecursion words A f inst.entry
+    recursion : group_of inst.kind ≡ 1 → IsRecursion task f inst.entry
     recursion one = record {
       inst = inst;
       reaches = self;
@@ -210,7 +209,7 @@ module _ (words : Program) (A : List Entry) (f : Family) (keys : List InstKey) (
     rank_le i inst (inl e) = omega (arith, rank_is i inst e)
     rank_le i inst (inr h) = omega (arith, valued_none keys ranks inst h.1)
 
-    are_ranks : AreRanks words A f (valued keys ranks)
+    are_ranks : AreRanks task f (valued keys ranks)
     are_ranks i j offset e =
         let h = is.all_entered i j offset e in
         omega (arith, least.are_ranks h.number h.edge h.enters, rank_is h.number i h.from, rank_le h.edge.into j h.to)
@@ -230,12 +229,12 @@ module _ (words : Program) (A : List Entry) (f : Family) (keys : List InstKey) (
         none None e = let z = ap (value_of rank) e in omega (arith, z)
         none (Some k) e = let lt = slice_get_within keys i k e in absurd (omega (arith, lt, h.0))
 
-    graph_ranks : (rank : InstKey → ℕ) → AreRanks words A f rank → graph.AreGraphRanks gs (by_number rank)
+    graph_ranks : (rank : InstKey → ℕ) → AreRanks task f rank → graph.AreGraphRanks gs (by_number rank)
     graph_ranks rank are i e h =
         let x = is.entered i e h in
         omega (arith, are x.inst x.into e.offset x.entering, by_number_is rank i x.inst x.from, by_number_le rank e.into x.into x.to)
 
-    least_ranks : (rank : InstKey → ℕ) → AreRanks words A f rank → (inst : InstKey) → valued keys ranks inst ≤ rank inst
+    least_ranks : (rank : InstKey → ℕ) → AreRanks task f rank → (inst : InstKey) → valued keys ranks inst ≤ rank inst
     least_ranks rank are inst =
         ⊎_elim
         (λ h. let le = least.least_ranks (by_number rank) (graph_ranks rank are) h.0 (let lt = slice_get_within keys h.0 inst h.1 in omega (arith, lt, is.inside)) in
@@ -254,7 +253,7 @@ module _ (words : Program) (A : List Entry) (f : Family) (keys : List InstKey) (
       need_le i inst (inl e) = omega (arith, need_is i inst e)
       need_le i inst (inr h) = omega (arith, valued_none keys more_needs inst h.1)
 
-      are_needs : AreNeeds words A f (valued keys more_needs)
+      are_needs : AreNeeds task f (valued keys more_needs)
       are_needs = record {
         offsets = λ n offset has closed.
             let h = is.all_places n offset has closed in
@@ -264,7 +263,7 @@ module _ (words : Program) (A : List Entry) (f : Family) (keys : List InstKey) (
             omega (arith, least.are_needs.entered h.number h.edge h.enters, h.at, need_is h.number i h.from, need_le h.edge.into j h.to);
       }
 
-    graph_needs : (need : InstKey → ℕ) → AreNeeds words A f need → graph.AreGraphNeeds gs (by_number need)
+    graph_needs : (need : InstKey → ℕ) → AreNeeds task f need → graph.AreGraphNeeds gs (by_number need)
     graph_needs need are = record {
       offsets = λ i p has. let x = is.places i p has in omega (arith, are.offsets x.node p.offset x.has x.closed, by_number_is need i x.node.key.inst x.of);
       entered = λ i e h.
@@ -272,17 +271,17 @@ module _ (words : Program) (A : List Entry) (f : Family) (keys : List InstKey) (
           omega (arith, are.entered x.inst x.into e.offset x.entering, by_number_is need i x.inst x.from, by_number_le need e.into x.into x.to);
     }
 
-    least_at : (need : InstKey → ℕ) → AreNeeds words A f need → (i : ℕ) (inst : InstKey) → IsNumber keys i inst → slice_index needs i ≤ need inst
+    least_at : (need : InstKey → ℕ) → AreNeeds task f need → (i : ℕ) (inst : InstKey) → IsNumber keys i inst → slice_index needs i ≤ need inst
     least_at need are i inst e =
         let le = least.least_needs (by_number need) (graph_needs need are) i (let lt = slice_get_within keys i inst e in omega (arith, lt, is.inside)) in
         omega (arith, le, by_number_is need i inst e)
 
-    least_needs : (need : InstKey → ℕ) → AreNeeds words A f need → (inst : InstKey) → valued keys needs inst ≤ need inst
+    least_needs : (need : InstKey → ℕ) → AreNeeds task f need → (inst : InstKey) → valued keys needs inst ≤ need inst
     least_needs need are inst =
         ⊎_elim (λ h. omega (arith, least_at need are h.0 inst h.1, valued_at keys needs h.0 inst is.once (in_needs h.0 inst h.1) h.1))
         (λ none. omega (arith, valued_none keys needs inst none)) (find keys inst)
 
-    root_need : IsRootNeed words A f (slice_index needs 0)
+    root_need : IsRootNeed task f (slice_index needs 0)
     root_need = record {
       need = valued keys (more_needs 0);
       are = are_needs 0;
@@ -293,12 +292,12 @@ module _ (words : Program) (A : List Entry) (f : Family) (keys : List InstKey) (
 pub graphs_tell : GraphsTell
 graphs_tell = record {
   acyclic = acyclic;
-  re_entry = λ words A f keys gs at v inst is named at_is e. re_entry words A f keys gs is at inst named at_is v e;
-  recursion = λ words A f keys gs at inst is named at_is one. recursion words A f keys gs is at inst named at_is one;
-  named = λ words A f keys gs at is named. named_within words A f keys gs is at named;
-  ranks = λ words A f keys gs ranks needs is least. are_ranks words A f keys gs is ranks needs least;
-  least_ranks = λ words A f keys gs ranks needs rank is least are inst. least_ranks words A f keys gs is ranks needs least rank are inst;
-  needs = λ words A f keys gs ranks needs spare is least. are_needs words A f keys gs is ranks needs least spare;
-  least_needs = λ words A f keys gs ranks needs need is least are inst. least_needs words A f keys gs is ranks needs least need are inst;
-  root = λ words A f keys gs ranks needs is least. root_need words A f keys gs is ranks needs least;
+  re_entry = λ task f keys gs at v inst is named at_is e. re_entry task f keys gs is at inst named at_is v e;
+  recursion = λ task f keys gs at inst is named at_is one. recursion task f keys gs is at inst named at_is one;
+  named = λ task f keys gs at is named. named_within task f keys gs is at named;
+  ranks = λ task f keys gs ranks needs is least. are_ranks task f keys gs is ranks needs least;
+  least_ranks = λ task f keys gs ranks needs rank is least are inst. least_ranks task f keys gs is ranks needs least rank are inst;
+  needs = λ task f keys gs ranks needs spare is least. are_needs task f keys gs is ranks needs least spare;
+  least_needs = λ task f keys gs ranks needs need is least are inst. least_needs task f keys gs is ranks needs least need are inst;
+  root = λ task f keys gs ranks needs is least. root_need task f keys gs is ranks needs least;
 }

@@ -1,11 +1,10 @@
 -- Each instance with a node is entered, possibly over others, from the root: its need is at most the root's.
-use Rattle.std.proofs.Common.{◌≡◌, refl, sym, ap, ◌∙◌, subst, ℕ, zero, suc, ◌≤◌, Bool, true, false, cond, nat_le, List, Some, None, arith}
+use Rattle.std.proofs.Common.{◌≡◌, refl, sym, ap, ◌∙◌, subst, ℕ, zero, suc, ◌≤◌, Bool, true, false, cond, nat_le, Some, None, arith}
 use Rattle.std.proofs.lemmas.Bool.Decides.{nat_tests}
 use Rattle.std.specs.declared.cmp.Ordering.TheVariants.{Equal}
 use Rattle.std.specs.FinMap.{get, retain_keys, get-retain_keys}
-use Rattle.avr_model.specs.declared.assumption.Entry.{Entry}
 use Rattle.avr_model.specs.Assumptions.{has_pairs}
-use Rattle.avr_model.specs.Devices.{Program, device_of}
+use Rattle.avr_model.specs.Devices.{device_of}
 use Rattle.abs_state.specs.declared.state.AbsState.{AbsState}
 use Rattle.mask_states.specs.declared.keys.InstKey.{InstKey}
 use Rattle.mask_states.specs.declared.keys.EdgeKind.{EdgeKind}
@@ -22,10 +21,11 @@ use Rattle.round_rules.specs.Families.{Family, nodes_of, FamilyHas, Lands, Below
 use Rattle.round_rules.specs.Rounds.{AreNeeds, IsNext, Comes}
 use Rattle.round_laws.proofs.Keys.{node_exact}
 use Rattle.round_laws.proofs.Least.{comes_formed, first_has}
+use Rattle.local_rules.specs.Site.{Task}
 
-module _ (words : Program) (A : List Entry) where
+module _ (task : Task) where
   -- needs of a family without faults are needs of one below it
-  needs_down : {followed : Bool} (f g : Family) (need : InstKey → ℕ) → AreFormed (device_of words) followed f → AreFormed (device_of words) followed g → Below f g → HasNoFault words A g → AreNeeds words A g need → AreNeeds words A f need
+  needs_down : {followed : Bool} (f g : Family) (need : InstKey → ℕ) → AreFormed (device_of task.flash) followed f → AreFormed (device_of task.flash) followed g → Below f g → HasNoFault task g → AreNeeds task g need → AreNeeds task f need
   needs_down f g need low high below clean are = record {
     offsets = λ n offset has form. let l = below n has in are.offsets (with_state n l.at) offset l.is form;
     entered = λ i j offset e.
@@ -38,16 +38,16 @@ module _ (words : Program) (A : List Entry) where
           at = e.at;
           way = e.way;
           back = e.back;
-          enters = edges_grow.enters words A e.node l.at e.way j e.back (low e.node e.has) (high m l.is) l.above (clean m l.is) e.enters;
+          enters = edges_grow.enters task e.node l.at e.way j e.back (low e.node e.has) (high m l.is) l.above (clean m l.is) e.enters;
         };
   }
 
   -- the instance of an edge's target is the node's own, or one that it enters
-  edge_inst : {followed : Bool} (P : InstKey → Type 0) (f : Family) (n : Node) (e : Edge) → AreFormed (device_of words) followed f → FamilyHas f n → P n.key.inst
-      → ((way : EdgeKind) (inst : InstKey) (back : ℕ) → Enters words A n way inst back → P inst) → IsEdge words A (nodes_of f) n e → P e.to.inst
+  edge_inst : {followed : Bool} (P : InstKey → Type 0) (f : Family) (n : Node) (e : Edge) → AreFormed (device_of task.flash) followed f → FamilyHas f n → P n.key.inst
+      → ((way : EdgeKind) (inst : InstKey) (back : ℕ) → Enters task n way inst back → P inst) → IsEdge task (nodes_of f) n e → P e.to.inst
   edge_inst P f n _ formed has own enter (moving to clean member) =
-      let raw = joins_are_least.keys (raw_of words A n).moves to member in
-      let same = (local_parts_are_nodes.nodes words A n.key n.state raw.0 (formed n has) clean raw.1.0).0 in
+      let raw = joins_are_least.keys (raw_of task n).moves to member in
+      let same = (local_parts_are_nodes.nodes task n.key n.state raw.0 (formed n has) clean raw.1.0).0 in
       subst P (sym same ∙ ap (λ (k : NodeKey). k.inst) raw.1.1) own
   edge_inst P f n _ formed has own enter (entering way inst back enters) = enter way inst back enters
   edge_inst P f n _ formed has own enter (returning way inst back leaver x state enters present at clean exit is) = own
@@ -78,12 +78,12 @@ module _ (words : Program) (A : List Entry) where
     is_under_is : (k : NodeKey) → is_under k ≡ true → need k.inst ≤ need root_inst
     is_under_is k e = grind (arith, nat_tests)
 
-    next_under : (f g : Family) → AreFormed (device_of words) (has_pairs A) f → IsNext words A f g → HasNoFault words A g → AreNeeds words A f need
+    next_under : (f g : Family) → AreFormed (device_of task.flash) (has_pairs task.assumptions) f → IsNext task f g → HasNoFault task g → AreNeeds task f need
         → ((n : Node) → FamilyHas f n → need n.key.inst ≤ need root_inst) → (n : Node) → FamilyHas g n → need n.key.inst ≤ need root_inst
     next_under f g formed next clean are low n has =
         let h = retain_keys g is_under in
         let up : Below f h = λ m there. lands_kept g m (under_is m.key (low m there)) (next.above m there) in
-        let lands : LandIn words A f h = λ m e there edge.
+        let lands : LandIn task f h = λ m e there edge.
         let le : need e.to.inst ≤ need root_inst = edge_inst (λ (inst : InstKey). need inst ≤ need root_inst) f m e formed there (low m there)
         (λ way inst back enters.
         let enough = are.entered m.key.inst inst _ record { node = m; has = there; same = refl; at = refl; way = way; back = back; enters = enters } in
@@ -91,14 +91,14 @@ module _ (words : Program) (A : List Entry) where
         lands_kept g (target e) (under_is e.to le) (next.edges m e there edge) in
         is_under_is n.key (kept_under g n.key (next.least h up lands n has).at (next.least h up lands n has).is)
 
-    all_under : (n : ℕ) (f : Family) → Comes words A n f → HasNoFault words A f → AreNeeds words A f need → (m : Node) → FamilyHas f m → need m.key.inst ≤ need root_inst
+    all_under : (n : ℕ) (f : Family) → Comes task n f → HasNoFault task f → AreNeeds task f need → (m : Node) → FamilyHas f m → need m.key.inst ≤ need root_inst
     all_under zero f c clean are = λ m has.
-        first_has A (λ k s. need k.inst ≤ need root_inst) (omega arith) m (subst (λ (x : Family). get x m.key ≡ Some m.state) c has)
+        first_has task.assumptions (λ k s. need k.inst ≤ need root_inst) (omega arith) m (subst (λ (x : Family). get x m.key ≡ Some m.state) c has)
     all_under (suc n) f c clean are =
-        let formed = comes_formed words A n c.0 c.1 in
+        let formed = comes_formed task n c.0 c.1 in
         let needs = needs_down c.0 f need formed c.4.formed c.4.above clean are in
         next_under c.0 f formed c.4 clean needs (all_under n c.0 c.1 c.2.faultless needs)
 
-  pub under_root : (n : ℕ) (f : Family) (need : InstKey → ℕ) → Comes words A n f → HasNoFault words A f → AreNeeds words A f need → (inst : InstKey) → FamilyHasInst f inst
+  pub under_root : (n : ℕ) (f : Family) (need : InstKey → ℕ) → Comes task n f → HasNoFault task f → AreNeeds task f need → (inst : InstKey) → FamilyHasInst f inst
       → need inst ≤ need root_inst
   under_root n f need c clean are inst has = subst (λ (x : InstKey). need x ≤ need root_inst) has.2 (all_under need n f c clean are has.0 has.1)

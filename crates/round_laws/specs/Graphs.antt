@@ -1,8 +1,6 @@
 -- The graph of a family: each instance with a node has a number of its own. An entered instance without a node gets one number behind
 -- these, which has no edges.
 use Rattle.std.specs.Prelude.{ℕ, ◌+◌, ◌≡◌, ◌<◌, ◌≤◌, ◌⊎◌, List, [], ◌∷◌, length, map, Some, slice_get, slice_index, if◌then◌else◌}
-use Rattle.avr_model.specs.declared.assumption.Entry.{Entry}
-use Rattle.avr_model.specs.Devices.{Program}
 use Rattle.mask_states.specs.declared.keys.InstKey.{InstKey}
 use Rattle.mask_states.specs.declared.keys.SpForm.TheVariants.{Closed}
 use Rattle.mask_states.specs.declared.keys.Kind.TheVariants.{Vector}
@@ -18,6 +16,7 @@ use Rattle.nesting_bound.specs.Cycle.{IsNamed, group_of}
 use Rattle.round_rules.specs.Refusals.{IsReEntry, IsRecursion}
 use Rattle.round_rules.specs.Families.{Family, FamilyHas, FamilyHasInst}
 use Rattle.round_rules.specs.Rounds.{Entering, IsAcyclic, AreRanks, AreNeeds, IsRootNeed}
+use Rattle.local_rules.specs.Site.{Task}
 
 -- the instance has this number
 abbrev pub IsNumber : List InstKey → ℕ → InstKey → Type 0
@@ -37,12 +36,12 @@ pub record HasEntryEdge (keys : List InstKey) (gs : List GraphInst) (i j : InstK
   pub at : edge.offset ≡ offset
 
 -- an entry of the family for this edge of the graph
-pub record IsEntered (words : Program) (A : List Entry) (f : Family) (keys : List InstKey) (i : ℕ) (e : Entered) : Type 0 where
+pub record IsEntered (task : Task) (f : Family) (keys : List InstKey) (i : ℕ) (e : Entered) : Type 0 where
   pub inst : InstKey
   pub into : InstKey
   pub from : IsNumber keys i inst
   pub to : IsNumberFor keys e.into into
-  pub entering : Entering words A f inst into e.offset
+  pub entering : Entering task f inst into e.offset
 
 -- a place of the graph for this node
 pub record HasNodePlace (keys : List InstKey) (gs : List GraphInst) (inst : InstKey) (offset : ℕ) : Type 0 where
@@ -59,15 +58,15 @@ pub record IsFamilyPlace (f : Family) (keys : List InstKey) (i offset : ℕ) : T
   pub closed : node.key.sp ≡ Closed offset
   pub of : IsNumber keys i node.key.inst
 
-pub record IsGraphOver (words : Program) (A : List Entry) (f : Family) (keys : List InstKey) (gs : List GraphInst) : Type 0 where
+pub record IsGraphOver (task : Task) (f : Family) (keys : List InstKey) (gs : List GraphInst) : Type 0 where
   pub is_graph : graph.IsGraph gs
   pub inside : length keys ≤ length gs
   pub root : IsNumber keys 0 root_inst
   pub keyed : (i : ℕ) (g : GraphInst) (inst : InstKey) → slice_get gs i ≡ Some g → IsNumber keys i inst → g.key ≡ inst
   pub once : (i j : ℕ) (inst : InstKey) → IsNumber keys i inst → IsNumber keys j inst → i ≡ j
   pub numbered : (inst : InstKey) → FamilyHasInst f inst → (i : ℕ) × IsNumber keys i inst
-  pub entered : (i : ℕ) (e : Entered) → graph.EntersAlong gs i e → IsEntered words A f keys i e
-  pub all_entered : (i j : InstKey) (offset : ℕ) → Entering words A f i j offset → HasEntryEdge keys gs i j offset
+  pub entered : (i : ℕ) (e : Entered) → graph.EntersAlong gs i e → IsEntered task f keys i e
+  pub all_entered : (i j : InstKey) (offset : ℕ) → Entering task f i j offset → HasEntryEdge keys gs i j offset
   pub places : (i : ℕ) (p : Place) → graph.HasPlace gs i p → IsFamilyPlace f keys i p.offset
   pub all_places : (n : Node) (offset : ℕ) → FamilyHas f n → n.key.sp ≡ Closed offset → HasNodePlace keys gs n.key.inst offset
 
@@ -80,21 +79,21 @@ valued (k ∷ ks) (x ∷ xs) inst = if same_inst k inst then x else valued ks xs
 -- The graph has the cycles of the family, and its named instance is that of the refusal. Least ranks and needs are those of the family,
 -- and the least need of instance 0 is the root's. Needs remain needs if all grow by one number.
 pub record GraphsTell : Type 0 where
-  pub acyclic : (words : Program) (A : List Entry) (f : Family) (keys : List InstKey) (gs : List GraphInst) → IsGraphOver words A f keys gs
-      → ((i : ℕ) → graph.ReachesBy gs i i → ⊥) → IsAcyclic words A f
-  pub re_entry : (words : Program) (A : List Entry) (f : Family) (keys : List InstKey) (gs : List GraphInst) (at v : ℕ) (inst : InstKey) → IsGraphOver words A f keys gs
-      → IsNamed gs at → IsNumber keys at inst → inst.kind ≡ Vector v → IsReEntry words A f v inst.entry
-  pub recursion : (words : Program) (A : List Entry) (f : Family) (keys : List InstKey) (gs : List GraphInst) (at : ℕ) (inst : InstKey) → IsGraphOver words A f keys gs
-      → IsNamed gs at → IsNumber keys at inst → group_of inst.kind ≡ 1 → IsRecursion words A f inst.entry
-  pub named : (words : Program) (A : List Entry) (f : Family) (keys : List InstKey) (gs : List GraphInst) (at : ℕ) → IsGraphOver words A f keys gs
+  pub acyclic : (task : Task) (f : Family) (keys : List InstKey) (gs : List GraphInst) → IsGraphOver task f keys gs
+      → ((i : ℕ) → graph.ReachesBy gs i i → ⊥) → IsAcyclic task f
+  pub re_entry : (task : Task) (f : Family) (keys : List InstKey) (gs : List GraphInst) (at v : ℕ) (inst : InstKey) → IsGraphOver task f keys gs
+      → IsNamed gs at → IsNumber keys at inst → inst.kind ≡ Vector v → IsReEntry task f v inst.entry
+  pub recursion : (task : Task) (f : Family) (keys : List InstKey) (gs : List GraphInst) (at : ℕ) (inst : InstKey) → IsGraphOver task f keys gs
+      → IsNamed gs at → IsNumber keys at inst → group_of inst.kind ≡ 1 → IsRecursion task f inst.entry
+  pub named : (task : Task) (f : Family) (keys : List InstKey) (gs : List GraphInst) (at : ℕ) → IsGraphOver task f keys gs
       → IsNamed gs at → at < length keys
-  pub ranks : (words : Program) (A : List Entry) (f : Family) (keys : List InstKey) (gs : List GraphInst) (ranks needs : List ℕ) → IsGraphOver words A f keys gs
-      → IsLeast gs ranks needs → AreRanks words A f (valued keys ranks)
-  pub least_ranks : (words : Program) (A : List Entry) (f : Family) (keys : List InstKey) (gs : List GraphInst) (ranks needs : List ℕ) (rank : InstKey → ℕ)
-      → IsGraphOver words A f keys gs → IsLeast gs ranks needs → AreRanks words A f rank → (inst : InstKey) → valued keys ranks inst ≤ rank inst
-  pub needs : (words : Program) (A : List Entry) (f : Family) (keys : List InstKey) (gs : List GraphInst) (ranks needs : List ℕ) (spare : ℕ) → IsGraphOver words A f keys gs
-      → IsLeast gs ranks needs → AreNeeds words A f (valued keys (map (λ x. x + spare) needs))
-  pub least_needs : (words : Program) (A : List Entry) (f : Family) (keys : List InstKey) (gs : List GraphInst) (ranks needs : List ℕ) (need : InstKey → ℕ)
-      → IsGraphOver words A f keys gs → IsLeast gs ranks needs → AreNeeds words A f need → (inst : InstKey) → valued keys needs inst ≤ need inst
-  pub root : (words : Program) (A : List Entry) (f : Family) (keys : List InstKey) (gs : List GraphInst) (ranks needs : List ℕ) → IsGraphOver words A f keys gs
-      → IsLeast gs ranks needs → IsRootNeed words A f (slice_index needs 0)
+  pub ranks : (task : Task) (f : Family) (keys : List InstKey) (gs : List GraphInst) (ranks needs : List ℕ) → IsGraphOver task f keys gs
+      → IsLeast gs ranks needs → AreRanks task f (valued keys ranks)
+  pub least_ranks : (task : Task) (f : Family) (keys : List InstKey) (gs : List GraphInst) (ranks needs : List ℕ) (rank : InstKey → ℕ)
+      → IsGraphOver task f keys gs → IsLeast gs ranks needs → AreRanks task f rank → (inst : InstKey) → valued keys ranks inst ≤ rank inst
+  pub needs : (task : Task) (f : Family) (keys : List InstKey) (gs : List GraphInst) (ranks needs : List ℕ) (spare : ℕ) → IsGraphOver task f keys gs
+      → IsLeast gs ranks needs → AreNeeds task f (valued keys (map (λ x. x + spare) needs))
+  pub least_needs : (task : Task) (f : Family) (keys : List InstKey) (gs : List GraphInst) (ranks needs : List ℕ) (need : InstKey → ℕ)
+      → IsGraphOver task f keys gs → IsLeast gs ranks needs → AreNeeds task f need → (inst : InstKey) → valued keys needs inst ≤ need inst
+  pub root : (task : Task) (f : Family) (keys : List InstKey) (gs : List GraphInst) (ranks needs : List ℕ) → IsGraphOver task f keys gs
+      → IsLeast gs ranks needs → IsRootNeed task f (slice_index needs 0)

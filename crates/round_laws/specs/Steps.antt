@@ -2,9 +2,8 @@
 use Rattle.std.specs.Prelude.{ℕ, Bool, ◌+◌, ◌≡◌, ◌⊎◌, ⊤, List, [], ◌∷◌, Option, Some, None, Contains}
 use Rattle.std.specs.FinMap.{get, insert, entries}
 use Rattle.avr_model.specs.declared.device.Device.{Device}
-use Rattle.avr_model.specs.declared.assumption.Entry.{Entry}
 use Rattle.avr_model.specs.Assumptions.{has_pairs}
-use Rattle.avr_model.specs.Devices.{Program, device_of}
+use Rattle.avr_model.specs.Devices.{device_of}
 use Rattle.abs_state.specs.declared.state.AbsState.{AbsState}
 use Rattle.abs_state.specs.Order.{state_join}
 use Rattle.mask_states.specs.declared.keys.NodeKey.{NodeKey}
@@ -15,6 +14,7 @@ use Rattle.edge_rules.specs.Edges.{IsEdge, target}
 use Rattle.edge_rules.specs.Families.{IsCovered}
 use Rattle.abs_state.specs.Rank.{state_rank}
 use Rattle.round_rules.specs.Families.{Family, nodes_of, FamilyHas, Lands, Below, AreFormed, LandIn}
+use Rattle.local_rules.specs.Site.{Task}
 
 -- a state joined with the present one, if any
 abbrev pub joined_with : Option AbsState → AbsState → AbsState
@@ -30,10 +30,10 @@ raised_all f [] = f
 raised_all f (n ∷ ns) = raised_all (raised f n) ns
 
 -- Nodes whose join makes all edges of f land: each edge lands already or is below one of them; and wherever all edges land, so do they.
-pub record IsRoundOf (words : Program) (A : List Entry) (f : Family) (ns : List Node) : Type 0 where
-  pub formed : (to : Node) → Contains ns to → IsNodeIn (device_of words) (has_pairs A) to.key to.state
-  pub all : (n : Node) (e : Edge) → FamilyHas f n → IsEdge words A (nodes_of f) n e → Lands f (target e) ⊎ IsCovered ns (target e)
-  pub least : (h : Family) → Below f h → LandIn words A f h → (to : Node) → Contains ns to → Lands h to
+pub record IsRoundOf (task : Task) (f : Family) (ns : List Node) : Type 0 where
+  pub formed : (to : Node) → Contains ns to → IsNodeIn (device_of task.flash) (has_pairs task.assumptions) to.key to.state
+  pub all : (n : Node) (e : Edge) → FamilyHas f n → IsEdge task (nodes_of f) n e → Lands f (target e) ⊎ IsCovered ns (target e)
+  pub least : (h : Family) → Below f h → LandIn task f h → (to : Node) → Contains ns to → Lands h to
 
 -- g is f with all these nodes joined: the least family above f that has them; all are nodes of the analysis of a device
 pub record AreJoined (device : Device) (followed : Bool) (f : Family) (ns : List Node) (g : Family) : Type 0 where

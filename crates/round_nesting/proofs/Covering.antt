@@ -70,8 +70,8 @@ need_in None = 0
 need_in (Some a) = a.need
 
 pub nests : (size : ℕ) (gs : Granted) (n : Noted) → AllowsRoot gs size → CoversNoted gs n.spots n.entrances → TellsAll size n Nests
-nests size gs n root covers words A f sized there nesting = (
-  λ i reaches. let lt = reached_lower words A f rank are_ranks i i reaches in omega (arith, lt),
+nests size gs n root covers task f sized there nesting = (
+  λ i reaches. let lt = reached_lower task f rank are_ranks i i reaches in omega (arith, lt),
   record {
     need = need;
     are = record {
@@ -94,10 +94,10 @@ nests size gs n root covers words A f sized there nesting = (
     need : InstKey → ℕ
     need i = need_in (allowed gs i)
 
-    allows : (i j : InstKey) (offset : ℕ) → Entering words A f i j offset → AllowsEntrance gs (record { from = i; into = j; offset = offset })
+    allows : (i j : InstKey) (offset : ℕ) → Entering task f i j offset → AllowsEntrance gs (record { from = i; into = j; offset = offset })
     allows i j offset e = covers.each_entrance (record { from = i; into = j; offset = offset }) ((nesting.entrances (record { from = i; into = j; offset = offset })).1 e)
 
-    are_ranks : AreRanks words A f rank
+    are_ranks : AreRanks task f rank
     are_ranks i j offset e =
         let a = allows i j offset e in
         subst (λ (o : Option Allowance). rank_in o < rank i) (sym a.is_into) (subst (λ (o : Option Allowance). a.into.rank < rank_in o) (sym a.is_from) a.allows.rank)

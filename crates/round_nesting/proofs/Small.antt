@@ -1,13 +1,11 @@
 -- At most as many instances are noted as the family has nodes.
-use Rattle.std.proofs.Common.{◌≡◌, refl, ap, subst, ℕ, zero, suc, ◌≤◌, Bool, true, false, List, [], ◌∷◌, map, length, Some, Contains, arith}
+use Rattle.std.proofs.Common.{◌≡◌, refl, ap, subst, zero, suc, ◌≤◌, Bool, true, false, List, [], ◌∷◌, map, length, Some, Contains, arith}
 use Rattle.std.specs.List.{IsDistinct, AllByRecursion}
 use Rattle.std.specs.Bool.{Decides}
 use Rattle.std.specs.Set.{is_member}
 use Rattle.std.specs.FinMap.{entries, len, len-entries}
 use Rattle.std.proofs.lemmas.Map.Made.{is_member-Decides, length-le_from_is_member}
 use Rattle.basics.specs.Items.{first_in, further_in}
-use Rattle.avr_model.specs.declared.assumption.Entry.{Entry}
-use Rattle.avr_model.specs.Devices.{Program}
 use Rattle.mask_states.specs.declared.keys.InstKey.{InstKey}
 use Rattle.mask_states.specs.Order.{same_inst}
 use Rattle.mask_states.specs.Total.{inst_equivalence}
@@ -18,6 +16,7 @@ use Rattle.round_rules.specs.Families.{Family, node_of, nodes_of}
 use Rattle.round_laws.proofs.AllLaws.{families_are_their_nodes}
 use Rattle.round_nesting.specs.Nestings.{Noted, AreOnce, IsNestingOf, NestingsAreSmall}
 use Rattle.round_nesting.proofs.Numbers.{at_place}
+use Rattle.local_rules.specs.Site.{Task}
 
 abbrev inst_of : Node → InstKey
 inst_of n = n.key.inst
@@ -43,7 +42,7 @@ none_twice (k ∷ ks) once = (
   none_twice ks (λ i j inst e f. let same : suc i ≡ suc j = once (suc i) (suc j) inst e f in omega (arith, same)),
 )
 
-module _ (words : Program) (A : List Entry) (f : Family) (n : Noted) (is : IsNestingOf words A f n) where
+module _ (task : Task) (f : Family) (n : Noted) (is : IsNestingOf task f n) where
   abbrev insts : List InstKey
   insts = map inst_of (nodes_of f)
 
@@ -64,4 +63,4 @@ module _ (words : Program) (A : List Entry) (f : Family) (n : Noted) (is : IsNes
       omega (arith, le, mapped_length inst_of (nodes_of f), mapped_length node_of (entries f), len-entries f)
 
 pub nestings_are_small : NestingsAreSmall
-nestings_are_small words A f n is once = small words A f n is once
+nestings_are_small task f n is once = small task f n is once

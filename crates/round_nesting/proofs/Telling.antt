@@ -1,8 +1,6 @@
 -- The graph justifies the verdict for each family with these notes.
 use Rattle.std.proofs.Common.{◌≡◌, refl, sym, ap, ◌∙◌, subst, List, ◌∷◌, Some, slice_get, slice_index, slice_index_or, ℕ, ◌<◌, ◌≤◌, length, Contains, arith}
 use Rattle.std.proofs.lemmas.Option.{slice_get_within, slice_get-get_or}
-use Rattle.avr_model.specs.declared.assumption.Entry.{Entry}
-use Rattle.avr_model.specs.Devices.{Program}
 use Rattle.mask_states.specs.declared.keys.InstKey.{InstKey}
 use Rattle.mask_states.specs.declared.keys.Kind.TheVariants.{Vector}
 use Rattle.mask_states.specs.declared.keys.SpForm.TheVariants.{Closed}
@@ -22,16 +20,17 @@ use Rattle.round_nesting.specs.Nestings.{Noted, AreOnce, IsNestingOf, TellsAll}
 use Rattle.round_nesting.specs.declared.verdict.NestingVerdict.{NestingVerdict}
 use Rattle.round_nesting.specs.Drawn.{number_of, IsDrawn, GraphTells}
 use Rattle.round_nesting.proofs.Numbers.{there, stands, numbered}
+use Rattle.local_rules.specs.Site.{Task}
 
 module _ (n : Noted) (others : List InstKey) (gs : List GraphInst) (drawn : IsDrawn (root_inst ∷ others) n.spots n.entrances gs) (is : n.insts ≡ root_inst ∷ others) (once : AreOnce n.insts) where
   abbrev keys : List InstKey
   keys = root_inst ∷ others
 
-  module _ (words : Program) (A : List Entry) (f : Family) (nesting : IsNestingOf words A f n) where
+  module _ (task : Task) (f : Family) (nesting : IsNestingOf task f n) where
     number_is : (inst : InstKey) → FamilyHasInst f inst → IsNumber keys (number_of keys inst) inst
     number_is inst h = numbered keys inst (subst (λ l. Contains l inst) is ((nesting.insts inst).1 h))
 
-    entered : (i : ℕ) (e : Entered) → graph.EntersAlong gs i e → IsEntered words A f keys i e
+    entered : (i : ℕ) (e : Entered) → graph.EntersAlong gs i e → IsEntered task f keys i e
     entered i e h =
         let x = drawn.edges i e h in
         let entering = (nesting.entrances x.entrance).0 x.has in
@@ -40,10 +39,10 @@ module _ (n : Noted) (others : List InstKey) (gs : List GraphInst) (drawn : IsDr
           into = x.entrance.into;
           from = subst (λ j. IsNumber keys j x.entrance.from) x.from (number_is x.entrance.from (entering.node, entering.has, entering.same));
           to = subst (λ j. IsNumberFor keys j x.entrance.into) x.into (stands keys x.entrance.into);
-          entering = subst (Entering words A f x.entrance.from x.entrance.into) x.at entering;
+          entering = subst (Entering task f x.entrance.from x.entrance.into) x.at entering;
         }
 
-    all_entered : (i j : InstKey) (offset : ℕ) → Entering words A f i j offset → HasEntryEdge keys gs i j offset
+    all_entered : (i j : InstKey) (offset : ℕ) → Entering task f i j offset → HasEntryEdge keys gs i j offset
     all_entered i j offset entering =
         let x = drawn.all_edges (record { from = i; into = j; offset = offset }) ((nesting.entrances (record { from = i; into = j; offset = offset })).1 entering) in
         record {
@@ -72,7 +71,7 @@ module _ (n : Noted) (others : List InstKey) (gs : List GraphInst) (drawn : IsDr
         ((nesting.spots (record { inst = node.key.inst; offset = offset })).1 (record { node = node; has = has; of = refl; closed = closed })) in
         record { number = number_of keys node.key.inst; place = x.place; has = x.has; of = number_is node.key.inst (node, has, refl); at = sym x.at }
 
-    pub is_graph_of : IsGraphOver words A f keys gs
+    pub is_graph_of : IsGraphOver task f keys gs
     is_graph_of = record {
       is_graph = drawn.is_graph;
       inside = omega (arith, drawn.count);
@@ -87,31 +86,31 @@ module _ (n : Noted) (others : List InstKey) (gs : List GraphInst) (drawn : IsDr
     }
 
   pub tells_all : (size : ℕ) (w : NestingVerdict) → GraphTells size gs w → TellsAll size n w
-  tells_all size w tells words A f sized root nesting = tells words A f keys sized (is_graph_of words A f nesting)
+  tells_all size w tells task f sized root nesting = tells task f keys sized (is_graph_of task f nesting)
 
 -- ---- from the graph
 
 module _ (tell : GraphsTell) (gs : List GraphInst) where
   module _ (at : ℕ) (g : GraphInst) (is : slice_get gs at ≡ Some g) (named : IsNamed gs at) where
-    number : (words : Program) (A : List Entry) (f : Family) (keys : List InstKey) → IsGraphOver words A f keys gs → IsNumber keys at g.key
-    number words A f keys of =
-        let k = there keys at (tell.named words A f keys gs at of named) in
+    number : (task : Task) (f : Family) (keys : List InstKey) → IsGraphOver task f keys gs → IsNumber keys at g.key
+    number task f keys of =
+        let k = there keys at (tell.named task f keys gs at of named) in
         k.1 ∙ ap (λ (x : InstKey). Some x) (sym (of.keyed at g k.0 is k.1))
 
     pub re_entry : (v : ℕ) → g.key.kind ≡ Vector v → (size : ℕ) → GraphTells size gs (ReEntry v g.key.entry)
-    re_entry v kind size words A f keys sized of = tell.re_entry words A f keys gs at v g.key of named (number words A f keys of) kind
+    re_entry v kind size task f keys sized of = tell.re_entry task f keys gs at v g.key of named (number task f keys of) kind
 
     pub recursion : group_of g.key.kind ≡ 1 → (size : ℕ) → GraphTells size gs (Recursion g.key.entry)
-    recursion one size words A f keys sized of = tell.recursion words A f keys gs at g.key of named (number words A f keys of) one
+    recursion one size task f keys sized of = tell.recursion task f keys gs at g.key of named (number task f keys of) one
 
   module _ (ranks needs : List ℕ) (least : IsLeast gs ranks needs) (acyclic : (i : ℕ) → graph.ReachesBy gs i i → ⊥) where
     pub nests : (size : ℕ) → slice_index needs 0 ≤ size → GraphTells size gs Nests
-    nests size le words A f keys sized of =
-        let root = tell.root words A f keys gs ranks needs of least in
-        (tell.acyclic words A f keys gs of acyclic, record { need = root.need; are = root.are; small = omega (arith, root.is, le, sized) })
+    nests size le task f keys sized of =
+        let root = tell.root task f keys gs ranks needs of least in
+        (tell.acyclic task f keys gs of acyclic, record { need = root.need; are = root.are; small = omega (arith, root.is, le, sized) })
 
     pub too_deep : (size : ℕ) → size < slice_index needs 0 → GraphTells size gs (TooDeep (slice_index needs 0))
-    too_deep size lt words A f keys sized of = (tell.acyclic words A f keys gs of acyclic, tell.root words A f keys gs ranks needs of least, omega (arith, lt, sized))
+    too_deep size lt task f keys sized of = (tell.acyclic task f keys gs of acyclic, tell.root task f keys gs ranks needs of least, omega (arith, lt, sized))
 
 -- ---- a named instance is there
 

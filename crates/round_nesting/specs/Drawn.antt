@@ -1,8 +1,7 @@
 -- The graph of a nesting.
 use Rattle.std.specs.Prelude.{ℕ, ◌+◌, ◌≡◌, ◌↔◌, ◌⊎◌, Bool, if◌then◌else◌, List, ◌∷◌, Some, length, Contains, slice_get}
 use Rattle.std.specs.List.{position_or_len}
-use Rattle.avr_model.specs.declared.assumption.Entry.{Entry}
-use Rattle.avr_model.specs.Devices.{Program, device_of, size_of}
+use Rattle.avr_model.specs.Devices.{device_of, size_of}
 use Rattle.mask_states.specs.declared.keys.InstKey.{InstKey}
 use Rattle.mask_states.specs.Keys.{root_inst}
 use Rattle.mask_states.specs.Order.{same_inst}
@@ -14,6 +13,7 @@ use Rattle.round_rules.specs.Families.{Family}
 use Rattle.round_laws.specs.Graphs.{IsGraphOver}
 use Rattle.round_nesting.specs.Nestings.{Spot, Entrance, AreOnce, VerdictTells}
 use Rattle.round_nesting.specs.declared.verdict.NestingVerdict.{NestingVerdict}
+use Rattle.local_rules.specs.Site.{Task}
 
 -- the instances of a nesting, in which the root is kept apart
 abbrev pub insts_of : Bool → List InstKey → List InstKey
@@ -90,4 +90,4 @@ pub record IsDrawn (keys : List InstKey) (spots : List Spot) (entrances : List E
 -- the graph justifies the verdict, for each family with this graph on a device with this many bytes of SRAM
 abbrev pub GraphTells : ℕ → List GraphInst → NestingVerdict → Type 0
 GraphTells size gs w =
-    (words : Program) (A : List Entry) (f : Family) (keys : List InstKey) → size_of (device_of words) ≡ size → IsGraphOver words A f keys gs → VerdictTells words A f w
+    (task : Task) (f : Family) (keys : List InstKey) → size_of (device_of task.flash) ≡ size → IsGraphOver task f keys gs → VerdictTells task f w

@@ -1,8 +1,7 @@
 -- The nesting of a family's instances: its notes, and the verdict from them. Source: own.
 use Rattle.std.specs.Prelude.{ℕ, ◌≡◌, ◌<◌, ◌≤◌, ◌↔◌, ◌⊎◌, List, [], length, Contains, Some, slice_get}
 use Rattle.std.specs.FinMap.{len}
-use Rattle.avr_model.specs.declared.assumption.Entry.{Entry}
-use Rattle.avr_model.specs.Devices.{Program, device_of, size_of}
+use Rattle.avr_model.specs.Devices.{device_of, size_of}
 use Rattle.mask_states.specs.declared.keys.InstKey.{InstKey}
 use Rattle.mask_states.specs.declared.keys.NodeKey.{NodeKey}
 use Rattle.mask_states.specs.declared.keys.SpForm.TheVariants.{Closed}
@@ -13,6 +12,7 @@ use Rattle.round_rules.specs.Rounds.{Entering, IsAcyclic, IsRootNeed, IsShallow}
 use Rattle.round_rules.specs.Refusals.{IsReEntry, IsRecursion}
 use Rattle.round_nesting.specs.declared.verdict.NestingVerdict.{NestingVerdict}
 use Rattle.round_nesting.specs.declared.verdict.NestingVerdict.TheVariants.{Nests, ReEntry, Recursion, TooDeep}
+use Rattle.local_rules.specs.Site.{Task}
 
 -- ---- what is noted
 
@@ -69,26 +69,26 @@ pub record IsSpotOf (f : Family) (s : Spot) : Type 0 where
   pub closed : node.key.sp ≡ Closed s.offset
 
 -- the notes are exactly those of the family
-pub record IsNestingOf (words : Program) (A : List Entry) (f : Family) (n : Noted) : Type 0 where
+pub record IsNestingOf (task : Task) (f : Family) (n : Noted) : Type 0 where
   pub insts : (inst : InstKey) → Contains n.insts inst ↔ FamilyHasInst f inst
   pub spots : (s : Spot) → Contains n.spots s ↔ IsSpotOf f s
-  pub entrances : (e : Entrance) → Contains n.entrances e ↔ Entering words A f e.from e.into e.offset
+  pub entrances : (e : Entrance) → Contains n.entrances e ↔ Entering task f e.from e.into e.offset
 
 -- ---- what it tells
 
-abbrev pub VerdictTells : Program → List Entry → Family → NestingVerdict → Type 0
-VerdictTells words A f Nests = IsAcyclic words A f × IsShallow words A f
-VerdictTells words A f (ReEntry v word) = IsReEntry words A f v word
-VerdictTells words A f (Recursion word) = IsRecursion words A f word
-VerdictTells words A f (TooDeep d) = IsAcyclic words A f × IsRootNeed words A f d × (size_of (device_of words) < d)
+abbrev pub VerdictTells : Task → Family → NestingVerdict → Type 0
+VerdictTells task f Nests = IsAcyclic task f × IsShallow task f
+VerdictTells task f (ReEntry v word) = IsReEntry task f v word
+VerdictTells task f (Recursion word) = IsRecursion task f word
+VerdictTells task f (TooDeep d) = IsAcyclic task f × IsRootNeed task f d × (size_of (device_of task.flash) < d)
 
 -- the verdict holds of each family with these notes in which the root has a node, on a device with this many bytes of SRAM
 abbrev pub TellsAll : ℕ → Noted → NestingVerdict → Type 0
 TellsAll size n w =
-    (words : Program) (A : List Entry) (f : Family) → size_of (device_of words) ≡ size → FamilyHasInst f root_inst → IsNestingOf words A f n → VerdictTells words A f w
+    (task : Task) (f : Family) → size_of (device_of task.flash) ≡ size → FamilyHasInst f root_inst → IsNestingOf task f n → VerdictTells task f w
 
 -- ---- laws
 
 -- at most as many instances are noted as the family has nodes
 abbrev pub NestingsAreSmall : Type 0
-NestingsAreSmall = (words : Program) (A : List Entry) (f : Family) (n : Noted) → IsNestingOf words A f n → AreOnce n.insts → length n.insts ≤ len f
+NestingsAreSmall = (task : Task) (f : Family) (n : Noted) → IsNestingOf task f n → AreOnce n.insts → length n.insts ≤ len f

@@ -214,7 +214,7 @@ impl Allowances {
 
     // Whether the allowances cover all entrances.
     fn allow_entrances(&self, entrances: &[NotedEntrance]) -> bool
-        ensures { IsTrue result → (x : nestings.Entrance) → Contains entrances.now x → AllowsEntrance self.now.map.entries x }
+        ensures { IsTrue result → (x : _) → Contains entrances.now x → AllowsEntrance self.now.map.entries x }
     {
         for entrance in entrances {
             if !self.allow_entrance(entrance) {

@@ -2,8 +2,6 @@
 use Rattle.std.specs.Prelude.{ℕ, Bool, ◌≡◌, ◌≤◌, List, map, Some}
 use Rattle.std.specs.FinMap.{FinMap, get, entries, keys, len}
 use Rattle.avr_model.specs.declared.device.Device.{Device}
-use Rattle.avr_model.specs.declared.assumption.Entry.{Entry}
-use Rattle.avr_model.specs.Devices.{Program}
 use Rattle.abs_state.specs.declared.state.AbsState.{AbsState}
 use Rattle.abs_state.specs.Order.{IsStateWithin}
 use Rattle.mask_states.specs.declared.keys.InstKey.{InstKey}
@@ -14,6 +12,7 @@ use Rattle.local_rules.specs.Cover.{IsNodeIn}
 use Rattle.edge_rules.specs.declared.edge.Edge.{Edge}
 use Rattle.edge_rules.specs.Edges.{IsFaultless, IsEdge, target}
 use Rattle.certificate.specs.Claims.{cells_of, most_nodes, most_cells}
+use Rattle.local_rules.specs.Site.{Task}
 
 abbrev pub Family : Type 0
 Family = FinMap node_cmp AbsState
@@ -45,15 +44,15 @@ Below f g = (n : Node) → FamilyHas f n → Lands g n
 abbrev pub AreFormed : Device → Bool → Family → Type 0
 AreFormed device followed f = (n : Node) → FamilyHas f n → IsNodeIn device followed n.key n.state
 
-abbrev pub HasNoFault : Program → List Entry → Family → Type 0
-HasNoFault words A f = (n : Node) → FamilyHas f n → IsFaultless words A n
+abbrev pub HasNoFault : Task → Family → Type 0
+HasNoFault task f = (n : Node) → FamilyHas f n → IsFaultless task n
 
 -- each edge of f leads to a node of h, with a state within that node's
-abbrev pub LandIn : Program → List Entry → Family → Family → Type 0
-LandIn words A f h = (n : Node) (e : Edge) → FamilyHas f n → IsEdge words A (nodes_of f) n e → Lands h (target e)
+abbrev pub LandIn : Task → Family → Family → Type 0
+LandIn task f h = (n : Node) (e : Edge) → FamilyHas f n → IsEdge task (nodes_of f) n e → Lands h (target e)
 
-abbrev pub IsClosed : Program → List Entry → Family → Type 0
-IsClosed words A f = LandIn words A f f
+abbrev pub IsClosed : Task → Family → Type 0
+IsClosed task f = LandIn task f f
 
 -- ---- limits
 

@@ -1,8 +1,7 @@
 -- The end of the rounds: the first family on which a test holds, refused by the first such test, or the first closed one.
-use Rattle.std.specs.Prelude.{ℕ, ◌≡◌, ◌<◌, ◌≤◌, ◌⊎◌, List, Err}
+use Rattle.std.specs.Prelude.{ℕ, ◌≡◌, ◌<◌, ◌≤◌, ◌⊎◌, Err}
 use Rattle.std.specs.FinMap.{len}
-use Rattle.avr_model.specs.declared.assumption.Entry.{Entry}
-use Rattle.avr_model.specs.Devices.{Program, device_of, size_of}
+use Rattle.avr_model.specs.Devices.{device_of, size_of}
 use Rattle.mask_states.specs.declared.keys.InstKey.{InstKey}
 use Rattle.mask_states.specs.declared.keys.Kind.TheVariants.{Vector}
 use Rattle.local_rules.specs.declared.local.Node.{Node}
@@ -17,6 +16,7 @@ use Rattle.round_rules.specs.declared.refusal.Refusal.{Refusal}
 use Rattle.round_rules.specs.declared.refusal.Refusal.TheVariants as refusal
 use Rattle.round_rules.specs.Families.{Family, FamilyHas, cells, FitsLimits, HasNoFault, IsClosed}
 use Rattle.round_rules.specs.Rounds.{Reaches, IsAcyclic, IsRootNeed, PassesTests, Comes}
+use Rattle.local_rules.specs.Site.{Task}
 
 -- ---- the tests, in their order
 
@@ -35,10 +35,10 @@ word_of (fault.UnknownPointer pc) = pc
 word_of fault.Memory = 0
 
 -- a node has the fault
-pub record FaultAt (words : Program) (A : List Entry) (f : Family) (x : NodeFault) : Type 0 where
+pub record FaultAt (task : Task) (f : Family) (x : NodeFault) : Type 0 where
   pub node : Node
   pub has : FamilyHas f node
-  pub is : local words A node.key node.state ≡ Err x
+  pub is : local task node.key node.state ≡ Err x
 
 -- faults are ordered by cause, then word, then offset
 abbrev pub IsFaultNoLater : NodeFault → NodeFault → Type 0
@@ -46,24 +46,24 @@ IsFaultNoLater x y =
     (cause_of x < cause_of y) ⊎ ((cause_of x ≡ cause_of y) × ((word_of x < word_of y) ⊎ ((word_of x ≡ word_of y) × (fault_offset x ≤ fault_offset y))))
 
 -- the least fault of all nodes
-abbrev pub IsLeastFault : Program → List Entry → Family → NodeFault → Type 0
-IsLeastFault words A f x = FaultAt words A f x × ((y : NodeFault) → FaultAt words A f y → IsFaultNoLater x y)
+abbrev pub IsLeastFault : Task → Family → NodeFault → Type 0
+IsLeastFault task f x = FaultAt task f x × ((y : NodeFault) → FaultAt task f y → IsFaultNoLater x y)
 
 -- an instance of this vector at this word is on a cycle, and none of a smaller vector is
-pub record IsReEntry (words : Program) (A : List Entry) (f : Family) (v word : ℕ) : Type 0 where
+pub record IsReEntry (task : Task) (f : Family) (v word : ℕ) : Type 0 where
   pub inst : InstKey
-  pub reaches : Reaches words A f inst inst
+  pub reaches : Reaches task f inst inst
   pub kind : inst.kind ≡ Vector v
   pub entry : inst.entry ≡ word
-  pub least : (other : InstKey) (u : ℕ) → Reaches words A f other other → other.kind ≡ Vector u → v ≤ u
+  pub least : (other : InstKey) (u : ℕ) → Reaches task f other other → other.kind ≡ Vector u → v ≤ u
 
 -- no instance of a vector is on a cycle, one at this word is, and none at a smaller word is
-pub record IsRecursion (words : Program) (A : List Entry) (f : Family) (word : ℕ) : Type 0 where
+pub record IsRecursion (task : Task) (f : Family) (word : ℕ) : Type 0 where
   pub inst : InstKey
-  pub reaches : Reaches words A f inst inst
+  pub reaches : Reaches task f inst inst
   pub entry : inst.entry ≡ word
-  pub vectors : (other : InstKey) (u : ℕ) → Reaches words A f other other → other.kind ≡ Vector u → ⊥
-  pub least : (other : InstKey) → Reaches words A f other other → word ≤ other.entry
+  pub vectors : (other : InstKey) (u : ℕ) → Reaches task f other other → other.kind ≡ Vector u → ⊥
+  pub least : (other : InstKey) → Reaches task f other other → word ≤ other.entry
 
 pub data Test : Type 0 where
   over : Limit → Test
@@ -76,12 +76,12 @@ pub data Test : Type 0 where
   too_deep : ℕ → Test
 
 -- the first test that holds on the family
-abbrev pub FirstHolds : Program → List Entry → Family → Test → Type 0
-FirstHolds words A f (over limit) = IsOverSize f limit
-FirstHolds words A f (faulty x) = FitsLimits f × IsLeastFault words A f x
-FirstHolds words A f (re_entry v word) = FitsLimits f × HasNoFault words A f × IsReEntry words A f v word
-FirstHolds words A f (recursion word) = FitsLimits f × HasNoFault words A f × IsRecursion words A f word
-FirstHolds words A f (too_deep d) = FitsLimits f × HasNoFault words A f × IsAcyclic words A f × IsRootNeed words A f d × (size_of (device_of words) < d)
+abbrev pub FirstHolds : Task → Family → Test → Type 0
+FirstHolds task f (over limit) = IsOverSize f limit
+FirstHolds task f (faulty x) = FitsLimits f × IsLeastFault task f x
+FirstHolds task f (re_entry v word) = FitsLimits f × HasNoFault task f × IsReEntry task f v word
+FirstHolds task f (recursion word) = FitsLimits f × HasNoFault task f × IsRecursion task f word
+FirstHolds task f (too_deep d) = FitsLimits f × HasNoFault task f × IsAcyclic task f × IsRootNeed task f d × (size_of (device_of task.flash) < d)
 
 -- ---- refusals
 
@@ -93,26 +93,26 @@ refusal_of (recursion word) = refusal.Recursion word
 refusal_of (too_deep d) = refusal.Node (fault.TooDeep 0 d)
 
 -- the rounds end at family n, by this test
-pub record EndsBy (words : Program) (A : List Entry) (n : ℕ) (t : Test) : Type 0 where
+pub record EndsBy (task : Task) (n : ℕ) (t : Test) : Type 0 where
   pub family : Family
-  pub comes : Comes words A n family
-  pub holds : FirstHolds words A family t
+  pub comes : Comes task n family
+  pub holds : FirstHolds task family t
 
 -- the rounds end at family n, with this refusal
-pub record IsRefused (words : Program) (A : List Entry) (n : ℕ) (r : Refusal) : Type 0 where
+pub record IsRefused (task : Task) (n : ℕ) (r : Refusal) : Type 0 where
   pub test : Test
-  pub ends : EndsBy words A n test
+  pub ends : EndsBy task n test
   pub is : r ≡ refusal_of test
 
 -- the rounds end at family n, which is f, without a refusal
-pub record IsSolved (words : Program) (A : List Entry) (n : ℕ) (f : Family) : Type 0 where
-  pub comes : Comes words A n f
-  pub passes : PassesTests words A f
-  pub closed : IsClosed words A f
+pub record IsSolved (task : Task) (n : ℕ) (f : Family) : Type 0 where
+  pub comes : Comes task n f
+  pub passes : PassesTests task f
+  pub closed : IsClosed task f
 
 -- the rounds end at none of the families 0 to n
-pub record GoesBeyond (words : Program) (A : List Entry) (n : ℕ) : Type 0 where
+pub record GoesBeyond (task : Task) (n : ℕ) : Type 0 where
   pub family : Family
-  pub comes : Comes words A n family
-  pub passes : PassesTests words A family
-  pub more : IsClosed words A family → ⊥
+  pub comes : Comes task n family
+  pub passes : PassesTests task family
+  pub more : IsClosed task family → ⊥

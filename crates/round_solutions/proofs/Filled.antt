@@ -5,8 +5,6 @@ use Rattle.std.specs.declared.cmp.Ordering.TheVariants.{Less}
 use Rattle.basics.specs.Items.{none_in, first_in, further_in, first_or_further, contained_at, only_one_in as only}
 use Rattle.basics.specs.Lists.{get_inside}
 use Rattle.edge_laws.proofs.AllLaws.{part_of}
-use Rattle.avr_model.specs.declared.assumption.Entry.{Entry}
-use Rattle.avr_model.specs.Devices.{Program}
 use Rattle.abs_state.specs.declared.state.AbsState.{AbsState}
 use Rattle.mask_states.specs.declared.keys.NodeKey.{NodeKey}
 use Rattle.mask_states.specs.declared.keys.EdgeKind.TheVariants as kind
@@ -29,6 +27,7 @@ use Rattle.round_solutions.specs.Laws.{LoneEdgesTell}
 use Rattle.round_solutions.specs.Parts.{IsForm, AreForms}
 use Rattle.round_solutions.proofs.Order.{ascending, node_before, node_once, root_node_first}
 use Rattle.round_solutions.proofs.Lone.{formed, lone}
+use Rattle.local_rules.specs.Site.{Task}
 
 -- ---- successors of one key
 
@@ -49,27 +48,27 @@ alone (y ∷ []) x few i = ap (λ z. z ∷ []) (sym (only y x i))
 alone (y ∷ z ∷ zs) x few i = absurd (omega (arith, few))
 
 -- the target of a local edge
-record Moves (words : Program) (A : List Entry) (n : Node) (e : Edge) : Type 0 where
-  clean : IsFaultless words A n
+record Moves (task : Task) (n : Node) (e : Edge) : Type 0 where
+  clean : IsFaultless task n
   to : Node
-  member : Contains (joined_onto [] (raw_of words A n).moves) to
+  member : Contains (joined_onto [] (raw_of task n).moves) to
   key : to.key ≡ e.to
   state : to.state ≡ e.state
 
-moves : (words : Program) (A : List Entry) (nodes : List Node) (n : Node) (e : Edge) → IsEdge words A nodes n e → e.kind ≡ kind.Local → Moves words A n e
-moves words A nodes n _ (moving to clean member) is = record { clean = clean; to = to; member = member; key = refl; state = refl }
-moves words A nodes n _ (entering _ inst back (by_call offset site clean form member)) is = absurd (cc)
-moves words A nodes n _ (entering _ inst back (by_interrupt offset v clears clean form i delay enabled allowed clearable)) is = absurd (cc)
-moves words A nodes n _ (returning way inst back leaver x state enters present same clean exit it) is = absurd (cc)
+moves : (task : Task) (nodes : List Node) (n : Node) (e : Edge) → IsEdge task nodes n e → e.kind ≡ kind.Local → Moves task n e
+moves task nodes n _ (moving to clean member) is = record { clean = clean; to = to; member = member; key = refl; state = refl }
+moves task nodes n _ (entering _ inst back (by_call offset site clean form member)) is = absurd (cc)
+moves task nodes n _ (entering _ inst back (by_interrupt offset v clears clean form i delay enabled allowed clearable)) is = absurd (cc)
+moves task nodes n _ (returning way inst back leaver x state enters present same clean exit it) is = absurd (cc)
 
 -- local edges of a node to one key are equal
-same_edge : (words : Program) (A : List Entry) (nodes : List Node) (n : Node) (d e : Edge) → IsEdge words A nodes n d → IsEdge words A nodes n e
+same_edge : (task : Task) (nodes : List Node) (n : Node) (d e : Edge) → IsEdge task nodes n d → IsEdge task nodes n e
     → d.kind ≡ kind.Local → e.kind ≡ kind.Local → d.to ≡ e.to → d ≡ e
-same_edge words A nodes n d e is_d is_e local_d local_e to =
-    let v = moves words A nodes n d is_d local_d in
-    let w = moves words A nodes n e is_e local_e in
-    let l = part_of (raw_of words A n) in
-    let few = successors_are_one.few words A n.key e.to n.state l (ok_of words A n.key n.state w.clean) in
+same_edge task nodes n d e is_d is_e local_d local_e to =
+    let v = moves task nodes n d is_d local_d in
+    let w = moves task nodes n e is_e local_e in
+    let l = part_of (raw_of task n) in
+    let few = successors_are_one.few task n.key e.to n.state l (ok_of task n.key n.state w.clean) in
     let states = alone (states_at e.to l.same) w.to.state few (in_states e.to l.same w.to w.key w.member) in
     let state : v.to.state ≡ w.to.state = only w.to.state v.to.state (subst (λ (xs : List AbsState). Contains xs v.to.state) states (in_states e.to l.same v.to (v.key ∙ to) v.member)) in
     let kinds = local_d ∙ sym local_e in
@@ -78,7 +77,7 @@ same_edge words A nodes n d e is_d is_e local_d local_e to =
 
 -- ---- the nodes with their forms
 
-module _ (words : Program) (A : List Entry) (n : ℕ) (f : Family) (solved : IsSolved words A n f) (seeds : Seeds) (forms : AreForms words A (nodes_of f) seeds) where
+module _ (task : Task) (n : ℕ) (f : Family) (solved : IsSolved task n f) (seeds : Seeds) (forms : AreForms task (nodes_of f) seeds) where
   abbrev nodes : List Node
   nodes = nodes_of f
 
@@ -88,78 +87,78 @@ module _ (words : Program) (A : List Entry) (n : ℕ) (f : Family) (solved : IsS
       let y = get_inside nodes m (omega (arith, lt, slice_get_within nodes at x e)) in
       root_node_first y.0.key (subst (λ (k : NodeKey). node_cmp y.0.key k ≡ Less) is (node_before nodes m at y.0 x (ascending f) y.1 e lt))
 
-  state_is : (m at : ℕ) (x : Node) → m < at → slice_get nodes at ≡ Some x → (only : IsOnlyFrom words A nodes x.key m) → only.edge.state ≡ x.state
-  state_is m at x lt e only = lone words A n f solved x.key m x.state only (not_root m at x lt e) (has_member f x (contained_at nodes at x e))
+  state_is : (m at : ℕ) (x : Node) → m < at → slice_get nodes at ≡ Some x → (only : IsOnlyFrom task nodes x.key m) → only.edge.state ≡ x.state
+  state_is m at x lt e only = lone task n f solved x.key m x.state only (not_root m at x lt e) (has_member f x (contained_at nodes at x e))
 
-  one_state : (k : NodeKey) (m : ℕ) (only : IsOnlyFrom words A nodes k m)
-      → states_at k (joined_onto [] (raw_of words A only.node).moves) ≡ only.edge.state ∷ []
+  one_state : (k : NodeKey) (m : ℕ) (only : IsOnlyFrom task nodes k m)
+      → states_at k (joined_onto [] (raw_of task only.node).moves) ≡ only.edge.state ∷ []
   one_state k m only =
-      let w = moves words A nodes only.node only.edge only.is only.moves in
-      let l = part_of (raw_of words A only.node) in
-      let few = successors_are_one.few words A only.node.key k only.node.state l (ok_of words A only.node.key only.node.state w.clean) in
+      let w = moves task nodes only.node only.edge only.is only.moves in
+      let l = part_of (raw_of task only.node) in
+      let few = successors_are_one.few task only.node.key k only.node.state l (ok_of task only.node.key only.node.state w.clean) in
       alone (states_at k l.same) only.edge.state few
       (subst (Contains (states_at k l.same)) w.state (in_states k l.same w.to (w.key ∙ only.leads) w.member))
 
   abbrev Expands : ℕ → Node → Type 0
-  Expands at x = IsExpansion words A seeds at x.state
+  Expands at x = IsExpansion task seeds at x.state
 
   expands : (count at : ℕ) (x : Node) → at < count → slice_get nodes at ≡ Some x → Expands at x
   expands zero at x lt e = absurd (omega (arith, lt))
   expands (suc count) at x lt e = let h = forms.each at x e in by h.0 h.1.0 h.1.1 (λ m y less is. expands count m y (omega (arith, lt, less)) is)
     where
-      by : (form : NodeForm) → slice_get seeds at ≡ Some (x.key, form) → IsForm words A nodes at x form
+      by : (form : NodeForm) → slice_get seeds at ≡ Some (x.key, form) → IsForm task nodes at x form
           → ((m : ℕ) (y : Node) → m < at → slice_get nodes m ≡ Some y → Expands m y) → Expands at x
-      by (State s) is h earlier = subst (λ (z : AbsState). IsExpansion words A seeds at z) h.0 (own at x.key s is)
+      by (State s) is h earlier = subst (λ (z : AbsState). IsExpansion task seeds at z) h.0 (own at x.key s is)
       by (From m) is h earlier =
           let only = h.1 in
           let g = forms.each m only.node only.at in
-          let w = moves words A nodes only.node only.edge only.is only.moves in
-          along at m x.key only.node.key g.0 only.node.state x.state (part_of (raw_of words A only.node)) is h.0 g.1.0 (earlier m only.node h.0 only.at)
-          (ok_of words A only.node.key only.node.state w.clean)
+          let w = moves task nodes only.node only.edge only.is only.moves in
+          along at m x.key only.node.key g.0 only.node.state x.state (part_of (raw_of task only.node)) is h.0 g.1.0 (earlier m only.node h.0 only.at)
+          (ok_of task only.node.key only.node.state w.clean)
           (one_state x.key m only ∙ ap (λ (z : AbsState). z ∷ []) (state_is m at x h.0 e only))
 
-  pub filled : IsFilled words A seeds nodes
+  pub filled : IsFilled task seeds nodes
   filled = record {
     count = sym forms.count;
     keys = λ at x e. let h = forms.each at x e in (h.0, h.1.0);
     states = λ at x e. expands (suc at) at x (omega arith) e;
-    formed = λ at x e. formed words A n f solved x (has_member f x (contained_at nodes at x e));
+    formed = λ at x e. formed task n f solved x (has_member f x (contained_at nodes at x e));
   }
 
 -- ---- which are left out
 
-module _ (words : Program) (A : List Entry) (f : Family) (seeds : Seeds) (forms : AreForms words A (nodes_of f) seeds) where
+module _ (task : Task) (f : Family) (seeds : Seeds) (forms : AreForms task (nodes_of f) seeds) where
   -- the number is that of the edge's origin
-  one_from : (k : NodeKey) (m j : ℕ) → IsOnlyFrom words A (nodes_of f) k m → IsOnlyFrom words A (nodes_of f) k j → m ≡ j
+  one_from : (k : NodeKey) (m j : ℕ) → IsOnlyFrom task (nodes_of f) k m → IsOnlyFrom task (nodes_of f) k j → m ≡ j
   one_from k m j a b =
       let same = (a.only b.node b.edge (contained_at (nodes_of f) j b.node b.at) b.is b.leads).0 in
       node_once (nodes_of f) m j a.node (ascending f) a.at (b.at ∙ ap Some same)
 
-  from_is : (at m : ℕ) (x : Node) (form : NodeForm) → IsForm words A (nodes_of f) at x form → (m < at) × IsOnlyFrom words A (nodes_of f) x.key m → form ≡ From m
+  from_is : (at m : ℕ) (x : Node) (form : NodeForm) → IsForm task (nodes_of f) at x form → (m < at) × IsOnlyFrom task (nodes_of f) x.key m → form ≡ From m
   from_is at m x (State s) h g = absurd (h.1 m g.0 g.1)
   from_is at m x (From j) h g = ap From (one_from x.key j m h.1 g.1)
 
-  is_from : (at m : ℕ) (x : Node) (form : NodeForm) → IsForm words A (nodes_of f) at x form → form ≡ From m → (m < at) × IsOnlyFrom words A (nodes_of f) x.key m
+  is_from : (at m : ℕ) (x : Node) (form : NodeForm) → IsForm task (nodes_of f) at x form → form ≡ From m → (m < at) × IsOnlyFrom task (nodes_of f) x.key m
   is_from at m x (State s) h e = absurd (cc)
-  is_from at m x (From j) h e = let same : j ≡ m = cc in subst (λ (i : ℕ). (i < at) × IsOnlyFrom words A (nodes_of f) x.key i) same h
+  is_from at m x (From j) h e = let same : j ≡ m = cc in subst (λ (i : ℕ). (i < at) × IsOnlyFrom task (nodes_of f) x.key i) same h
 
   same_pair : (a b : NodeKey × NodeForm) → Some a ≡ Some b → (a.0 ≡ b.0) × (a.1 ≡ b.1)
   same_pair a b e = let p = same_Some a b e in (ap (λ (x : NodeKey × NodeForm). x.0) p, ap (λ (x : NodeKey × NodeForm). x.1) p)
 
-  pub sparse : AreSparse words A (nodes_of f) seeds
+  pub sparse : AreSparse task (nodes_of f) seeds
   sparse at m k form e =
       let x = get_inside (nodes_of f) at (omega (arith, forms.count, slice_get_within seeds at (k, form) e)) in
       let h = forms.each at x.0 x.1 in
       let p = same_pair (x.0.key, h.0) (k, form) (sym h.1.0 ∙ e) in
-      let is : IsForm words A (nodes_of f) at x.0 form = subst (IsForm words A (nodes_of f) at x.0) p.1 h.1.1 in (
-        λ g. subst (λ (q : NodeKey). (m < at) × IsOnlyFrom words A (nodes_of f) q m) p.0 (is_from at m x.0 form is g),
-        λ g. from_is at m x.0 form is (subst (λ (q : NodeKey). (m < at) × IsOnlyFrom words A (nodes_of f) q m) (sym p.0) g),
+      let is : IsForm task (nodes_of f) at x.0 form = subst (IsForm task (nodes_of f) at x.0) p.1 h.1.1 in (
+        λ g. subst (λ (q : NodeKey). (m < at) × IsOnlyFrom task (nodes_of f) q m) p.0 (is_from at m x.0 form is g),
+        λ g. from_is at m x.0 form is (subst (λ (q : NodeKey). (m < at) × IsOnlyFrom task (nodes_of f) q m) (sym p.0) g),
       )
 
 pub lone_edges_tell : LoneEdgesTell
 lone_edges_tell = record {
   one = same_edge;
-  state = λ words A n f k m s solved only other is. lone words A n f solved k m s only other is;
-  filled = λ words A n f seeds solved forms. filled words A n f solved seeds forms;
+  state = λ task n f k m s solved only other is. lone task n f solved k m s only other is;
+  filled = λ task n f seeds solved forms. filled task n f solved seeds forms;
   sparse = sparse;
 }

@@ -6,9 +6,8 @@ use Rattle.std.specs.FinMap.{entries, len-entries}
 use Rattle.basics.specs.Lists.{one_at, get_inside}
 use Rattle.basics.specs.Items.{contained_at, get_contained}
 use Rattle.family_graph.proofs.Graphs.{keys_long}
-use Rattle.avr_model.specs.declared.assumption.Entry.{Entry}
 use Rattle.avr_model.specs.Assumptions.{has_pairs}
-use Rattle.avr_model.specs.Devices.{Program, device_of}
+use Rattle.avr_model.specs.Devices.{device_of}
 use Rattle.abs_state.specs.Frames.{entered}
 use Rattle.mask_states.specs.declared.keys.EdgeKind.{EdgeKind}
 use Rattle.mask_states.specs.declared.keys.InstKey.{InstKey}
@@ -40,6 +39,7 @@ use Rattle.round_laws.proofs.AllLaws.{has_member, member_has, formed_nodes, come
 use Rattle.round_solutions.specs.Laws.{SolvedFamiliesAreShown, GraphsAreAcyclic}
 use Rattle.round_solutions.proofs.Order.{ascending, before, inst_once, root_inst_first}
 use Rattle.round_solutions.proofs.Lone.{formed}
+use Rattle.local_rules.specs.Site.{Task}
 
 -- the key of an instance, by its number
 pub key_is : (gs : List GraphInst) (i : ℕ) (g : GraphInst) → slice_get gs i ≡ Some g → IsNumber (insts_of gs) i g.key
@@ -48,20 +48,20 @@ key_is (x ∷ xs) zero g e = ap Some (ap (λ (y : GraphInst). y.key) (same_Some 
 key_is (x ∷ xs) (suc i) g e = key_is xs i g e
 
 -- only a node with a whole stack pointer enters an instance
-closed_at : (words : Program) (A : List Entry) (n : Node) (way : EdgeKind) (inst : InstKey) (back : ℕ) → Enters words A n way inst back → (offset : ℕ) × (n.key.sp ≡ Closed offset)
-closed_at words A n _ _ _ (by_call offset site clean form member) = (offset, form)
-closed_at words A n _ _ _ (by_interrupt offset v clears clean form i delay enabled allowed clearable) = (offset, form)
+closed_at : (task : Task) (n : Node) (way : EdgeKind) (inst : InstKey) (back : ℕ) → Enters task n way inst back → (offset : ℕ) × (n.key.sp ≡ Closed offset)
+closed_at task n _ _ _ (by_call offset site clean form member) = (offset, form)
+closed_at task n _ _ _ (by_interrupt offset v clears clean form i delay enabled allowed clearable) = (offset, form)
 
-module _ (words : Program) (A : List Entry) (n : ℕ) (f : Family) (solved : IsSolved words A n f) where
+module _ (task : Task) (n : ℕ) (f : Family) (solved : IsSolved task n f) where
   abbrev nodes : List Node
   nodes = nodes_of f
 
-  shown : AreShown (device_of words) nodes
-  shown = record { followed = has_pairs A; ascending = ascending f; all = formed_nodes f (formed words A n f solved) }
+  shown : AreShown (device_of task.flash) nodes
+  shown = record { followed = has_pairs task.assumptions; ascending = ascending f; all = formed_nodes f (formed task n f solved) }
 
   -- the root's node is among them
   root_has : (m : Node) × (FamilyHas f m × (m.key ≡ entry_key root_inst))
-  root_has = let l = comes_root words A n f solved.comes in (with_state (reset_node A) l.at, (l.is, refl))
+  root_has = let l = comes_root task n f solved.comes in (with_state (reset_node task.assumptions) l.at, (l.is, refl))
 
   some : 0 < length nodes
   some = let i = member_has f root_has.0 root_has.1.0 in omega (arith, i.1)
@@ -69,17 +69,17 @@ module _ (words : Program) (A : List Entry) (n : ℕ) (f : Family) (solved : IsS
   pub few : length nodes ≤ 65536
   few = omega (arith, length-map (entries f) node_of, len-entries f, solved.passes.fits.few_nodes)
 
-  faultless : (m : Node) → Contains nodes m → IsFaultless words A m
+  faultless : (m : Node) → Contains nodes m → IsFaultless task m
   faultless m i = solved.passes.faultless m (has_member f m i)
 
-  peopled : IsPeopled words A nodes
+  peopled : IsPeopled task nodes
   peopled m way into back i enters =
       let e : Edge = record { kind = way; to = entry_key into; state = entered m.state } in
       let l = solved.closed m e (has_member f m i) (entering way into back enters) in
       let x : Node = record { key = entry_key into; state = l.at } in
       (x, (member_has f x l.is, refl))
 
-  module _ (gs : List GraphInst) (is_graph : graph.IsGraph gs) (of : IsGraphOf words A nodes gs) where
+  module _ (gs : List GraphInst) (is_graph : graph.IsGraph gs) (of : IsGraphOf task nodes gs) where
     abbrev keys : List InstKey
     keys = insts_of gs
 
@@ -102,7 +102,7 @@ module _ (words : Program) (A : List Entry) (n : ℕ) (f : Family) (solved : IsS
 
     -- ---- entries
 
-    graph_entered : (i : ℕ) (e : Entered) → graph.EntersAlong gs i e → told.IsEntered words A f keys i e
+    graph_entered : (i : ℕ) (e : Entered) → graph.EntersAlong gs i e → told.IsEntered task f keys i e
     graph_entered i e h =
         let x = (of.entered i e).0 h in
         record {
@@ -121,13 +121,13 @@ module _ (words : Program) (A : List Entry) (n : ℕ) (f : Family) (solved : IsS
           };
         }
 
-    all_entered : (i j : InstKey) (offset : ℕ) → Entering words A f i j offset → told.HasEntryEdge keys gs i j offset
+    all_entered : (i j : InstKey) (offset : ℕ) → Entering task f i j offset → told.HasEntryEdge keys gs i j offset
     all_entered i j offset e =
         let member = member_has f e.node e.has in
         let from = numbered i (e.node, e.has, e.same) in
         let first = peopled e.node e.way j e.back member e.enters in
         let to = number_in j ((of.insts j).1 (first.0, first.1.0, ap (λ (k : NodeKey). k.inst) first.1.1)) in
-        let c = closed_at words A e.node e.way j e.back e.enters in
+        let c = closed_at task e.node e.way j e.back e.enters in
         let same : c.0 ≡ offset = sym (ap offset_of c.1) ∙ e.at in
         let edge : Entered = record { node = member.0; offset = offset; kind = e.way; into = to.0 } in
         record {
@@ -175,7 +175,7 @@ module _ (words : Program) (A : List Entry) (n : ℕ) (f : Family) (solved : IsS
     keyed : (i : ℕ) (g : GraphInst) (inst : InstKey) → slice_get gs i ≡ Some g → IsNumber keys i inst → g.key ≡ inst
     keyed i g inst e d = one_at keys i g.key inst (key_is gs i g e) d
 
-    pub graph_is : told.IsGraphOver words A f keys gs
+    pub graph_is : told.IsGraphOver task f keys gs
     graph_is = record {
       is_graph = is_graph;
       inside = omega (arith, keys_long gs);
@@ -191,19 +191,19 @@ module _ (words : Program) (A : List Entry) (n : ℕ) (f : Family) (solved : IsS
 
     acyclic : (at : ℕ) → IsNamed gs at → ⊥
     acyclic at named =
-        let inst = get_inside keys at (graphs_tell.named words A f keys gs at graph_is named) in
+        let inst = get_inside keys at (graphs_tell.named task f keys gs at graph_is named) in
         by inst.0 inst.1 inst.0.kind refl
       where
         recursive : (inst : InstKey) → IsNumber keys at inst → group_of inst.kind ≡ 1 → ⊥
-        recursive inst is one = let r = graphs_tell.recursion words A f keys gs at inst graph_is named is one in solved.passes.acyclic r.inst r.reaches
+        recursive inst is one = let r = graphs_tell.recursion task f keys gs at inst graph_is named is one in solved.passes.acyclic r.inst r.reaches
 
         by : (inst : InstKey) → IsNumber keys at inst → (kind : Kind) → inst.kind ≡ kind → ⊥
         by inst is Root e = recursive inst is (ap group_of e)
         by inst is Call e = recursive inst is (ap group_of e)
-        by inst is (Vector v) e = let r = graphs_tell.re_entry words A f keys gs at v inst graph_is named is e in solved.passes.acyclic r.inst r.reaches
+        by inst is (Vector v) e = let r = graphs_tell.re_entry task f keys gs at v inst graph_is named is e in solved.passes.acyclic r.inst r.reaches
 
 pub solved_families_are_shown : SolvedFamiliesAreShown
 solved_families_are_shown = record { shown = shown; some = some; few = few; faultless = faultless; peopled = peopled }
 
 pub graphs_are_acyclic : GraphsAreAcyclic
-graphs_are_acyclic words A n f gs at solved is_graph of named = acyclic words A n f solved gs is_graph of at named
+graphs_are_acyclic task n f gs at solved is_graph of named = acyclic task n f solved gs is_graph of at named

@@ -12,9 +12,8 @@ use Rattle.basics.specs.Lists.{get_inside, one_at}
 use Rattle.local_laws.proofs.AllLaws.{node_key}
 use Rattle.family_graph.proofs.Graphs.{keys_long}
 use Rattle.avr_model.specs.declared.device.Device.{Device}
-use Rattle.avr_model.specs.declared.assumption.Entry.{Entry}
 use Rattle.avr_model.specs.Assumptions.{has_pairs}
-use Rattle.avr_model.specs.Devices.{Program, device_of, size_of, depth_of}
+use Rattle.avr_model.specs.Devices.{device_of, size_of, depth_of}
 use Rattle.avr_model.specs.Vectors.{enable_count}
 use Rattle.avr_model.proofs.AllLaws.{devices_are_alike}
 use Rattle.abs_state.specs.declared.state.AbsState.{AbsState}
@@ -52,6 +51,7 @@ use Rattle.round_solutions.proofs.Filled.{filled, sparse}
 use Rattle.round_solutions.proofs.Graphs.{key_is, few, graph_is}
 use Rattle.round_solutions.proofs.Insts.{insts_fit}
 use Rattle.round_solutions.proofs.Ranks.{few_ranks, few_insts}
+use Rattle.local_rules.specs.Site.{Task}
 
 -- ---- instances with their ranks and needs
 
@@ -133,7 +133,7 @@ are_of true seeds = tt
 
 -- ---- the certificate
 
-module _ (words : Program) (A : List Entry) (n : ℕ) (f : Family) (insts : List Inst) (seeds : Seeds) (solved : IsSolved words A n f) (parts : AreCertificateParts words A f insts seeds) where
+module _ (task : Task) (n : ℕ) (f : Family) (insts : List Inst) (seeds : Seeds) (solved : IsSolved task n f) (parts : AreCertificateParts task f insts seeds) where
   abbrev gs : List GraphInst
   gs = parts.graph
 
@@ -149,39 +149,39 @@ module _ (words : Program) (A : List Entry) (n : ℕ) (f : Family) (insts : List
   need_is : (k : InstKey) → need_in insts k ≡ valued keys parts.needs k
   need_is k = needs_are gs parts.ranks parts.needs insts k parts.least.ranks_length parts.least.needs_length parts.insts_are
 
-  told : IsGraphOver words A f keys gs
-  told = graph_is words A n f solved gs parts.is_graph parts.of
+  told : IsGraphOver task f keys gs
+  told = graph_is task n f solved gs parts.is_graph parts.of
 
   -- ---- ranks and needs
 
-  ranks : AreRanks words A f (rank_in insts)
+  ranks : AreRanks task f (rank_in insts)
   ranks i j offset e =
-      let lt = graphs_tell.ranks words A f keys gs parts.ranks parts.needs told parts.least i j offset e in
+      let lt = graphs_tell.ranks task f keys gs parts.ranks parts.needs told parts.least i j offset e in
       omega (arith, lt, rank_is i, rank_is j)
 
-  least_ranks : (rank : InstKey → ℕ) → AreRanks words A f rank → (inst : InstKey) → rank_in insts inst ≤ rank inst
-  least_ranks rank are inst = let le = graphs_tell.least_ranks words A f keys gs parts.ranks parts.needs rank told parts.least are inst in omega (arith, le, rank_is inst)
+  least_ranks : (rank : InstKey → ℕ) → AreRanks task f rank → (inst : InstKey) → rank_in insts inst ≤ rank inst
+  least_ranks rank are inst = let le = graphs_tell.least_ranks task f keys gs parts.ranks parts.needs rank told parts.least are inst in omega (arith, le, rank_is inst)
 
-  valued_needs : AreNeeds words A f (valued keys parts.needs)
-  valued_needs = subst (λ (l : List ℕ). AreNeeds words A f (valued keys l)) (no_more parts.needs) (graphs_tell.needs words A f keys gs parts.ranks parts.needs 0 told parts.least)
+  valued_needs : AreNeeds task f (valued keys parts.needs)
+  valued_needs = subst (λ (l : List ℕ). AreNeeds task f (valued keys l)) (no_more parts.needs) (graphs_tell.needs task f keys gs parts.ranks parts.needs 0 told parts.least)
 
-  needs : AreNeeds words A f (need_in insts)
+  needs : AreNeeds task f (need_in insts)
   needs = record {
     offsets = λ m offset has form. let le = valued_needs.offsets m offset has form in omega (arith, le, need_is m.key.inst);
     entered = λ i j offset e. let le = valued_needs.entered i j offset e in omega (arith, le, need_is i, need_is j);
   }
 
-  least_needs : (need : InstKey → ℕ) → AreNeeds words A f need → (inst : InstKey) → need_in insts inst ≤ need inst
-  least_needs need are inst = let le = graphs_tell.least_needs words A f keys gs parts.ranks parts.needs need told parts.least are inst in omega (arith, le, need_is inst)
+  least_needs : (need : InstKey → ℕ) → AreNeeds task f need → (inst : InstKey) → need_in insts inst ≤ need inst
+  least_needs need are inst = let le = graphs_tell.least_needs task f keys gs parts.ranks parts.needs need told parts.least are inst in omega (arith, le, need_is inst)
 
-  root_need : IsRootNeed words A f (slice_index parts.needs 0)
-  root_need = graphs_tell.root words A f keys gs parts.ranks parts.needs told parts.least
+  root_need : IsRootNeed task f (slice_index parts.needs 0)
+  root_need = graphs_tell.root task f keys gs parts.ranks parts.needs told parts.least
 
-  pub bound_small : slice_index parts.needs 0 ≤ size_of (device_of words)
+  pub bound_small : slice_index parts.needs 0 ≤ size_of (device_of task.flash)
   bound_small = let s = solved.passes.shallow in let le = root_need.least s.need s.are in omega (arith, le, s.small)
 
-  bound_fits : slice_index parts.needs 0 ≤ depth_of (device_of words)
-  bound_fits = omega (arith, bound_small, devices_are_alike.in_depth (device_of words))
+  bound_fits : slice_index parts.needs 0 ≤ depth_of (device_of task.flash)
+  bound_fits = omega (arith, bound_small, devices_are_alike.in_depth (device_of task.flash))
 
   bound_is : slice_index parts.needs 0 ≡ need_in insts root_inst
   bound_is =
@@ -200,24 +200,24 @@ module _ (words : Program) (A : List Entry) (n : ℕ) (f : Family) (insts : List
   few_graph : length gs ≤ 65536
   few_graph =
       let le = few_insts (nodes_of f) (ascending f) keys parts.of.ascending (λ inst i. (parts.of.insts inst).0 i) in
-      omega (arith, le, keys_long gs, few words A n f solved)
+      omega (arith, le, keys_long gs, few task n f solved)
 
   inst_at : (i : ℕ) (x : Inst) → slice_get insts i ≡ Some x → (g : GraphInst) × ((slice_get gs i ≡ Some g) × (x ≡ inst_of g (slice_index parts.ranks i) (slice_index parts.needs i)))
   inst_at i x e =
       let g = get_inside gs i (omega (arith, slice_get_within insts i x e, parts.insts_are.count)) in
       (g.0, (g.1, one_at insts i x (inst_of g.0 (slice_index parts.ranks i) (slice_index parts.needs i)) e (parts.insts_are.each i g.0 g.1)))
 
-  is_inst : (i : ℕ) (x : Inst) → slice_get insts i ≡ Some x → IsInst (device_of words) x
+  is_inst : (i : ℕ) (x : Inst) → slice_get insts i ≡ Some x → IsInst (device_of task.flash) x
   is_inst i x e =
       let g = inst_at i x e in
       let lt = slice_get_within gs i g.0 g.1.0 in
       let is = key_is gs i g.0 g.1.0 in
       let has = (has_inst g.0.key).0 (subst (λ (l : List InstKey). Contains l g.0.key) (sym are_keys) (contained_at keys i g.0.key is)) in
-      let fit = fits_both (fits_kind (device_of words) g.0.key.kind g.0.key.entry g.0.key.masks g.0.key.i) g.0.key.masks (2 ^ enable_count (device_of words)) (insts_fit words A n f solved g.0.key has) in
+      let fit = fits_both (fits_kind (device_of task.flash) g.0.key.kind g.0.key.entry g.0.key.masks g.0.key.i) g.0.key.masks (2 ^ enable_count (device_of task.flash)) (insts_fit task n f solved g.0.key has) in
       let low = few_ranks gs parts.is_graph parts.ranks parts.needs parts.least i lt in
-      let under = rounds_are_least.under_root words A n f (valued keys parts.needs) solved.comes solved.passes.faultless valued_needs g.0.key has in
+      let under = rounds_are_least.under_root task n f (valued keys parts.needs) solved.comes solved.passes.faultless valued_needs g.0.key has in
       let at = valued_at keys parts.needs i g.0.key told.once (omega (arith, lt, parts.least.needs_length)) is in
-      subst (IsInst (device_of words)) (sym g.1.1)
+      subst (IsInst (device_of task.flash)) (sym g.1.1)
       (record {
         kind = fit.0;
         masks = fit.1;
@@ -227,22 +227,22 @@ module _ (words : Program) (A : List Entry) (n : ℕ) (f : Family) (insts : List
 
   -- ---- nodes
 
-  filled_nodes : IsFilled words A seeds (nodes_of f)
-  filled_nodes = filled words A n f solved seeds parts.forms
+  filled_nodes : IsFilled task seeds (nodes_of f)
+  filled_nodes = filled task n f solved seeds parts.forms
 
   are_node_keys : node_keys seeds ≡ map key_of (nodes_of f)
-  are_node_keys = sym (filled_or_missing.keys words A seeds (nodes_of f) filled_nodes)
+  are_node_keys = sym (filled_or_missing.keys task seeds (nodes_of f) filled_nodes)
 
-  form_fits : (at : ℕ) (m : Node) (form : NodeForm) → IsNodeIn (device_of words) (has_pairs A) m.key m.state → IsForm words A (nodes_of f) at m form → FitsAt (device_of words) (has_pairs A) at m.key form
-  form_fits at m (State s) node h = subst (IsNodeIn (device_of words) (has_pairs A) m.key) (sym h.0) node
+  form_fits : (at : ℕ) (m : Node) (form : NodeForm) → IsNodeIn (device_of task.flash) (has_pairs task.assumptions) m.key m.state → IsForm task (nodes_of f) at m form → FitsAt (device_of task.flash) (has_pairs task.assumptions) at m.key form
+  form_fits at m (State s) node h = subst (IsNodeIn (device_of task.flash) (has_pairs task.assumptions) m.key) (sym h.0) node
   form_fits at m (From j) node h = (node_key m.key m.state node, h.0)
 
-  fits_at : (at : ℕ) (e : NodeKey × NodeForm) → slice_get seeds at ≡ Some e → FitsAt (device_of words) (has_pairs A) at e.0 e.1
+  fits_at : (at : ℕ) (e : NodeKey × NodeForm) → slice_get seeds at ≡ Some e → FitsAt (device_of task.flash) (has_pairs task.assumptions) at e.0 e.1
   fits_at at e is =
       let m = get_inside (nodes_of f) at (omega (arith, slice_get_within seeds at e is, parts.forms.count)) in
       let h = parts.forms.each at m.0 m.1 in
-      let node = formed words A n f solved m.0 (has_member f m.0 (contained_at (nodes_of f) at m.0 m.1)) in
-      subst (λ (x : NodeKey × NodeForm). FitsAt (device_of words) (has_pairs A) at x.0 x.1) (one_at seeds at (m.0.key, h.0) e h.1.0 is) (form_fits at m.0 h.0 node h.1.1)
+      let node = formed task n f solved m.0 (has_member f m.0 (contained_at (nodes_of f) at m.0 m.1)) in
+      subst (λ (x : NodeKey × NodeForm). FitsAt (device_of task.flash) (has_pairs task.assumptions) at x.0 x.1) (one_at seeds at (m.0.key, h.0) e h.1.0 is) (form_fits at m.0 h.0 node h.1.1)
 
   belongs : (i : ℕ) (k : NodeKey) → slice_get (map key_of (nodes_of f)) i ≡ Some k → Belongs insts k
   belongs i k e =
@@ -250,30 +250,30 @@ module _ (words : Program) (A : List Entry) (n : ℕ) (f : Family) (insts : List
       let same = one_at (map key_of (nodes_of f)) i m.0.key k (key_at (nodes_of f) i m.0 m.1) e in
       (has_inst k.inst).1 (m.0, has_member f m.0 (contained_at (nodes_of f) i m.0 m.1), ap (λ (q : NodeKey). q.inst) same)
 
-  pub claim : AreEntries A → All (λ e. fits_device (device_of words) e ≡ true) A → IsClaim (claim_of (device_of words) (slice_index parts.needs 0) A insts seeds)
+  pub claim : AreEntries task.assumptions → All (λ e. fits_device (device_of task.flash) e ≡ true) task.assumptions → IsClaim (claim_of (device_of task.flash) (slice_index parts.needs 0) task.assumptions insts seeds)
   claim entries_fit entries_of_device = record {
     bound_fits = bound_fits;
     entries_fit = entries_fit;
     entries_of_device = entries_of_device;
-    insts_fit = all_of (IsInst (device_of words)) insts is_inst;
+    insts_fit = all_of (IsInst (device_of task.flash)) insts is_inst;
     insts_ascend = subst (IsStrictlySortedBy inst_cmp) (sym are_keys) parts.of.ascending;
     few_insts = omega (arith, few_graph, parts.insts_are.count);
-    nodes_fit = from_all (device_of words) (has_pairs A) seeds 0 (λ i e is. let at : i ≡ 0 + i = omega arith in subst (λ (j : ℕ). FitsAt (device_of words) (has_pairs A) j e.0 e.1) at (fits_at i e is));
+    nodes_fit = from_all (device_of task.flash) (has_pairs task.assumptions) seeds 0 (λ i e is. let at : i ≡ 0 + i = omega arith in subst (λ (j : ℕ). FitsAt (device_of task.flash) (has_pairs task.assumptions) j e.0 e.1) at (fits_at i e is));
     nodes_belong = subst (AllByRecursion (Belongs insts)) (sym are_node_keys) (all_of (Belongs insts) (map key_of (nodes_of f)) belongs);
     nodes_ascend = subst (IsStrictlySortedBy node_cmp) (sym are_node_keys) (ascending f);
-    few_nodes = omega (arith, parts.forms.count, few words A n f solved);
+    few_nodes = omega (arith, parts.forms.count, few task n f solved);
     few_cells = subst (λ (l : List NodeKey). cells_of l ≤ 8388608) (sym (are_node_keys ∙ keys_of_nodes (entries f))) solved.passes.fits.few_cells;
-    of_version = are_of (has_pairs A) seeds;
-    of_list = written_third (has_pairs A);
-    of_device = λ says. written_later (has_pairs A);
+    of_version = are_of (has_pairs task.assumptions) seeds;
+    of_list = written_third (has_pairs task.assumptions);
+    of_device = λ says. written_later (has_pairs task.assumptions);
   }
 
-  pub solution : IsSolution words A f (claim_of (device_of words) (slice_index parts.needs 0) A insts seeds)
+  pub solution : IsSolution task f (claim_of (device_of task.flash) (slice_index parts.needs 0) task.assumptions insts seeds)
   solution = record {
     device = refl;
     version = refl;
     expands = filled_nodes;
-    sparse = sparse words A f seeds parts.forms;
+    sparse = sparse task f seeds parts.forms;
     instances = has_inst;
     ranks = ranks;
     least_ranks = least_ranks;
@@ -286,7 +286,7 @@ module _ (words : Program) (A : List Entry) (n : ℕ) (f : Family) (insts : List
 
 pub solutions_are_made : SolutionsAreMade
 solutions_are_made = record {
-  bound = λ words A n f insts seeds solved parts. bound_small words A n f insts seeds solved parts;
-  claim = λ words A n f insts seeds fit of solved parts. claim words A n f insts seeds solved parts fit of;
-  solution = λ words A n f insts seeds solved parts. solution words A n f insts seeds solved parts;
+  bound = λ task n f insts seeds solved parts. bound_small task n f insts seeds solved parts;
+  claim = λ task n f insts seeds fit of solved parts. claim task n f insts seeds solved parts fit of;
+  solution = λ task n f insts seeds solved parts. solution task n f insts seeds solved parts;
 }

@@ -2,7 +2,6 @@
 use Rattle.std.specs.Prelude.{ℕ, ◌≡◌, ◌<◌, List, length, None, Some, slice_get, slice_index}
 use Rattle.avr_model.specs.declared.device.Device.{Device}
 use Rattle.avr_model.specs.declared.assumption.Entry.{Entry}
-use Rattle.avr_model.specs.Devices.{Program}
 use Rattle.local_rules.specs.declared.local.Node.{Node}
 use Rattle.edge_rules.specs.declared.seeded.NodeForm.{NodeForm}
 use Rattle.edge_rules.specs.declared.seeded.NodeForm.TheVariants.{State, From}
@@ -16,22 +15,23 @@ use Rattle.certificate.specs.declared.instance.Inst.{Inst}
 use Rattle.certificate.specs.Claims.{Claim}
 use Rattle.round_rules.specs.Families.{Family, nodes_of}
 use Rattle.round_rules.specs.Sparse.{IsOnlyFrom}
+use Rattle.local_rules.specs.Site.{Task}
 
 -- ---- nodes
 
 -- The form of the node of this number: the number of an earlier node if its only edge is local and comes from there, else its state.
-abbrev pub IsForm : Program → List Entry → List Node → ℕ → Node → NodeForm → Type 0
-IsForm words A nodes at n (State s) = (s ≡ n.state) × ((m : ℕ) → m < at → IsOnlyFrom words A nodes n.key m → ⊥)
-IsForm words A nodes at n (From m) = (m < at) × IsOnlyFrom words A nodes n.key m
+abbrev pub IsForm : Task → List Node → ℕ → Node → NodeForm → Type 0
+IsForm task nodes at n (State s) = (s ≡ n.state) × ((m : ℕ) → m < at → IsOnlyFrom task nodes n.key m → ⊥)
+IsForm task nodes at n (From m) = (m < at) × IsOnlyFrom task nodes n.key m
 
 -- the node of this number has its key and its form here
-abbrev pub IsGivenAt : Program → List Entry → List Node → Seeds → ℕ → Node → Type 0
-IsGivenAt words A nodes seeds at n = (form : NodeForm) × ((slice_get seeds at ≡ Some (n.key, form)) × IsForm words A nodes at n form)
+abbrev pub IsGivenAt : Task → List Node → Seeds → ℕ → Node → Type 0
+IsGivenAt task nodes seeds at n = (form : NodeForm) × ((slice_get seeds at ≡ Some (n.key, form)) × IsForm task nodes at n form)
 
 -- these are the nodes with their forms
-pub record AreForms (words : Program) (A : List Entry) (nodes : List Node) (seeds : Seeds) : Type 0 where
+pub record AreForms (task : Task) (nodes : List Node) (seeds : Seeds) : Type 0 where
   pub count : length seeds ≡ length nodes
-  pub each : (at : ℕ) (n : Node) → slice_get nodes at ≡ Some n → IsGivenAt words A nodes seeds at n
+  pub each : (at : ℕ) (n : Node) → slice_get nodes at ≡ Some n → IsGivenAt task nodes seeds at n
 
 -- ---- instances
 
@@ -44,15 +44,15 @@ pub record AreInsts (gs : List GraphInst) (ranks needs : List ℕ) (insts : List
 -- ---- all
 
 -- the instances of a graph of the family, with least ranks and needs, and the family's nodes with their forms
-pub record AreCertificateParts (words : Program) (A : List Entry) (f : Family) (insts : List Inst) (seeds : Seeds) : Type 0 where
+pub record AreCertificateParts (task : Task) (f : Family) (insts : List Inst) (seeds : Seeds) : Type 0 where
   pub graph : List GraphInst
   pub ranks : List ℕ
   pub needs : List ℕ
   pub is_graph : IsGraph graph
-  pub of : IsGraphOf words A (nodes_of f) graph
+  pub of : IsGraphOf task (nodes_of f) graph
   pub least : IsLeast graph ranks needs
   pub insts_are : AreInsts graph ranks needs insts
-  pub forms : AreForms words A (nodes_of f) seeds
+  pub forms : AreForms task (nodes_of f) seeds
 
 -- the certificate of these parts for this device with this bound, without a schedule, in the version for the assumptions
 abbrev pub claim_of : Device → ℕ → List Entry → List Inst → Seeds → Claim

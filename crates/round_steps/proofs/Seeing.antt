@@ -5,8 +5,6 @@ use Rattle.std.proofs.lemmas.Bool.Decides.{nat_tests}
 use Rattle.std.specs.Prelude.{if◌then◌else◌, ◌||◌, ◌&&◌, ◌==◌, nat_lt}
 use Rattle.std.specs.FinMap.{get}
 use Rattle.basics.specs.Items.{none_in}
-use Rattle.avr_model.specs.declared.assumption.Entry.{Entry}
-use Rattle.avr_model.specs.Devices.{Program}
 use Rattle.abs_state.specs.declared.state.AbsState.{AbsState}
 use Rattle.mask_states.specs.declared.keys.NodeKey.{NodeKey}
 use Rattle.local_rules.specs.declared.local.NodeFault.{NodeFault}
@@ -19,6 +17,7 @@ use Rattle.round_rules.specs.Refusals.{IsFaultNoLater, word_of}
 use Rattle.round_steps.specs.declared.looking.Look.{Look}
 use Rattle.round_steps.specs.declared.looking.Seen.{Seen}
 use Rattle.round_steps.specs.Looks.{IsLook, AreSeen, IsFaultSeen, IsSeenBesides, IsWorst}
+use Rattle.local_rules.specs.Site.{Task}
 
 pub later_through : (x y z : NodeFault) → IsFaultNoLater x y → IsFaultNoLater y z → IsFaultNoLater x z
 later_through x y z (inl a) (inl b) = inl (omega (arith, a, b))
@@ -63,8 +62,8 @@ worst_lesser o x y r is e same = by (is_less y x) refl e
 some_state : (x y : AbsState) (o : Option AbsState) → o ≡ Some x → o ≡ Some y → x ≡ y
 some_state x y o a b = cc
 
-module _ (words : Program) (A : List Entry) (f : Family) where
-  pub seen_none : (seen : Seen) → seen.looks.items ≡ [] → seen.worst ≡ None → AreSeen words A f [] seen
+module _ (task : Task) (f : Family) where
+  pub seen_none : (seen : Seen) → seen.looks.items ≡ [] → seen.worst ≡ None → AreSeen task f [] seen
   seen_none seen looks worst = record {
     looks = λ x i. absurd (none_in x (subst (λ (l : List Look). Contains l x) looks i));
     each = λ k s i has. absurd (none_in k i);
@@ -72,26 +71,26 @@ module _ (words : Program) (A : List Entry) (f : Family) where
   }
 
   -- the family has no such node
-  pub seen_nothing : (keys : List NodeKey) (k : NodeKey) (seen : Seen) → AreSeen words A f keys seen → get f k ≡ None → AreSeen words A f (keys ++ k ∷ []) seen
+  pub seen_nothing : (keys : List NodeKey) (k : NodeKey) (seen : Seen) → AreSeen task f keys seen → get f k ≡ None → AreSeen task f (keys ++ k ∷ []) seen
   seen_nothing keys k seen are none = record {
     looks = are.looks;
     each = λ q t i has. ⊎_elim (λ j. are.each q t j has) (λ e. let at = ap (get f) e in absurd (let never = sym none ∙ at ∙ has in cc)) (Contains-push_cases keys k q i);
     fault = are.fault;
   }
 
-  module _ (keys : List NodeKey) (k : NodeKey) (s : AbsState) (old new : Seen) (are : AreSeen words A f keys old) (has : get f k ≡ Some s) where
-    look_more : (x : Look) → x.key ≡ k → local words A k s ≡ Ok x.part → x.ways.items ≡ ways_of words A k x.part.calls → new.looks.items ≡ old.looks.items ++ x ∷ []
-        → new.worst ≡ old.worst → AreSeen words A f (keys ++ k ∷ []) new
+  module _ (keys : List NodeKey) (k : NodeKey) (s : AbsState) (old new : Seen) (are : AreSeen task f keys old) (has : get f k ≡ Some s) where
+    look_more : (x : Look) → x.key ≡ k → local task k s ≡ Ok x.part → x.ways.items ≡ ways_of task k x.part.calls → new.looks.items ≡ old.looks.items ++ x ∷ []
+        → new.worst ≡ old.worst → AreSeen task f (keys ++ k ∷ []) new
     look_more x key leads entered looks worst =
-        let this : IsLook words A f x = record {
+        let this : IsLook task f x = record {
           state = s;
           has = subst (λ (q : NodeKey). get f q ≡ Some s) (sym key) has;
-          leads = subst (λ (q : NodeKey). local words A q s ≡ Ok x.part) (sym key) leads;
-          entered = subst (λ (q : NodeKey). x.ways.items ≡ ways_of words A q x.part.calls) (sym key) entered;
+          leads = subst (λ (q : NodeKey). local task q s ≡ Ok x.part) (sym key) leads;
+          entered = subst (λ (q : NodeKey). x.ways.items ≡ ways_of task q x.part.calls) (sym key) entered;
         } in
         let member : (y : Look) → Contains (old.looks.items ++ x ∷ []) y → Contains new.looks.items y = λ y i. subst (λ (l : List Look). Contains l y) (sym looks) i in
         record {
-          looks = λ y i. ⊎_elim (are.looks y) (λ e. subst (IsLook words A f) e this)
+          looks = λ y i. ⊎_elim (are.looks y) (λ e. subst (IsLook task f) e this)
               (Contains-push_cases old.looks.items x y (subst (λ (l : List Look). Contains l y) looks i));
           each = λ q t i there. ⊎_elim
               (λ j. ⊎_elim
@@ -103,7 +102,7 @@ module _ (words : Program) (A : List Entry) (f : Family) where
           fault = λ y e. are.fault y (sym worst ∙ e);
         }
 
-    fault_more : (e : NodeFault) → local words A k s ≡ Err e → IsFaultSeen old e new → AreSeen words A f (keys ++ k ∷ []) new
+    fault_more : (e : NodeFault) → local task k s ≡ Err e → IsFaultSeen old e new → AreSeen task f (keys ++ k ∷ []) new
     fault_more e is b = record {
       looks = λ y i. are.looks y (subst (λ (l : List Look). Contains l y) b.looks i);
       each = λ q t i there. ⊎_elim
@@ -113,7 +112,7 @@ module _ (words : Program) (A : List Entry) (f : Family) where
           (are.each q t j there))
           (λ same. inr (record {
             fault = e;
-            is = ap (λ (z : NodeKey). local words A z t) (sym same) ∙ ap (local words A k) (some_state t s (get f k) (ap (get f) same ∙ there) has) ∙ is;
+            is = ap (λ (z : NodeKey). local task z t) (sym same) ∙ ap (local task k) (some_state t s (get f k) (ap (get f) same ∙ there) has) ∙ is;
             first = b.worst;
             found = b.is;
             no_later = b.of.later;
@@ -124,8 +123,8 @@ module _ (words : Program) (A : List Entry) (f : Family) where
           (λ before. are.fault y (before ∙ ap Some worst)) b.of.either;
     }
 
-    pub seen_more : (found : Result Look NodeFault) → IfOk found (λ x. x.key ≡ k) → IfOk found (λ x. local words A k s ≡ Ok x.part)
-        → IfOk found (λ x. x.ways.items ≡ ways_of words A k x.part.calls) → IfErr found (λ e. e ≢ Memory → local words A k s ≡ Err e) → IsSeenBesides found old new
-        → AreSeen words A f (keys ++ k ∷ []) new
+    pub seen_more : (found : Result Look NodeFault) → IfOk found (λ x. x.key ≡ k) → IfOk found (λ x. local task k s ≡ Ok x.part)
+        → IfOk found (λ x. x.ways.items ≡ ways_of task k x.part.calls) → IfErr found (λ e. e ≢ Memory → local task k s ≡ Err e) → IsSeenBesides found old new
+        → AreSeen task f (keys ++ k ∷ []) new
     seen_more (Ok x) key leads entered fault b = look_more x key leads entered b.0 b.1
     seen_more (Err e) key leads entered fault b = fault_more e (fault b.real) b

@@ -1,8 +1,6 @@
 -- A look is a visit of a node of the family: it finds its successors or its fault.
-use Rattle.std.specs.Prelude.{ℕ, ◌≡◌, ◌≢◌, ◌⊎◌, List, [], ◌∷◌, ◌++◌, Option, Some, Result, Ok, Err, Contains}
+use Rattle.std.specs.Prelude.{◌≡◌, ◌≢◌, ◌⊎◌, List, [], ◌∷◌, ◌++◌, Option, Some, Result, Ok, Err, Contains}
 use Rattle.std.specs.FinMap.{get}
-use Rattle.avr_model.specs.declared.assumption.Entry.{Entry}
-use Rattle.avr_model.specs.Devices.{Program}
 use Rattle.abs_state.specs.declared.state.AbsState.{AbsState}
 use Rattle.mask_states.specs.declared.keys.NodeKey.{NodeKey}
 use Rattle.local_rules.specs.declared.local.NodeFault.{NodeFault}
@@ -13,13 +11,14 @@ use Rattle.round_rules.specs.Families.{Family}
 use Rattle.round_rules.specs.Refusals.{FaultAt, IsFaultNoLater}
 use Rattle.round_steps.specs.declared.looking.Look.{Look}
 use Rattle.round_steps.specs.declared.looking.Seen.{Seen}
+use Rattle.local_rules.specs.Site.{Task}
 
 -- the look is at a node of the family, and has its successors
-pub record IsLook (words : Program) (A : List Entry) (f : Family) (x : Look) : Type 0 where
+pub record IsLook (task : Task) (f : Family) (x : Look) : Type 0 where
   pub state : AbsState
   pub has : get f x.key ≡ Some state
-  pub leads : local words A x.key state ≡ Ok x.part
-  pub entered : x.ways.items ≡ ways_of words A x.key x.part.calls
+  pub leads : local task x.key state ≡ Ok x.part
+  pub entered : x.ways.items ≡ ways_of task x.key x.part.calls
 
 -- one of the looks is at this node
 pub record HasLook (xs : List Look) (k : NodeKey) : Type 0 where
@@ -28,18 +27,18 @@ pub record HasLook (xs : List Look) (k : NodeKey) : Type 0 where
   pub at : look.key ≡ k
 
 -- the node has a fault, and the worst fault is at least as bad
-pub record HasFault (words : Program) (A : List Entry) (worst : Option NodeFault) (k : NodeKey) (s : AbsState) : Type 0 where
+pub record HasFault (task : Task) (worst : Option NodeFault) (k : NodeKey) (s : AbsState) : Type 0 where
   pub fault : NodeFault
-  pub is : local words A k s ≡ Err fault
+  pub is : local task k s ≡ Err fault
   pub first : NodeFault
   pub found : worst ≡ Some first
   pub no_later : IsFaultNoLater first fault
 
 -- each of these nodes of the family was visited or has a fault, and the worst fault is the least of theirs
-pub record AreSeen (words : Program) (A : List Entry) (f : Family) (keys : List NodeKey) (seen : Seen) : Type 0 where
-  pub looks : (x : Look) → Contains seen.looks.items x → IsLook words A f x
-  pub each : (k : NodeKey) (s : AbsState) → Contains keys k → get f k ≡ Some s → HasLook seen.looks.items k ⊎ HasFault words A seen.worst k s
-  pub fault : (x : NodeFault) → seen.worst ≡ Some x → FaultAt words A f x
+pub record AreSeen (task : Task) (f : Family) (keys : List NodeKey) (seen : Seen) : Type 0 where
+  pub looks : (x : Look) → Contains seen.looks.items x → IsLook task f x
+  pub each : (k : NodeKey) (s : AbsState) → Contains keys k → get f k ≡ Some s → HasLook seen.looks.items k ⊎ HasFault task seen.worst k s
+  pub fault : (x : NodeFault) → seen.worst ≡ Some x → FaultAt task f x
 
 -- ---- one more
 

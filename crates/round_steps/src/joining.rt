@@ -7,6 +7,7 @@ ghost use Rattle.round_rules.specs.Families.{AreFormed, cells};
 ghost use Rattle.round_laws.specs.Steps.{raised, raised_all, HaveOwnKeys, weight};
 ghost use Rattle.round_steps.specs.Gathers.{IsOwn};
 ghost use Rattle.round_steps.specs.Joins.{keys_of, AreNew, FitTogether, KeptBut};
+ghost use Rattle.call_graph.specs.Clauses.{Grows};
 
 use local_rules::Node;
 use mask_states::NodeKey;
@@ -25,7 +26,7 @@ fn join_one(
     requires node { IsOwn node.key node.state }
     ensures joined { OnOk result (table.new ≡ raised table.old node) }
     ensures count { OnOk result (counted.new ≡ cells table.new) }
-    ensures key { OnOk result (changed.new.items ≡ changed.old.items ++ node.key ∷ []) }
+    ensures key { Grows result changed.old.items changed.new.items (node.key ∷ []) }
 {
     changed.push(node.key)?;
     let offset = node.key.offset();

@@ -11,6 +11,7 @@ ghost use Rattle.call_graph.specs.Ways.{ways_of};
 ghost use Rattle.round_rules.specs.Families.{AreFormed};
 ghost use Rattle.round_rules.specs.Refusals.{word_of};
 ghost use Rattle.round_steps.specs.Looks.{IsWorst, IsSeenBesides, AreSeen};
+ghost use Rattle.call_graph.specs.Tasks.{task_of};
 
 use abs_state::AbsState;
 use abs_step::local;
@@ -45,9 +46,9 @@ pub struct Seen {
 fn found_at(task: &Task<'_>, key: &NodeKey, state: &AbsState) -> Result<Look, NodeFault>
     requires { IsNodeIn (device_of task.now.flash.now) (has_pairs task.now.assumptions.now) key.now state.now }
     ensures key { IfOk result (λ x. x.key ≡ key.now) }
-    ensures part { IfOk result (λ x. rows.local task.now.flash.now task.now.assumptions.now key.now state.now ≡ Ok x.part) }
-    ensures ways { IfOk result (λ x. x.ways.items ≡ ways_of task.now.flash.now task.now.assumptions.now key.now x.part.calls) }
-    ensures fault { IfErr result (λ e. e ≢ Memory → rows.local task.now.flash.now task.now.assumptions.now key.now state.now ≡ Err e) }
+    ensures part { IfOk result (λ x. rows.local (task_of task.now) key.now state.now ≡ Ok x.part) }
+    ensures ways { IfOk result (λ x. x.ways.items ≡ ways_of (task_of task.now) key.now x.part.calls) }
+    ensures fault { IfErr result (λ e. e ≢ Memory → rows.local (task_of task.now) key.now state.now ≡ Err e) }
 {
     let part = local(task.alloc, task.flash, task.assumptions, key, state)?;
     let ways = ways(task, key, part.calls.as_slice())?;
@@ -110,7 +111,7 @@ fn see(seen: &mut Seen, found: Result<Look, NodeFault>) -> Result<(), AllocError
 // Visits one more node, if the family has it.
 fn look_at(seen: &mut Seen, task: &Task<'_>, table: &Table, key: &NodeKey) -> Result<(), AllocError>
     requires { AreFormed (device_of task.now.flash.now) (has_pairs task.now.assumptions.now) table.now }
-    ensures { (keys : List key_type.NodeKey) → AreSeen task.now.flash.now task.now.assumptions.now table.now keys seen.old → OnOk result (AreSeen task.now.flash.now task.now.assumptions.now table.now (keys ++ key.now ∷ []) seen.new) }
+    ensures { (keys : List key_type.NodeKey) → AreSeen (task_of task.now) table.now keys seen.old → OnOk result (AreSeen (task_of task.now) table.now (keys ++ key.now ∷ []) seen.new) }
 {
     let Some(state) = table.get(key) else {
         return Ok(());
@@ -122,7 +123,7 @@ fn look_at(seen: &mut Seen, task: &Task<'_>, table: &Table, key: &NodeKey) -> Re
 /// Visits these nodes of a family: their results, or the fault that counts.
 pub fn look_all(task: &Task<'_>, table: &Table, keys: &[NodeKey]) -> Result<Seen, AllocError>
     requires { AreFormed (device_of task.now.flash.now) (has_pairs task.now.assumptions.now) table.now }
-    ensures { IfOk result (λ seen. AreSeen task.now.flash.now task.now.assumptions.now table.now keys.now seen) }
+    ensures { IfOk result (λ seen. AreSeen (task_of task.now) table.now keys.now seen) }
 {
     let mut seen = Seen {
         looks: Vec::new(task.alloc),

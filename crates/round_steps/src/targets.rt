@@ -8,6 +8,9 @@ ghost use Rattle.local_rules.specs.declared.local.Node as node_type;
 ghost use Rattle.local_laws.specs.Laws.{AreNodesIn};
 ghost use Rattle.round_steps.specs.Targets.{entry_node, returned_to, back_at, backs_in, all_backs, onward_at, onwards_if, crossings_of, targets_of, all_targets};
 ghost use Rattle.round_steps.specs.Gathers.{IsOwn, AreOwn, AreOwnNodes, IsTargetGathered, AreTargetsGathered, AreBeyond};
+ghost use Rattle.call_graph.specs.Clauses.{Grows};
+ghost use Rattle.call_graph.specs.Callers.{caller_node};
+ghost use Rattle.call_graph.specs.Next.{node_of};
 
 use crate::looking::Look;
 use crate::noting::Notes;
@@ -42,7 +45,7 @@ fn add_entries(
     state: &AbsState,
     ways: &[Way],
 ) -> Result<(), AllocError>
-    ensures { OnOk result (targets.new.items ≡ targets.old.items ++ map (entry_node state.now) ways.now) }
+    ensures { Grows result targets.old.items targets.new.items (map (entry_node state.now) ways.now) }
 {
     for at in 0..ways.len() {
         let state = state.entered(alloc)?;
@@ -63,7 +66,7 @@ fn add_return(
     leaving: &AbsState,
 ) -> Result<(), AllocError>
     requires { (r : ℕ) → r < 32 → NamesRegister (value_at leaving.now.registers r).tag }
-    ensures { OnOk result (targets.new.items ≡ targets.old.items ++ returned_to caller.now.key.now caller.now.state.now caller.now.way exit.now leaving.now) }
+    ensures { Grows result targets.old.items targets.new.items (returned_to (caller_node caller.now) caller.now.way exit.now leaving.now) }
 {
     let Some(node) = returned(alloc, caller, exit, leaving)? else {
         return Ok(());
@@ -81,7 +84,7 @@ fn add_back(
     leaver: &Crossing,
 ) -> Result<(), AllocError>
     requires { AreOwn family.now.table.now }
-    ensures { OnOk result (targets.new.items ≡ targets.old.items ++ back_at family.now.table.now caller.now.key.now caller.now.state.now caller.now.way leaver.now) }
+    ensures { Grows result targets.old.items targets.new.items (back_at family.now.table.now (caller_node caller.now) caller.now.way leaver.now) }
 {
     let Some(leaving) = family.table.get(&leaver.node) else {
         return Ok(());
@@ -95,7 +98,7 @@ fn add_backs(
     caller: &Caller<'_>,
 ) -> Result<(), AllocError>
     requires { AreOwn family.now.table.now }
-    ensures { OnOk result (targets.new.items ≡ targets.old.items ++ backs_in family.now.table.now family.now.notes.now.leavers caller.now.key.now caller.now.state.now caller.now.way) }
+    ensures { Grows result targets.old.items targets.new.items (backs_in family.now.table.now family.now.notes.now.leavers (caller_node caller.now) caller.now.way) }
 {
     let Some(list) = family.notes.leavers.at(&caller.way.inst) else {
         return Ok(());
@@ -114,7 +117,7 @@ fn add_all_backs(
     ways: &[Way],
 ) -> Result<(), AllocError>
     requires { AreOwn family.now.table.now }
-    ensures { OnOk result (targets.new.items ≡ targets.old.items ++ all_backs family.now.table.now family.now.notes.now.leavers key.now state.now ways.now) }
+    ensures { Grows result targets.old.items targets.new.items (all_backs family.now.table.now family.now.notes.now.leavers (node_of key.now state.now) ways.now) }
 {
     for at in 0..ways.len() {
         let way = ways[at];
@@ -132,7 +135,7 @@ fn add_onward(
     entering: &Crossing,
 ) -> Result<(), AllocError>
     requires { (r : ℕ) → r < 32 → NamesRegister (value_at leaver.now.state.now.registers r).tag }
-    ensures { OnOk result (targets.new.items ≡ targets.old.items ++ onward_at family.now.table.now leaver.now.inst.now leaver.now.state.now leaver.now.exit entering.now) }
+    ensures { Grows result targets.old.items targets.new.items (onward_at family.now.table.now leaver.now.inst.now leaver.now.state.now leaver.now.exit entering.now) }
 {
     let key = &entering.node;
     let Some(state) = family.table.get(key) else {
@@ -155,7 +158,7 @@ fn add_onwards(
     exit: Option<Exit>,
 ) -> Result<(), AllocError>
     requires { (r : ℕ) → r < 32 → NamesRegister (value_at state.now.registers r).tag }
-    ensures { OnOk result (targets.new.items ≡ targets.old.items ++ onwards_if family.now.table.now family.now.notes.now.callers inst.now state.now exit) }
+    ensures { Grows result targets.old.items targets.new.items (onwards_if family.now.table.now family.now.notes.now.callers inst.now state.now exit) }
 {
     let Some(exit) = exit else {
         return Ok(());
@@ -181,7 +184,7 @@ fn add_crossings(
 ) -> Result<(), AllocError>
     requires own { AreOwn family.now.table.now }
     requires named { (r : ℕ) → r < 32 → NamesRegister (value_at state.now.registers r).tag }
-    ensures { OnOk result (targets.new.items ≡ targets.old.items ++ crossings_of family.now.table.now family.now.notes.now x.now state.now) }
+    ensures { Grows result targets.old.items targets.new.items (crossings_of family.now.table.now family.now.notes.now x.now state.now) }
 {
     add_entries(targets, family.alloc, state, &x.ways)?;
     add_all_backs(targets, family, &x.key, state, &x.ways)?;
@@ -191,7 +194,7 @@ fn add_crossings(
 // `drop` releases the look: a call is one step of the proof, whatever it owns.
 fn add_targets(targets: &mut Vec<Node>, family: &Family<'_>, x: Look) -> Result<(), AllocError>
     requires { AreOwn family.now.table.now }
-    ensures { OnOk result (targets.new.items ≡ targets.old.items ++ targets_of family.now.table.now family.now.notes.now x) }
+    ensures { Grows result targets.old.items targets.new.items (targets_of family.now.table.now family.now.notes.now x) }
 {
     let Some(state) = family.table.get(&x.key) else {
         drop(x);

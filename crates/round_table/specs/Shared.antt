@@ -9,10 +9,15 @@ use Rattle.mask_states.specs.Order.{same_node}
 use Rattle.state_pool.specs.Uses.{Uses}
 use Rattle.state_pool.specs.Counts.{state_at, count_at, share}
 use Rattle.round_table.specs.Sized.{AreStatesSized}
+use Rattle.abs_state.specs.Order.{state_join}
 
 -- a node's key with its state
 abbrev pub with_state : Uses → NodeKey × ℕ → NodeKey × AbsState
 with_state pool e = (e.0, state_at pool e.1)
+
+-- the join of the state of this number and another
+abbrev pub joined_at : Uses → ℕ → AbsState → AbsState
+joined_at pool number other = state_join (state_at pool number) other
 
 -- keys with their states
 abbrev pub stated : Uses → List (NodeKey × ℕ) → List (NodeKey × AbsState)

@@ -7,12 +7,11 @@ ghost use Rattle.abs_state.specs.declared.state.AbsState as abs_state;
 ghost use Rattle.std.specs.Prelude.{map as list_map};
 ghost use Rattle.std.specs.Option.{option_copied};
 ghost use Rattle.std.specs.FinMap.{get, empty, len};
-ghost use Rattle.abs_state.specs.Order.{state_join};
 ghost use Rattle.mask_states.specs.Keys.{offset_of};
 ghost use Rattle.state_pool.specs.Uses.{AreBelow};
 ghost use Rattle.state_pool.specs.Counts.{state_at, count_at, IsUsedLess};
 ghost use Rattle.round_table.specs.Families.{Lands, raised, nodes_of, node_of};
-ghost use Rattle.round_table.specs.Shared.{stated, AreCounted, IsMoved};
+ghost use Rattle.round_table.specs.Shared.{stated, AreCounted, IsMoved, joined_at};
 
 use abs_state::AbsState;
 use indexmap::IndexMap;
@@ -127,7 +126,7 @@ impl Table {
 
     /// The keys of all nodes, in order of insertion.
     pub fn keys(&self, alloc: Global) -> Result<Vec<NodeKey>, AllocError>
-        ensures { IfOk result (λ all. (k : node_key.NodeKey) (s : abs_state.AbsState) → get self.now k ≡ Some s → Contains all.items k) }
+        ensures { IfOk result (λ all. (k : _) (s : _) → get self.now k ≡ Some s → Contains all.items k) }
     {
         keys_in(&self.map, alloc)
     }
@@ -155,8 +154,8 @@ fn joined(
     requires counts { AreBelow 4294967295 pool.old }
     requires there { 0 < count_at pool.old number }
     requires slots { length (state_at pool.old number).slots ≡ length other.now.slots }
-    ensures moved { IfOk result (λ r. IsMoved pool.old number (state_join (state_at pool.old number) other.now) r.0 pool.new) }
-    ensures grew { IfOk result (λ r. IsTrue r.1 ↔ (state_join (state_at pool.old number) other.now ≢ state_at pool.old number)) }
+    ensures moved { IfOk result (λ r. IsMoved pool.old number (joined_at pool.old number other.now) r.0 pool.new) }
+    ensures grew { IfOk result (λ r. IsTrue r.1 ↔ (joined_at pool.old number other.now ≢ state_at pool.old number)) }
     ensures slots { IfOk result (λ r. length (state_at pool.new r.0).slots ≡ length other.now.slots) }
     ensures err { OnErr result (pool.new ≡ pool.old) }
 {

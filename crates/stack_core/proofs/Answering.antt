@@ -37,6 +37,7 @@ use Rattle.stack_core.specs.declared.reply.Reply.{Reply as Answered}
 use Rattle.command_files.specs.Reading.{seen_under, seen_whole, AreBytes}
 use Rattle.command_files.proofs.AllLaws.{whole_reply}
 use Rattle.stack_core.specs.Answer.{IsAnswered, IsReplyWritten, IsReadFault, IsSettledAnswer, IsOutcome, IsCutOff}
+use Rattle.local_rules.specs.Site.{Task, task_with, bare}
 
 -- ---- no reply has a status that isn't the reply's
 
@@ -119,17 +120,17 @@ attained_apart : (next : Reply) (attained : Bool) → IsPlainApart next → IsPl
 attained_apart next true f s t h = f s t h
 attained_apart next false f s t h = at exit.Rejected s rejected_plain h.0
 
-witness_apart : (words : Program) (A : List Entry) (next : Reply) (bound : ℕ) (w : Option Plan) → IsPlainApart next → IsPlainApart (WitnessReply words A next bound w)
-witness_apart words A next bound None f s t h = f s t h
-witness_apart words A next bound (Some plan) f s t h = attained_apart next (attains bound (replay_of words A plan)) f s t h
+witness_apart : (task : Task) (next : Reply) (bound : ℕ) (w : Option Plan) → IsPlainApart next → IsPlainApart (WitnessReply task next bound w)
+witness_apart task next bound None f s t h = f s t h
+witness_apart task next bound (Some plan) f s t h = attained_apart next (attains bound (replay_of task.flash task.assumptions plan)) f s t h
 
-verdict_apart : (words : Program) (A : List Entry) (next : Claim → Reply) (c : Claim) (v : Judgement ℕ) → IsPlainApart (next c) → IsPlainApart (VerdictReply words A next c v)
-verdict_apart words A next c (Rejected reason) f s t h = at exit.Rejected s rejected_plain h.0
-verdict_apart words A next c (Accepted bound) f s t h = witness_apart words A (next c) bound c.witness f s t h
+verdict_apart : (task : Task) (next : Claim → Reply) (c : Claim) (v : Judgement ℕ) → IsPlainApart (next c) → IsPlainApart (VerdictReply task next c v)
+verdict_apart task next c (Rejected reason) f s t h = at exit.Rejected s rejected_plain h.0
+verdict_apart task next c (Accepted bound) f s t h = witness_apart task (next c) bound c.witness f s t h
 
-certificate_apart : (words : Program) (A : List Entry) (next : Claim → Reply) (x : Result Claim CertFault) → ((c : Claim) → IsPlainApart (next c)) → IsPlainApart (CertificateReply words A next x)
-certificate_apart words A next (Err fault) f s t h = refuses_apart exit.BadCertificate certificate_plain (certificate_refused fault) s t h
-certificate_apart words A next (Ok c) f s t h = verdict_apart words A next c h.verdict (f c) s t h.reply
+certificate_apart : (task : Task) (next : Claim → Reply) (x : Result Claim CertFault) → ((c : Claim) → IsPlainApart (next c)) → IsPlainApart (CertificateReply task next x)
+certificate_apart task next (Err fault) f s t h = refuses_apart exit.BadCertificate certificate_plain (certificate_refused fault) s t h
+certificate_apart task next (Ok c) f s t h = verdict_apart task next c h.verdict (f c) s t h.reply
 
 accepted_apart : (text : Claim → List ℕ) (c : Claim) → IsPlainApart (Says exit.Done (text c))
 accepted_apart text c s t h = at exit.Done s done_plain h.0
@@ -138,9 +139,9 @@ clear_apart : (words : Program) (c : Claim) (v : ClearVerdict) → IsPlainApart 
 clear_apart words c clear.Clear s t h = at exit.Done s done_plain h.0
 clear_apart words c (clear.Unclear node pc) s t h = at exit.Unclear s unclear_plain h.0
 
-simulate_apart : (words : Program) (A : List Entry) (steps : ℕ) (x : Result Setup DevicesFault) → IsPlainApart (SimulateReply words A steps x)
-simulate_apart words A steps (Err fault) s t h = refuses_apart exit.BadDevices devices_plain (devices_refused fault) s t h
-simulate_apart words A steps (Ok setup) s t h = at exit.Done s done_plain h.0
+simulate_apart : (task : Task) (steps : ℕ) (x : Result Setup DevicesFault) → IsPlainApart (SimulateReply task steps x)
+simulate_apart task steps (Err fault) s t h = refuses_apart exit.BadDevices devices_plain (devices_refused fault) s t h
+simulate_apart task steps (Ok setup) s t h = at exit.Done s done_plain h.0
 
 why_not_plain : (r : Refusal) → IsReplyPlain (why_not_status r)
 why_not_plain (refusal.Misfit at) = refused_plain
@@ -151,16 +152,16 @@ why_not_plain (refusal.TooLarge limit) = refused_plain
 why_not_plain (refusal.Spent n) = spent_plain
 why_not_plain refusal.Memory = refused_plain
 
-why_not_apart : (words : Program) (A : List Entry) (steps : Option ℕ) → IsPlainApart (WhyNotReply words A steps)
-why_not_apart words A steps s t h = refuses_apart (why_not_status h.refusal) (why_not_plain h.refusal) (why_not_text words h.refusal) s t h.says
+why_not_apart : (task : Task) (steps : Option ℕ) → IsPlainApart (WhyNotReply task steps)
+why_not_apart task steps s t h = refuses_apart (why_not_status h.refusal) (why_not_plain h.refusal) (why_not_text task.flash h.refusal) s t h.says
 
-analyse_apart : (words : Program) (A : List Entry) (steps : Option ℕ) → IsPlainApart (AnalyseReply words A steps)
-analyse_apart words A steps s t (inl h) = at exit.Done s done_plain h.says.0
-analyse_apart words A steps s t (inr h) = why_not_apart words A steps s t h
+analyse_apart : (task : Task) (steps : Option ℕ) → IsPlainApart (AnalyseReply task steps)
+analyse_apart task steps s t (inl h) = at exit.Done s done_plain h.says.0
+analyse_apart task steps s t (inr h) = why_not_apart task steps s t h
 
 demo_apart : (size : ℕ) → IsPlainApart (DemoReply size)
 demo_apart size s t (inl h) = at exit.Done s done_plain h.says.0
-demo_apart size s t (inr h) = why_not_apart (demo_program size) [] None s t h
+demo_apart size s t (inr h) = why_not_apart (bare (demo_program size)) None s t h
 
 run_apart : (x : Result Replayed ℕ) → IsPlainApart (RunReply x)
 run_apart (Err step) s t h = at exit.BadSchedule s schedule_plain h.0
@@ -170,31 +171,31 @@ ends_apart : (ls : List TextLine) (place : ℕ) (reply : Reply) → IsPlainApart
 ends_apart [] place reply f s t h = f s t h
 ends_apart (l ∷ ls) place reply f s t h = at exit.BadSchedule s schedule_plain h.0
 
-schedule_apart : (words : Program) (A : List Entry) (x : Result (Plan × Place) ℕ) → IsPlainApart (ScheduleReply words A x)
-schedule_apart words A (Err place) s t h = at exit.BadSchedule s schedule_plain h.0
-schedule_apart words A (Ok r) s t h = ends_apart r.1.rest r.1.at (RunReply (replay_of words A r.0)) (run_apart (replay_of words A r.0)) s t h
+schedule_apart : (task : Task) (x : Result (Plan × Place) ℕ) → IsPlainApart (ScheduleReply task x)
+schedule_apart task (Err place) s t h = at exit.BadSchedule s schedule_plain h.0
+schedule_apart task (Ok r) s t h = ends_apart r.1.rest r.1.at (RunReply (replay_of task.flash task.assumptions r.0)) (run_apart (replay_of task.flash task.assumptions r.0)) s t h
 
-flash_apart : (device : Device) (work : Work) (firmware bytes : List ℕ) (words : Program) (A : List Entry) → IsPlainApart (FlashReply device work firmware bytes words A)
-flash_apart device (Check k) firmware bytes words A = certificate_apart words A (AcceptedReply device (Check k) firmware words A) (certificate_in (device_of words) bytes) (accepted_apart (told_of device (Check k) firmware))
-flash_apart device (Analyse steps) firmware bytes words A = analyse_apart words A steps
-flash_apart device (Run k) firmware bytes words A = schedule_apart words A (schedule_in (device_of words) _)
-flash_apart device (Report k json) firmware bytes words A =
-    certificate_apart words A (AcceptedReply device (Report k json) firmware words A) (certificate_in (device_of words) bytes) (accepted_apart (told_of device (Report k json) firmware))
-flash_apart device (Explain k) firmware bytes words A =
-    certificate_apart words A (AcceptedReply device (Explain k) firmware words A) (certificate_in (device_of words) bytes) (λ c s t h. at exit.Done s done_plain h.says.0)
-flash_apart device (Clear k) firmware bytes words A = certificate_apart words [] (ClearReply words) (certificate_in (device_of words) bytes) (λ c s t h. clear_apart words c h.verdict s t h.says)
-flash_apart device (Premises k false) firmware bytes words A =
-    certificate_apart words A (AcceptedReply device (Premises k false) firmware words A) (certificate_in (device_of words) bytes) (λ c s t h. at exit.Done s done_plain h.says.0)
-flash_apart device (Premises k true) firmware bytes words A =
-    certificate_apart words A (AcceptedReply device (Premises k true) firmware words A) (certificate_in (device_of words) bytes) (λ c s t h. at exit.Done s done_plain h.says.0)
-flash_apart device (Attain k trials) firmware bytes words A =
-    certificate_apart words A (AcceptedReply device (Attain k trials) firmware words A) (certificate_in (device_of words) bytes) (λ c s t h. at exit.Done s done_plain h.says.0)
-flash_apart device (Simulate k steps) firmware bytes words A = simulate_apart words A steps (setup_in (device_of words) bytes)
+flash_apart : (device : Device) (work : Work) (firmware bytes : List ℕ) (task : Task) → IsPlainApart (FlashReply device work firmware bytes task)
+flash_apart device (Check k) firmware bytes task = certificate_apart task (AcceptedReply device (Check k) firmware task) (certificate_in (device_of task.flash) bytes) (accepted_apart (told_of device (Check k) firmware))
+flash_apart device (Analyse steps) firmware bytes task = analyse_apart task steps
+flash_apart device (Run k) firmware bytes task = schedule_apart task (schedule_in (device_of task.flash) _)
+flash_apart device (Report k json) firmware bytes task =
+    certificate_apart task (AcceptedReply device (Report k json) firmware task) (certificate_in (device_of task.flash) bytes) (accepted_apart (told_of device (Report k json) firmware))
+flash_apart device (Explain k) firmware bytes task =
+    certificate_apart task (AcceptedReply device (Explain k) firmware task) (certificate_in (device_of task.flash) bytes) (λ c s t h. at exit.Done s done_plain h.says.0)
+flash_apart device (Clear k) firmware bytes task = certificate_apart (bare task.flash) (ClearReply task.flash) (certificate_in (device_of task.flash) bytes) (λ c s t h. clear_apart task.flash c h.verdict s t h.says)
+flash_apart device (Premises k false) firmware bytes task =
+    certificate_apart task (AcceptedReply device (Premises k false) firmware task) (certificate_in (device_of task.flash) bytes) (λ c s t h. at exit.Done s done_plain h.says.0)
+flash_apart device (Premises k true) firmware bytes task =
+    certificate_apart task (AcceptedReply device (Premises k true) firmware task) (certificate_in (device_of task.flash) bytes) (λ c s t h. at exit.Done s done_plain h.says.0)
+flash_apart device (Attain k trials) firmware bytes task =
+    certificate_apart task (AcceptedReply device (Attain k trials) firmware task) (certificate_in (device_of task.flash) bytes) (λ c s t h. at exit.Done s done_plain h.says.0)
+flash_apart device (Simulate k steps) firmware bytes task = simulate_apart task steps (setup_in (device_of task.flash) bytes)
 
 image_is_apart : (device : Device) (work : Work) (firmware second : List ℕ) (list : Option (List ℕ)) → IsPlainApart (ImageReply device work firmware second list)
 image_is_apart device work firmware second list =
-    image_apart (firmware_fault device firmware) (WithList device list (λ A. FlashReply device work firmware second (firmware_image device firmware) A))
-    (with_list_apart device list (λ A. FlashReply device work firmware second (firmware_image device firmware) A) (flash_apart device work firmware second (firmware_image device firmware)))
+    image_apart (firmware_fault device firmware) (WithList device list (λ A. FlashReply device work firmware second (task_with (firmware_image device firmware) A)))
+    (with_list_apart device list (λ A. FlashReply device work firmware second (task_with (firmware_image device firmware) A)) (λ A. flash_apart device work firmware second (task_with (firmware_image device firmware) A)))
 
 work_apart : (c : Command) (firmware second : List ℕ) (list : Option (List ℕ)) → IsPlainApart (WorkReply c firmware second list)
 work_apart (On r) firmware second list = image_is_apart r.device r.work firmware second list

@@ -109,10 +109,10 @@ are_read c holds seen cert firmware certificate list cap status text second caps
     record { loaded = record { firmware_read = first.0; list_read = last }; second_read = next.0 }
 
 written_exact : (o : Option Command) (holds : List ℕ → Held) (status : Status) (before after : Option (List ℕ)) → IsReplyWritten o holds status before after → IsHeldExact o holds status
-written_exact o holds status before after w judge firmware certificate list words claim A j stand =
+written_exact o holds status before after w judge firmware certificate list task claim j stand =
     let d = due_to o (On judge) holds status w.text j.named w.due in
     let names = judged_names judge.work j.certificate_name j.judges in
-    judged_exact judge.device judge.assume judge.work j.certificate_name d.seen status j.judges d.exact firmware certificate list words claim A
+    judged_exact judge.device judge.assume judge.work j.certificate_name d.seen status j.judges d.exact firmware certificate list task claim
     (are_read judge holds d.seen j.certificate_name firmware certificate list certificate_cap status w.text names.0 names.1 d.agrees d.reply j.firmware_held j.firmware_fits j.certificate_held j.certificate_fits j.list_held) stand
 
 -- ---- analyses
@@ -126,13 +126,13 @@ written_least o holds status before after w device steps firmware list a zero =
     (w.text, subst (λ x. IsLeastCertificate device firmware x w.text) l (subst (λ x. IsLeastCertificate device x h.list w.text) f h.certificate), w.grew)
 
 written_end : (o : Option Command) (holds : List ℕ → Held) (status : Status) (before after : Option (List ℕ)) → IsReplyWritten o holds status before after → IsHeldEnd o holds status
-written_end o holds status before after w device steps firmware list words A a mean =
+written_end o holds status before after w device steps firmware list task a mean =
     let c = request device a.firmware_name a.assume (Analyse steps) in
     let d = due_to o (request device a.firmware_name a.assume (Analyse steps)) holds status w.text a.named w.due in
     let first = file_held a.firmware_name d.seen.firmware (holds a.firmware_name) firmware_cap firmware (λ f. WithOptional a.assume d.seen.assumptions (λ l. WorkReply c f [] l)) status w.text d.reply
     (d.agrees Firmware) a.firmware_held a.firmware_fits in
     let last = optional_held holds a.assume d.seen.assumptions list (λ l. WorkReply c firmware [] l) status w.text first.1 (d.agrees Assumptions) a.list_held in
-    d.exact firmware list words A (record { firmware_read = first.0; list_read = last }) mean
+    d.exact firmware list task (record { firmware_read = first.0; list_read = last }) mean
 
 -- ---- simulations
 
@@ -150,9 +150,9 @@ written_simulated o holds status before after w device steps firmware devices li
     )
 
 written_devices : (o : Option Command) (holds : List ℕ → Held) (status : Status) (before after : Option (List ℕ)) → IsReplyWritten o holds status before after → AreHeldDevices o holds status
-written_devices o holds status before after w device steps firmware devices list words A a mean =
+written_devices o holds status before after w device steps firmware devices list task a mean =
     let d = due_to o (request device a.firmware_name a.assume (Simulate a.devices_name steps)) holds status w.text a.named w.due in
-    d.exact firmware devices list words A
+    d.exact firmware devices list task
     (are_read (record { device = device; firmware = a.firmware_name; assume = a.assume; work = Simulate a.devices_name steps }) holds d.seen a.devices_name firmware devices list devices_cap status w.text refl refl d.agrees d.reply
     a.firmware_held a.firmware_fits a.devices_held a.devices_fit a.list_held) mean
 

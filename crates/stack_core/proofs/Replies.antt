@@ -6,7 +6,7 @@ use Rattle.std.proofs.lemmas.Bool.{false_from_ne_true}
 use denote.Ref.{Bor}
 use Rattle.avr_model.specs.declared.assumption.Entry.{Entry}
 use Rattle.avr_model.specs.declared.device.Device.{Device}
-use Rattle.avr_model.specs.Devices.{Program, device_of}
+use Rattle.avr_model.specs.Devices.{device_of}
 use Rattle.indirect_targets.specs.declared.fault.AssumeText.{AssumeText}
 use Rattle.indirect_targets.specs.declared.fault.AssumeText.TheVariants as assume
 use Rattle.indirect_targets.specs.Reading.{entries_in}
@@ -39,6 +39,7 @@ use Rattle.stack_core.specs.Answering.{GivesOn, ReadsAs, IsJudgedAs, LoadedReply
 use Rattle.stack_core.specs.declared.reply.Reply.{Reply as Answered}
 use Rattle.stack_core.specs.declared.judging.Judged.{Judged}
 use Rattle.stack_core.specs.declared.loading.Listing.TheVariants.{Unlisted}
+use Rattle.local_rules.specs.Site.{Task, task_with}
 
 -- ---- simulate
 
@@ -47,26 +48,26 @@ use Rattle.stack_core.specs.declared.loading.Listing.TheVariants.{Unlisted}
 by_missing : (next : Reply) (attained : Bool) (text : List ℕ) → attained ≡ false → text ≡ witness_rejected → AttainedBy next attained exit.Rejected text
 by_missing next attained text e t = subst (λ b. AttainedBy next b exit.Rejected text) (sym e) (refl, t)
 
-missed_reply : (words : Program) (A : List Entry) (next : Reply) (bound : ℕ) (witness : Option Plan) (text : List ℕ) → (IsAttained words A bound witness → ⊥) → text ≡ witness_rejected
-    → WitnessReply words A next bound witness exit.Rejected text
-missed_reply words A next bound None text a t = absurd (a tt)
-missed_reply words A next bound (Some plan) text a t =
-    by_missing next (attains bound (replay_of words A plan)) text (false_from_ne_true (attains bound (replay_of words A plan)) (λ h. a (attained_by bound (replay_of words A plan) h))) t
+missed_reply : (task : Task) (next : Reply) (bound : ℕ) (witness : Option Plan) (text : List ℕ) → (IsAttained task bound witness → ⊥) → text ≡ witness_rejected
+    → WitnessReply task next bound witness exit.Rejected text
+missed_reply task next bound None text a t = absurd (a tt)
+missed_reply task next bound (Some plan) text a t =
+    by_missing next (attains bound (replay_of task.flash task.assumptions plan)) text (false_from_ne_true (attains bound (replay_of task.flash task.assumptions plan)) (λ h. a (attained_by bound (replay_of task.flash task.assumptions plan) h))) t
 
 -- a certificate whose schedule misses its bound
-pub missed_judged : (words : Program) (A : List Entry) (next : Claim → Reply) (c : Claim) (family : Worked) (text : List ℕ) → IsFamilyOf words A c family
-    → (b : Bool) → (IsTrue b ↔ IsAttained words A c.bound c.witness) → b ≡ false → text ≡ witness_rejected → JudgedReply words A next c exit.Rejected text
-missed_judged words A next c family text f b told missed t =
+pub missed_judged : (task : Task) (next : Claim → Reply) (c : Claim) (family : Worked) (text : List ℕ) → IsFamilyOf task c family
+    → (b : Bool) → (IsTrue b ↔ IsAttained task c.bound c.witness) → b ≡ false → text ≡ witness_rejected → JudgedReply task next c exit.Rejected text
+missed_judged task next c family text f b told missed t =
     record {
       verdict = Accepted c.bound;
       is = (record { nodes = family.nodes; expanded = f.filled; meets = f.meets }, refl);
-      reply = missed_reply words A (next c) c.bound c.witness text (λ h. never_both b (told.1 h) missed) t;
+      reply = missed_reply task (next c) c.bound c.witness text (λ h. never_both b (told.1 h) missed) t;
     }
 
 -- a certificate that fails a condition
-pub rejected_judged : (words : Program) (A : List Entry) (next : Claim → Reply) (c : Claim) (r : Reason) (text : List ℕ) → IsReason words A c r → text ≡ rejected (device_of words) r
-    → JudgedReply words A next c exit.Rejected text
-rejected_judged words A next c r text h t = record { verdict = Rejected r; is = h; reply = (refl, t) }
+pub rejected_judged : (task : Task) (next : Claim → Reply) (c : Claim) (r : Reason) (text : List ℕ) → IsReason task c r → text ≡ rejected (device_of task.flash) r
+    → JudgedReply task next c exit.Rejected text
+rejected_judged task next c r text h t = record { verdict = Rejected r; is = h; reply = (refl, t) }
 
 pub copied_is_some : (o : Option (Bor Plan)) (w : Option Plan) → option_copied o ≡ w → is_some o ≡ is_some w
 copied_is_some None None e = refl
@@ -77,47 +78,47 @@ copied_is_some (Some s) (Some p) e = refl
 -- ---- a certificate's text
 
 -- a certificate that is read
-pub read_claim : {E : Type 0} (words : Program) (A : List Entry) (x : Result Claim CertFault) (c : Claim) (j : Result Judged E) → x ≡ Ok c → IfOk j (IsJudgedAs words A (Ok c)) → IfOk j (IsJudgedAs words A x)
-read_claim words A x c j e h = subst (λ y. IfOk j (IsJudgedAs words A y)) (sym e) h
+pub read_claim : {E : Type 0} (task : Task) (x : Result Claim CertFault) (c : Claim) (j : Result Judged E) → x ≡ Ok c → IfOk j (IsJudgedAs task (Ok c)) → IfOk j (IsJudgedAs task x)
+read_claim task x c j e h = subst (λ y. IfOk j (IsJudgedAs task y)) (sym e) h
 
 -- if an accepted certificate gets one of two replies alike, so does each text
 attained_alike : (next other : Reply) (attained : Bool) (status : Status) (text : List ℕ) → (next status text → other status text) → AttainedBy next attained status text → AttainedBy other attained status text
 attained_alike next other true status text f h = f h
 attained_alike next other false status text f h = h
 
-witness_alike : (words : Program) (A : List Entry) (next other : Reply) (bound : ℕ) (w : Option Plan) (status : Status) (text : List ℕ) → (next status text → other status text)
-    → WitnessReply words A next bound w status text → WitnessReply words A other bound w status text
-witness_alike words A next other bound None status text f h = f h
-witness_alike words A next other bound (Some plan) status text f h = attained_alike next other (attains bound (replay_of words A plan)) status text f h
+witness_alike : (task : Task) (next other : Reply) (bound : ℕ) (w : Option Plan) (status : Status) (text : List ℕ) → (next status text → other status text)
+    → WitnessReply task next bound w status text → WitnessReply task other bound w status text
+witness_alike task next other bound None status text f h = f h
+witness_alike task next other bound (Some plan) status text f h = attained_alike next other (attains bound (replay_of task.flash task.assumptions plan)) status text f h
 
-verdict_alike : (words : Program) (A : List Entry) (next other : Claim → Reply) (c : Claim) (v : Judgement ℕ) (status : Status) (text : List ℕ) → (next c status text → other c status text)
-    → VerdictReply words A next c v status text → VerdictReply words A other c v status text
-verdict_alike words A next other c (Rejected reason) status text f h = h
-verdict_alike words A next other c (Accepted bound) status text f h = witness_alike words A (next c) (other c) bound c.witness status text f h
+verdict_alike : (task : Task) (next other : Claim → Reply) (c : Claim) (v : Judgement ℕ) (status : Status) (text : List ℕ) → (next c status text → other c status text)
+    → VerdictReply task next c v status text → VerdictReply task other c v status text
+verdict_alike task next other c (Rejected reason) status text f h = h
+verdict_alike task next other c (Accepted bound) status text f h = witness_alike task (next c) (other c) bound c.witness status text f h
 
-told_alike : (words : Program) (A : List Entry) (next other : Claim → Reply) (x : Result Claim CertFault) (status : Status) (text : List ℕ) → ((c : Claim) → next c status text → other c status text)
-    → CertificateReply words A next x status text → CertificateReply words A other x status text
-told_alike words A next other (Err e) status text f h = h
-told_alike words A next other (Ok c) status text f h = record { verdict = h.verdict; is = h.is; reply = verdict_alike words A next other c h.verdict status text (f c) h.reply }
+told_alike : (task : Task) (next other : Claim → Reply) (x : Result Claim CertFault) (status : Status) (text : List ℕ) → ((c : Claim) → next c status text → other c status text)
+    → CertificateReply task next x status text → CertificateReply task other x status text
+told_alike task next other (Err e) status text f h = h
+told_alike task next other (Ok c) status text f h = record { verdict = h.verdict; is = h.is; reply = verdict_alike task next other c h.verdict status text (f c) h.reply }
 
 -- the reply to an accepted certificate
-pub accepted_reply : (words : Program) (A : List Entry) (next : Claim → Reply) (x : Result Claim CertFault) (c : Claim) (status : Status) (text : List ℕ) → (x ≡ Ok c) × IsValid words A c → next c status text
-    → CertificateReply words A next x status text
-accepted_reply words A next x c status text h k =
-    subst (λ y. CertificateReply words A next y status text) (sym h.0)
-    (record { verdict = Accepted c.bound; is = (h.1.sound, refl); reply = witness_zero words A (next c) c.bound c.witness status text h.1.attained k })
+pub accepted_reply : (task : Task) (next : Claim → Reply) (x : Result Claim CertFault) (c : Claim) (status : Status) (text : List ℕ) → (x ≡ Ok c) × IsValid task c → next c status text
+    → CertificateReply task next x status text
+accepted_reply task next x c status text h k =
+    subst (λ y. CertificateReply task next y status text) (sym h.0)
+    (record { verdict = Accepted c.bound; is = (h.1.sound, refl); reply = witness_zero task (next c) c.bound c.witness status text h.1.attained k })
 
 -- the reply to the result of judging
-pub accepted_result : {E : Type 0} (words : Program) (A : List Entry) (next : Claim → Reply) (x : Result Claim CertFault) (c : Claim) (r : Result Answered E) → (x ≡ Ok c) × IsValid words A c
-    → IfOk r (λ a. next c a.status a.text.items) → IfOk r (λ a. CertificateReply words A next x a.status a.text.items)
-accepted_result words A next x c (Err e) h k = tt
-accepted_result words A next x c (Ok a) h k = accepted_reply words A next x c a.status a.text.items h k
+pub accepted_result : {E : Type 0} (task : Task) (next : Claim → Reply) (x : Result Claim CertFault) (c : Claim) (r : Result Answered E) → (x ≡ Ok c) × IsValid task c
+    → IfOk r (λ a. next c a.status a.text.items) → IfOk r (λ a. CertificateReply task next x a.status a.text.items)
+accepted_result task next x c (Err e) h k = tt
+accepted_result task next x c (Ok a) h k = accepted_reply task next x c a.status a.text.items h k
 
 -- ---- a certificate that is written with a schedule
 
-pub attain_reply : (words : Program) (A : List Entry) (n : ℕ) (c d : Claim) (text : List ℕ) → IsCompleted words A n c d → IsValid words A d → text ≡ text_of d → AttainReply words A n c exit.Done text
-attain_reply words A n c d text h valid told =
-    record { claim = d; completed = h; attained = subst (λ (b : ℕ). IsAttained words A b d.witness) (ap (λ (x : Claim). x.bound) h.same) valid.attained; says = (refl, told) }
+pub attain_reply : (task : Task) (n : ℕ) (c d : Claim) (text : List ℕ) → IsCompleted task.flash task.assumptions n c d → IsValid task d → text ≡ text_of d → AttainReply task n c exit.Done text
+attain_reply task n c d text h valid told =
+    record { claim = d; completed = h; attained = subst (λ (b : ℕ). IsAttained task b d.witness) (ap (λ (x : Claim). x.bound) h.same) valid.attained; says = (refl, told) }
 
 -- ---- an analysis
 
@@ -137,53 +138,53 @@ report_alike : (laws : NamesThatSayTheSame) (json : Bool) (device : Device) (nam
 report_alike laws true device names others end end' same e c = (laws device c names others end same).1 ∙ ap (λ x. report_by true device others x c) e
 report_alike laws false device names others end end' same e c = (laws device c names others end same).0 ∙ ap (λ x. report_by false device others x c) e
 
-explain_alike : ExplanationsSayTheSame → (names others : List Named) (words : Program) (A : List Entry) → SayTheSame names others → (c : Claim) (status : Status) (text : List ℕ)
-    → ExplainReply names words A c status text → ExplainReply others words A c status text
-explain_alike texts names others words A same c status text h =
-    record { explanation = h.explanation; is = h.is; says = (h.says.0, h.says.1 ∙ texts (device_of words) c.bound names others h.explanation same) }
+explain_alike : ExplanationsSayTheSame → (names others : List Named) (task : Task) → SayTheSame names others → (c : Claim) (status : Status) (text : List ℕ)
+    → ExplainReply names task c status text → ExplainReply others task c status text
+explain_alike texts names others task same c status text h =
+    record { explanation = h.explanation; is = h.is; says = (h.says.0, h.says.1 ∙ texts (device_of task.flash) c.bound names others h.explanation same) }
 
-premises_alike : PlacesSayTheSame → (names others : List Named) (words : Program) (A : List Entry) → SayTheSame names others → (c : Claim) (status : Status) (text : List ℕ)
-    → PremisesReply names words A c status text → PremisesReply others words A c status text
-premises_alike places names others words A same c status text h =
+premises_alike : PlacesSayTheSame → (names others : List Named) (task : Task) → SayTheSame names others → (c : Claim) (status : Status) (text : List ℕ)
+    → PremisesReply names task c status text → PremisesReply others task c status text
+premises_alike places names others task same c status text h =
     record {
       sites = h.sites;
       nevers = h.nevers;
       are = h.are;
       are_nevers = h.are_nevers;
-      says = (h.says.0, h.says.1 ∙ places words names others c.bound h.sites h.nevers same);
+      says = (h.says.0, h.says.1 ∙ places task.flash names others c.bound h.sites h.nevers same);
     }
 
-why_alike : CausesSayTheSame → (names others : List Named) (words : Program) (A : List Entry) → SayTheSame names others → (c : Claim) (status : Status) (text : List ℕ)
-    → WhyReply names words A c status text → WhyReply others words A c status text
-why_alike causes names others words A same c status text h =
+why_alike : CausesSayTheSame → (names others : List Named) (task : Task) → SayTheSame names others → (c : Claim) (status : Status) (text : List ℕ)
+    → WhyReply names task c status text → WhyReply others task c status text
+why_alike causes names others task same c status text h =
     record {
       places = h.places;
       nevers = h.nevers;
       are = h.are;
       are_nevers = h.are_nevers;
-      says = (h.says.0, h.says.1 ∙ causes words names others c.bound h.places h.nevers same);
+      says = (h.says.0, h.says.1 ∙ causes task.flash names others c.bound h.places h.nevers same);
     }
 
-places_alike : PlacesSayTheSame → CausesSayTheSame → (why : Bool) (names others : List Named) (words : Program) (A : List Entry) → SayTheSame names others → (c : Claim) (status : Status) (text : List ℕ)
-    → PlacesReply why names words A c status text → PlacesReply why others words A c status text
-places_alike places causes false names others words A same c status text h = premises_alike places names others words A same c status text h
-places_alike places causes true names others words A same c status text h = why_alike causes names others words A same c status text h
+places_alike : PlacesSayTheSame → CausesSayTheSame → (why : Bool) (names others : List Named) (task : Task) → SayTheSame names others → (c : Claim) (status : Status) (text : List ℕ)
+    → PlacesReply why names task c status text → PlacesReply why others task c status text
+places_alike places causes false names others task same c status text h = premises_alike places names others task same c status text h
+places_alike places causes true names others task same c status text h = why_alike causes names others task same c status text h
 
 flash_alike : (laws : NamesThatSayTheSame) (texts : ExplanationsSayTheSame) (places : PlacesSayTheSame) (causes : CausesSayTheSame) (device : Device) (work : Work) (firmware bytes : List ℕ) (loaded : Loaded) (A : List Entry) (status : Status) (text : List ℕ) → SayTheSame loaded.names (firmware_names device firmware)
-    → loaded.static_end ≡ firmware_end device firmware → LoadedReply device work loaded bytes A status text → FlashReply device work firmware bytes loaded.flash A status text
+    → loaded.static_end ≡ firmware_end device firmware → LoadedReply device work loaded bytes A status text → FlashReply device work firmware bytes (task_with loaded.flash A) status text
 flash_alike laws texts places causes device (Check cert) firmware bytes loaded A status text names end h = h
 flash_alike laws texts places causes device (Analyse steps) firmware bytes loaded A status text names end h = h
 flash_alike laws texts places causes device (Run schedule) firmware bytes loaded A status text names end h = h
 flash_alike laws texts places causes device (Report cert json) firmware bytes loaded A status text names end h =
-    told_alike loaded.flash A (λ c. Says exit.Done (report_by json device loaded.names loaded.static_end c)) (AcceptedReply device (Report cert json) firmware loaded.flash A) (certificate_in (device_of loaded.flash) bytes) status text
+    told_alike (task_with loaded.flash A) (λ c. Says exit.Done (report_by json device loaded.names loaded.static_end c)) (AcceptedReply device (Report cert json) firmware (task_with loaded.flash A)) (certificate_in (device_of loaded.flash) bytes) status text
     (λ c k. (k.0, k.1 ∙ report_alike laws json device loaded.names (firmware_names device firmware) loaded.static_end (firmware_end device firmware) names end c)) h
 flash_alike laws texts places causes device (Explain cert) firmware bytes loaded A status text names end h =
-    told_alike loaded.flash A (ExplainReply loaded.names loaded.flash A) (AcceptedReply device (Explain cert) firmware loaded.flash A) (certificate_in (device_of loaded.flash) bytes) status text
-    (λ c k. explain_alike texts loaded.names (firmware_names device firmware) loaded.flash A names c status text k) h
+    told_alike (task_with loaded.flash A) (ExplainReply loaded.names (task_with loaded.flash A)) (AcceptedReply device (Explain cert) firmware (task_with loaded.flash A)) (certificate_in (device_of loaded.flash) bytes) status text
+    (λ c k. explain_alike texts loaded.names (firmware_names device firmware) (task_with loaded.flash A) names c status text k) h
 flash_alike laws texts places causes device (Clear cert) firmware bytes loaded A status text names end h = h
 flash_alike laws texts places causes device (Premises cert why) firmware bytes loaded A status text names end h =
-    told_alike loaded.flash A (PlacesReply why loaded.names loaded.flash A) (AcceptedReply device (Premises cert why) firmware loaded.flash A) (certificate_in (device_of loaded.flash) bytes) status text
-    (λ c k. places_alike places causes why loaded.names (firmware_names device firmware) loaded.flash A names c status text k) h
+    told_alike (task_with loaded.flash A) (PlacesReply why loaded.names (task_with loaded.flash A)) (AcceptedReply device (Premises cert why) firmware (task_with loaded.flash A)) (certificate_in (device_of loaded.flash) bytes) status text
+    (λ c k. places_alike places causes why loaded.names (firmware_names device firmware) (task_with loaded.flash A) names c status text k) h
 flash_alike laws texts places causes device (Attain cert trials) firmware bytes loaded A status text names end h = h
 flash_alike laws texts places causes device (Simulate devices steps) firmware bytes loaded A status text names end h = h
 
@@ -198,7 +199,7 @@ next_alike device (Some bytes) next other status text f h = list_alike (entries_
 pub loaded_reply : (laws : NamesThatSayTheSame) (texts : ExplanationsSayTheSame) (places : PlacesSayTheSame) (causes : CausesSayTheSame) (device : Device) (work : Work) (firmware second : List ℕ) (list : Option (List ℕ)) (loaded : Loaded) (status : Status) (text : List ℕ) → GivesOn device firmware loaded
     → WithList (device_of loaded.flash) list (λ A. LoadedReply device work loaded second A) status text → ImageReply device work firmware second list status text
 loaded_reply laws texts places causes device work firmware second list loaded status text g h =
-    let there : WithList (device_of loaded.flash) list (λ A. FlashReply device work firmware second loaded.flash A) status text =
-    next_alike (device_of loaded.flash) list (λ A. LoadedReply device work loaded second A) (λ A. FlashReply device work firmware second loaded.flash A) status text (λ A k. flash_alike laws texts places causes device work firmware second loaded A status text g.names g.static_end k) h in
-    by_none (firmware_fault device firmware) (WithList device list (λ A. FlashReply device work firmware second (firmware_image device firmware) A)) status text g.loads
-    (subst (λ ws. WithList (device_of ws) list (λ A. FlashReply device work firmware second ws A) status text) g.words there)
+    let there : WithList (device_of loaded.flash) list (λ A. FlashReply device work firmware second (task_with loaded.flash A)) status text =
+    next_alike (device_of loaded.flash) list (λ A. LoadedReply device work loaded second A) (λ A. FlashReply device work firmware second (task_with loaded.flash A)) status text (λ A k. flash_alike laws texts places causes device work firmware second loaded A status text g.names g.static_end k) h in
+    by_none (firmware_fault device firmware) (WithList device list (λ A. FlashReply device work firmware second (task_with (firmware_image device firmware) A))) status text g.loads
+    (subst (λ ws. WithList (device_of ws) list (λ A. FlashReply device work firmware second (task_with ws A)) status text) g.words there)

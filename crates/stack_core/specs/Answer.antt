@@ -1,8 +1,6 @@
 -- The top call.
 use Rattle.std.specs.Prelude.{◌≡◌, ◌≢◌, ◌⊎◌, ◌↔◌, ◌≤◌, ℕ, Bool, List, length, Option, Some, None}
-use Rattle.avr_model.specs.declared.assumption.Entry.{Entry}
 use Rattle.avr_model.specs.declared.device.Device.{Device}
-use Rattle.avr_model.specs.Devices.{Program}
 use Rattle.sb_base.specs.Outside.{Held, Bytes, Blamed, Rose, grown, GrewByPrefix}
 use Rattle.certificate.specs.Claims.{Claim}
 use Rattle.device_hooks.specs.Spelling.{Setup}
@@ -14,6 +12,7 @@ use Rattle.replies.specs.Texts.{usage, read_fault}
 use Rattle.replies.specs.Reading.{Contents, AllAgree, IsFirstFailed, firmware_cap, certificate_cap, devices_cap, assumption_cap}
 use Rattle.replies.specs.Reply.{IsReply}
 use Rattle.replies.specs.Headline.{Mean, StandFor, Holds, IsLeastCertificate, IsSimulated, SaysWhether, SaysHowRoundsEnd, Headline, IsExact}
+use Rattle.local_rules.specs.Site.{Task}
 
 -- ---- the answer where no call failed and memory sufficed
 
@@ -114,8 +113,8 @@ HeldHeadline command holds status before after =
 -- if held bytes are well-formed, it accepts exactly if the certificate is valid, and for `clear` all nodes are clear
 abbrev pub IsHeldExact : Option Command → (List ℕ → Held) → Status → Type 0
 IsHeldExact command holds status =
-    (judge : Request) (firmware certificate : List ℕ) (list : Option (List ℕ)) (words : Program) (claim : Claim) (A : List Entry)
-    → IsJudging command judge holds firmware certificate list → StandFor judge.device firmware certificate list words claim A → SaysWhether judge.work words A claim status
+    (judge : Request) (firmware certificate : List ℕ) (list : Option (List ℕ)) (task : Task) (claim : Claim)
+    → IsJudging command judge holds firmware certificate list → StandFor judge.device firmware certificate list task claim → SaysWhether judge.work task claim status
 
 -- The words are an analysis for this device with this budget, and these bytes are held under its names, within the caps.
 pub record IsAnalysing (command : Option Command) (device : Device) (steps : Option ℕ) (holds : List ℕ → Held) (firmware : List ℕ) (list : Option (List ℕ)) : Type 0 where
@@ -135,8 +134,8 @@ HeldLeast command holds status before after =
 -- if held bytes are well-formed, the status says how the rounds end
 abbrev pub IsHeldEnd : Option Command → (List ℕ → Held) → Status → Type 0
 IsHeldEnd command holds status =
-    (device : Device) (steps : Option ℕ) (firmware : List ℕ) (list : Option (List ℕ)) (words : Program) (A : List Entry)
-    → IsAnalysing command device steps holds firmware list → Mean device firmware list words A → SaysHowRoundsEnd words A steps status
+    (device : Device) (steps : Option ℕ) (firmware : List ℕ) (list : Option (List ℕ)) (task : Task)
+    → IsAnalysing command device steps holds firmware list → Mean device firmware list task → SaysHowRoundsEnd task steps status
 
 -- The words are a simulation for this device of this many choices, and these bytes are held under its names, within the caps.
 pub record IsSimulating (command : Option Command) (device : Device) (steps : ℕ) (holds : List ℕ → Held) (firmware devices : List ℕ) (list : Option (List ℕ)) : Type 0 where
@@ -160,8 +159,8 @@ HeldSimulated command holds status before after =
 -- if held firmware and assumptions are well-formed, it answers 0 exactly if the devices' text is well-formed
 abbrev pub AreHeldDevices : Option Command → (List ℕ → Held) → Status → Type 0
 AreHeldDevices command holds status =
-    (device : Device) (steps : ℕ) (firmware devices : List ℕ) (list : Option (List ℕ)) (words : Program) (A : List Entry)
-    → IsSimulating command device steps holds firmware devices list → Mean device firmware list words A → (status ≡ exit.Done) ↔ ((setup : Setup) × IsDevices device devices setup)
+    (device : Device) (steps : ℕ) (firmware devices : List ℕ) (list : Option (List ℕ)) (task : Task)
+    → IsSimulating command device steps holds firmware devices list → Mean device firmware list task → (status ≡ exit.Done) ↔ ((setup : Setup) × IsDevices device devices setup)
 
 -- ---- laws
 

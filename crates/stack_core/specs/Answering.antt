@@ -4,7 +4,7 @@ use Rattle.std.specs.Global.{Vec}
 use Rattle.avr_model.specs.declared.assumption.Entry.{Entry}
 use Rattle.avr_model.specs.declared.device.Device.{Device}
 use Rattle.avr_model.specs.Image.{IsNarrowed}
-use Rattle.avr_model.specs.Devices.{Program, device_of, limit_of}
+use Rattle.avr_model.specs.Devices.{device_of, limit_of}
 use Rattle.flash_image.specs.Naming.{SayTheSame}
 use Rattle.elf_load.specs.Elf.{is_elf}
 use Rattle.elf_load.specs.declared.Loaded.{Loaded as Firmware}
@@ -31,6 +31,7 @@ use Rattle.stack_core.specs.declared.loading.Listing.TheVariants.{Listed, Unlist
 use Rattle.stack_core.specs.declared.judging.Judged.{Judged}
 use Rattle.stack_core.specs.declared.judging.Judged.TheVariants.{Accepted}
 use Rattle.stack_core.specs.declared.judging.Judged.TheVariants as judged
+use Rattle.local_rules.specs.Site.{Task, task_with}
 
 -- a firmware for a device, before it is narrowed, has the words, names and static data of the file's bytes
 pub record GivesAs (device : Device) (elf : Bool) (bytes : List ℕ) (loaded : Firmware) : Type 0 where
@@ -82,9 +83,9 @@ abbrev pub nothing : Claim → Reply
 nothing c status text = ⊥
 
 -- a valid certificate with its family, or the answer to one that isn't valid or isn't read
-abbrev pub IsJudgedAs : Program → List Entry → Result Claim CertFault → Judged → Type 0
-IsJudgedAs words A x (Accepted c family) = ((x ≡ Ok c) × IsValid words A c) × IsFamilyOf words A c family
-IsJudgedAs words A x (judged.Refused r) = CertificateReply words A nothing x r.status r.text.items
+abbrev pub IsJudgedAs : Task → Result Claim CertFault → Judged → Type 0
+IsJudgedAs task x (Accepted c family) = ((x ≡ Ok c) × IsValid task c) × IsFamilyOf task c family
+IsJudgedAs task x (judged.Refused r) = CertificateReply task nothing x r.status r.text.items
 
 -- a certificate is accepted with its family, unless a line refuses it
 abbrev pub judged_by : Claim → Result Worked (Vec ℕ) → Judged
@@ -92,22 +93,22 @@ judged_by c (Ok family) = Accepted c family
 judged_by c (Err text) = judged.Refused (record { status = exit.Rejected; text = text })
 
 -- the certificate is the least one with the schedule that the trials find, which attains its bound
-pub record IsWitnessed (words : Program) (A : List Entry) (least c : Claim) : Type 0 where
+pub record IsWitnessed (task : Task) (least c : Claim) : Type 0 where
   pub found : Option Plan
-  pub trials : TrialsFind words A least found
-  pub attained : IsAttained words A least.bound found
+  pub trials : TrialsFind task least found
+  pub attained : IsAttained task least.bound found
   pub is : c ≡ record least { witness = found }
 
 -- the text is that of the certificate with this schedule
-pub record IsWitnessedText (words : Program) (A : List Entry) (least : Claim) (text : List ℕ) : Type 0 where
+pub record IsWitnessedText (task : Task) (least : Claim) (text : List ℕ) : Type 0 where
   pub claim : Claim
-  pub witnessed : IsWitnessed words A least claim
+  pub witnessed : IsWitnessed task least claim
   pub is : text ≡ text_of claim
 
 -- the answer for a loaded firmware, with its names and static data
 abbrev pub LoadedReply : Device → Work → Firmware → List ℕ → List Entry → Reply
 LoadedReply device (Report certificate json) loaded bytes A =
-    CertificateReply loaded.flash A (λ c. Says exit.Done (report_by json device loaded.names loaded.static_end c)) (certificate_in (device_of loaded.flash) bytes)
-LoadedReply device (Explain certificate) loaded bytes A = CertificateReply loaded.flash A (ExplainReply loaded.names loaded.flash A) (certificate_in (device_of loaded.flash) bytes)
-LoadedReply device (Premises certificate why) loaded bytes A = CertificateReply loaded.flash A (PlacesReply why loaded.names loaded.flash A) (certificate_in (device_of loaded.flash) bytes)
-LoadedReply device work loaded bytes A = FlashReply device work [] bytes loaded.flash A
+    CertificateReply (task_with loaded.flash A) (λ c. Says exit.Done (report_by json device loaded.names loaded.static_end c)) (certificate_in (device_of loaded.flash) bytes)
+LoadedReply device (Explain certificate) loaded bytes A = CertificateReply (task_with loaded.flash A) (ExplainReply loaded.names (task_with loaded.flash A)) (certificate_in (device_of loaded.flash) bytes)
+LoadedReply device (Premises certificate why) loaded bytes A = CertificateReply (task_with loaded.flash A) (PlacesReply why loaded.names (task_with loaded.flash A)) (certificate_in (device_of loaded.flash) bytes)
+LoadedReply device work loaded bytes A = FlashReply device work [] bytes (task_with loaded.flash A)

@@ -6,6 +6,8 @@ ghost use Rattle.certificate.specs.Valid.{IsSound};
 ghost use Rattle.replies.specs.Texts.{why_not_status, why_not_text, demo_text};
 ghost use Rattle.replies.specs.Reply.{Refuses, AnalyseReply, DemoReply};
 ghost use Rattle.stack_core.specs.Answering.{IsWitnessedText};
+ghost use Rattle.call_graph.specs.Tasks.{task_of};
+ghost use Rattle.stack_core.specs.Clauses.{Returns};
 
 use crate::reply::Reply;
 use call_graph::Task;
@@ -34,7 +36,7 @@ fn why_not_status(refusal: &Refusal) -> Status
 
 // The answer if there is no certificate.
 fn why_not(alloc: Global, flash: &Flash, refusal: &Refusal) -> Result<Reply, AllocError>
-    ensures { IfOk result (λ r. Refuses (why_not_status refusal.now) (why_not_text flash.now refusal.now) r.status r.text.items) }
+    ensures { Returns result (Refuses (why_not_status refusal.now) (why_not_text flash.now refusal.now)) }
 {
     Ok(Reply {
         status: why_not_status(refusal),
@@ -51,8 +53,8 @@ fn claims(certificate: &Certificate)
 
 // The text of the certificate with the schedule that trials find, if they find one.
 fn solved(task: &Task<'_>, certificate: Certificate) -> Result<Vec<u8>, AllocError>
-    requires { IsSound task.now.flash.now task.now.assumptions.now certificate }
-    ensures text { IfOk result (λ v. IsWitnessedText task.now.flash.now task.now.assumptions.now certificate v.items) }
+    requires { IsSound (task_of task.now) certificate }
+    ensures text { IfOk result (λ v. IsWitnessedText (task_of task.now) certificate v.items) }
     ensures claim { IfOk result (λ v. IsClaim certificate) }
 {
     claims(&certificate);
@@ -62,7 +64,7 @@ fn solved(task: &Task<'_>, certificate: Certificate) -> Result<Vec<u8>, AllocErr
 
 /// The answer to an analysis. `steps` limits the number of rounds.
 pub fn analyse(task: &Task<'_>, steps: Option<u64>) -> Result<Reply, AllocError>
-    ensures { IfOk result (λ r. AnalyseReply task.now.flash.now task.now.assumptions.now steps r.status r.text.items) }
+    ensures { IfOk result (λ r. AnalyseReply (task_of task.now) steps r.status r.text.items) }
 {
     match solve(task, steps) {
         Ok(certificate) => Ok(Reply {
@@ -75,7 +77,7 @@ pub fn analyse(task: &Task<'_>, steps: Option<u64>) -> Result<Reply, AllocError>
 
 // The answer for an image with this certificate, which is judged and accepted.
 fn measured(task: &Task<'_>, size: u32, certificate: &Certificate) -> Result<Reply, AllocError>
-    requires { IsSound task.now.flash.now task.now.assumptions.now certificate.now }
+    requires { IsSound (task_of task.now) certificate.now }
     ensures reply { IfOk result (λ r. (r.status ≡ Status.Done) × (r.text.items ≡ demo_text size certificate.now)) }
     ensures claim { IfOk result (λ r. IsClaim certificate.now) }
 {

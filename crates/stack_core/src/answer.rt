@@ -1,9 +1,10 @@
 //! The answer to the words of the command line, before it is written.
 
-ghost use Rattle.std.specs.Prelude.{map, MatchResult, Some};
+ghost use Rattle.std.specs.Prelude.{MatchResult, Some};
 ghost use Rattle.commands.specs.Commands.{command_of};
 ghost use Rattle.commands.specs.Views.{command_seen};
 ghost use Rattle.stack_core.specs.Answer.{IsOutcome, IsCutOff};
+ghost use Rattle.stack_core.specs.Clauses.{called};
 
 use crate::reply::Reply;
 use crate::work::work;
@@ -47,7 +48,7 @@ fn answer_to<F: Files>(
 
 /// The answer to the words of the command line.
 pub fn answer<F: Files>(alloc: Global, words: &[&str], files: &mut F) -> Result<Reply, AllocError>
-    ensures { MatchResult result (λ r. IsOutcome (command_of (map (λ w. w.now) words.now)) (F.holds files.old) (F.faults files.old) (F.faults files.new) (F.blamed files.new) r.status r.text.items) (λ e. IsCutOff (command_of (map (λ w. w.now) words.now)) (F.holds files.old) (F.faults files.old) (F.faults files.new) (F.blamed files.new)) }
+    ensures { MatchResult result (λ r. IsOutcome (called words.now) (F.holds files.old) (F.faults files.old) (F.faults files.new) (F.blamed files.new) r.status r.text.items) (λ e. IsCutOff (called words.now) (F.holds files.old) (F.faults files.old) (F.faults files.new) (F.blamed files.new)) }
 {
     match command_of(alloc, words) {
         Ok(Some(command)) => answer_to(alloc, &command, files),

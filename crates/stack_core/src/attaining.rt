@@ -4,6 +4,8 @@ ghost use Rattle.std.specs.Prelude.{IfOk};
 ghost use Rattle.certificate.specs.Valid.{IsValid};
 ghost use Rattle.cert_format.specs.Reading.{certificate_in};
 ghost use Rattle.replies.specs.Reply.{AttainReply, CertificateReply};
+ghost use Rattle.call_graph.specs.Tasks.{task_of};
+ghost use Rattle.stack_core.specs.Clauses.{Returns};
 
 use crate::judging::{Judged, judge_text};
 use crate::reply::Reply;
@@ -17,8 +19,8 @@ use std::alloc::AllocError;
 
 // The text of an accepted certificate, with the schedule that guided trials find if it has none.
 fn completed(task: &Task<'_>, certificate: Certificate, trials: u32) -> Result<Vec<u8>, AllocError>
-    requires { IsValid task.now.flash.now task.now.assumptions.now certificate }
-    ensures { IfOk result (λ v. AttainReply task.now.flash.now task.now.assumptions.now trials certificate Status.Done v.items) }
+    requires { IsValid (task_of task.now) certificate }
+    ensures { IfOk result (λ v. AttainReply (task_of task.now) trials certificate Status.Done v.items) }
 {
     sound_certificates_bound_every_run();
     words_have_16_bits(task.flash.words());
@@ -40,7 +42,7 @@ fn completed(task: &Task<'_>, certificate: Certificate, trials: u32) -> Result<V
 /// commands.
 #[inline(never)]
 pub fn attain(task: &Task<'_>, text: &[u8], trials: u32) -> Result<Reply, AllocError>
-    ensures { IfOk result (λ r. CertificateReply task.now.flash.now task.now.assumptions.now (AttainReply task.now.flash.now task.now.assumptions.now trials) (certificate_in task.now.flash.now.device text.now) r.status r.text.items) }
+    ensures { Returns result (CertificateReply (task_of task.now) (AttainReply (task_of task.now) trials) (certificate_in task.now.flash.now.device text.now)) }
 {
     match judge_text(task, text)? {
         Judged::Accepted(certificate, family) => {

@@ -1,10 +1,10 @@
 //! The call that the program makes.
 
-ghost use Rattle.std.specs.Prelude.{◌≡◌, ◌≢◌, ◌⊎◌, ◌↔◌, ℕ, List, None, map};
+ghost use Rattle.std.specs.Prelude.{◌≡◌, ◌≢◌, ◌⊎◌, ◌↔◌, ℕ, List, None};
 ghost use Rattle.sb_base.specs.Outside.{Rose, grown};
-ghost use Rattle.commands.specs.Commands.{command_of};
 ghost use Rattle.replies.specs.Texts.{read_fault};
 ghost use Rattle.stack_core.specs.Answer.{IsReplyWritten, IsReadFault, HeldHeadline, IsHeldExact, HeldLeast, IsHeldEnd, HeldSimulated, AreHeldDevices, Cuts};
+ghost use Rattle.stack_core.specs.Clauses.{IfNoneFailed, called};
 
 use crate::answer::answer;
 use crate::laws::written_answers_hold;
@@ -22,7 +22,7 @@ pub fn stackbound<F: Files, K: Sink>(
 ) -> Status
     // If no call failed and memory sufficed, the answer is the one reply to the words and the files, and it was written. A reply that
     // accepts a certificate says that the bound holds; one that writes a certificate says that it is the least.
-    ensures settled { result ≢ Status.ReadFault → result ≢ Status.WriteFault → result ≢ Status.OutOfMemory → IsReplyWritten (command_of (map (λ w. w.now) words.now)) (F.holds files.old) result (K.written out.old) (K.written out.new) }
+    ensures settled { IfNoneFailed result (IsReplyWritten (called words.now) (F.holds files.old) result (K.written out.old) (K.written out.new)) }
     // If a command that judges accepts held bytes, the bound holds of every run, and is printed. An explanation is the certificate's only
     // one: its links nest from the root on and add up to at most the bound, and to the bound itself if the rounds end with this
     // certificate. If `clear` answers 0, no run from reset is flagged, and each stays within the bound. A run from reset that ends
@@ -31,32 +31,32 @@ pub fn stackbound<F: Files, K: Sink>(
     // writes the accepted certificate but for its schedule. The text is valid, so `check` accepts it. It has a schedule exactly if the
     // accepted one has, or some trial is as deep as the bound: its own, or that of the first such trial. The schedule's run is exactly as
     // deep.
-    ensures headline { HeldHeadline (command_of (map (λ w. w.now) words.now)) (F.holds files.old) result (K.written out.old) (K.written out.new) }
+    ensures headline { HeldHeadline (called words.now) (F.holds files.old) result (K.written out.old) (K.written out.new) }
     // If held bytes are well-formed, it accepts exactly the valid certificates, and `clear` those of them whose nodes are all clear. It
     // says that a node isn't clear exactly if one isn't, and rejects exactly if the certificate isn't valid.
-    ensures exact { result ≢ Status.ReadFault → result ≢ Status.WriteFault → result ≢ Status.OutOfMemory → IsHeldExact (command_of (map (λ w. w.now) words.now)) (F.holds files.old) result }
+    ensures exact { IfNoneFailed result (IsHeldExact (called words.now) (F.holds files.old) result) }
     // If an analysis of held bytes answers 0, it has written their least certificate, which is valid: no valid one has a smaller bound,
     // and every run stays within it. Its schedule is a run that reaches it; it has none exactly if no trial does.
-    ensures least { HeldLeast (command_of (map (λ w. w.now) words.now)) (F.holds files.old) result (K.written out.old) (K.written out.new) }
+    ensures least { HeldLeast (called words.now) (F.holds files.old) result (K.written out.old) (K.written out.new) }
     // If held bytes are well-formed, the status of an analysis says how the rounds end, and without a budget whether a valid certificate
     // exists.
-    ensures ends { result ≢ Status.ReadFault → result ≢ Status.WriteFault → result ≢ Status.OutOfMemory → IsHeldEnd (command_of (map (λ w. w.now) words.now)) (F.holds files.old) result }
+    ensures ends { IfNoneFailed result (IsHeldEnd (called words.now) (F.holds files.old) result) }
     // If a simulation of held bytes answers 0, it reports the run that the devices choose, which is no deeper than the bound of any
     // certificate that `check` accepts for the same firmware and assumptions.
-    ensures simulated { HeldSimulated (command_of (map (λ w. w.now) words.now)) (F.holds files.old) result (K.written out.old) (K.written out.new) }
+    ensures simulated { HeldSimulated (called words.now) (F.holds files.old) result (K.written out.old) (K.written out.new) }
     // If held firmware and assumptions are well-formed, a simulation answers 0 exactly if its devices are.
-    ensures devices { result ≢ Status.ReadFault → result ≢ Status.WriteFault → result ≢ Status.OutOfMemory → AreHeldDevices (command_of (map (λ w. w.now) words.now)) (F.holds files.old) result }
+    ensures devices { IfNoneFailed result (AreHeldDevices (called words.now) (F.holds files.old) result) }
     // Exactly the words that are no command get this answer.
-    ensures usage { result ≢ Status.WriteFault → result ≢ Status.OutOfMemory → (result ≡ Status.Usage) ↔ (command_of (map (λ w. w.now) words.now) ≡ None) }
+    ensures usage { result ≢ Status.WriteFault → result ≢ Status.OutOfMemory → (result ≡ Status.Usage) ↔ (called words.now ≡ None) }
     // A read fault is answered only if a read of a file of the command failed in this call; the first such file is named.
-    ensures read_fault { result ≡ Status.ReadFault → (name : List ℕ) × IsReadFault (command_of (map (λ w. w.now) words.now)) (F.holds files.old) (F.faults files.old) (F.faults files.new) (F.blamed files.new) name × (K.written out.new ≡ grown (K.written out.old) (read_fault name)) }
+    ensures read_fault { result ≡ Status.ReadFault → (name : List ℕ) × IsReadFault (called words.now) (F.holds files.old) (F.faults files.old) (F.faults files.new) (F.blamed files.new) name × (K.written out.new ≡ grown (K.written out.old) (read_fault name)) }
     // A write fault is answered only if a put failed in this call.
     ensures write_fault { result ≡ Status.WriteFault → Rose (K.faults out.old) (K.faults out.new) }
     // No failed read or put is ignored.
-    ensures reads { result ≢ Status.ReadFault → result ≢ Status.WriteFault → result ≢ Status.OutOfMemory → F.faults files.new ≡ F.faults files.old }
+    ensures reads { IfNoneFailed result (F.faults files.new ≡ F.faults files.old) }
     ensures puts { result ≢ Status.WriteFault → K.faults out.new ≡ K.faults out.old }
     // After a write fault, or if memory runs out, a prefix of the due text was written.
-    ensures cut { (result ≡ Status.WriteFault) ⊎ (result ≡ Status.OutOfMemory) → Cuts (command_of (map (λ w. w.now) words.now)) (F.holds files.old) (F.faults files.old) (F.faults files.new) (F.blamed files.new) (K.written out.old) (K.written out.new) }
+    ensures cut { (result ≡ Status.WriteFault) ⊎ (result ≡ Status.OutOfMemory) → Cuts (called words.now) (F.holds files.old) (F.faults files.old) (F.faults files.new) (F.blamed files.new) (K.written out.old) (K.written out.new) }
 {
     written_answers_hold();
     match answer(alloc, words, files) {

@@ -4,6 +4,9 @@ ghost use Rattle.std.specs.Prelude.{◌≡◌, [], IfOk};
 ghost use Rattle.cert_check.specs.Verdict.{IsFamilyOf};
 ghost use Rattle.cert_format.specs.Reading.{certificate_in};
 ghost use Rattle.replies.specs.Reply.{ClearReply, PlacesReply, CertificateReply};
+ghost use Rattle.call_graph.specs.Tasks.{task_of};
+ghost use Rattle.local_rules.specs.Site.{bare};
+ghost use Rattle.stack_core.specs.Clauses.{Returns};
 
 use crate::judging::{Judged, judge_text};
 use crate::reply::Reply;
@@ -21,7 +24,7 @@ use vector_table::Assumptions;
 // The answer by whether all nodes of an accepted certificate with this family are clear.
 fn cleared(task: &Task<'_>, certificate: &Certificate, family: &Worked) -> Result<Reply, AllocError>
     requires none { task.now.assumptions.now ≡ [] }
-    requires family { IsFamilyOf task.now.flash.now task.now.assumptions.now certificate.now family.now }
+    requires family { IsFamilyOf (task_of task.now) certificate.now family.now }
     ensures { IfOk result (λ r. ClearReply task.now.flash.now certificate.now r.status r.text.items) }
 {
     match clear_family(task, certificate, family)? {
@@ -38,7 +41,7 @@ fn cleared(task: &Task<'_>, certificate: &Certificate, family: &Worked) -> Resul
 
 /// The answer of `clear` on the text of a certificate. There are no assumptions.
 pub fn clear(alloc: Global, flash: &Flash, text: &[u8]) -> Result<Reply, AllocError>
-    ensures { IfOk result (λ r. CertificateReply flash.now [] (ClearReply flash.now) (certificate_in flash.now.device text.now) r.status r.text.items) }
+    ensures { Returns result (CertificateReply (bare flash.now) (ClearReply flash.now) (certificate_in flash.now.device text.now)) }
 {
     let assumptions = Assumptions::empty(alloc);
     let task = Task {
@@ -60,8 +63,8 @@ fn told(
     family: &Worked,
     why: bool,
 ) -> Result<Reply, AllocError>
-    requires { IsFamilyOf task.now.flash.now task.now.assumptions.now certificate.now family.now }
-    ensures { IfOk result (λ r. PlacesReply why names.now task.now.flash.now task.now.assumptions.now certificate.now r.status r.text.items) }
+    requires { IsFamilyOf (task_of task.now) certificate.now family.now }
+    ensures { IfOk result (λ r. PlacesReply why names.now (task_of task.now) certificate.now r.status r.text.items) }
 {
     let nevers = never_takes_in(task, &family.nodes)?;
     let program = Program {
@@ -100,7 +103,7 @@ fn told(
 
 /// The answer of `premises` on the text of a certificate, for a firmware with these names; with the causes at each place if `why`.
 pub fn premises(task: &Task<'_>, text: &[u8], names: &Names, why: bool) -> Result<Reply, AllocError>
-    ensures { IfOk result (λ r. CertificateReply task.now.flash.now task.now.assumptions.now (PlacesReply why names.now task.now.flash.now task.now.assumptions.now) (certificate_in task.now.flash.now.device text.now) r.status r.text.items) }
+    ensures { Returns result (CertificateReply (task_of task.now) (PlacesReply why names.now (task_of task.now)) (certificate_in task.now.flash.now.device text.now)) }
 {
     match judge_text(task, text)? {
         Judged::Accepted(certificate, family) => told(task, names, &certificate, &family, why),

@@ -4,6 +4,8 @@ ghost use Rattle.std.specs.Prelude.{IfOk};
 ghost use Rattle.cert_check.specs.Verdict.{IsFamilyOf};
 ghost use Rattle.cert_format.specs.Reading.{certificate_in};
 ghost use Rattle.replies.specs.Reply.{ExplainReply, CertificateReply};
+ghost use Rattle.call_graph.specs.Tasks.{task_of};
+ghost use Rattle.stack_core.specs.Clauses.{Returns};
 
 use crate::judging::{Judged, judge_text};
 use crate::reply::Reply;
@@ -22,8 +24,8 @@ fn explained(
     certificate: &Certificate,
     family: &Worked,
 ) -> Result<Reply, AllocError>
-    requires { IsFamilyOf task.now.flash.now task.now.assumptions.now certificate.now family.now }
-    ensures { IfOk result (λ r. ExplainReply names.now task.now.flash.now task.now.assumptions.now certificate.now r.status r.text.items) }
+    requires { IsFamilyOf (task_of task.now) certificate.now family.now }
+    ensures { IfOk result (λ r. ExplainReply names.now (task_of task.now) certificate.now r.status r.text.items) }
 {
     let _nodes = certificate.nodes();
     let explanation = explain_family(task, certificate, family)?;
@@ -41,7 +43,7 @@ fn explained(
 
 /// The answer of `explain` on the text of a certificate, for a firmware with these names.
 pub fn explain(task: &Task<'_>, text: &[u8], names: &Names) -> Result<Reply, AllocError>
-    ensures { IfOk result (λ r. CertificateReply task.now.flash.now task.now.assumptions.now (ExplainReply names.now task.now.flash.now task.now.assumptions.now) (certificate_in task.now.flash.now.device text.now) r.status r.text.items) }
+    ensures { Returns result (CertificateReply (task_of task.now) (ExplainReply names.now (task_of task.now)) (certificate_in task.now.flash.now.device text.now)) }
 {
     match judge_text(task, text)? {
         Judged::Accepted(certificate, family) => explained(task, names, &certificate, &family),

@@ -1,11 +1,13 @@
 //! Judging certificates, for all commands that do.
 
-ghost use Rattle.std.specs.Prelude.{◌≡◌, IfOk, Ok};
+ghost use Rattle.std.specs.Prelude.{IfOk, Ok};
 ghost use Rattle.std.specs.Option.{is_some};
 ghost use Rattle.cert_format.specs.Reading.{certificate_in};
 ghost use Rattle.replies.specs.Texts.{accepted};
 ghost use Rattle.replies.specs.Reply.{Says, report_by, CertificateReply};
 ghost use Rattle.stack_core.specs.Answering.{IsJudgedAs, judged_by};
+ghost use Rattle.call_graph.specs.Tasks.{task_of};
+ghost use Rattle.stack_core.specs.Clauses.{Returns};
 
 use crate::reply::Reply;
 use call_graph::{Task, Worked};
@@ -28,7 +30,7 @@ pub enum Judged {
 // The answer to an accepted certificate.
 #[tactic(auto, using(crate::proofs::Replies::copied_is_some))]
 fn checked(alloc: Global, certificate: &Certificate) -> Result<Reply, AllocError>
-    ensures { IfOk result (λ r. Says Status.Done (accepted certificate.now.bound (is_some certificate.now.witness)) r.status r.text.items) }
+    ensures { Returns result (Says Status.Done (accepted certificate.now.bound (is_some certificate.now.witness))) }
 {
     let attained = certificate.witness().is_some();
     Ok(Reply {
@@ -45,7 +47,7 @@ fn reported(
     loaded: &Loaded,
     json: bool,
 ) -> Result<Reply, AllocError>
-    ensures { IfOk result (λ r. Says Status.Done (report_by json device loaded.now.names loaded.now.static_end certificate.now) r.status r.text.items) }
+    ensures { Returns result (Says Status.Done (report_by json device loaded.now.names loaded.now.static_end certificate.now)) }
 {
     let text = if json {
         report_json(alloc, device, certificate, &loaded.names, loaded.static_end)?
@@ -63,7 +65,7 @@ fn weighed(
     task: &Task<'_>,
     certificate: &Certificate,
 ) -> Result<Result<Worked, Vec<u8>>, AllocError>
-    ensures { IfOk result (λ w. IsJudgedAs task.now.flash.now task.now.assumptions.now (Ok certificate.now) (judged_by certificate.now w)) }
+    ensures { IfOk result (λ w. IsJudgedAs (task_of task.now) (Ok certificate.now) (judged_by certificate.now w)) }
 {
     match judge_family(task, certificate)? {
         Judgement::Accepted(family) => {
@@ -83,7 +85,7 @@ fn weighed(
 
 // Judges a certificate that was read.
 fn judge_claim(task: &Task<'_>, certificate: Certificate) -> Result<Judged, AllocError>
-    ensures { IfOk result (λ j. IsJudgedAs task.now.flash.now task.now.assumptions.now (Ok certificate) j) }
+    ensures { IfOk result (λ j. IsJudgedAs (task_of task.now) (Ok certificate) j) }
 {
     match weighed(task, &certificate) {
         Ok(Ok(family)) => Ok(Judged::Accepted(certificate, family)),
@@ -97,7 +99,7 @@ fn judge_claim(task: &Task<'_>, certificate: Certificate) -> Result<Judged, Allo
 
 /// Reads and judges the certificate of a text.
 pub fn judge_text(task: &Task<'_>, text: &[u8]) -> Result<Judged, AllocError>
-    ensures { IfOk result (λ j. IsJudgedAs task.now.flash.now task.now.assumptions.now (certificate_in task.now.flash.now.device text.now) j) }
+    ensures { IfOk result (λ j. IsJudgedAs (task_of task.now) (certificate_in task.now.flash.now.device text.now) j) }
 {
     match read_certificate(task.alloc, task.flash.device(), text) {
         Ok(certificate) => judge_claim(task, certificate),
@@ -110,7 +112,7 @@ pub fn judge_text(task: &Task<'_>, text: &[u8]) -> Result<Judged, AllocError>
 
 /// The answer of `check` on the text of a certificate.
 pub fn check(task: &Task<'_>, text: &[u8]) -> Result<Reply, AllocError>
-    ensures { IfOk result (λ r. CertificateReply task.now.flash.now task.now.assumptions.now (λ c. Says Status.Done (accepted c.bound (is_some c.witness))) (certificate_in task.now.flash.now.device text.now) r.status r.text.items) }
+    ensures { Returns result (CertificateReply (task_of task.now) (λ c. Says Status.Done (accepted c.bound (is_some c.witness))) (certificate_in task.now.flash.now.device text.now)) }
 {
     match judge_text(task, text)? {
         Judged::Accepted(certificate, family) => {
@@ -129,7 +131,7 @@ pub fn report(
     loaded: &Loaded,
     json: bool,
 ) -> Result<Reply, AllocError>
-    ensures { IfOk result (λ r. CertificateReply task.now.flash.now task.now.assumptions.now (λ c. Says Status.Done (report_by json device loaded.now.names loaded.now.static_end c)) (certificate_in task.now.flash.now.device text.now) r.status r.text.items) }
+    ensures { Returns result (CertificateReply (task_of task.now) (λ c. Says Status.Done (report_by json device loaded.now.names loaded.now.static_end c)) (certificate_in task.now.flash.now.device text.now)) }
 {
     match judge_text(task, text)? {
         Judged::Accepted(certificate, family) => {

@@ -6,6 +6,8 @@ ghost use Rattle.witness_replay.specs.Reading.{schedule_in};
 ghost use Rattle.witness_replay.specs.Replay.{replay_of};
 ghost use Rattle.replies.specs.Texts as told;
 ghost use Rattle.replies.specs.Reply.{RunReply, ScheduleReply};
+ghost use Rattle.call_graph.specs.Tasks.{task_of};
+ghost use Rattle.stack_core.specs.Clauses.{Returns};
 
 use crate::reply::Reply;
 use call_graph::Task;
@@ -17,7 +19,7 @@ use witness_replay::{IllegalChoice, Schedule, ScheduleFault, replay};
 
 // The answer to a schedule that was read.
 fn replayed(task: &Task<'_>, schedule: &Schedule) -> Result<Reply, AllocError>
-    ensures { IfOk result (λ r. RunReply (replay_of task.now.flash.now task.now.assumptions.now schedule.now) r.status r.text.items) }
+    ensures { Returns result (RunReply (replay_of task.now.flash.now task.now.assumptions.now schedule.now)) }
 {
     match replay(task.flash, task.assumptions, schedule) {
         Ok(report) => Ok(Reply {
@@ -42,7 +44,7 @@ fn schedule_malformed(alloc: Global, at: usize) -> Result<Reply, AllocError>
 
 /// The answer to the text of a schedule.
 pub fn run(task: &Task<'_>, text: &[u8]) -> Result<Reply, AllocError>
-    ensures { IfOk result (λ r. ScheduleReply task.now.flash.now task.now.assumptions.now (schedule_in task.now.flash.now.device (record { at = 0; rest = lines_of text.now })) r.status r.text.items) }
+    ensures { Returns result (ScheduleReply (task_of task.now) (schedule_in task.now.flash.now.device (record { at = 0; rest = lines_of text.now }))) }
 {
     let mut reader = LineReader::new(text);
     match Schedule::read(task.alloc, task.flash.device(), &mut reader) {

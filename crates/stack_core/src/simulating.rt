@@ -5,6 +5,8 @@ ghost use Rattle.device_hooks.specs.Reading.{setup_in};
 ghost use Rattle.device_hooks.specs.Simulating.{simulation_of};
 ghost use Rattle.replies.specs.Texts.{run_text};
 ghost use Rattle.replies.specs.Reply.{SimulateReply};
+ghost use Rattle.call_graph.specs.Tasks.{task_of};
+ghost use Rattle.stack_core.specs.Clauses.{Returns};
 
 use crate::reply::Reply;
 use call_graph::Task;
@@ -31,7 +33,7 @@ fn simulated(task: &Task<'_>, steps: ChoiceCount, devices: &Devices) -> Result<V
 /// The answer to the text of devices. Not inlined, as `attain` is not: its machine would stay in the frame of all commands.
 #[inline(never)]
 pub fn simulate(task: &Task<'_>, steps: ChoiceCount, text: &[u8]) -> Result<Reply, AllocError>
-    ensures { IfOk result (λ r. SimulateReply task.now.flash.now task.now.assumptions.now steps (setup_in task.now.flash.now.device text.now) r.status r.text.items) }
+    ensures { Returns result (SimulateReply (task_of task.now) steps (setup_in task.now.flash.now.device text.now)) }
 {
     match Devices::read(task.alloc, task.flash.device(), text) {
         Ok(devices) => Ok(Reply {

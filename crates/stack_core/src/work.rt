@@ -9,6 +9,7 @@ ghost use Rattle.replies.specs.Reply.{WithList, ImageReply, WorkReply};
 ghost use Rattle.replies.specs.Headline.{HasWords};
 ghost use Rattle.command_files.specs.Reading.{bytes_of};
 ghost use Rattle.stack_core.specs.Answering.{LoadedReply};
+ghost use Rattle.stack_core.specs.Clauses.{Returns};
 
 use crate::analysing::{analyse, demo};
 use crate::attaining::attain;
@@ -36,7 +37,7 @@ fn on_flash(
     assumptions: &Assumptions,
     second: &[u8],
 ) -> Result<Reply, AllocError>
-    ensures { IfOk result (λ r. LoadedReply request.now.device (work_seen request.now.work) loaded.now second.now assumptions.now r.status r.text.items) }
+    ensures { Returns result (LoadedReply request.now.device (work_seen request.now.work) loaded.now second.now assumptions.now) }
 {
     let flash = &loaded.flash;
     let task = Task {
@@ -65,7 +66,7 @@ fn under_list(
     second: &[u8],
     list: &Option<Vec<u8>>,
 ) -> Result<Reply, AllocError>
-    ensures { IfOk result (λ r. WithList loaded.flash.device (bytes_of list.now) (λ A. LoadedReply request.now.device (work_seen request.now.work) loaded second.now A) r.status r.text.items) }
+    ensures { Returns result (WithList loaded.flash.device (bytes_of list.now) (LoadedReply request.now.device (work_seen request.now.work) loaded second.now)) }
 {
     match listed(alloc, loaded.flash.device(), list)? {
         Listing::Listed(assumptions) => {
@@ -88,7 +89,7 @@ fn on_image(
     second: &[u8],
     list: &Option<Vec<u8>>,
 ) -> Result<Reply, AllocError>
-    ensures reply { IfOk result (λ r. ImageReply request.now.device (work_seen request.now.work) firmware.now second.now (bytes_of list.now) r.status r.text.items) }
+    ensures reply { Returns result (ImageReply request.now.device (work_seen request.now.work) firmware.now second.now (bytes_of list.now)) }
     ensures words { IfOk result (λ r. r.status ≡ exit.Done → AreWords (firmware_image request.now.device firmware.now)) }
 {
     same_names_give_same_reports();
@@ -111,7 +112,7 @@ pub fn work(
     second: &[u8],
     list: &Option<Vec<u8>>,
 ) -> Result<Reply, AllocError>
-    ensures reply { IfOk result (λ r. WorkReply (command_seen command.now) firmware.now second.now (bytes_of list.now) r.status r.text.items) }
+    ensures reply { Returns result (WorkReply (command_seen command.now) firmware.now second.now (bytes_of list.now)) }
     ensures words { IfOk result (λ r. r.status ≡ exit.Done → HasWords (command_seen command.now) firmware.now) }
 {
     match command {

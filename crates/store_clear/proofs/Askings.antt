@@ -5,9 +5,7 @@ use Rattle.std.proofs.lemmas.Option.{same_Some}
 use Rattle.basics.specs.Lists.{one_at, get_or_front, get_or_pushed}
 use Rattle.std.proofs.lemmas.List.{length_push}
 use Rattle.basics.specs.Numbers.{before_or_last}
-use Rattle.avr_model.specs.declared.assumption.Entry.{Entry}
 use Rattle.avr_model.specs.Sites.{instruction_at}
-use Rattle.avr_model.specs.Devices.{Program}
 use Rattle.abs_state.specs.declared.state.AbsState.{AbsState}
 use Rattle.mask_states.specs.declared.keys.NodeKey.{NodeKey}
 use Rattle.local_rules.specs.declared.local.Node.{Node}
@@ -17,6 +15,7 @@ use Rattle.clear_laws.specs.declared.slots.Asks.{Asks}
 use Rattle.clear_laws.specs.declared.slots.Asks.TheVariants.{Nothing}
 use Rattle.clear_laws.specs.Needs.{meets}
 use Rattle.store_clear.specs.Settling.{ask_at, AreAskedTo}
+use Rattle.local_rules.specs.Site.{Task}
 
 module _ (nodes : List Node) (at : ℕ) (n : Node) (is : slice_get nodes at ≡ Some n) where
   -- an item read by the number of a node
@@ -26,21 +25,21 @@ module _ (nodes : List Node) (at : ℕ) (n : Node) (is : slice_get nodes at ≡ 
   pub state_is : (s : AbsState) → option_map state_of (slice_get nodes at) ≡ Some s → n.state ≡ s
   state_is s e = same_Some n.state s (sym (ap (option_map state_of) is) ∙ e)
 
-module _ (words : Program) (A : List Entry) (bound : ℕ) (nodes : List Node) where
+module _ (task : Task) (bound : ℕ) (nodes : List Node) where
   abbrev Asking : Node → Asks → Type 0
-  Asking n a = (held : ℕ → Bool) → is_clear words A bound n held ≡ meets a held
+  Asking n a = (held : ℕ → Bool) → is_clear task bound n held ≡ meets a held
 
-  pub asked_none : AreAskedTo words A bound nodes 0 []
+  pub asked_none : AreAskedTo task bound nodes 0 []
   asked_none = record { count_is = refl; each = λ at n lt e. absurd (omega (arith, lt)) }
 
   pub asking_is : (n : Node) (k : NodeKey) (s : AbsState) (a : Asks) → n.key ≡ k → n.state ≡ s
-      → ((held : ℕ → Bool) → is_clear_by words A bound k s held (instruction_at words k.pc) ≡ meets a held) → Asking n a
+      → ((held : ℕ → Bool) → is_clear_by task bound (record { key = k; state = s }) held (instruction_at task.flash k.pc) ≡ meets a held) → Asking n a
   asking_is n k s a key state told held =
-      ap (λ (x : NodeKey). is_clear_by words A bound x n.state held (instruction_at words x.pc)) key
-      ∙ (ap (λ (x : AbsState). is_clear_by words A bound k x held (instruction_at words k.pc)) state ∙ told held)
+      ap (λ (x : NodeKey). is_clear_by task bound (record { key = x; state = n.state }) held (instruction_at task.flash x.pc)) key
+      ∙ (ap (λ (x : AbsState). is_clear_by task bound (record { key = k; state = x }) held (instruction_at task.flash k.pc)) state ∙ told held)
 
-  pub asked_more : (at : ℕ) (asks : List Asks) (n : Node) (a : Asks) → AreAskedTo words A bound nodes at asks → slice_get nodes at ≡ Some n → Asking n a
-      → AreAskedTo words A bound nodes (at + 1) (asks ++ a ∷ [])
+  pub asked_more : (at : ℕ) (asks : List Asks) (n : Node) (a : Asks) → AreAskedTo task bound nodes at asks → slice_get nodes at ≡ Some n → Asking n a
+      → AreAskedTo task bound nodes (at + 1) (asks ++ a ∷ [])
   asked_more at asks n a m is told =
       record {
         count_is = length_push asks a ∙ ap (λ x. x + 1) m.count_is;

@@ -12,12 +12,11 @@ use Rattle.basics.specs.Items.{none_in, place_of_contained, contained_at}
 use Rattle.basics.specs.Lists.{one_at}
 use Rattle.basics.specs.Numbers.{before_or_last, equals_itself}
 use Rattle.store_clear.proofs.Marks.{none_on}
-use Rattle.avr_model.specs.declared.assumption.Entry.{Entry}
 use Rattle.avr_model.specs.declared.instruction.Instr.{Instr}
 use Rattle.avr_model.specs.Sites.{instruction_at}
 use Rattle.avr_model.specs.Step.{is_pointer_store, is_indirect}
 use Rattle.avr_model.specs.Assumptions.{is_fixed_site}
-use Rattle.avr_model.specs.Devices.{Program, io_end, device_of}
+use Rattle.avr_model.specs.Devices.{io_end, device_of}
 use Rattle.abs_state.specs.declared.state.AbsState.{AbsState}
 use Rattle.mask_states.specs.declared.keys.NodeKey.{NodeKey}
 use Rattle.local_rules.specs.declared.local.Node.{Node}
@@ -40,41 +39,43 @@ use Rattle.store_clear.specs.ByWord.{IsNext}
 use Rattle.store_clear.proofs.Marked.{placed, placing, ascending}
 use Rattle.store_clear.proofs.Linked.{skipped, reached}
 use Rattle.store_clear.proofs.Taken.{marks_none, marks_one, marks_both, marks_as}
+use Rattle.local_rules.specs.Site.{Task}
+use Rattle.clear_laws.specs.Clear.{store_at}
 
 -- ---- the addresses of a node
 
-module _ (words : Program) (A : List Entry) (pc : ℕ) (s : AbsState) (instr : Instr) where
+module _ (task : Task) (pc : ℕ) (s : AbsState) (instr : Instr) where
   abbrev may : ℕ → Bool
-  may a = may_write_protected words A pc s instr a
+  may a = may_write_protected task (store_at pc s instr) a
 
   abbrev This : ℕ → ℕ → Type 0
   This a x = (x ≡ a) × (may x ≡ true)
 
-  pub addresses_none : (marks : List Bool) → AreMarkedBeside (IsProtectedBelow words A pc s instr 0) marks marks
-  addresses_none marks = marks_none (IsProtectedBelow words A pc s instr 0) marks (λ x t. let lt = t.0 in omega (arith, lt))
+  pub addresses_none : (marks : List Bool) → AreMarkedBeside (IsProtectedBelow task (store_at pc s instr) 0) marks marks
+  addresses_none marks = marks_none (IsProtectedBelow task (store_at pc s instr) 0) marks (λ x t. let lt = t.0 in omega (arith, lt))
 
-  module _ (n : ℕ) (old mid : List Bool) (so : AreMarkedBeside (IsProtectedBelow words A pc s instr n) old mid) where
-    with_it : (new : List Bool) → AreMarkedBeside (This n) mid new → AreMarkedBeside (IsProtectedBelow words A pc s instr (n + 1)) old new
+  module _ (n : ℕ) (old mid : List Bool) (so : AreMarkedBeside (IsProtectedBelow task (store_at pc s instr) n) old mid) where
+    with_it : (new : List Bool) → AreMarkedBeside (This n) mid new → AreMarkedBeside (IsProtectedBelow task (store_at pc s instr) (n + 1)) old new
     with_it new one =
-        marks_both (IsProtectedBelow words A pc s instr n) (This n) (IsProtectedBelow words A pc s instr (n + 1)) old mid new
+        marks_both (IsProtectedBelow task (store_at pc s instr) n) (This n) (IsProtectedBelow task (store_at pc s instr) (n + 1)) old mid new
         (λ x t. (let below = t.0 in omega (arith, below), t.1)) (λ x t. (let same = t.0 in omega (arith, same), t.1))
         (λ x t. ⊎_elim (λ below. inl (below, t.1)) (λ e. inr (e, t.1)) (before_or_last x n t.0)) so one
 
-    pub addresses_more : n < length mid → may n ≡ true → AreMarkedBeside (IsProtectedBelow words A pc s instr (n + 1)) old (set mid n true)
+    pub addresses_more : n < length mid → may n ≡ true → AreMarkedBeside (IsProtectedBelow task (store_at pc s instr) (n + 1)) old (set mid n true)
     addresses_more lt e = with_it (set mid n true) (marks_as (λ x. x ≡ n) (This n) mid _ (λ x same. (same, ap may same ∙ e)) (λ x t. t.0) (marks_one n mid lt))
 
-    pub addresses_same : may n ≡ false → AreMarkedBeside (IsProtectedBelow words A pc s instr (n + 1)) old mid
+    pub addresses_same : may n ≡ false → AreMarkedBeside (IsProtectedBelow task (store_at pc s instr) (n + 1)) old mid
     addresses_same e = with_it mid (marks_none (This n) mid (λ x t. never_both (may n) (ap may (sym t.0) ∙ t.1) e))
 
 -- ---- all nodes
 
-module _ (words : Program) (A : List Entry) (nodes : List Node) (asks : List Asks) (pc : ℕ) (instr : Instr) where
+module _ (task : Task) (nodes : List Node) (asks : List Asks) (pc : ℕ) (instr : Instr) where
   abbrev At : ℕ → ℕ → Type 0
-  At count a = IsProtectedAt words A nodes asks pc instr count a
+  At count a = IsProtectedAt task nodes asks pc instr count a
 
   -- a node with this key has a condition left and is at the word, and a store there may write this address
   abbrev From : NodeKey → AbsState → Asks → ℕ → Type 0
-  From k s ask a = (is_unclear_at pc k ask ≡ true) × IsProtectedBelow words A pc s instr (io_end (device_of words) + 1) a
+  From k s ask a = (is_unclear_at pc k ask ≡ true) × IsProtectedBelow task (store_at pc s instr) (io_end (device_of task.flash) + 1) a
 
   pub nodes_none : (marks : List Bool) → AreMarkedBeside (At 0) marks marks
   nodes_none marks = marks_none (At 0) marks (λ a t. let lt = t.1.below in omega (arith, lt))
@@ -84,7 +85,7 @@ module _ (words : Program) (A : List Entry) (nodes : List Node) (asks : List Ask
   nodes_more at n k s ask old mid new is key state same so one =
       marks_both (At at) (From k s ask) (At (at + 1)) old mid new
       (λ a t. (t.0, record { at = t.1.at; node = t.1.node; below = let lt = t.1.below in omega (arith, lt); is = t.1.is; unclear = t.1.unclear; passes = t.1.passes }))
-      (λ a t. (t.1.0, record { at = at; node = n; below = omega arith; is = is; unclear = unclear_back t.0; passes = ap (λ (x : AbsState). may_write_protected words A pc x instr a) state ∙ t.1.1 }))
+      (λ a t. (t.1.0, record { at = at; node = n; below = omega arith; is = is; unclear = unclear_back t.0; passes = ap (λ (x : AbsState). may_write_protected task (store_at pc x instr) a) state ∙ t.1.1 }))
       split so one
     where
       unclear_back : is_unclear_at pc k ask ≡ true → is_unclear_at pc n.key (ask_at asks at) ≡ true
@@ -101,22 +102,22 @@ module _ (words : Program) (A : List Entry) (nodes : List Node) (asks : List Ask
           inr (
             sym (ap (λ (x : NodeKey). is_unclear_at pc x (ask_at asks at)) key ∙ ap (is_unclear_at pc k) same)
                 ∙ ap (λ (x : Node). is_unclear_at pc x.key (ask_at asks at)) (sym m) ∙ ap (λ i. is_unclear_at pc t.1.node.key (ask_at asks i)) (sym e) ∙ t.1.unclear,
-            (t.0, ap (λ (x : AbsState). may_write_protected words A pc x instr a) (sym state) ∙ ap (λ (x : Node). may_write_protected words A pc x.state instr a) (sym m) ∙ t.1.passes),
+            (t.0, ap (λ (x : AbsState). may_write_protected task (store_at pc x instr) a) (sym state) ∙ ap (λ (x : Node). may_write_protected task (store_at pc x.state instr) a) (sym m) ∙ t.1.passes),
           ))
           (before_or_last t.1.at at t.1.below)
 
   module _ (at : ℕ) (n : Node) (k : NodeKey) (s : AbsState) (ask : Asks) (old mid : List Bool) (is : slice_get nodes at ≡ Some n) (key : n.key ≡ k) (state : n.state ≡ s)
       (same : ask_at asks at ≡ ask) (so : AreMarkedBeside (At at) old mid) where
-    pub nodes_marked : (new : List Bool) → is_unclear_at pc k ask ≡ true → AreMarkedBeside (IsProtectedBelow words A pc s instr (io_end (device_of words) + 1)) mid new → AreMarkedBeside (At (at + 1)) old new
+    pub nodes_marked : (new : List Bool) → is_unclear_at pc k ask ≡ true → AreMarkedBeside (IsProtectedBelow task (store_at pc s instr) (io_end (device_of task.flash) + 1)) mid new → AreMarkedBeside (At (at + 1)) old new
     nodes_marked new e one =
         nodes_more at n k s ask old mid new is key state same so
-        (marks_as (IsProtectedBelow words A pc s instr (io_end (device_of words) + 1)) (From k s ask) mid new (λ a t. (e, t)) (λ a t. t.1) one)
+        (marks_as (IsProtectedBelow task (store_at pc s instr) (io_end (device_of task.flash) + 1)) (From k s ask) mid new (λ a t. (e, t)) (λ a t. t.1) one)
 
   -- those that come next
   pub nodes_skipped : (start at : ℕ) (old new : List Bool) → IsNext nodes asks pc start at → AreMarkedBeside (At start) old new → AreMarkedBeside (At at) old new
   nodes_skipped start at old new next so =
-      marks_as (At start) (At at) old new (λ a t. (t.0, reached nodes asks pc start at next (λ s. may_write_protected words A pc s instr a) t.1))
-      (λ a t. (t.0, skipped nodes asks pc start at next (λ s. may_write_protected words A pc s instr a) t.1)) so
+      marks_as (At start) (At at) old new (λ a t. (t.0, reached nodes asks pc start at next (λ s. may_write_protected task (store_at pc s instr) a) t.1))
+      (λ a t. (t.0, skipped nodes asks pc start at next (λ s. may_write_protected task (store_at pc s instr) a) t.1)) so
 
 -- ---- the list
 
@@ -144,12 +145,12 @@ ascending_given list last are = subst (IsStrictlySortedBy nat_cmp) (sym are) (as
 
 -- ---- one after the other
 
-module _ (words : Program) (A : List Entry) (bound : ℕ) (nodes : List Node) (asks : List Asks) (pc : ℕ) (instr : Instr) where
+module _ (task : Task) (bound : ℕ) (nodes : List Node) (asks : List Asks) (pc : ℕ) (instr : Instr) where
   abbrev LiveAt : ℕ → Type 0
-  LiveAt count = IsLiveAt words A bound nodes asks pc instr count
+  LiveAt count = IsLiveAt task bound nodes asks pc instr count
 
   module _ (at : ℕ) (n : Node) (k : NodeKey) (s : AbsState) (is : slice_get nodes at ≡ Some n) (key : n.key ≡ k) (state : n.state ≡ s) where
-    pub live_found : (count : ℕ) → at < count → is_unclear_at pc k (ask_at asks at) ≡ true → may_write_live words A bound pc s instr ≡ true → LiveAt count
+    pub live_found : (count : ℕ) → at < count → is_unclear_at pc k (ask_at asks at) ≡ true → may_write_live task bound (store_at pc s instr) ≡ true → LiveAt count
     live_found count lt unclear live =
         record {
           at = at;
@@ -157,16 +158,16 @@ module _ (words : Program) (A : List Entry) (bound : ℕ) (nodes : List Node) (a
           below = lt;
           is = is;
           unclear = ap (λ (x : NodeKey). is_unclear_at pc x (ask_at asks at)) key ∙ unclear;
-          passes = ap (λ (x : AbsState). may_write_live words A bound pc x instr) state ∙ live;
+          passes = ap (λ (x : AbsState). may_write_live task bound (store_at pc x instr)) state ∙ live;
         }
 
-    pub live_not : (LiveAt at → ⊥) → may_write_live words A bound pc s instr ≡ false → LiveAt (at + 1) → ⊥
+    pub live_not : (LiveAt at → ⊥) → may_write_live task bound (store_at pc s instr) ≡ false → LiveAt (at + 1) → ⊥
     live_not none here t =
         ⊎_elim (λ lt. none (record { at = t.at; node = t.node; below = lt; is = t.is; unclear = t.unclear; passes = t.passes }))
         (λ e.
         let m : t.node ≡ n = one_at nodes at t.node n (subst (λ i. slice_get nodes i ≡ Some t.node) e t.is) is in
-        never_both (may_write_live words A bound pc s instr)
-        (sym (ap (λ (x : Node). may_write_live words A bound pc x.state instr) m ∙ ap (λ (x : AbsState). may_write_live words A bound pc x instr) state) ∙ t.passes) here)
+        never_both (may_write_live task bound (store_at pc s instr))
+        (sym (ap (λ (x : Node). may_write_live task bound (store_at pc x.state instr)) m ∙ ap (λ (x : AbsState). may_write_live task bound (store_at pc x instr)) state) ∙ t.passes) here)
         (before_or_last t.at at t.below)
 
   pub live_none : LiveAt 0 → ⊥
@@ -174,7 +175,7 @@ module _ (words : Program) (A : List Entry) (bound : ℕ) (nodes : List Node) (a
 
   -- none among those that come next
   pub live_skipped : (start at : ℕ) → IsNext nodes asks pc start at → (LiveAt start → ⊥) → LiveAt at → ⊥
-  live_skipped start at next none t = none (skipped nodes asks pc start at next (λ s. may_write_live words A bound pc s instr) t)
+  live_skipped start at next none t = none (skipped nodes asks pc start at next (λ s. may_write_live task bound (store_at pc s instr)) t)
 
 -- ---- a word
 
@@ -182,18 +183,18 @@ listed_by : (a b : Bool) → not (not a || b) ≡ true → a ≡ true
 listed_by true b h = refl
 listed_by false b h = absurd (cc)
 
-module _ (words : Program) (A : List Entry) (c : Claim) (nodes : List Node) (asks : List Asks) (told : IsTold words A c nodes asks) (pc : ℕ) where
+module _ (task : Task) (c : Claim) (nodes : List Node) (asks : List Asks) (told : IsTold task c nodes asks) (pc : ℕ) where
   abbrev f : RankedFamily
   f = family_of c nodes
 
   -- a node that isn't clear has a condition left
-  asks_there : (n : Node) (at : ℕ) → slice_get nodes at ≡ Some n → n.key.pc ≡ pc → (IsClear words A f n → ⊥) → is_unclear_at pc n.key (ask_at asks at) ≡ true
+  asks_there : (n : Node) (at : ℕ) → slice_get nodes at ≡ Some n → n.key.pc ≡ pc → (IsClear task f n → ⊥) → is_unclear_at pc n.key (ask_at asks at) ≡ true
   asks_there n at is word unclear =
       and_from (not (passes (ask_at asks at))) (n.key.pc == pc) (not_from_never (passes (ask_at asks at)) (λ h. unclear ((told.told.each at n is).0 h)))
       (ap (λ p. p == pc) word ∙ equals_itself pc)
 
-  module _ (instr : Instr) (is : instruction_at words pc ≡ Some instr) (test : AbsState → Instr → Bool) where
-    pub cause_from : PassesBelow nodes asks pc (λ s. test s instr) (length asks) → IsCause words A f pc test
+  module _ (instr : Instr) (is : instruction_at task.flash pc ≡ Some instr) (test : AbsState → Instr → Bool) where
+    pub cause_from : PassesBelow nodes asks pc (λ s. test s instr) (length asks) → IsCause task f pc test
     cause_from t =
         let parts = and_parts (not (passes (ask_at asks t.at))) (t.node.key.pc == pc) t.unclear in
         record {
@@ -206,7 +207,7 @@ module _ (words : Program) (A : List Entry) (c : Claim) (nodes : List Node) (ask
           passes = t.passes;
         }
 
-    pub cause_to : IsCause words A f pc test → PassesBelow nodes asks pc (λ s. test s instr) (length asks)
+    pub cause_to : IsCause task f pc test → PassesBelow nodes asks pc (λ s. test s instr) (length asks)
     cause_to cause =
         let p = place_of_contained nodes cause.node cause.present in
         record {
@@ -218,48 +219,48 @@ module _ (words : Program) (A : List Entry) (c : Claim) (nodes : List Node) (ask
           passes = ap (test cause.node.state) (same_Some instr cause.instr (sym is ∙ cause.instruction)) ∙ cause.passes;
         }
 
-  none_without : (test : AbsState → Instr → Bool) → instruction_at words pc ≡ None → IsCause words A f pc test → ⊥
+  none_without : (test : AbsState → Instr → Bool) → instruction_at task.flash pc ≡ None → IsCause task f pc test → ⊥
   none_without test is cause = let no : None ≡ Some cause.instr = sym is ∙ cause.instruction in cc
 
   never_true : false ≡ true → ⊥
   never_true e = cc
 
-  pub nothing_there : instruction_at words pc ≡ None → IsPlaceOf words A f (record { word = pc; protected = []; live = false; transfer = false })
+  pub nothing_there : instruction_at task.flash pc ≡ None → IsPlaceOf task f (record { word = pc; protected = []; live = false; transfer = false })
   unfolding IsStrictlySortedBy
   nothing_there is =
       record {
         ascending = tt;
-        protected = λ a. (λ h. absurd (none_in a h), λ cause. absurd (none_without (λ s y. may_write_protected words A pc s y a) is cause));
-        live = (λ h. absurd (never_true h), λ cause. absurd (none_without (may_write_live words A c.bound pc) is cause));
-        transfer = (λ h. absurd (never_true h), λ cause. absurd (none_without (λ s y. not (is_transfer_listed words A pc s y)) is cause));
+        protected = λ a. (λ h. absurd (none_in a h), λ cause. absurd (none_without (λ s y. may_write_protected task (store_at pc s y) a) is cause));
+        live = (λ h. absurd (never_true h), λ cause. absurd (none_without (λ s y. may_write_live task c.bound (store_at pc s y)) is cause));
+        transfer = (λ h. absurd (never_true h), λ cause. absurd (none_without (λ s y. not (is_transfer_listed task pc s y)) is cause));
       }
 
   -- only addresses below SRAM are guarded
-  protected_small : (s : AbsState) (instr : Instr) (a : ℕ) → may_write_protected words A pc s instr a ≡ true → a < io_end (device_of words) + 1
+  protected_small : (s : AbsState) (instr : Instr) (a : ℕ) → may_write_protected task (store_at pc s instr) a ≡ true → a < io_end (device_of task.flash) + 1
   protected_small s instr a h =
       ⊎_elim (λ lt. lt)
       (λ over.
       absurd
-      (never_both (is_guarded (device_of words) A pc (stored_bits s instr) a)
-      (and_parts (is_pointer_store instr && not (is_fixed_site words A pc)) _ (left_of_and (is_flagged_address words A pc s instr a) _ h)).1
-      (unguarded (device_of words) A pc (stored_bits s instr) a (omega (arith, over))))) (cases_lt a (io_end (device_of words) + 1))
+      (never_both (is_guarded (device_of task.flash) task.assumptions pc (stored_bits s instr) a)
+      (and_parts (is_pointer_store instr && not (is_fixed_site task.flash task.assumptions pc)) _ (left_of_and (is_flagged_address task (store_at pc s instr) a) _ h)).1
+      (unguarded (device_of task.flash) task.assumptions pc (stored_bits s instr) a (omega (arith, over))))) (cases_lt a (io_end (device_of task.flash) + 1))
 
-  module _ (instr : Instr) (is : instruction_at words pc ≡ Some instr) (protected : List ℕ) (live : Bool)
-      (exact : (a : ℕ) → Contains protected a ↔ IsProtectedAt words A nodes asks pc instr (length asks) a) (sorted : IsStrictlySortedBy nat_cmp protected)
-      (alive : (live ≡ true) ↔ IsLiveAt words A c.bound nodes asks pc instr (length asks)) (site : MayBeFlagged words A f pc) where
-    pub place_given : IsPlaceOf words A f (record { word = pc; protected = protected; live = live; transfer = is_indirect instr })
+  module _ (instr : Instr) (is : instruction_at task.flash pc ≡ Some instr) (protected : List ℕ) (live : Bool)
+      (exact : (a : ℕ) → Contains protected a ↔ IsProtectedAt task nodes asks pc instr (length asks) a) (sorted : IsStrictlySortedBy nat_cmp protected)
+      (alive : (live ≡ true) ↔ IsLiveAt task c.bound nodes asks pc instr (length asks)) (site : MayBeFlagged task f pc) where
+    pub place_given : IsPlaceOf task f (record { word = pc; protected = protected; live = live; transfer = is_indirect instr })
     place_given =
         record {
           ascending = sorted;
           protected = λ a. (
-            λ h. cause_from instr is (λ s y. may_write_protected words A pc s y a) ((exact a).0 h).1,
+            λ h. cause_from instr is (λ s y. may_write_protected task (store_at pc s y) a) ((exact a).0 h).1,
             λ cause.
-                let t = cause_to instr is (λ s y. may_write_protected words A pc s y a) cause in
+                let t = cause_to instr is (λ s y. may_write_protected task (store_at pc s y) a) cause in
                 (exact a).1 (protected_small t.node.state instr a t.passes, t),
           );
           live = (
-            λ h. cause_from instr is (may_write_live words A c.bound pc) (alive.0 h),
-            λ cause. alive.1 (cause_to instr is (may_write_live words A c.bound pc) cause),
+            λ h. cause_from instr is (λ s y. may_write_live task c.bound (store_at pc s y)) (alive.0 h),
+            λ cause. alive.1 (cause_to instr is (λ s y. may_write_live task c.bound (store_at pc s y)) cause),
           );
           transfer = (
             λ h. record {
@@ -269,36 +270,36 @@ module _ (words : Program) (A : List Entry) (c : Claim) (nodes : List Node) (ask
               unclear = site.unclear;
               instr = instr;
               instruction = is;
-              passes = subst (λ q. not (is_transfer_listed words A q site.node.state instr) ≡ true) site.is
-                  (not_listed words A f site.node instr (subst (λ q. instruction_at words q ≡ Some instr) (sym site.is) is) h site.unclear);
+              passes = subst (λ q. not (is_transfer_listed task q site.node.state instr) ≡ true) site.is
+                  (not_listed task f site.node instr (subst (λ q. instruction_at task.flash q ≡ Some instr) (sym site.is) is) h site.unclear);
             },
             λ cause.
-                let t = cause_to instr is (λ s y. not (is_transfer_listed words A pc s y)) cause in
+                let t = cause_to instr is (λ s y. not (is_transfer_listed task pc s y)) cause in
                 listed_by (is_indirect instr) _ t.passes,
           );
         }
 
 -- ---- all words
 
-module _ (words : Program) (A : List Entry) (g : RankedFamily) where
-  pub places_none : ArePlacesOf words A g [] []
+module _ (task : Task) (g : RankedFamily) where
+  pub places_none : ArePlacesOf task g [] []
   places_none = record { are = refl; each = λ p h. absurd (none_in p h) }
 
-  pub places_more : (sites : List ℕ) (i d : ℕ) (places : List FlaggedPlace) (place : FlaggedPlace) → i < length sites → place.word ≡ get_or sites i d → IsPlaceOf words A g place
-      → ArePlacesOf words A g (take i sites) places → ArePlacesOf words A g (take (i + 1) sites) (places ++ place ∷ [])
+  pub places_more : (sites : List ℕ) (i d : ℕ) (places : List FlaggedPlace) (place : FlaggedPlace) → i < length sites → place.word ≡ get_or sites i d → IsPlaceOf task g place
+      → ArePlacesOf task g (take i sites) places → ArePlacesOf task g (take (i + 1) sites) (places ++ place ∷ [])
   places_more sites i d places place lt word is so =
       record {
         are = map-append word_of places (place ∷ []) ∙ ap (λ (xs : List ℕ). xs ++ place.word ∷ []) so.are
             ∙ ap (λ w. take i sites ++ w ∷ []) word ∙ sym (take_more sites i d lt);
-        each = λ p h. ⊎_elim (so.each p) (λ e. subst (IsPlaceOf words A g) e is) (Contains-push_cases places place p h);
+        each = λ p h. ⊎_elim (so.each p) (λ e. subst (IsPlaceOf task g) e is) (Contains-push_cases places place p h);
       }
 
-module _ (words : Program) (A : List Entry) (c : Claim) (nodes : List Node) (asks : List Asks) (told : IsTold words A c nodes asks) (sites : List ℕ) (are : AreSites words A c sites) where
+module _ (task : Task) (c : Claim) (nodes : List Node) (asks : List Asks) (told : IsTold task c nodes asks) (sites : List ℕ) (are : AreSites task c sites) where
   -- the words are those of these nodes
-  pub sites_are_flagged : (pc : ℕ) → Contains sites pc → MayBeFlagged words A (family_of c nodes) pc
+  pub sites_are_flagged : (pc : ℕ) → Contains sites pc → MayBeFlagged task (family_of c nodes) pc
   sites_are_flagged pc h =
-      let same = filled_or_missing.one words A c.nodes are.nodes nodes are.expanded told.filled in
-      subst (λ (ns : List Node). MayBeFlagged words A (family_of c ns) pc) same ((are.exact pc).0 h)
+      let same = filled_or_missing.one task c.nodes are.nodes nodes are.expanded told.filled in
+      subst (λ (ns : List Node). MayBeFlagged task (family_of c ns) pc) same ((are.exact pc).0 h)
 
-  pub are_places : (places : List FlaggedPlace) → ArePlacesOf words A (family_of c nodes) sites places → ArePlaces words A c places
-  are_places places h = record { sites = subst (AreSites words A c) (sym h.are) are; nodes = nodes; expanded = told.filled; each = h.each }
+  pub are_places : (places : List FlaggedPlace) → ArePlacesOf task (family_of c nodes) sites places → ArePlaces task c places
+  are_places places h = record { sites = subst (AreSites task c) (sym h.are) are; nodes = nodes; expanded = told.filled; each = h.each }

@@ -10,8 +10,6 @@ use Rattle.basics.specs.Lists.{one_at}
 use Rattle.basics.specs.Numbers.{equals_itself}
 use Rattle.avr_model.proofs.AllLaws.{devices_are_alike}
 use Rattle.avr_model.specs.Image.{WORDS}
-use Rattle.avr_model.specs.declared.assumption.Entry.{Entry}
-use Rattle.avr_model.specs.Devices.{Program}
 use Rattle.abs_state.specs.declared.state.AbsState.{AbsState}
 use Rattle.mask_states.specs.declared.keys.NodeKey.{NodeKey}
 use Rattle.local_rules.specs.declared.local.Node.{Node}
@@ -23,6 +21,7 @@ use Rattle.clear_laws.specs.declared.slots.Asks.{Asks}
 use Rattle.store_clear.specs.Settling.{ask_at, passes}
 use Rattle.store_clear.specs.Causing.{is_unclear_at, PassesBelow}
 use Rattle.store_clear.specs.ByWord.{IsNext, AreLinked, IsChain, IsOnChain}
+use Rattle.local_rules.specs.Site.{Task}
 
 passing_clear : (pc : ℕ) (k : NodeKey) (a : Asks) → passes a ≡ true → is_unclear_at pc k a ≡ true → ⊥
 passing_clear pc k a p u = never_both (passes a) p (not-true (passes a) (and_parts (not (passes a)) (k.pc == pc) u).0)
@@ -178,6 +177,6 @@ pub word_small : (nodes : List Node) → AreOfSomeDevice nodes → (at : ℕ) (n
 word_small nodes shown at n is = let word = (shown.1.all n (contained_at nodes at n is)).word in omega (arith, word, devices_are_alike.most_limit shown.0)
 
 -- the word of a node that may flag a step
-pub word_of_flagged : (words : Program) (A : List Entry) (c : Claim) (nodes : List Node) (pc : ℕ) → AreOfSomeDevice nodes → MayBeFlagged words A (family_of c nodes) pc → pc < WORDS
-word_of_flagged words A c nodes pc shown m =
+pub word_of_flagged : (task : Task) (c : Claim) (nodes : List Node) (pc : ℕ) → AreOfSomeDevice nodes → MayBeFlagged task (family_of c nodes) pc → pc < WORDS
+word_of_flagged task c nodes pc shown m =
     let word = (shown.1.all m.node m.present).word in subst (λ w. w < WORDS) m.is (omega (arith, word, devices_are_alike.most_limit shown.0))

@@ -28,14 +28,15 @@ use Rattle.store_clear.specs.Settling.{ask_at, passes, ArePassing, IsFirstAt, Is
 use Rattle.store_clear.specs.Causing.{AreSitesTold}
 use Rattle.store_clear.proofs.Askings.{key_is}
 use Rattle.store_clear.proofs.Marked.{placed, placing, ascending}
+use Rattle.local_rules.specs.Site.{Task, task_with, bare}
 
 -- ---- the verdict
 
-module _ (words : Program) (A : List Entry) (c : Claim) (nodes : List Node) (asks : List Asks) (is : IsTold words A c nodes asks) where
-  clear_at : (at : ℕ) (n : Node) → slice_get nodes at ≡ Some n → passes (ask_at asks at) ≡ true → IsClear words A (family_of c nodes) n
+module _ (task : Task) (c : Claim) (nodes : List Node) (asks : List Asks) (is : IsTold task c nodes asks) where
+  clear_at : (at : ℕ) (n : Node) → slice_get nodes at ≡ Some n → passes (ask_at asks at) ≡ true → IsClear task (family_of c nodes) n
   clear_at at n e = (is.told.each at n e).0
 
-  pub all_clear : ArePassing asks (length asks) → AreAllClear words A c
+  pub all_clear : ArePassing asks (length asks) → AreAllClear task c
   all_clear passing =
       record {
         nodes = nodes;
@@ -46,7 +47,7 @@ module _ (words : Program) (A : List Entry) (c : Claim) (nodes : List Node) (ask
             clear_at p.0 n p.1 (passing p.0 (let same = is.told.count in omega (arith, lt, same)));
       }
 
-  pub first_unclear : (at : ℕ) (k : NodeKey) → IsFirstAt asks at → option_map key_of (slice_get nodes at) ≡ Some k → IsFirstUnclear words A c at k.pc
+  pub first_unclear : (at : ℕ) (k : NodeKey) → IsFirstAt asks at → option_map key_of (slice_get nodes at) ≡ Some k → IsFirstUnclear task c at k.pc
   first_unclear at k first key =
       let lt : at < length nodes = let l = first.inside in let same = is.told.count in omega (arith, l, same) in
       let n = get_inside nodes at lt in
@@ -63,13 +64,13 @@ module _ (words : Program) (A : List Entry) (c : Claim) (nodes : List Node) (ask
   -- ---- the words
 
   module _ (old new : List Bool) (many : ℕ) (none : old ≡ replicate many false) (marked : AreWordsMarked nodes asks (length asks) old new) where
-    flagged_down : (pc : ℕ) → Contains (places_of new) pc → MayBeFlagged words A (family_of c nodes) pc
+    flagged_down : (pc : ℕ) → Contains (places_of new) pc → MayBeFlagged task (family_of c nodes) pc
     flagged_down pc h =
         let w = placed 0 new pc h in
         let on : is_on new pc ≡ true = subst (λ x. is_on new x ≡ true) (let e = w.1.0 in omega (arith, e)) w.1.1 in
         ⊎_elim (λ o. absurd (never_both (is_on old pc) o (ap (λ (bs : List Bool). is_on bs pc) none ∙ none_on many pc))) (by pc) ((marked.exact pc).0 on)
       where
-        by : (pc : ℕ) → IsWordOf nodes asks (length asks) pc → MayBeFlagged words A (family_of c nodes) pc
+        by : (pc : ℕ) → IsWordOf nodes asks (length asks) pc → MayBeFlagged task (family_of c nodes) pc
         by pc w =
             record {
               node = w.node;
@@ -86,17 +87,17 @@ module _ (words : Program) (A : List Entry) (c : Claim) (nodes : List Node) (ask
         subst (Contains (places_of new)) (let same : 0 + n.key.pc ≡ n.key.pc = omega arith in same) (placing 0 new n.key.pc on)
 
     -- each node is clear, or its word is listed
-    clear_or_listed : (n : Node) → Contains nodes n → (Contains (places_of new) n.key.pc → IsClear words A (family_of c nodes) n) → IsClear words A (family_of c nodes) n
+    clear_or_listed : (n : Node) → Contains nodes n → (Contains (places_of new) n.key.pc → IsClear task (family_of c nodes) n) → IsClear task (family_of c nodes) n
     clear_or_listed n has given = by (passes (ask_at asks p.0)) refl
       where
         p : (i : ℕ) × (slice_get nodes i ≡ Some n)
         p = place_of_contained nodes n has
 
-        by : (b : Bool) → passes (ask_at asks p.0) ≡ b → IsClear words A (family_of c nodes) n
+        by : (b : Bool) → passes (ask_at asks p.0) ≡ b → IsClear task (family_of c nodes) n
         by true e = clear_at p.0 n p.1 e
         by false e = given (listed_at p.0 n p.1 e)
 
-    flagged_up : (pc : ℕ) → MayBeFlagged words A (family_of c nodes) pc → Contains (places_of new) pc
+    flagged_up : (pc : ℕ) → MayBeFlagged task (family_of c nodes) pc → Contains (places_of new) pc
     flagged_up pc m = by (passes (ask_at asks p.0)) refl
       where
         p : (i : ℕ) × (slice_get nodes i ≡ Some m.node)
@@ -106,10 +107,10 @@ module _ (words : Program) (A : List Entry) (c : Claim) (nodes : List Node) (ask
         by true e = absurd (m.unclear (clear_at p.0 m.node p.1 e))
         by false e = subst (Contains (places_of new)) m.is (listed_at p.0 m.node p.1 e)
 
-    pub are_sites : AreSites words A c (places_of new)
+    pub are_sites : AreSites task c (places_of new)
     are_sites = record { nodes = nodes; expanded = is.filled; ascending = ascending 0 new; exact = λ pc. (flagged_down pc, flagged_up pc) }
 
-    pub clear_where_none : places_of new ≡ [] → AreAllClear words A c
+    pub clear_where_none : places_of new ≡ [] → AreAllClear task c
     clear_where_none e =
         record {
           nodes = nodes;
@@ -119,43 +120,43 @@ module _ (words : Program) (A : List Entry) (c : Claim) (nodes : List Node) (ask
 
 -- ---- without assumptions
 
-module _ (words : Program) (A : List Entry) (c : Claim) (nodes : List Node) (asks given : List Asks) (nothing : A ≡ []) (same : given ≡ asks) (is : IsTold words A c nodes asks) where
-  told : IsTold words [] c nodes given
-  told = subst (λ (B : List Entry). IsTold words B c nodes given) nothing (subst (IsTold words A c nodes) (sym same) is)
+module _ (task : Task) (c : Claim) (nodes : List Node) (asks given : List Asks) (nothing : task.assumptions ≡ []) (same : given ≡ asks) (is : IsTold task c nodes asks) where
+  told : IsTold (bare task.flash) c nodes given
+  told = subst (λ (B : List Entry). IsTold (task_with task.flash B) c nodes given) nothing (subst (IsTold task c nodes) (sym same) is)
 
-  pub clear_told : ArePassing given (length given) → IsClearVerdict words c Clear
-  clear_told passing = all_clear words [] c nodes given told passing
+  pub clear_told : ArePassing given (length given) → IsClearVerdict task.flash c Clear
+  clear_told passing = all_clear (bare task.flash) c nodes given told passing
 
-  pub unclear_told : (at : ℕ) (k : NodeKey) → IsFirstAt given at → option_map key_of (slice_get nodes at) ≡ Some k → IsClearVerdict words c (Unclear at k.pc)
-  unclear_told at k first key = first_unclear words [] c nodes given told at k first key
+  pub unclear_told : (at : ℕ) (k : NodeKey) → IsFirstAt given at → option_map key_of (slice_get nodes at) ≡ Some k → IsClearVerdict task.flash c (Unclear at k.pc)
+  unclear_told at k first key = first_unclear (bare task.flash) c nodes given told at k first key
 
 -- ---- what follows
 
 module _ (words : Program) (c : Claim) (verdict : ClearVerdict) (is : IsClearVerdict words c verdict) where
-  pub clear_both : (verdict ≡ Clear) ↔ AreAllClear words [] c
+  pub clear_both : (verdict ≡ Clear) ↔ AreAllClear (bare words) c
   clear_both = (λ e. subst (IsClearVerdict words c) e is, λ all. clear_verdicts_are_one words c verdict Clear is all)
 
-  pub unclear_both : (j pc : ℕ) → (verdict ≡ Unclear j pc) ↔ IsFirstUnclear words [] c j pc
+  pub unclear_both : (j pc : ℕ) → (verdict ≡ Unclear j pc) ↔ IsFirstUnclear (bare words) c j pc
   unclear_both j pc = (λ e. subst (IsClearVerdict words c) e is, λ first. clear_verdicts_are_one words c verdict (Unclear j pc) is first)
 
 -- if all are read behind references
 pub sites_told : (nodes : List Node) (asks : List Asks) (old first new last : List Bool) (many : ℕ) (sites : List ℕ) → old ≡ replicate many false → first ≡ old
     → AreWordsMarked nodes asks (length asks) first new → last ≡ new → sites ≡ places_of last → AreSitesTold nodes asks sites
-sites_told nodes asks old first new last many sites none begins marked ends are words A c told = (
+sites_told nodes asks old first new last many sites none begins marked ends are task c told = (
   sites_given,
-  (λ e. clear_where_none words A c nodes asks told first new many (begins ∙ none) marked (sym places_are ∙ e), λ all. none_where_clear words A c sites sites_given all),
+  (λ e. clear_where_none task c nodes asks told first new many (begins ∙ none) marked (sym places_are ∙ e), λ all. none_where_clear task c sites sites_given all),
 )
   where
     places_are : sites ≡ places_of new
     places_are = are ∙ ap places_of ends
 
-    sites_given : AreSites words A c sites
-    sites_given = subst (AreSites words A c) (sym places_are) (are_sites words A c nodes asks told first new many (begins ∙ none) marked)
+    sites_given : AreSites task c sites
+    sites_given = subst (AreSites task c) (sym places_are) (are_sites task c nodes asks told first new many (begins ∙ none) marked)
 
-pub never_flagged : (words : Program) (A : List Entry) (sites : List ℕ) → EndFlaggedAt words A sites [] → sites ≡ [] → NeverFlagged words A
-never_flagged words A sites law e m choices flag reset run ends =
+pub never_flagged : (task : Task) (sites : List ℕ) → EndFlaggedAt task sites [] → sites ≡ [] → NeverFlagged task
+never_flagged task sites law e m choices flag reset run ends =
     ⊎_elim (λ h. none_in (word_of_flag flag) (subst (λ (xs : List ℕ). Contains xs (word_of_flag flag)) e h))
-    (λ (t : EndsByTakeAt words A [] m choices). none_in (vector_word (device_of words) t.vector) t.word) (law m choices flag reset run ends)
+    (λ (t : EndsByTakeAt task [] m choices). none_in (vector_word (device_of task.flash) t.vector) t.word) (law m choices flag reset run ends)
 
 -- ---- one after the other
 

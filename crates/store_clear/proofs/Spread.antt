@@ -9,8 +9,6 @@ use Rattle.basics.specs.Items.{none_in, first_in, only_one_in, contained_in_join
 use Rattle.basics.specs.Lists.{one_at, get_inside}
 use Rattle.basics.specs.Numbers.{before_or_last}
 use Rattle.call_graph.proofs.AllLaws.{if_from}
-use Rattle.avr_model.specs.declared.assumption.Entry.{Entry}
-use Rattle.avr_model.specs.Devices.{Program}
 use Rattle.mask_states.specs.declared.keys.EdgeKind.{EdgeKind}
 use Rattle.mask_states.specs.declared.keys.EdgeKind.TheVariants as kind
 use Rattle.mask_states.specs.Keys.{offset_of}
@@ -28,6 +26,7 @@ use Rattle.clear_laws.specs.Reach.{links_of}
 use Rattle.clear_laws.specs.Links.{IsTarget, IsLandingSeed, offsets_of}
 use Rattle.store_clear.specs.Settling.{is_local, link_of, seed_of, links_by, seeds_by, SeedComesBelow, AreSeedsTo, AreSlotSeeds, SpreadsAlong}
 use Rattle.store_clear.proofs.Lists.{chosen_in}
+use Rattle.local_rules.specs.Site.{Task}
 
 -- ---- one edge
 
@@ -54,14 +53,14 @@ inside_at nodes k at e = let w = found_at k nodes at e in slice_get_within nodes
 
 -- ---- one node
 
-module _ (words : Program) (A : List Entry) (nodes : List Node) where
+module _ (task : Task) (nodes : List Node) where
   abbrev Linked : Node → ℕ → Type 0
-  Linked n t = (e : Edge) × (IsEdge words A nodes n e × IsTarget nodes e t)
+  Linked n t = (e : Edge) × (IsEdge task nodes n e × IsTarget nodes e t)
 
   abbrev Pushes : Node → ℕ → SlotSeed → Type 0
-  Pushes n slot s = (e : Edge) × (IsEdge words A nodes n e × IsLandingSeed nodes slot e s)
+  Pushes n slot s = (e : Edge) × (IsEdge task nodes n e × IsLandingSeed nodes slot e s)
 
-  module _ (n : Node) (landings : List Landing) (are : AreLandingsOf words A nodes n landings) where
+  module _ (n : Node) (landings : List Landing) (are : AreLandingsOf task nodes n landings) where
     linked_by : (t : ℕ) → Contains (links_by landings) t ↔ Linked n t
     linked_by t = (λ h. each_of_join link_of (Linked n) landings down t h, up)
       where
@@ -96,34 +95,34 @@ module _ (words : Program) (A : List Entry) (nodes : List Node) where
 
   -- ---- seeds
 
-  pub seeds_none : AreSeedsTo words A nodes 0 []
+  pub seeds_none : AreSeedsTo task nodes 0 []
   seeds_none s = (λ h. absurd (none_in s h), λ c. absurd (let lt = c.1 in omega (arith, lt)))
 
-  module _ (at : ℕ) (n : Node) (is : slice_get nodes at ≡ Some n) (seeds : List SlotSeed) (so : AreSeedsTo words A nodes at seeds) where
-    weaker : (s : SlotSeed) → SeedComesBelow words A nodes at s → SeedComesBelow words A nodes (at + 1) s
+  module _ (at : ℕ) (n : Node) (is : slice_get nodes at ≡ Some n) (seeds : List SlotSeed) (so : AreSeedsTo task nodes at seeds) where
+    weaker : (s : SlotSeed) → SeedComesBelow task nodes at s → SeedComesBelow task nodes (at + 1) s
     weaker s c = (c.0, let lt = c.1 in omega (arith, lt))
 
     here : (c : Node) (i : ℕ) → i ≡ at → slice_get nodes i ≡ Some c → c ≡ n
     here c i e read = one_at nodes at c n (subst (λ k. slice_get nodes k ≡ Some c) e read) is
 
     -- no guarded push there
-    pub seeds_same : is_guarded_push words n.key.pc ≡ false → AreSeedsTo words A nodes (at + 1) seeds
+    pub seeds_same : is_guarded_push task.flash n.key.pc ≡ false → AreSeedsTo task nodes (at + 1) seeds
     seeds_same not_pushed s = (λ h. weaker s ((so s).0 h), up)
       where
-        up : SeedComesBelow words A nodes (at + 1) s → Contains seeds s
+        up : SeedComesBelow task nodes (at + 1) s → Contains seeds s
         up c =
             ⊎_elim (λ lt. (so s).1 (c.0, lt))
-            (λ e. absurd (never_both (is_guarded_push words n.key.pc) (subst (λ (x : Node). is_guarded_push words x.key.pc ≡ true) (here c.0.node c.0.at e c.0.is) c.0.lands.0) not_pushed))
+            (λ e. absurd (never_both (is_guarded_push task.flash n.key.pc) (subst (λ (x : Node). is_guarded_push task.flash x.key.pc ≡ true) (here c.0.node c.0.at e c.0.is) c.0.lands.0) not_pushed))
             (before_or_last c.0.at at c.1)
 
-    pub seeds_more : (landings : List Landing) → AreLandingsOf words A nodes n landings → is_guarded_push words n.key.pc ≡ true
-        → AreSeedsTo words A nodes (at + 1) (seeds ++ seeds_by (offset_of n.key.sp) landings)
+    pub seeds_more : (landings : List Landing) → AreLandingsOf task nodes n landings → is_guarded_push task.flash n.key.pc ≡ true
+        → AreSeedsTo task nodes (at + 1) (seeds ++ seeds_by (offset_of n.key.sp) landings)
     seeds_more landings are pushed s = (down, up)
       where
         slot : ℕ
         slot = offset_of n.key.sp
 
-        down : Contains (seeds ++ seeds_by slot landings) s → SeedComesBelow words A nodes (at + 1) s
+        down : Contains (seeds ++ seeds_by slot landings) s → SeedComesBelow task nodes (at + 1) s
         down h =
             ⊎_elim (λ i. weaker s ((so s).0 i))
             (λ i.
@@ -131,23 +130,23 @@ module _ (words : Program) (A : List Entry) (nodes : List Node) where
             (record { at = at; node = n; edge = p.0; is = is; from = p.1.0; lands = (pushed, p.1.1) }, omega arith))
             (Contains-append_cases seeds (seeds_by slot landings) s h)
 
-        up : SeedComesBelow words A nodes (at + 1) s → Contains (seeds ++ seeds_by slot landings) s
+        up : SeedComesBelow task nodes (at + 1) s → Contains (seeds ++ seeds_by slot landings) s
         up c =
             ⊎_elim (λ lt. Contains-append_left seeds (seeds_by slot landings) s ((so s).1 (c.0, lt)))
             (λ e.
             let one = here c.0.node c.0.at e c.0.is in
             Contains-append_right seeds (seeds_by slot landings) s
             ((pushed_by n landings are slot s).1
-            (c.0.edge, (subst (λ (x : Node). IsEdge words A nodes x c.0.edge) one c.0.from, subst (λ (x : Node). IsLandingSeed nodes (offset_of x.key.sp) c.0.edge s) one c.0.lands.1))))
+            (c.0.edge, (subst (λ (x : Node). IsEdge task nodes x c.0.edge) one c.0.from, subst (λ (x : Node). IsLandingSeed nodes (offset_of x.key.sp) c.0.edge s) one c.0.lands.1))))
             (before_or_last c.0.at at c.1)
 
   -- ---- all nodes
 
   -- the landings of an existing node, as read
-  pub landings_at : (all : List (List Landing)) → AreLandings words A nodes all → (at : ℕ) (n : Node) → slice_get nodes at ≡ Some n → (d ls : List Landing) → ls ≡ get_or all at d
-      → AreLandingsOf words A nodes n ls
+  pub landings_at : (all : List (List Landing)) → AreLandings task nodes all → (at : ℕ) (n : Node) → slice_get nodes at ≡ Some n → (d ls : List Landing) → ls ≡ get_or all at d
+      → AreLandingsOf task nodes n ls
   landings_at all are at n is d ls read =
-      subst (λ (xs : List Landing). AreLandingsOf words A nodes n xs) (sym (read ∙ any_default)) (are.are.each at n lt is)
+      subst (λ (xs : List Landing). AreLandingsOf task nodes n xs) (sym (read ∙ any_default)) (are.are.each at n lt is)
     where
       lt : at < length nodes
       lt = slice_get_within nodes at n is
@@ -155,8 +154,8 @@ module _ (words : Program) (A : List Entry) (nodes : List Node) where
       any_default : get_or all at d ≡ get_or all at []
       any_default = get_or_default all at d [] (let same = are.are.count_is in omega (arith, lt, same))
 
-  pub spreads : (all : List (List Landing)) (links : List (List ℕ)) (offsets : List ℕ) (seeds : List SlotSeed) → AreLandings words A nodes all → links ≡ map links_by all
-      → offsets ≡ offsets_of nodes → AreSlotSeeds words A nodes seeds → SpreadsAlong words A nodes links offsets seeds
+  pub spreads : (all : List (List Landing)) (links : List (List ℕ)) (offsets : List ℕ) (seeds : List SlotSeed) → AreLandings task nodes all → links ≡ map links_by all
+      → offsets ≡ offsets_of nodes → AreSlotSeeds task nodes seeds → SpreadsAlong task nodes links offsets seeds
   spreads all links offsets seeds landings links_are offsets_are so =
       record {
         are = record {

@@ -2,8 +2,6 @@
 use Rattle.std.proofs.Common.{◌≡◌, refl, ◌∙◌, subst, ℕ, ◌<◌, true, List, length, Some, slice_get, arith}
 use Rattle.std.specs.Prelude.{◌↔◌}
 use Rattle.std.proofs.lemmas.Option.{slice_get_within}
-use Rattle.avr_model.specs.declared.assumption.Entry.{Entry}
-use Rattle.avr_model.specs.Devices.{Program}
 use Rattle.local_rules.specs.declared.local.Node.{Node}
 use Rattle.call_graph.specs.Shown.{AreOfSomeDevice}
 use Rattle.certificate.specs.Claims.{Claim}
@@ -17,6 +15,7 @@ use Rattle.clear_laws.specs.declared.slots.Asks.TheVariants.{Nothing, Free, Neve
 use Rattle.clear_laws.specs.Meets.{Meets}
 use Rattle.clear_laws.proofs.AllLaws.{slots_spread_along_links, askings_tell_clear_nodes}
 use Rattle.store_clear.specs.Settling.{SpreadsAlong, ask_at, AreAsked, IsDone, AreSettled, passes, AreTold}
+use Rattle.local_rules.specs.Site.{Task}
 
 -- equivalent tests of slots meet the same conditions
 meets_as : (P Q : ℕ → Type 0) → ((d : ℕ) → P d → Q d) → ((d : ℕ) → Q d → P d) → (a : Asks) → Meets a P → Meets a Q
@@ -34,10 +33,10 @@ passing_met P Nothing done h = refl
 passing_met P (Free d) done h = absurd done
 passing_met P Never done h = absurd h
 
-module _ (words : Program) (A : List Entry) (c : Claim) (nodes : List Node) (shown : AreOfSomeDevice nodes) (links : List (List ℕ)) (offsets : List ℕ) (seeds : List SlotSeed)
-    (along : SpreadsAlong words A nodes links offsets seeds) (old new : List Asks) (asked : AreAsked words A c.bound nodes old)
+module _ (task : Task) (c : Claim) (nodes : List Node) (shown : AreOfSomeDevice nodes) (links : List (List ℕ)) (offsets : List ℕ) (seeds : List SlotSeed)
+    (along : SpreadsAlong task nodes links offsets seeds) (old new : List Asks) (asked : AreAsked task c.bound nodes old)
     (left : AreSettled links offsets seeds (length old) old new) where
-  each : (at : ℕ) (n : Node) → slice_get nodes at ≡ Some n → (passes (ask_at new at) ≡ true) ↔ IsClear words A (family_of c nodes) n
+  each : (at : ℕ) (n : Node) → slice_get nodes at ≡ Some n → (passes (ask_at new at) ≡ true) ↔ IsClear task (family_of c nodes) n
   each at n e = (
     λ is. law.0 (meets_as Along Holding up down (ask_at old at) ((left.met at).0 (met_passing Along (ask_at new at) is))),
     λ clear. passing_met Along (ask_at new at) (left.done at in_old) ((left.met at).1 (meets_as Holding Along down up (ask_at old at) (law.1 clear))),
@@ -47,13 +46,13 @@ module _ (words : Program) (A : List Entry) (c : Claim) (nodes : List Node) (sho
       Along d = SlotReaches links offsets seeds d at
 
       Holding : ℕ → Type 0
-      Holding d = MayHold words A nodes n.key d
+      Holding d = MayHold task nodes n.key d
 
       up : (d : ℕ) → Along d → Holding d
-      up d = (slots_spread_along_links shown.0 words A nodes links offsets seeds along.are shown.1 at d n e).0
+      up d = (slots_spread_along_links shown.0 task nodes links offsets seeds along.are shown.1 at d n e).0
 
       down : (d : ℕ) → Holding d → Along d
-      down d = (slots_spread_along_links shown.0 words A nodes links offsets seeds along.are shown.1 at d n e).1
+      down d = (slots_spread_along_links shown.0 task nodes links offsets seeds along.are shown.1 at d n e).1
 
       in_nodes : at < length nodes
       in_nodes = slice_get_within nodes at n e
@@ -61,15 +60,15 @@ module _ (words : Program) (A : List Entry) (c : Claim) (nodes : List Node) (sho
       in_old : at < length old
       in_old = let same = asked.count_is in omega (arith, same, in_nodes)
 
-      law : Meets (ask_at old at) Holding ↔ IsClear words A (family_of c nodes) n
-      law = askings_tell_clear_nodes words A (family_of c nodes) n (ask_at old at) (asked.each at n in_nodes e)
+      law : Meets (ask_at old at) Holding ↔ IsClear task (family_of c nodes) n
+      law = askings_tell_clear_nodes task (family_of c nodes) n (ask_at old at) (asked.each at n in_nodes e)
 
-  pub are_told : AreTold words A c nodes new
+  pub are_told : AreTold task c nodes new
   are_told = record { count = left.same ∙ asked.count_is; each = each }
 
 -- conditions behind a reference
-pub told_as : (words : Program) (A : List Entry) (c : Claim) (nodes : List Node) → AreOfSomeDevice nodes → (links : List (List ℕ)) (offsets : List ℕ) (seeds : List SlotSeed)
-    → SpreadsAlong words A nodes links offsets seeds → (old old' new : List Asks) → old' ≡ old → AreAsked words A c.bound nodes old → AreSettled links offsets seeds (length old') old' new
-    → AreTold words A c nodes new
-told_as words A c nodes shown links offsets seeds along old old' new same asked left =
-    are_told words A c nodes shown links offsets seeds along old new asked (subst (λ (xs : List Asks). AreSettled links offsets seeds (length xs) xs new) same left)
+pub told_as : (task : Task) (c : Claim) (nodes : List Node) → AreOfSomeDevice nodes → (links : List (List ℕ)) (offsets : List ℕ) (seeds : List SlotSeed)
+    → SpreadsAlong task nodes links offsets seeds → (old old' new : List Asks) → old' ≡ old → AreAsked task c.bound nodes old → AreSettled links offsets seeds (length old') old' new
+    → AreTold task c nodes new
+told_as task c nodes shown links offsets seeds along old old' new same asked left =
+    are_told task c nodes shown links offsets seeds along old new asked (subst (λ (xs : List Asks). AreSettled links offsets seeds (length xs) xs new) same left)

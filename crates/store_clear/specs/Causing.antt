@@ -1,8 +1,7 @@
 -- The causes at a word, node by node. Definitions for the contracts of internal functions.
 use Rattle.std.specs.Prelude.{ℕ, ◌+◌, ◌≡◌, ◌<◌, ◌==◌, ◌&&◌, ◌↔◌, Bool, true, not, List, [], map, Some, Contains, slice_get}
-use Rattle.avr_model.specs.declared.assumption.Entry.{Entry}
 use Rattle.avr_model.specs.declared.instruction.Instr.{Instr}
-use Rattle.avr_model.specs.Devices.{Program, io_end, device_of}
+use Rattle.avr_model.specs.Devices.{io_end, device_of}
 use Rattle.abs_state.specs.declared.state.AbsState.{AbsState}
 use Rattle.mask_states.specs.declared.keys.NodeKey.{NodeKey}
 use Rattle.local_rules.specs.declared.local.Node.{Node}
@@ -14,12 +13,22 @@ use Rattle.clear_laws.specs.declared.place.FlaggedPlace.{FlaggedPlace}
 use Rattle.clear_laws.specs.Places.{word_of, IsPlaceOf}
 use Rattle.clear_laws.specs.Verdict.{AreSites, AreAllClear}
 use Rattle.store_clear.specs.Settling.{ask_at, passes, IsTold}
+use Rattle.local_rules.specs.Site.{Task}
+use Rattle.clear_laws.specs.Clear.{Store, store_at, MayBeFlagged}
 
 -- ---- addresses
 
 -- a store may write this address, which is flagged as protected and below the limit
-abbrev pub IsProtectedBelow : Program → List Entry → ℕ → AbsState → Instr → ℕ → ℕ → Type 0
-IsProtectedBelow words A pc s instr count a = (a < count) × (may_write_protected words A pc s instr a ≡ true)
+abbrev pub IsProtectedBelow : Task → Store → ℕ → ℕ → Type 0
+IsProtectedBelow task store count a = (a < count) × (may_write_protected task store a ≡ true)
+
+-- so it may an address that is protected, all of which are below SRAM
+abbrev pub IsProtectedWrite : Task → Store → ℕ → Type 0
+IsProtectedWrite task store a = IsProtectedBelow task store (io_end (device_of task.flash) + 1) a
+
+-- at each of these words a step may be flagged
+abbrev pub MayAllBeFlagged : Task → RankedFamily → List ℕ → Type 0
+MayAllBeFlagged task f sites = (pc : ℕ) → Contains sites pc → MayBeFlagged task f pc
 
 -- ---- nodes
 
@@ -36,20 +45,20 @@ pub record PassesBelow (nodes : List Node) (asks : List Asks) (pc : ℕ) (test :
   pub unclear : is_unclear_at pc node.key (ask_at asks at) ≡ true
   pub passes : test node.state ≡ true
 
-abbrev pub IsProtectedAt : Program → List Entry → List Node → List Asks → ℕ → Instr → ℕ → ℕ → Type 0
-IsProtectedAt words A nodes asks pc instr count a = (a < io_end (device_of words) + 1) × PassesBelow nodes asks pc (λ s. may_write_protected words A pc s instr a) count
+abbrev pub IsProtectedAt : Task → List Node → List Asks → ℕ → Instr → ℕ → ℕ → Type 0
+IsProtectedAt task nodes asks pc instr count a = (a < io_end (device_of task.flash) + 1) × PassesBelow nodes asks pc (λ s. may_write_protected task (store_at pc s instr) a) count
 
-abbrev pub IsLiveAt : Program → List Entry → ℕ → List Node → List Asks → ℕ → Instr → ℕ → Type 0
-IsLiveAt words A bound nodes asks pc instr count = PassesBelow nodes asks pc (λ s. may_write_live words A bound pc s instr) count
+abbrev pub IsLiveAt : Task → ℕ → List Node → List Asks → ℕ → Instr → ℕ → Type 0
+IsLiveAt task bound nodes asks pc instr count = PassesBelow nodes asks pc (λ s. may_write_live task bound (store_at pc s instr)) count
 
 -- ---- words
 
 -- the list is right for each certificate of these nodes and conditions
 abbrev pub AreSitesTold : List Node → List Asks → List ℕ → Type 0
 AreSitesTold nodes asks sites =
-    (words : Program) (A : List Entry) (c : Claim) → IsTold words A c nodes asks → AreSites words A c sites × ((sites ≡ []) ↔ AreAllClear words A c)
+    (task : Task) (c : Claim) → IsTold task c nodes asks → AreSites task c sites × ((sites ≡ []) ↔ AreAllClear task c)
 
 -- the first words with their causes
-pub record ArePlacesOf (words : Program) (A : List Entry) (f : RankedFamily) (sites : List ℕ) (places : List FlaggedPlace) : Type 0 where
+pub record ArePlacesOf (task : Task) (f : RankedFamily) (sites : List ℕ) (places : List FlaggedPlace) : Type 0 where
   pub are : map word_of places ≡ sites
-  pub each : (place : FlaggedPlace) → Contains places place → IsPlaceOf words A f place
+  pub each : (place : FlaggedPlace) → Contains places place → IsPlaceOf task f place

@@ -1,3 +1,4 @@
+pub mod Stores
 pub mod Spreading
 pub mod Numbers
 pub mod Settling

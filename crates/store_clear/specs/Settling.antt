@@ -1,8 +1,6 @@
 -- Conditions of nodes that remain, slot by slot, and the words of nodes with some. Definitions for the contracts of internal functions.
 use Rattle.std.specs.Prelude.{ℕ, ◌+◌, ◌≡◌, ◌<◌, ◌≤◌, ◌↔◌, ◌⊎◌, ⊤, ◌==◌, Bool, true, false, not, if◌then◌else◌, List, [], ◌∷◌, length, Option, Some, None, Contains, slice_get, slice_index_or}
 use Rattle.std.specs.List.{flat_map}
-use Rattle.avr_model.specs.declared.assumption.Entry.{Entry}
-use Rattle.avr_model.specs.Devices.{Program}
 use Rattle.mask_states.specs.declared.keys.EdgeKind.{EdgeKind}
 use Rattle.mask_states.specs.declared.keys.EdgeKind.TheVariants as kind
 use Rattle.local_rules.specs.declared.local.Node.{Node}
@@ -19,6 +17,7 @@ use Rattle.clear_laws.specs.declared.slots.Asks.TheVariants.{Nothing, Free, Neve
 use Rattle.clear_laws.specs.Needs.{meets}
 use Rattle.clear_laws.specs.Links.{AreLinks, SeedComes}
 use Rattle.clear_laws.specs.Meets.{Meets}
+use Rattle.local_rules.specs.Site.{Task}
 
 -- ---- along which edges slots spread
 
@@ -44,20 +43,20 @@ abbrev pub seeds_by : ℕ → List Landing → List SlotSeed
 seeds_by slot landings = flat_map (seed_of slot) landings
 
 -- one of the first nodes adds a slot by a guarded push
-abbrev pub SeedComesBelow : Program → List Entry → List Node → ℕ → SlotSeed → Type 0
-SeedComesBelow words A nodes count s = (c : SeedComes words A nodes s) × (c.at < count)
+abbrev pub SeedComesBelow : Task → List Node → ℕ → SlotSeed → Type 0
+SeedComesBelow task nodes count s = (c : SeedComes task nodes s) × (c.at < count)
 
 -- the seeds of the first nodes
-abbrev pub AreSeedsTo : Program → List Entry → List Node → ℕ → List SlotSeed → Type 0
-AreSeedsTo words A nodes count seeds = (s : SlotSeed) → Contains seeds s ↔ SeedComesBelow words A nodes count s
+abbrev pub AreSeedsTo : Task → List Node → ℕ → List SlotSeed → Type 0
+AreSeedsTo task nodes count seeds = (s : SlotSeed) → Contains seeds s ↔ SeedComesBelow task nodes count s
 
 -- the seeds of all nodes
-abbrev pub AreSlotSeeds : Program → List Entry → List Node → List SlotSeed → Type 0
-AreSlotSeeds words A nodes seeds = AreSeedsTo words A nodes (length nodes) seeds
+abbrev pub AreSlotSeeds : Task → List Node → List SlotSeed → Type 0
+AreSlotSeeds task nodes seeds = AreSeedsTo task nodes (length nodes) seeds
 
 -- links and seeds of all nodes; they lead to nodes
-pub record SpreadsAlong (words : Program) (A : List Entry) (nodes : List Node) (links : List (List ℕ)) (offsets : List ℕ) (seeds : List SlotSeed) : Type 0 where
-  pub are : AreLinks words A nodes links offsets seeds
+pub record SpreadsAlong (task : Task) (nodes : List Node) (links : List (List ℕ)) (offsets : List ℕ) (seeds : List SlotSeed) : Type 0 where
+  pub are : AreLinks task nodes links offsets seeds
   pub inside : AreInside links offsets seeds
 
 -- ---- what nodes ask
@@ -66,13 +65,13 @@ abbrev pub ask_at : List Asks → ℕ → Asks
 ask_at asks i = slice_index_or asks i Nothing
 
 -- the condition for each of the first nodes to be clear
-pub record AreAskedTo (words : Program) (A : List Entry) (bound : ℕ) (nodes : List Node) (count : ℕ) (asks : List Asks) : Type 0 where
+pub record AreAskedTo (task : Task) (bound : ℕ) (nodes : List Node) (count : ℕ) (asks : List Asks) : Type 0 where
   pub count_is : length asks ≡ count
-  pub each : (at : ℕ) (n : Node) → at < count → slice_get nodes at ≡ Some n → (held : ℕ → Bool) → is_clear words A bound n held ≡ meets (ask_at asks at) held
+  pub each : (at : ℕ) (n : Node) → at < count → slice_get nodes at ≡ Some n → (held : ℕ → Bool) → is_clear task bound n held ≡ meets (ask_at asks at) held
 
 -- the condition of each node
-abbrev pub AreAsked : Program → List Entry → ℕ → List Node → List Asks → Type 0
-AreAsked words A bound nodes asks = AreAskedTo words A bound nodes (length nodes) asks
+abbrev pub AreAsked : Task → ℕ → List Node → List Asks → Type 0
+AreAsked task bound nodes asks = AreAskedTo task bound nodes (length nodes) asks
 
 -- the condition that remains; the test says whether the slot may hold a live byte
 abbrev pub settled : Asks → ℕ → Bool → Asks
@@ -117,14 +116,14 @@ passes (Free d) = false
 passes Never = false
 
 -- the remaining conditions decide which nodes are clear
-pub record AreTold (words : Program) (A : List Entry) (c : Claim) (nodes : List Node) (asks : List Asks) : Type 0 where
+pub record AreTold (task : Task) (c : Claim) (nodes : List Node) (asks : List Asks) : Type 0 where
   pub count : length asks ≡ length nodes
-  pub each : (at : ℕ) (n : Node) → slice_get nodes at ≡ Some n → (passes (ask_at asks at) ≡ true) ↔ IsClear words A (family_of c nodes) n
+  pub each : (at : ℕ) (n : Node) → slice_get nodes at ≡ Some n → (passes (ask_at asks at) ≡ true) ↔ IsClear task (family_of c nodes) n
 
 -- the remaining conditions of a certificate's nodes decide which are clear
-pub record IsTold (words : Program) (A : List Entry) (c : Claim) (nodes : List Node) (asks : List Asks) : Type 0 where
-  pub filled : IsFilled words A c.nodes nodes
-  pub told : AreTold words A c nodes asks
+pub record IsTold (task : Task) (c : Claim) (nodes : List Node) (asks : List Asks) : Type 0 where
+  pub filled : IsFilled task c.nodes nodes
+  pub told : AreTold task c nodes asks
 
 -- each of the first nodes has no condition left
 abbrev pub ArePassing : List Asks → ℕ → Type 0

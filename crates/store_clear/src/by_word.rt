@@ -39,7 +39,7 @@ fn link_all(told: &ToldNodes<'_>, first: &mut [usize], later: &mut [usize])
 // The nodes that aren't clear, by their words. Each node is looked at once.
 pub(crate) fn by_word(alloc: Global, told: &ToldNodes<'_>) -> Result<ByWord, AllocError>
     requires { length told.now.asks.now ≡ length told.now.nodes.now }
-    ensures { IfOk result (λ links. AreLinked told.now.nodes.now told.now.asks.now 0 links.first.items links.later.items) }
+    ensures { IfOk result (λ l. AreLinked told.now.nodes.now told.now.asks.now 0 l.first.items l.later.items) }
 {
     let count = told.asks.len();
     let mut first = vec![in alloc; count; WORDS as usize]?;

@@ -9,8 +9,10 @@ ghost use Rattle.clear_laws.specs.Clear.{MayBeFlagged};
 ghost use Rattle.clear_laws.specs.Places.{IsPlaceOf};
 ghost use Rattle.store_clear.specs.Settling.{IsTold};
 ghost use Rattle.store_clear.specs.Takes.{AreMarkedBeside};
-ghost use Rattle.store_clear.specs.Causing.{IsProtectedBelow, IsProtectedAt, IsLiveAt, ArePlacesOf};
+ghost use Rattle.store_clear.specs.Causing.{IsProtectedAt, IsLiveAt, ArePlacesOf, IsProtectedWrite, MayAllBeFlagged};
 ghost use Rattle.store_clear.specs.ByWord.{AreLinked, IsChain};
+ghost use Rattle.call_graph.specs.Tasks.{task_of};
+ghost use Rattle.store_clear.specs.Stores.{task_in, store_of};
 
 use crate::by_word::{ByWord, by_word};
 use crate::need::is_indirect;
@@ -38,7 +40,7 @@ struct WordSite<'a> {
 #[tactic(auto, using(crate::proofs::Io::most_io))]
 fn mark_addresses(store: &Store<'_>, marks: &mut [bool])
     requires { length marks.old ≡ io_end (device_of store.now.flash.now) + 1 }
-    ensures { AreMarkedBeside (IsProtectedBelow store.now.flash.now store.now.assumptions.now store.now.pc store.now.state.now store.now.instr.now (io_end (device_of store.now.flash.now) + 1)) marks.old marks.new }
+    ensures { AreMarkedBeside (IsProtectedWrite (task_in store.now) (store_of store.now)) marks.old marks.new }
 {
     for address in 0..store.flash.device().io_end() + 1 {
         if may_write_protected(store, address) {
@@ -52,7 +54,7 @@ fn mark_nodes(task: &Task<'_>, told: &ToldNodes<'_>, site: &WordSite<'_>, marks:
     requires same { length told.now.asks.now ≡ length told.now.nodes.now }
     requires chain { IsChain told.now.nodes.now told.now.asks.now site.now.pc site.now.first site.now.later.now }
     requires all { length marks.old ≡ io_end (device_of task.now.flash.now) + 1 }
-    ensures { AreMarkedBeside (IsProtectedAt task.now.flash.now task.now.assumptions.now told.now.nodes.now told.now.asks.now site.now.pc site.now.instr.now (length told.now.asks.now)) marks.old marks.new }
+    ensures { AreMarkedBeside (IsProtectedAt (task_of task.now) told.now.nodes.now told.now.asks.now site.now.pc site.now.instr.now (length told.now.asks.now)) marks.old marks.new }
 {
     let _count = told.nodes.count();
     let mut at = site.first;
@@ -77,7 +79,7 @@ fn protected_of(
 ) -> Result<Listed<u16>, AllocError>
     requires same { length told.now.asks.now ≡ length told.now.nodes.now }
     requires chain { IsChain told.now.nodes.now told.now.asks.now site.now.pc site.now.first site.now.later.now }
-    ensures exact { IfOk result (λ list. (a : ℕ) → Contains list a ↔ IsProtectedAt task.now.flash.now task.now.assumptions.now told.now.nodes.now told.now.asks.now site.now.pc site.now.instr.now (length told.now.asks.now) a) }
+    ensures exact { IfOk result (λ list. (a : ℕ) → Contains list a ↔ IsProtectedAt (task_of task.now) told.now.nodes.now told.now.asks.now site.now.pc site.now.instr.now (length told.now.asks.now) a) }
     ensures ascending { IfOk result (λ list. IsStrictlySortedBy nat_cmp list) }
 {
     let count = usize::from(task.flash.device().io_end()) + 1;
@@ -91,7 +93,7 @@ fn is_live_at(task: &Task<'_>, bound: u16, told: &ToldNodes<'_>, site: &WordSite
     requires same { length told.now.asks.now ≡ length told.now.nodes.now }
     requires chain { IsChain told.now.nodes.now told.now.asks.now site.now.pc site.now.first site.now.later.now }
     requires small { bound ≤ size_of (device_of task.now.flash.now) }
-    ensures { (result ≡ true) ↔ IsLiveAt task.now.flash.now task.now.assumptions.now bound told.now.nodes.now told.now.asks.now site.now.pc site.now.instr.now (length told.now.asks.now) }
+    ensures { (result ≡ true) ↔ IsLiveAt (task_of task.now) bound told.now.nodes.now told.now.asks.now site.now.pc site.now.instr.now (length told.now.asks.now) }
 {
     let _count = told.nodes.count();
     let mut at = site.first;
@@ -121,10 +123,10 @@ fn place_at(
 ) -> Result<FlaggedPlace, AllocError>
     requires linked { AreLinked told.now.nodes.now told.now.asks.now 0 links.now.first.items links.now.later.items }
     requires small { certificate.now.bound ≤ size_of (device_of task.now.flash.now) }
-    requires told { IsTold task.now.flash.now task.now.assumptions.now certificate.now told.now.nodes.now told.now.asks.now }
-    requires site { MayBeFlagged task.now.flash.now task.now.assumptions.now (family_of certificate.now told.now.nodes.now) pc }
+    requires told { IsTold (task_of task.now) certificate.now told.now.nodes.now told.now.asks.now }
+    requires site { MayBeFlagged (task_of task.now) (family_of certificate.now told.now.nodes.now) pc }
     ensures word { IfOk result (λ place. place.word ≡ pc) }
-    ensures exact { IfOk result (λ place. IsPlaceOf task.now.flash.now task.now.assumptions.now (family_of certificate.now told.now.nodes.now) place) }
+    ensures exact { IfOk result (λ p. IsPlaceOf (task_of task.now) (family_of certificate.now told.now.nodes.now) p) }
 {
     match task.flash.instruction(pc) {
         None => Ok(FlaggedPlace {
@@ -162,9 +164,9 @@ fn places_by(
 ) -> Result<Listed<FlaggedPlace>, AllocError>
     requires linked { AreLinked told.now.nodes.now told.now.asks.now 0 links.now.first.items links.now.later.items }
     requires small { certificate.now.bound ≤ size_of (device_of task.now.flash.now) }
-    requires told { IsTold task.now.flash.now task.now.assumptions.now certificate.now told.now.nodes.now told.now.asks.now }
-    requires sites { (pc : ℕ) → Contains sites.now pc → MayBeFlagged task.now.flash.now task.now.assumptions.now (family_of certificate.now told.now.nodes.now) pc }
-    ensures { IfOk result (λ list. ArePlacesOf task.now.flash.now task.now.assumptions.now (family_of certificate.now told.now.nodes.now) sites.now list) }
+    requires told { IsTold (task_of task.now) certificate.now told.now.nodes.now told.now.asks.now }
+    requires sites { MayAllBeFlagged (task_of task.now) (family_of certificate.now told.now.nodes.now) sites.now }
+    ensures { IfOk result (ArePlacesOf (task_of task.now) (family_of certificate.now told.now.nodes.now) sites.now) }
 {
     let mut list = Listed::empty(task.alloc);
     for site in sites {
@@ -182,9 +184,9 @@ pub(crate) fn places_at(
     sites: &[u16],
 ) -> Result<Listed<FlaggedPlace>, AllocError>
     requires small { certificate.now.bound ≤ size_of (device_of task.now.flash.now) }
-    requires told { IsTold task.now.flash.now task.now.assumptions.now certificate.now told.now.nodes.now told.now.asks.now }
-    requires sites { (pc : ℕ) → Contains sites.now pc → MayBeFlagged task.now.flash.now task.now.assumptions.now (family_of certificate.now told.now.nodes.now) pc }
-    ensures { IfOk result (λ list. ArePlacesOf task.now.flash.now task.now.assumptions.now (family_of certificate.now told.now.nodes.now) sites.now list) }
+    requires told { IsTold (task_of task.now) certificate.now told.now.nodes.now told.now.asks.now }
+    requires sites { MayAllBeFlagged (task_of task.now) (family_of certificate.now told.now.nodes.now) sites.now }
+    ensures { IfOk result (ArePlacesOf (task_of task.now) (family_of certificate.now told.now.nodes.now) sites.now) }
 {
     let links = by_word(task.alloc, told)?;
     let list = places_by(task, certificate, told, &links, sites);

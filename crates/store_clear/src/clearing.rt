@@ -1,15 +1,15 @@
 //! Answers on the nodes of a certificate that may flag a step.
 
-ghost use Rattle.std.specs.Prelude.{ℕ, ◌≡◌, ◌↔◌, List, [], IfOk};
+ghost use Rattle.std.specs.Prelude.{◌≡◌, ◌↔◌, [], IfOk};
 ghost use Rattle.edge_rules.specs.Expansion.{IsFilled};
 ghost use Rattle.call_graph.specs.Landings.{AreLandings};
-ghost use Rattle.certificate.specs.Claims.{Claim};
 ghost use Rattle.certificate.specs.Valid.{IsSound, MeetsConditions};
-ghost use Rattle.clear_laws.specs.Clear.{NeverFlagged};
 ghost use Rattle.clear_laws.specs.declared.verdict.ClearVerdict.TheVariants as verdicts;
-ghost use Rattle.clear_laws.specs.CertificateLaws.{IsBoundedAndClear, EndFlaggedAt, EndFlaggedAsTold};
+ghost use Rattle.clear_laws.specs.CertificateLaws.{IsBoundedAndClear, FlaggedRunsEndAt, FlaggedRunsEndAsTold, IsNeverFlagged};
 ghost use Rattle.clear_laws.specs.Places.{ArePlaces, AllTellCauses};
-ghost use Rattle.clear_laws.specs.Verdict.{AreAllClear, IsFirstUnclear, IsClearVerdict, AreSites, AreNevers};
+ghost use Rattle.clear_laws.specs.Verdict.{AreAllClear, IsClearVerdict, AreSites, AreNevers, NamesFirstUnclear};
+ghost use Rattle.call_graph.specs.Tasks.{task_of};
+ghost use Rattle.local_rules.specs.Site.{bare};
 
 use crate::causes::places_at;
 use crate::takes::mark_takes;
@@ -35,13 +35,13 @@ pub fn clear_family(
     family: &Worked,
 ) -> Result<ClearVerdict, AllocError>
     requires none { task.now.assumptions.now ≡ [] }
-    requires filled { IsFilled task.now.flash.now task.now.assumptions.now certificate.now.nodes family.now.nodes }
-    requires meets { MeetsConditions task.now.flash.now task.now.assumptions.now certificate.now family.now.nodes }
-    requires landings { AreLandings task.now.flash.now task.now.assumptions.now family.now.nodes family.now.landings }
+    requires filled { IsFilled (task_of task.now) certificate.now.nodes family.now.nodes }
+    requires meets { MeetsConditions (task_of task.now) certificate.now family.now.nodes }
+    requires landings { AreLandings (task_of task.now) family.now.nodes family.now.landings }
     ensures exact { IfOk result (λ verdict. IsClearVerdict task.now.flash.now certificate.now verdict) }
-    ensures clear { IfOk result (λ verdict. (verdict ≡ verdicts.Clear) ↔ AreAllClear task.now.flash.now [] certificate.now) }
-    ensures unclear { IfOk result (λ verdict. (j pc : ℕ) → (verdict ≡ verdicts.Unclear j pc) ↔ IsFirstUnclear task.now.flash.now [] certificate.now j pc) }
-    ensures never_flagged { IfOk result (λ verdict. verdict ≡ verdicts.Clear → IsBoundedAndClear task.now.flash.now certificate.now.bound) }
+    ensures clear { IfOk result (λ v. (v ≡ verdicts.Clear) ↔ AreAllClear (bare task.now.flash.now) certificate.now) }
+    ensures unclear { IfOk result (NamesFirstUnclear task.now.flash.now certificate.now) }
+    ensures never_flagged { IfOk result (λ v. v ≡ verdicts.Clear → IsBoundedAndClear task.now.flash.now certificate.now.bound) }
 {
     words_have_16_bits(task.flash.words());
     let _nodes = certificate.nodes();
@@ -61,13 +61,13 @@ pub fn flagged_sites_in(
     certificate: &Certificate,
     family: &Worked,
 ) -> Result<Listed<u16>, AllocError>
-    requires filled { IsFilled task.now.flash.now task.now.assumptions.now certificate.now.nodes family.now.nodes }
-    requires meets { MeetsConditions task.now.flash.now task.now.assumptions.now certificate.now family.now.nodes }
-    requires landings { AreLandings task.now.flash.now task.now.assumptions.now family.now.nodes family.now.landings }
-    ensures exact { IfOk result (λ sites. AreSites task.now.flash.now task.now.assumptions.now certificate.now sites) }
-    ensures told { IfOk result (λ sites. (nevers : List ℕ) → AreNevers task.now.flash.now task.now.assumptions.now certificate.now nevers → EndFlaggedAt task.now.flash.now task.now.assumptions.now sites nevers) }
-    ensures clear { IfOk result (λ sites. (sites ≡ []) ↔ AreAllClear task.now.flash.now task.now.assumptions.now certificate.now) }
-    ensures never_flagged { IfOk result (λ sites. sites ≡ [] → AreNevers task.now.flash.now task.now.assumptions.now certificate.now [] → NeverFlagged task.now.flash.now task.now.assumptions.now) }
+    requires filled { IsFilled (task_of task.now) certificate.now.nodes family.now.nodes }
+    requires meets { MeetsConditions (task_of task.now) certificate.now family.now.nodes }
+    requires landings { AreLandings (task_of task.now) family.now.nodes family.now.landings }
+    ensures exact { IfOk result (λ sites. AreSites (task_of task.now) certificate.now sites) }
+    ensures told { IfOk result (FlaggedRunsEndAt (task_of task.now) certificate.now) }
+    ensures clear { IfOk result (λ sites. (sites ≡ []) ↔ AreAllClear (task_of task.now) certificate.now) }
+    ensures never_flagged { IfOk result (λ sites. sites ≡ [] → IsNeverFlagged (task_of task.now) certificate.now) }
 {
     words_have_16_bits(task.flash.words());
     let _nodes = certificate.nodes();
@@ -88,11 +88,11 @@ pub fn flagged_places_in(
     certificate: &Certificate,
     family: &Worked,
 ) -> Result<Listed<FlaggedPlace>, AllocError>
-    requires filled { IsFilled task.now.flash.now task.now.assumptions.now certificate.now.nodes family.now.nodes }
-    requires meets { MeetsConditions task.now.flash.now task.now.assumptions.now certificate.now family.now.nodes }
-    requires landings { AreLandings task.now.flash.now task.now.assumptions.now family.now.nodes family.now.landings }
-    ensures exact { IfOk result (λ list. ArePlaces task.now.flash.now task.now.assumptions.now certificate.now list) }
-    ensures told { IfOk result (λ list. (nevers : List ℕ) → AreNevers task.now.flash.now task.now.assumptions.now certificate.now nevers → EndFlaggedAsTold task.now.flash.now task.now.assumptions.now list nevers) }
+    requires filled { IsFilled (task_of task.now) certificate.now.nodes family.now.nodes }
+    requires meets { MeetsConditions (task_of task.now) certificate.now family.now.nodes }
+    requires landings { AreLandings (task_of task.now) family.now.nodes family.now.landings }
+    ensures exact { IfOk result (λ list. ArePlaces (task_of task.now) certificate.now list) }
+    ensures told { IfOk result (FlaggedRunsEndAsTold (task_of task.now) certificate.now) }
     ensures causes { IfOk result (λ list. AllTellCauses list) }
 {
     words_have_16_bits(task.flash.words());
@@ -109,7 +109,7 @@ pub fn flagged_places_in(
 /// The word addresses of vectors that are assumed never to be taken and that some of these nodes may take, ascending and without repeats,
 /// for whichever certificate has these nodes. Taking such a vector is flagged. Fails if memory runs out. Source: own.
 pub fn never_takes_in(task: &Task<'_>, nodes: &Filled) -> Result<Listed<u16>, AllocError>
-    ensures exact { IfOk result (λ nevers. (c : Claim) → IsFilled task.now.flash.now task.now.assumptions.now c.nodes nodes.now → AreNevers task.now.flash.now task.now.assumptions.now c nevers) }
+    ensures exact { IfOk result (λ l. (c : _) → IsFilled (task_of task.now) c.nodes nodes.now → AreNevers (task_of task.now) c l) }
 {
     let mut marks = vec![in task.alloc; false; WORDS as usize]?;
     mark_takes(task, nodes, marks.as_mut_slice());
@@ -125,11 +125,11 @@ pub fn clear_sites(
     flash: &Flash,
     certificate: &Certificate,
 ) -> Result<ClearVerdict, AllocError>
-    requires { IsSound flash.now [] certificate.now }
+    requires { IsSound (bare flash.now) certificate.now }
     ensures exact { IfOk result (λ verdict. IsClearVerdict flash.now certificate.now verdict) }
-    ensures clear { IfOk result (λ verdict. (verdict ≡ verdicts.Clear) ↔ AreAllClear flash.now [] certificate.now) }
-    ensures unclear { IfOk result (λ verdict. (j pc : ℕ) → (verdict ≡ verdicts.Unclear j pc) ↔ IsFirstUnclear flash.now [] certificate.now j pc) }
-    ensures never_flagged { IfOk result (λ verdict. verdict ≡ verdicts.Clear → IsBoundedAndClear flash.now certificate.now.bound) }
+    ensures clear { IfOk result (λ v. (v ≡ verdicts.Clear) ↔ AreAllClear (bare flash.now) certificate.now) }
+    ensures unclear { IfOk result (NamesFirstUnclear flash.now certificate.now) }
+    ensures never_flagged { IfOk result (λ v. v ≡ verdicts.Clear → IsBoundedAndClear flash.now certificate.now.bound) }
 {
     let task = Task {
         alloc,
@@ -147,11 +147,11 @@ pub fn clear_sites(
 /// or by taking a vector that is assumed never to be taken; without either, no run is flagged. Fails if memory runs out. Each edge is
 /// visited once, and once more for each slot that a condition names. Source: own.
 pub fn flagged_sites(task: &Task<'_>, certificate: &Certificate) -> Result<Listed<u16>, AllocError>
-    requires { IsSound task.now.flash.now task.now.assumptions.now certificate.now }
-    ensures exact { IfOk result (λ sites. AreSites task.now.flash.now task.now.assumptions.now certificate.now sites) }
-    ensures told { IfOk result (λ sites. (nevers : List ℕ) → AreNevers task.now.flash.now task.now.assumptions.now certificate.now nevers → EndFlaggedAt task.now.flash.now task.now.assumptions.now sites nevers) }
-    ensures clear { IfOk result (λ sites. (sites ≡ []) ↔ AreAllClear task.now.flash.now task.now.assumptions.now certificate.now) }
-    ensures never_flagged { IfOk result (λ sites. sites ≡ [] → AreNevers task.now.flash.now task.now.assumptions.now certificate.now [] → NeverFlagged task.now.flash.now task.now.assumptions.now) }
+    requires { IsSound (task_of task.now) certificate.now }
+    ensures exact { IfOk result (λ sites. AreSites (task_of task.now) certificate.now sites) }
+    ensures told { IfOk result (FlaggedRunsEndAt (task_of task.now) certificate.now) }
+    ensures clear { IfOk result (λ sites. (sites ≡ []) ↔ AreAllClear (task_of task.now) certificate.now) }
+    ensures never_flagged { IfOk result (λ sites. sites ≡ [] → IsNeverFlagged (task_of task.now) certificate.now) }
 {
     let family = worked_of(task, certificate)?;
     let sites = flagged_sites_in(task, certificate, &family);
@@ -167,9 +167,9 @@ pub fn flagged_places(
     task: &Task<'_>,
     certificate: &Certificate,
 ) -> Result<Listed<FlaggedPlace>, AllocError>
-    requires { IsSound task.now.flash.now task.now.assumptions.now certificate.now }
-    ensures exact { IfOk result (λ list. ArePlaces task.now.flash.now task.now.assumptions.now certificate.now list) }
-    ensures told { IfOk result (λ list. (nevers : List ℕ) → AreNevers task.now.flash.now task.now.assumptions.now certificate.now nevers → EndFlaggedAsTold task.now.flash.now task.now.assumptions.now list nevers) }
+    requires { IsSound (task_of task.now) certificate.now }
+    ensures exact { IfOk result (λ list. ArePlaces (task_of task.now) certificate.now list) }
+    ensures told { IfOk result (FlaggedRunsEndAsTold (task_of task.now) certificate.now) }
     ensures causes { IfOk result (λ list. AllTellCauses list) }
 {
     let family = worked_of(task, certificate)?;
@@ -181,8 +181,8 @@ pub fn flagged_places(
 /// The word addresses of vectors that are assumed never to be taken and that some node of a certificate may take, ascending and without
 /// repeats, if all conditions hold but that on its schedule. Taking such a vector is flagged. Fails if memory runs out. Source: own.
 pub fn never_takes(task: &Task<'_>, certificate: &Certificate) -> Result<Listed<u16>, AllocError>
-    requires { IsSound task.now.flash.now task.now.assumptions.now certificate.now }
-    ensures exact { IfOk result (λ nevers. AreNevers task.now.flash.now task.now.assumptions.now certificate.now nevers) }
+    requires { IsSound (task_of task.now) certificate.now }
+    ensures exact { IfOk result (λ nevers. AreNevers (task_of task.now) certificate.now nevers) }
 {
     let family = worked_of(task, certificate)?;
     let nevers = never_takes_in(task, &family.nodes);

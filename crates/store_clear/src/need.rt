@@ -5,8 +5,11 @@ ghost use Rattle.avr_model.specs.Assumptions as assumed;
 ghost use Rattle.avr_model.specs.Devices.{device_of, size_of};
 ghost use Rattle.avr_model.specs.Sites.{instruction_at};
 ghost use Rattle.avr_model.specs.Step as steps;
-ghost use Rattle.clear_laws.specs.Clear.{stored_bits, is_guarded, is_flagged_address, is_address_harmless, is_reach_harmless, is_aim_harmless, permits_pair, is_target_listed, are_targets_listed, is_transfer_listed, is_clear_by};
+ghost use Rattle.clear_laws.specs.Clear.{stored_bits, is_guarded, is_flagged_address, is_address_harmless, is_reach_harmless, is_aim_harmless, permits_pair, is_target_listed, are_targets_listed, is_transfer_listed, is_clear_by, store_at, is_slot_harmless};
 ghost use Rattle.clear_laws.specs.Needs.{meets};
+ghost use Rattle.call_graph.specs.Tasks.{task_of};
+ghost use Rattle.store_clear.specs.Stores.{task_in, store_of};
+ghost use Rattle.mask_states.specs.Keys.{offset_of};
 
 use crate::aims::aim;
 use crate::numbers::are_addresses_harmless;
@@ -70,7 +73,7 @@ fn is_guarded(store: &Store<'_>, address: u16) -> bool
 
 // Whether writing this address at this word may be flagged as protected.
 pub(crate) fn is_flagged_address(store: &Store<'_>, address: u16) -> bool
-    ensures { result ≡ is_flagged_address store.now.flash.now store.now.assumptions.now store.now.pc store.now.state.now store.now.instr.now address }
+    ensures { result ≡ is_flagged_address (task_in store.now) (store_of store.now) address }
 {
     let is_store = matches!(store.instr, Instr::Std(..) | Instr::St(..));
     let fixed = store.flash.is_fixed_site(store.assumptions, store.pc);
@@ -81,7 +84,7 @@ pub(crate) fn is_flagged_address(store: &Store<'_>, address: u16) -> bool
 // Whether the address is no pushed byte's and a write of it isn't flagged, if the stack takes at most this many bytes.
 pub(crate) fn is_address_harmless(store: &Store<'_>, bound: u16, address: u16) -> bool
     requires { bound ≤ size_of (device_of store.now.flash.now) }
-    ensures { result ≡ is_address_harmless store.now.flash.now store.now.assumptions.now bound store.now.pc store.now.state.now store.now.instr.now address }
+    ensures { result ≡ is_address_harmless (task_in store.now) bound (store_of store.now) address }
 {
     let device = store.flash.device();
     let (below, ramend) = (device.io_end(), device.ramend());
@@ -93,7 +96,7 @@ pub(crate) fn is_address_harmless(store: &Store<'_>, bound: u16, address: u16) -
 // Whether a store to one of these addresses writes neither a live byte nor a flagged address.
 fn is_reach_harmless(store: &Store<'_>, bound: u16, reach: Reach) -> bool
     requires { bound ≤ size_of (device_of store.now.flash.now) }
-    ensures { result ≡ is_reach_harmless store.now.flash.now store.now.assumptions.now bound store.now.pc store.now.state.now store.now.instr.now reach }
+    ensures { result ≡ is_reach_harmless (task_in store.now) bound (store_of store.now) reach }
 {
     match reach {
         Reach::Nothing => true,
@@ -113,7 +116,7 @@ fn is_reach_harmless(store: &Store<'_>, bound: u16, reach: Reach) -> bool
 fn asks_of_aim(store: &Store<'_>, bound: u16, key: &NodeKey, aim: Option<Aim>) -> Asks
     requires at { store.now.pc ≡ key.now.pc }
     requires small { bound ≤ size_of (device_of store.now.flash.now) }
-    ensures { (held : ℕ → Bool) → is_aim_harmless store.now.flash.now store.now.assumptions.now bound key.now store.now.state.now store.now.instr.now held aim ≡ meets result held }
+    ensures { (held : ℕ → Bool) → is_aim_harmless (task_in store.now) bound (store_at key.now.pc store.now.state.now store.now.instr.now) (is_slot_harmless (offset_of key.now.sp) held) aim ≡ meets result held }
 {
     let Some(aim) = aim else {
         return Asks::Nothing;
@@ -162,7 +165,7 @@ fn are_targets_listed(flash: &Flash, state: &AbsState, listed: &[u16]) -> bool
 
 // Whether an indirect transfer goes to listed words only.
 fn is_transfer_listed(task: &Task<'_>, pc: u16, state: &AbsState, instr: &Instr) -> bool
-    ensures { result ≡ is_transfer_listed task.now.flash.now task.now.assumptions.now pc state.now instr.now }
+    ensures { result ≡ is_transfer_listed (task_of task.now) pc state.now instr.now }
 {
     if !is_indirect(instr) {
         return true;
@@ -176,7 +179,7 @@ fn is_transfer_listed(task: &Task<'_>, pc: u16, state: &AbsState, instr: &Instr)
 // A node's condition for being clear, if the stack takes at most this many bytes.
 pub(crate) fn asked_by(task: &Task<'_>, bound: u16, key: &NodeKey, state: &AbsState) -> Asks
     requires { bound ≤ size_of (device_of task.now.flash.now) }
-    ensures { (held : ℕ → Bool) → is_clear_by task.now.flash.now task.now.assumptions.now bound key.now state.now held (instruction_at task.now.flash.now key.now.pc) ≡ meets result held }
+    ensures { (held : ℕ → Bool) → is_clear_by (task_of task.now) bound (record { key = key.now; state = state.now }) held (instruction_at task.now.flash.now key.now.pc) ≡ meets result held }
 {
     match task.flash.instruction(key.pc) {
         None => Asks::Nothing,

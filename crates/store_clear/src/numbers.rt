@@ -3,8 +3,9 @@
 ghost use Rattle.std.specs.Prelude.{ℕ, ◌≡◌, ◌≤◌, Some};
 ghost use Rattle.avr_model.specs.Devices.{device_of, size_of};
 ghost use Rattle.clear_laws.specs.Aims.{is_between, is_in_interval};
-ghost use Rattle.clear_laws.specs.Clear.{are_addresses_harmless};
+ghost use Rattle.clear_laws.specs.Clear.{are_addresses_harmless, is_address_harmless};
 ghost use Rattle.store_clear.specs.Numbers.{is_range_harmless, is_number_harmless, are_numbers_harmless};
+ghost use Rattle.store_clear.specs.Stores.{task_in, store_of};
 
 use crate::need::is_address_harmless;
 use crate::store::Store;
@@ -30,7 +31,7 @@ fn is_range_harmless(flash: &Flash, bound: u16, first: u16, last: u16) -> bool
 // Whether the bytes of registers `r` and `r + 1` exclude the number, or the address `up` further is harmless.
 fn is_number_harmless(store: &Store<'_>, bound: u16, r: LowRegister, up: u16, number: u16) -> bool
     requires { bound ≤ size_of (device_of store.now.flash.now) }
-    ensures { result ≡ is_number_harmless store.now.flash.now store.now.assumptions.now bound store.now.pc store.now.state.now store.now.instr.now r up number }
+    ensures { result ≡ is_number_harmless (is_address_harmless (task_in store.now) bound (store_of store.now)) store.now.state.now r up number }
 {
     let address = number.wrapping_add(up);
     !permits_bytes(store.state, r, number) || is_address_harmless(store, bound, address)
@@ -47,7 +48,7 @@ fn is_interval_harmless(
 ) -> bool
     requires small { bound ≤ size_of (device_of store.now.flash.now) }
     requires follows { (p : ℕ) → is_in_interval store.now.state.now.facts r p ≡ is_between interval.low interval.high p }
-    ensures { result ≡ are_numbers_harmless store.now.flash.now store.now.assumptions.now bound store.now.pc store.now.state.now store.now.instr.now r up }
+    ensures { result ≡ are_numbers_harmless (task_in store.now) bound (store_of store.now) r up }
 {
     let first = interval.low.wrapping_add(up);
     let last = interval.high.wrapping_add(up);
@@ -73,7 +74,7 @@ fn are_numbers_harmless(
 ) -> bool
     requires small { bound ≤ size_of (device_of store.now.flash.now) }
     requires follows { store.now.state.now.facts ≡ Some facts.now }
-    ensures { result ≡ are_numbers_harmless store.now.flash.now store.now.assumptions.now bound store.now.pc store.now.state.now store.now.instr.now r up }
+    ensures { result ≡ are_numbers_harmless (task_in store.now) bound (store_of store.now) r up }
 {
     let interval = interval_of(facts, r.widened());
     is_interval_harmless(store, bound, r, up, interval)
@@ -82,7 +83,7 @@ fn are_numbers_harmless(
 // Whether pairs are followed, and each possible address of a store is harmless, if the stack takes at most this many bytes.
 pub(crate) fn are_addresses_harmless(store: &Store<'_>, bound: u16) -> bool
     requires { bound ≤ size_of (device_of store.now.flash.now) }
-    ensures { result ≡ are_addresses_harmless store.now.flash.now store.now.assumptions.now bound store.now.pc store.now.state.now store.now.instr.now }
+    ensures { result ≡ are_addresses_harmless (task_in store.now) bound (store_of store.now) }
 {
     let Some(facts) = store.state.facts.get() else {
         return false;

@@ -5,6 +5,7 @@ ghost use Rattle.call_graph.specs.Landings.{AreLandings};
 ghost use Rattle.clear_laws.specs.Held as held;
 ghost use Rattle.clear_laws.specs.Links.{offsets_of};
 ghost use Rattle.store_clear.specs.Settling.{links_by, seeds_by, AreSlotSeeds, SpreadsAlong};
+ghost use Rattle.call_graph.specs.Tasks.{task_of};
 
 use avr_model::instruction::Instr;
 use avr_model::listed::Listed;
@@ -92,8 +93,8 @@ fn add_seeds(
 
 // The slots that guarded pushes add.
 fn all_seeds(task: &Task<'_>, family: &Worked) -> Result<Listed<SlotSeed>, AllocError>
-    requires { AreLandings task.now.flash.now task.now.assumptions.now family.now.nodes family.now.landings }
-    ensures { IfOk result (AreSlotSeeds task.now.flash.now task.now.assumptions.now family.now.nodes) }
+    requires { AreLandings (task_of task.now) family.now.nodes family.now.landings }
+    ensures { IfOk result (AreSlotSeeds (task_of task.now) family.now.nodes) }
 {
     let mut seeds = Listed::empty(task.alloc);
     let landings = family.landings.as_slice();
@@ -108,8 +109,8 @@ fn all_seeds(task: &Task<'_>, family: &Worked) -> Result<Listed<SlotSeed>, Alloc
 
 // The edges along which slots spread. No local part is computed.
 pub(crate) fn frames_of(task: &Task<'_>, family: &Worked) -> Result<Frames, AllocError>
-    requires { AreLandings task.now.flash.now task.now.assumptions.now family.now.nodes family.now.landings }
-    ensures { IfOk result (λ f. SpreadsAlong task.now.flash.now task.now.assumptions.now family.now.nodes f.links f.offsets f.seeds) }
+    requires { AreLandings (task_of task.now) family.now.nodes family.now.landings }
+    ensures { IfOk result (λ f. SpreadsAlong (task_of task.now) family.now.nodes f.links f.offsets f.seeds) }
 {
     let seeds = all_seeds(task, family)?;
     let offsets = offsets_of(task.alloc, &family.nodes)?;

@@ -3,8 +3,9 @@
 ghost use Rattle.std.specs.Prelude.{◌≡◌, ◌≤◌, length};
 ghost use Rattle.avr_model.specs.Devices.{device_of};
 ghost use Rattle.avr_model.specs.Image.{WORDS};
-ghost use Rattle.avr_model.specs.Vectors.{last_vector, enable_count};
-ghost use Rattle.store_clear.specs.Takes.{AreMarkedBeside, is_take, IsTakenBelow, may_take, IsTakenAt};
+ghost use Rattle.avr_model.specs.Vectors.{last_vector};
+ghost use Rattle.store_clear.specs.Takes.{AreMarkedBeside, is_take, may_take, IsTakenAt, IsTakenAtAll};
+ghost use Rattle.call_graph.specs.Tasks.{task_of};
 
 use call_graph::{Filled, Task};
 use mask_states::NodeKey;
@@ -13,7 +14,7 @@ use mask_states::NodeKey;
 fn is_take(task: &Task<'_>, key: &NodeKey, v: u8) -> bool
     requires low { 2 ≤ v }
     requires high { v ≤ last_vector (device_of task.now.flash.now) }
-    ensures { result ≡ is_take task.now.flash.now task.now.assumptions.now key.now v }
+    ensures { result ≡ is_take (task_of task.now) key.now v }
 {
     let device = task.flash.device();
     key.masks.has(device, v) && task.assumptions.never(device.vector_word(v))
@@ -22,7 +23,7 @@ fn is_take(task: &Task<'_>, key: &NodeKey, v: u8) -> bool
 // Marks the words of all such vectors.
 fn mark_vectors(task: &Task<'_>, key: &NodeKey, marks: &mut [bool])
     requires { length marks.old ≡ WORDS }
-    ensures { AreMarkedBeside (IsTakenBelow task.now.flash.now task.now.assumptions.now key.now (enable_count (device_of task.now.flash.now))) marks.old marks.new }
+    ensures { AreMarkedBeside (IsTakenAtAll (task_of task.now) key.now) marks.old marks.new }
 {
     let device = task.flash.device();
     for n in 0..device.last_vector() - 1 {
@@ -42,7 +43,7 @@ fn may_take(key: &NodeKey) -> bool
 // Marks the words with a `never` line of the vectors that a node may take.
 pub(crate) fn mark_takes(task: &Task<'_>, nodes: &Filled, marks: &mut [bool])
     requires { length marks.old ≡ WORDS }
-    ensures { AreMarkedBeside (IsTakenAt task.now.flash.now task.now.assumptions.now nodes.now (length nodes.now)) marks.old marks.new }
+    ensures { AreMarkedBeside (IsTakenAt (task_of task.now) nodes.now (length nodes.now)) marks.old marks.new }
 {
     for at in 0..nodes.count() {
         let key = nodes.key(at);

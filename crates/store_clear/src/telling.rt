@@ -4,6 +4,7 @@ ghost use Rattle.std.specs.Prelude.{◌≡◌, ◌≤◌, IfOk};
 ghost use Rattle.avr_model.specs.Devices.{device_of, size_of};
 ghost use Rattle.call_graph.specs.Landings.{AreLandings};
 ghost use Rattle.store_clear.specs.Settling.{passes, AreAsked, AreTold};
+ghost use Rattle.call_graph.specs.Tasks.{task_of};
 
 use crate::need::asked_by;
 use crate::settling::settle;
@@ -35,7 +36,7 @@ pub(crate) fn passes(asks: Asks) -> bool
 // The condition of each node for being clear, by number, if the stack takes at most this many bytes.
 fn asked(task: &Task<'_>, bound: u16, nodes: &Filled) -> Result<Vec<Asks>, AllocError>
     requires { bound ≤ size_of (device_of task.now.flash.now) }
-    ensures { IfOk result (λ asks. AreAsked task.now.flash.now task.now.assumptions.now bound nodes.now asks.items) }
+    ensures { IfOk result (λ asks. AreAsked (task_of task.now) bound nodes.now asks.items) }
 {
     let mut asks = Vec::new(task.alloc);
     for at in 0..nodes.count() {
@@ -52,8 +53,8 @@ pub(crate) fn tell(
     family: &Worked,
 ) -> Result<Vec<Asks>, AllocError>
     requires small { certificate.now.bound ≤ size_of (device_of task.now.flash.now) }
-    requires landings { AreLandings task.now.flash.now task.now.assumptions.now family.now.nodes family.now.landings }
-    ensures { IfOk result (λ asks. AreTold task.now.flash.now task.now.assumptions.now certificate.now family.now.nodes asks.items) }
+    requires landings { AreLandings (task_of task.now) family.now.nodes family.now.landings }
+    ensures { IfOk result (λ asks. AreTold (task_of task.now) certificate.now family.now.nodes asks.items) }
 {
     let _count = family.nodes.count();
     let mut asks = asked(task, certificate.bound(), &family.nodes)?;

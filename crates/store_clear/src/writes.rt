@@ -4,6 +4,7 @@ ghost use Rattle.std.specs.Prelude.{◌≡◌, ◌≤◌};
 ghost use Rattle.avr_model.specs.Devices.{device_of, size_of};
 ghost use Rattle.clear_laws.specs.Aims.{may_write};
 ghost use Rattle.clear_laws.specs.Causes.{may_write_protected, may_write_some_protected, may_write_stack, may_write_live};
+ghost use Rattle.store_clear.specs.Stores.{task_in, store_of};
 
 use crate::need::{is_flagged_address, is_indirect};
 use crate::store::Store;
@@ -34,7 +35,7 @@ fn may_write(state: &AbsState, instr: &Instr, address: u16) -> bool
 
 // Whether the byte of a store at this word may go to this data address, and the write is flagged as one of a protected address.
 pub(crate) fn may_write_protected(store: &Store<'_>, address: u16) -> bool
-    ensures { result ≡ may_write_protected store.now.flash.now store.now.assumptions.now store.now.pc store.now.state.now store.now.instr.now address }
+    ensures { result ≡ may_write_protected (task_in store.now) (store_of store.now) address }
 {
     is_flagged_address(store, address) && may_write(store.state, store.instr, address)
 }
@@ -42,7 +43,7 @@ pub(crate) fn may_write_protected(store: &Store<'_>, address: u16) -> bool
 // Whether some data address is so.
 #[tactic(auto, using(crate::proofs::Io::most_io))]
 fn may_write_some_protected(store: &Store<'_>) -> bool
-    ensures { result ≡ may_write_some_protected store.now.flash.now store.now.assumptions.now store.now.pc store.now.state.now store.now.instr.now }
+    ensures { result ≡ may_write_some_protected (task_in store.now) (store_of store.now) }
 {
     for address in 0..store.flash.device().io_end() + 1 {
         if may_write_protected(store, address) {
@@ -70,7 +71,7 @@ fn may_write_stack(flash: &Flash, bound: u16, state: &AbsState, instr: &Instr) -
 // stack, or pairs aren't followed and it has no other cause.
 pub(crate) fn may_write_live(store: &Store<'_>, bound: u16) -> bool
     requires { bound ≤ size_of (device_of store.now.flash.now) }
-    ensures { result ≡ may_write_live store.now.flash.now store.now.assumptions.now bound store.now.pc store.now.state.now store.now.instr.now }
+    ensures { result ≡ may_write_live (task_in store.now) bound (store_of store.now) }
 {
     may_write_stack(store.flash, bound, store.state, store.instr)
         || (!store.state.facts.is_followed()

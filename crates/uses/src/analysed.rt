@@ -4,6 +4,7 @@ ghost use Rattle.std.specs.Prelude.{◌≤◌, IfOk};
 ghost use Rattle.avr_model.specs.Run.{Bounded};
 ghost use Rattle.certificate.specs.Claims.{Claim};
 ghost use Rattle.round_rules.specs.Solutions.{IsShown};
+ghost use Rattle.call_graph.specs.Tasks.{task_of};
 
 use call_graph::Task;
 use cert_check::laws::sound_certificates_bound_every_run;
@@ -14,7 +15,7 @@ use local_rules::laws::words_have_16_bits;
 /// has less.
 pub fn worst_case(task: &Task<'_>) -> Result<u16, Refusal>
     ensures bounded { IfOk result (λ bound. Bounded task.now.flash.now task.now.assumptions.now bound) }
-    ensures least { IfOk result (λ bound. (other : Claim) → IsShown task.now.flash.now task.now.assumptions.now other → bound ≤ other.bound) }
+    ensures least { IfOk result (λ bound. (other : Claim) → IsShown (task_of task.now) other → bound ≤ other.bound) }
 {
     sound_certificates_bound_every_run();
     words_have_16_bits(task.flash.words());

@@ -11,7 +11,7 @@ use std::alloc::{AllocError, Global};
 /// A bound on how deep calls and interrupts nest from the root. `None` if an instance reaches itself.
 pub fn nesting_of(alloc: Global, graph: &Graph) -> Result<Option<u32>, AllocError>
     requires { IsGraph graph.now.instances }
-    ensures bound { IfOk result (λ o. IfSome o (λ need. (depth : ℕ) → Nests graph.now.instances 0 depth → depth ≤ need)) }
+    ensures bound { IfOk result (λ o. IfSome o (λ n. (depth : ℕ) → Nests graph.now.instances 0 depth → depth ≤ n)) }
     ensures none { IfOk result (λ o. o ≡ None → (i : ℕ) × ReachesBy graph.now.instances i i) }
 {
     needs_bound_nesting();

@@ -6,9 +6,8 @@ use Rattle.basics.specs.Items.{only_one_in}
 use Rattle.basics.specs.Numbers.{most_from_start}
 use Rattle.avr_model.specs.declared.choice.Choice.{Choice}
 use Rattle.avr_model.specs.declared.choice.Stop.TheVariants as stop
-use Rattle.avr_model.specs.declared.assumption.Entry.{Entry}
 use Rattle.avr_model.specs.Masks.{reads_masks}
-use Rattle.avr_model.specs.Devices.{Program, device_of, ramend}
+use Rattle.avr_model.specs.Devices.{device_of, ramend}
 use Rattle.avr_model.specs.State.{State, filled}
 use Rattle.avr_model.specs.Run.{IsRun, starting, depth_of, stop_of}
 use Rattle.stimulus.specs.Laws.{DepthIsKept}
@@ -22,87 +21,88 @@ use Rattle.witness_search.specs.Attempts.{IsAttempt, IsAttempted}
 use Rattle.witness_search.specs.Trials.{fills, trial_by, trial_of, Succeeds, NoneSucceeds, IsTried, IsFound}
 use Rattle.witness_search.specs.Laws.{TrialsAreShort}
 use Rattle.trial_runs.proofs.AllLaws.{few, ends_well, run_legal}
+use Rattle.local_rules.specs.Site.{Task}
 
 steps_are : most_choices ≡ 200000
 unfolding most_choices
 steps_are = refl
 
 -- the trial with all its steps
-pub whole : (steps : ℕ) (words : Program) (A : List Entry) (points : List Waypoint) (bound fill : ℕ) → steps ≡ most_choices
-    → trial_by steps words A points bound fill ≡ trial_of words A points bound fill
+pub whole : (steps : ℕ) (task : Task) (points : List Waypoint) (bound fill : ℕ) → steps ≡ most_choices
+    → trial_by steps task points bound fill ≡ trial_of task points bound fill
 unfolding trial_of
-whole steps words A points bound fill is = ap (λ (n : ℕ). trial_by n words A points bound fill) is
+whole steps task points bound fill is = ap (λ (n : ℕ). trial_by n task points bound fill) is
 
-pub few_choices : (steps : ℕ) (words : Program) (A : List Entry) (points : List Waypoint) (bound fill : ℕ) (cs : List Choice) → steps ≡ most_choices
-    → cs ≡ trial_by steps words A points bound fill → length cs ≤ 16777216
-few_choices steps words A points bound fill cs most is = omega (arith, few (pick_due (reads_masks (device_of words) A) fill) (due_left (reads_masks (device_of words) A)) words A bound steps points (starting (filled (device_of words) fill)), ap length is, most, steps_are)
+pub few_choices : (steps : ℕ) (task : Task) (points : List Waypoint) (bound fill : ℕ) (cs : List Choice) → steps ≡ most_choices
+    → cs ≡ trial_by steps task points bound fill → length cs ≤ 16777216
+few_choices steps task points bound fill cs most is = omega (arith, few (pick_due (reads_masks (device_of task.flash) task.assumptions) fill) (due_left (reads_masks (device_of task.flash) task.assumptions)) task.flash task.assumptions bound steps points (starting (filled (device_of task.flash) fill)), ap length is, most, steps_are)
 
 pub short : TrialsAreShort
 unfolding trial_of
-short words A points bound fill = omega (arith, few (pick_due (reads_masks (device_of words) A) fill) (due_left (reads_masks (device_of words) A)) words A bound most_choices points (starting (filled (device_of words) fill)), steps_are)
+short task points bound fill = omega (arith, few (pick_due (reads_masks (device_of task.flash) task.assumptions) fill) (due_left (reads_masks (device_of task.flash) task.assumptions)) task.flash task.assumptions bound most_choices points (starting (filled (device_of task.flash) fill)), steps_are)
 
 -- ---- a trial that reaches the bound
 
-module _ (law : DepthIsKept) (words : Program) (A : List Entry) where
-  stop_is : (steps : ℕ) (points : List Waypoint) (bound fill : ℕ) (cs : List Choice) → cs ≡ trial_by steps words A points bound fill → IsRun words A cs (filled (device_of words) fill)
-      → depth_of words A cs (filled (device_of words) fill) ≡ bound → stop_of words A cs (filled (device_of words) fill) ≡ stop.End
+module _ (law : DepthIsKept) (task : Task) where
+  stop_is : (steps : ℕ) (points : List Waypoint) (bound fill : ℕ) (cs : List Choice) → cs ≡ trial_by steps task points bound fill → IsRun task.flash task.assumptions cs (filled (device_of task.flash) fill)
+      → depth_of task.flash task.assumptions cs (filled (device_of task.flash) fill) ≡ bound → stop_of task.flash task.assumptions cs (filled (device_of task.flash) fill) ≡ stop.End
   stop_is steps points bound fill cs is =
-      subst (λ (xs : List Choice). IsRun words A xs (filled (device_of words) fill) → depth_of words A xs (filled (device_of words) fill) ≡ bound → stop_of words A xs (filled (device_of words) fill) ≡ stop.End)
+      subst (λ (xs : List Choice). IsRun task.flash task.assumptions xs (filled (device_of task.flash) fill) → depth_of task.flash task.assumptions xs (filled (device_of task.flash) fill) ≡ bound → stop_of task.flash task.assumptions xs (filled (device_of task.flash) fill) ≡ stop.End)
       (sym is)
       (λ run deep.
-      let e = law words A (trial_by steps words A points bound fill) (starting (filled (device_of words) fill)) (omega arith) run ∙ most_from_start (ramend (device_of words)) (depth_of words A (trial_by steps words A points bound fill) (filled (device_of words) fill)) ∙ deep in
-      ends_well (pick_due (reads_masks (device_of words) A) fill) (due_left (reads_masks (device_of words) A)) words A bound steps points (starting (filled (device_of words) fill)) (omega (arith, e)))
+      let e = law task.flash task.assumptions (trial_by steps task points bound fill) (starting (filled (device_of task.flash) fill)) (omega arith) run ∙ most_from_start (ramend (device_of task.flash)) (depth_of task.flash task.assumptions (trial_by steps task points bound fill) (filled (device_of task.flash) fill)) ∙ deep in
+      ends_well (pick_due (reads_masks (device_of task.flash) task.assumptions) fill) (due_left (reads_masks (device_of task.flash) task.assumptions)) task.flash task.assumptions bound steps points (starting (filled (device_of task.flash) fill)) (omega (arith, e)))
 
-  replays : (bound : ℕ) (cs : List Choice) (m : State) → IsRun words A cs m → depth_of words A cs m ≡ bound → stop_of words A cs m ≡ stop.End
-      → IsOkAnd (replay_from words A cs m) (λ r. (r.stop ≡ stop.End) × (r.depth ≡ bound))
+  replays : (bound : ℕ) (cs : List Choice) (m : State) → IsRun task.flash task.assumptions cs m → depth_of task.flash task.assumptions cs m ≡ bound → stop_of task.flash task.assumptions cs m ≡ stop.End
+      → IsOkAnd (replay_from task.flash task.assumptions cs m) (λ r. (r.stop ≡ stop.End) × (r.depth ≡ bound))
   replays bound cs m run deep end =
       subst
-      (λ (x : Option ℕ). IsOkAnd (report_unless x (record { steps = steps_of words A cs m; depth = depth_of words A cs m; stop = stop_of words A cs m })) (λ r. (r.stop ≡ stop.End) × (r.depth ≡ bound)))
-      (sym (run_legal words A cs m run)) (end, deep)
+      (λ (x : Option ℕ). IsOkAnd (report_unless x (record { steps = steps_of task.flash task.assumptions cs m; depth = depth_of task.flash task.assumptions cs m; stop = stop_of task.flash task.assumptions cs m })) (λ r. (r.stop ≡ stop.End) × (r.depth ≡ bound)))
+      (sym (run_legal task.flash task.assumptions cs m run)) (end, deep)
 
-  pub attains : (steps : ℕ) (points : List Waypoint) (bound fill : ℕ) (cs : List Choice) (plan : Plan) → cs ≡ trial_by steps words A points bound fill
-      → IsRun words A cs (filled (device_of words) fill) → depth_of words A cs (filled (device_of words) fill) ≡ bound → plan.fill ≡ fill → choices_of plan.runs ≡ cs → Attains words A bound plan
+  pub attains : (steps : ℕ) (points : List Waypoint) (bound fill : ℕ) (cs : List Choice) (plan : Plan) → cs ≡ trial_by steps task points bound fill
+      → IsRun task.flash task.assumptions cs (filled (device_of task.flash) fill) → depth_of task.flash task.assumptions cs (filled (device_of task.flash) fill) ≡ bound → plan.fill ≡ fill → choices_of plan.runs ≡ cs → Attains task bound plan
   attains steps points bound fill cs plan is run deep filling choices =
-      subst (λ (xs : List Choice). IsOkAnd (replay_from words A xs (filled (device_of words) plan.fill)) (λ r. (r.stop ≡ stop.End) × (r.depth ≡ bound))) (sym choices)
-      (subst (λ (b : ℕ). IsOkAnd (replay_from words A cs (filled (device_of words) b)) (λ r. (r.stop ≡ stop.End) × (r.depth ≡ bound))) (sym filling)
-      (replays bound cs (filled (device_of words) fill) run deep (stop_is steps points bound fill cs is run deep)))
+      subst (λ (xs : List Choice). IsOkAnd (replay_from task.flash task.assumptions xs (filled (device_of task.flash) plan.fill)) (λ r. (r.stop ≡ stop.End) × (r.depth ≡ bound))) (sym choices)
+      (subst (λ (b : ℕ). IsOkAnd (replay_from task.flash task.assumptions cs (filled (device_of task.flash) b)) (λ r. (r.stop ≡ stop.End) × (r.depth ≡ bound))) (sym filling)
+      (replays bound cs (filled (device_of task.flash) fill) run deep (stop_is steps points bound fill cs is run deep)))
 
-module _ (words : Program) (A : List Entry) (points : List Waypoint) (bound : ℕ) where
-  pub succeeds : (steps fill : ℕ) (cs : List Choice) → steps ≡ most_choices → IsAttempt steps words A points bound fill cs → Succeeds words A points bound fill
+module _ (task : Task) (points : List Waypoint) (bound : ℕ) where
+  pub succeeds : (steps fill : ℕ) (cs : List Choice) → steps ≡ most_choices → IsAttempt steps task points bound fill cs → Succeeds task points bound fill
   succeeds steps fill cs most a =
-      ap (λ (xs : List Choice). depth_of words A xs (filled (device_of words) fill)) (sym (a.are ∙ whole steps words A points bound fill most)) ∙ a.depth
+      ap (λ (xs : List Choice). depth_of task.flash task.assumptions xs (filled (device_of task.flash) fill)) (sym (a.are ∙ whole steps task points bound fill most)) ∙ a.depth
 
-  pub fails : (steps fill : ℕ) → steps ≡ most_choices → IsAttempted steps words A points bound fill None → Succeeds words A points bound fill → ⊥
+  pub fails : (steps fill : ℕ) → steps ≡ most_choices → IsAttempted steps task points bound fill None → Succeeds task points bound fill → ⊥
   fails steps fill most short h =
-      short (ap (λ (xs : List Choice). depth_of words A xs (filled (device_of words) fill)) (whole steps words A points bound fill most) ∙ h)
+      short (ap (λ (xs : List Choice). depth_of task.flash task.assumptions xs (filled (device_of task.flash) fill)) (whole steps task points bound fill most) ∙ h)
 
-  pub tried : (steps fill : ℕ) (cs : List Choice) (plan : Plan) → steps ≡ most_choices → cs ≡ trial_by steps words A points bound fill → Succeeds words A points bound fill
-      → plan.fill ≡ fill → choices_of plan.runs ≡ cs → IsSchedule (device_of words) plan → IsTried words A points bound fill (Some plan)
+  pub tried : (steps fill : ℕ) (cs : List Choice) (plan : Plan) → steps ≡ most_choices → cs ≡ trial_by steps task points bound fill → Succeeds task points bound fill
+      → plan.fill ≡ fill → choices_of plan.runs ≡ cs → IsSchedule (device_of task.flash) plan → IsTried task points bound fill (Some plan)
   tried steps fill cs plan most is reached filling choices fits = (
     filling,
     reached,
-    record { fits = fits; choices = choices ∙ is ∙ whole steps words A points bound fill most ∙ ap (trial_of words A points bound) (sym filling) },
+    record { fits = fits; choices = choices ∙ is ∙ whole steps task points bound fill most ∙ ap (trial_of task points bound) (sym filling) },
   )
 
   -- ---- one trial after another
 
-  pub none_yet : NoneSucceeds words A points bound []
+  pub none_yet : NoneSucceeds task points bound []
   none_yet fill has = absurd (omega (arith, has.1))
 
-  pub none_more : (before : List ℕ) (fill : ℕ) → NoneSucceeds words A points bound before → (Succeeds words A points bound fill → ⊥)
-      → NoneSucceeds words A points bound (before ++ fill ∷ [])
+  pub none_more : (before : List ℕ) (fill : ℕ) → NoneSucceeds task points bound before → (Succeeds task points bound fill → ⊥)
+      → NoneSucceeds task points bound (before ++ fill ∷ [])
   none_more before fill none failed t has reached =
-      elim (Contains-append_cases before (fill ∷ []) t has) [ inl old ↦ none t old reached | inr new ↦ failed (subst (Succeeds words A points bound) (only_one_in fill t new) reached) ]
+      elim (Contains-append_cases before (fill ∷ []) t has) [ inl old ↦ none t old reached | inr new ↦ failed (subst (Succeeds task points bound) (only_one_in fill t new) reached) ]
 
-  pub first : (before after : List ℕ) (fill : ℕ) (plan : Plan) → fills ≡ before ++ fill ∷ after → NoneSucceeds words A points bound before
-      → IsTried words A points bound fill (Some plan) → IsFound words A points bound (Some plan)
+  pub first : (before after : List ℕ) (fill : ℕ) (plan : Plan) → fills ≡ before ++ fill ∷ after → NoneSucceeds task points bound before
+      → IsTried task points bound fill (Some plan) → IsFound task points bound (Some plan)
   first before after fill plan order none h =
       record {
         before = before;
         after = after;
         order = order ∙ ap (λ (b : ℕ). before ++ b ∷ after) (sym h.0);
         failed = none;
-        succeeds = subst (Succeeds words A points bound) (sym h.0) h.1;
+        succeeds = subst (Succeeds task points bound) (sym h.0) h.1;
         trial = h.2;
       }
 

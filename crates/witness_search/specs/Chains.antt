@@ -1,7 +1,6 @@
 -- The waypoints of a certificate: the interrupts of the deepest chain of its family, with the least needs. Source: own.
 use Rattle.std.specs.Prelude.{ℕ, ◌≡◌, List, [], ◌∷◌, Option, Some, slice_get}
 use Rattle.std.specs.List.{flat_map}
-use Rattle.avr_model.specs.declared.assumption.Entry.{Entry}
 use Rattle.avr_model.specs.Devices.{Program, device_of, ramend}
 use Rattle.mask_states.specs.declared.keys.EdgeKind.{EdgeKind}
 use Rattle.mask_states.specs.declared.keys.EdgeKind.TheVariants.{Interrupt}
@@ -11,6 +10,7 @@ use Rattle.nesting_bound.specs.declared.graph.Link.{Link}
 use Rattle.family_graph.specs.Chains.{IsDeepest}
 use Rattle.certificate.specs.Claims.{Claim}
 use Rattle.witness_search.specs.declared.waypoint.Waypoint.{Waypoint}
+use Rattle.local_rules.specs.Site.{Task}
 
 -- the interrupt by which a chain leaves a node, at this depth below the beginning of the device's stack
 abbrev pub interrupt_at : Program → Option Node → ℕ → Option EdgeKind → List Waypoint
@@ -26,14 +26,14 @@ abbrev pub interrupts_of : Program → List Node → List Link → List Waypoint
 interrupts_of words nodes links = flat_map (interrupt_of words nodes) links
 
 -- the interrupts of the deepest chain of a family
-pub record AreInterrupts (words : Program) (A : List Entry) (nodes : List Node) (points : List Waypoint) : Type 0 where
+pub record AreInterrupts (task : Task) (nodes : List Node) (points : List Waypoint) : Type 0 where
   pub need : ℕ
   pub links : List Link
-  pub deepest : IsDeepest words A nodes need links
-  pub are : points ≡ interrupts_of words nodes links
+  pub deepest : IsDeepest task nodes need links
+  pub are : points ≡ interrupts_of task.flash nodes links
 
 -- the waypoints of a certificate's family
-pub record AreWaypoints (words : Program) (A : List Entry) (c : Claim) (points : List Waypoint) : Type 0 where
+pub record AreWaypoints (task : Task) (c : Claim) (points : List Waypoint) : Type 0 where
   pub nodes : List Node
-  pub filled : IsFilled words A c.nodes nodes
-  pub interrupts : AreInterrupts words A nodes points
+  pub filled : IsFilled task c.nodes nodes
+  pub interrupts : AreInterrupts task nodes points

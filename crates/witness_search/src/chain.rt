@@ -5,6 +5,7 @@ ghost use Rattle.call_graph.specs.Landings.{AreLandings};
 ghost use Rattle.certificate.specs.Claims.{IsClaim};
 ghost use Rattle.certificate.specs.Valid.{MeetsConditions};
 ghost use Rattle.witness_search.specs.Chains.{interrupt_of, interrupts_of, AreInterrupts};
+ghost use Rattle.call_graph.specs.Tasks.{task_of};
 
 use crate::waypoint::Waypoint;
 use call_graph::{Filled, Task, Worked};
@@ -58,9 +59,9 @@ pub(crate) fn waypoints(
 ) -> Result<Vec<Waypoint>, AllocError>
     requires claim { IsClaim certificate.now }
     requires few { length family.now.nodes ≤ 65536 }
-    requires meets { MeetsConditions task.now.flash.now task.now.assumptions.now certificate.now family.now.nodes }
-    requires landings { AreLandings task.now.flash.now task.now.assumptions.now family.now.nodes family.now.landings }
-    ensures { IfOk result (λ points. AreInterrupts task.now.flash.now task.now.assumptions.now family.now.nodes points.items) }
+    requires meets { MeetsConditions (task_of task.now) certificate.now family.now.nodes }
+    requires landings { AreLandings (task_of task.now) family.now.nodes family.now.landings }
+    ensures { IfOk result (λ points. AreInterrupts (task_of task.now) family.now.nodes points.items) }
 {
     let ways = entered_by(task, family)?;
     let deepest = deepest_chain(task, certificate, &family.nodes, &ways)?;

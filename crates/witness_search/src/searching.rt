@@ -5,6 +5,7 @@ ghost use Rattle.certificate.specs.Valid.{IsSound, IsAttained};
 ghost use Rattle.witness_search.specs.declared.waypoint.Waypoint.{Waypoint};
 ghost use Rattle.witness_search.specs.Chains.{AreWaypoints};
 ghost use Rattle.witness_search.specs.Trials.{IsFound};
+ghost use Rattle.call_graph.specs.Tasks.{task_of};
 
 use crate::chain::waypoints;
 use crate::trial::first_trial;
@@ -17,8 +18,8 @@ use witness_replay::Schedule;
 
 // The waypoints of a certificate whose conditions hold.
 fn waypoints_of(task: &Task<'_>, certificate: &Certificate) -> Result<Vec<Waypoint>, AllocError>
-    requires { IsSound task.now.flash.now task.now.assumptions.now certificate.now }
-    ensures { IfOk result (λ points. AreWaypoints task.now.flash.now task.now.assumptions.now certificate.now points.items) }
+    requires { IsSound (task_of task.now) certificate.now }
+    ensures { IfOk result (λ points. AreWaypoints (task_of task.now) certificate.now points.items) }
 {
     let _nodes = certificate.nodes();
     let family = worked_of(task, certificate)?;
@@ -29,9 +30,9 @@ fn waypoints_of(task: &Task<'_>, certificate: &Certificate) -> Result<Vec<Waypoi
 /// eight trials with this depth; each takes the interrupts of the deepest chain when they are due. None exactly if no trial's depth is
 /// the bound. Source: own.
 pub fn search(task: &Task<'_>, certificate: &Certificate) -> Result<Option<Schedule>, AllocError>
-    requires { IsSound task.now.flash.now task.now.assumptions.now certificate.now }
-    ensures first { IfOk result (λ found. (points : List Waypoint) × AreWaypoints task.now.flash.now task.now.assumptions.now certificate.now points × IsFound task.now.flash.now task.now.assumptions.now points certificate.now.bound found) }
-    ensures attained { IfOk result (IsAttained task.now.flash.now task.now.assumptions.now certificate.now.bound) }
+    requires { IsSound (task_of task.now) certificate.now }
+    ensures first { IfOk result (λ found. (points : List Waypoint) × AreWaypoints (task_of task.now) certificate.now points × IsFound (task_of task.now) points certificate.now.bound found) }
+    ensures attained { IfOk result (IsAttained (task_of task.now) certificate.now.bound) }
 {
     let points = waypoints_of(task, certificate)?;
     first_trial(task, &points, certificate.bound())

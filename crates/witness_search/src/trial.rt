@@ -5,6 +5,7 @@ ghost use Rattle.witness_search.specs.Waypoints.{taken, left_after};
 ghost use Rattle.certificate.specs.Valid.{Attains};
 ghost use Rattle.witness_search.specs.Attempts.{IsAttempted};
 ghost use Rattle.witness_search.specs.Trials.{IsTried, IsFound};
+ghost use Rattle.call_graph.specs.Tasks.{task_of};
 
 use crate::mark::Mark;
 use crate::waypoint::{Waypoint, is_due};
@@ -53,7 +54,7 @@ fn attempt(
     steps: u32,
     mark: &mut Mark,
 ) -> Result<Option<Listed<Choice>>, AllocError>
-    ensures { IfOk result (IsAttempted steps task.now.flash.now task.now.assumptions.now points.now bound fill) }
+    ensures { IfOk result (IsAttempted steps (task_of task.now) points.now bound fill) }
 {
     depth_is_kept();
     let device = task.flash.device();
@@ -91,8 +92,8 @@ fn try_fill(
     fill: u8,
     mark: &mut Mark,
 ) -> Result<Option<Schedule>, AllocError>
-    ensures tried { IfOk result (IsTried task.now.flash.now task.now.assumptions.now points.now bound fill) }
-    ensures attained { IfOk result (λ found. IfSome found (Attains task.now.flash.now task.now.assumptions.now bound)) }
+    ensures tried { IfOk result (IsTried (task_of task.now) points.now bound fill) }
+    ensures attained { IfOk result (λ found. IfSome found (Attains (task_of task.now) bound)) }
 {
     depth_is_kept();
     let Some(choices) = attempt(task, points, bound, fill, most_choices(), mark)? else {
@@ -114,8 +115,8 @@ pub fn first_trial(
     points: &[Waypoint],
     bound: u16,
 ) -> Result<Option<Schedule>, AllocError>
-    ensures first { IfOk result (IsFound task.now.flash.now task.now.assumptions.now points.now bound) }
-    ensures attained { IfOk result (λ found. IfSome found (Attains task.now.flash.now task.now.assumptions.now bound)) }
+    ensures first { IfOk result (IsFound (task_of task.now) points.now bound) }
+    ensures attained { IfOk result (λ found. IfSome found (Attains (task_of task.now) bound)) }
 {
     // One for all trials, since it is large.
     let mut mark = Mark::new(task.flash.device());

@@ -3,6 +3,8 @@
 
 ghost use Rattle.std.specs.Prelude.{[]};
 ghost use Rattle.certificate.specs.Valid.{IsSound};
+ghost use Rattle.call_graph.specs.Tasks.{task_of};
+ghost use Rattle.local_rules.specs.Site.{bare};
 
 use super::Worked;
 use super::edges::flash_on;
@@ -54,7 +56,7 @@ fn is_verdict(verdict: ClearVerdict, due: Option<(u32, u16)>) -> bool {
 
 // Whether its nodes are clear as is due, without assumptions.
 fn is_clear(alloc: Global, flash: &Flash, certificate: &Certificate, row: &Row) -> bool
-    requires { IsSound flash.now [] certificate.now }
+    requires { IsSound (bare flash.now) certificate.now }
 {
     match clear_sites(alloc, flash, certificate) {
         Ok(verdict) => is_verdict(verdict, row.unclear),
@@ -95,7 +97,7 @@ fn are_places(places: &[FlaggedPlace], due: &[Flagged]) -> bool {
 
 // Whether its words are flagged as is due.
 fn is_flagged(task: &Task<'_>, certificate: &Certificate, row: &Row) -> bool
-    requires { IsSound task.now.flash.now task.now.assumptions.now certificate.now }
+    requires { IsSound (task_of task.now) certificate.now }
 {
     let sites = match flagged_sites(task, certificate) {
         Ok(sites) => are_words(sites.as_slice(), row.flagged),
@@ -110,7 +112,7 @@ fn is_flagged(task: &Task<'_>, certificate: &Certificate, row: &Row) -> bool
 
 // Whether these vectors may be taken.
 fn is_taken(task: &Task<'_>, certificate: &Certificate, row: &Row) -> bool
-    requires { IsSound task.now.flash.now task.now.assumptions.now certificate.now }
+    requires { IsSound (task_of task.now) certificate.now }
 {
     match never_takes(task, certificate) {
         Ok(nevers) => nevers.as_slice() == row.nevers,
@@ -136,7 +138,7 @@ fn is_chain(found: &Explanation, due: &[Link]) -> bool {
 
 // Whether its deepest chain is so, and as deep as the bound.
 fn is_explained(task: &Task<'_>, certificate: &Certificate, row: &Row) -> bool
-    requires { IsSound task.now.flash.now task.now.assumptions.now certificate.now }
+    requires { IsSound (task_of task.now) certificate.now }
 {
     match explain(task, certificate) {
         Ok(found) => is_chain(&found, row.chain) && found.least() == certificate.bound(),

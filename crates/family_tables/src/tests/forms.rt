@@ -5,6 +5,7 @@ ghost use Rattle.avr_model.specs.Devices.{device_of};
 ghost use Rattle.edge_rules.specs.Expansion.{AreSeeds};
 ghost use Rattle.edge_laws.specs.Expansions.{AreSeedsAscending};
 ghost use Rattle.call_graph.specs.Landings.{AreLandings};
+ghost use Rattle.call_graph.specs.Tasks.{task_of};
 
 use super::Worked;
 use crate::tests::seeds::{Plan, SeedList, seeds_of};
@@ -41,7 +42,7 @@ fn are_forms(found: &[(NodeKey, NodeForm)], due: &[Option<u32>]) -> bool {
 
 fn is_written(task: &Task<'_>, family: Family, due: &[Option<u32>]) -> bool
     requires few { length family.nodes ≤ 65536 }
-    requires landings { AreLandings task.now.flash.now task.now.assumptions.now family.nodes family.landings }
+    requires landings { AreLandings (task_of task.now) family.nodes family.landings }
 {
     match forms(task, family) {
         Ok(found) => are_forms(&found, due),

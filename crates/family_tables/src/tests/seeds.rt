@@ -3,10 +3,8 @@
 ghost use Rattle.std.specs.Prelude.{ℕ, ◌≡◌, ◌<◌, ◌^◌, false, length, slice_get, Some, None, IsTrue, IfOk, IfSome, OnOk};
 ghost use Rattle.std.specs.declared.cmp.Ordering.TheVariants.{Less};
 ghost use Rattle.avr_model.specs.Vectors.{enable_count};
-ghost use Rattle.mask_states.specs.declared.keys.NodeKey as node_key;
 ghost use Rattle.mask_states.specs.declared.keys.SpForm.TheVariants.{Closed};
 ghost use Rattle.mask_states.specs.Order.{node_cmp};
-ghost use Rattle.edge_rules.specs.declared.seeded.NodeForm as node_form;
 ghost use Rattle.edge_rules.specs.Expansion.{AreSeeds};
 ghost use Rattle.edge_laws.specs.Expansions.{AreSeedsAscending};
 
@@ -86,7 +84,7 @@ fn key_of(device: Device, plan: &Plan, offset: u16) -> NodeKey
 // Whether the key of this number is below the other.
 fn is_before(items: &[(NodeKey, NodeForm)], at: usize, key: &NodeKey) -> bool
     requires { at < length items.now }
-    ensures { (e : node_key.NodeKey × node_form.NodeForm) → slice_get items.now at ≡ Some e → IsTrue result → node_cmp e.0 key.now ≡ Less }
+    ensures { (e : _) → slice_get items.now at ≡ Some e → IsTrue result → node_cmp e.0 key.now ≡ Less }
 {
     items[at].0.cmp(key).is_lt()
 }
@@ -94,7 +92,7 @@ fn is_before(items: &[(NodeKey, NodeForm)], at: usize, key: &NodeKey) -> bool
 // Whether all keys are below this one, and there is room for it.
 fn may_follow(items: &[(NodeKey, NodeForm)], key: &NodeKey) -> bool
     ensures room { IsTrue result → length items.now < 65536 }
-    ensures below { IsTrue result → (at : ℕ) (e : node_key.NodeKey × node_form.NodeForm) → slice_get items.now at ≡ Some e → node_cmp e.0 key.now ≡ Less }
+    ensures below { IsTrue result → (at : ℕ) (e : _) → slice_get items.now at ≡ Some e → node_cmp e.0 key.now ≡ Less }
 {
     if items.len() >= 65536 {
         return false;

@@ -10,6 +10,7 @@ use Rattle.local_rules.specs.Reads.{kept_bits}
 use Rattle.local_rules.specs.Writes.{written_at}
 use Rattle.abs_step.specs.Adding.{Adds}
 use Rattle.abs_step.proofs.bits.bit_row.Goals as goal
+use Rattle.local_rules.specs.Writes.{write_at}
 
 tri_is : (b : Bool) → tri_of_bool b ≡ (if b then One else Zero)
 tri_is true = refl
@@ -23,4 +24,4 @@ returns c =
     let bits = c.with-bits.ensures ∙ (λ p. byte_with (kept p) (c.get.ensures.value p) ((c.tri_of.ensures ∙ tri_is c.args.on) p)) in
     let value = c.untagged.ensures ∙ ap untagged bits in
     subst (λ (r : Raw). Adds c.args.nodes.now c.written_at.new.nodes c.written_at.result r)
-    (λ p. written_at site.device site.key.now.pc (c.next.ensures p) site.state.now false (at p) (value p)) c.written_at.ensures
+    (λ p. written_at (write_at site.device site.key.now.pc (c.next.ensures p) site.state.now (value p)) false (at p)) c.written_at.ensures

@@ -5,6 +5,7 @@ use Rattle.abs_state.specs.declared.state.AbsState.{AbsState}
 use Rattle.pair_rules.specs.Refined.{refined}
 use Rattle.local_rules.specs.Local.{storing}
 use Rattle.abs_step.specs.Adding.{plain, Adds}
+use Rattle.abs_step.specs.Sites.{task_of, site_of}
 use Rattle.abs_step.proofs.pairs.store_row.Goals as goal
 
 pub returns : goal.returns
@@ -14,7 +15,7 @@ returns c =
     let words = site.flash.now in
     subst
     (λ (o : Option AbsState). Adds (plain c.args.nodes.now) (plain c.stored-added.new.nodes) c.stored-added.result
-    (storing site.device words site.assumptions.now site.key.now s c.args.pointer c.args.r o))
+    (storing (task_of site) (site_of site) c.args.pointer c.args.r o))
     (c.refine-left.ensures
     ∙ (λ j. refined (marks words) words (i.St c.args.pointer c.args.r) s (record (c.in_ok-moved.ensures.ok j) { registers = c.pointer_moved-moved.ensures j })))
     c.stored-added.ensures

@@ -3,6 +3,7 @@ use Rattle.abs_state.specs.PairBytes.{left_in}
 use Rattle.local_rules.specs.Local.{storing}
 use Rattle.abs_step.specs.Adding.{plain, AreNodesAdded}
 use Rattle.abs_step.proofs.Added.{none_added}
+use Rattle.abs_step.specs.Sites.{task_of, site_of}
 use Rattle.abs_step.proofs.pairs.stored.Goals as goal
 
 pub returns-then-not-left : goal.returns-then-not-left
@@ -10,5 +11,5 @@ returns-then-not-left c =
     let site = c.args.site.now in
     let nodes = plain c.args.nodes.now in
     subst
-    (λ (b : Bool). AreNodesAdded nodes nodes (storing site.device site.flash.now site.assumptions.now site.key.now site.state.now c.args.store.now.pointer c.args.store.now.r (left_in b c.args.moved.now)))
+    (λ (b : Bool). AreNodesAdded nodes nodes (storing (task_of site) (site_of site) c.args.store.now.pointer c.args.store.now.r (left_in b c.args.moved.now)))
     (sym c.if-not-left.true) (none_added nodes)

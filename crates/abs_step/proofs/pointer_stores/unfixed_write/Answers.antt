@@ -3,6 +3,7 @@ use Rattle.std.proofs.lemmas.Result.{err_from_is_err_and}
 use Rattle.local_rules.specs.Writes.{reaches, listed_writes}
 use Rattle.abs_step.specs.Adding.{AreNodesAdded}
 use Rattle.abs_step.proofs.Woken.{Stops, woken_too, stopped_before}
+use Rattle.abs_step.specs.Sites.{write_of}
 use Rattle.abs_step.proofs.pointer_stores.unfixed_write.Goals as goal
 
 pub returns : goal.returns
@@ -10,9 +11,9 @@ returns c =
     let site = c.args.site.now in
     let write = c.args.write.now in
     let to = c.args.to.now in
-    woken_too site.device site.assumptions.now write.key write.state.now c.waking.result _ c.args.nodes.now c.listed_writes.new.nodes c.waking.new.nodes _
+    woken_too write.device site.assumptions.now write.key write.state.now c.waking.result _ c.args.nodes.now c.listed_writes.new.nodes c.waking.new.nodes _
     (subst
-    (λ (xs : List ℕ). AreNodesAdded c.args.nodes.now c.listed_writes.new.nodes (listed_writes write.device write.pc write.key write.state.now (filter (λ a. reaches site.state.now to.r to.up a) xs) write.value))
+    (λ (xs : List ℕ). AreNodesAdded c.args.nodes.now c.listed_writes.new.nodes (listed_writes (filter (λ a. reaches site.state.now to.r to.up a) xs) (write_of write)))
     c.stores-addresses.ensures.addresses c.in_ok-listed_writes.ensures)
     c.waking.ensures
 
@@ -23,7 +24,7 @@ returns-in_err-listed_writes c =
     let to = c.args.to.now in
     let p = err_from_is_err_and c.from_residual.result c.from_residual.ensures.1 in
     rw (p.1, p.2)
-    (stopped_before site.device site.assumptions.now write.key write.state.now c.in_err-listed_writes.field-0.0 _ _
+    (stopped_before write.device site.assumptions.now write.key write.state.now c.in_err-listed_writes.field-0.0 _ _
     (subst
-    (λ (xs : List ℕ). Stops c.in_err-listed_writes.field-0.0 (listed_writes write.device write.pc write.key write.state.now (filter (λ a. reaches site.state.now to.r to.up a) xs) write.value))
+    (λ (xs : List ℕ). Stops c.in_err-listed_writes.field-0.0 (listed_writes (filter (λ a. reaches site.state.now to.r to.up a) xs) (write_of write)))
     c.stores-addresses.ensures.addresses c.in_err-listed_writes.ensures))

@@ -1,18 +1,17 @@
 use Rattle.std.proofs.Common.{sym, subst, Option, Some, Result, IfOk}
 use Rattle.local_rules.specs.declared.local.NodeFault.{NodeFault}
 use Rattle.local_rules.specs.Raw.{Raw}
-use Rattle.local_rules.specs.Local.{row_in, picking, picked_row}
-use Rattle.pair_cuts.specs.Cuts.{pick_cut}
 use Rattle.abs_step.specs.Adding.{Moving, plain, AreMovesGathered, with_another}
 use Rattle.abs_step.proofs.Gathered.{gathered_fault, not_memory}
 use Rattle.abs_step.proofs.Picked.{gathered_led}
+use Rattle.abs_step.specs.Sites.{picked}
 use Rattle.abs_step.proofs.splitting.picked_too.Goals as goal
 use Rattle.abs_step.proofs.splitting.picked_too.Goals.{in-Ok, in-Err+else-cause-eq0}
 
 pub returns-clause-ok : goal.returns-clause-ok
 returns-clause-ok c =
     let site = c.args.site.now in
-    let row : Raw = picked_row (row_in site.device site.flash.now site.assumptions.now) (picking site.key.now c.args.byte) (pick_cut c.args.byte site.state.now) in
+    let row : Raw = picked site c.args.byte in
     let gathers : Result (Option NodeFault) NodeFault → Type 0 = (λ x. IfOk x (λ next. (old : Moving) (r : Raw) → AreMovesGathered old (plain c.args.nodes.now) c.args.fault r
     → AreMovesGathered old (plain c.with_pick.new.nodes) next (with_another r row))) in
     elim c.match-with_pick.branch [

@@ -9,13 +9,14 @@ use Rattle.abs_step.specs.Leading.{LeadsOn}
 use Rattle.abs_step.proofs.Added.{none_added}
 use Rattle.abs_step.proofs.splitting.with_pick.Goals as goal
 use Rattle.abs_step.proofs.splitting.with_pick.Goals.{then-left, else-left}
+use Rattle.abs_step.specs.Sites.{task_of}
 
 pub returns : goal.returns
 returns c =
     let site = c.args.site.now in
     let nodes = plain c.args.nodes.now in
     let after = c.pick_cut-left.new.state in
-    let row : Option AbsState → Raw = picked_row (row_in site.device site.flash.now site.assumptions.now) (picking site.key.now c.args.byte) in
+    let row : Option AbsState → Raw = picked_row (row_in site.device (task_of site)) (picking site.key.now c.args.byte) in
     let cut : left_in c.pick_cut-left.result after ≡ pick_cut c.args.byte site.state.now = c.pick_cut-left.ensures ∙ ap (pick_cut c.args.byte) c.in_ok-picked.ensures.ok in
     elim c.if-left.branch [
       | then-left w ↦

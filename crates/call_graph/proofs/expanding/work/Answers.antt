@@ -2,6 +2,7 @@ use Rattle.std.proofs.Common.{◌≡◌, IfOk}
 use Rattle.call_graph.proofs.Working.{from_at, worked_from}
 use Rattle.std.proofs.Common.{subst}
 use Rattle.call_graph.proofs.expanding.work.Goals as goal
+use Rattle.call_graph.specs.Tasks.{task_of}
 
 pub carry-requires : goal.carry-requires
 carry-requires c =
@@ -11,6 +12,6 @@ carry-requires c =
 pub returns-in-From : goal.returns-in-From
 returns-in-From c =
     subst (λ w. IfOk c.carry.result (λ found. found ≡ w))
-    (worked_from c.args.task.now.flash.now c.args.task.now.assumptions.now c.args.done.now c.args.key.now c.args.seed c.in-From.from c.index-done-from.result c.in-From.is
+    (worked_from (task_of c.args.task.now) c.args.done.now c.args.key.now c.args.seed c.in-From.from c.index-done-from.result c.in-From.is
     (from_at c.args.done.now c.args.seed c.in-From.from c.index-done-from.result c.in-From.is c.requires.below c.index-done-from.is))
     c.carry.ensures

@@ -4,15 +4,16 @@ use Rattle.avr_model.specs.Vectors.{enable_count, last_vector}
 use Rattle.call_graph.specs.Ways.{vectors_below}
 use Rattle.call_graph.proofs.Vectors.{no_vectors, one_vector_more}
 use Rattle.call_graph.proofs.ways.add_vectors.Goals as goal
+use Rattle.call_graph.specs.Tasks.{task_of}
 
 pub loop-n-init : goal.loop-n-init
-loop-n-init c = no_vectors c.args.task.now.flash.now c.args.task.now.assumptions.now c.args.key.now c.args.ways.now.items
+loop-n-init c = no_vectors (task_of c.args.task.now) c.args.key.now c.args.ways.now.items
 
 pub loop-n-preserved : goal.loop-n-preserved
 loop-n-preserved c =
-    one_vector_more c.args.task.now.flash.now c.args.task.now.assumptions.now c.args.key.now c.loop-n.n c.args.ways.now.items c.loop-n.ways.items c.add_vector.new.ways.items c.loop-n.invariant c.in_ok-add_vector.ensures
+    one_vector_more (task_of c.args.task.now) c.args.key.now c.loop-n.n c.args.ways.now.items c.loop-n.ways.items c.add_vector.new.ways.items c.loop-n.invariant c.in_ok-add_vector.ensures
 
 pub returns : goal.returns
 returns c =
     let done : c.loop-n.n ≡ enable_count (device_of c.args.task.now.flash.now) = omega (arith, ap last_vector c.device.ensures) in
-    c.loop-n.invariant ∙ ap (λ n. c.args.ways.now.items ++ vectors_below c.args.task.now.flash.now c.args.task.now.assumptions.now c.args.key.now n) done
+    c.loop-n.invariant ∙ ap (λ n. c.args.ways.now.items ++ vectors_below (task_of c.args.task.now) c.args.key.now n) done

@@ -9,18 +9,17 @@ use Rattle.cert_check.specs.Verdict.{IsJudgement}
 use Rattle.cert_check.proofs.One.{few_in}
 use Rattle.cert_check.proofs.Verdicts.{if_ok}
 use Rattle.cert_check.proofs.judging.judge_family.Goals as goal
+use Rattle.call_graph.specs.Tasks.{task_of}
 
 pub judge_nodes-requires-clause-filled : goal.judge_nodes-requires-clause-filled
 judge_nodes-requires-clause-filled c =
-    let words = c.args.task.now.flash.now in
-    let A = c.args.task.now.assumptions.now in
-    let own = read_seeds (has_pairs A) c.args.certificate.now.nodes in
-    subst (IsExpanded words A own) c.in-Whole.is c.in_ok-at.ensures
+    let task = task_of c.args.task.now in
+    let own = read_seeds (has_pairs task.assumptions) c.args.certificate.now.nodes in
+    subst (IsExpanded task own) c.in-Whole.is c.in_ok-at.ensures
 
 pub returns-in-Whole-clause-few : goal.returns-in-Whole-clause-few
 returns-in-Whole-clause-few c =
-    let words = c.args.task.now.flash.now in
-    let A = c.args.task.now.assumptions.now in
+    let task = task_of c.args.task.now in
     let claim = c.args.certificate.now in
-    if_ok (IsJudgement words A claim) (λ (j : Judgement Worked). (family : Worked) → j ≡ Accepted family → length family.nodes ≤ 65536) c.judge_nodes.result
-    (λ j h. few_in words A claim j c.nodes-nodes.ensures.kept h) c.judge_nodes.ensures
+    if_ok (IsJudgement task claim) (λ (j : Judgement Worked). (family : Worked) → j ≡ Accepted family → length family.nodes ≤ 65536) c.judge_nodes.result
+    (λ j h. few_in task claim j c.nodes-nodes.ensures.kept h) c.judge_nodes.ensures

@@ -6,68 +6,65 @@ use Rattle.cert_check.proofs.Asking.{decided, gap_least}
 use Rattle.cert_check.proofs.One.{are_instances}
 use Rattle.cert_check.proofs.Verdicts.{few_nodes, shown, beside, nodes_belong}
 use Rattle.cert_check.proofs.judging.settle_edges.Goals as goal
+use Rattle.call_graph.specs.Tasks.{task_of}
 
 pub gather-requires-clause-few : goal.gather-requires-clause-few
-gather-requires-clause-few c = few_nodes c.args.task.now.flash.now c.args.task.now.assumptions.now c.args.certificate.now c.args.nodes.now c.requires.claim c.requires.filled
+gather-requires-clause-few c = few_nodes (task_of c.args.task.now) c.args.certificate.now c.args.nodes.now c.requires.claim c.requires.filled
 
 pub gather-requires-clause-shown : goal.gather-requires-clause-shown
-gather-requires-clause-shown c = shown c.args.task.now.flash.now c.args.task.now.assumptions.now c.args.certificate.now c.args.nodes.now c.requires.claim c.requires.filled
+gather-requires-clause-shown c = shown (task_of c.args.task.now) c.args.certificate.now c.args.nodes.now c.requires.claim c.requires.filled
 
 pub gather-requires-clause-instances : goal.gather-requires-clause-instances
 gather-requires-clause-instances c = are_instances c.args.certificate.now c.requires.claim
 
 pub gather-requires-clause-belong : goal.gather-requires-clause-belong
-gather-requires-clause-belong c = nodes_belong c.args.task.now.flash.now c.args.task.now.assumptions.now c.args.certificate.now c.args.nodes.now c.requires.claim c.requires.filled
+gather-requires-clause-belong c = nodes_belong (task_of c.args.task.now) c.args.certificate.now c.args.nodes.now c.requires.claim c.requires.filled
 
 pub gather-requires-clause-beside : goal.gather-requires-clause-beside
-gather-requires-clause-beside c = beside c.args.task.now.flash.now c.args.task.now.assumptions.now c.args.certificate.now c.args.nodes.now c.requires.claim c.requires.filled
+gather-requires-clause-beside c = beside (task_of c.args.task.now) c.args.certificate.now c.args.nodes.now c.requires.claim c.requires.filled
 
 pub weigh-requires-clause-inside : goal.weigh-requires-clause-inside
 weigh-requires-clause-inside c =
-    let words = c.args.task.now.flash.now in
-    let A = c.args.task.now.assumptions.now in
+    let task = task_of c.args.task.now in
     let claim = c.args.certificate.now in
     let nodes = c.args.nodes.now in
-    let belong = nodes_belong words A claim nodes c.requires.claim c.requires.filled in
-    let found = subst (IsGathering words A claim.nodes claim.instances nodes) c.in-Accepted.is c.in_ok-demands.ensures in
+    let belong = nodes_belong task claim nodes c.requires.claim c.requires.filled in
+    let found = subst (IsGathering task claim.nodes claim.instances nodes) c.in-Accepted.is c.in_ok-demands.ensures in
     subst (AreDemandsInside claim.instances) (sym c.deref.ensures.value)
-    (all_inside words A claim.instances nodes (are_instances claim c.requires.claim) belong (λ n e h i. (found.0 n e h i).0) c.in-Accepted.field-0.demands.items found.1)
+    (all_inside task claim.instances nodes (are_instances claim c.requires.claim) belong (λ n e h i. (found.0 n e h i).0) c.in-Accepted.field-0.demands.items found.1)
 
 pub weigh-requires-clause-root : goal.weigh-requires-clause-root
 weigh-requires-clause-root c =
     landed_belongs c.args.certificate.now.instances c.args.nodes.now (reset_node c.args.task.now.assumptions.now)
-    (nodes_belong c.args.task.now.flash.now c.args.task.now.assumptions.now c.args.certificate.now c.args.nodes.now c.requires.claim c.requires.filled) c.requires.reset.0
+    (nodes_belong (task_of c.args.task.now) c.args.certificate.now c.args.nodes.now c.requires.claim c.requires.filled) c.requires.reset.0
 
 pub returns-in-Accepted-weigh : goal.returns-in-Accepted-weigh
 returns-in-Accepted-weigh c =
-    let words = c.args.task.now.flash.now in
-    let A = c.args.task.now.assumptions.now in
+    let task = task_of c.args.task.now in
     let claim = c.args.certificate.now in
     let nodes = c.args.nodes.now in
-    let belong = nodes_belong words A claim nodes c.requires.claim c.requires.filled in
-    let found = subst (IsGathering words A claim.nodes claim.instances nodes) c.in-Accepted.is c.in_ok-demands.ensures in
-    let all = decided words A claim nodes (are_instances claim c.requires.claim) belong found.0 c.in-Accepted.field-0.demands.items found.1 c.requires.device c.requires.reset c.requires.taken.faultless
-    c.weigh.result (subst (λ ds. IsWeighed words claim A ds c.weigh.result) c.deref.ensures.value c.weigh.ensures) in
-    let met = subst (Decides words A claim nodes) c.in-Accepted-weigh.is all in
+    let belong = nodes_belong task claim nodes c.requires.claim c.requires.filled in
+    let found = subst (IsGathering task claim.nodes claim.instances nodes) c.in-Accepted.is c.in_ok-demands.ensures in
+    let all = decided task claim nodes (are_instances claim c.requires.claim) belong found.0 c.in-Accepted.field-0.demands.items found.1 c.requires.device c.requires.reset c.requires.taken.faultless
+    c.weigh.result (subst (λ ds. IsWeighed task.flash claim task.assumptions ds c.weigh.result) c.deref.ensures.value c.weigh.ensures) in
+    let met = subst (Decides task claim nodes) c.in-Accepted-weigh.is all in
     (met.0, found.2)
 
 pub returns-in-Accepted : goal.returns-in-Accepted
 returns-in-Accepted c =
-    let words = c.args.task.now.flash.now in
-    let A = c.args.task.now.assumptions.now in
+    let task = task_of c.args.task.now in
     let claim = c.args.certificate.now in
     let nodes = c.args.nodes.now in
-    let belong = nodes_belong words A claim nodes c.requires.claim c.requires.filled in
-    let found = subst (IsGathering words A claim.nodes claim.instances nodes) c.in-Accepted.is c.in_ok-demands.ensures in
-    let all = decided words A claim nodes (are_instances claim c.requires.claim) belong found.0 c.in-Accepted.field-0.demands.items found.1 c.requires.device c.requires.reset c.requires.taken.faultless
-    c.weigh.result (subst (λ ds. IsWeighed words claim A ds c.weigh.result) c.deref.ensures.value c.weigh.ensures) in
-    subst (Decides words A claim nodes) c.in-Rejected-weigh.is all
+    let belong = nodes_belong task claim nodes c.requires.claim c.requires.filled in
+    let found = subst (IsGathering task claim.nodes claim.instances nodes) c.in-Accepted.is c.in_ok-demands.ensures in
+    let all = decided task claim nodes (are_instances claim c.requires.claim) belong found.0 c.in-Accepted.field-0.demands.items found.1 c.requires.device c.requires.reset c.requires.taken.faultless
+    c.weigh.result (subst (λ ds. IsWeighed task.flash claim task.assumptions ds c.weigh.result) c.deref.ensures.value c.weigh.ensures) in
+    subst (Decides task claim nodes) c.in-Rejected-weigh.is all
 
 pub returns : goal.returns
 returns c =
-    let words = c.args.task.now.flash.now in
-    let A = c.args.task.now.assumptions.now in
+    let task = task_of c.args.task.now in
     let claim = c.args.certificate.now in
     let nodes = c.args.nodes.now in
-    gap_least words A claim nodes c.in-Rejected.reason c.requires.reset c.requires.taken.faultless
-    (subst (IsGathering words A claim.nodes claim.instances nodes) c.in-Rejected.is c.in_ok-demands.ensures)
+    gap_least task claim nodes c.in-Rejected.reason c.requires.reset c.requires.taken.faultless
+    (subst (IsGathering task claim.nodes claim.instances nodes) c.in-Rejected.is c.in_ok-demands.ensures)

@@ -9,17 +9,18 @@ use Rattle.chain_explain.proofs.Stepped.{reset_has}
 use Rattle.chain_explain.proofs.Explained.{sums, nests, least}
 use Rattle.chain_explain.proofs.Marks.{kept_few, reached_given}
 use Rattle.chain_explain.proofs.explaining.explain_family.Goals as goal
+use Rattle.call_graph.specs.Tasks.{task_of}
 
 pub marks_of-requires-clause-shown : goal.marks_of-requires-clause-shown
 marks_of-requires-clause-shown c =
-    filled_lists_are_shown.shown c.args.task.now.flash.now c.args.task.now.assumptions.now c.args.certificate.now.nodes c.args.family.now.nodes c.requires.filled c.requires.claim.nodes_ascend
+    filled_lists_are_shown.shown (task_of c.args.task.now) c.args.certificate.now.nodes c.args.family.now.nodes c.requires.filled c.requires.claim.nodes_ascend
 
 pub parts-requires-clause-shown : goal.parts-requires-clause-shown
 parts-requires-clause-shown c =
-    filled_lists_are_shown.shown c.args.task.now.flash.now c.args.task.now.assumptions.now c.args.certificate.now.nodes c.args.family.now.nodes c.requires.filled c.requires.claim.nodes_ascend
+    filled_lists_are_shown.shown (task_of c.args.task.now) c.args.certificate.now.nodes c.args.family.now.nodes c.requires.filled c.requires.claim.nodes_ascend
 
 pub kept_ways-requires-clause-peopled : goal.kept_ways-requires-clause-peopled
-kept_ways-requires-clause-peopled c = peopled c.args.task.now.flash.now c.args.task.now.assumptions.now c.args.family.now.nodes c.requires.meets.edges
+kept_ways-requires-clause-peopled c = peopled (task_of c.args.task.now) c.args.family.now.nodes c.requires.meets.edges
 
 pub deepest_chain-requires-clause-few : goal.deepest_chain-requires-clause-few
 deepest_chain-requires-clause-few c =
@@ -30,44 +31,44 @@ deepest_chain-requires-clause-few c =
 pub deepest_chain-requires-clause-meets : goal.deepest_chain-requires-clause-meets
 deepest_chain-requires-clause-meets c =
     let are =
-    reached_given c.args.task.now.flash.now c.args.task.now.assumptions.now c.args.family.now.nodes c.in_ok-marks.marks.items c.deref.result.now c.in_ok-reached.reached c.in_ok-marks.ensures.reached
+    reached_given (task_of c.args.task.now) c.args.family.now.nodes c.in_ok-marks.marks.items c.deref.result.now c.in_ok-reached.reached c.in_ok-marks.ensures.reached
     c.deref.ensures.value c.in_ok-reached.ensures in
-    meets_reached c.args.task.now.flash.now c.args.task.now.assumptions.now c.args.family.now.nodes c.in_ok-reached.reached are c.args.certificate.now c.requires.meets
+    meets_reached (task_of c.args.task.now) c.args.family.now.nodes c.in_ok-reached.reached are c.args.certificate.now c.requires.meets
 
 pub parts-requires-clause-moves : goal.parts-requires-clause-moves
 parts-requires-clause-moves c =
     let shown =
-    filled_lists_are_shown.shown c.args.task.now.flash.now c.args.task.now.assumptions.now c.args.certificate.now.nodes c.args.family.now.nodes c.requires.filled c.requires.claim.nodes_ascend in
-    are_moves c.args.task.now.flash.now c.args.task.now.assumptions.now c.args.family.now.nodes shown c.args.family.now.landings c.requires.landings
+    filled_lists_are_shown.shown (task_of c.args.task.now) c.args.certificate.now.nodes c.args.family.now.nodes c.requires.filled c.requires.claim.nodes_ascend in
+    are_moves (task_of c.args.task.now) c.args.family.now.nodes shown c.args.family.now.landings c.requires.landings
     (omega (arith, c.requires.filled.count, c.requires.claim.few_nodes)) c.requires.meets.edges c.requires.meets.reset
 
 pub parts-requires-clause-there : goal.parts-requires-clause-there
 parts-requires-clause-there c =
     subst (AreThere c.in_ok-reached.reached) (sym c.as_slice.ensures)
-    (all_there c.args.task.now.flash.now c.args.task.now.assumptions.now c.in_ok-reached.reached c.in_ok-deepest.deepest.need c.in_ok-deepest.deepest.links c.in_ok-deepest.ensures.deepest)
+    (all_there (task_of c.args.task.now) c.in_ok-reached.reached c.in_ok-deepest.deepest.need c.in_ok-deepest.deepest.links c.in_ok-deepest.ensures.deepest)
 
 pub returns-clause-sums : goal.returns-clause-sums
 returns-clause-sums c =
     let are =
-    reached_given c.args.task.now.flash.now c.args.task.now.assumptions.now c.args.family.now.nodes c.in_ok-marks.marks.items c.deref.result.now c.in_ok-reached.reached c.in_ok-marks.ensures.reached
+    reached_given (task_of c.args.task.now) c.args.family.now.nodes c.in_ok-marks.marks.items c.deref.result.now c.in_ok-reached.reached c.in_ok-marks.ensures.reached
     c.deref.ensures.value c.in_ok-reached.ensures in
-    sums c.args.task.now.flash.now c.args.task.now.assumptions.now c.args.certificate.now c.args.family.now.nodes c.requires.filled c.in_ok-reached.reached are c.in_ok-deepest.deepest.need
+    sums (task_of c.args.task.now) c.args.certificate.now c.args.family.now.nodes c.requires.filled c.in_ok-reached.reached are c.in_ok-deepest.deepest.need
     c.in_ok-deepest.deepest.links c.in_ok-deepest.ensures.deepest c.in_ok-deepest.ensures.root c.as_slice.result.now c.as_slice.ensures c.in_ok-parts.parts c.in_ok-parts.ensures
 
 pub returns-clause-nests : goal.returns-clause-nests
 returns-clause-nests c =
     let are =
-    reached_given c.args.task.now.flash.now c.args.task.now.assumptions.now c.args.family.now.nodes c.in_ok-marks.marks.items c.deref.result.now c.in_ok-reached.reached c.in_ok-marks.ensures.reached
+    reached_given (task_of c.args.task.now) c.args.family.now.nodes c.in_ok-marks.marks.items c.deref.result.now c.in_ok-reached.reached c.in_ok-marks.ensures.reached
     c.deref.ensures.value c.in_ok-reached.ensures in
-    nests c.args.task.now.flash.now c.args.task.now.assumptions.now c.args.certificate.now c.args.family.now.nodes c.requires.filled c.in_ok-reached.reached are c.in_ok-deepest.deepest.need
+    nests (task_of c.args.task.now) c.args.certificate.now c.args.family.now.nodes c.requires.filled c.in_ok-reached.reached are c.in_ok-deepest.deepest.need
     c.in_ok-deepest.deepest.links c.in_ok-deepest.ensures.deepest c.in_ok-deepest.ensures.root c.as_slice.result.now c.as_slice.ensures c.in_ok-parts.parts c.in_ok-parts.ensures
 
 pub returns-clause-least : goal.returns-clause-least
 returns-clause-least c =
     let are =
-    reached_given c.args.task.now.flash.now c.args.task.now.assumptions.now c.args.family.now.nodes c.in_ok-marks.marks.items c.deref.result.now c.in_ok-reached.reached c.in_ok-marks.ensures.reached
+    reached_given (task_of c.args.task.now) c.args.family.now.nodes c.in_ok-marks.marks.items c.deref.result.now c.in_ok-reached.reached c.in_ok-marks.ensures.reached
     c.deref.ensures.value c.in_ok-reached.ensures in
-    least c.args.task.now.flash.now c.args.task.now.assumptions.now c.args.certificate.now c.args.family.now.nodes c.requires.filled c.in_ok-reached.reached are c.in_ok-deepest.deepest.need
+    least (task_of c.args.task.now) c.args.certificate.now c.args.family.now.nodes c.requires.filled c.in_ok-reached.reached are c.in_ok-deepest.deepest.need
     c.in_ok-deepest.deepest.links c.in_ok-deepest.ensures.deepest c.in_ok-deepest.ensures.root c.as_slice.result.now c.as_slice.ensures c.in_ok-parts.parts c.in_ok-parts.ensures
     c.filled_or_missing.ensures c.rounds_are_reached.ensures (reset_has c.args.task.now.assumptions.now c.args.family.now.nodes c.requires.meets.reset) c.in_ok-deepest.ensures.bounded
 

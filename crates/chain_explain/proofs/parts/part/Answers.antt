@@ -11,6 +11,7 @@ use Rattle.chain_explain.specs.Reached.{IsReached}
 use Rattle.chain_explain.specs.Walks.{IsWay}
 use Rattle.chain_explain.proofs.Stepped.{key_there}
 use Rattle.chain_explain.proofs.parts.part.Goals as goal
+use Rattle.call_graph.specs.Tasks.{task_of}
 
 pub way-requires-clause-there : goal.way-requires-clause-there
 way-requires-clause-there c =
@@ -22,7 +23,7 @@ pub way-requires-clause-reached : goal.way-requires-clause-reached
 way-requires-clause-reached c =
     let w = key_there c.args.reached.now c.args.link.now.node c.key-key.result.now c.key-key.ensures in
     let of = (c.requires.reached.exact w.0).0 (contained_at c.args.reached.now c.args.link.now.node w.0 w.1.0) in
-    subst (IsReached c.args.task.now.flash.now c.args.task.now.assumptions.now c.args.family.now.nodes) w.1.1 of.1
+    subst (IsReached (task_of c.args.task.now) c.args.family.now.nodes) w.1.1 of.1
 
 pub adds-requires : goal.adds-requires
 adds-requires c =
@@ -46,5 +47,5 @@ returns c =
       adds = c.adds.ensures ∙ ap (λ (k : NodeKey). adds_by (offset_of k.sp) c.args.link.now.kind) (sym w.1.1);
       target = at.0;
       is = at.1;
-      way = subst (λ (i : InstKey). IsWay c.args.task.now.flash.now c.args.task.now.assumptions.now c.args.family.now.nodes i at.0 c.in_ok-walk.walk) inst (c.in_ok-walk.ensures at.0 w.0 at.1 w.1.1);
+      way = subst (λ (i : InstKey). IsWay (task_of c.args.task.now) c.args.family.now.nodes i at.0 c.in_ok-walk.walk) inst (c.in_ok-walk.ensures at.0 w.0 at.1 w.1.1);
     }

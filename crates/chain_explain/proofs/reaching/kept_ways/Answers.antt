@@ -8,6 +8,7 @@ use Rattle.chain_explain.proofs.Marks.{kept_next, kept_whole, ways_kept}
 use Rattle.chain_explain.proofs.Stepped.{read_at}
 use Rattle.chain_explain.proofs.reaching.kept_ways.Goals as goal
 use Rattle.chain_explain.proofs.reaching.kept_ways.Goals.{then-marks-at+in_ok-to_vec+in_ok-push, else-marks-at}
+use Rattle.call_graph.specs.Tasks.{task_of}
 
 pub loop-at-preserved : goal.loop-at-preserved
 loop-at-preserved c =
@@ -30,10 +31,9 @@ loop-at-preserved c =
 
 pub returns : goal.returns
 returns c =
-    let words = c.args.task.now.flash.now in
-    let A = c.args.task.now.assumptions.now in
+    let task = task_of c.args.task.now in
     let nodes = c.args.family.now.nodes in
     let marks = c.args.marks.now in
     let same = c.as_slice-ways.ensures in
     let whole = kept_whole marks c.as_slice-ways.result.now c.loop-at.kept c.loop-at.at (omega (arith, c.loop-at-test.false)) c.loop-at.invariant in
-    subst (AreWays words A (kept_by marks nodes)) (sym (whole ∙ ap (λ (xs : List (List Entering)). kept_by marks xs) same)) (ways_kept words A marks nodes c.in_ok-all.all c.in_ok-all.ensures)
+    subst (AreWays task (kept_by marks nodes)) (sym (whole ∙ ap (λ (xs : List (List Entering)). kept_by marks xs) same)) (ways_kept task marks nodes c.in_ok-all.all c.in_ok-all.ensures)

@@ -12,6 +12,7 @@ use Rattle.chain_explain.proofs.Edges.{is_graph}
 use Rattle.chain_explain.proofs.Marks.{are_reached}
 use Rattle.chain_explain.proofs.Stepped.{reset_has}
 use Rattle.chain_explain.proofs.reaching.marks_of.Goals as goal
+use Rattle.call_graph.specs.Tasks.{task_of}
 
 pub number_of-root-requires : goal.number_of-root-requires
 number_of-root-requires c =
@@ -25,7 +26,7 @@ overflow_cast-root c =
 pub reached-requires-clause-graph : goal.reached-requires-clause-graph
 reached-requires-clause-graph c =
     subst IsNumberedGraph (sym (c.deref.ensures.value ∙ (c.in_ok-graph.ensures ∙ ap leads_by c.as_slice.ensures)))
-    (is_graph c.args.task.now.flash.now c.args.task.now.assumptions.now c.args.family.now.nodes c.requires.shown c.args.family.now.landings c.requires.landings c.requires.few)
+    (is_graph (task_of c.args.task.now) c.args.family.now.nodes c.requires.shown c.args.family.now.landings c.requires.landings c.requires.few)
 
 pub reached-requires-clause-starts : goal.reached-requires-clause-starts
 reached-requires-clause-starts c = λ i h.
@@ -40,7 +41,7 @@ returns-clause-reached c =
     let w = found_at c.entry.result c.args.family.now.nodes c.number_of-root.result c.number_of-root.ensures in
     IfOk-weaker c.reached.result _ _
     (λ marks e.
-    are_reached c.args.task.now.flash.now c.args.task.now.assumptions.now c.args.family.now.nodes c.requires.shown c.args.family.now.landings c.requires.landings
+    are_reached (task_of c.args.task.now) c.args.family.now.nodes c.requires.shown c.args.family.now.landings c.requires.landings
     c.number_of-root.result w.node w.is (w.same ∙ (c.entry.ensures ∙ ap entry_key c.root.ensures)) marks.items
     (subst (λ (g : List (List ℕ)). AreMarks g (c.number_of-root.result ∷ []) marks.items) (c.deref.ensures.value ∙ (c.in_ok-graph.ensures ∙ ap leads_by c.as_slice.ensures)) e))
     c.reached.ensures

@@ -4,8 +4,9 @@ use Rattle.nesting_bound.specs.declared.graph.Entered.{Entered}
 use Rattle.nesting_bound.specs.declared.graph.Place.{Place}
 use Rattle.family_graph.specs.Numbers.{IsPlaceBetween, IsEntryBetween}
 use Rattle.family_graph.proofs.building.instance.Given as goal
+use Rattle.call_graph.specs.Tasks.{task_of}
 
 abbrev pub invariant-loop-at : goal.invariant-loop-at
 invariant-loop-at l =
     ((p : Place) → Contains l.parts.offsets.items p ↔ IsPlaceBetween l.nodes l.low l.at p)
-    × ((e : Entered) → Contains l.parts.entered.items e ↔ IsEntryBetween l.task.flash.now l.task.assumptions.now l.nodes l.numbering.insts.items l.low l.at e)
+    × ((e : Entered) → Contains l.parts.entered.items e ↔ IsEntryBetween (task_of l.task) l.nodes l.numbering.insts.items l.low l.at e)

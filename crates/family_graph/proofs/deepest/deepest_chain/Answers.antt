@@ -2,35 +2,36 @@ use Rattle.std.proofs.Common.{arith, ◌≤◌, slice_index}
 use Rattle.avr_model.proofs.AllLaws.{devices_are_alike}
 use Rattle.family_graph.proofs.Conditions.{peopled, some_node, ranked, places, root_bound, root_first}
 use Rattle.family_graph.proofs.deepest.deepest_chain.Goals as goal
+use Rattle.call_graph.specs.Tasks.{task_of}
 
 pub graph_of-requires-clause-some : goal.graph_of-requires-clause-some
-graph_of-requires-clause-some c = some_node c.args.task.now.flash.now c.args.task.now.assumptions.now c.args.certificate.now c.args.nodes.now c.requires.meets
+graph_of-requires-clause-some c = some_node (task_of c.args.task.now) c.args.certificate.now c.args.nodes.now c.requires.meets
 
 pub graph_of-requires-clause-peopled : goal.graph_of-requires-clause-peopled
-graph_of-requires-clause-peopled c = peopled c.args.task.now.flash.now c.args.task.now.assumptions.now c.args.certificate.now c.args.nodes.now c.requires.meets
+graph_of-requires-clause-peopled c = peopled (task_of c.args.task.now) c.args.certificate.now c.args.nodes.now c.requires.meets
 
 pub compose_acyclic-requires-clause-acyclic : goal.compose_acyclic-requires-clause-acyclic
 compose_acyclic-requires-clause-acyclic c = λ at named.
     c.ranks_rule_out_cycles.ensures c.in_ok-graph.graph.instances _
-    (ranked c.args.task.now.flash.now c.args.task.now.assumptions.now c.args.certificate.now c.args.nodes.now c.requires.meets c.in_ok-graph.graph.instances c.in_ok-graph.ensures.family) at named.reaches
+    (ranked (task_of c.args.task.now) c.args.certificate.now c.args.nodes.now c.requires.meets c.in_ok-graph.graph.instances c.in_ok-graph.ensures.family) at named.reaches
 
 pub chain-requires-clause-bound : goal.chain-requires-clause-bound
 chain-requires-clause-bound c =
     let need : slice_index c.in_ok-composed.composed.needs 0 ≤ c.args.certificate.now.bound =
-    root_bound c.args.task.now.flash.now c.args.task.now.assumptions.now c.args.certificate.now c.args.nodes.now c.requires.meets c.in_ok-graph.graph.instances c.in_ok-graph.ensures.family
+    root_bound (task_of c.args.task.now) c.args.certificate.now c.args.nodes.now c.requires.meets c.in_ok-graph.graph.instances c.in_ok-graph.ensures.family
     c.in_ok-composed.composed.ranks c.in_ok-composed.composed.needs c.in_ok-composed.ensures c.in_ok-graph.ensures.graph.some in
     omega (arith, need, c.requires.claim.bound_fits, devices_are_alike.most_depth c.args.certificate.now.device)
 
 pub chain-requires-clause-places : goal.chain-requires-clause-places
 chain-requires-clause-places c =
-    places c.args.task.now.flash.now c.args.task.now.assumptions.now c.args.certificate.now c.args.nodes.now c.requires.meets c.in_ok-graph.graph.instances c.in_ok-graph.ensures.family
+    places (task_of c.args.task.now) c.args.certificate.now c.args.nodes.now c.requires.meets c.in_ok-graph.graph.instances c.in_ok-graph.ensures.family
 
 pub returns-clause-root : goal.returns-clause-root
-returns-clause-root c = λ graph family. root_first c.args.task.now.flash.now c.args.task.now.assumptions.now c.args.certificate.now c.args.nodes.now c.requires.meets graph family
+returns-clause-root c = λ graph family. root_first (task_of c.args.task.now) c.args.certificate.now c.args.nodes.now c.requires.meets graph family
 
 pub returns-clause-bounded : goal.returns-clause-bounded
 returns-clause-bounded c =
     let need : slice_index c.in_ok-composed.composed.needs 0 ≤ c.args.certificate.now.bound =
-    root_bound c.args.task.now.flash.now c.args.task.now.assumptions.now c.args.certificate.now c.args.nodes.now c.requires.meets c.in_ok-graph.graph.instances c.in_ok-graph.ensures.family
+    root_bound (task_of c.args.task.now) c.args.certificate.now c.args.nodes.now c.requires.meets c.in_ok-graph.graph.instances c.in_ok-graph.ensures.family
     c.in_ok-composed.composed.ranks c.in_ok-composed.composed.needs c.in_ok-composed.ensures c.in_ok-graph.ensures.graph.some in
     omega (arith, need, c.need.ensures)

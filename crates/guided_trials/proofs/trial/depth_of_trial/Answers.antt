@@ -1,9 +1,7 @@
 use Rattle.std.proofs.Common.{sym, ap, ◌∙◌, List}
 use Rattle.avr_model.specs.declared.choice.Choice.{Choice}
-use Rattle.avr_model.specs.Devices.{device_of}
-use Rattle.avr_model.specs.State.{filled}
 use Rattle.avr_model.specs.Run.{depth_of}
-use Rattle.guided_trials.specs.Trials.{fill_of}
+use Rattle.guided_trials.specs.Trials.{fill_of, initial}
 use Rattle.trial_runs.proofs.AllLaws.{depth_from_reset}
 use Rattle.guided_trials.proofs.Starts.{start_as, started}
 use Rattle.guided_trials.proofs.trial.depth_of_trial.Goals as goal
@@ -18,4 +16,4 @@ returns g c =
     c.depth.ensures
     ∙ sym t.depth
     ∙ depth_from_reset c.depth_is_kept.ensures c.args.flash.now c.args.assumptions.now (fill_of c.args.guide.now c.args.t) c.start-machine.result trace.choices _ trace.depth start t.run t.machine t.depth
-    ∙ ap (λ (cs : List Choice). depth_of c.args.flash.now c.args.assumptions.now cs (filled (device_of c.args.flash.now) (fill_of c.args.guide.now c.args.t))) choices
+    ∙ ap (λ (cs : List Choice). depth_of c.args.flash.now c.args.assumptions.now cs (initial c.args.flash.now c.args.guide.now c.args.t)) choices

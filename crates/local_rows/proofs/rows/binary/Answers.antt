@@ -15,7 +15,7 @@ returns-in-Cpc c =
     let b = c.bits-b.ensures in
     let carry = c.carry_bit-carry.ensures in
     let says = c.less_kept-says.ensures ∙ (λ p. less_kept ((c.constant.ensures ∙ ap byte_constant a) p) ((c.constant-in-Cpc.ensures ∙ ap byte_constant b) p) s.flags.carry) in
-    ap Some (c.compare.ensures ∙ (λ p. compare_after s (a p) (b p) (carry p) true (says p)))
+    ap Some (c.compare.ensures ∙ (λ p. compare_after s (a p, b p) (carry p, true) (says p)))
     ∙ ap (λ (op : BinaryOp). binary_after s op d r) (sym c.in-Cpc.is)
 
 pub returns-in-Sbc : goal.returns-in-Sbc
@@ -51,7 +51,7 @@ returns-in-Cp c =
     let a = c.bits-a.ensures in
     let b = c.bits-b.ensures in
     let says = c.less_than-says.ensures ∙ (λ p. less_than d ((c.constant-in-Cp.ensures ∙ ap byte_constant b) p)) in
-    ap Some (c.compare-in-Cp.ensures ∙ (λ p. compare_after s (a p) (b p) Zero false (says p)))
+    ap Some (c.compare-in-Cp.ensures ∙ (λ p. compare_after s (a p, b p) (Zero, false) (says p)))
     ∙ ap (λ (op : BinaryOp). binary_after s op d r) (sym c.in-Cp.is)
 
 pub returns-in-Sub : goal.returns-in-Sub
@@ -82,7 +82,7 @@ returns-in-And c =
     let r = c.args.r in
     let a = c.bits-a.ensures in
     let b = c.bits-b.ensures in
-    ap Some (c.logic.ensures ∙ (λ p. logic_after s logic.And d (a p) (b p) (c.eq.ensures p)))
+    ap Some (c.logic.ensures ∙ (λ p. logic_after s logic.And d (a p, b p) (c.eq.ensures p)))
     ∙ ap (λ (op : BinaryOp). binary_after s op d r) (sym c.in-And.is)
 
 pub returns-in-Eor : goal.returns-in-Eor
@@ -92,7 +92,7 @@ returns-in-Eor c =
     let r = c.args.r in
     let from = c.or_nothing-from.ensures ∙ ap (or_nothing d r) c.bits-a.ensures in
     let other = c.or_nothing-other.ensures ∙ ap (or_nothing d r) c.bits-b.ensures in
-    ap Some (c.logic-in-Eor.ensures ∙ (λ p. logic_after s logic.Eor d (from p) (other p) false))
+    ap Some (c.logic-in-Eor.ensures ∙ (λ p. logic_after s logic.Eor d (from p, other p) false))
     ∙ ap (λ (op : BinaryOp). binary_after s op d r) (sym c.in-Eor.is)
 
 pub returns-in-Or : goal.returns-in-Or
@@ -102,7 +102,7 @@ returns-in-Or c =
     let r = c.args.r in
     let a = c.bits-a.ensures in
     let b = c.bits-b.ensures in
-    ap Some (c.logic-in-Or.ensures ∙ (λ p. logic_after s logic.Or d (a p) (b p) (c.eq-in-Or.ensures p)))
+    ap Some (c.logic-in-Or.ensures ∙ (λ p. logic_after s logic.Or d (a p, b p) (c.eq-in-Or.ensures p)))
     ∙ ap (λ (op : BinaryOp). binary_after s op d r) (sym c.in-Or.is)
 
 pub returns-in-Mov : goal.returns-in-Mov

@@ -1,6 +1,7 @@
 use Rattle.std.proofs.Common.{◌∙◌, sym, ap, true, false, Some}
 use Rattle.local_rules.specs.Registers.{wide_after, going_with}
 use Rattle.local_rules.specs.Local.{row_of}
+use Rattle.local_rules.specs.Site.{site_at}
 use Rattle.local_rows.specs.Sections.{computed_by}
 use Rattle.local_rows.proofs.rows.computed_by.Goals as goal
 
@@ -10,9 +11,9 @@ returns-in-Adiw-clause-value c =
     ap Some is ∙ ap (computed_by c.args.line c.args.state.now) (sym c.in-Adiw.is)
 
 pub returns-in-Adiw-clause-row : goal.returns-in-Adiw-clause-row
-returns-in-Adiw-clause-row c device words A scratch k line =
+returns-in-Adiw-clause-row c task scratch device k line =
     let is = c.wide-computed.ensures ∙ (λ p. wide_after c.args.state.now true (c.doubled-in-Adiw.ensures p) (c.get.ensures.value p)) in
-    ap (row_of device words A scratch k c.args.state.now) c.in-Adiw.is ∙ ap (going_with device k c.args.state.now) (sym is)
+    ap (row_of task scratch (site_at device k c.args.state.now)) c.in-Adiw.is ∙ ap (going_with (site_at device k c.args.state.now)) (sym is)
 
 pub returns-in-Sbiw-clause-value : goal.returns-in-Sbiw-clause-value
 returns-in-Sbiw-clause-value c =
@@ -20,6 +21,6 @@ returns-in-Sbiw-clause-value c =
     ap Some is ∙ ap (computed_by c.args.line c.args.state.now) (sym c.in-Sbiw.is)
 
 pub returns-in-Sbiw-clause-row : goal.returns-in-Sbiw-clause-row
-returns-in-Sbiw-clause-row c device words A scratch k line =
+returns-in-Sbiw-clause-row c task scratch device k line =
     let is = c.wide-computed-in-Sbiw.ensures ∙ (λ p. wide_after c.args.state.now false (c.doubled-in-Sbiw.ensures p) (c.get-in-Sbiw.ensures.value p)) in
-    ap (row_of device words A scratch k c.args.state.now) c.in-Sbiw.is ∙ ap (going_with device k c.args.state.now) (sym is)
+    ap (row_of task scratch (site_at device k c.args.state.now)) c.in-Sbiw.is ∙ ap (going_with (site_at device k c.args.state.now)) (sym is)

@@ -15,7 +15,7 @@ alike false x = refl
 pub returns-in-Cpi : goal.returns-in-Cpi
 returns-in-Cpi c =
     let s = c.args.state.now in
-    c.compare.ensures ∙ (λ p. compare_after s (c.bits-a.ensures p) (c.of-b.ensures.bits p) Zero false (c.less_than.ensures p))
+    c.compare.ensures ∙ (λ p. compare_after s (c.bits-a.ensures p, c.of-b.ensures.bits p) (Zero, false) (c.less_than.ensures p))
     ∙ alike c.args.line (immediate_after s immediate.Cpi c.args.d c.args.number)
     ∙ ap (λ (op : ImmediateOp). immediate_at c.args.line s op c.args.d c.args.number) (sym c.in-Cpi.is)
 

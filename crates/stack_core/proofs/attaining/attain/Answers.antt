@@ -5,13 +5,14 @@ use Rattle.replies.specs.Reply.{AttainReply}
 use Rattle.stack_core.specs.Answering.{IsJudgedAs}
 use Rattle.stack_core.proofs.Replies.{accepted_reply}
 use Rattle.stack_core.proofs.attaining.attain.Goals as goal
+use Rattle.call_graph.specs.Tasks.{task_of}
 
 pub completed-requires : goal.completed-requires
-completed-requires c = (subst (IsJudgedAs c.args.task.now.flash.now c.args.task.now.assumptions.now (certificate_in c.args.task.now.flash.now.device c.args.text.now)) c.in-Accepted.is c.in_ok-certificate.ensures).0.1
+completed-requires c = (subst (IsJudgedAs (task_of c.args.task.now) (certificate_in c.args.task.now.flash.now.device c.args.text.now)) c.in-Accepted.is c.in_ok-certificate.ensures).0.1
 
 pub returns-in_ok-completed-in-Accepted : goal.returns-in_ok-completed-in-Accepted
 returns-in_ok-completed-in-Accepted c =
-    accepted_reply c.args.task.now.flash.now c.args.task.now.assumptions.now (AttainReply c.args.task.now.flash.now c.args.task.now.assumptions.now c.args.trials) (certificate_in c.args.task.now.flash.now.device c.args.text.now) c.in-Accepted.certificate exit.Done
+    accepted_reply (task_of c.args.task.now) (AttainReply (task_of c.args.task.now) c.args.trials) (certificate_in c.args.task.now.flash.now.device c.args.text.now) c.in-Accepted.certificate exit.Done
     c.in_ok-completed-in-Accepted.field-0.items
-    (subst (IsJudgedAs c.args.task.now.flash.now c.args.task.now.assumptions.now (certificate_in c.args.task.now.flash.now.device c.args.text.now)) c.in-Accepted.is c.in_ok-certificate.ensures).0
+    (subst (IsJudgedAs (task_of c.args.task.now) (certificate_in c.args.task.now.flash.now.device c.args.text.now)) c.in-Accepted.is c.in_ok-certificate.ensures).0
     c.in_ok-completed-in-Accepted.ensures

@@ -4,11 +4,12 @@ use Rattle.replies.specs.Reply.{PlacesReply}
 use Rattle.stack_core.specs.Answering.{IsJudgedAs}
 use Rattle.stack_core.proofs.Replies.{accepted_result}
 use Rattle.stack_core.proofs.clearing.premises.Goals as goal
+use Rattle.call_graph.specs.Tasks.{task_of}
 
 pub told-requires : goal.told-requires
-told-requires c = (subst (IsJudgedAs c.args.task.now.flash.now c.args.task.now.assumptions.now (certificate_in c.args.task.now.flash.now.device c.args.text.now)) c.in-Accepted.is c.in_ok-certificate.ensures).1
+told-requires c = (subst (IsJudgedAs (task_of c.args.task.now) (certificate_in c.args.task.now.flash.now.device c.args.text.now)) c.in-Accepted.is c.in_ok-certificate.ensures).1
 
 pub returns-in-Accepted : goal.returns-in-Accepted
 returns-in-Accepted c =
-    accepted_result c.args.task.now.flash.now c.args.task.now.assumptions.now (PlacesReply c.args.why c.args.names.now c.args.task.now.flash.now c.args.task.now.assumptions.now) (certificate_in c.args.task.now.flash.now.device c.args.text.now) c.in-Accepted.certificate c.told.result
-    (subst (IsJudgedAs c.args.task.now.flash.now c.args.task.now.assumptions.now (certificate_in c.args.task.now.flash.now.device c.args.text.now)) c.in-Accepted.is c.in_ok-certificate.ensures).0 c.told.ensures
+    accepted_result (task_of c.args.task.now) (PlacesReply c.args.why c.args.names.now (task_of c.args.task.now)) (certificate_in c.args.task.now.flash.now.device c.args.text.now) c.in-Accepted.certificate c.told.result
+    (subst (IsJudgedAs (task_of c.args.task.now) (certificate_in c.args.task.now.flash.now.device c.args.text.now)) c.in-Accepted.is c.in_ok-certificate.ensures).0 c.told.ensures

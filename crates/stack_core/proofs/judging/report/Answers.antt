@@ -5,10 +5,11 @@ use Rattle.replies.specs.Reply.{Says, report_by}
 use Rattle.stack_core.specs.Answering.{IsJudgedAs}
 use Rattle.stack_core.proofs.Replies.{accepted_result}
 use Rattle.stack_core.proofs.judging.report.Goals as goal
+use Rattle.call_graph.specs.Tasks.{task_of}
 
 pub returns-in-Accepted : goal.returns-in-Accepted
 returns-in-Accepted c =
-    accepted_result c.args.task.now.flash.now c.args.task.now.assumptions.now (λ d. Says exit.Done (report_by c.args.json c.args.device c.args.loaded.now.names c.args.loaded.now.static_end d)) (certificate_in c.args.task.now.flash.now.device c.args.text.now)
+    accepted_result (task_of c.args.task.now) (λ d. Says exit.Done (report_by c.args.json c.args.device c.args.loaded.now.names c.args.loaded.now.static_end d)) (certificate_in c.args.task.now.flash.now.device c.args.text.now)
     c.in-Accepted.certificate c.reported.result
-    (subst (IsJudgedAs c.args.task.now.flash.now c.args.task.now.assumptions.now (certificate_in c.args.task.now.flash.now.device c.args.text.now)) c.in-Accepted.is c.in_ok-certificate.ensures).0
+    (subst (IsJudgedAs (task_of c.args.task.now) (certificate_in c.args.task.now.flash.now.device c.args.text.now)) c.in-Accepted.is c.in_ok-certificate.ensures).0
     c.reported.ensures

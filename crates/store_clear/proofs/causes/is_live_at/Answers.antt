@@ -4,15 +4,15 @@ use Rattle.store_clear.proofs.Askings.{state_is}
 use Rattle.store_clear.proofs.Linked.{on_chain}
 use Rattle.store_clear.proofs.Causing.{live_none, live_found, live_not, live_skipped}
 use Rattle.store_clear.proofs.causes.is_live_at.Goals as goal
+use Rattle.call_graph.specs.Tasks.{task_of}
 
 pub loop-at-init : goal.loop-at-init
 loop-at-init c =
-    let words = c.args.task.now.flash.now in
-    let A = c.args.task.now.assumptions.now in
+    let task = task_of c.args.task.now in
     let nodes = c.args.told.now.nodes.now in
     let asks = c.args.told.now.asks.now in
     let site = c.args.site.now in (
-      live_skipped words A c.args.bound nodes asks site.pc site.instr.now 0 site.first c.requires.chain.first_is (live_none words A c.args.bound nodes asks site.pc site.instr.now),
+      live_skipped task c.args.bound nodes asks site.pc site.instr.now 0 site.first c.requires.chain.first_is (live_none task c.args.bound nodes asks site.pc site.instr.now),
       on_chain nodes asks site.pc 0 site.first c.requires.chain.first_is,
     )
 
@@ -23,15 +23,14 @@ returns-then-may_write_live c =
     let at = c.loop-at.at in
     let lt : at < length nodes = omega (arith, c.requires.same, c.loop-at-test.true) in
     let n = get_inside nodes at lt in (
-      λ e. live_found c.args.task.now.flash.now c.args.task.now.assumptions.now c.args.bound nodes c.args.told.now.asks.now site.pc site.instr.now at n.0 n.0.key c.state.result.now n.1 refl
+      λ e. live_found (task_of c.args.task.now) c.args.bound nodes c.args.told.now.asks.now site.pc site.instr.now at n.0 n.0.key c.state.result.now n.1 refl
           (state_is nodes at n.0 n.1 c.state.result.now c.state.ensures) _ c.loop-at-test.true (c.loop-at.invariant.1.is n.0 n.1) (sym c.may_write_live.ensures ∙ c.if-may_write_live.true),
       λ t. refl,
     )
 
 pub loop-at-preserved : goal.loop-at-preserved
 loop-at-preserved c =
-    let words = c.args.task.now.flash.now in
-    let A = c.args.task.now.assumptions.now in
+    let task = task_of c.args.task.now in
     let nodes = c.args.told.now.nodes.now in
     let asks = c.args.told.now.asks.now in
     let site = c.args.site.now in
@@ -39,8 +38,8 @@ loop-at-preserved c =
     let lt : at < length nodes = omega (arith, c.requires.same, c.loop-at-test.true) in
     let n = get_inside nodes at lt in
     let next = c.requires.chain.later_is at n.0 n.1 (c.loop-at.invariant.1.is n.0 n.1) in (
-      live_skipped words A c.args.bound nodes asks site.pc site.instr.now (at + 1) (get_or site.later.now at 0) next
-          (live_not words A c.args.bound nodes asks site.pc site.instr.now at n.0 n.0.key c.state.result.now n.1 refl (state_is nodes at n.0 n.1 c.state.result.now c.state.ensures)
+      live_skipped task c.args.bound nodes asks site.pc site.instr.now (at + 1) (get_or site.later.now at 0) next
+          (live_not task c.args.bound nodes asks site.pc site.instr.now at n.0 n.0.key c.state.result.now n.1 refl (state_is nodes at n.0 n.1 c.state.result.now c.state.ensures)
           c.loop-at.invariant.0 (sym c.may_write_live.ensures ∙ c.if-may_write_live.false)),
       on_chain nodes asks site.pc (at + 1) (get_or site.later.now at 0) next,
     )

@@ -7,47 +7,44 @@ use Rattle.store_clear.specs.Causing.{IsLiveAt}
 use Rattle.store_clear.proofs.Linked.{word_of_flagged, chain_read}
 use Rattle.store_clear.proofs.Causing.{nothing_there, place_given}
 use Rattle.store_clear.proofs.causes.place_at.Goals as goal
+use Rattle.call_graph.specs.Tasks.{task_of}
 
 pub returns-in-None-clause-exact : goal.returns-in-None-clause-exact
 returns-in-None-clause-exact c =
-    subst (λ (xs : List ℕ). IsPlaceOf c.args.task.now.flash.now c.args.task.now.assumptions.now (family_of c.args.certificate.now c.args.told.now.nodes.now) (record { word = c.args.pc; protected = xs; live = false; transfer = false })) (sym c.empty.ensures)
-    (nothing_there c.args.task.now.flash.now c.args.task.now.assumptions.now c.args.certificate.now c.args.told.now.nodes.now c.args.told.now.asks.now c.requires.told c.args.pc (sym c.instruction.ensures ∙ c.in-None.is))
+    subst (λ (xs : List ℕ). IsPlaceOf (task_of c.args.task.now) (family_of c.args.certificate.now c.args.told.now.nodes.now) (record { word = c.args.pc; protected = xs; live = false; transfer = false })) (sym c.empty.ensures)
+    (nothing_there (task_of c.args.task.now) c.args.certificate.now c.args.told.now.nodes.now c.args.told.now.asks.now c.requires.told c.args.pc (sym c.instruction.ensures ∙ c.in-None.is))
 
 pub returns-in_ok-protected-in-Some-clause-exact : goal.returns-in_ok-protected-in-Some-clause-exact
 returns-in_ok-protected-in-Some-clause-exact c =
     let told = c.args.told.now in
-    let words = c.args.task.now.flash.now in
-    let A = c.args.task.now.assumptions.now in
+    let task = task_of c.args.task.now in
     let alive =
-    subst (λ (b : ℕ). (c.is_live_at.result ≡ true) ↔ IsLiveAt words A b told.nodes.now told.asks.now c.args.pc c.in-Some.instr (length told.asks.now)) c.bound.ensures c.is_live_at.ensures in
-    subst (λ (b : Bool). IsPlaceOf words A (family_of c.args.certificate.now told.nodes.now) (record { word = c.args.pc; protected = c.in_ok-protected-in-Some.protected; live = c.is_live_at.result; transfer = b }))
+    subst (λ (b : ℕ). (c.is_live_at.result ≡ true) ↔ IsLiveAt task b told.nodes.now told.asks.now c.args.pc c.in-Some.instr (length told.asks.now)) c.bound.ensures c.is_live_at.ensures in
+    subst (λ (b : Bool). IsPlaceOf task (family_of c.args.certificate.now told.nodes.now) (record { word = c.args.pc; protected = c.in_ok-protected-in-Some.protected; live = c.is_live_at.result; transfer = b }))
     (sym c.is_indirect.ensures)
-    (place_given words A c.args.certificate.now told.nodes.now told.asks.now c.requires.told c.args.pc c.in-Some.instr (sym c.instruction.ensures ∙ c.in-Some.is)
+    (place_given task c.args.certificate.now told.nodes.now told.asks.now c.requires.told c.args.pc c.in-Some.instr (sym c.instruction.ensures ∙ c.in-Some.is)
     c.in_ok-protected-in-Some.protected c.is_live_at.result c.in_ok-protected-in-Some.ensures.exact c.in_ok-protected-in-Some.ensures.ascending alive c.requires.site)
 
 pub index-requires : goal.index-requires
 index-requires c =
-    let words = c.args.task.now.flash.now in
-    let A = c.args.task.now.assumptions.now in
-    let small : c.args.pc < WORDS = word_of_flagged words A c.args.certificate.now c.args.told.now.nodes.now c.args.pc c.count-count.ensures.shown c.requires.site in
+    let task = task_of c.args.task.now in
+    let small : c.args.pc < WORDS = word_of_flagged task c.args.certificate.now c.args.told.now.nodes.now c.args.pc c.count-count.ensures.shown c.requires.site in
     omega (arith, small, c.from.ensures, c.requires.linked.words, c.args.links.now.first.ok.0)
 
 pub protected_of-requires-clause-chain : goal.protected_of-requires-clause-chain
 protected_of-requires-clause-chain c =
-    let words = c.args.task.now.flash.now in
-    let A = c.args.task.now.assumptions.now in
+    let task = task_of c.args.task.now in
     let told = c.args.told.now in
     let links = c.args.links.now in
-    let small = word_of_flagged words A c.args.certificate.now told.nodes.now c.args.pc c.count-count.ensures.shown c.requires.site in
+    let small = word_of_flagged task c.args.certificate.now told.nodes.now c.args.pc c.count-count.ensures.shown c.requires.site in
     chain_read told.nodes.now told.asks.now c.args.pc c.from.result c.index.result.now links.first.items links.later.items c.as_slice.result.now small c.requires.linked c.from.ensures c.index.ensures
     c.as_slice.ensures.value
 
 pub is_live_at-requires-clause-chain : goal.is_live_at-requires-clause-chain
 is_live_at-requires-clause-chain c =
-    let words = c.args.task.now.flash.now in
-    let A = c.args.task.now.assumptions.now in
+    let task = task_of c.args.task.now in
     let told = c.args.told.now in
     let links = c.args.links.now in
-    let small = word_of_flagged words A c.args.certificate.now told.nodes.now c.args.pc c.count-count.ensures.shown c.requires.site in
+    let small = word_of_flagged task c.args.certificate.now told.nodes.now c.args.pc c.count-count.ensures.shown c.requires.site in
     chain_read told.nodes.now told.asks.now c.args.pc c.from.result c.index.result.now links.first.items links.later.items c.as_slice.result.now small c.requires.linked c.from.ensures c.index.ensures
     c.as_slice.ensures.value

@@ -4,6 +4,7 @@ use Rattle.store_clear.specs.Causing.{IsProtectedAt}
 use Rattle.store_clear.proofs.Lists.{written_back}
 use Rattle.store_clear.proofs.Causing.{members_given, ascending_given}
 use Rattle.store_clear.proofs.causes.protected_of.Goals as goal
+use Rattle.call_graph.specs.Tasks.{task_of}
 
 pub returns-clause-exact : goal.returns-clause-exact
 returns-clause-exact c =
@@ -15,7 +16,7 @@ returns-clause-exact c =
     IfOk-weaker c.places.result _ _
     (λ list are a.
     members_given
-    (IsProtectedAt c.args.task.now.flash.now c.args.task.now.assumptions.now told.nodes.now told.asks.now c.args.site.now.pc c.args.site.now.instr.now (length told.asks.now))
+    (IsProtectedAt (task_of c.args.task.now) told.nodes.now told.asks.now c.args.site.now.pc c.args.site.now.instr.now (length told.asks.now))
     c.in_ok-marks.marks.items c.as_mut_slice.result.now c.mark_nodes.new.marks c.deref.result.now _ list (c.in_ok-marks.ensures.items_if_clones_equal (λ y e. e)) c.as_mut_slice.ensures.value
     c.mark_nodes.ensures back are a)
     c.places.ensures

@@ -5,56 +5,53 @@ use Rattle.clear_laws.proofs.AllLaws.{flagged_runs_end_at_sites}
 use Rattle.store_clear.specs.Settling.{AreTold, IsTold}
 use Rattle.store_clear.proofs.Sites.{never_flagged}
 use Rattle.store_clear.proofs.clearing.flagged_sites_in.Goals as goal
+use Rattle.call_graph.specs.Tasks.{task_of}
 
 pub sites_of-requires : goal.sites_of-requires
 sites_of-requires c = ap length c.as_slice.ensures.value ∙ c.in_ok-asks.ensures.count
 
 pub returns-clause-exact : goal.returns-clause-exact
 returns-clause-exact c =
-    let words = c.args.task.now.flash.now in
-    let A = c.args.task.now.assumptions.now in
+    let task = task_of c.args.task.now in
     let claim = c.args.certificate.now in
     let nodes = c.args.family.now.nodes in
-    let told : IsTold words A claim nodes c.as_slice.result.now =
-    record { filled = c.requires.filled; told = subst (AreTold words A claim nodes) (sym c.as_slice.ensures.value) c.in_ok-asks.ensures } in
-    IfOk-weaker c.sites_of.result _ _ (λ sites so. (so words A claim told).0) c.sites_of.ensures
+    let told : IsTold task claim nodes c.as_slice.result.now =
+    record { filled = c.requires.filled; told = subst (AreTold task claim nodes) (sym c.as_slice.ensures.value) c.in_ok-asks.ensures } in
+    IfOk-weaker c.sites_of.result _ _ (λ sites so. (so task claim told).0) c.sites_of.ensures
 
 pub returns-clause-told : goal.returns-clause-told
 returns-clause-told c =
-    let words = c.args.task.now.flash.now in
-    let A = c.args.task.now.assumptions.now in
+    let task = task_of c.args.task.now in
     let claim = c.args.certificate.now in
     let nodes = c.args.family.now.nodes in
-    let told : IsTold words A claim nodes c.as_slice.result.now =
-    record { filled = c.requires.filled; told = subst (AreTold words A claim nodes) (sym c.as_slice.ensures.value) c.in_ok-asks.ensures } in
+    let told : IsTold task claim nodes c.as_slice.result.now =
+    record { filled = c.requires.filled; told = subst (AreTold task claim nodes) (sym c.as_slice.ensures.value) c.in_ok-asks.ensures } in
     IfOk-weaker c.sites_of.result _ _
     (λ sites so nevers all.
-    flagged_runs_end_at_sites words A claim sites nevers (subst HaveSixteenBits c.words.ensures.value c.words_have_16_bits.ensures) c.nodes-nodes.ensures.kept
-    (record { nodes = nodes; expanded = c.requires.filled; meets = c.requires.meets }) (so words A claim told).0 all)
+    flagged_runs_end_at_sites task claim sites nevers (subst HaveSixteenBits c.words.ensures.value c.words_have_16_bits.ensures) c.nodes-nodes.ensures.kept
+    (record { nodes = nodes; expanded = c.requires.filled; meets = c.requires.meets }) (so task claim told).0 all)
     c.sites_of.ensures
 
 pub returns-clause-clear : goal.returns-clause-clear
 returns-clause-clear c =
-    let words = c.args.task.now.flash.now in
-    let A = c.args.task.now.assumptions.now in
+    let task = task_of c.args.task.now in
     let claim = c.args.certificate.now in
     let nodes = c.args.family.now.nodes in
-    let told : IsTold words A claim nodes c.as_slice.result.now =
-    record { filled = c.requires.filled; told = subst (AreTold words A claim nodes) (sym c.as_slice.ensures.value) c.in_ok-asks.ensures } in
-    IfOk-weaker c.sites_of.result _ _ (λ sites so. (so words A claim told).1) c.sites_of.ensures
+    let told : IsTold task claim nodes c.as_slice.result.now =
+    record { filled = c.requires.filled; told = subst (AreTold task claim nodes) (sym c.as_slice.ensures.value) c.in_ok-asks.ensures } in
+    IfOk-weaker c.sites_of.result _ _ (λ sites so. (so task claim told).1) c.sites_of.ensures
 
 pub returns-clause-never_flagged : goal.returns-clause-never_flagged
 returns-clause-never_flagged c =
-    let words = c.args.task.now.flash.now in
-    let A = c.args.task.now.assumptions.now in
+    let task = task_of c.args.task.now in
     let claim = c.args.certificate.now in
     let nodes = c.args.family.now.nodes in
-    let told : IsTold words A claim nodes c.as_slice.result.now =
-    record { filled = c.requires.filled; told = subst (AreTold words A claim nodes) (sym c.as_slice.ensures.value) c.in_ok-asks.ensures } in
+    let told : IsTold task claim nodes c.as_slice.result.now =
+    record { filled = c.requires.filled; told = subst (AreTold task claim nodes) (sym c.as_slice.ensures.value) c.in_ok-asks.ensures } in
     IfOk-weaker c.sites_of.result _ _
     (λ sites so e all.
-    never_flagged words A sites
-    (flagged_runs_end_at_sites words A claim sites [] (subst HaveSixteenBits c.words.ensures.value c.words_have_16_bits.ensures) c.nodes-nodes.ensures.kept
-    (record { nodes = nodes; expanded = c.requires.filled; meets = c.requires.meets }) (so words A claim told).0 all)
+    never_flagged task sites
+    (flagged_runs_end_at_sites task claim sites [] (subst HaveSixteenBits c.words.ensures.value c.words_have_16_bits.ensures) c.nodes-nodes.ensures.kept
+    (record { nodes = nodes; expanded = c.requires.filled; meets = c.requires.meets }) (so task claim told).0 all)
     e)
     c.sites_of.ensures

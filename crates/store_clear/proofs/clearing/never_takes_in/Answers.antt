@@ -4,6 +4,7 @@ use Rattle.avr_model.specs.Image.{WORDS}
 use Rattle.store_clear.proofs.Lists.{written_back}
 use Rattle.store_clear.proofs.Taken.{nevers_given}
 use Rattle.store_clear.proofs.clearing.never_takes_in.Goals as goal
+use Rattle.call_graph.specs.Tasks.{task_of}
 
 pub returns : goal.returns
 returns c =
@@ -14,7 +15,7 @@ returns c =
     record {
       exact = IfOk-weaker c.places.result _ _
           (λ nevers are claim filled.
-          nevers_given c.args.task.now.flash.now c.args.task.now.assumptions.now claim c.args.nodes.now filled c.in_ok-marks.marks.items c.as_mut_slice.result.now c.mark_takes.new.marks
+          nevers_given (task_of c.args.task.now) claim c.args.nodes.now filled c.in_ok-marks.marks.items c.as_mut_slice.result.now c.mark_takes.new.marks
           c.deref.result.now WORDS nevers (c.in_ok-marks.ensures.items_if_clones_equal (λ y e. e)) c.as_mut_slice.ensures.value c.mark_takes.ensures back are)
           c.places.ensures;
     }

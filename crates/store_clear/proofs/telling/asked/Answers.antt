@@ -4,11 +4,12 @@ use Rattle.clear_laws.specs.declared.slots.Asks.{Asks}
 use Rattle.store_clear.specs.Settling.{AreAskedTo}
 use Rattle.store_clear.proofs.Askings.{key_is, state_is, asking_is, asked_none, asked_more}
 use Rattle.store_clear.proofs.telling.asked.Goals as goal
+use Rattle.call_graph.specs.Tasks.{task_of}
 
 pub loop-at-init : goal.loop-at-init
 loop-at-init c =
-    subst (λ (xs : List Asks). AreAskedTo c.args.task.now.flash.now c.args.task.now.assumptions.now c.args.bound c.args.nodes.now 0 xs) (sym c.new-asks.ensures.items)
-    (asked_none c.args.task.now.flash.now c.args.task.now.assumptions.now c.args.bound c.args.nodes.now)
+    subst (λ (xs : List Asks). AreAskedTo (task_of c.args.task.now) c.args.bound c.args.nodes.now 0 xs) (sym c.new-asks.ensures.items)
+    (asked_none (task_of c.args.task.now) c.args.bound c.args.nodes.now)
 
 pub loop-at-preserved : goal.loop-at-preserved
 loop-at-preserved c =
@@ -17,12 +18,12 @@ loop-at-preserved c =
     let lt : at < length nodes = omega (arith, c.loop-at-test.true, c.count-at-end.ensures.count) in
     let n = get_inside nodes at lt in
     let asks =
-    asking_is c.args.task.now.flash.now c.args.task.now.assumptions.now c.args.bound nodes n.0 c.key-key.result.now c.state-state.result.now c.asked_by.result
+    asking_is (task_of c.args.task.now) c.args.bound nodes n.0 c.key-key.result.now c.state-state.result.now c.asked_by.result
     (key_is nodes at n.0 n.1 c.key-key.result.now c.key-key.ensures) (state_is nodes at n.0 n.1 c.state-state.result.now c.state-state.ensures) c.asked_by.ensures in
-    subst (λ (xs : List Asks). AreAskedTo c.args.task.now.flash.now c.args.task.now.assumptions.now c.args.bound nodes (at + 1) xs) (sym {A = List Asks} c.in_ok-push.ensures.items)
-    (asked_more c.args.task.now.flash.now c.args.task.now.assumptions.now c.args.bound nodes at c.loop-at.asks.items n.0 c.asked_by.result c.loop-at.invariant n.1 asks)
+    subst (λ (xs : List Asks). AreAskedTo (task_of c.args.task.now) c.args.bound nodes (at + 1) xs) (sym {A = List Asks} c.in_ok-push.ensures.items)
+    (asked_more (task_of c.args.task.now) c.args.bound nodes at c.loop-at.asks.items n.0 c.asked_by.result c.loop-at.invariant n.1 asks)
 
 pub returns : goal.returns
 returns c =
     let full : c.loop-at.at ≡ length c.args.nodes.now = omega (arith, c.loop-at-test.false, c.loop-at.auto.at-end, c.count-at-end.ensures.count) in
-    subst (λ k. AreAskedTo c.args.task.now.flash.now c.args.task.now.assumptions.now c.args.bound c.args.nodes.now k c.loop-at.asks.items) full c.loop-at.invariant
+    subst (λ k. AreAskedTo (task_of c.args.task.now) c.args.bound c.args.nodes.now k c.loop-at.asks.items) full c.loop-at.invariant

@@ -3,6 +3,7 @@ use Rattle.store_clear.specs.Settling.{AreAsked, AreTold}
 use Rattle.store_clear.proofs.Lists.{written_back}
 use Rattle.store_clear.proofs.Told.{told_as}
 use Rattle.store_clear.proofs.telling.tell.Goals as goal
+use Rattle.call_graph.specs.Tasks.{task_of}
 
 pub settle-settled-requires-clause-inside : goal.settle-settled-requires-clause-inside
 settle-settled-requires-clause-inside c = c.in_ok-frames.ensures.inside
@@ -17,8 +18,8 @@ returns c =
     let same = c.in_ok-settled.ensures.same in
     let value = ap length c.as_mut_slice.ensures.value in
     let size = c.in_ok-asks.asks.ok.0 in
-    subst (AreTold c.args.task.now.flash.now c.args.task.now.assumptions.now c.args.certificate.now c.args.family.now.nodes)
+    subst (AreTold (task_of c.args.task.now) c.args.certificate.now c.args.family.now.nodes)
     (sym (written_back c.in_ok-asks.asks.len c.settle-settled.new.asks c.in_ok-asks.asks.items (omega (arith, same, value, size))))
-    (told_as c.args.task.now.flash.now c.args.task.now.assumptions.now c.args.certificate.now c.args.family.now.nodes c.count-count.ensures.shown c.in_ok-frames.frames.links c.in_ok-frames.frames.offsets
+    (told_as (task_of c.args.task.now) c.args.certificate.now c.args.family.now.nodes c.count-count.ensures.shown c.in_ok-frames.frames.links c.in_ok-frames.frames.offsets
     c.in_ok-frames.frames.seeds c.in_ok-frames.ensures c.in_ok-asks.asks.items c.as_mut_slice.result.now c.settle-settled.new.asks c.as_mut_slice.ensures.value
-    (subst (λ b. AreAsked c.args.task.now.flash.now c.args.task.now.assumptions.now b c.args.family.now.nodes c.in_ok-asks.asks.items) c.bound.ensures c.in_ok-asks.ensures) c.in_ok-settled.ensures)
+    (subst (λ b. AreAsked (task_of c.args.task.now) b c.args.family.now.nodes c.in_ok-asks.asks.items) c.bound.ensures c.in_ok-asks.ensures) c.in_ok-settled.ensures)

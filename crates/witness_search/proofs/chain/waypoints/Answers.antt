@@ -1,14 +1,15 @@
 use Rattle.std.proofs.lemmas.Result.{IfOk-weaker}
 use Rattle.witness_search.proofs.Answered.{peopled, interrupts_as}
 use Rattle.witness_search.proofs.chain.waypoints.Goals as goal
+use Rattle.call_graph.specs.Tasks.{task_of}
 
 pub entered_by-requires-clause-peopled : goal.entered_by-requires-clause-peopled
 entered_by-requires-clause-peopled c =
-    peopled c.args.task.now.flash.now c.args.task.now.assumptions.now c.args.certificate.now c.args.family.now.nodes c.requires.meets
+    peopled (task_of c.args.task.now) c.args.certificate.now c.args.family.now.nodes c.requires.meets
 
 pub returns : goal.returns
 returns c =
     IfOk-weaker c.interrupts.result _ _
-    (λ points e. interrupts_as c.args.task.now.flash.now c.args.task.now.assumptions.now c.args.family.now.nodes c.in_ok-deepest.deepest.need c.in_ok-deepest.deepest.links
+    (λ points e. interrupts_as (task_of c.args.task.now) c.args.family.now.nodes c.in_ok-deepest.deepest.need c.in_ok-deepest.deepest.links
     c.as_slice.result.now points.items c.in_ok-deepest.ensures.deepest c.as_slice.ensures e)
     c.interrupts.ensures

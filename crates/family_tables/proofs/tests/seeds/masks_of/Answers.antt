@@ -1,5 +1,4 @@
-use Rattle.std.proofs.Common.{ℕ, ◌≡◌, ◌<◌, ◌≤◌, ◌^◌, ◌∙◌, true, sym, subst}
-use Rattle.std.proofs.lemmas.Nat.{pow_pos}
+use Rattle.std.proofs.Common.{ℕ, ◌<◌, ◌^◌, true, sym, subst}
 use Rattle.avr_model.specs.Vectors.{enable_count}
 use Rattle.vector_table.proofs.AllLaws.{enables_are_vectors}
 use Rattle.family_tables.proofs.tests.seeds.masks_of.Goals as goal

@@ -18,7 +18,7 @@ pub returns-then-allow_root-clause-once : goal.returns-then-allow_root-clause-on
 returns-then-allow_root-clause-once c = subst (λ (n : Noted). AreOnce n.insts) c.self.view_is (insts_once c.self.inside.has_root c.self.inside.others.keys c.self.invariant.apart)
 
 pub returns-then-not-self-clause-tells : goal.returns-then-not-self-clause-tells
-returns-then-not-self-clause-tells c words A f sized root nesting =
+returns-then-not-self-clause-tells c task f sized root nesting =
     let there = subst (λ (n : Noted). Contains n.insts root_inst) (sym c.self.view_is) ((nesting.insts root_inst).1 root) in
     let kept = root_kept c.self.inside.has_root c.self.inside.others.keys c.self.invariant.apart there in
     let none = c.if-not-self.true in

@@ -1,0 +1,28 @@
+-- What is analysed, and where an instruction executes. Source: own.
+use Rattle.std.specs.Prelude.{List, []}
+use Rattle.avr_model.specs.declared.device.Device.{Device}
+use Rattle.avr_model.specs.declared.assumption.Entry.{Entry}
+use Rattle.avr_model.specs.Devices.{Program}
+use Rattle.abs_state.specs.declared.state.AbsState.{AbsState}
+use Rattle.mask_states.specs.declared.keys.NodeKey.{NodeKey}
+
+-- a firmware and its assumptions
+pub record Task : Type 0 where
+  pub flash : Program
+  pub assumptions : List Entry
+
+-- the node at which an instruction executes, on this device
+pub record Site : Type 0 where
+  pub device : Device
+  pub key : NodeKey
+  pub state : AbsState
+
+abbrev pub site_at : Device → NodeKey → AbsState → Site
+site_at device k s = record { device = device; key = k; state = s }
+
+abbrev pub task_with : Program → List Entry → Task
+task_with words A = record { flash = words; assumptions = A }
+
+-- a firmware without assumptions
+abbrev pub bare : Program → Task
+bare words = task_with words []
