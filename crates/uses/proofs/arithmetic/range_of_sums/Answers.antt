@@ -1,4 +1,4 @@
-use Rattle.std.proofs.Common.{◌≡◌, ◌+◌, ◌%◌, ℕ, false, refl, sym, subst, arith}
+use Rattle.std.proofs.Common.{◌≡◌, ◌+◌, ◌%◌, false, refl, sym, subst, arith}
 use Rattle.abs_alu.specs.Sums.{abs_add}
 use Rattle.avr_model.specs.Sums.{sum_of}
 use Rattle.bit_domain.specs.declared.bits.Tri.TheVariants.{Zero}

@@ -1,4 +1,4 @@
-use Rattle.std.proofs.Common.{◌∙◌, ◌++◌, ◌≡◌, ℕ, List, ap, Ok}
+use Rattle.std.proofs.Common.{◌∙◌, ◌++◌, ◌≡◌, ap, Ok}
 use Rattle.sb_base.specs.Writing.{Written}
 use Rattle.indirect_targets.specs.Spelling.{text_of}
 use Rattle.indirect_targets.specs.Exact.{IsListReading}
