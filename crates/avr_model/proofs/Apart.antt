@@ -1,5 +1,5 @@
 -- Places of a device don't meet.
-use Rattle.std.proofs.Common.{◌≡◌, refl, sym, ap, ap₂, ◌∙◌, ℕ, zero, suc, ◌^◌, ◌<◌, ◌≤◌, Bool, true, false, ◌==◌, ◌&&◌, ◌||◌, not, nat_le, nat_lt, List, [], ◌∷◌, length, ◌⊎◌, inl, inr, ⊎_elim, eq-eqb, arith}
+use Rattle.std.proofs.Common.{◌≡◌, refl, sym, ap, ap₂, ◌∙◌, ℕ, zero, suc, ◌+◌, ◌^◌, ◌<◌, ◌≤◌, Bool, true, false, ◌==◌, ◌&&◌, ◌||◌, not, nat_le, nat_lt, List, [], ◌∷◌, length, ◌⊎◌, inl, inr, ⊎_elim, eq-eqb, arith}
 use Rattle.std.specs.Prelude.{slice_index_or, Contains, if◌then◌else◌}
 use Rattle.std.specs.List.{list_all, All}
 use Rattle.std.specs.Int.{bit_at}
@@ -8,8 +8,7 @@ use Rattle.std.proofs.lemmas.Bool.Decides.{nat_tests}
 use Rattle.basics.specs.Numbers.{less_from_test, at_most_from_test}
 use Rattle.avr_model.specs.declared.device.Device.{Device}
 use Rattle.avr_model.specs.declared.rows.Place.{Place}
-use Rattle.avr_model.specs.declared.rows.TheConstants.{FAMILY_0, FAMILY_1, FAMILY_2, FAMILY_3, FAMILY_4, FAMILY_5, FAMILY_6, FAMILY_7, FAMILY_8, FAMILY_9, FAMILY_10, FAMILY_11, FAMILY_12, FAMILY_13, FAMILY_14, FAMILY_15, FAMILY_16, FAMILY_17, FAMILY_18, FAMILY_19, FAMILY_20, FAMILY_21, FAMILY_22, FAMILY_23, FAMILY_24, FAMILY_25, FAMILY_26, FAMILY_27, FAMILY_28, FAMILY_29, FAMILY_30, FAMILY_31, FAMILY_32, FAMILY_33, FAMILY_34, FAMILY_35, FAMILY_36, FAMILY_37, FAMILY_38, FAMILY_39}
-use Rattle.avr_model.specs.Families.{family_of}
+use Rattle.avr_model.specs.Families.{FAMILIES, numbered, family_of}
 use Rattle.avr_model.specs.Devices.{device_row, io_end}
 use Rattle.avr_model.specs.Bits.{any_below}
 use Rattle.avr_model.specs.Vectors.{last_vector, is_vector, places, covers, is_bit, is_core, has_common}
@@ -61,60 +60,27 @@ are_apart p q =
     not ((p.address == q.address) && (has_common p.mask q.mask || has_common q.mask p.mask))
     && not ((p.vector == q.vector) && ((p.address == q.address) || (is_bit p.enable || is_bit q.enable)))
 
-either : (test : List Place → Bool) (b : Bool) (x y : List Place) → test x ≡ true → test y ≡ true → test (if b then x else y) ≡ true
-either test true x y h g = h
-either test false x y h g = g
+-- a test that each list passes, and none as well
+numbered_list : (test : List Place → Bool) (n k : ℕ) (fs : List (List Place)) → test [] ≡ true → list_all test fs ≡ true → test (numbered n k fs) ≡ true
+numbered_list test n k [] none all = none
+numbered_list test n k (f ∷ fs) none all =
+    let both = and_parts (test f) (list_all test fs) all in
+    either (n == k) f (numbered n (k + 1) fs) both.0 (numbered_list test n (k + 1) fs none both.1)
+  where
+    either : (b : Bool) (x y : List Place) → test x ≡ true → test y ≡ true → test (if b then x else y) ≡ true
+    either true x y h g = h
+    either false x y h g = g
 
--- a test that each list passes
-each_family : (test : List Place → Bool) → (n : ℕ) → test FAMILY_0 ≡ true → test FAMILY_1 ≡ true → test FAMILY_2 ≡ true → test FAMILY_3 ≡ true → test FAMILY_4 ≡ true → test FAMILY_5 ≡ true → test FAMILY_6 ≡ true → test FAMILY_7 ≡ true → test FAMILY_8 ≡ true → test FAMILY_9 ≡ true → test FAMILY_10 ≡ true → test FAMILY_11 ≡ true → test FAMILY_12 ≡ true → test FAMILY_13 ≡ true → test FAMILY_14 ≡ true → test FAMILY_15 ≡ true → test FAMILY_16 ≡ true → test FAMILY_17 ≡ true → test FAMILY_18 ≡ true → test FAMILY_19 ≡ true → test FAMILY_20 ≡ true → test FAMILY_21 ≡ true → test FAMILY_22 ≡ true → test FAMILY_23 ≡ true → test FAMILY_24 ≡ true → test FAMILY_25 ≡ true → test FAMILY_26 ≡ true → test FAMILY_27 ≡ true → test FAMILY_28 ≡ true → test FAMILY_29 ≡ true → test FAMILY_30 ≡ true → test FAMILY_31 ≡ true → test FAMILY_32 ≡ true → test FAMILY_33 ≡ true → test FAMILY_34 ≡ true → test FAMILY_35 ≡ true → test FAMILY_36 ≡ true → test FAMILY_37 ≡ true → test FAMILY_38 ≡ true → test FAMILY_39 ≡ true → test (family_of n) ≡ true
-each_family test n e0 e1 e2 e3 e4 e5 e6 e7 e8 e9 e10 e11 e12 e13 e14 e15 e16 e17 e18 e19 e20 e21 e22 e23 e24 e25 e26 e27 e28 e29 e30 e31 e32 e33 e34 e35 e36 e37 e38 e39 =
-    (either test (n == 0) FAMILY_0 _ e0
-    (either test (n == 1) FAMILY_1 _ e1
-    (either test (n == 2) FAMILY_2 _ e2
-    (either test (n == 3) FAMILY_3 _ e3
-    (either test (n == 4) FAMILY_4 _ e4
-    (either test (n == 5) FAMILY_5 _ e5
-    (either test (n == 6) FAMILY_6 _ e6
-    (either test (n == 7) FAMILY_7 _ e7
-    (either test (n == 8) FAMILY_8 _ e8
-    (either test (n == 9) FAMILY_9 _ e9
-    (either test (n == 10) FAMILY_10 _ e10
-    (either test (n == 11) FAMILY_11 _ e11
-    (either test (n == 12) FAMILY_12 _ e12
-    (either test (n == 13) FAMILY_13 _ e13
-    (either test (n == 14) FAMILY_14 _ e14
-    (either test (n == 15) FAMILY_15 _ e15
-    (either test (n == 16) FAMILY_16 _ e16
-    (either test (n == 17) FAMILY_17 _ e17
-    (either test (n == 18) FAMILY_18 _ e18
-    (either test (n == 19) FAMILY_19 _ e19
-    (either test (n == 20) FAMILY_20 _ e20
-    (either test (n == 21) FAMILY_21 _ e21
-    (either test (n == 22) FAMILY_22 _ e22
-    (either test (n == 23) FAMILY_23 _ e23
-    (either test (n == 24) FAMILY_24 _ e24
-    (either test (n == 25) FAMILY_25 _ e25
-    (either test (n == 26) FAMILY_26 _ e26
-    (either test (n == 27) FAMILY_27 _ e27
-    (either test (n == 28) FAMILY_28 _ e28
-    (either test (n == 29) FAMILY_29 _ e29
-    (either test (n == 30) FAMILY_30 _ e30
-    (either test (n == 31) FAMILY_31 _ e31
-    (either test (n == 32) FAMILY_32 _ e32
-    (either test (n == 33) FAMILY_33 _ e33
-    (either test (n == 34) FAMILY_34 _ e34
-    (either test (n == 35) FAMILY_35 _ e35
-    (either test (n == 36) FAMILY_36 _ e36
-    (either test (n == 37) FAMILY_37 _ e37
-    (either test (n == 38) FAMILY_38 _ e38 e39)))))))))))))))))))))))))))))))))))))))
+each_family : (test : List Place → Bool) (n : ℕ) → test [] ≡ true → list_all test FAMILIES ≡ true → test (family_of n) ≡ true
+each_family test n none all = numbered_list test n 0 FAMILIES none all
 
 each_place : (n : ℕ) → list_all is_place (family_of n) ≡ true
 unfolding any_below
-each_place n = each_family (list_all is_place) n refl refl refl refl refl refl refl refl refl refl refl refl refl refl refl refl refl refl refl refl refl refl refl refl refl refl refl refl refl refl refl refl refl refl refl refl refl refl refl refl
+each_place n = each_family (list_all is_place) n refl refl
 
 each_pair : (n : ℕ) → pairwise are_apart (family_of n) ≡ true
 unfolding has_common any_below
-each_pair n = each_family (pairwise are_apart) n refl refl refl refl refl refl refl refl refl refl refl refl refl refl refl refl refl refl refl refl refl refl refl refl refl refl refl refl refl refl refl refl refl refl refl refl refl refl refl refl
+each_pair n = each_family (pairwise are_apart) n refl refl
 
 -- ---- what follows
 

@@ -1,10 +1,10 @@
 -- What each row of the table of devices says.
 use Rattle.std.proofs.Common.{inl, inr, ◌⊎◌, ℕ, zero, suc, ◌+◌, ◌-◌, ◌*◌, ◌^◌, ◌%◌, ◌<◌, ◌≤◌, ◌≡◌, ◌==◌, ◌&&◌, ◌||◌, Bool, true, false, nat_le, nat_lt, List, [], ◌∷◌, length, refl, sym, ap, subst, ◌∙◌, arith}
 use Rattle.std.specs.Prelude.{slice_index_or}
-use Rattle.std.specs.List.{list_all}
+use Rattle.std.specs.List.{list_all, list_any}
 use Rattle.std.specs.Slice.{IsItemAt}
 use Rattle.std.specs.Borrow.{Bor}
-use Rattle.std.specs.Prelude.{Option, None}
+use Rattle.std.specs.Prelude.{Option, None, Some, not}
 use Rattle.std.proofs.lemmas.Bool.{and_parts}
 use Rattle.std.proofs.lemmas.Bool.Decides.{nat_tests}
 use Rattle.std.proofs.Math.Nat.{mod-lt, mod-eq_of_lt, pow-le-pow_right}
@@ -14,19 +14,27 @@ use Rattle.std.proofs.Math.Pow.{mod-mod-pow}
 use Rattle.basics.specs.Numbers.{less_from_test, at_most_from_test}
 use Rattle.avr_model.specs.declared.device.Device.{Device}
 use Rattle.avr_model.specs.declared.rows.Row.{Row}
+use Rattle.avr_model.specs.declared.rows.Ivsel.{Ivsel}
 use Rattle.avr_model.specs.declared.rows.Place.{Place}
 use Rattle.avr_model.specs.declared.rows.TheConstants.{ROWS, LAST}
 use Rattle.avr_model.specs.declared.names.TheConstants.{CLASSES, LAST_CLASS}
-use Rattle.avr_model.specs.Families.{family_of}
+use Rattle.avr_model.specs.Families.{FAMILIES, family_of}
 use Rattle.avr_model.specs.Devices.{device_row, width, words_of, io_end, size_of, wrapped, limit_of, depth_of}
-use Rattle.avr_model.specs.Vectors.{last_vector, watchdog, vector_word}
+use Rattle.avr_model.specs.Vectors.{last_vector, watchdog, vector_word, is_core, covers}
 
 -- ---- what is tested of each row, and of each place
+
+-- IVSEL is a bit of I/O behind what `sbi` and `cbi` reach, and no enable bit
+abbrev pub is_apart : Row → Option Ivsel → Bool
+is_apart r None = true
+is_apart r (Some s) =
+    nat_le 0x40 s.address && (nat_le s.address r.io_end && (not (is_core s.address) && (nat_lt s.bit 8 && not (list_any (covers s.address s.bit) (family_of r.family)))))
 
 abbrev pub tests : Row → List Bool
 tests r =
     nat_le 8 r.width ∷ nat_le r.width 16 ∷ nat_le 0x5F r.io_end ∷ nat_le r.io_end 0x1FF ∷ nat_le r.size 16384 ∷ nat_le 2 r.last ∷ nat_le r.last 64 ∷ nat_le r.watchdog r.last
-    ∷ nat_lt (r.step * (r.last - 1)) (2 ^ r.width) ∷ ((r.step == 1) || (r.step == 2)) ∷ list_all (λ (p : Place). nat_le p.vector r.last && nat_le p.address r.io_end) (family_of r.family) ∷ []
+    ∷ nat_lt (r.step * (r.last - 1)) (2 ^ r.width) ∷ ((r.step == 1) || (r.step == 2)) ∷ list_all (λ (p : Place). nat_le p.vector r.last && nat_le p.address r.io_end) (family_of r.family)
+    ∷ nat_lt r.family (length FAMILIES) ∷ is_apart r r.ivsel ∷ []
 
 abbrev pub is_sound : Row → Bool
 is_sound r = list_all (λ b. b) (tests r)

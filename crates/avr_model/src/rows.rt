@@ -24,6 +24,15 @@ pub struct Place {
     pub enable: Enable,
 }
 
+/// IVSEL, the bit of a control register that moves the vectors to the boot section.
+#[derive(Clone, Copy)]
+pub struct Ivsel {
+    /// A data address of I/O that `sbi` and `cbi` do not reach, and not SPL, SPH or SREG.
+    pub address: u16,
+    /// Its bit, 0 to 7: no enable bit.
+    pub bit: u8,
+}
+
 /// The numbers of a device.
 #[derive(Clone, Copy)]
 pub struct Row {
@@ -52,6 +61,8 @@ pub struct Row {
     pub has_break: bool,
     /// Whether each assumption list is read as if it had the line `masks`.
     pub reads_masks: bool,
+    /// The bit that moves the vectors, if there is one.
+    pub ivsel: Option<Ivsel>,
     /// The number of the list of its places.
     pub family: u8,
 }
@@ -72,6 +83,7 @@ pub const ROWS: [Row; 73] = [
         has_elpm: false,
         has_break: true,
         reads_masks: false,
+        ivsel: None,
         family: 0,
     },
     // atmega88pa
@@ -88,6 +100,10 @@ pub const ROWS: [Row; 73] = [
         has_elpm: false,
         has_break: true,
         reads_masks: false,
+        ivsel: Some(Ivsel {
+            address: 0x55,
+            bit: 1,
+        }),
         family: 0,
     },
     // atmega168pa
@@ -104,6 +120,10 @@ pub const ROWS: [Row; 73] = [
         has_elpm: false,
         has_break: true,
         reads_masks: false,
+        ivsel: Some(Ivsel {
+            address: 0x55,
+            bit: 1,
+        }),
         family: 0,
     },
     // atmega328p
@@ -122,6 +142,10 @@ pub const ROWS: [Row; 73] = [
         has_elpm: true,
         has_break: true,
         reads_masks: true,
+        ivsel: Some(Ivsel {
+            address: 0x55,
+            bit: 1,
+        }),
         family: 1,
     },
     // at90can32
@@ -138,6 +162,10 @@ pub const ROWS: [Row; 73] = [
         has_elpm: false,
         has_break: true,
         reads_masks: true,
+        ivsel: Some(Ivsel {
+            address: 0x55,
+            bit: 1,
+        }),
         family: 1,
     },
     // at90can64
@@ -154,6 +182,10 @@ pub const ROWS: [Row; 73] = [
         has_elpm: false,
         has_break: true,
         reads_masks: true,
+        ivsel: Some(Ivsel {
+            address: 0x55,
+            bit: 1,
+        }),
         family: 1,
     },
     // at90pwm1
@@ -170,6 +202,10 @@ pub const ROWS: [Row; 73] = [
         has_elpm: false,
         has_break: true,
         reads_masks: true,
+        ivsel: Some(Ivsel {
+            address: 0x55,
+            bit: 1,
+        }),
         family: 2,
     },
     // at90pwm161
@@ -186,6 +222,10 @@ pub const ROWS: [Row; 73] = [
         has_elpm: false,
         has_break: true,
         reads_masks: true,
+        ivsel: Some(Ivsel {
+            address: 0x55,
+            bit: 1,
+        }),
         family: 3,
     },
     // at90pwm2
@@ -202,6 +242,10 @@ pub const ROWS: [Row; 73] = [
         has_elpm: false,
         has_break: true,
         reads_masks: true,
+        ivsel: Some(Ivsel {
+            address: 0x55,
+            bit: 1,
+        }),
         family: 4,
     },
     // at90pwm216
@@ -218,6 +262,10 @@ pub const ROWS: [Row; 73] = [
         has_elpm: false,
         has_break: true,
         reads_masks: true,
+        ivsel: Some(Ivsel {
+            address: 0x55,
+            bit: 1,
+        }),
         family: 4,
     },
     // at90pwm81
@@ -234,6 +282,10 @@ pub const ROWS: [Row; 73] = [
         has_elpm: false,
         has_break: true,
         reads_masks: true,
+        ivsel: Some(Ivsel {
+            address: 0x55,
+            bit: 1,
+        }),
         family: 3,
     },
     // at90usb1286
@@ -250,6 +302,10 @@ pub const ROWS: [Row; 73] = [
         has_elpm: true,
         has_break: true,
         reads_masks: true,
+        ivsel: Some(Ivsel {
+            address: 0x55,
+            bit: 1,
+        }),
         family: 5,
     },
     // at90usb1287
@@ -266,6 +322,10 @@ pub const ROWS: [Row; 73] = [
         has_elpm: true,
         has_break: true,
         reads_masks: true,
+        ivsel: Some(Ivsel {
+            address: 0x55,
+            bit: 1,
+        }),
         family: 6,
     },
     // at90usb162
@@ -282,6 +342,10 @@ pub const ROWS: [Row; 73] = [
         has_elpm: false,
         has_break: true,
         reads_masks: true,
+        ivsel: Some(Ivsel {
+            address: 0x55,
+            bit: 1,
+        }),
         family: 7,
     },
     // at90usb646
@@ -298,6 +362,10 @@ pub const ROWS: [Row; 73] = [
         has_elpm: false,
         has_break: true,
         reads_masks: true,
+        ivsel: Some(Ivsel {
+            address: 0x55,
+            bit: 1,
+        }),
         family: 5,
     },
     // at90usb647
@@ -314,6 +382,10 @@ pub const ROWS: [Row; 73] = [
         has_elpm: false,
         has_break: true,
         reads_masks: true,
+        ivsel: Some(Ivsel {
+            address: 0x55,
+            bit: 1,
+        }),
         family: 6,
     },
     // at90usb82
@@ -330,6 +402,10 @@ pub const ROWS: [Row; 73] = [
         has_elpm: false,
         has_break: true,
         reads_masks: true,
+        ivsel: Some(Ivsel {
+            address: 0x55,
+            bit: 1,
+        }),
         family: 7,
     },
     // atmega128
@@ -346,6 +422,10 @@ pub const ROWS: [Row; 73] = [
         has_elpm: true,
         has_break: true,
         reads_masks: true,
+        ivsel: Some(Ivsel {
+            address: 0x55,
+            bit: 1,
+        }),
         family: 8,
     },
     // atmega1280
@@ -362,6 +442,10 @@ pub const ROWS: [Row; 73] = [
         has_elpm: true,
         has_break: true,
         reads_masks: true,
+        ivsel: Some(Ivsel {
+            address: 0x55,
+            bit: 1,
+        }),
         family: 9,
     },
     // atmega1281
@@ -378,6 +462,10 @@ pub const ROWS: [Row; 73] = [
         has_elpm: true,
         has_break: true,
         reads_masks: true,
+        ivsel: Some(Ivsel {
+            address: 0x55,
+            bit: 1,
+        }),
         family: 10,
     },
     // atmega1284p
@@ -394,6 +482,10 @@ pub const ROWS: [Row; 73] = [
         has_elpm: true,
         has_break: true,
         reads_masks: true,
+        ivsel: Some(Ivsel {
+            address: 0x55,
+            bit: 1,
+        }),
         family: 11,
     },
     // atmega16
@@ -410,6 +502,10 @@ pub const ROWS: [Row; 73] = [
         has_elpm: false,
         has_break: true,
         reads_masks: true,
+        ivsel: Some(Ivsel {
+            address: 0x5B,
+            bit: 1,
+        }),
         family: 12,
     },
     // atmega161
@@ -426,6 +522,7 @@ pub const ROWS: [Row; 73] = [
         has_elpm: false,
         has_break: false,
         reads_masks: true,
+        ivsel: None,
         family: 13,
     },
     // atmega162
@@ -442,6 +539,10 @@ pub const ROWS: [Row; 73] = [
         has_elpm: false,
         has_break: true,
         reads_masks: true,
+        ivsel: Some(Ivsel {
+            address: 0x5B,
+            bit: 1,
+        }),
         family: 14,
     },
     // atmega163
@@ -458,6 +559,7 @@ pub const ROWS: [Row; 73] = [
         has_elpm: false,
         has_break: false,
         reads_masks: true,
+        ivsel: None,
         family: 15,
     },
     // atmega164p
@@ -474,6 +576,10 @@ pub const ROWS: [Row; 73] = [
         has_elpm: false,
         has_break: true,
         reads_masks: true,
+        ivsel: Some(Ivsel {
+            address: 0x55,
+            bit: 1,
+        }),
         family: 16,
     },
     // atmega165p
@@ -490,6 +596,10 @@ pub const ROWS: [Row; 73] = [
         has_elpm: false,
         has_break: true,
         reads_masks: true,
+        ivsel: Some(Ivsel {
+            address: 0x55,
+            bit: 1,
+        }),
         family: 17,
     },
     // atmega168pb
@@ -506,6 +616,10 @@ pub const ROWS: [Row; 73] = [
         has_elpm: false,
         has_break: true,
         reads_masks: true,
+        ivsel: Some(Ivsel {
+            address: 0x55,
+            bit: 1,
+        }),
         family: 18,
     },
     // atmega169p
@@ -522,6 +636,10 @@ pub const ROWS: [Row; 73] = [
         has_elpm: false,
         has_break: true,
         reads_masks: true,
+        ivsel: Some(Ivsel {
+            address: 0x55,
+            bit: 1,
+        }),
         family: 19,
     },
     // atmega16m1
@@ -538,6 +656,10 @@ pub const ROWS: [Row; 73] = [
         has_elpm: false,
         has_break: true,
         reads_masks: true,
+        ivsel: Some(Ivsel {
+            address: 0x55,
+            bit: 1,
+        }),
         family: 20,
     },
     // atmega16u4
@@ -554,6 +676,10 @@ pub const ROWS: [Row; 73] = [
         has_elpm: false,
         has_break: true,
         reads_masks: true,
+        ivsel: Some(Ivsel {
+            address: 0x55,
+            bit: 1,
+        }),
         family: 21,
     },
     // atmega32
@@ -570,6 +696,10 @@ pub const ROWS: [Row; 73] = [
         has_elpm: false,
         has_break: true,
         reads_masks: true,
+        ivsel: Some(Ivsel {
+            address: 0x5B,
+            bit: 1,
+        }),
         family: 22,
     },
     // atmega324p
@@ -586,6 +716,10 @@ pub const ROWS: [Row; 73] = [
         has_elpm: false,
         has_break: true,
         reads_masks: true,
+        ivsel: Some(Ivsel {
+            address: 0x55,
+            bit: 1,
+        }),
         family: 16,
     },
     // atmega3250p
@@ -602,6 +736,10 @@ pub const ROWS: [Row; 73] = [
         has_elpm: false,
         has_break: true,
         reads_masks: true,
+        ivsel: Some(Ivsel {
+            address: 0x55,
+            bit: 1,
+        }),
         family: 23,
     },
     // atmega325p
@@ -618,6 +756,10 @@ pub const ROWS: [Row; 73] = [
         has_elpm: false,
         has_break: true,
         reads_masks: true,
+        ivsel: Some(Ivsel {
+            address: 0x55,
+            bit: 1,
+        }),
         family: 24,
     },
     // atmega325pa
@@ -634,6 +776,10 @@ pub const ROWS: [Row; 73] = [
         has_elpm: false,
         has_break: true,
         reads_masks: true,
+        ivsel: Some(Ivsel {
+            address: 0x55,
+            bit: 1,
+        }),
         family: 24,
     },
     // atmega3290p
@@ -650,6 +796,10 @@ pub const ROWS: [Row; 73] = [
         has_elpm: false,
         has_break: true,
         reads_masks: true,
+        ivsel: Some(Ivsel {
+            address: 0x55,
+            bit: 1,
+        }),
         family: 25,
     },
     // atmega329p
@@ -666,6 +816,10 @@ pub const ROWS: [Row; 73] = [
         has_elpm: false,
         has_break: true,
         reads_masks: true,
+        ivsel: Some(Ivsel {
+            address: 0x55,
+            bit: 1,
+        }),
         family: 26,
     },
     // atmega32c1
@@ -682,6 +836,10 @@ pub const ROWS: [Row; 73] = [
         has_elpm: false,
         has_break: true,
         reads_masks: true,
+        ivsel: Some(Ivsel {
+            address: 0x55,
+            bit: 1,
+        }),
         family: 20,
     },
     // atmega32u2
@@ -698,6 +856,10 @@ pub const ROWS: [Row; 73] = [
         has_elpm: false,
         has_break: true,
         reads_masks: true,
+        ivsel: Some(Ivsel {
+            address: 0x55,
+            bit: 1,
+        }),
         family: 7,
     },
     // atmega32u4
@@ -714,6 +876,10 @@ pub const ROWS: [Row; 73] = [
         has_elpm: false,
         has_break: true,
         reads_masks: true,
+        ivsel: Some(Ivsel {
+            address: 0x55,
+            bit: 1,
+        }),
         family: 21,
     },
     // atmega32u6
@@ -730,6 +896,10 @@ pub const ROWS: [Row; 73] = [
         has_elpm: false,
         has_break: true,
         reads_masks: true,
+        ivsel: Some(Ivsel {
+            address: 0x55,
+            bit: 1,
+        }),
         family: 5,
     },
     // atmega48pb
@@ -746,6 +916,7 @@ pub const ROWS: [Row; 73] = [
         has_elpm: false,
         has_break: true,
         reads_masks: true,
+        ivsel: None,
         family: 18,
     },
     // atmega64
@@ -762,6 +933,10 @@ pub const ROWS: [Row; 73] = [
         has_elpm: false,
         has_break: true,
         reads_masks: true,
+        ivsel: Some(Ivsel {
+            address: 0x55,
+            bit: 1,
+        }),
         family: 8,
     },
     // atmega640
@@ -778,6 +953,10 @@ pub const ROWS: [Row; 73] = [
         has_elpm: false,
         has_break: true,
         reads_masks: true,
+        ivsel: Some(Ivsel {
+            address: 0x55,
+            bit: 1,
+        }),
         family: 9,
     },
     // atmega644
@@ -794,6 +973,10 @@ pub const ROWS: [Row; 73] = [
         has_elpm: false,
         has_break: true,
         reads_masks: true,
+        ivsel: Some(Ivsel {
+            address: 0x55,
+            bit: 1,
+        }),
         family: 27,
     },
     // atmega644p
@@ -810,6 +993,10 @@ pub const ROWS: [Row; 73] = [
         has_elpm: false,
         has_break: true,
         reads_masks: true,
+        ivsel: Some(Ivsel {
+            address: 0x55,
+            bit: 1,
+        }),
         family: 16,
     },
     // atmega6450p
@@ -826,6 +1013,10 @@ pub const ROWS: [Row; 73] = [
         has_elpm: false,
         has_break: true,
         reads_masks: true,
+        ivsel: Some(Ivsel {
+            address: 0x55,
+            bit: 1,
+        }),
         family: 23,
     },
     // atmega645p
@@ -842,6 +1033,10 @@ pub const ROWS: [Row; 73] = [
         has_elpm: false,
         has_break: true,
         reads_masks: true,
+        ivsel: Some(Ivsel {
+            address: 0x55,
+            bit: 1,
+        }),
         family: 24,
     },
     // atmega6490p
@@ -858,6 +1053,10 @@ pub const ROWS: [Row; 73] = [
         has_elpm: false,
         has_break: true,
         reads_masks: true,
+        ivsel: Some(Ivsel {
+            address: 0x55,
+            bit: 1,
+        }),
         family: 25,
     },
     // atmega649p
@@ -874,6 +1073,10 @@ pub const ROWS: [Row; 73] = [
         has_elpm: false,
         has_break: true,
         reads_masks: true,
+        ivsel: Some(Ivsel {
+            address: 0x55,
+            bit: 1,
+        }),
         family: 26,
     },
     // atmega64c1
@@ -890,6 +1093,10 @@ pub const ROWS: [Row; 73] = [
         has_elpm: false,
         has_break: true,
         reads_masks: true,
+        ivsel: Some(Ivsel {
+            address: 0x55,
+            bit: 1,
+        }),
         family: 20,
     },
     // atmega8
@@ -906,6 +1113,10 @@ pub const ROWS: [Row; 73] = [
         has_elpm: false,
         has_break: false,
         reads_masks: true,
+        ivsel: Some(Ivsel {
+            address: 0x5B,
+            bit: 1,
+        }),
         family: 28,
     },
     // atmega8515
@@ -922,6 +1133,10 @@ pub const ROWS: [Row; 73] = [
         has_elpm: false,
         has_break: false,
         reads_masks: true,
+        ivsel: Some(Ivsel {
+            address: 0x5B,
+            bit: 1,
+        }),
         family: 29,
     },
     // atmega8535
@@ -938,6 +1153,10 @@ pub const ROWS: [Row; 73] = [
         has_elpm: false,
         has_break: false,
         reads_masks: true,
+        ivsel: Some(Ivsel {
+            address: 0x5B,
+            bit: 1,
+        }),
         family: 12,
     },
     // atmega88pb
@@ -954,6 +1173,10 @@ pub const ROWS: [Row; 73] = [
         has_elpm: false,
         has_break: true,
         reads_masks: true,
+        ivsel: Some(Ivsel {
+            address: 0x55,
+            bit: 1,
+        }),
         family: 18,
     },
     // attiny1634
@@ -970,6 +1193,7 @@ pub const ROWS: [Row; 73] = [
         has_elpm: false,
         has_break: true,
         reads_masks: true,
+        ivsel: None,
         family: 30,
     },
     // attiny167
@@ -986,6 +1210,7 @@ pub const ROWS: [Row; 73] = [
         has_elpm: false,
         has_break: true,
         reads_masks: true,
+        ivsel: None,
         family: 31,
     },
     // attiny4313
@@ -1002,6 +1227,7 @@ pub const ROWS: [Row; 73] = [
         has_elpm: false,
         has_break: true,
         reads_masks: true,
+        ivsel: None,
         family: 32,
     },
     // attiny43u
@@ -1018,6 +1244,7 @@ pub const ROWS: [Row; 73] = [
         has_elpm: false,
         has_break: true,
         reads_masks: true,
+        ivsel: None,
         family: 33,
     },
     // attiny44
@@ -1034,6 +1261,7 @@ pub const ROWS: [Row; 73] = [
         has_elpm: false,
         has_break: true,
         reads_masks: true,
+        ivsel: None,
         family: 34,
     },
     // attiny441
@@ -1050,6 +1278,7 @@ pub const ROWS: [Row; 73] = [
         has_elpm: false,
         has_break: true,
         reads_masks: true,
+        ivsel: None,
         family: 35,
     },
     // attiny45
@@ -1066,6 +1295,7 @@ pub const ROWS: [Row; 73] = [
         has_elpm: false,
         has_break: true,
         reads_masks: true,
+        ivsel: None,
         family: 36,
     },
     // attiny461
@@ -1082,6 +1312,7 @@ pub const ROWS: [Row; 73] = [
         has_elpm: false,
         has_break: true,
         reads_masks: true,
+        ivsel: None,
         family: 37,
     },
     // attiny48
@@ -1098,6 +1329,7 @@ pub const ROWS: [Row; 73] = [
         has_elpm: false,
         has_break: true,
         reads_masks: true,
+        ivsel: None,
         family: 38,
     },
     // attiny828
@@ -1114,6 +1346,10 @@ pub const ROWS: [Row; 73] = [
         has_elpm: false,
         has_break: true,
         reads_masks: true,
+        ivsel: Some(Ivsel {
+            address: 0x55,
+            bit: 1,
+        }),
         family: 39,
     },
     // attiny84
@@ -1130,6 +1366,7 @@ pub const ROWS: [Row; 73] = [
         has_elpm: false,
         has_break: true,
         reads_masks: true,
+        ivsel: None,
         family: 34,
     },
     // attiny841
@@ -1146,6 +1383,7 @@ pub const ROWS: [Row; 73] = [
         has_elpm: false,
         has_break: true,
         reads_masks: true,
+        ivsel: None,
         family: 35,
     },
     // attiny85
@@ -1162,6 +1400,7 @@ pub const ROWS: [Row; 73] = [
         has_elpm: false,
         has_break: true,
         reads_masks: true,
+        ivsel: None,
         family: 36,
     },
     // attiny861
@@ -1178,6 +1417,7 @@ pub const ROWS: [Row; 73] = [
         has_elpm: false,
         has_break: true,
         reads_masks: true,
+        ivsel: None,
         family: 37,
     },
     // attiny87
@@ -1194,6 +1434,7 @@ pub const ROWS: [Row; 73] = [
         has_elpm: false,
         has_break: true,
         reads_masks: true,
+        ivsel: None,
         family: 31,
     },
     // attiny88
@@ -1210,6 +1451,7 @@ pub const ROWS: [Row; 73] = [
         has_elpm: false,
         has_break: true,
         reads_masks: true,
+        ivsel: None,
         family: 38,
     },
 ];
@@ -1228,6 +1470,10 @@ pub const LAST: Row = Row {
     has_elpm: false,
     has_break: true,
     reads_masks: false,
+    ivsel: Some(Ivsel {
+        address: 0x55,
+        bit: 1,
+    }),
     family: 0,
 };
 
