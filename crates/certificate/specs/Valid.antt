@@ -3,13 +3,13 @@ use Rattle.std.specs.Prelude.{ℕ, ◌+◌, ◌≡◌, ◌<◌, ◌≤◌, List,
 use Rattle.avr_model.specs.declared.assumption.Entry.{Entry}
 use Rattle.avr_model.specs.Devices.{Program, device_of, size_of}
 use Rattle.avr_model.specs.declared.choice.Stop.TheVariants as stop
-use Rattle.mask_states.specs.declared.keys.EdgeKind.{EdgeKind}
 use Rattle.mask_states.specs.declared.keys.InstKey.{InstKey}
 use Rattle.mask_states.specs.declared.keys.SpForm.TheVariants.{Closed}
-use Rattle.mask_states.specs.Keys.{root_inst, entry_key, offset_of}
+use Rattle.mask_states.specs.Keys.{root_inst, entry_key}
 use Rattle.local_rules.specs.declared.local.Node.{Node}
 use Rattle.edge_rules.specs.declared.edge.Edge.{Edge}
-use Rattle.edge_rules.specs.Edges.{Enters, IsEdge, target}
+use Rattle.edge_rules.specs.Edges.{IsEdge, target}
+use Rattle.edge_rules.specs.Nest.{NestEdge}
 use Rattle.edge_rules.specs.Expansion.{IsFilled}
 use Rattle.edge_rules.specs.Roots.{root_of}
 use Rattle.edge_rules.specs.Families.{RankedFamily, IsCovered, AreFaultless}
@@ -31,17 +31,15 @@ reset_node A = record { key = entry_key root_inst; state = root_of A }
 abbrev pub AllLand : Task → List Node → Type 0
 AllLand task nodes = (n : Node) (e : Edge) → Contains nodes n → IsEdge task nodes n e → IsCovered nodes (target e)
 
--- 4: an instance's rank is above that of each instance that it enters
+-- 4: an instance's rank is above that of each instance that lies below it in the nest
 abbrev pub AreRanked : Task → Claim → List Node → Type 0
-AreRanked task c nodes = (n : Node) (way : EdgeKind) (inst : InstKey) (back : ℕ) → Contains nodes n → Enters task n way inst back
-    → rank_in c.instances inst < rank_in c.instances n.key.inst
+AreRanked task c nodes = (i j : InstKey) (depth : ℕ) → NestEdge task (Contains nodes) i j depth → rank_in c.instances j < rank_in c.instances i
 
--- This number is at least the offset of each closed node of the instance, and at least an entered instance's need plus the offset and two
--- bytes for the return address.
+-- This number is at least the offset of each closed node of the instance, and at least the need of each instance below it in the nest, plus
+-- its depth and two bytes for the return address.
 pub record Suffices (task : Task) (c : Claim) (nodes : List Node) (inst : InstKey) (need : ℕ) : Type 0 where
   pub offsets : (n : Node) (offset : ℕ) → Contains nodes n → n.key.inst ≡ inst → n.key.sp ≡ Closed offset → offset ≤ need
-  pub entered : (n : Node) (way : EdgeKind) (into : InstKey) (back : ℕ) → Contains nodes n → n.key.inst ≡ inst → Enters task n way into back
-      → offset_of n.key.sp + 2 + need_in c.instances into ≤ need
+  pub entered : (into : InstKey) (depth : ℕ) → NestEdge task (Contains nodes) inst into depth → depth + 2 + need_in c.instances into ≤ need
 
 -- 5: each instance's need suffices
 abbrev pub NeedsSuffice : Task → Claim → List Node → Type 0

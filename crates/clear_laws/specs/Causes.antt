@@ -1,7 +1,7 @@
 -- The possible causes of a flagged step. Source: own.
 use Rattle.std.specs.Prelude.{ℕ, ◌+◌, ◌-◌, ◌≡◌, ◌⊎◌, ◌&&◌, ◌||◌, Bool, true, not, Some, Contains}
 use Rattle.avr_model.specs.declared.choice.Flag.{Flag}
-use Rattle.avr_model.specs.declared.choice.Flag.TheVariants.{Live, Protected, Transfer}
+use Rattle.avr_model.specs.declared.choice.Flag.TheVariants.{Live, Protected, Transfer, Moved}
 use Rattle.avr_model.specs.declared.device.Device.{Device}
 use Rattle.avr_model.specs.declared.instruction.Instr.{Instr}
 use Rattle.avr_model.specs.Bits.{any_below}
@@ -13,7 +13,7 @@ use Rattle.abs_state.specs.declared.state.AbsState.{AbsState}
 use Rattle.local_rules.specs.declared.local.Node.{Node}
 use Rattle.edge_rules.specs.Families.{RankedFamily}
 use Rattle.clear_laws.specs.Aims.{may_write}
-use Rattle.clear_laws.specs.Clear.{IsClear, Store, store_at, is_flagged_address, is_transfer_listed}
+use Rattle.clear_laws.specs.Clear.{IsClear, Store, store_at, is_flagged_address, is_transfer_listed, calls_cut, may_move}
 use Rattle.local_rules.specs.Site.{Task}
 
 -- ---- the addresses of a store
@@ -41,33 +41,37 @@ may_write_live task bound store = may_write_stack (device_of task.flash) bound s
 
 -- ---- what may happen at a word
 
--- a node of the family at this word isn't clear, and its state and instruction pass the test
-pub record IsCause (task : Task) (f : RankedFamily) (pc : ℕ) (test : AbsState → Instr → Bool) : Type 0 where
+-- a node of the family at this word isn't clear, and it and its instruction pass the test
+pub record IsCause (task : Task) (f : RankedFamily) (pc : ℕ) (test : Node → Instr → Bool) : Type 0 where
   pub node : Node
   pub present : Contains f.nodes node
   pub is : node.key.pc ≡ pc
   pub unclear : IsClear task f node → ⊥
   pub instr : Instr
   pub instruction : instruction_at task.flash pc ≡ Some instr
-  pub passes : test node.state instr ≡ true
+  pub passes : test node instr ≡ true
 
 -- a store may write this protected address; a store may write a pushed byte; an indirect transfer may go to a word that its `jump` line
--- does not list
+-- does not list, or a call enters a word that has a `recur` line; IVSEL may be set
 abbrev pub MayWriteProtected : Task → RankedFamily → ℕ → ℕ → Type 0
-MayWriteProtected task f pc a = IsCause task f pc (λ s instr. may_write_protected task (store_at pc s instr) a)
+MayWriteProtected task f pc a = IsCause task f pc (λ (n : Node) instr. may_write_protected task (store_at pc n.state instr) a)
 
 abbrev pub MayWriteLive : Task → RankedFamily → ℕ → Type 0
-MayWriteLive task f pc = IsCause task f pc (λ s instr. may_write_live task f.bound (store_at pc s instr))
+MayWriteLive task f pc = IsCause task f pc (λ (n : Node) instr. may_write_live task f.bound (store_at pc n.state instr))
 
 abbrev pub MayGoUnlisted : Task → RankedFamily → ℕ → Type 0
-MayGoUnlisted task f pc = IsCause task f pc (λ s instr. not (is_transfer_listed task pc s instr))
+MayGoUnlisted task f pc = IsCause task f pc (λ (n : Node) instr. not (is_transfer_listed task pc n.state instr) || calls_cut task n)
+
+abbrev pub MayMove : Task → RankedFamily → ℕ → Type 0
+MayMove task f pc = IsCause task f pc (λ (n : Node) instr. may_move task n.key n.state instr)
 
 -- some cause holds
 abbrev pub HasCause : Task → RankedFamily → ℕ → Type 0
-HasCause task f pc = ((a : ℕ) × MayWriteProtected task f pc a) ⊎ (MayWriteLive task f pc ⊎ MayGoUnlisted task f pc)
+HasCause task f pc = ((a : ℕ) × MayWriteProtected task f pc a) ⊎ (MayWriteLive task f pc ⊎ (MayGoUnlisted task f pc ⊎ MayMove task f pc))
 
 -- the cause of a flag
 abbrev pub MayFlag : Task → RankedFamily → Flag → Type 0
 MayFlag task f (Live pc a) = MayWriteLive task f pc
 MayFlag task f (Protected pc a) = MayWriteProtected task f pc a
 MayFlag task f (Transfer pc target) = MayGoUnlisted task f pc
+MayFlag task f (Moved pc) = MayMove task f pc

@@ -1,37 +1,47 @@
 -- Clear nodes: no step can be flagged there. Source: own.
 use Rattle.std.specs.Prelude.{ℕ, ⊤, ◌+◌, ◌++◌, ◌∷◌, ◌≡◌, ◌≢◌, ◌<◌, ◌≤◌, ◌&&◌, ◌||◌, ◌==◌, Bool, true, false, not, nat_lt, nat_le, if◌then◌else◌, List, Option, Some, None, Contains}
+use Rattle.std.specs.List.{list_any}
 use Rattle.avr_model.specs.declared.assumption.Entry.{Entry}
 use Rattle.avr_model.specs.declared.choice.Choice.{Choice}
 use Rattle.avr_model.specs.declared.choice.Choice.TheVariants.{Take}
 use Rattle.avr_model.specs.declared.choice.Flag.{Flag}
-use Rattle.avr_model.specs.declared.choice.Flag.TheVariants.{Live, Protected, Transfer}
+use Rattle.avr_model.specs.declared.choice.Flag.TheVariants.{Live, Protected, Transfer, Moved}
 use Rattle.avr_model.specs.declared.choice.Stop.TheVariants as stop
 use Rattle.avr_model.specs.declared.device.Device.{Device}
 use Rattle.avr_model.specs.declared.instruction.Instr.{Instr}
 use Rattle.avr_model.specs.declared.instruction.Instr.TheVariants as i
-use Rattle.avr_model.specs.Assumptions.{jump_line, store_line, is_never, is_fixed_site, lists}
+use Rattle.avr_model.specs.Assumptions.{jump_line, store_line, recur_line, is_never, is_fixed_site, lists}
 use Rattle.avr_model.specs.Bits.{all_below}
 use Rattle.avr_model.specs.Masks.{admits_enables}
-use Rattle.avr_model.specs.Devices.{io_end, ramend, wrapped, device_of}
-use Rattle.avr_model.specs.Sites.{instruction_at}
+use Rattle.avr_model.specs.declared.rows.Ivsel.{Ivsel}
+use Rattle.avr_model.specs.Devices.{device_row, io_end, ramend, wrapped, device_of}
+use Rattle.avr_model.specs.Effects.{port}
+use Rattle.avr_model.specs.Sites.{instruction_at, base_register, pointer_register}
 use Rattle.avr_model.specs.State.{State, IsReset, low, high}
 use Rattle.avr_model.specs.Step.{is_pointer_store, is_indirect}
 use Rattle.avr_model.specs.Run.{IsRun, stop_of}
 use Rattle.avr_model.specs.Vectors.{is_core, is_protected, is_enabled, vector_word}
 use Rattle.bit_domain.specs.declared.bytes.TriByte.{TriByte}
-use Rattle.bit_domain.specs.TriByte.{has, byte_any}
+use Rattle.bit_domain.specs.Tri.{permits}
+use Rattle.bit_domain.specs.TriByte.{has, tri_at, byte_any}
 use Rattle.pair_domain.specs.declared.facts.PairFacts.{PairFacts}
 use Rattle.pair_domain.specs.Facts.{is_followed}
 use Rattle.abs_state.specs.declared.state.AbsState.{AbsState}
+use Rattle.mask_states.specs.declared.keys.NodeKey.{NodeKey}
 use Rattle.mask_states.specs.Keys.{offset_of}
 use Rattle.mask_states.specs.Wakes.{may_enable_barred}
 use Rattle.local_rules.specs.declared.local.Node.{Node}
+use Rattle.local_rules.specs.declared.local.CallSite.{CallSite}
+use Rattle.local_rules.specs.Local.{step_before}
+use Rattle.local_rules.specs.Reads.{pointed}
 use Rattle.local_rules.specs.Registers.{bits}
+use Rattle.local_rules.specs.Writes.{is_own_slot}
+use Rattle.edge_rules.specs.Edges.{raw_of}
 use Rattle.edge_rules.specs.Families.{RankedFamily}
 use Rattle.clear_laws.specs.Aims.{Span, Reach, Aim, permits_number, may_write, aim_of}
 use Rattle.clear_laws.specs.Aims.reach as reach
 use Rattle.clear_laws.specs.Held.{MayHold}
-use Rattle.local_rules.specs.Site.{Task}
+use Rattle.local_rules.specs.Site.{Task, masks_by}
 
 -- ---- stores
 
@@ -86,7 +96,40 @@ pub data IsHarmless (task : Task) (f : RankedFamily) (n : Node) (instr : Instr) 
       → ((a : ℕ) → a < 65536 → may_write n.state instr a ≡ true → is_address_harmless task f.bound (store_at n.key.pc n.state instr) a ≡ true) → IsHarmless task f n instr aim
   free_slot : (d : ℕ) → aim.slot ≡ Some d → d < offset_of n.key.sp → (MayHold task f.nodes n.key d → ⊥) → IsHarmless task f n instr aim
 
+-- ---- IVSEL
+
+-- The byte of the instruction may go to this address: `out` and `sts` write theirs, `st` and `std` what the pointer permits, unless it is
+-- known to be a slot of the running frame.
+abbrev pub may_reach : NodeKey → AbsState → Instr → ℕ → Bool
+may_reach k s (i.Out p r) a = port p == a
+may_reach k s (i.Sts x r) a = x == a
+may_reach k s (i.Std b q r) a = may_write s (i.Std b q r) a && not (is_own_slot (pointed s (base_register b) q).frame (offset_of k.sp))
+may_reach k s (i.St p r) a = may_write s (i.St p r) a && not (is_own_slot (pointed s (pointer_register p) (step_before p)).frame (offset_of k.sp))
+may_reach k s _ a = false
+
+-- the bits of its byte
+abbrev pub written_bits : AbsState → Instr → TriByte
+written_bits s (i.Out p r) = bits s r
+written_bits s (i.Sts a r) = bits s r
+written_bits s instr = stored_bits s instr
+
+abbrev pub may_set : Option Ivsel → (ℕ → Bool) → TriByte → Bool
+may_set None reaches value = false
+may_set (Some v) reaches value = reaches v.address && permits (tri_at value v.bit) 1
+
+-- the instruction may set IVSEL, under a list that reads masks
+abbrev pub may_move : Task → NodeKey → AbsState → Instr → Bool
+may_move task k s instr = masks_by task && may_set (device_row (device_of task.flash)).ivsel (may_reach k s instr) (written_bits s instr)
+
 -- ---- transfers
+
+abbrev pub has_depth : Option ℕ → Bool
+has_depth None = false
+has_depth (Some depth) = true
+
+-- the node calls a word that has a `recur` line
+abbrev pub calls_cut : Task → Node → Bool
+calls_cut task n = list_any (λ (c : CallSite). has_depth (recur_line task.assumptions c.entry)) (raw_of task n).calls
 
 -- registers r and r + 1 may hold this number: by their bits alone, and if pairs are followed also by their ranges and interval
 abbrev pub permits_by : Option PairFacts → AbsState → ℕ → ℕ → Bool
@@ -103,12 +146,15 @@ AreTargetsListed device s (Some listed) = (z : ℕ) → z < 65536 → permits_pa
 
 -- ---- nodes
 
--- A store is harmless. An indirect transfer with a `jump` line goes to listed words only.
+-- A store is harmless. An indirect transfer with a `jump` line goes to listed words only. No call enters a word with a `recur` line. IVSEL
+-- isn't set.
 pub record IsClear (task : Task) (f : RankedFamily) (n : Node) : Type 0 where
   pub store : (instr : Instr) (aim : Aim) → instruction_at task.flash n.key.pc ≡ Some instr → aim_of (device_of task.flash) n.key n.state instr ≡ Some aim
       → IsHarmless task f n instr aim
   pub transfer : (instr : Instr) → instruction_at task.flash n.key.pc ≡ Some instr → is_indirect instr ≡ true
       → AreTargetsListed (device_of task.flash) n.state (jump_line task.assumptions n.key.pc)
+  pub calls : calls_cut task n ≡ false
+  pub stays : (instr : Instr) → instruction_at task.flash n.key.pc ≡ Some instr → may_move task n.key n.state instr ≡ false
 
 -- a node of the family at this word that isn't clear
 pub record MayBeFlagged (task : Task) (f : RankedFamily) (pc : ℕ) : Type 0 where
@@ -182,7 +228,7 @@ abbrev pub is_clear_by : Task → ℕ → Node → (ℕ → Bool) → Option Ins
 is_clear_by task bound n held None = true
 is_clear_by task bound n held (Some instr) =
     is_aim_harmless task bound (store_at n.key.pc n.state instr) (is_slot_harmless (offset_of n.key.sp) held) (aim_of (device_of task.flash) n.key n.state instr)
-    && is_transfer_listed task n.key.pc n.state instr
+    && is_transfer_listed task n.key.pc n.state instr && not (calls_cut task n) && not (may_move task n.key n.state instr)
 
 abbrev pub is_clear : Task → ℕ → Node → (ℕ → Bool) → Bool
 is_clear task bound n held = is_clear_by task bound n held (instruction_at task.flash n.key.pc)
@@ -194,6 +240,7 @@ abbrev pub word_of_flag : Flag → ℕ
 word_of_flag (Live pc a) = pc
 word_of_flag (Protected pc a) = pc
 word_of_flag (Transfer pc target) = pc
+word_of_flag (Moved pc) = pc
 
 -- no run from reset is flagged
 abbrev pub NeverFlagged : Task → Type 0

@@ -11,6 +11,8 @@ pub struct FlaggedPlace {
     pub protected: Listed<u16>,
     /// Whether a store may write a pushed byte.
     pub live: bool,
-    /// Whether an indirect transfer may go to a word that its `jump` line does not list.
+    /// Whether an indirect transfer may go to a word that its `jump` line does not list, or a call enters a word that has a `recur` line.
     pub transfer: bool,
+    /// Whether IVSEL may be set.
+    pub moves: bool,
 }

@@ -1,5 +1,5 @@
 -- The frames of a machine's state: the running one, and those suspended by a call or an interrupt, the latest first. Source: own.
-use Rattle.std.specs.Prelude.{ℕ, ◌+◌, ◌-◌, ◌≡◌, ◌<◌, ⊤, Bool, true, List, [], ◌∷◌, length, Some, Contains}
+use Rattle.std.specs.Prelude.{ℕ, ◌+◌, ◌-◌, ◌≡◌, ◌<◌, ◌≤◌, ⊤, Bool, true, List, [], ◌∷◌, length, Some, Contains}
 use Rattle.avr_model.specs.Devices.{ramend, device_of}
 use Rattle.avr_model.specs.Assumptions.{has_pairs}
 use Rattle.avr_model.specs.Masks.{reads_masks}
@@ -41,7 +41,8 @@ pub record Frame : Type 0 where
 
 -- The frame is suspended by the entry of this instance with this origin, and what it needs later holds: its registers and flags are the
 -- entry values of the next frame; its guarded slots are live and hold bytes of their values; its stack pointer was whole, and the next
--- base is two below; the two bytes between are live and hold the return address, the low byte at the higher address.
+-- base is two below; the two bytes between are live and hold the return address, the low byte at the higher address; below that base the
+-- bound leaves room for the need of the entered instance.
 pub record IsLeft (task : Task) (f : RankedFamily) (memory : Memory) (g : Frame) (inst : InstKey) (o : Origin) : Type 0 where
   pub present : Contains f.nodes g.node
   pub registers : RegistersStand g.origin g.node.state.registers o.registers
@@ -55,7 +56,7 @@ pub record IsLeft (task : Task) (f : RankedFamily) (memory : Memory) (g : Frame)
   pub way : EdgeKind
   pub back : ℕ
   pub enters : Enters task g.node way inst back
-  pub rank : f.rank_of inst < f.rank_of g.node.key.inst
+  pub need : (ramend (device_of task.flash) - o.base) + f.need_of inst ≤ f.bound
   pub low_byte : byte_in memory.below memory.bytes (o.base + 2) ≡ low back
   pub high_byte : byte_in memory.below memory.bytes (o.base + 1) ≡ high back
   pub low_live : is_live memory (o.base + 2) ≡ true

@@ -1,14 +1,15 @@
 -- The graph of a family of nodes: its instances and their entries. Source: own.
-use Rattle.std.specs.Prelude.{ℕ, ◌≡◌, ◌<◌, ◌↔◌, List, [], length, map, Contains, Some, slice_get, slice_index_or}
+use Rattle.std.specs.Prelude.{ℕ, ◌≡◌, ◌<◌, ◌↔◌, ◌⊎◌, None, List, [], length, map, Contains, Some, slice_get, slice_index_or}
 use Rattle.std.specs.List.Sorted.{IsStrictlySortedBy}
 use Rattle.mask_states.specs.declared.keys.EdgeKind.{EdgeKind}
 use Rattle.mask_states.specs.declared.keys.InstKey.{InstKey}
 use Rattle.mask_states.specs.declared.keys.SpForm.TheVariants.{Closed}
-use Rattle.mask_states.specs.Keys.{entry_key}
+use Rattle.mask_states.specs.Keys.{root_inst, entry_key, cut_at}
 use Rattle.mask_states.specs.Order.{inst_cmp}
 use Rattle.local_rules.specs.declared.local.Node.{Node}
 use Rattle.local_laws.specs.Laws.{HasKey}
 use Rattle.edge_rules.specs.Edges.{Enters}
+use Rattle.nesting_bound.specs.declared.graph.Way.TheVariants.{Enters as Entry, Recur}
 use Rattle.family_graph.specs.declared.entering.Entering.{Entering}
 use Rattle.nesting_bound.specs.declared.graph.Entered.{Entered}
 use Rattle.nesting_bound.specs.declared.graph.GraphInst.{GraphInst}
@@ -48,14 +49,24 @@ pub record IsGraphPlace (nodes : List Node) (inst : InstKey) (p : Place) : Type 
   pub same : node.key.inst ≡ inst
   pub closed : node.key.sp ≡ Closed p.offset
 
--- the edge's node belongs to the first instance, and enters the second in this way
+-- the edge's node belongs to the first instance, and enters the second, which isn't cut, in this way
 pub record IsEntryOf (task : Task) (nodes : List Node) (inst into : InstKey) (e : Entered) : Type 0 where
   pub node : Node
   pub at : slice_get nodes e.node ≡ Some node
   pub same : node.key.inst ≡ inst
   pub closed : node.key.sp ≡ Closed e.offset
+  pub kind : EdgeKind
+  pub way : e.way ≡ Entry kind
   pub back : ℕ
-  pub enters : Enters task node e.kind into back
+  pub enters : Enters task node kind into back
+  pub whole : cut_at task.assumptions into ≡ None
+
+-- the edge is the recur edge of the root to the second instance, which is cut at this depth
+pub record IsRecurOf (task : Task) (nodes : List Node) (inst into : InstKey) (e : Entered) : Type 0 where
+  pub root : inst ≡ root_inst
+  pub way : e.way ≡ Recur
+  pub behind : e.node ≡ length nodes
+  pub cut : cut_at task.assumptions into ≡ Some e.offset
 
 -- the place belongs to the instance of this number
 pub record HasPlaceOf (nodes : List Node) (insts : List InstKey) (i : ℕ) (p : Place) : Type 0 where
@@ -69,10 +80,11 @@ pub record HasEntryOf (task : Task) (nodes : List Node) (insts : List InstKey) (
   pub is : slice_get insts i ≡ Some inst
   pub into : InstKey
   pub leads : slice_get insts e.into ≡ Some into
-  pub entry : IsEntryOf task nodes inst into e
+  pub edge : IsEntryOf task nodes inst into e ⊎ IsRecurOf task nodes inst into e
 
 -- The graph's instances are those with nodes, numbered in the order of keys. An instance's places are its nodes with a whole stack
--- pointer, and its edges are the entries by its nodes. Nodes are named by their numbers in the family.
+-- pointer, and its edges are the entries by its nodes into instances that aren't cut; the root has an edge to each cut one besides. Nodes
+-- are named by their numbers in the family.
 pub record IsGraphOf (task : Task) (nodes : List Node) (gs : List GraphInst) : Type 0 where
   pub ascending : IsStrictlySortedBy inst_cmp (insts_of gs)
   pub insts : (inst : InstKey) → Contains (insts_of gs) inst ↔ HasInst nodes inst

@@ -1,16 +1,14 @@
 -- A node's local part covers a step of the machine in the node's frame.
-use Rattle.std.specs.Prelude.{ℕ, ◌+◌, ◌^◌, ◌%◌, ◌≡◌, ◌≢◌, ◌<◌, ◌≤◌, ⊤, Bool, true, false, not, [], Option, Some, None, Contains}
+use Rattle.std.specs.Prelude.{ℕ, ◌+◌, ◌^◌, ◌%◌, ◌≡◌, ◌≢◌, ◌<◌, ◌≤◌, ⊤, Bool, true, false, [], Option, Some, None, Contains}
 use Rattle.avr_model.specs.declared.device.Device.{Device}
 use Rattle.avr_model.specs.declared.effect.Effect.{Effect}
 use Rattle.avr_model.specs.declared.instruction.Instr.{Instr}
 use Rattle.avr_model.specs.Devices.{io_end, size_of, ramend, wrapped, limit_of, depth_of, device_of}
 use Rattle.avr_model.specs.Sreg.{flag}
-use Rattle.avr_model.specs.Masks.{reads_masks}
 use Rattle.avr_model.specs.Vectors.{enable_count}
-use Rattle.avr_model.specs.Sites.{is_scratch}
 use Rattle.avr_model.specs.State.{State, plus16}
 use Rattle.avr_model.specs.Effects.{effect_of, calling, popped_word}
-use Rattle.avr_model.specs.Step.{after, all_inside, protected_write, unlisted_transfer}
+use Rattle.avr_model.specs.Step.{after, all_inside, protected_write, unlisted_transfer, is_guarding}
 use Rattle.sp_domain.specs.Tags.{Origin, LessHolds, HasByteNumbers}
 use Rattle.pair_domain.specs.Facts.{is_followed}
 use Rattle.abs_state.specs.declared.state.AbsState.{AbsState}
@@ -28,7 +26,7 @@ use Rattle.mask_states.specs.declared.keys.SpForm.{SpForm}
 use Rattle.mask_states.specs.declared.keys.SpForm.TheVariants.{Closed, Open}
 use Rattle.mask_states.specs.Keys.{offset_of, PickFits}
 use Rattle.mask_states.specs.Place.{EnablesAre, AtNode}
-use Rattle.local_rules.specs.Site.{Task}
+use Rattle.local_rules.specs.Site.{Task, masks_by}
 use Rattle.local_rules.specs.declared.local.Node.{Node}
 use Rattle.local_rules.specs.declared.local.Local.{Local}
 use Rattle.local_rules.specs.declared.local.CallSite.{CallSite}
@@ -127,7 +125,7 @@ pub record ArrivesAt (may : Bool) (m : State) (o : Origin) (guarded : Bool) (e :
 
 -- the effect is a return with this exit: it goes to the popped word, and keeps registers, flags 0 to 6 and memory
 pub record IsReturn (may : Bool) (m : State) (b1 b2 : ℕ) (x : Exit) (e : Effect) : Type 0 where
-  pub pc : e.pc ≡ wrapped m.device (popped_word m b1 b2)
+  pub pc : e.pc ≡ wrapped m.device (popped_word may m b1 b2)
   pub registers : e.registers ≡ []
   pub flags : e.sreg % 128 ≡ m.sreg % 128
   pub i : flag e.sreg 7 ≡ x.i
@@ -145,13 +143,17 @@ pub data Follows (may : Bool) (m : State) (o : Origin) (k : NodeKey) (guarded : 
       → Follows may m o k guarded b1 b2 e r
   leaves : (x : Exit) → r.exit ≡ Some x → k.inst.kind ≢ Root → k.sp ≡ Closed 0 → IsReturn may m b1 b2 x e → Follows may m o k guarded b1 b2 e r
 
+-- the effect of an instruction under the list
+abbrev pub effect_by : Task → State → Instr → ℕ → ℕ → Effect
+effect_by task m instr b1 b2 = effect_of task.flash (masks_by task) m instr b1 b2
+
 -- If the local part has no fault, the instruction exists, and its effect is covered unless it is flagged for a protected address or an
 -- unlisted word.
 abbrev pub CoversStep : Task → State → Origin → NodeKey → ℕ → ℕ → Option Instr → Raw → Type 0
 CoversStep task m o k b1 b2 None r = r.faults ≡ [] → ⊥
 CoversStep task m o k b1 b2 (Some instr) r =
-    r.faults ≡ [] → IsUnflagged task m instr (effect_of task.flash m instr b1 b2)
-    → Follows (reads_masks (device_of task.flash) task.assumptions) m o k (not (is_scratch task.flash m.pc)) b1 b2 (effect_of task.flash m instr b1 b2) r
+    r.faults ≡ [] → IsUnflagged task m instr (effect_by task m instr b1 b2)
+    → Follows (masks_by task) m o k (is_guarding task.flash task.assumptions m.pc instr) b1 b2 (effect_by task m instr b1 b2) r
 
 -- a step of the machine that the local part has
 pub data IsStep (may : Bool) (m : State) (o : Origin) (k : NodeKey) (b1 b2 : ℕ) (l : Local) (n : State) : Type 0 where

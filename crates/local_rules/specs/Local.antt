@@ -1,5 +1,5 @@
 -- The successors of a node in its own frame. Source: own.
-use Rattle.std.specs.Prelude.{ℕ, zero, suc, ◌+◌, ◌*◌, ◌&&◌, Bool, true, false, not, nat_lt, nat_le, if◌then◌else◌, List, [], ◌∷◌, ◌++◌, length, map, filter, flat_map, Option, Some, None, Result, Ok, Err, slice_set}
+use Rattle.std.specs.Prelude.{ℕ, zero, suc, ◌+◌, ◌*◌, ◌&&◌, ◌||◌, Bool, true, false, not, nat_lt, nat_le, if◌then◌else◌, List, [], ◌∷◌, ◌++◌, length, map, filter, flat_map, Option, Some, None, Result, Ok, Err, slice_set}
 use Rattle.std.specs.declared.cmp.Ordering.{Ordering}
 use Rattle.std.specs.declared.cmp.Ordering.TheVariants.{Less, Equal, Greater}
 use Rattle.avr_model.specs.declared.device.Device.{Device}
@@ -16,7 +16,7 @@ use Rattle.avr_model.specs.declared.operation.Mul.TheVariants as product
 use Rattle.avr_model.specs.Devices.{Program, words_of, size_of, wrapped, device_of}
 use Rattle.avr_model.specs.Marks.{marks}
 use Rattle.avr_model.specs.Text.{far, near}
-use Rattle.avr_model.specs.Assumptions.{jump_line, is_never, is_frame}
+use Rattle.avr_model.specs.Assumptions.{jump_line, is_never, is_frame, has_scratch}
 use Rattle.avr_model.specs.Masks.{reads_masks}
 use Rattle.avr_model.specs.Bits.{any_below}
 use Rattle.avr_model.specs.Vectors.{is_enabled, last_vector, vector_word}
@@ -181,7 +181,7 @@ memory_row task scratch at (i.ElpmZ d) = setting at (set at.state d unknown) at.
 memory_row task scratch at (i.ElpmZPlus d) = setting at (slice_set (pair_moved at.state 30 true 1) d unknown) at.state.flags
 memory_row task scratch at i.Elpm = setting at (set at.state 0 unknown) at.state.flags
 memory_row task scratch at (i.Pop d) = pop_row at d
-memory_row task scratch at (i.Push r) = push_row scratch at r
+memory_row task scratch at (i.Push r) = push_row (scratch || has_scratch task.assumptions at.key.pc) at r
 memory_row task scratch at (i.In d a) = read_row task.assumptions at 1 d (port a)
 memory_row task scratch at (i.Out a r) = known_write at true (port a) r
 memory_row task scratch at (i.Cbi a b) = bit_row at (port a) b false

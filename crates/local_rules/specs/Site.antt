@@ -1,8 +1,9 @@
 -- What is analysed, and where an instruction executes. Source: own.
-use Rattle.std.specs.Prelude.{List, []}
+use Rattle.std.specs.Prelude.{Bool, List, []}
 use Rattle.avr_model.specs.declared.device.Device.{Device}
 use Rattle.avr_model.specs.declared.assumption.Entry.{Entry}
-use Rattle.avr_model.specs.Devices.{Program}
+use Rattle.avr_model.specs.Devices.{Program, device_of}
+use Rattle.avr_model.specs.Masks.{reads_masks}
 use Rattle.abs_state.specs.declared.state.AbsState.{AbsState}
 use Rattle.mask_states.specs.declared.keys.NodeKey.{NodeKey}
 
@@ -22,6 +23,10 @@ site_at device k s = record { device = device; key = k; state = s }
 
 abbrev pub task_with : Program → List Entry → Task
 task_with words A = record { flash = words; assumptions = A }
+
+-- the list is read as if it had the line `masks`
+abbrev pub masks_by : Task → Bool
+masks_by task = reads_masks (device_of task.flash) task.assumptions
 
 -- a firmware without assumptions
 abbrev pub bare : Program → Task

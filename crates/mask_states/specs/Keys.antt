@@ -1,6 +1,8 @@
 -- Keys of instances and nodes, and the numbers that identify them.
 use Rattle.std.specs.Prelude.{ℕ, ◌<◌, ⊤, false, List, [], ◌∷◌, ◌++◌, Option, Some, None}
 use Rattle.std.specs.Int.{from_bool}
+use Rattle.avr_model.specs.declared.assumption.Entry.{Entry}
+use Rattle.avr_model.specs.Assumptions.{recur_line}
 use Rattle.mask_states.specs.declared.keys.Kind.{Kind}
 use Rattle.mask_states.specs.declared.keys.Kind.TheVariants.{Root, Call, Vector}
 use Rattle.mask_states.specs.declared.keys.InstKey.{InstKey}
@@ -27,6 +29,16 @@ root_inst = record { kind = Root; entry = 0; masks = 0; i = false }
 -- the first node of an instance
 abbrev pub entry_key : InstKey → NodeKey
 entry_key inst = record { inst = inst; pc = inst.entry; masks = inst.masks; i = inst.i; delay = false; sp = Closed 0; pick = None }
+
+abbrev pub if_called : Kind → Option ℕ → Option ℕ
+if_called Root line = None
+if_called Call line = line
+if_called (Vector v) line = None
+
+-- The depth of the `recur` line of the word that the instance's call enters. An instance with one is cut: its calls are bounded by the line
+-- and not by their callers.
+unfoldable pub cut_at : List Entry → InstKey → Option ℕ
+cut_at A inst = if_called inst.kind (recur_line A inst.entry)
 
 -- ---- the numbers that tell a key
 

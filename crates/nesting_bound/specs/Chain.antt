@@ -8,6 +8,8 @@ use Rattle.std.specs.declared.cmp.Ordering.TheVariants.{Less}
 use Rattle.mask_states.specs.declared.keys.EdgeKind.{EdgeKind}
 use Rattle.mask_states.specs.declared.keys.EdgeKind.TheVariants.{Local, Call, Interrupt, Return}
 use Rattle.nesting_bound.specs.declared.graph.Entered.{Entered}
+use Rattle.nesting_bound.specs.declared.graph.Way.{Way}
+use Rattle.nesting_bound.specs.declared.graph.Way.TheVariants.{Enters, Recur}
 use Rattle.nesting_bound.specs.declared.graph.GraphInst.{GraphInst}
 use Rattle.nesting_bound.specs.declared.graph.Link.{Link}
 use Rattle.nesting_bound.specs.declared.graph.Place.{Place}
@@ -20,14 +22,19 @@ kind_numbers Call = 1 ∷ 0 ∷ 0 ∷ []
 kind_numbers (Interrupt v clears) = 2 ∷ v ∷ from_bool clears ∷ []
 kind_numbers Return = 3 ∷ 0 ∷ 0 ∷ []
 
+-- recur edges last: their node is the number of all nodes
+abbrev pub way_numbers : Way → List ℕ
+way_numbers (Enters kind) = kind_numbers kind
+way_numbers Recur = 4 ∷ 0 ∷ 0 ∷ []
+
 -- the word at which an instance begins
 abbrev pub entry_of : Option GraphInst → ℕ
 entry_of None = 0
 entry_of (Some inst) = inst.key.entry
 
--- the numbers that order edges: node, kind, target, and the number of the entered instance
+-- the numbers that order edges: node, way, target, and the number of the entered instance
 unfoldable pub turn_of : List GraphInst → Entered → List ℕ
-turn_of gs e = e.node ∷ kind_numbers e.kind ++ entry_of (slice_get gs e.into) ∷ e.into ∷ []
+turn_of gs e = e.node ∷ way_numbers e.way ++ entry_of (slice_get gs e.into) ∷ e.into ∷ []
 
 -- the first difference decides
 unfoldable pub edge_cmp : List GraphInst → Entered → Entered → Ordering
@@ -58,10 +65,10 @@ IsDeepEdge gs needs i e = EntersAlong gs i e × (e.offset + 2 + slice_index need
 -- one; else it follows the least edge that attains the need.
 pub data IsChainFrom (gs : List GraphInst) (needs : List ℕ) : ℕ → ℕ → List Link → Type 0 where
   ends : (i above : ℕ) (p : Place) → IsFirst (IsDeepPlace gs needs i) IsPlaceUpTo p
-      → IsChainFrom gs needs i above (record { inst = i; node = p.node; depth = above + p.offset; kind = None } ∷ [])
+      → IsChainFrom gs needs i above (record { inst = i; node = p.node; depth = above + p.offset; way = None } ∷ [])
   goes : (i above : ℕ) (e : Entered) (rest : List Link) → ((p : Place) → IsDeepPlace gs needs i p → ⊥) → IsFirst (IsDeepEdge gs needs i) (IsEdgeUpTo gs) e
       → IsChainFrom gs needs e.into (above + e.offset + 2) rest
-      → IsChainFrom gs needs i above (record { inst = i; node = e.node; depth = above + e.offset; kind = Some e.kind } ∷ rest)
+      → IsChainFrom gs needs i above (record { inst = i; node = e.node; depth = above + e.offset; way = Some e.way } ∷ rest)
 
 -- the chain from the root
 abbrev pub IsChain : List GraphInst → List ℕ → List Link → Type 0

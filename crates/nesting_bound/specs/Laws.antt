@@ -34,7 +34,7 @@ pub record EndsAt (links : List Link) (depth : ℕ) : Type 0 where
   pub front : List Link
   pub end : Link
   pub is : links ≡ front ++ end ∷ []
-  pub last : end.kind ≡ None
+  pub last : end.way ≡ None
   pub deep : end.depth ≡ depth
 
 -- a chain ends at the depth of the root's need, so the need is attained

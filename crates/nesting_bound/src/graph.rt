@@ -12,15 +12,24 @@ pub struct Place {
     pub offset: u16,
 }
 
-/// An edge from a node into another instance.
+/// How an instance lies below another one.
+#[derive(Clone, Copy)]
+pub enum Way {
+    /// A node enters it, by a call or an interrupt.
+    Enters(EdgeKind),
+    /// The root has it at the depth of its `recur` line.
+    Recur,
+}
+
+/// An edge into another instance.
 #[derive(Clone, Copy)]
 pub struct Entered {
-    /// The number of the node.
+    /// The number of the node; of a recur edge, the number of all nodes.
     pub node: u32,
-    /// The offset below the instance's base in bytes, at most 16,384.
+    /// How many bytes are below the instance's base there, at most 16,384.
     pub offset: u16,
-    /// The kind: a call or an interrupt.
-    pub kind: EdgeKind,
+    /// How it leads there.
+    pub way: Way,
     /// The number of the entered instance.
     pub into: u32,
 }
@@ -48,10 +57,10 @@ pub struct Graph {
 pub struct Link {
     /// The number of the instance.
     pub inst: u32,
-    /// The number of the node.
+    /// The number of the node; at a recur edge, the number of all nodes.
     pub node: u32,
-    /// How many bytes the stack pointer is below the root's base there.
+    /// How many bytes are below the root's base there.
     pub depth: u16,
-    /// The kind of entry of the next instance; `None` at the end.
-    pub kind: Option<EdgeKind>,
+    /// The way to the next instance; `None` at the end.
+    pub way: Option<Way>,
 }

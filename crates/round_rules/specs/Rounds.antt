@@ -5,28 +5,21 @@ use Rattle.avr_model.specs.declared.assumption.Entry.{Entry}
 use Rattle.avr_model.specs.Assumptions.{has_pairs}
 use Rattle.avr_model.specs.Devices.{device_of, size_of}
 use Rattle.mask_states.specs.declared.keys.InstKey.{InstKey}
-use Rattle.mask_states.specs.declared.keys.EdgeKind.{EdgeKind}
 use Rattle.mask_states.specs.declared.keys.SpForm.TheVariants.{Closed}
-use Rattle.mask_states.specs.Keys.{root_inst, entry_key, offset_of}
+use Rattle.mask_states.specs.Keys.{root_inst, entry_key}
 use Rattle.local_rules.specs.declared.local.Node.{Node}
-use Rattle.edge_rules.specs.Edges.{Enters}
+use Rattle.edge_rules.specs.Nest.{NestEdge}
 use Rattle.edge_rules.specs.Roots.{root_of}
 use Rattle.round_rules.specs.Families.{Family, FamilyHas, Below, AreFormed, HasNoFault, LandIn, IsClosed, FitsLimits}
 use Rattle.local_rules.specs.Site.{Task}
 
--- ---- which instance enters which
+-- ---- which instance lies below which
 
--- a node of the first instance, with this offset, enters the second
-pub record Entering (task : Task) (f : Family) (i j : InstKey) (offset : ℕ) : Type 0 where
-  pub node : Node
-  pub has : FamilyHas f node
-  pub same : node.key.inst ≡ i
-  pub at : offset_of node.key.sp ≡ offset
-  pub way : EdgeKind
-  pub back : ℕ
-  pub enters : Enters task node way j back
+-- the second instance lies below the first in the nest of the family, at this depth
+abbrev pub Entering : Task → Family → InstKey → InstKey → ℕ → Type 0
+Entering task f i j depth = NestEdge task (FamilyHas f) i j depth
 
--- one or more entries lead from the first instance to the second
+-- one or more edges of the nest lead from the first instance to the second
 pub data Reaches (task : Task) (f : Family) : InstKey → InstKey → Type 0 where
   once : (i j : InstKey) (offset : ℕ) → Entering task f i j offset → Reaches task f i j
   more : (i j k : InstKey) (offset : ℕ) → Entering task f i j offset → Reaches task f j k → Reaches task f i k
@@ -34,12 +27,12 @@ pub data Reaches (task : Task) (f : Family) : InstKey → InstKey → Type 0 whe
 abbrev pub IsAcyclic : Task → Family → Type 0
 IsAcyclic task f = (i : InstKey) → Reaches task f i i → ⊥
 
--- an instance's rank is above that of each instance that it enters
+-- an instance's rank is above that of each instance that lies below it
 abbrev pub AreRanks : Task → Family → (InstKey → ℕ) → Type 0
 AreRanks task f rank = (i j : InstKey) (offset : ℕ) → Entering task f i j offset → rank j < rank i
 
--- An instance's need is at least the offset of each of its closed nodes, and at least an entered instance's need plus the offset and two
--- bytes for the return address. An instance without nodes may have any need.
+-- An instance's need is at least the offset of each of its closed nodes, and at least the need of each instance below it plus its depth
+-- and two bytes for the return address. An instance without nodes may have any need.
 pub record AreNeeds (task : Task) (f : Family) (need : InstKey → ℕ) : Type 0 where
   pub offsets : (n : Node) (offset : ℕ) → FamilyHas f n → n.key.sp ≡ Closed offset → offset ≤ need n.key.inst
   pub entered : (i j : InstKey) (offset : ℕ) → Entering task f i j offset → offset + 2 + need j ≤ need i
