@@ -1,5 +1,5 @@
 -- A digest of a state. Different states rarely share one.
-use Rattle.std.specs.Prelude.{ℕ, suc, ◌≡◌, ◌<◌, ◌+◌, ◌*◌, ◌%◌, ◌^◌, cond, List, [], ◌∷◌, length, fold, Option, Some, None}
+use Rattle.std.specs.Prelude.{ℕ, suc, ◌≡◌, ◌<◌, ◌+◌, ◌*◌, ◌/◌, ◌%◌, ◌^◌, cond, List, [], ◌∷◌, length, fold, Option, Some, None}
 use Rattle.std.specs.Hash as fed
 use Rattle.sp_domain.specs.declared.slots.Slot.{Slot}
 use Rattle.sp_domain.specs.declared.slots.Slot.TheVariants.{Free, Guarded}
@@ -22,9 +22,13 @@ use Rattle.abs_state.specs.declared.values.AbsByte.{AbsByte}
 use Rattle.abs_state.specs.declared.values.AbsFlags.{AbsFlags}
 use Rattle.abs_state.specs.declared.state.AbsState.{AbsState}
 
+-- Adds the upper half of 64 bits to the number. Sums and products carry upwards alone: this takes differences down again.
+abbrev pub folded : ℕ → ℕ
+folded n = (n + n / 2 ^ 32) % 2 ^ 64
+
 -- feeds a number to a 64-bit digest
 abbrev pub mix : ℕ → ℕ → ℕ
-mix digest number = (digest * 6364136223846793005 % 2 ^ 64 + number) % 2 ^ 64
+mix digest number = folded ((digest * 6364136223846793005 % 2 ^ 64 + number) % 2 ^ 64)
 
 -- the kind of a tag and its number
 abbrev pub tag_number : Tag → ℕ

@@ -2,7 +2,7 @@
 
 ghost use Rattle.std.specs.Prelude.{◌≡◌, ◌↔◌, ◌<◌, ◌≤◌, ◌+◌, ◌*◌, IsTrue, length, fold};
 ghost use Rattle.state_pool.specs.SameState.{same_state};
-ghost use Rattle.state_pool.specs.Digest.{mix, tag_number, carry_number, value_number, flags_number, side_number, compare_number, zero_number, mix_value, mix_interval, mix_sum, mix_pairs, mix_facts, mix_slots, AreFree, digest_of, state_hash};
+ghost use Rattle.state_pool.specs.Digest.{folded, mix, tag_number, carry_number, value_number, flags_number, side_number, compare_number, zero_number, mix_value, mix_interval, mix_sum, mix_pairs, mix_facts, mix_slots, AreFree, digest_of, state_hash};
 ghost use Rattle.state_pool.specs.Equal.{state_equivalence, fed_alike};
 
 use abs_state::{AbsByte, AbsFlags, AbsState};
@@ -257,12 +257,20 @@ fn are_free(slots: &[Slot<AbsByte>], at: usize) -> bool
     true
 }
 
+// Adds the upper half to the number.
+fn folded(number: u64) -> u64
+    ensures { result ≡ folded number }
+{
+    number.wrapping_add(number / 4_294_967_296)
+}
+
 fn mixed(digest: u64, number: u64) -> u64
     ensures { result ≡ mix digest number }
 {
-    digest
+    let sum = digest
         .wrapping_mul(6_364_136_223_846_793_005)
-        .wrapping_add(number)
+        .wrapping_add(number);
+    folded(sum)
 }
 
 fn tag_number(tag: Tag) -> u64
