@@ -1,10 +1,10 @@
 //! Keys of instances and nodes.
 
-ghost use Rattle.std.specs.Prelude.{◌≡◌, ◌↔◌, IsTrue, refl};
+ghost use Rattle.std.specs.Prelude.{◌≡◌, ◌↔◌, ◌<◌, IsTrue, refl};
 ghost use Rattle.std.specs.Ordering.{as_partial_cmp};
 ghost use Rattle.mask_states.specs.Order.{inst_cmp, node_cmp, same_inst, same_node};
 ghost use Rattle.mask_states.specs.Total.{inst_total, inst_equivalence, inst_partial, inst_equal, node_total, node_equivalence, node_partial, node_equal};
-ghost use Rattle.mask_states.specs.Hashes.{inst_hash, insts_alike, node_hash, nodes_alike};
+ghost use Rattle.mask_states.specs.Hashes.{kind_number, high_number, pick_number, entered_number, form_number, inst_hash, insts_alike, node_hash, nodes_alike};
 
 use std::cmp::Ordering;
 use std::hash::{Hash, Hasher};
@@ -199,6 +199,7 @@ impl Hash for InstKey {
     fn hash<H: Hasher>(&self, state: &mut H) {
         self.entry.hash(state);
         self.masks.bits().hash(state);
+        entered_number(self).hash(state);
     }
 }
 
@@ -267,6 +268,56 @@ impl Hash for NodeKey {
         self.inst.hash(state);
         self.pc.hash(state);
         self.masks.bits().hash(state);
-        self.offset().hash(state);
+        form_number(self).hash(state);
     }
+}
+
+// ---- what keys feed to a hasher
+
+fn kind_number(kind: Kind) -> u16
+    ensures number { result ≡ kind_number kind }
+    ensures low { result < 258 }
+{
+    match kind {
+        Kind::Root => 0,
+        Kind::Call => 1,
+        Kind::Vector(vector) => 2 + u16::from(vector),
+    }
+}
+
+// How an instance is entered, and I there.
+fn entered_number(key: &InstKey) -> u16
+    ensures { result ≡ entered_number key.now }
+{
+    u16::from(key.i) + 2 * kind_number(key.kind)
+}
+
+fn high_number(sp: SpForm) -> u64
+    ensures number { result ≡ high_number sp }
+    ensures low { result < 131072 }
+{
+    match sp {
+        SpForm::Closed(_) => 0,
+        SpForm::Open(_, High::Known(byte)) => 1 + u64::from(byte),
+        SpForm::Open(_, High::Tag(below)) => 257 + u64::from(below),
+    }
+}
+
+fn pick_number(pick: Option<u8>) -> u64
+    ensures number { result ≡ pick_number pick }
+    ensures low { result < 257 }
+{
+    match pick {
+        None => 0,
+        Some(byte) => 1 + u64::from(byte),
+    }
+}
+
+// I, delay, pick and stack pointer.
+fn form_number(key: &NodeKey) -> u64
+    ensures { result ≡ form_number key.now }
+{
+    let flags = u64::from(key.i) + 2 * u64::from(key.delay);
+    let pointer = u64::from(key.offset()) + 65_536 * high_number(key.sp);
+    flags + 4 * pick_number(key.pick) + 2_048 * pointer
 }
