@@ -40,8 +40,8 @@ pub fn are_all_protected(device: Device, items: &[u16]) -> bool
     true
 }
 
-/// Whether a list of the device may have the entry: its words are those of the device's texts, and a store lists protected addresses.
-/// Source: own.
+/// Whether a list of the device may have the entry: its words and depths are those of the device's texts, and a store lists protected
+/// addresses. Source: own.
 #[tactic(auto, unfolding(crate::specs::Entries::fits_device))]
 pub fn fits(device: Device, entry: &Entry) -> bool
     ensures { result ≡ fits_device device entry.now }
@@ -54,8 +54,8 @@ pub fn fits(device: Device, entry: &Entry) -> bool
         Entry::Store(site, addresses) => {
             is_word(device, *site) && are_all_protected(device, addresses.as_slice())
         }
-        Entry::Prove(site) | Entry::Free(site) | Entry::Never(site) | Entry::Frame(site) => {
-            is_word(device, *site)
-        }
+        Entry::Recur(word, depth) => is_word(device, *word) && *depth <= device.depth(),
+        Entry::Prove(site) | Entry::Free(site) | Entry::Never(site) => is_word(device, *site),
+        Entry::Frame(site) | Entry::Scratch(site) => is_word(device, *site),
     }
 }
