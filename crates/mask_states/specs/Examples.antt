@@ -4,8 +4,8 @@ use Rattle.std.specs.declared.cmp.Ordering.TheVariants.{Less, Greater}
 use Rattle.avr_model.specs.Devices.{M48, M328, ramend, device_row}
 use Rattle.avr_model.specs.State.{filled}
 use Rattle.avr_model.specs.declared.assumption.Entry.{Entry}
-use Rattle.avr_model.specs.declared.assumption.Entry.TheVariants.{Masks, Never}
-use Rattle.avr_model.specs.Assumptions.{is_never}
+use Rattle.avr_model.specs.declared.assumption.Entry.TheVariants.{Masks, Never, Recur}
+use Rattle.avr_model.specs.Assumptions.{is_never, recur_line}
 use Rattle.avr_model.specs.Bits.{all_below, any_below, number_of}
 use Rattle.avr_model.specs.Vectors.{are_among, places, place_at, has_place}
 use Rattle.bit_domain.specs.declared.bits.Tri.TheVariants.{Zero, Any}
@@ -18,7 +18,7 @@ use Rattle.mask_states.specs.declared.keys.High.TheVariants.{Known, Tag}
 use Rattle.mask_states.specs.declared.keys.SpForm.{SpForm}
 use Rattle.mask_states.specs.declared.keys.SpForm.TheVariants.{Closed, Open}
 use Rattle.mask_states.specs.declared.keys.NodeKey.{NodeKey}
-use Rattle.mask_states.specs.Keys.{offset_of, root_inst, entry_key, inst_numbers, node_numbers}
+use Rattle.mask_states.specs.Keys.{offset_of, root_inst, entry_key, cut_at, inst_numbers, node_numbers}
 use Rattle.mask_states.specs.Order.{inst_cmp, node_cmp, same_node}
 use Rattle.mask_states.specs.Place.{SpIs, AtNode}
 use Rattle.mask_states.specs.Splits.{common_tri, enable_tri, splits}
@@ -36,6 +36,28 @@ timer = record { kind = Vector 17; entry = 32; masks = 3; i = false }
 numbers_of_timer : node_numbers (entry_key timer) ≡ 2 ∷ 17 ∷ 32 ∷ 3 ∷ 0 ∷ 32 ∷ 3 ∷ 0 ∷ 0 ∷ 0 ∷ 0 ∷ 0 ∷ 0 ∷ 0 ∷ 0 ∷ []
 unfolding node_numbers inst_numbers
 numbers_of_timer = refl
+
+-- ---- instances that a `recur` line cuts
+
+abbrev called : ℕ → InstKey
+called entry = record { kind = Call; entry = entry; masks = 0; i = false }
+
+call_is_cut : cut_at (Recur 3 8 ∷ []) (called 3) ≡ Some 8
+unfolding cut_at recur_line
+call_is_cut = refl
+
+other_call_is_whole : cut_at (Recur 3 8 ∷ []) (called 4) ≡ None
+unfolding cut_at recur_line
+other_call_is_whole = refl
+
+-- neither an interrupt nor reset is a call
+handler_is_whole : cut_at (Recur 32 8 ∷ []) timer ≡ None
+unfolding cut_at
+handler_is_whole = refl
+
+root_is_whole : cut_at (Recur 0 8 ∷ []) root_inst ≡ None
+unfolding cut_at
+root_is_whole = refl
 
 -- ---- order
 

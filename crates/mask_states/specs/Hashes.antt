@@ -65,7 +65,10 @@ inst_by_numbers : (k : InstKey) → inst_hash k ≡ inst_fed (inst_numbers k)
 unfolding inst_numbers inst_fed at
 inst_by_numbers k = by k.kind
   where
-    by : (kind : Kind) → inst_hash k ≡ inst_fed (inst_numbers (record { kind = kind; entry = k.entry; masks = k.masks; i = k.i }))
+    entered : Kind → InstKey
+    entered kind = record { kind = kind; entry = k.entry; masks = k.masks; i = k.i }
+
+    by : (kind : Kind) → inst_hash (entered kind) ≡ inst_fed (inst_numbers (entered kind))
     by Root = refl
     by Call = refl
     by (Vector v) = refl

@@ -8,7 +8,7 @@ ghost use Rattle.mask_states.specs.Hashes.{kind_number, high_number, pick_number
 
 use std::cmp::Ordering;
 use std::hash::{Hash, Hasher};
-use vector_table::Masks;
+use vector_table::{Assumptions, Masks};
 
 /// How an instance is entered.
 #[derive(Clone, Copy, PartialEq, Eq, PartialOrd, Ord)]
@@ -86,7 +86,7 @@ pub enum EdgeKind {
 }
 
 impl InstKey {
-    ghost use Rattle.mask_states.specs.Keys.{root_inst};
+    ghost use Rattle.mask_states.specs.Keys.{root_inst, cut_at};
 
     /// The instance that begins at reset.
     pub fn root() -> InstKey
@@ -97,6 +97,18 @@ impl InstKey {
             entry: 0,
             masks: Masks::none(),
             i: false,
+        }
+    }
+
+    /// The depth of the `recur` entry of the word that the instance's call enters, in bytes: with one the instance is cut. None if there is
+    /// no such entry, or no call enters the instance.
+    #[tactic(auto, unfolding(crate::specs::Keys::cut_at))]
+    pub fn cut(&self, assumptions: &Assumptions) -> Option<u16>
+        ensures { result ≡ cut_at assumptions.now self.now }
+    {
+        match self.kind {
+            Kind::Call => assumptions.recur(self.entry),
+            Kind::Root | Kind::Vector(_) => None,
         }
     }
 }
