@@ -57,7 +57,7 @@ answers_are_one = record {
 ending : (gs : List GraphInst) (needs : List ℕ) (i above : ℕ) (links : List Link) → IsChainFrom gs needs i above links → EndsAt links (above + slice_index needs i)
 ending gs needs i above links (ends _ _ p first) = record {
   front = [];
-  end = record { inst = i; node = p.node; depth = above + p.offset; kind = None };
+  end = record { inst = i; node = p.node; depth = above + p.offset; way = None };
   is = refl;
   last = refl;
   deep = omega (arith, first.is.1);
@@ -65,9 +65,9 @@ ending gs needs i above links (ends _ _ p first) = record {
 ending gs needs i above links (goes _ _ e rest no_end first chain) =
     let below = ending gs needs e.into (above + e.offset + 2) rest chain in
     record {
-      front = record { inst = i; node = e.node; depth = above + e.offset; kind = Some e.kind } ∷ below.front;
+      front = record { inst = i; node = e.node; depth = above + e.offset; way = Some e.way } ∷ below.front;
       end = below.end;
-      is = ap (λ xs. record { inst = i; node = e.node; depth = above + e.offset; kind = Some e.kind } ∷ xs) below.is;
+      is = ap (λ xs. record { inst = i; node = e.node; depth = above + e.offset; way = Some e.way } ∷ xs) below.is;
       last = below.last;
       deep = omega (arith, below.deep, first.is.1);
     }
@@ -96,7 +96,7 @@ module _ (gs : List GraphInst) (needs : List ℕ) where
   one : (i i' above above' : ℕ) → i ≡ i' → above ≡ above' → (links links' : List Link) → IsChainFrom gs needs i above links → IsChainFrom gs needs i' above' links' → links ≡ links'
   one i i' above above' ei ea links links' (ends _ _ p f) (ends _ _ q g) =
       let same = places_same i p q f (subst (λ k. IsFirst (IsDeepPlace gs needs k) IsPlaceUpTo q) (sym ei) g) in
-      λ j. record { inst = ei j; node = (same j).node; depth = ea j + (same j).offset; kind = None } ∷ []
+      λ j. record { inst = ei j; node = (same j).node; depth = ea j + (same j).offset; way = None } ∷ []
   one i i' above above' ei ea links links' (ends _ _ p f) (goes _ _ d rest' no_end g chain') =
       absurd (no_end p (subst (λ k. IsDeepPlace gs needs k p) ei f.is))
   one i i' above above' ei ea links links' (goes _ _ e rest no_end f chain) (ends _ _ q g) =
@@ -104,7 +104,7 @@ module _ (gs : List GraphInst) (needs : List ℕ) where
   one i i' above above' ei ea links links' (goes _ _ e rest no_end f chain) (goes _ _ d rest' no_end' g chain') =
       let same = ways_same i e d f (subst (λ k. IsFirst (IsDeepEdge gs needs k) (IsEdgeUpTo gs) d) (sym ei) g) in
       let tail = one e.into d.into (above + e.offset + 2) (above' + d.offset + 2) (ap (λ x. x.into) same) (λ j. ea j + (same j).offset + 2) rest rest' chain chain' in
-      λ j. record { inst = ei j; node = (same j).node; depth = ea j + (same j).offset; kind = Some (same j).kind } ∷ tail j
+      λ j. record { inst = ei j; node = (same j).node; depth = ea j + (same j).offset; way = Some (same j).way } ∷ tail j
 
 pub chains_are_one : ChainsAreOne
 chains_are_one = λ gs needs links links' a b. one gs needs 0 0 0 0 refl refl links links' a b

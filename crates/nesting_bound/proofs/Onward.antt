@@ -18,12 +18,12 @@ pub on_way_first : (gs : List GraphInst) (needs : List ℕ) → IsGraph gs → H
 on_way_first gs needs graph places = record { inside = graph.some; place = places.root; depth = omega arith; whole = λ rest chain. chain }
 
 module _ (gs : List GraphInst) (needs : List ℕ) (i above : ℕ) (links : List Link) (way : IsOnWay gs needs i above links) where
-  pub ends_here : (p : Place) → IsFirst (IsDeepPlace gs needs i) IsPlaceUpTo p → IsChain gs needs (links ++ record { inst = i; node = p.node; depth = above + p.offset; kind = None } ∷ [])
-  ends_here p first = way.whole (record { inst = i; node = p.node; depth = above + p.offset; kind = None } ∷ []) (ends i above p first)
+  pub ends_here : (p : Place) → IsFirst (IsDeepPlace gs needs i) IsPlaceUpTo p → IsChain gs needs (links ++ record { inst = i; node = p.node; depth = above + p.offset; way = None } ∷ [])
+  ends_here p first = way.whole (record { inst = i; node = p.node; depth = above + p.offset; way = None } ∷ []) (ends i above p first)
 
   module _ (e : Entered) (no_end : (p : Place) → IsDeepPlace gs needs i p → ⊥) (first : IsFirst (IsDeepEdge gs needs i) (IsEdgeUpTo gs) e) where
     abbrev link : Link
-    link = record { inst = i; node = e.node; depth = above + e.offset; kind = Some e.kind }
+    link = record { inst = i; node = e.node; depth = above + e.offset; way = Some e.way }
 
     pub goes_here : IsGraph gs → HavePlaces gs → IsOnWay gs needs e.into (above + (e.offset + 2)) (links ++ link ∷ [])
     goes_here graph places = record {

@@ -12,7 +12,9 @@ use Rattle.mask_states.specs.declared.keys.EdgeKind.TheVariants.{Local, Call, In
 use Rattle.mask_states.specs.contracts.keys.EdgeKindOrd.TheImpl as kinds
 use Rattle.nesting_bound.specs.declared.graph.Entered.{Entered}
 use Rattle.nesting_bound.specs.declared.graph.GraphInst.{GraphInst}
-use Rattle.nesting_bound.specs.Chain.{kind_numbers, entry_of, turn_of, edge_cmp, IsEdgeUpTo}
+use Rattle.nesting_bound.specs.declared.graph.Way.{Way}
+use Rattle.nesting_bound.specs.declared.graph.Way.TheVariants.{Enters, Recur}
+use Rattle.nesting_bound.specs.Chain.{kind_numbers, way_numbers, entry_of, turn_of, edge_cmp, IsEdgeUpTo}
 
 -- lists of one length are compared before what follows them
 cmp_append : (xs ys us vs : List ℕ) → length xs ≡ length ys
@@ -41,24 +43,43 @@ kind_order Return Call = refl
 kind_order Return (Interrupt w d) = refl
 kind_order Return Return = refl
 
-pub kind_length : (a : EdgeKind) → length (kind_numbers a) ≡ 3
+kind_length : (a : EdgeKind) → length (kind_numbers a) ≡ 3
 kind_length Local = refl
 kind_length Call = refl
 kind_length (Interrupt v c) = refl
 kind_length Return = refl
 
-pub edge_chained : (gs : List GraphInst) (a b : Entered) (n k t i : Ordering) → n ≡ nat_cmp a.node b.node → k ≡ kinds.ghosts.cmp a.kind b.kind
+pub way_length : (a : Way) → length (way_numbers a) ≡ 3
+way_length (Enters a) = kind_length a
+way_length Recur = refl
+
+-- entries by their kinds, and before recur edges
+pub enters_order : (a b : EdgeKind) → kinds.ghosts.cmp a b ≡ slice_cmp nat_cmp (way_numbers (Enters a)) (way_numbers (Enters b))
+enters_order a b = kind_order a b
+
+pub entry_first : (a : EdgeKind) → Less ≡ slice_cmp nat_cmp (way_numbers (Enters a)) (way_numbers Recur)
+entry_first Local = refl
+entry_first Call = refl
+entry_first (Interrupt v c) = refl
+entry_first Return = refl
+
+pub recur_last : (a : EdgeKind) → Greater ≡ slice_cmp nat_cmp (way_numbers Recur) (way_numbers (Enters a))
+recur_last Local = refl
+recur_last Call = refl
+recur_last (Interrupt v c) = refl
+recur_last Return = refl
+
+pub edge_chained : (gs : List GraphInst) (a b : Entered) (n k t i : Ordering) → n ≡ nat_cmp a.node b.node → k ≡ slice_cmp nat_cmp (way_numbers a.way) (way_numbers b.way)
     → t ≡ nat_cmp (entry_of (slice_get gs a.into)) (entry_of (slice_get gs b.into)) → i ≡ nat_cmp a.into b.into
     → ordering_then (ordering_then (ordering_then n k) t) i ≡ edge_cmp gs a b
 unfolding edge_cmp turn_of
 edge_chained gs a b n k t i en ek et ei =
     let ta = entry_of (slice_get gs a.into) in
     let tb = entry_of (slice_get gs b.into) in
-    let k_is = ek ∙ kind_order a.kind b.kind in
     let i_is = ei ∙ sym (then_equal (nat_cmp a.into b.into)) in
-    let whole = cmp_append (kind_numbers a.kind) (kind_numbers b.kind) (ta ∷ a.into ∷ []) (tb ∷ b.into ∷ []) (kind_length a.kind ∙ sym (kind_length b.kind)) in
+    let whole = cmp_append (way_numbers a.way) (way_numbers b.way) (ta ∷ a.into ∷ []) (tb ∷ b.into ∷ []) (way_length a.way ∙ sym (way_length b.way)) in
     sym (then_assoc (ordering_then n k) t i) ∙ sym (then_assoc n k (ordering_then t i))
-    ∙ (λ j. ordering_then (en j) (ordering_then (k_is j) (ordering_then (et j) (i_is j))))
+    ∙ (λ j. ordering_then (en j) (ordering_then (ek j) (ordering_then (et j) (i_is j))))
     ∙ sym (ap (ordering_then (nat_cmp a.node b.node)) whole)
 
 pub edge_total : (gs : List GraphInst) → IsTotalOrder (edge_cmp gs)

@@ -10,8 +10,10 @@ use Rattle.mask_states.specs.declared.keys.EdgeKind.{EdgeKind}
 use Rattle.mask_states.specs.declared.keys.EdgeKind.TheVariants.{Local, Call, Interrupt, Return}
 use Rattle.nesting_bound.specs.declared.graph.Entered.{Entered}
 use Rattle.nesting_bound.specs.declared.graph.GraphInst.{GraphInst}
-use Rattle.nesting_bound.specs.Chain.{kind_numbers, entry_of, turn_of, edge_cmp, IsEdgeUpTo}
-use Rattle.nesting_bound.proofs.Order.{kind_length, edge_total}
+use Rattle.nesting_bound.specs.declared.graph.Way.{Way}
+use Rattle.nesting_bound.specs.declared.graph.Way.TheVariants.{Enters, Recur}
+use Rattle.nesting_bound.specs.Chain.{kind_numbers, way_numbers, entry_of, turn_of, edge_cmp, IsEdgeUpTo}
+use Rattle.nesting_bound.proofs.Order.{way_length, edge_total}
 
 kind_same : (a b : EdgeKind) → kind_numbers a ≡ kind_numbers b → a ≡ b
 kind_same Local Local e = refl
@@ -30,6 +32,18 @@ kind_same Return Local e = absurd (let h = number_at_same 0 e in omega arith)
 kind_same Return Call e = absurd (let h = number_at_same 0 e in omega arith)
 kind_same Return (Interrupt w d) e = absurd (let h = number_at_same 0 e in omega arith)
 kind_same Return Return e = refl
+
+way_same : (a b : Way) → way_numbers a ≡ way_numbers b → a ≡ b
+way_same (Enters a) (Enters b) e = ap Enters (kind_same a b e)
+way_same (Enters Local) Recur e = absurd (let h = number_at_same 0 e in omega arith)
+way_same (Enters Call) Recur e = absurd (let h = number_at_same 0 e in omega arith)
+way_same (Enters (Interrupt v c)) Recur e = absurd (let h = number_at_same 0 e in omega arith)
+way_same (Enters Return) Recur e = absurd (let h = number_at_same 0 e in omega arith)
+way_same Recur (Enters Local) e = absurd (let h = number_at_same 0 e in omega arith)
+way_same Recur (Enters Call) e = absurd (let h = number_at_same 0 e in omega arith)
+way_same Recur (Enters (Interrupt v c)) e = absurd (let h = number_at_same 0 e in omega arith)
+way_same Recur (Enters Return) e = absurd (let h = number_at_same 0 e in omega arith)
+way_same Recur Recur e = refl
 
 numbers_equal : (xs ys : List ℕ) → slice_cmp nat_cmp xs ys ≡ Equal → xs ≡ ys
 numbers_equal [] [] e = refl
@@ -52,10 +66,10 @@ unfolding edge_cmp turn_of
 edges_same gs needs a b n up down deep_a deep_b =
     let equal : edge_cmp gs b a ≡ Equal = neither (edge_cmp gs b a) up (λ e. down ((edge_total gs).antisymm a b ∙ e)) in
     let same = numbers_equal (turn_of gs b) (turn_of gs a) equal in
-    let tails : kind_numbers b.kind ++ entry_of (slice_get gs b.into) ∷ b.into ∷ [] ≡ kind_numbers a.kind ++ entry_of (slice_get gs a.into) ∷ a.into ∷ [] = cc in
-    let both = same_parts (kind_numbers b.kind) (kind_numbers a.kind) (entry_of (slice_get gs b.into) ∷ b.into ∷ []) (entry_of (slice_get gs a.into) ∷ a.into ∷ []) (kind_length b.kind ∙ sym (kind_length a.kind)) tails in
+    let tails : way_numbers b.way ++ entry_of (slice_get gs b.into) ∷ b.into ∷ [] ≡ way_numbers a.way ++ entry_of (slice_get gs a.into) ∷ a.into ∷ [] = cc in
+    let both = same_parts (way_numbers b.way) (way_numbers a.way) (entry_of (slice_get gs b.into) ∷ b.into ∷ []) (entry_of (slice_get gs a.into) ∷ a.into ∷ []) (way_length b.way ∙ sym (way_length a.way)) tails in
     let nodes : b.node ≡ a.node = number_at_same 0 same in
-    let kinds = kind_same b.kind a.kind both.0 in
+    let ways = way_same b.way a.way both.0 in
     let into : b.into ≡ a.into = number_at_same 1 both.1 in
     let offsets : b.offset ≡ a.offset = omega (arith, deep_a, deep_b, ap (slice_index needs) into) in
-    sym (λ j. record { node = nodes j; offset = offsets j; kind = kinds j; into = into j })
+    sym (λ j. record { node = nodes j; offset = offsets j; way = ways j; into = into j })

@@ -12,13 +12,14 @@ use Rattle.nesting_bound.specs.declared.graph.GraphInst.{GraphInst}
 use Rattle.nesting_bound.specs.declared.graph.Place.{Place}
 use Rattle.nesting_bound.specs.declared.graph.Entered.{Entered}
 use Rattle.mask_states.specs.declared.keys.EdgeKind.TheVariants.{Local}
+use Rattle.nesting_bound.specs.declared.graph.Way.TheVariants.{Enters}
 use Rattle.nesting_bound.specs.declared.found.Found.{Found}
 use Rattle.nesting_bound.specs.Graph.{EntersAlong, HasPlace, IsGraph}
 use Rattle.nesting_bound.specs.Table.{at, IsOver, raised, one_if_found, one_if_missing, count_found, count_missing, IsSmall, IsSettled, IsSoundTable, IsInstStuck, IsVisit}
 
 -- stand-ins for a missing item
 abbrev pub no_entry : Entered
-no_entry = record { node = 0; offset = 0; kind = Local; into = 0 }
+no_entry = record { node = 0; offset = 0; way = Enters Local; into = 0 }
 
 abbrev pub no_place : Place
 no_place = record { node = 0; offset = 0 }

@@ -7,6 +7,7 @@ use Rattle.mask_states.specs.declared.keys.Kind.TheVariants as kinds
 use Rattle.mask_states.specs.Keys.{root_inst}
 use Rattle.nesting_bound.specs.declared.graph.Entered.{Entered}
 use Rattle.nesting_bound.specs.declared.graph.GraphInst.{GraphInst}
+use Rattle.nesting_bound.specs.declared.graph.Way.TheVariants.{Enters, Recur}
 use Rattle.nesting_bound.specs.Chain.{entry_of, turn_of, edge_cmp}
 use Rattle.nesting_bound.specs.Cycle.{group_of, number_of}
 
@@ -37,13 +38,16 @@ function_goes_by_its_entry = refl
 -- ---- the order of edges
 
 abbrev calls : ℕ → ℕ → Entered
-calls node into = record { node = node; offset = 1; kind = Call; into = into }
+calls node into = record { node = node; offset = 1; way = Enters Call; into = into }
 
 abbrev keeps : ℕ → Entered
-keeps node = record { node = node; offset = 0; kind = Interrupt 7 false; into = 1 }
+keeps node = record { node = node; offset = 0; way = Enters (Interrupt 7 false); into = 1 }
 
 abbrev clears : ℕ → Entered
-clears node = record { node = node; offset = 0; kind = Interrupt 7 true; into = 1 }
+clears node = record { node = node; offset = 0; way = Enters (Interrupt 7 true); into = 1 }
+
+abbrev recurs : ℕ → Entered
+recurs into = record { node = 9; offset = 100; way = Recur; into = into }
 
 entry_of_a_function : entry_of (slice_get firmware 2) ≡ 9
 entry_of_a_function = refl
@@ -76,3 +80,12 @@ calls_by_target = refl
 an_edge_is_not_before_itself : edge_cmp firmware (calls 5 2) (calls 5 2) ≡ Equal
 unfolding edge_cmp turn_of
 an_edge_is_not_before_itself = refl
+
+-- a recur edge has the number of all nodes
+recur_edges_last : edge_cmp firmware (recurs 2) (clears 8) ≡ Greater
+unfolding edge_cmp turn_of
+recur_edges_last = refl
+
+recur_edges_by_target : edge_cmp firmware (recurs 3) (recurs 2) ≡ Less
+unfolding edge_cmp turn_of
+recur_edges_by_target = refl

@@ -2,18 +2,20 @@
 
 ghost use Rattle.std.specs.Prelude.{◌≡◌, ◌+◌, ◌<◌, ◌≤◌, IfOk, length, slice_get, slice_index, true};
 ghost use Rattle.avr_model.specs.State.{SIZE};
-ghost use Rattle.std.specs.Ordering.{is_lt};
+ghost use Rattle.std.specs.Ordering.{is_lt, nat_cmp};
 ghost use Rattle.nesting_bound.specs.declared.graph.Entered.{Entered};
 ghost use Rattle.nesting_bound.specs.declared.graph.Place.{Place};
-ghost use Rattle.nesting_bound.specs.Chain.{edge_cmp, entry_of, IsChain, HasSome, HavePlaces};
+ghost use Rattle.std.specs.Cmp.Lexicographic.{slice_cmp};
+ghost use Rattle.nesting_bound.specs.Chain.{way_numbers, edge_cmp, entry_of, IsChain, HasSome, HavePlaces};
 ghost use Rattle.nesting_bound.specs.Graph.{IsGraph};
 ghost use Rattle.nesting_bound.specs.Least.{IsLeast};
 ghost use Rattle.nesting_bound.specs.Turn.{IsBestPlace, IsBestEdge, IsTurn, AreLeastNeeds};
 
 use crate::composing::Composed;
 use crate::depth_first::read;
-use crate::graph::{Entered, Graph, GraphInst, Link, Place};
+use crate::graph::{Entered, Graph, GraphInst, Link, Place, Way};
 use std::alloc::{AllocError, Global};
+use std::cmp::Ordering;
 
 /// How a chain continues from an instance.
 #[derive(Clone, Copy)]
@@ -51,7 +53,19 @@ fn entry(instances: &[GraphInst], inst: u32) -> u16
     }
 }
 
-// Whether the first edge precedes the second: by node, kind, target and instance.
+// The order of two ways: recur edges last.
+fn way_cmp(a: Way, b: Way) -> Ordering
+    ensures { result ≡ slice_cmp nat_cmp (way_numbers a) (way_numbers b) }
+{
+    match (a, b) {
+        (Way::Enters(a), Way::Enters(b)) => a.cmp(&b),
+        (Way::Enters(_), Way::Recur) => Ordering::Less,
+        (Way::Recur, Way::Enters(_)) => Ordering::Greater,
+        (Way::Recur, Way::Recur) => Ordering::Equal,
+    }
+}
+
+// Whether the first edge precedes the second: by node, way, target and instance.
 fn is_before(instances: &[GraphInst], a: &Entered, b: &Entered) -> bool
     ensures { result ≡ is_lt (edge_cmp instances.now a.now b.now) }
 {
@@ -59,7 +73,7 @@ fn is_before(instances: &[GraphInst], a: &Entered, b: &Entered) -> bool
     let entry_b = entry(instances, b.into);
     a.node
         .cmp(&b.node)
-        .then(a.kind.cmp(&b.kind))
+        .then(way_cmp(a.way, b.way))
         .then(entry_a.cmp(&entry_b))
         .then(a.into.cmp(&b.into))
         .is_lt()
@@ -108,7 +122,7 @@ fn goes_on(instances: &[GraphInst], needs: &[u32], inst: u32) -> Turn
 
 /// The deepest chain. It starts at the root. In each instance it ends at the least node whose offset is the instance's need, if there is
 /// one. Otherwise it follows the least edge whose offset + 2 + need is: by node, calls before interrupts, calls by target and interrupts
-/// by vector, the one that keeps its own enable bit before the one that clears it. Source: own.
+/// by vector, the one that keeps its own enable bit before the one that clears it; recur edges last, by target. Source: own.
 pub fn chain(alloc: Global, graph: &Graph, composed: &Composed) -> Result<Vec<Link>, AllocError>
     requires graph { IsGraph graph.now.instances }
     requires least { IsLeast graph.now.instances composed.now.ranks composed.now.needs }
@@ -128,7 +142,7 @@ pub fn chain(alloc: Global, graph: &Graph, composed: &Composed) -> Result<Vec<Li
                     inst,
                     node: place.node,
                     depth: above + place.offset,
-                    kind: None,
+                    way: None,
                 })?;
                 return Ok(links);
             }
@@ -137,7 +151,7 @@ pub fn chain(alloc: Global, graph: &Graph, composed: &Composed) -> Result<Vec<Li
                     inst,
                     node: entered.node,
                     depth: above + entered.offset,
-                    kind: Some(entered.kind),
+                    way: Some(entered.way),
                 })?;
                 above += entered.offset + 2;
                 inst = entered.into;

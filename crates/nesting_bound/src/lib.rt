@@ -16,5 +16,5 @@ mod shape;
 pub use chaining::chain;
 pub use composing::{Composed, compose, compose_acyclic};
 pub use fault::ComposeFault;
-pub use graph::{Entered, Graph, GraphInst, Link, Place};
+pub use graph::{Entered, Graph, GraphInst, Link, Place, Way};
 pub use mask_states::{EdgeKind, InstKey};
