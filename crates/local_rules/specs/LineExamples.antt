@@ -1,8 +1,8 @@
 -- Worked nodes at sites with lines, each computed.
 use Rattle.std.specs.Prelude.{ℕ, ◌≡◌, true, false, List, [], ◌∷◌, None, map, replicate, refl, slice_set}
 use Rattle.avr_model.specs.declared.assumption.Entry.{Entry}
-use Rattle.avr_model.specs.declared.assumption.Entry.TheVariants.{Prove, Free, Never, Frame}
-use Rattle.avr_model.specs.Assumptions.{store_line, is_proved, is_freed, is_never, is_frame, is_fixed_site, has_masks}
+use Rattle.avr_model.specs.declared.assumption.Entry.TheVariants.{Prove, Free, Never, Frame, Scratch}
+use Rattle.avr_model.specs.Assumptions.{store_line, is_proved, is_freed, is_never, is_frame, has_scratch, is_fixed_site, has_masks}
 use Rattle.avr_model.specs.Masks.{reads_masks, admits_enables}
 use Rattle.avr_model.specs.Vectors.{is_enabled, has_place, places}
 use Rattle.avr_model.specs.Bits.{any_below, all_below}
@@ -15,7 +15,10 @@ use Rattle.sp_domain.specs.declared.tags.Tag.{Tag}
 use Rattle.sp_domain.specs.declared.tags.Tag.TheVariants as tag
 use Rattle.sp_domain.specs.declared.tags.CarryTag.{CarryTag}
 use Rattle.sp_domain.specs.declared.tags.CarryTag.TheVariants as carry
-use Rattle.sp_domain.specs.declared.slots.Slot.TheVariants.{Free as Unguarded}
+use Rattle.sp_domain.specs.declared.slots.Slot.{Slot}
+use Rattle.sp_domain.specs.declared.slots.Slot.TheVariants.{Free as Unguarded, Guarded}
+use Rattle.sp_domain.specs.Slots.{slot_at}
+use Rattle.abs_state.specs.declared.values.AbsByte.{AbsByte}
 use Rattle.abs_state.specs.declared.state.AbsState.{AbsState}
 use Rattle.abs_state.specs.Values.{root, value_at, known}
 use Rattle.abs_state.specs.Frames.{entered}
@@ -191,3 +194,22 @@ none_may_be_entered = refl
 others_are_never_entered : waiting (Never 15 ∷ Never 17 ∷ []) ≡ UntrackedSp 0 ∷ []
 unfolding raw table_site ijmp_from is_scratch may_come is_enabled has_place places is_never any_below all_below decoded device_row
 others_are_never_entered = refl
+
+-- ---- `scratch` lines
+
+-- the third slot of a frame with two
+abbrev pushed : Raw → List (Slot AbsByte)
+pushed r = map (λ n. slot_at n.state.slots 2) r.moves
+
+-- `push r0` at word 0
+abbrev pushes : List Entry → AbsState → Raw
+pushes A s = raw (task_with (image M328 (0x920F ∷ replicate 16383 0xFFFF)) A) (in_call (Closed 2)) s
+
+keeps_nothing : pushed (pushes (Scratch 0 ∷ []) large) ≡ Unguarded ∷ []
+unfolding raw table_site ijmp_from is_scratch any_below all_below decoded device_row has_scratch
+keeps_nothing = refl
+
+-- without the line at this site
+keeps_byte : pushed (pushes (Scratch 1 ∷ []) large) ≡ Guarded (value_at large.registers 0) ∷ []
+unfolding raw table_site ijmp_from is_scratch any_below all_below decoded device_row has_scratch
+keeps_byte = refl

@@ -9,7 +9,7 @@ use Rattle.avr_model.specs.Devices.{device_row, Program, image}
 use Rattle.avr_model.specs.Masks.{reads_masks}
 use Rattle.avr_model.specs.Sites.{is_scratch, table_site, ijmp_from}
 use Rattle.avr_model.specs.Table.{length_of, decoded}
-use Rattle.avr_model.specs.Vectors.{places, place_at, held_of, enable_of, is_enabled, has_place}
+use Rattle.avr_model.specs.Vectors.{places, place_at, held_of, enable_of, is_ivsel, is_enabled, has_place}
 use Rattle.bit_domain.specs.declared.bits.Tri.{Tri}
 use Rattle.bit_domain.specs.declared.bits.Tri.TheVariants.{Zero, Any}
 use Rattle.bit_domain.specs.Numbers.{numbers_of}
@@ -81,7 +81,7 @@ bits_read r =
     r.moves
 
 reads_held : bits_read (raw (task_with (small 0x9100 0x005B) []) (at_0 Root 1 (Closed 0)) root) ≡ (Zero, Any, Any, Any) ∷ []
-unfolding raw table_site ijmp_from is_scratch any_below all_below decoded device_row read_at held_of places packed reads_masks has_masks length_of
+unfolding raw table_site ijmp_from is_scratch any_below all_below decoded device_row read_at held_of is_ivsel places packed reads_masks has_masks length_of
 reads_held = refl
 
 abbrev enables : Raw → List ℕ
