@@ -1,12 +1,12 @@
 -- The registers of a decoded instruction exist.
-use Rattle.std.proofs.Common.{◌≡◌, subst, ℕ, ◌+◌, ◌<◌, Bool, true, false, if◌then◌else◌, ◌&&◌, not, List, [], ◌∷◌, Option, Some, None, arith}
+use Rattle.std.proofs.Common.{◌≡◌, subst, ℕ, ◌+◌, ◌<◌, Bool, true, false, if◌then◌else◌, List, [], ◌∷◌, Option, Some, None, arith}
 use Rattle.std.specs.Prelude.{⊤, ◌==◌, ◌*◌, ◌≤◌, length}
 use Rattle.std.specs.Int.{bit_at}
 use Rattle.std.proofs.lemmas.Nat.Bits.{bit_at-lt}
 use Prim.Native.String.{String}
 use Rattle.avr_model.specs.declared.instruction.Instr.{Instr}
 use Rattle.avr_model.specs.declared.device.Device.{Device}
-use Rattle.avr_model.specs.Devices.{Program, has_jmp, device_of}
+use Rattle.avr_model.specs.Devices.{Program, device_of}
 use Rattle.avr_model.specs.Image.{word_at}
 use Rattle.avr_model.specs.Sites.{is_lacking, on_device, instruction_at}
 use Rattle.avr_model.specs.Pattern.{places, letter}

@@ -272,33 +272,33 @@ module _ (marks : List ℕ) (words : Program) (instr : Instr) (n k : ℕ) (s s' 
 
 -- ---- it stands
 
-module _ (marks : List ℕ) (words : Program) (o : Origin) (m : State) (instr : Instr) (b1 b2 n k : ℕ) (s t : AbsState) (are : All (λ w. w < 65536) words.words) (fit : HasRegisters instr)
-    (before : IsFormed s n) (behind : IsFormed t k) (at : IsBefore o s m) (lands : IsBehind o t (registers_set words m instr b1 b2) (sreg_set words m instr b1 b2)) where
+module _ (marks : List ℕ) (words : Program) (still : Bool) (o : Origin) (m : State) (instr : Instr) (b1 b2 n k : ℕ) (s t : AbsState) (are : All (λ w. w < 65536) words.words) (fit : HasRegisters instr)
+    (before : IsFormed s n) (behind : IsFormed t k) (at : IsBefore o s m) (lands : IsBehind o t (registers_set words still m instr b1 b2) (sreg_set words still m instr b1 b2)) where
   holds_known : (x : Option PairFacts) → KnownFits x → HoldsAt x m.registers m.sreg
-      → (u : AbsState) × (refined_known marks words instr s t x ≡ Some u) × IsBehind o u (registers_set words m instr b1 b2) (sreg_set words m instr b1 b2)
+      → (u : AbsState) × (refined_known marks words instr s t x ≡ Some u) × IsBehind o u (registers_set words still m instr b1 b2) (sreg_set words still m instr b1 b2)
   holds_known None fits h = (t, refl, lands)
   holds_known (Some f) fits h =
-      let values = retold_stands o m s t n at words are f h b1 b2 instr fit lands.registers in
-      let facts : HoldsAt values.0.facts (registers_set words m instr b1 b2) (sreg_set words m instr b1 b2) =
-      subst (λ (y : Option PairFacts). HoldsAt y (registers_set words m instr b1 b2) (sreg_set words m instr b1 b2)) (sym values.3) lands.facts in
+      let values = retold_stands o m s t n at words are f h still b1 b2 instr fit lands.registers in
+      let facts : HoldsAt values.0.facts (registers_set words still m instr b1 b2) (sreg_set words still m instr b1 b2) =
+      subst (λ (y : Option PairFacts). HoldsAt y (registers_set words still m instr b1 b2) (sreg_set words still m instr b1 b2)) (sym values.3) lands.facts in
       let hulls =
-      all_hold o values.0.registers (registers_set words m instr b1 b2) (sreg_set words m instr b1 b2) (written instr) values.0.facts (known_is_ordered.count values.0.facts (subst KnownFits (sym values.3) behind.facts)) values.2 facts in
+      all_hold o values.0.registers (registers_set words still m instr b1 b2) (sreg_set words still m instr b1 b2) (written instr) values.0.facts (known_is_ordered.count values.0.facts (subst KnownFits (sym values.3) behind.facts)) values.2 facts in
       let hulled = hulled_formed marks words instr n k s t fit before behind f values.0 values.1 in
       let cut =
-      cut_keeps marks (told_by s.registers f instr) o (with_hulls (written instr) values.0) (registers_set words m instr b1 b2) (sreg_set words m instr b1 b2)
-      (told_fits s n before f instr fit) (told_true o m s n at before f fits h words b1 b2 instr fit)
+      cut_keeps marks (told_by s.registers f instr) o (with_hulls (written instr) values.0) (registers_set words still m instr b1 b2) (sreg_set words still m instr b1 b2)
+      (told_fits s n before f instr fit) (told_true o m s n at before f fits h words still b1 b2 instr fit)
       (joins_are_formed.whole (with_hulls (written instr) values.0) k hulled) values.2 hulls in (
         with_tags s f instr cut.0,
         refined_is marks words instr s t (with_tags s f instr cut.0) f (record { values = values.0; cut = cut.0; retold_is = values.1; cut_is = cut.1; tagged_is = refl }),
-        record { registers = cut.2; facts = tags_true o m s n at before f fits h words b1 b2 instr cut.0.facts fit cut.3 },
+        record { registers = cut.2; facts = tags_true o m s n at before f fits h words still b1 b2 instr cut.0.facts fit cut.3 },
       )
 
 -- ---- the laws
 
 pub refined_holds : RefinedHolds
 refined_holds = record {
-  holds = λ marks words o m instr b1 b2 n k s t are fit before behind at lands.
-      holds_known marks words o m instr b1 b2 n k s t are fit before behind at lands s.facts before.facts at.facts;
+  holds = λ marks words still o m instr b1 b2 n k s t are fit before behind at lands.
+      holds_known marks words still o m instr b1 b2 n k s t are fit before behind at lands s.facts before.facts at.facts;
 }
 
 pub refined_is_ordered : RefinedIsOrdered

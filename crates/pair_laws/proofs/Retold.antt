@@ -383,7 +383,7 @@ module _ (o : Origin) (m : State) (s t : AbsState) (n : ℕ) (at : IsBefore o s 
       carry_small false = omega arith
 
 module _ (o : Origin) (m : State) (s t : AbsState) (n : ℕ) (at : IsBefore o s m) (words : Program) (are : All (λ w. w < 65536) words.words) (f : PairFacts)
-    (h : HoldsAt (Some f) m.registers m.sreg) (b1 b2 : ℕ) where
+    (h : HoldsAt (Some f) m.registers m.sreg) (still : Bool) (b1 b2 : ℕ) where
   set_at : (d x : ℕ) → d < 32 → slice_index (slice_set m.registers d x) d ≡ x
   set_at d x lt = set_there m.registers d x (omega (arith, lt, at.count))
 
@@ -420,8 +420,8 @@ module _ (o : Origin) (m : State) (s t : AbsState) (n : ℕ) (at : IsBefore o s 
       set_there (slice_set (slice_set m.registers 30 lo) 31 hi) d x
       (omega (arith, lt, at.count, length-set (slice_set m.registers 30 lo) 31 hi, length-set m.registers 30 lo))
 
-  pub retold_stands : (instr : Instr) → HasRegisters instr → RegistersStand o t.registers (registers_set words m instr b1 b2)
-      → (u : AbsState) × (retold words s f instr t ≡ Some u) × RegistersStand o u.registers (registers_set words m instr b1 b2) × (u.facts ≡ t.facts)
+  pub retold_stands : (instr : Instr) → HasRegisters instr → RegistersStand o t.registers (registers_set words still m instr b1 b2)
+      → (u : AbsState) × (retold words s f instr t ≡ Some u) × RegistersStand o u.registers (registers_set words still m instr b1 b2) × (u.facts ≡ t.facts)
   retold_stands (i.Binary op d r) fit stand = binary_stands op d r fit.0 stand
   retold_stands (i.LpmZ d) fit stand = flash_stands o m s t n at words are f h _ stand d b1 (set_at d _ fit)
   retold_stands (i.LpmZPlus d) fit stand = flash_stands o m s t n at words are f h _ stand d b1 (behind_pair d _ _ _ fit)

@@ -315,20 +315,20 @@ module _ (o : Origin) (m : State) (s : AbsState) (n : ℕ) (at : IsBefore o s m)
       → ZeroHolds (slice_set (slice_set m.registers (2 * d) (w % 256)) (2 * d + 1) (w / 256)) (zero.Pair (2 * d)) z
   wide_zero d w z lt is = is ∙ ap (λ (x : ℕ). x == 0) (sym (set_word m.registers at.count d w lt))
 
-  module _ (b1 b2 : ℕ) where
-    sum_true : (instr : Instr) → HasRegisters instr → SumHolds (registers_set words m instr b1 b2) (sum_of s.registers f instr) (flag (sreg_set words m instr b1 b2) 0)
+  module _ (still : Bool) (b1 b2 : ℕ) where
+    sum_true : (instr : Instr) → HasRegisters instr → SumHolds (registers_set words still m instr b1 b2) (sum_of s.registers f instr) (flag (sreg_set words still m instr b1 b2) 0)
     sum_true (i.Binary op d r) fit = binary_sum op d r fit.0 fit.1
     sum_true (i.Immediate op d k) fit = immediate_sum op d k fit.0 fit.1
     sum_true _ fit = tt
 
     compare_true : (instr : Instr) → HasRegisters instr
-        → CompareHolds (registers_set words m instr b1 b2) (compare_of f instr) (flag (sreg_set words m instr b1 b2) 0) (flag (sreg_set words m instr b1 b2) 1)
-        (flag (sreg_set words m instr b1 b2) 4)
+        → CompareHolds (registers_set words still m instr b1 b2) (compare_of f instr) (flag (sreg_set words still m instr b1 b2) 0) (flag (sreg_set words still m instr b1 b2) 1)
+        (flag (sreg_set words still m instr b1 b2) 4)
     compare_true (i.Binary op d r) fit = binary_compare op d r
     compare_true (i.Immediate op d k) fit = immediate_compare op d k fit.1
     compare_true _ fit = tt
 
-    zero_true : (instr : Instr) → HasRegisters instr → ZeroHolds (registers_set words m instr b1 b2) (zero_of f instr) (flag (sreg_set words m instr b1 b2) 1)
+    zero_true : (instr : Instr) → HasRegisters instr → ZeroHolds (registers_set words still m instr b1 b2) (zero_of f instr) (flag (sreg_set words still m instr b1 b2) 1)
     zero_true (i.Binary op d r) fit = binary_zero op d r fit.0
     zero_true (i.Immediate op d k) fit = immediate_zero op d k fit.0
     zero_true (i.Unary op d) fit = unary_zero op d fit
@@ -336,8 +336,8 @@ module _ (o : Origin) (m : State) (s : AbsState) (n : ℕ) (at : IsBefore o s m)
     zero_true (i.Sbiw d k) fit = wide_zero d (wide_of false (pair m (2 * d)) k) _ fit.0 (wide_is_zero false (pair m (2 * d)) k m.sreg)
     zero_true _ fit = tt
 
-    pub tags_true : (instr : Instr) (x : Option PairFacts) → HasRegisters instr → HoldsAt x (registers_set words m instr b1 b2) (sreg_set words m instr b1 b2)
-        → HoldsAt (tagged s.registers f instr x) (registers_set words m instr b1 b2) (sreg_set words m instr b1 b2)
+    pub tags_true : (instr : Instr) (x : Option PairFacts) → HasRegisters instr → HoldsAt x (registers_set words still m instr b1 b2) (sreg_set words still m instr b1 b2)
+        → HoldsAt (tagged s.registers f instr x) (registers_set words still m instr b1 b2) (sreg_set words still m instr b1 b2)
     tags_true instr None fit holds = tt
     tags_true instr (Some g) fit holds = record {
       intervals = holds.intervals;
@@ -346,15 +346,15 @@ module _ (o : Origin) (m : State) (s : AbsState) (n : ℕ) (at : IsBefore o s m)
       zero = zero_by (sets_flags instr);
     }
       where
-        sum_by : (b : Bool) → SumHolds (registers_set words m instr b1 b2) (if b then sum_of s.registers f instr else g.sum) (flag (sreg_set words m instr b1 b2) 0)
+        sum_by : (b : Bool) → SumHolds (registers_set words still m instr b1 b2) (if b then sum_of s.registers f instr else g.sum) (flag (sreg_set words still m instr b1 b2) 0)
         sum_by true = sum_true instr fit
         sum_by false = holds.sum
 
-        compare_by : (b : Bool) → CompareHolds (registers_set words m instr b1 b2) (if b then compare_of f instr else g.compare) (flag (sreg_set words m instr b1 b2) 0)
-            (flag (sreg_set words m instr b1 b2) 1) (flag (sreg_set words m instr b1 b2) 4)
+        compare_by : (b : Bool) → CompareHolds (registers_set words still m instr b1 b2) (if b then compare_of f instr else g.compare) (flag (sreg_set words still m instr b1 b2) 0)
+            (flag (sreg_set words still m instr b1 b2) 1) (flag (sreg_set words still m instr b1 b2) 4)
         compare_by true = compare_true instr fit
         compare_by false = holds.compare
 
-        zero_by : (b : Bool) → ZeroHolds (registers_set words m instr b1 b2) (if b then zero_of f instr else g.zero) (flag (sreg_set words m instr b1 b2) 1)
+        zero_by : (b : Bool) → ZeroHolds (registers_set words still m instr b1 b2) (if b then zero_of f instr else g.zero) (flag (sreg_set words still m instr b1 b2) 1)
         zero_by true = zero_true instr fit
         zero_by false = holds.zero

@@ -221,23 +221,23 @@ module _ (o : Origin) (m : State) (s : AbsState) (n : ℕ) (at : IsBefore o s m)
   wide_less : (w k : ℕ) → w < 65536 → k < 256 → minus16 w k ≡ (65536 + w - k) % 65536
   wide_less w k small lt = omega arith
 
-  pub told_true : (words : Program) (b1 b2 : ℕ) (instr : Instr) → HasRegisters instr → TellsTrue (told_by s.registers f instr) (registers_set words m instr b1 b2)
-  told_true words b1 b2 (i.Movw d r) fit =
+  pub told_true : (words : Program) (still : Bool) (b1 b2 : ℕ) (instr : Instr) → HasRegisters instr → TellsTrue (told_by s.registers f instr) (registers_set words still m instr b1 b2)
+  told_true words still b1 b2 (i.Movw d r) fit =
       subst (InInterval (interval_at f.intervals r)) (sym (set_word m.registers at.count d (pair m (2 * r)) fit.0)) (h.intervals r fit.1)
-  told_true words b1 b2 (i.Binary op d r) fit = binary_true words op d r fit.0 fit.1
-  told_true words b1 b2 (i.Immediate op d k) fit = immediate_true op d k fit.0 fit.1
-  told_true words b1 b2 (i.Adiw d k) fit =
+  told_true words still b1 b2 (i.Binary op d r) fit = binary_true words op d r fit.0 fit.1
+  told_true words still b1 b2 (i.Immediate op d k) fit = immediate_true op d k fit.0 fit.1
+  told_true words still b1 b2 (i.Adiw d k) fit =
       word_true d ((pair m (2 * d) + k) % 65536) (moved_up (interval_at f.intervals d) k) fit.0 (omega arith)
       (rows_are_true.up (interval_at f.intervals d) (pair m (2 * d)) k (h.intervals d fit.0))
-  told_true words b1 b2 (i.Sbiw d k) fit =
+  told_true words still b1 b2 (i.Sbiw d k) fit =
       word_true d ((65536 + pair m (2 * d) - k) % 65536) (moved_down (interval_at f.intervals d) k) fit.0 (omega arith)
       (subst (ToldHolds (moved_down (interval_at f.intervals d) k)) (wide_less (pair m (2 * d)) k (word_of (2 * d)) fit.1)
       (rows_are_true.down (interval_at f.intervals d) (pair m (2 * d)) k (omega (arith, fit.1)) (h.intervals d fit.0)))
-  told_true words b1 b2 (i.Ld d p) fit = load_true d _ p
-  told_true words b1 b2 (i.St p r) fit = store_true p
-  told_true words b1 b2 (i.LpmZPlus d) fit = pointer_true d 15 (plus16 (pair m 30) 1) _ _ (omega arith) (omega arith) (up_true 15 (omega arith) (pair m 30) refl)
-  told_true words b1 b2 (i.ElpmZPlus d) fit = pointer_true d 15 (plus16 (pair m 30) 1) _ _ (omega arith) (omega arith) (up_true 15 (omega arith) (pair m 30) refl)
-  told_true words b1 b2 _ fit = tt
+  told_true words still b1 b2 (i.Ld d p) fit = load_true d _ p
+  told_true words still b1 b2 (i.St p r) fit = store_true p
+  told_true words still b1 b2 (i.LpmZPlus d) fit = pointer_true d 15 (plus16 (pair m 30) 1) _ _ (omega arith) (omega arith) (up_true 15 (omega arith) (pair m 30) refl)
+  told_true words still b1 b2 (i.ElpmZPlus d) fit = pointer_true d 15 (plus16 (pair m 30) 1) _ _ (omega arith) (omega arith) (up_true 15 (omega arith) (pair m 30) refl)
+  told_true words still b1 b2 _ fit = tt
 
 -- ---- it fits
 

@@ -1,5 +1,5 @@
 -- Laws of the transfer functions of the pair domain.
-use Rattle.std.specs.Prelude.{ℕ, ◌+◌, ◌*◌, ◌≡◌, ◌<◌, true, false, List, length, Some, slice_index}
+use Rattle.std.specs.Prelude.{ℕ, ◌+◌, ◌*◌, ◌≡◌, ◌<◌, Bool, true, false, List, length, Some, slice_index}
 use Rattle.std.specs.List.{All}
 use Rattle.avr_model.specs.declared.instruction.Instr.{Instr}
 use Rattle.avr_model.specs.Sites.{instruction_at}
@@ -33,11 +33,11 @@ abbrev pub AreRegisterBytes : List ℕ → Type 0
 AreRegisterBytes registers = (r : ℕ) → slice_index registers r < 256
 
 -- the registers and the status register after an instruction, before a byte is stored
-abbrev pub registers_set : Program → State → Instr → ℕ → ℕ → List ℕ
-registers_set words m instr b1 b2 = with_registers m.registers (effect_of words m instr b1 b2).registers
+abbrev pub registers_set : Program → Bool → State → Instr → ℕ → ℕ → List ℕ
+registers_set words still m instr b1 b2 = with_registers m.registers (effect_of words still m instr b1 b2).registers
 
-abbrev pub sreg_set : Program → State → Instr → ℕ → ℕ → ℕ
-sreg_set words m instr b1 b2 = (effect_of words m instr b1 b2).sreg
+abbrev pub sreg_set : Program → Bool → State → Instr → ℕ → ℕ → ℕ
+sreg_set words still m instr b1 b2 = (effect_of words still m instr b1 b2).sreg
 
 -- ---- what laws of the rows ask for
 
@@ -76,9 +76,9 @@ pub record IsLike (t u : AbsState) : Type 0 where
 
 -- If the state before the instruction and the plain one after it hold, the refined one exists and holds.
 pub record RefinedHolds : Type 0 where
-  pub holds : (marks : List ℕ) (words : Program) (o : Origin) (m : State) (instr : Instr) (b1 b2 n k : ℕ) (s t : AbsState) → All (λ w. w < 65536) words.words
-      → HasRegisters instr → IsFormed s n → IsFormed t k → IsBefore o s m → IsBehind o t (registers_set words m instr b1 b2) (sreg_set words m instr b1 b2)
-      → (u : AbsState) × (refined marks words instr s t ≡ Some u) × IsBehind o u (registers_set words m instr b1 b2) (sreg_set words m instr b1 b2)
+  pub holds : (marks : List ℕ) (words : Program) (still : Bool) (o : Origin) (m : State) (instr : Instr) (b1 b2 n k : ℕ) (s t : AbsState) → All (λ w. w < 65536) words.words
+      → HasRegisters instr → IsFormed s n → IsFormed t k → IsBefore o s m → IsBehind o t (registers_set words still m instr b1 b2) (sreg_set words still m instr b1 b2)
+      → (u : AbsState) × (refined marks words instr s t ≡ Some u) × IsBehind o u (registers_set words still m instr b1 b2) (sreg_set words still m instr b1 b2)
 
 -- The refined state is within the plain one, with the same flags and slots. It is monotone, and formed if the plain one is.
 pub record RefinedIsOrdered : Type 0 where
