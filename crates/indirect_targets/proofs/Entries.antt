@@ -2,21 +2,23 @@
 use Rattle.std.proofs.Common.{◌≡◌, ◌<◌, ◌^◌, ℕ, List, [], ◌∷◌, Bool, true, refl, ap, sym, ◌∙◌, arith, Option, Some, None, cond, inl, inr, codes, option_map, ltb-true, ◌&&◌}
 use Rattle.std.specs.List.{AllByRecursion, list_all}
 use Rattle.std.proofs.lemmas.Bool.{and_parts}
+use Rattle.std.proofs.lemmas.Bool.Decides.{nat_tests}
 use Rattle.std.proofs.lemmas.Slice.Eq.{bytes_eq-Decides}
 use Rattle.std.specs.Str.{bytes_eq}
-use Rattle.std.specs.Prelude.{nat_le, length}
+use Rattle.std.specs.Prelude.{nat_le, length, decimal, ◌≤◌, ◌+◌}
+use Rattle.avr_model.specs.State.{SIZE}
 use Rattle.basics.specs.Lists.{chosen, same_tail}
 use Rattle.std.proofs.lemmas.Option.{same_Some, none-some}
 use Rattle.line_reading.proofs.AllLaws.{map_some, bind_some, no_words}
 use Rattle.avr_model.specs.declared.device.Device.{Device}
 use Rattle.avr_model.specs.declared.assumption.Entry.{Entry}
-use Rattle.avr_model.specs.declared.assumption.Entry.TheVariants.{Pairs, Masks, Jump, Store, Prove, Free, Never, Frame}
+use Rattle.avr_model.specs.declared.assumption.Entry.TheVariants.{Pairs, Masks, Jump, Store, Prove, Free, Never, Frame, Recur, Scratch}
 use Rattle.sb_base.specs.Digits.{hex_digits}
-use Rattle.line_reading.specs.Reading.{◌>>=◌, hex_at, is_over}
+use Rattle.line_reading.specs.Reading.{◌>>=◌, hex_at, dec_at, is_over}
 use Rattle.line_reading.specs.Words.{IsWord, WordLaws}
 use Rattle.vector_table.specs.Entries.{is_entry, fits_device, is_word, is_io, ascends}
 use Rattle.indirect_targets.specs.Exact.{EntryWords}
-use Rattle.indirect_targets.specs.Reading.{numbers_in, listed_in, alone_in, bare_in, alone_by, numbered_in, is_entry_of, admitted, entry_in}
+use Rattle.indirect_targets.specs.Reading.{numbers_in, listed_in, depth_in, alone_in, bare_in, alone_by, numbered_in, is_entry_of, admitted, entry_in}
 use Rattle.indirect_targets.specs.Spelling.{number_words, entry_words}
 
 -- ---- the numbers of an entry fit four digits
@@ -45,6 +47,8 @@ numbers (Prove site) = site ∷ []
 numbers (Free site) = site ∷ []
 numbers (Never site) = site ∷ []
 numbers (Frame site) = site ∷ []
+numbers (Recur word depth) = word ∷ []
+numbers (Scratch site) = site ∷ []
 
 items_short : (p : ℕ → Bool) → ((n : ℕ) → p n ≡ true → n < 16 ^ 4) → (site : ℕ) (ns : List ℕ)
     → (is_word site && (nat_le 1 (length ns) && nat_le (length ns) 64 && ascends ns && list_all p ns)) ≡ true → AreShort (site ∷ ns)
@@ -62,6 +66,11 @@ entry_short (Prove site) h = (word_small site h, tt)
 entry_short (Free site) h = (word_small site h, tt)
 entry_short (Never site) h = (word_small site h, tt)
 entry_short (Frame site) h = (word_small site h, tt)
+entry_short (Recur word depth) h = (word_small word (and_parts (is_word word) (nat_le depth SIZE) h).0, tt)
+entry_short (Scratch site) h = (word_small site h, tt)
+
+depth_small : (word depth : ℕ) → is_entry (Recur word depth) ≡ true → depth ≤ SIZE
+depth_small word depth h = let small = (and_parts (is_word word) (nat_le depth SIZE) h).1 in grind (arith, nat_tests)
 
 -- ---- numbers
 
@@ -88,6 +97,22 @@ listed_takes k ws l e =
     let t = k.hex_takes 4 s.0.0 ws s.0.1 s.1 in
     t.0 ∙ ap (λ (v : List (List ℕ)). hex_digits s.0.0 4 ∷ v) (numbers_takes k s.0.1 rest.0 rest.1)
     ∙ ap (λ (x : ℕ × List ℕ). number_words (x.0 ∷ x.1)) rest.2
+
+depth_taken : WordLaws → (word depth : ℕ) → word < 16 ^ 4 → depth ≤ SIZE → depth_in (hex_digits word 4 ∷ decimal depth ∷ []) ≡ Some (word, depth)
+depth_taken k word depth h d = rw (k.hex_taken 4 word (decimal depth ∷ []) h, k.dec_taken SIZE depth [] (omega arith) d) refl
+
+depth_takes : WordLaws → (ws : List (List ℕ)) (l : ℕ × ℕ) → depth_in ws ≡ Some l → ws ≡ hex_digits l.0 4 ∷ decimal l.1 ∷ []
+depth_takes k ws l e =
+    let w = bind_some (hex_at 4 ws) _ l e in
+    let d = bind_some (dec_at SIZE w.0.1) _ l w.2 in
+    let t = k.hex_takes 4 w.0.0 ws w.0.1 w.1 in
+    let u = k.dec_takes SIZE d.0.0 w.0.1 d.0.1 (omega arith) d.1 in
+    elim (chosen (is_over d.0.1) _ _ (Some l) d.2) [
+      | inl h ↦
+          t.0 ∙ ap (λ (v : List (List ℕ)). hex_digits w.0.0 4 ∷ v) (u.0 ∙ ap (λ (v : List (List ℕ)). decimal d.0.0 ∷ v) (no_words d.0.1 h.0))
+          ∙ ap (λ (x : ℕ × ℕ). hex_digits x.0 4 ∷ decimal x.1 ∷ []) (same_Some (w.0.0, d.0.0) l h.1)
+      | inr h ↦ absurd (none-some l h.1)
+    ]
 
 alone_taken : WordLaws → (site : ℕ) → site < 16 ^ 4 → alone_in (number_words (site ∷ [])) ≡ Some site
 alone_taken k site h = rw (k.hex_taken 4 site [] h) refl
@@ -133,7 +158,10 @@ alone_by_takes k w ws e is = elim (chosen (bytes_eq w (codes "prove")) _ _ (Some
       | inl h ↦ kind_takes k (codes "never") (λ s. Never s) (λ s. refl) w ws e h.0 h.1
       | inr last ↦ elim (chosen (bytes_eq w (codes "frame")) _ _ (Some e) last.1) [
         | inl h ↦ kind_takes k (codes "frame") (λ s. Frame s) (λ s. refl) w ws e h.0 h.1
-        | inr none ↦ absurd (none-some e none.1)
+        | inr none ↦ elim (chosen (bytes_eq w (codes "scratch")) _ _ (Some e) none.1) [
+          | inl h ↦ kind_takes k (codes "scratch") (λ s. Scratch s) (λ s. refl) w ws e h.0 h.1
+          | inr left ↦ absurd (none-some e left.1)
+        ]
       ]
     ]
   ]
@@ -154,7 +182,12 @@ numbered_takes k (w ∷ ws) e is = elim (chosen (bytes_eq w (codes "pairs")) _ _
         | inl store ↦
             let l = map_some (listed_in ws) _ e store.1 in
             kind_is w ws (number_words (l.0.0 ∷ l.0.1)) (codes "store") store.0 (listed_takes k ws l.0 l.1) ∙ ap entry_words l.2
-        | inr neither ↦ alone_by_takes k w ws e neither.1
+        | inr neither ↦ elim (chosen (bytes_eq w (codes "recur")) _ _ (Some e) neither.1) [
+          | inl recur ↦
+              let l = map_some (depth_in ws) _ e recur.1 in
+              kind_is w ws (hex_digits l.0.0 4 ∷ decimal l.0.1 ∷ []) (codes "recur") recur.0 (depth_takes k ws l.0 l.1) ∙ ap entry_words l.2
+          | inr alone ↦ alone_by_takes k w ws e alone.1
+        ]
       ]
     ]
   ]
@@ -170,6 +203,8 @@ numbered_taken k (Prove site) h = ap (option_map (λ s. Prove s)) (alone_taken k
 numbered_taken k (Free site) h = ap (option_map (λ s. Free s)) (alone_taken k site (word_small site h))
 numbered_taken k (Never site) h = ap (option_map (λ s. Never s)) (alone_taken k site (word_small site h))
 numbered_taken k (Frame site) h = ap (option_map (λ s. Frame s)) (alone_taken k site (word_small site h))
+numbered_taken k (Recur word depth) h = ap (option_map (λ l. Recur l.0 l.1)) (depth_taken k word depth (entry_short (Recur word depth) h).0 (depth_small word depth h))
+numbered_taken k (Scratch site) h = ap (option_map (λ s. Scratch s)) (alone_taken k site (word_small site h))
 
 -- an entry of the device is one of a list
 pub of_list : (device : Device) (e : Entry) → is_entry_of device e ≡ true → is_entry e ≡ true
@@ -213,3 +248,8 @@ entry_is_words k (Never site) h =
     (((refl, (refl, (refl, (refl, (refl, tt))))), (refl, (refl, (refl, (refl, (refl, tt)))))), are_words k (site ∷ []) (entry_short (Never site) h))
 entry_is_words k (Frame site) h =
     (((refl, (refl, (refl, (refl, (refl, tt))))), (refl, (refl, (refl, (refl, (refl, tt)))))), are_words k (site ∷ []) (entry_short (Frame site) h))
+entry_is_words k (Recur word depth) h =
+    let small = depth_small word depth h in
+    (((refl, (refl, (refl, (refl, (refl, tt))))), (refl, (refl, (refl, (refl, (refl, tt)))))), (k.hex_word word 4 (entry_short (Recur word depth) h).0, (k.dec_word depth (omega arith), tt)))
+entry_is_words k (Scratch site) h =
+    (((refl, (refl, (refl, (refl, (refl, (refl, (refl, tt))))))), (refl, (refl, (refl, (refl, (refl, (refl, (refl, tt)))))))), are_words k (site ∷ []) (entry_short (Scratch site) h))

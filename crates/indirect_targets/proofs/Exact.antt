@@ -9,7 +9,7 @@ use Rattle.std.proofs.lemmas.Option.{same_Some, none-some}
 use Rattle.sb_base.proofs.Splitting.{lines_at, joined_lines}
 use Rattle.avr_model.specs.declared.device.Device.{Device}
 use Rattle.avr_model.specs.declared.assumption.Entry.{Entry}
-use Rattle.avr_model.specs.declared.assumption.Entry.TheVariants.{Pairs, Masks, Jump, Store, Prove, Free, Never, Frame}
+use Rattle.avr_model.specs.declared.assumption.Entry.TheVariants.{Pairs, Masks, Jump, Store, Prove, Free, Never, Frame, Recur, Scratch}
 use Rattle.sb_base.specs.Answers.{Answers}
 use Rattle.sb_base.specs.Lines.{TextLine, lines_of, words_of, joined, bytes_of, spaced, Lacks}
 use Rattle.line_reading.specs.Reading.{then_at}
@@ -34,6 +34,8 @@ words_again k (Prove site) h = k.words_stand _ _ (entry_is_words k (Prove site) 
 words_again k (Free site) h = k.words_stand _ _ (entry_is_words k (Free site) h)
 words_again k (Never site) h = k.words_stand _ _ (entry_is_words k (Never site) h)
 words_again k (Frame site) h = k.words_stand _ _ (entry_is_words k (Frame site) h)
+words_again k (Recur word depth) h = k.words_stand _ _ (entry_is_words k (Recur word depth) h)
+words_again k (Scratch site) h = k.words_stand _ _ (entry_is_words k (Scratch site) h)
 
 -- reading the line of an entry gives the entry
 line_taken : WordLaws → (device : Device) (e : Entry) → is_entry_of device e ≡ true → entry_by device (whole (entry_words e)) ≡ Some e

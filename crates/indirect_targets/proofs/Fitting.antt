@@ -7,8 +7,9 @@ use Rattle.std.proofs.lemmas.Bool.Decides.{nat_tests}
 use Rattle.avr_model.specs.declared.device.Device.{Device}
 use Rattle.avr_model.specs.declared.rows.Place.{Place}
 use Rattle.avr_model.specs.declared.assumption.Entry.{Entry}
-use Rattle.avr_model.specs.declared.assumption.Entry.TheVariants.{Pairs, Masks, Jump, Store, Prove, Free, Never, Frame}
-use Rattle.avr_model.specs.Devices.{io_end}
+use Rattle.avr_model.specs.declared.assumption.Entry.TheVariants.{Pairs, Masks, Jump, Store, Prove, Free, Never, Frame, Recur, Scratch}
+use Rattle.avr_model.specs.State.{SIZE}
+use Rattle.avr_model.specs.Devices.{io_end, depth_of}
 use Rattle.avr_model.specs.Vectors.{places, has_enables, is_core, is_protected, is_vector}
 use Rattle.avr_model.proofs.AllLaws.{devices_are_alike, places_are_apart}
 use Rattle.vector_table.specs.Entries.{fits_device, is_word, is_word_of, is_io, ascends}
@@ -90,6 +91,32 @@ store_admitted d site addresses e w l a of_word of_list of_all is =
     (all_more (is_protected d) is_io (protected_io d) addresses)
     ∙ ap (is_entry_of d) (sym is)
 
+depth_of_list : (d : Device) (depth : ℕ) → nat_le depth (depth_of d) ≡ true → nat_le depth SIZE ≡ true
+depth_of_list d depth h =
+    let most = devices_are_alike.most_depth d in
+    grind (arith, nat_tests)
+
+two_beside : (a b x y : Bool) → (a ≡ true → x ≡ true) → (b ≡ true → y ≡ true) → (a && b) ≡ ((x && y) && (a && b))
+two_beside true true x y f g = sym (rw (f refl, g refl) refl)
+two_beside true false x y f g = by (x && y)
+  where
+    by : (z : Bool) → false ≡ (z && false)
+    by true = refl
+    by false = refl
+two_beside false b x y f g = by (x && y)
+  where
+    by : (z : Bool) → false ≡ (z && false)
+    by true = refl
+    by false = refl
+
+pub recur_admitted : (d : Device) (word depth : ℕ) (e : Entry) (w l : Bool) → w ≡ is_word_of d word → l ≡ nat_le depth (depth_of d) → e ≡ Recur word depth
+    → (w && l) ≡ is_entry_of d e
+unfolding fits_device
+recur_admitted d word depth e w l of_word of_depth is =
+    ap₂ (λ (x y : Bool). x && y) of_word of_depth
+    ∙ two_beside (is_word_of d word) (nat_le depth (depth_of d)) (is_word word) (nat_le depth SIZE) (word_of_list d word) (depth_of_list d depth)
+    ∙ ap (is_entry_of d) (sym is)
+
 -- every device admits the entries without a site
 pub bare_is : (d : Device) (e : Entry) → (e ≡ Pairs) ⊎ (e ≡ Masks) → true ≡ is_entry_of d e
 unfolding fits_device
@@ -97,12 +124,13 @@ bare_is d e (inl is) = ap (is_entry_of d) (sym is)
 bare_is d e (inr is) = ap (is_entry_of d) (sym is)
 
 -- the entries that are a site alone
-pub alone_is : (d : Device) (site : ℕ) (e : Entry) → (e ≡ Prove site) ⊎ ((e ≡ Free site) ⊎ ((e ≡ Never site) ⊎ (e ≡ Frame site))) → is_word_of d site ≡ is_entry_of d e
+pub alone_is : (d : Device) (site : ℕ) (e : Entry) → (e ≡ Prove site) ⊎ ((e ≡ Free site) ⊎ ((e ≡ Never site) ⊎ ((e ≡ Frame site) ⊎ (e ≡ Scratch site)))) → is_word_of d site ≡ is_entry_of d e
 unfolding fits_device
 alone_is d site e is = one_beside (is_word_of d site) (is_word site) (word_of_list d site) ∙ by is
   where
-    by : (e ≡ Prove site) ⊎ ((e ≡ Free site) ⊎ ((e ≡ Never site) ⊎ (e ≡ Frame site))) → (is_word site && is_word_of d site) ≡ is_entry_of d e
+    by : (e ≡ Prove site) ⊎ ((e ≡ Free site) ⊎ ((e ≡ Never site) ⊎ ((e ≡ Frame site) ⊎ (e ≡ Scratch site)))) → (is_word site && is_word_of d site) ≡ is_entry_of d e
     by (inl same) = ap (is_entry_of d) (sym same)
     by (inr (inl same)) = ap (is_entry_of d) (sym same)
     by (inr (inr (inl same))) = ap (is_entry_of d) (sym same)
-    by (inr (inr (inr same))) = ap (is_entry_of d) (sym same)
+    by (inr (inr (inr (inl same)))) = ap (is_entry_of d) (sym same)
+    by (inr (inr (inr (inr same)))) = ap (is_entry_of d) (sym same)

@@ -1,11 +1,12 @@
 -- Worked texts and worked targets.
 use Rattle.std.specs.Prelude.{◌≡◌, ℕ, ◌==◌, List, [], ◌∷◌, ◌++◌, length, codes, Ok, Err, refl, if◌then◌else◌}
 use Rattle.std.specs.List.{flat_map}
+use Rattle.std.specs.Fmt.{digits}
 use Rattle.avr_model.specs.Devices.{M328, device_row}
 use Rattle.avr_model.specs.Vectors.{places, has_enables}
 use Rattle.vector_table.specs.Entries.{fits_device}
 use Rattle.avr_model.specs.declared.assumption.Entry.{Entry}
-use Rattle.avr_model.specs.declared.assumption.Entry.TheVariants.{Pairs, Masks, Jump, Store, Prove, Free, Never, Frame}
+use Rattle.avr_model.specs.declared.assumption.Entry.TheVariants.{Pairs, Masks, Jump, Store, Prove, Free, Never, Frame, Recur, Scratch}
 use Rattle.bit_domain.specs.declared.bits.Tri.TheVariants.{Zero, Any}
 use Rattle.bit_domain.specs.Numbers.{numbers_of, targets_of}
 use Rattle.bit_domain.specs.Packed.{packed}
@@ -20,15 +21,15 @@ abbrev text : List (List ℕ) → List ℕ
 text ls = flat_map (λ l. l ++ 10 ∷ []) ls
 
 abbrev each_kind : List Entry
-each_kind = Pairs ∷ Masks ∷ Jump 4 (5 ∷ 16383 ∷ []) ∷ Store 4 (0 ∷ 93 ∷ []) ∷ Prove 4 ∷ Free 4 ∷ Never 4 ∷ Frame 4 ∷ Prove 16383 ∷ []
+each_kind = Pairs ∷ Masks ∷ Jump 4 (5 ∷ 16383 ∷ []) ∷ Store 4 (0 ∷ 93 ∷ []) ∷ Prove 4 ∷ Free 4 ∷ Never 4 ∷ Frame 4 ∷ Recur 4 2048 ∷ Scratch 4 ∷ Prove 16383 ∷ []
 
 abbrev each_text : List ℕ
 each_text =
     text (codes "pairs" ∷ codes "masks" ∷ codes "jump 0004 0005 3FFF" ∷ codes "store 0004 0000 005D" ∷ codes "prove 0004" ∷ codes "free 0004" ∷ codes "never 0004" ∷ codes "frame 0004"
-    ∷ codes "prove 3FFF" ∷ [])
+    ∷ codes "recur 0004 2048" ∷ codes "scratch 0004" ∷ codes "prove 3FFF" ∷ [])
 
 spelled : text_of each_kind ≡ each_text
-unfolding hex_digits
+unfolding hex_digits digits
 spelled = refl
 
 read : entries_in M328 each_text ≡ Ok each_kind
@@ -55,6 +56,36 @@ frees_turned = refl
 frames_turned : entries_in M328 (text (codes "frame 0004" ∷ codes "never 0004" ∷ [])) ≡ Err (Order 2)
 unfolding entries_from with_line next_by entry_in numbered_in alone_by fits_device device_row
 frames_turned = refl
+
+scratch_turned : entries_in M328 (text (codes "scratch 0004" ∷ codes "recur 0004 6" ∷ [])) ≡ Err (Order 2)
+unfolding entries_from with_line next_by entry_in numbered_in alone_by fits_device device_row
+scratch_turned = refl
+
+-- one depth for a word
+recur_twice : entries_in M328 (text (codes "recur 0004 6" ∷ codes "recur 0004 7" ∷ [])) ≡ Err (Order 2)
+unfolding entries_from with_line next_by entry_in numbered_in alone_by fits_device device_row
+recur_twice = refl
+
+-- a depth is decimal, without a leading zero, at most 2,048 or the device's bytes of SRAM
+deep_in_hex : entries_in M328 (text (codes "recur 0004 0A" ∷ [])) ≡ Err (Malformed 1)
+unfolding entries_from with_line next_by entry_in numbered_in alone_by fits_device device_row
+deep_in_hex = refl
+
+too_deep : entries_in M328 (text (codes "recur 0004 2049" ∷ [])) ≡ Err (Malformed 1)
+unfolding entries_from with_line next_by entry_in numbered_in alone_by fits_device device_row
+too_deep = refl
+
+no_depth : entries_in M328 (text (codes "recur 0004" ∷ [])) ≡ Err (Malformed 1)
+unfolding entries_from with_line next_by entry_in numbered_in alone_by fits_device device_row
+no_depth = refl
+
+more_than_a_depth : entries_in M328 (text (codes "recur 0004 6 7" ∷ [])) ≡ Err (Malformed 1)
+unfolding entries_from with_line next_by entry_in numbered_in alone_by fits_device device_row
+more_than_a_depth = refl
+
+entered_outside : entries_in M328 (text (codes "recur 4000 6" ∷ [])) ≡ Err (Malformed 1)
+unfolding entries_from with_line next_by entry_in numbered_in alone_by fits_device device_row
+entered_outside = refl
 
 -- `pairs` comes at most once, first of all lines
 pairs_twice : entries_in M328 (text (codes "pairs" ∷ codes "pairs" ∷ [])) ≡ Err (Order 2)

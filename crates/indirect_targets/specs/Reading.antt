@@ -4,9 +4,10 @@ use Rattle.std.specs.Option.{option_map}
 use Rattle.std.specs.Str.{bytes_eq}
 use Rattle.avr_model.specs.declared.device.Device.{Device}
 use Rattle.avr_model.specs.declared.assumption.Entry.{Entry}
-use Rattle.avr_model.specs.declared.assumption.Entry.TheVariants.{Pairs, Masks, Jump, Store, Prove, Free, Never, Frame}
+use Rattle.avr_model.specs.declared.assumption.Entry.TheVariants.{Pairs, Masks, Jump, Store, Prove, Free, Never, Frame, Recur, Scratch}
 use Rattle.sb_base.specs.Lines.{TextLine, lines_of, words_of}
-use Rattle.line_reading.specs.Reading.{◌>>=◌, hex_at, is_over, then_at}
+use Rattle.avr_model.specs.State.{SIZE}
+use Rattle.line_reading.specs.Reading.{◌>>=◌, hex_at, dec_at, is_over, then_at}
 use Rattle.vector_table.specs.Entries.{is_entry, fits_device, is_above_last, most_entries}
 use Rattle.indirect_targets.specs.declared.fault.AssumeText.{AssumeText}
 use Rattle.indirect_targets.specs.declared.fault.AssumeText.TheVariants.{Malformed, Order}
@@ -26,6 +27,10 @@ listed_in ws = hex_at 4 ws >>= λ site. option_map (λ ns. (site.0, ns)) (number
 abbrev pub alone_in : List (List ℕ) → Option ℕ
 alone_in ws = hex_at 4 ws >>= λ site. if is_over site.1 then Some site.0 else None
 
+-- a word, and a depth of some device
+abbrev pub depth_in : List (List ℕ) → Option (ℕ × ℕ)
+depth_in ws = hex_at 4 ws >>= λ word. dec_at SIZE word.1 >>= λ depth. if is_over depth.1 then Some (word.0, depth.0) else None
+
 -- the entry of a line that is one word
 abbrev pub bare_in : Entry → List (List ℕ) → Option Entry
 bare_in entry ws = if is_over ws then Some entry else None
@@ -36,7 +41,8 @@ alone_by kind ws =
     if bytes_eq kind (codes "prove") then option_map (λ site. Prove site) (alone_in ws)
     else (if bytes_eq kind (codes "free") then option_map (λ site. Free site) (alone_in ws)
     else (if bytes_eq kind (codes "never") then option_map (λ site. Never site) (alone_in ws)
-    else (if bytes_eq kind (codes "frame") then option_map (λ site. Frame site) (alone_in ws) else None)))
+    else (if bytes_eq kind (codes "frame") then option_map (λ site. Frame site) (alone_in ws)
+    else (if bytes_eq kind (codes "scratch") then option_map (λ site. Scratch site) (alone_in ws) else None))))
 
 -- the entry of these words, whatever its numbers
 unfoldable pub numbered_in : List (List ℕ) → Option Entry
@@ -46,7 +52,8 @@ numbered_in (w ∷ ws) =
     else (if bytes_eq w (codes "masks") then bare_in Masks ws
     else (if bytes_eq w (codes "jump") then option_map (λ l. Jump l.0 l.1) (listed_in ws)
     else (if bytes_eq w (codes "store") then option_map (λ l. Store l.0 l.1) (listed_in ws)
-    else alone_by w ws)))
+    else (if bytes_eq w (codes "recur") then option_map (λ l. Recur l.0 l.1) (depth_in ws)
+    else alone_by w ws))))
 
 -- a list of the device may have the entry
 abbrev pub is_entry_of : Device → Entry → Bool

@@ -1,8 +1,8 @@
 -- The one text of an assumption list. Source: own.
-use Rattle.std.specs.Prelude.{ℕ, List, [], ◌∷◌, map, codes}
+use Rattle.std.specs.Prelude.{ℕ, List, [], ◌∷◌, map, codes, decimal}
 use Rattle.std.specs.List.{flat_map}
 use Rattle.avr_model.specs.declared.assumption.Entry.{Entry}
-use Rattle.avr_model.specs.declared.assumption.Entry.TheVariants.{Pairs, Masks, Jump, Store, Prove, Free, Never, Frame}
+use Rattle.avr_model.specs.declared.assumption.Entry.TheVariants.{Pairs, Masks, Jump, Store, Prove, Free, Never, Frame, Recur, Scratch}
 use Rattle.sb_base.specs.Digits.{hex_digits}
 use Rattle.sb_base.specs.Lines.{line}
 
@@ -10,7 +10,7 @@ use Rattle.sb_base.specs.Lines.{line}
 abbrev pub number_words : List ℕ → List (List ℕ)
 number_words numbers = map (λ n. hex_digits n 4) numbers
 
--- the words of an entry's line: its kind, its site and its items; `pairs` and `masks` are one word
+-- the words of an entry's line: its kind, its site and its items; `pairs` and `masks` are one word; a depth is decimal
 abbrev pub entry_words : Entry → List (List ℕ)
 entry_words Pairs = codes "pairs" ∷ []
 entry_words Masks = codes "masks" ∷ []
@@ -20,6 +20,8 @@ entry_words (Prove site) = codes "prove" ∷ number_words (site ∷ [])
 entry_words (Free site) = codes "free" ∷ number_words (site ∷ [])
 entry_words (Never site) = codes "never" ∷ number_words (site ∷ [])
 entry_words (Frame site) = codes "frame" ∷ number_words (site ∷ [])
+entry_words (Recur word depth) = codes "recur" ∷ hex_digits word 4 ∷ decimal depth ∷ []
+entry_words (Scratch site) = codes "scratch" ∷ number_words (site ∷ [])
 
 -- the line of an entry, with its line feed
 abbrev pub line_of : Entry → List ℕ

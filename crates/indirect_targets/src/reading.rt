@@ -2,6 +2,7 @@
 
 ghost use Rattle.std.specs.Prelude.{◌≡◌, List, Result, true, Some, None, IfSome, IfOk, length, ◌&&◌, nat_le, if◌then◌else◌};
 ghost use Rattle.std.specs.Option.{option_map};
+ghost use Rattle.avr_model.specs.Devices.{depth_of};
 ghost use Rattle.avr_model.specs.declared.assumption.Entry.{Entry};
 ghost use Rattle.avr_model.specs.declared.assumption.Entry.TheVariants as entry;
 ghost use Rattle.sb_base.specs.Answers.{Answers};
@@ -10,14 +11,14 @@ ghost use Rattle.vector_table.specs.Entries.{ascends};
 ghost use Rattle.indirect_targets.specs.declared.fault.AssumeText.{AssumeText};
 ghost use Rattle.indirect_targets.specs.declared.fault.AssumeText.TheVariants as fault;
 ghost use Rattle.indirect_targets.specs.Exact.{IsListDue, IsListDueUnlessMemory};
-ghost use Rattle.indirect_targets.specs.Reading.{numbers_in, listed_in, bare_in, alone_by, numbered_in, is_entry_of, entry_in, with_line, entries_in};
+ghost use Rattle.indirect_targets.specs.Reading.{numbers_in, listed_in, depth_in, bare_in, alone_by, numbered_in, is_entry_of, entry_in, with_line, entries_in};
 
 use crate::fault::AssumeText;
 use crate::laws::reading_is_exact;
 use avr_model::assumption::Entry;
 use avr_model::device::Device;
 use avr_model::listed::Listed;
-use line_reading::{hex_word, is_over};
+use line_reading::{dec_word, hex_word, is_over};
 use sb_base::{LineReader, Words, read_hex};
 use std::alloc::{AllocError, Global};
 use vector_table::{AssumeFault, Assumptions, are_all_protected, are_all_words, is_word};
@@ -27,6 +28,9 @@ pub const MOST_ENTRIES: usize = 4_096;
 
 // The most items of an entry.
 const MOST_ITEMS: usize = 64;
+
+// The greatest depth of some device.
+const MOST_DEPTH: u64 = 16_384;
 
 // The numbers of all remaining words, each of four digits. None if a word is no such number.
 #[tactic(auto, using(crate::proofs::Numbers::numbers_more, crate::proofs::Numbers::no_number, crate::proofs::Numbers::numbers_end))]
@@ -57,6 +61,19 @@ fn listed_of(alloc: Global, words: &mut Words<'_>, jump: bool) -> Result<Option<
     }
 }
 
+// The word and the depth after `recur`.
+fn depth_of(words: &mut Words<'_>) -> Option<Entry>
+    ensures { result ≡ option_map (λ l. entry.Recur l.0 l.1) (depth_in words.old) }
+{
+    let word = hex_word(words, 4)?;
+    let depth = dec_word(words, MOST_DEPTH)?;
+    if is_over(words) {
+        Some(Entry::Recur(word as u16, depth as u16))
+    } else {
+        None
+    }
+}
+
 // The entry, if no word follows its kind.
 fn bare_of(entry: Entry, words: &mut Words<'_>) -> Option<Entry>
     ensures { result ≡ bare_in entry words.old }
@@ -81,6 +98,8 @@ fn alone_by(kind: &[u8], words: &mut Words<'_>) -> Option<Entry>
         Some(Entry::Never(site))
     } else if kind == b"frame".as_slice() {
         Some(Entry::Frame(site))
+    } else if kind == b"scratch".as_slice() {
+        Some(Entry::Scratch(site))
     } else {
         None
     }
@@ -103,6 +122,8 @@ fn numbered_of(alloc: Global, text: &[u8]) -> Result<Option<Entry>, AllocError>
         listed_of(alloc, &mut words, true)
     } else if kind == b"store".as_slice() {
         listed_of(alloc, &mut words, false)
+    } else if kind == b"recur".as_slice() {
+        Ok(depth_of(&mut words))
     } else {
         Ok(alone_by(kind, &mut words))
     }
@@ -122,6 +143,13 @@ fn is_listable(items: &[u16]) -> bool
     !items.is_empty() && items.len() <= MOST_ITEMS && ascends(items)
 }
 
+// Whether a depth is one of the device's texts.
+fn is_depth(device: Device, depth: u16) -> bool
+    ensures { result ≡ nat_le depth (depth_of device) }
+{
+    depth <= device.depth()
+}
+
 // Whether an assumption list of the device may have the entry.
 fn is_entry(device: Device, entry: &Entry) -> bool
     ensures { result ≡ is_entry_of device entry.now }
@@ -136,9 +164,12 @@ fn is_entry(device: Device, entry: &Entry) -> bool
             let addresses = addresses.as_slice();
             is_word(device, *site) && is_listable(addresses) && are_all_protected(device, addresses)
         }
-        Entry::Prove(site) | Entry::Free(site) | Entry::Never(site) | Entry::Frame(site) => {
-            is_word(device, *site)
-        }
+        Entry::Recur(word, depth) => is_word(device, *word) && is_depth(device, *depth),
+        Entry::Prove(site)
+        | Entry::Free(site)
+        | Entry::Never(site)
+        | Entry::Frame(site)
+        | Entry::Scratch(site) => is_word(device, *site),
     }
 }
 
@@ -199,9 +230,10 @@ fn read_lines(alloc: Global, device: Device, text: &[u8]) -> Result<Assumptions,
 /// Reads an assumption list of a device. The inverse of `write`.
 ///
 /// The text has a line for each entry: `pairs`, `masks`, `jump SITE WORD ...`, `store SITE ADDRESS ...`, `prove SITE`, `free SITE`,
-/// `never SITE` or `frame SITE`, with word addresses and protected addresses of the device in four upper-case hexadecimal digits, single spaces, and a
-/// line feed after each line. A text of no list is refused at the first line with which no list continues: as `Malformed` if that line
-/// has the wrong form or is line 4,097, else as `Order`. Source: own.
+/// `never SITE`, `frame SITE`, `recur WORD DEPTH` or `scratch SITE`, with word addresses and protected addresses of the device in four
+/// upper-case hexadecimal digits, a decimal depth of at most 2,048 bytes or as many as the device's SRAM has, single spaces, and a line
+/// feed after each line. A text of no list is refused at the first line with which no list continues: as `Malformed` if that line has the
+/// wrong form or is line 4,097, else as `Order`. Source: own.
 pub fn read(alloc: Global, device: Device, text: &[u8]) -> Result<Assumptions, AssumeText>
     ensures exact { Answers (λ a. a) fault.Memory result (entries_in device text.now) }
     ensures told { IsListDueUnlessMemory device text.now result }

@@ -1,6 +1,7 @@
 //! The writer of assumption lists.
 
 ghost use Rattle.std.specs.Prelude.{◌≡◌, ◌∷◌, OnOk, OnErr, false};
+ghost use Rattle.avr_model.specs.declared.assumption.Entry.TheVariants.{Recur};
 ghost use Rattle.sb_base.specs.Writing.{with_words};
 ghost use Rattle.line_reading.specs.Appending.{with_text, AppendedPart, WroteWords};
 ghost use Rattle.indirect_targets.specs.Spelling.{number_words, entry_words, text_of};
@@ -37,6 +38,16 @@ fn write_words(
     write_numbers(out, items)
 }
 
+// Writes the words of a `recur` line: its word and its depth.
+fn write_recur(out: &mut LineWriter, word: u16, depth: u16) -> Result<(), AllocError>
+    ensures written { OnOk result (out.new ≡ with_words out.old (entry_words (Recur word depth))) }
+    ensures refused { OnErr result (WroteWords out.old (entry_words (Recur word depth)) out.new) }
+{
+    out.word(b"recur")?;
+    out.hex(u32::from(word), 4)?;
+    out.dec(u64::from(depth))
+}
+
 // Writes the words of an entry.
 fn write_entry(out: &mut LineWriter, entry: &Entry) -> Result<(), AllocError>
     ensures written { OnOk result (out.new ≡ with_words out.old (entry_words entry.now)) }
@@ -51,6 +62,8 @@ fn write_entry(out: &mut LineWriter, entry: &Entry) -> Result<(), AllocError>
         Entry::Free(site) => write_words(out, b"free", *site, &[]),
         Entry::Never(site) => write_words(out, b"never", *site, &[]),
         Entry::Frame(site) => write_words(out, b"frame", *site, &[]),
+        Entry::Recur(word, depth) => write_recur(out, *word, *depth),
+        Entry::Scratch(site) => write_words(out, b"scratch", *site, &[]),
     }
 }
 

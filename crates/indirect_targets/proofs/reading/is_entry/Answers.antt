@@ -1,7 +1,7 @@
 use Rattle.std.proofs.Common.{◌∙◌, sym, ap, refl, ℕ, List, true, false}
 use Rattle.std.proofs.lemmas.Bool.{false≢true}
 use Rattle.avr_model.specs.declared.assumption.Entry.TheVariants.{Jump, Store}
-use Rattle.indirect_targets.proofs.Fitting.{jump_admitted, store_admitted, bare_is, alone_is}
+use Rattle.indirect_targets.proofs.Fitting.{jump_admitted, store_admitted, recur_admitted, bare_is, alone_is}
 use Rattle.indirect_targets.proofs.reading.is_entry.Goals as goal
 use Rattle.indirect_targets.proofs.reading.is_entry.Goals.{then-is_word, else-is_word, then-is_word-2, else-is_word-2}
 
@@ -44,6 +44,16 @@ returns-else-is_listable-2 c = c.if-is_listable-2.false ∙ elim c.if-is_word-2.
       store_admitted c.args.device c.in-Store.site c.as_slice-addresses.result.now c.args.entry.now false _ _ (sym w.if-is_word-2.false ∙ c.is_word-in-Store.ensures) refl refl
       (c.in-Store.is ∙ ap (λ (ws : List ℕ). Store c.in-Store.site ws) (sym c.as_slice-addresses.ensures))
 ]
+
+pub returns-then-is_word-3 : goal.returns-then-is_word-3
+returns-then-is_word-3 c =
+    recur_admitted c.args.device c.in-Recur.word c.in-Recur.depth c.args.entry.now true c.is_depth.result (sym c.if-is_word-3.true ∙ c.is_word-in-Recur.ensures)
+    c.is_depth.ensures c.in-Recur.is
+
+pub returns-else-is_word-3 : goal.returns-else-is_word-3
+returns-else-is_word-3 c =
+    c.if-is_word-3.false
+    ∙ recur_admitted c.args.device c.in-Recur.word c.in-Recur.depth c.args.entry.now false _ (sym c.if-is_word-3.false ∙ c.is_word-in-Recur.ensures) refl c.in-Recur.is
 
 pub returns-in-Pairs : goal.returns-in-Pairs
 returns-in-Pairs c = bare_is c.args.device c.args.entry.now c.in-Pairs.is
