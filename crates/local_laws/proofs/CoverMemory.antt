@@ -168,24 +168,24 @@ module _ (task : Task) (m : State) (o : Origin) (k : NodeKey) (s : AbsState) (at
   one_covered d x v h spare =
       setting_covered (set d x) (node_set s d v) (set_one m o k s at d v x h) (less_set m.registers s.flags.carry (flag m.sreg 0) d x spare at.stands.less)
 
-  lds_covered : (d a : ℕ) → b1 < 256 → Spares s.flags.carry d → FollowsWhere (reads_masks m.device task.assumptions) m o s.facts k (not scratch) b1 b2 (record (setting m (set d (read m a b1)) m.sreg) { pc = further m 2 })
+  lds_covered : (d a : ℕ) → b1 < 256 → Spares s.flags.carry d → FollowsWhere (reads_masks m.device task.assumptions) m o s.facts k (not scratch) b1 b2 (record (setting m (set d (read (reads_masks m.device task.assumptions) m a b1)) m.sreg) { pc = further m 2 })
       (node_going_to k (record s { registers = node_set s d (read_at m.device (reads_masks m.device task.assumptions) k s a) }) (node_further m.device k 2))
   lds_covered d a small spare =
-      only m o k s at (not scratch) b1 b2 (record (setting m (set d (read m a b1)) m.sreg) { pc = further m 2 })
+      only m o k s at (not scratch) b1 b2 (record (setting m (set d (read (reads_masks m.device task.assumptions) m a b1)) m.sreg) { pc = further m 2 })
       (record { key = at_word k (node_further m.device k 2); state = record s { registers = node_set s d (read_at m.device (reads_masks m.device task.assumptions) k s a) } }) refl
-      (same_frame m o k s at (not scratch) (record (setting m (set d (read m a b1)) m.sreg) { pc = further m 2 })
+      (same_frame m o k s at (not scratch) (record (setting m (set d (read (reads_masks m.device task.assumptions) m a b1)) m.sreg) { pc = further m 2 })
       (record { key = at_word k (node_further m.device k 2); state = record s { registers = node_set s d (read_at m.device (reads_masks m.device task.assumptions) k s a) } }) refl refl refl refl refl
-      (further_is m o k s at (not scratch) b1 b2 2) at.place.enables at.place.i refl (set_one m o k s at d (read_at m.device (reads_masks m.device task.assumptions) k s a) (read m a b1) (read_stands m o k s at a b1 small)) at.stands.flags
-      (less_set m.registers s.flags.carry (flag m.sreg 0) d (read m a b1) spare at.stands.less) (λ held. held))
+      (further_is m o k s at (not scratch) b1 b2 2) at.place.enables at.place.i refl (set_one m o k s at d (read_at m.device (reads_masks m.device task.assumptions) k s a) (read (reads_masks m.device task.assumptions) m a b1) (read_stands m o k s at a b1 small)) at.stands.flags
+      (less_set m.registers s.flags.carry (flag m.sreg 0) d (read (reads_masks m.device task.assumptions) m a b1) spare at.stands.less) (λ held. held))
 
   load_covered : (d : ℕ) (p : Pointer) → b1 < 256 → SparesAll s.flags.carry (d ∷ moved_pair p)
       → FollowsWhere (reads_masks m.device task.assumptions) m o s.facts k (not scratch) b1 b2
-      (setting m (moved p (pair m (pointer_register p)) ++ set d (read m (address_of p (pair m (pointer_register p))) b1)) m.sreg) (pointer_load task.assumptions (site_at m.device k s) (pointer_moved p s) d (pointed s (pointer_register p) (step_before p)))
+      (setting m (moved p (pair m (pointer_register p)) ++ set d (read (reads_masks m.device task.assumptions) m (address_of p (pair m (pointer_register p))) b1)) m.sreg) (pointer_load task.assumptions (site_at m.device k s) (pointer_moved p s) d (pointed s (pointer_register p) (step_before p)))
   load_covered d p small spares =
-      loading_covered (moved p (pair m (pointer_register p))) (pointer_moved p s) d (read m (address_of p (pair m (pointer_register p))) b1)
+      loading_covered (moved p (pair m (pointer_register p))) (pointer_moved p s) d (read (reads_masks m.device task.assumptions) m (address_of p (pair m (pointer_register p))) b1)
       (read_pointed m.device (reads_masks m.device task.assumptions) k s (pointed s (pointer_register p) (step_before p))) (count_pointer s p ∙ at.node.formed.count_registers) (pointer_stands m o k s at p)
       (less_moved m.registers s.flags.carry (flag m.sreg 0) p (pair m (pointer_register p)) spares.1 at.stands.less) spares.0
-      (subst (λ a. IsRead o (read_pointed m.device (reads_masks m.device task.assumptions) k s (pointed s (pointer_register p) (step_before p))) (read m a b1))
+      (subst (λ a. IsRead o (read_pointed m.device (reads_masks m.device task.assumptions) k s (pointed s (pointer_register p) (step_before p))) (read (reads_masks m.device task.assumptions) m a b1))
       (address_is p (pair m (pointer_register p)) (pair_small m o k s at (pointer_register p)))
       (pointed_stands m o k s at (pointer_register p) (step_before p) b1 small))
 
@@ -257,10 +257,10 @@ module _ (task : Task) (m : State) (o : Origin) (k : NodeKey) (s : AbsState) (at
     pub st_covered : m.device ≡ device_of task.flash → (p : Pointer) (t : ℕ) (flags : AbsFlags) (facts : Option PairFacts) (registers : List AbsByte) (told : Option PairFacts) → SparesAll s.flags.carry (moved_pair p) → length registers ≡ 32 → KnownFits told
         → permits_number (record s { flags = flags; facts = facts }) (pointer_register p) (minus16 (plus16 (pair m (pointer_register p)) (step_before p)) (step_before p)) ≡ true
         → RegistersStand o registers (with_registers m.registers (moved p (pair m (pointer_register p))))
-        → protected_write task.flash task.assumptions m.pc (i.St p t) (effect_of task.flash m (i.St p t) b1 b2) ≡ None
+        → protected_write task.flash task.assumptions m.pc (i.St p t) (effect_of task.flash (reads_masks m.device task.assumptions) m (i.St p t) b1 b2) ≡ None
         → (pointer_write task (record s { flags = flags; facts = facts }) (pointer_register p) (step_before p)
         (write_at m.device k.pc (next m.device k) (record s { registers = registers; facts = told }) (value s t))).faults ≡ []
-        → FollowsWhere (reads_masks m.device task.assumptions) m o told k (not scratch) b1 b2 (effect_of task.flash m (i.St p t) b1 b2)
+        → FollowsWhere (reads_masks m.device task.assumptions) m o told k (not scratch) b1 b2 (effect_of task.flash (reads_masks m.device task.assumptions) m (i.St p t) b1 b2)
         (pointer_write task (record s { flags = flags; facts = facts }) (pointer_register p) (step_before p)
         (write_at m.device k.pc (next m.device k) (record s { registers = registers; facts = told }) (value s t)))
     st_covered is_device p t flags facts registers told spares count fits permitted stand unflagged clean =
@@ -270,7 +270,7 @@ module _ (task : Task) (m : State) (o : Origin) (k : NodeKey) (s : AbsState) (at
         (write_at m.device k.pc (next m.device k) (record s { registers = registers; facts = told }) (value s t)) in
         let is = address_is p (pair m (pointer_register p)) (pair_small m o k s at (pointer_register p)) in
         let free = site_unflagged task (set (address_of p (pair m (pointer_register p))) (register m t)) m.pc k.pc at.place.pc
-        (st_unflagged task m.pc p t (effect_of task.flash m (i.St p t) b1 b2) unflagged) in
+        (st_unflagged task m.pc p t (effect_of task.flash (reads_masks m.device task.assumptions) m (i.St p t) b1 b2) unflagged) in
         let reaches : ReachesNode (reads_masks m.device task.assumptions) m o told k (not scratch) (stored m on_next writes false (plus16 (pair m (pointer_register p)) (step_before p)) (register m t)) row =
         pointer_written m o k s at (not scratch) on_next (node_further m.device k 1) (goes_further m o k s at (not scratch) b1 b2 1) writes registers stand
         (less_moved m.registers s.flags.carry (flag m.sreg 0) p (pair m (pointer_register p)) spares at.stands.less) told fits (register m t) (register_byte m o k s at t) (value s t)
@@ -281,11 +281,11 @@ module _ (task : Task) (m : State) (o : Origin) (k : NodeKey) (s : AbsState) (at
 
   -- ---- the rows
 
-  bit_may : b1 < 256 → (a b : ℕ) → Permits (tri_at (read_at m.device (reads_masks m.device task.assumptions) k s a).bits b) (from_bool (flag (read m a b1) b))
-  bit_may small a b = permits_flag (read_at m.device (reads_masks m.device task.assumptions) k s a).bits (read m a b1) b (read_stands m o k s at a b1 small).bits
+  bit_may : b1 < 256 → (a b : ℕ) → Permits (tri_at (read_at m.device (reads_masks m.device task.assumptions) k s a).bits b) (from_bool (flag (read (reads_masks m.device task.assumptions) m a b1) b))
+  bit_may small a b = permits_flag (read_at m.device (reads_masks m.device task.assumptions) k s a).bits (read (reads_masks m.device task.assumptions) m a b1) b (read_stands m o k s at a b1 small).bits
 
   -- the bit of an address reads 0
-  turns_zero : (a b pc pc' : ℕ) → wrapped m.device pc ≡ pc' → flag (read m a b1) b ≡ false
+  turns_zero : (a b pc pc' : ℕ) → wrapped m.device pc ≡ pc' → flag (read (reads_masks m.device task.assumptions) m a b1) b ≡ false
       → ArrivesWhere (reads_masks m.device task.assumptions) m o s.facts (not scratch) (going_to m pc) (record { key = off_table (reading_zero m.device (reads_masks m.device task.assumptions) k a b) pc'; state = s })
   turns_zero a b pc pc' here off =
       turns_with m o k s at (not scratch) (without m.device (reads_masks m.device task.assumptions) (held_of m.device a b) k.masks) (zero_read (reads_masks m.device task.assumptions) m k.masks a b b1 at.node.masks at.place.enables off) pc pc' here
@@ -295,7 +295,7 @@ module _ (task : Task) (m : State) (o : Origin) (k : NodeKey) (s : AbsState) (at
   addressed_covered members are small (i.Ldd d b q) spares is told clean unflagged =
       loading_covered [] s.registers d _ _ at.node.formed.count_registers at.stands.registers at.stands.less spares.0 (pointed_stands m o k s at (base_register b) q b1 small)
   addressed_covered members are small (i.Std b q r) spares is told clean unflagged = std_covered members told (base_register b) q r (base_pair b)
-      (site_unflagged task (set (plus16 (pair m (base_register b)) q) (register m r)) m.pc k.pc at.place.pc (std_unflagged task m.pc b q r (effect_of task.flash m (i.Std b q r) b1 b2) unflagged.protected)) clean
+      (site_unflagged task (set (plus16 (pair m (base_register b)) q) (register m r)) m.pc k.pc at.place.pc (std_unflagged task m.pc b q r (effect_of task.flash (reads_masks m.device task.assumptions) m (i.Std b q r) b1 b2) unflagged.protected)) clean
   addressed_covered members are small (i.Lds d a) spares is told clean unflagged = lds_covered d a small spares.0
   addressed_covered members are small (i.Sts a r) spares is told clean unflagged = register_covered members (further m 2) 2 (further_is m o k s at (not scratch) b1 b2 2) false a r clean
   addressed_covered members are small (i.Ld d p) spares is told clean unflagged = load_covered d p small spares
@@ -317,10 +317,10 @@ module _ (task : Task) (m : State) (o : Origin) (k : NodeKey) (s : AbsState) (at
   addressed_covered members are small (i.Cbi a b) spares is told clean unflagged = bit_covered members (port a) b false clean
   addressed_covered members are small (i.Sbi a b) spares is told clean unflagged = bit_covered members (port a) b true clean
   addressed_covered members are small (i.Sbic a b) spares is told clean unflagged =
-      skip_keys m o k s at (not scratch) b1 b2 task.flash (not (flag (read m (port a) b1) b)) (tri_not (tri_at (read_at m.device (reads_masks m.device task.assumptions) k s (port a)).bits b)) (reading_zero m.device (reads_masks m.device task.assumptions) k (port a) b) k refl refl
-      (λ pc pc' here off. turns_zero (port a) b pc pc' here (off_by (flag (read m (port a) b1) b) off)) (λ pc pc' here on. turns_to m o k s at (not scratch) pc pc' here)
-      (not_may (tri_at (read_at m.device (reads_masks m.device task.assumptions) k s (port a)).bits b) (flag (read m (port a) b1) b) (bit_may small (port a) b))
+      skip_keys m o k s at (not scratch) b1 b2 task.flash (not (flag (read (reads_masks m.device task.assumptions) m (port a) b1) b)) (tri_not (tri_at (read_at m.device (reads_masks m.device task.assumptions) k s (port a)).bits b)) (reading_zero m.device (reads_masks m.device task.assumptions) k (port a) b) k refl refl
+      (λ pc pc' here off. turns_zero (port a) b pc pc' here (off_by (flag (read (reads_masks m.device task.assumptions) m (port a) b1) b) off)) (λ pc pc' here on. turns_to m o k s at (not scratch) pc pc' here)
+      (not_may (tri_at (read_at m.device (reads_masks m.device task.assumptions) k s (port a)).bits b) (flag (read (reads_masks m.device task.assumptions) m (port a) b1) b) (bit_may small (port a) b))
   addressed_covered members are small (i.Sbis a b) spares is told clean unflagged =
-      skip_keys m o k s at (not scratch) b1 b2 task.flash (flag (read m (port a) b1) b) (tri_at (read_at m.device (reads_masks m.device task.assumptions) k s (port a)).bits b) k (reading_zero m.device (reads_masks m.device task.assumptions) k (port a) b) refl refl
+      skip_keys m o k s at (not scratch) b1 b2 task.flash (flag (read (reads_masks m.device task.assumptions) m (port a) b1) b) (tri_at (read_at m.device (reads_masks m.device task.assumptions) k s (port a)).bits b) k (reading_zero m.device (reads_masks m.device task.assumptions) k (port a) b) refl refl
       (λ pc pc' here on. turns_to m o k s at (not scratch) pc pc' here) (λ pc pc' here off. turns_zero (port a) b pc pc' here off) (bit_may small (port a) b)
   addressed_covered members are small instr spares is told clean unflagged = absurd is

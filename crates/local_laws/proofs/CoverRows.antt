@@ -1,10 +1,10 @@
 -- Each row that does not read or write data space is covered.
-use Rattle.std.proofs.Common.{◌≡◌, refl, ap, ℕ, ◌*◌, ◌<◌, ◌==◌, Bool, true, false, not, if◌then◌else◌, List, [], ◌∷◌, Some, None, arith}
+use Rattle.std.proofs.Common.{◌≡◌, refl, sym, ap, ℕ, ◌*◌, ◌<◌, ◌==◌, ◌||◌, Bool, true, false, not, if◌then◌else◌, List, [], ◌∷◌, Some, None, arith}
 use Rattle.std.specs.Prelude.{⊤}
 use Rattle.std.specs.Int.{from_bool}
 use Rattle.std.specs.Int.Bits.{or_self, and_self}
 use Rattle.std.proofs.lemmas.Option.{same_Some}
-use Rattle.basics.specs.Booleans.{not_from_never}
+use Rattle.basics.specs.Booleans.{not_from_never, or_with_false}
 use Rattle.basics.specs.Items.{first_in}
 use Rattle.abs_alu.proofs.AllLaws.{has_known}
 use Rattle.avr_model.specs.Devices.{Program, wrapped}
@@ -21,14 +21,15 @@ use Rattle.avr_model.specs.declared.instruction.UnaryOp.TheVariants as unary
 use Rattle.avr_model.specs.declared.operation.Logic.TheVariants as logic
 use Rattle.avr_model.specs.declared.operation.Shift.TheVariants as shift
 use Rattle.avr_model.specs.declared.operation.Mul.TheVariants as product
-use Rattle.avr_model.specs.Assumptions.{jump_line, is_frame}
+use Rattle.avr_model.specs.Assumptions.{jump_line, is_frame, has_scratch}
 use Rattle.avr_model.specs.Masks.{reads_masks}
 use Rattle.avr_model.specs.Sreg.{flag}
 use Rattle.avr_model.specs.Written.{set_by_binary, set_by_immediate, written}
 use Rattle.avr_model.specs.Text.{far}
 use Rattle.avr_model.specs.State.{State, register}
 use Rattle.avr_model.specs.Effects.{effect_of, binary_effect, immediate_effect, unary_effect, carry}
-use Rattle.avr_model.specs.Step.{unless_listed, unlisted_transfer}
+use Rattle.avr_model.specs.Step.{unless_listed, unlisted_transfer, is_guarding}
+use Rattle.avr_model.specs.Sites.{is_scratch}
 use Rattle.bit_domain.specs.declared.bits.Tri.TheVariants.{Zero}
 use Rattle.bit_domain.specs.Tri.{Permits, tri_not}
 use Rattle.bit_domain.specs.TriByte.{tri_at, byte_known, byte_constant}
@@ -47,7 +48,7 @@ use Rattle.local_rules.specs.Registers.{value, bits, carry_bit, less_than, less_
 use Rattle.local_rules.specs.FrameLines.{is_followed, framed_binary}
 use Rattle.local_rules.specs.Flow.{skipping as node_skipping}
 use Rattle.local_rules.specs.Local.{immediate_row, unary_row, row_of}
-use Rattle.local_rules.specs.Cover.{IsUnflagged}
+use Rattle.local_rules.specs.Cover.{Follows, IsUnflagged, effect_by}
 use Rattle.local_laws.proofs.Bare.{InBareFrame}
 use Rattle.local_laws.proofs.Landing.{FollowsWhere}
 use Rattle.local_laws.proofs.Bits.{constant_is, permits_flag}
@@ -60,7 +61,7 @@ use Rattle.local_laws.proofs.FlowRows.{not_may, going_covered, further_is, goes_
 use Rattle.local_laws.proofs.Sized.{IsInstrSized}
 use Rattle.local_laws.proofs.Stack.{pop_covered, push_covered, rcall_covered}
 use Rattle.local_laws.proofs.Targets.{MakesRoom}
-use Rattle.local_rules.specs.Site.{Task, site_at, task_with}
+use Rattle.local_rules.specs.Site.{Task, masks_by, site_at, task_with}
 use Rattle.local_rules.specs.Local.{equal_skip}
 use Rattle.local_rules.specs.FrameLines.{binary_at}
 
@@ -189,6 +190,22 @@ module _ {may : Bool} (m : State) (o : Origin) (k : NodeKey) (s : AbsState) (at 
     binary_line_covered words true binary.Mov d r spares = binary_covered words binary.Mov d r spares
     binary_line_covered words true binary.Mul d r spares = binary_covered words binary.Mul d r spares
 
+-- whether the bytes that an instruction at this word pushes stay live
+abbrev pub guarding : Bool → List Entry → ℕ → Instr → Bool
+guarding scratch A pc (i.Push r) = not (scratch || has_scratch A pc)
+guarding scratch A pc _ = not scratch
+
+pub guards_are : (words : Program) (A : List Entry) (pc pc' : ℕ) (instr : Instr) → pc ≡ pc' → guarding (is_scratch words pc) A pc' instr ≡ is_guarding words A pc instr
+unfolding is_guarding
+guards_are words A pc pc' (i.Push r) e = ap (λ x. not (is_scratch words pc || has_scratch A x)) (sym e)
+guards_are words A pc pc' instr e = ap not (sym (or_with_false (is_scratch words pc)))
+
+-- the part of a row covers the machine's step, if it has no fault and the step isn't flagged
+abbrev pub CoversRow : Task → State → Origin → NodeKey → ℕ → ℕ → Bool → Instr → Raw → Type 0
+CoversRow task m o k b1 b2 scratch instr r =
+    r.faults ≡ [] → IsUnflagged task m instr (effect_by task m instr b1 b2)
+    → Follows (masks_by task) m o k (guarding scratch task.assumptions k.pc instr) b1 b2 (effect_by task m instr b1 b2) r
+
 listed_word : (A : List Entry) (pc : ℕ) (e : Effect) → unlisted_transfer A pc i.Ijmp e ≡ None → unless_listed (jump_line A pc) e.pc ≡ None
 unfolding unlisted_transfer
 listed_word A pc e h = h
@@ -207,8 +224,8 @@ module _ (A : List Entry) (m : State) (o : Origin) (k : NodeKey) (s : AbsState) 
   -- the goal of a row
   abbrev pub RowIsCovered : Instr → Type 0
   RowIsCovered instr =
-      (row_of task scratch (site_at m.device k s) instr).faults ≡ [] → IsUnflagged task m instr (effect_of words m instr b1 b2)
-      → FollowsWhere (reads_masks m.device A) m o s.facts k (not scratch) b1 b2 (effect_of words m instr b1 b2) (row_of task scratch (site_at m.device k s) instr)
+      (row_of task scratch (site_at m.device k s) instr).faults ≡ [] → IsUnflagged task m instr (effect_of words (reads_masks m.device A) m instr b1 b2)
+      → FollowsWhere (reads_masks m.device A) m o s.facts k (guarding scratch A k.pc instr) b1 b2 (effect_of words (reads_masks m.device A) m instr b1 b2) (row_of task scratch (site_at m.device k s) instr)
 
   -- Each row is covered, if those that name an address are.
   pub row_covered : b1 < 256 → (instr : Instr) → SparesAll s.flags.carry (written instr) → IsInstrSized instr → (scratch ≡ true → MakesRoom instr) → (NamesAddress instr → RowIsCovered instr) → RowIsCovered instr
@@ -232,12 +249,12 @@ module _ (A : List Entry) (m : State) (o : Origin) (k : NodeKey) (s : AbsState) 
   row_covered small (i.Pop d) spares sized rooms addressed none unflagged = pop_covered m o k s at (not scratch) b1 b2 d small spares.0 none
   row_covered small (i.Sts a r) spares sized rooms addressed none unflagged = addressed tt none unflagged
   row_covered small (i.St p r) spares sized rooms addressed none unflagged = addressed tt none unflagged
-  row_covered small (i.Push r) spares sized rooms addressed none unflagged = push_covered m o k s at scratch b1 b2 r none
+  row_covered small (i.Push r) spares sized rooms addressed none unflagged = push_covered m o k s at (scratch || has_scratch A k.pc) b1 b2 r none
   row_covered small (i.Unary op d) spares sized rooms addressed none unflagged = unary_line_covered m o k s at b1 b2 (not scratch) (is_frame A k.pc) op d spares.0
   row_covered small (i.Bset n) spares sized rooms addressed none unflagged = flag_covered m o k s at (not scratch) b1 b2 n true
   row_covered small (i.Bclr n) spares sized rooms addressed none unflagged = flag_covered m o k s at (not scratch) b1 b2 n false
-  row_covered small i.Ijmp spares sized rooms addressed none unflagged = ijmp_covered m o k s at (not scratch) b1 b2 A (listed_word A m.pc (effect_of words m i.Ijmp b1 b2) unflagged.listed) none
-  row_covered small i.Icall spares sized rooms addressed none unflagged = icall_covered m o k s at (not scratch) b1 b2 A (not_from_never scratch rooms) (listed_call A m.pc (effect_of words m i.Icall b1 b2) unflagged.listed) none
+  row_covered small i.Ijmp spares sized rooms addressed none unflagged = ijmp_covered m o k s at (not scratch) b1 b2 A (listed_word A m.pc (effect_of words (reads_masks m.device A) m i.Ijmp b1 b2) unflagged.listed) none
+  row_covered small i.Icall spares sized rooms addressed none unflagged = icall_covered m o k s at (not scratch) b1 b2 A (not_from_never scratch rooms) (listed_call A m.pc (effect_of words (reads_masks m.device A) m i.Icall b1 b2) unflagged.listed) none
   row_covered small i.Ret spares sized rooms addressed none unflagged = ret_covered m o k s at (not scratch) b1 b2 none
   row_covered small i.Reti spares sized rooms addressed none unflagged = reti_covered m o k s at (not scratch) b1 b2 none
   row_covered small i.Sleep spares sized rooms addressed none unflagged = going_covered m o k s at (not scratch) b1 b2 _ (further m.device k 1) (goes_further m o k s at (not scratch) b1 b2 1)

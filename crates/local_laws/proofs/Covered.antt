@@ -18,7 +18,7 @@ use Rattle.local_rules.specs.Local.{row_at, row_in, row_by, plain_row, is_hung, 
 use Rattle.abs_state.specs.FlagsSet.{sets_flags, sets_carry}
 use Rattle.local_rules.specs.Registers.{before}
 use Rattle.local_rules.specs.Machine.{AreWords}
-use Rattle.local_rules.specs.Cover.{CoversStep, InFrameIn}
+use Rattle.local_rules.specs.Cover.{Follows, effect_by, CoversStep, InFrameIn}
 use Rattle.local_laws.proofs.Bare.{InBareFrame, bare_frame}
 use Rattle.local_laws.proofs.PairedStep.{paired_covered}
 use Rattle.pair_domain.specs.declared.facts.PairFacts.{PairFacts}
@@ -26,14 +26,14 @@ use Rattle.pair_cuts.specs.Cuts.{pick_cut}
 use Rattle.local_laws.proofs.Less.{forgetting_at, forgotten_spares}
 use Rattle.local_laws.specs.Laws.{LocalPartsCover}
 use Rattle.local_laws.proofs.CoverMemory.{addressed_covered}
-use Rattle.local_laws.proofs.CoverRows.{row_covered}
+use Rattle.local_laws.proofs.CoverRows.{guards_are, CoversRow, row_covered}
 use Rattle.local_laws.proofs.Sized.{sized_at}
 use Rattle.local_laws.proofs.Ends.{held}
 use Rattle.local_laws.proofs.SplitMembers.{are_written}
 use Rattle.local_laws.proofs.Targets.{scratch_makes_room}
 use Rattle.local_laws.proofs.Quiet.{Quiet}
 use Rattle.local_laws.proofs.Picks.{splits_at, at_quiet, in_picks, picked_at, all_covered}
-use Rattle.local_rules.specs.Site.{Task, site_at, task_with}
+use Rattle.local_rules.specs.Site.{Task, masks_by, site_at, task_with}
 
 module _ (ws : List ℕ) (A : List Entry) (m : State) (o : Origin) (k : NodeKey) (s : AbsState) (at : InBareFrame (reads_masks m.device A) m o k s) (b1 b2 : ℕ) (small : b1 < 256)
     (other : b2 < 256) (are : AreWords (image m.device ws)) where
@@ -57,7 +57,7 @@ module _ (ws : List ℕ) (A : List Entry) (m : State) (o : Origin) (k : NodeKey)
   not_deep false offset instr r h = h
 
   plain_covered : (instr : Instr) → instruction_at words m.pc ≡ Some instr
-      → CoversStep task m o k b1 b2 (Some instr) (plain_row task (is_scratch words m.pc) (site_at m.device k s) instr)
+      → CoversRow task m o k b1 b2 (is_scratch words m.pc) instr (plain_row task (is_scratch words m.pc) (site_at m.device k s) instr)
   plain_covered instr e =
       let t = before instr s in
       let there = forgetting_at m o k s (written instr) (sets_flags instr) (sets_carry instr) at in
@@ -66,13 +66,15 @@ module _ (ws : List ℕ) (A : List Entry) (m : State) (o : Origin) (k : NodeKey)
       let row =
       row_covered A m o k t there b1 b2 words (is_scratch words m.pc) small instr spares sized (λ scratch. scratch_makes_room words m.pc instr scratch e)
       (λ names. addressed_covered task m o k t there (is_scratch words m.pc) b1 b2 are_written are small instr spares names refl) in
-      λ clean unflagged. (row clean unflagged).leads (held words m o k s b1 b2 instr are small other sized at)
+      λ clean unflagged. (row clean unflagged).leads (held words (reads_masks m.device A) m o k s b1 b2 instr are small other sized at)
 
   at_instruction : (instr : Option Instr) → instruction_at words m.pc ≡ instr → CoversStep task m o k b1 b2 instr (row_at task (is_scratch words m.pc) (site_at m.device k s) instr)
   at_instruction None e = λ clean. absurd (let e = clean in cc)
-  at_instruction (Some instr) e = by s.facts refl
+  at_instruction (Some instr) e = λ clean unflagged.
+      subst (λ guarded. Follows (masks_by task) m o k guarded b1 b2 (effect_by task m instr b1 b2) (row_by s.facts task (is_scratch words m.pc) (site_at m.device k s) instr))
+      (guards_are words A m.pc k.pc instr at.place.pc) (by s.facts refl clean unflagged)
     where
-      by : (f : Option PairFacts) → s.facts ≡ f → CoversStep task m o k b1 b2 (Some instr) (row_by f task (is_scratch words m.pc) (site_at m.device k s) instr)
+      by : (f : Option PairFacts) → s.facts ≡ f → CoversRow task m o k b1 b2 (is_scratch words m.pc) instr (row_by f task (is_scratch words m.pc) (site_at m.device k s) instr)
       by None is = plain_covered instr e
       by (Some f) is = paired_covered ws A m o k s at b1 b2 small other are f is instr e (plain_covered instr e)
 

@@ -160,9 +160,9 @@ module _ (m : State) (h : IsMachine m) where
   branches true k = goes _
   branches false k = goes _
 
-  module _ (words : Program) (are : AreWords words) (b1 b2 : ℕ) (small1 : b1 < 256) (small2 : b2 < 256) where
+  module _ (words : Program) (are : AreWords words) (still : Bool) (b1 b2 : ℕ) (small1 : b1 < 256) (small2 : b2 < 256) where
     -- the effect of every row is in range
-    pub row_fits : (instr : Instr) → IsInstrSized instr → IsEffect m.device (effect_of words m instr b1 b2)
+    pub row_fits : (instr : Instr) → IsInstrSized instr → IsEffect m.device (effect_of words still m instr b1 b2)
     row_fits i.Nop sized = goes _
     row_fits (i.Movw d r) sized = sets _ _ (pair_writes (2 * d) (pair m (2 * r)) (omega (arith, byte (2 * r), byte (2 * r + 1)))) h.sreg_byte
     row_fits (i.Muls d r) sized = multiplies product.Muls (register m d) (register m r) (byte d) (byte r)
@@ -172,16 +172,16 @@ module _ (m : State) (h : IsMachine m) where
     row_fits (i.Fmulsu d r) sized = multiplies product.Fmulsu (register m d) (register m r) (byte d) (byte r)
     row_fits (i.Binary op d r) sized = binary_fits words op d r
     row_fits (i.Immediate op d n) sized = immediate_fits op d n sized
-    row_fits (i.Ldd d b q) sized = sets _ _ (one_write d _ (read_small m _ b1 h small1)) h.sreg_byte
+    row_fits (i.Ldd d b q) sized = sets _ _ (one_write d _ (read_small m still _ b1 h small1)) h.sreg_byte
     row_fits (i.Std b q r) sized = stores_byte _ _ (byte r)
-    row_fits (i.Lds d a) sized = record { pc = inside _; registers = (read_small m a b1 h small1, tt); sreg = h.sreg_byte; sp = h.sp_word; enables = h.enable_bits; stores = tt; pushes = tt }
-    row_fits (i.Ld d p) sized = sets _ _ (moved_and_one p _ d _ (read_small m _ b1 h small1)) h.sreg_byte
+    row_fits (i.Lds d a) sized = record { pc = inside _; registers = (read_small m still a b1 h small1, tt); sreg = h.sreg_byte; sp = h.sp_word; enables = h.enable_bits; stores = tt; pushes = tt }
+    row_fits (i.Ld d p) sized = sets _ _ (moved_and_one p _ d _ (read_small m still _ b1 h small1)) h.sreg_byte
     row_fits (i.LpmZ d) sized = sets _ _ (one_write d _ (flash_small words (pair m 30) b1 are small1)) h.sreg_byte
     row_fits (i.LpmZPlus d) sized = sets _ _ (and_one 30 (plus16 (pair m 30) 1) d _ (omega arith) (flash_small words (pair m 30) b1 are small1)) h.sreg_byte
     row_fits (i.ElpmZ d) sized = sets _ _ (one_write d _ small1) h.sreg_byte
     row_fits (i.ElpmZPlus d) sized = sets _ _ (and_one 30 (plus16 (pair m 30) 1) d _ (omega arith) small1) h.sreg_byte
     row_fits i.Elpm sized = sets _ _ (one_write 0 _ small1) h.sreg_byte
-    row_fits (i.Pop d) sized = record { pc = inside _; registers = (read_small m _ b1 h small1, tt); sreg = h.sreg_byte; sp = omega arith; enables = h.enable_bits; stores = tt; pushes = tt }
+    row_fits (i.Pop d) sized = record { pc = inside _; registers = (read_small m still _ b1 h small1, tt); sreg = h.sreg_byte; sp = omega arith; enables = h.enable_bits; stores = tt; pushes = tt }
     row_fits (i.Sts a r) sized = record { pc = inside _; registers = tt; sreg = h.sreg_byte; sp = h.sp_word; enables = h.enable_bits; stores = (byte r, tt); pushes = tt }
     row_fits (i.St p r) sized = record { pc = inside _; registers = moved_writes p _; sreg = h.sreg_byte; sp = h.sp_word; enables = h.enable_bits; stores = (byte r, tt); pushes = tt }
     row_fits (i.Push r) sized = record { pc = inside _; registers = tt; sreg = h.sreg_byte; sp = omega arith; enables = h.enable_bits; stores = tt; pushes = (byte r, tt) }
@@ -204,7 +204,7 @@ module _ (m : State) (h : IsMachine m) where
     row_fits (i.Sbi a b) sized = stores_byte _ _ (with_bit_small _ b true)
     row_fits (i.Sbic a b) sized = goes _
     row_fits (i.Sbis a b) sized = goes _
-    row_fits (i.In d a) sized = sets _ _ (one_write d _ (read_small m _ b1 h small1)) h.sreg_byte
+    row_fits (i.In d a) sized = sets _ _ (one_write d _ (read_small m still _ b1 h small1)) h.sreg_byte
     row_fits (i.Out a r) sized = record { pc = inside _; registers = tt; sreg = h.sreg_byte; sp = h.sp_word; enables = h.enable_bits; stores = (byte r, tt); pushes = tt }
     row_fits (i.Rjmp t) sized = goes _
     row_fits (i.Rcall t) sized = calls _ _ (word 1)

@@ -28,7 +28,7 @@ use Rattle.mask_states.specs.Wakes.{without}
 use Rattle.mask_states.proofs.AllLaws.{enables_stay_among}
 use Rattle.local_rules.specs.Reads.{loosened, enable_read}
 use Rattle.local_rules.specs.Writes.{masks_written, written_at}
-use Rattle.local_laws.proofs.Machine.{io_value}
+use Rattle.local_laws.proofs.Machine.{io_value, free_bit, free_small}
 use Rattle.local_rules.specs.Writes.{write_at}
 
 -- ---- what a key says
@@ -135,9 +135,9 @@ first_by true x y e = refl
 first_by false x y e = absurd (cc)
 
 -- a read of such an address gives the byte of I/O
-pub io_read : (m : State) (a input : ℕ) → IsIo m.device a → read m a input ≡ io_byte m.device m.enables a input
+pub io_read : (still : Bool) (m : State) (a input : ℕ) → IsIo m.device a → read still m a input ≡ io_byte m.device still m.enables a input
 unfolding read
-io_read m a input h = fifth (nat_lt a 0x20) (a == SPL) (a == SPH) (a == SREG) _ _ _ _ _ h.0 h.1.0 h.1.1.0 h.1.1.1.0 ∙ first_by (nat_le a (io_end m.device)) _ _ h.1.1.1.1
+io_read still m a input h = fifth (nat_lt a 0x20) (a == SPL) (a == SPH) (a == SREG) _ _ _ _ _ h.0 h.1.0 h.1.1.0 h.1.1.1.0 ∙ first_by (nat_le a (io_end m.device)) _ _ h.1.1.1.1
 
 -- a write of such an address goes to the enable bits
 pub io_written : (device : Device) (pc : ℕ) (k : NodeKey) (s : AbsState) (is_out : Bool) (a : ℕ) (v : AbsByte) → IsIo device a
@@ -145,11 +145,12 @@ pub io_written : (device : Device) (pc : ℕ) (k : NodeKey) (s : AbsState) (is_o
 unfolding written_at
 io_written device pc k s is_out a v h = fifth (nat_lt a 0x20) (a == SPL) (a == SPH) (a == SREG) _ _ _ _ _ h.0 h.1.0 h.1.1.0 h.1.1.1.0
 
-held_bit : (device : Device) (enables a b v input : ℕ) → b < 8 → held_of device a b ≡ Some v → bit_at (io_byte device enables a input) b ≡ bit_at enables (v - 2)
+held_bit : (device : Device) (still : Bool) (enables a b v input : ℕ) → b < 8 → held_of device a b ≡ Some v → bit_at (io_byte device still enables a input) b ≡ bit_at enables (v - 2)
 unfolding io_byte
-held_bit device enables a b v input lt e =
-    numbers_are_their_bits.bits 8 (λ j. io_bit (held_of device a j) enables (bit_at input j)) (λ j h. io_value (held_of device a j) enables (bit_at input j) (bit_at-lt input j)) b lt
-    ∙ ap (λ x. io_bit x enables (bit_at input b)) e
+held_bit device still enables a b v input lt e =
+    numbers_are_their_bits.bits 8 (λ j. io_bit (held_of device a j) enables (free_bit device still a input j))
+    (λ j h. io_value (held_of device a j) enables (free_bit device still a input j) (free_small device still a input j)) b lt
+    ∙ ap (λ x. io_bit x enables (free_bit device still a input b)) e
 
 no_one : (bit : ℕ) → bit < 2 → (bit == 1) ≡ false → bit ≡ 0
 no_one bit small e = grind (arith, nat_tests)
@@ -183,17 +184,17 @@ unfolding held_of
 held_at device a b v e = held_small device (places device) a b v (places_are_apart.each device) e
 
 -- an enable bit that reads 0 is clear
-zero_held : (m : State) (a b v input : ℕ) → held_of m.device a b ≡ Some v → flag (read m a input) b ≡ false → bit_at m.enables (v - 2) ≡ 0
-zero_held m a b v input e off =
+zero_held : (still : Bool) (m : State) (a b v input : ℕ) → held_of m.device a b ≡ Some v → flag (read still m a input) b ≡ false → bit_at m.enables (v - 2) ≡ 0
+zero_held still m a b v input e off =
     no_one (bit_at m.enables (v - 2)) (bit_at-lt m.enables (v - 2))
-    (ap (λ x. x == 1) (sym (ap (λ x. bit_at x b) (io_read m a input (held_in_io m.device a (some_held m.device a b v e))) ∙ held_bit m.device m.enables a b v input (held_at m.device a b v e) e)) ∙ off)
+    (ap (λ x. x == 1) (sym (ap (λ x. bit_at x b) (io_read still m a input (held_in_io m.device a (some_held m.device a b v e))) ∙ held_bit m.device still m.enables a b v input (held_at m.device a b v e) e)) ∙ off)
 
 -- so the key may drop it
-pub zero_read : (may : Bool) (m : State) (masks a b input : ℕ) → masks < 2 ^ enable_count m.device → EnablesAre may m.enables masks → flag (read m a input) b ≡ false
+pub zero_read : (may : Bool) (m : State) (masks a b input : ℕ) → masks < 2 ^ enable_count m.device → EnablesAre may m.enables masks → flag (read may m a input) b ≡ false
     → EnablesAre may m.enables (without m.device may (held_of m.device a b) masks)
 zero_read false m masks a b input small h off = h
 zero_read true m masks a b input small h off = by (held_of m.device a b) refl
   where
     by : (v : Option ℕ) → held_of m.device a b ≡ v → EnablesAre true m.enables (without m.device true v masks)
     by None e = h
-    by (Some v) e = enables_stay_among.reads_zero m.device m.enables masks a b v small h e (zero_held m a b v input e off)
+    by (Some v) e = enables_stay_among.reads_zero m.device m.enables masks a b v small h e (zero_held true m a b v input e off)

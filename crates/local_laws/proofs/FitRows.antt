@@ -1,5 +1,5 @@
 -- The instruction table, row by row: calls go to words of flash, and returns are at the frame's base.
-use Rattle.std.proofs.Common.{◌≡◌, refl, sym, subst, ℕ, zero, suc, ◌<◌, ◌==◌, Bool, true, false, List, [], ◌∷◌, map, filter, length, Option, Some, None, if◌then◌else◌, nat_le, Contains, arith, nat_lt, ◌≤◌, ltb-true, ◌+◌}
+use Rattle.std.proofs.Common.{◌≡◌, refl, sym, subst, ℕ, zero, suc, ◌<◌, ◌==◌, ◌||◌, Bool, true, false, List, [], ◌∷◌, map, filter, length, Option, Some, None, if◌then◌else◌, nat_le, Contains, arith, nat_lt, ◌≤◌, ltb-true, ◌+◌}
 use Rattle.std.proofs.lemmas.Bool.Decides.{nat_tests}
 use Rattle.std.proofs.lemmas.Map.Views.{Contains-from_any}
 use Rattle.std.proofs.lemmas.Option.{same_Some}
@@ -14,7 +14,7 @@ use Rattle.avr_model.specs.declared.instruction.BinaryOp.{BinaryOp}
 use Rattle.avr_model.specs.declared.instruction.BinaryOp.TheVariants as binary
 use Rattle.avr_model.specs.declared.instruction.Pointer.{Pointer}
 use Rattle.pair_domain.specs.declared.facts.PairFacts.{PairFacts}
-use Rattle.avr_model.specs.Assumptions.{jump_line, is_frame, lists}
+use Rattle.avr_model.specs.Assumptions.{jump_line, is_frame, has_scratch, lists}
 use Rattle.avr_model.specs.Masks.{reads_masks}
 use Rattle.avr_model.specs.Text.{far, near}
 use Rattle.avr_model.specs.Sites.{is_scratch, base_register, pointer_register, instruction_at}
@@ -166,7 +166,7 @@ module _ (device : Device) (task : Task) (k : NodeKey) (s : AbsState) where
   row_fits scratch i.Lpm fits = quiet_fits task.assumptions k _ (refl, refl)
   row_fits scratch i.Elpm fits = quiet_fits task.assumptions k _ (refl, refl)
   row_fits scratch (i.Pop d) fits = quiet_fits task.assumptions k _ (closed_quiet k.sp k.pc (popping (site_at device k s) d) (popping_quiet device k s d))
-  row_fits scratch (i.Push r) fits = quiet_fits task.assumptions k _ (closed_quiet k.sp k.pc (pushing scratch (site_at device k s) r) (pushing_quiet device scratch k s r))
+  row_fits scratch (i.Push r) fits = quiet_fits task.assumptions k _ (closed_quiet k.sp k.pc (pushing (scratch || has_scratch task.assumptions k.pc) (site_at device k s) r) (pushing_quiet device (scratch || has_scratch task.assumptions k.pc) k s r))
   row_fits scratch (i.In d a) fits = quiet_fits task.assumptions k _ (refl, refl)
   row_fits scratch (i.Out a r) fits = quiet_fits task.assumptions k _ (written_quiet device k.pc (next device k) s true (port a) (value s r))
   row_fits scratch (i.Cbi a b) fits = quiet_fits task.assumptions k _ (written_quiet device k.pc (next device k) s false (port a) _)

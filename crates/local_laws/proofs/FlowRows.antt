@@ -318,9 +318,9 @@ module _ {may : Bool} (m : State) (o : Origin) (k : NodeKey) (s : AbsState) (at 
       closed k.sp k.pc e (node_returning x k.pc k.inst.kind) none (λ offset form free. leave_by k.inst.kind offset k.pc x e refl form returns free)
 
   pub ret_covered : (at_closed k.sp k.pc (node_returning (ret_exit k) k.pc k.inst.kind)).faults ≡ []
-      → FollowsWhere may m o s.facts k guarded b1 b2 (returning m b1 b2) (at_closed k.sp k.pc (node_returning (ret_exit k) k.pc k.inst.kind))
+      → FollowsWhere may m o s.facts k guarded b1 b2 (returning may m b1 b2) (at_closed k.sp k.pc (node_returning (ret_exit k) k.pc k.inst.kind))
   ret_covered =
-      leave_covered (ret_exit k) (returning m b1 b2)
+      leave_covered (ret_exit k) (returning may m b1 b2)
       (record {
         pc = refl;
         registers = refl;
@@ -335,9 +335,9 @@ module _ {may : Bool} (m : State) (o : Origin) (k : NodeKey) (s : AbsState) (at 
       })
 
   pub reti_covered : (at_closed k.sp k.pc (node_returning (reti_exit k) k.pc k.inst.kind)).faults ≡ []
-      → FollowsWhere may m o s.facts k guarded b1 b2 (reti_effect m b1 b2) (at_closed k.sp k.pc (node_returning (reti_exit k) k.pc k.inst.kind))
+      → FollowsWhere may m o s.facts k guarded b1 b2 (reti_effect may m b1 b2) (at_closed k.sp k.pc (node_returning (reti_exit k) k.pc k.inst.kind))
   reti_covered =
-      leave_covered (reti_exit k) (reti_effect m b1 b2)
+      leave_covered (reti_exit k) (reti_effect may m b1 b2)
       (record {
         pc = refl;
         registers = refl;

@@ -1,5 +1,5 @@
 -- Every step leaves a state of the machine: equally many registers and bytes, all in range.
-use Rattle.std.proofs.Common.{◌≡◌, ◌∙◌, ℕ, ◌+◌, ◌-◌, ◌*◌, ◌^◌, ◌<◌, ◌==◌, Bool, true, false, nat_lt, nat_le, if◌then◌else◌, List, [], ◌∷◌, length, Option, Some, None, slice_set, arith, length-set}
+use Rattle.std.proofs.Common.{◌≡◌, ◌∙◌, ℕ, ◌+◌, ◌-◌, ◌*◌, ◌^◌, ◌<◌, ◌==◌, ◌&&◌, Bool, true, false, nat_lt, nat_le, if◌then◌else◌, List, [], ◌∷◌, length, Option, Some, None, slice_set, arith, length-set}
 use Rattle.std.specs.Int.{bit_at}
 use Rattle.std.specs.List.{All}
 use Rattle.std.proofs.lemmas.Nat.Bits.{bit_at-lt}
@@ -10,7 +10,7 @@ use Rattle.avr_model.specs.declared.effect.Write.{Write}
 use Rattle.avr_model.specs.declared.effect.Effect.{Effect}
 use Rattle.avr_model.specs.State.{State, SPL, SPH, SREG, sram_at, is_sram, byte_in, read, low, high}
 use Rattle.avr_model.specs.Step.{with_registers, registers_after, sreg_after, sp_after, open_after, enables_after, after}
-use Rattle.avr_model.specs.Vectors.{enable_count, io_bit, io_byte}
+use Rattle.avr_model.specs.Vectors.{enable_count, is_ivsel, io_bit, io_byte}
 use Rattle.vector_table.proofs.AllLaws.{numbers_are_their_bits, enables_are_vectors}
 use Rattle.local_rules.specs.Machine.{IsMachine}
 use Rattle.local_laws.proofs.Bytes.{byte_in_list}
@@ -88,24 +88,35 @@ after_stays m guarded e h fits =
 
 -- ---- bytes that are read
 
+-- a bit that no place holds: IVSEL is 0 if `still`, every other is the input byte's
+abbrev pub free_bit : Device → Bool → ℕ → ℕ → ℕ → ℕ
+free_bit device still a input b = if still && is_ivsel device a b then 0 else bit_at input b
+
+pub free_small : (device : Device) (still : Bool) (a input b : ℕ) → free_bit device still a input b < 2
+free_small device still a input b = by (still && is_ivsel device a b)
+  where
+    by : (c : Bool) → (if c then 0 else bit_at input b) < 2
+    by true = omega arith
+    by false = bit_at-lt input b
+
 pub io_value : (v : Option ℕ) (enables free : ℕ) → free < 2 → io_bit v enables free < 2
 io_value None enables free h = h
 io_value (Some v) enables free h = bit_at-lt enables (v - 2)
 
-pub io_small : (device : Device) (enables a input : ℕ) → io_byte device enables a input < 256
+pub io_small : (device : Device) (still : Bool) (enables a input : ℕ) → io_byte device still enables a input < 256
 unfolding io_byte
-io_small device enables a input = numbers_are_their_bits.below 8 _ (λ b lt. io_value _ enables (bit_at input b) (bit_at-lt input b))
+io_small device still enables a input = numbers_are_their_bits.below 8 _ (λ b lt. io_value _ enables (free_bit device still a input b) (free_small device still a input b))
 
 byte_small : (below : ℕ) (bytes : List ℕ) (a : ℕ) → All (λ b. b < 256) bytes → byte_in below bytes a < 256
 unfolding byte_in
 byte_small below bytes a h = byte_in_list bytes (a - (below + 1)) h
 
-pub read_small : (m : State) (a input : ℕ) → IsMachine m → input < 256 → read m a input < 256
+pub read_small : (m : State) (still : Bool) (a input : ℕ) → IsMachine m → input < 256 → read still m a input < 256
 unfolding read
-read_small m a input h small =
+read_small m still a input h small =
     chosen (nat_lt a 0x20) 256 _ _ (byte_in_list m.registers a h.register_bytes)
     (chosen (a == SPL) 256 (low m.sp) _ (omega arith)
     (chosen (a == SPH) 256 (high m.sp) _ (omega (arith, h.sp_word))
     (chosen (a == SREG) 256 m.sreg _ h.sreg_byte
-    (chosen (nat_le a (io_end m.device)) 256 (io_byte m.device m.enables a input) _ (io_small m.device m.enables a input)
+    (chosen (nat_le a (io_end m.device)) 256 (io_byte m.device still m.enables a input) _ (io_small m.device still m.enables a input)
     (chosen (is_sram m.device a) 256 (sram_at m a) input (byte_small m.memory.below m.memory.bytes a h.sram_bytes) small)))))

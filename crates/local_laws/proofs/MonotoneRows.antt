@@ -1,5 +1,5 @@
 -- The instruction table, row by row, is monotone.
-use Rattle.std.proofs.Common.{ℕ, ◌+◌, ◌*◌, ◌<◌, ◌==◌, Bool, true, false, [], ◌∷◌, if◌then◌else◌, arith}
+use Rattle.std.proofs.Common.{ℕ, ◌+◌, ◌*◌, ◌<◌, ◌==◌, ◌||◌, Bool, true, false, [], ◌∷◌, if◌then◌else◌, arith}
 use Rattle.local_rules.specs.Cover.{IsKey}
 use Rattle.avr_model.specs.Devices.{wrapped}
 use Rattle.avr_model.specs.declared.device.Device.{Device}
@@ -13,7 +13,7 @@ use Rattle.avr_model.specs.declared.instruction.Pointer.{Pointer}
 use Rattle.avr_model.specs.declared.instruction.Pointer.TheVariants as pointer
 use Rattle.avr_model.specs.declared.operation.Logic.TheVariants as logic
 use Rattle.avr_model.specs.declared.operation.Mul.TheVariants as product
-use Rattle.avr_model.specs.Assumptions.{is_frame}
+use Rattle.avr_model.specs.Assumptions.{is_frame, has_scratch}
 use Rattle.avr_model.specs.Masks.{reads_masks}
 use Rattle.avr_model.specs.Text.{far, near}
 use Rattle.avr_model.specs.Sites.{base_register, pointer_register}
@@ -209,7 +209,7 @@ module _ (device : Device) (task : Task) (k : NodeKey) (at : IsKey device k) (s 
       (registers_set kind (pair_moved s 30 true 1) (pair_moved t 30 true 1) (pair_less device k at s t le 30 true 1) d _ _ (unknown_same kind)) le.flags
   row_less scratch i.Elpm fits = setting_register device k at s t le 0 _ _ (unknown_same kind)
   row_less scratch (i.Pop d) fits = pop_less device k at s t le d
-  row_less scratch (i.Push r) fits = push_less device k at s t le scratch r
+  row_less scratch (i.Push r) fits = push_less device k at s t le (scratch || has_scratch task.assumptions k.pc) r
   row_less scratch (i.In d a) fits = setting_register device k at s t le d _ _ (read_less device may k at s t le (port a))
   row_less scratch (i.Out a r) fits = write_less device (next device k) (next_key device k at) s t le k.pc true (port a) (value s r) (value t r) (reg device k at s t le r)
   row_less scratch (i.Cbi a b) fits = bit_less (port a) b false

@@ -1,5 +1,5 @@
 -- If the stack pointer is half written after an instruction, its offset is that before it: a write of SPH opens the pair in place.
-use Rattle.std.proofs.Common.{◌≡◌, refl, subst, ℕ, zero, suc, ◌+◌, ◌==◌, nat_lt, nat_le, ⊎_elim, Bool, true, false, List, [], ◌∷◌, length, map, filter, Option, Some, None, if◌then◌else◌, Contains}
+use Rattle.std.proofs.Common.{◌≡◌, refl, subst, ℕ, zero, suc, ◌+◌, ◌==◌, ◌||◌, nat_lt, nat_le, ⊎_elim, Bool, true, false, List, [], ◌∷◌, length, map, filter, Option, Some, None, if◌then◌else◌, Contains}
 use Rattle.std.specs.Prelude.{⊤}
 use Rattle.std.proofs.lemmas.List.Elements.{Contains-append_cases}
 use Rattle.basics.specs.Items.{none_in, first_in, further_in}
@@ -12,7 +12,7 @@ use Rattle.avr_model.specs.declared.instruction.Instr.TheVariants as i
 use Rattle.avr_model.specs.declared.instruction.BinaryOp.{BinaryOp}
 use Rattle.avr_model.specs.declared.instruction.BinaryOp.TheVariants as binary
 use Rattle.avr_model.specs.declared.instruction.Pointer.{Pointer}
-use Rattle.avr_model.specs.Assumptions.{is_fixed_site, is_frame, store_line}
+use Rattle.avr_model.specs.Assumptions.{is_fixed_site, is_frame, has_scratch, store_line}
 use Rattle.avr_model.specs.Image.{word_at}
 use Rattle.avr_model.specs.Table.{length_of}
 use Rattle.avr_model.specs.Sites.{is_scratch}
@@ -281,7 +281,7 @@ module _ (device : Device) (task : Task) (scratch : Bool) (k : NodeKey) where
   row_stays s i.Lpm = stay_one place _ _ held
   row_stays s i.Elpm = stay_one place _ _ held
   row_stays s (i.Pop d) = stay_closed place k.sp k.pc _ (stay_popping place device k s d)
-  row_stays s (i.Push r) = stay_closed place k.sp k.pc _ (stay_pushing place device scratch k s r)
+  row_stays s (i.Push r) = stay_closed place k.sp k.pc _ (stay_pushing place device (scratch || has_scratch task.assumptions k.pc) k s r)
   row_stays s (i.In d a) = stay_one place _ _ held
   row_stays s (i.Out a r) = stay_written (next device k) device k.pc s true _ _
   row_stays s (i.Cbi a b) = stay_written (next device k) device k.pc s false _ _

@@ -58,7 +58,7 @@ in_refined words instr s (n ∷ ns) to u i e =
 
 -- ---- effects that store nothing
 
-module _ (words : Program) (m : State) (b1 b2 : ℕ) where
+module _ (words : Program) (still : Bool) (m : State) (b1 b2 : ℕ) where
   binary_stores : (op : BinaryOp) (d r : ℕ) → (binary_effect words m op d r).stores ≡ []
   binary_stores binary.Cpc d r = refl
   binary_stores binary.Sbc d r = refl
@@ -91,7 +91,7 @@ module _ (words : Program) (m : State) (b1 b2 : ℕ) where
   unary_stores unary.Ror d = refl
   unary_stores unary.Dec d = refl
 
-  no_stores : (instr : Instr) → IsRefinedInstr instr → (effect_of words m instr b1 b2).stores ≡ []
+  no_stores : (instr : Instr) → IsRefinedInstr instr → (effect_of words still m instr b1 b2).stores ≡ []
   no_stores (i.Binary op d r) is = binary_stores op d r
   no_stores (i.Immediate op d n) is = immediate_stores op d n
   no_stores (i.Unary op d) is = unary_stores op d
@@ -108,7 +108,7 @@ module _ (words : Program) (m : State) (b1 b2 : ℕ) where
 module _ {may : Bool} (words : Program) (are : AreWords words) (m : State) (o : Origin) (k : NodeKey) (s : AbsState) (at : InBareFrame may m o k s) (b1 b2 : ℕ) (guarded : Bool)
     (instr : Instr) (has : HasRegisters instr) where
   abbrev effect : Effect
-  effect = effect_of words m instr b1 b2
+  effect = effect_of words may m instr b1 b2
 
   pub is_before : IsBefore o s m
   is_before = record {
@@ -123,9 +123,9 @@ module _ {may : Bool} (words : Program) (are : AreWords words) (m : State) (o : 
     abbrev Reached : List ℕ → ℕ → Type 0
     Reached registers sreg = (registers ≡ (after m guarded effect).registers) × (sreg ≡ (after m guarded effect).sreg)
 
-    reached : Reached (registers_set words m instr b1 b2) (sreg_set words m instr b1 b2)
+    reached : Reached (registers_set words may m instr b1 b2) (sreg_set words may m instr b1 b2)
     reached =
-        let none = no_stores words m b1 b2 instr is in (
+        let none = no_stores words may m b1 b2 instr is in (
           sym (ap (registers_after (with_registers m.registers effect.registers)) none),
           sym (ap (sreg_after effect.sreg) none),
         )
@@ -133,11 +133,11 @@ module _ {may : Bool} (words : Program) (are : AreWords words) (m : State) (o : 
     arrives_refined : (to : Node) (n : ℕ) → IsFormed to.state n → ArrivesAt may m o guarded effect to
         → (u : AbsState) × (refined (marks words) words instr s to.state ≡ Some u) × ArrivesAt may m o guarded effect (record { key = to.key; state = u })
     arrives_refined to n formed lands =
-        let behind : IsBehind o to.state (registers_set words m instr b1 b2) (sreg_set words m instr b1 b2) = record {
+        let behind : IsBehind o to.state (registers_set words may m instr b1 b2) (sreg_set words may m instr b1 b2) = record {
           registers = subst (RegistersStand o to.state.registers) (sym reached.0) lands.registers;
           facts = subst₂ (HoldsAt to.state.facts) (sym reached.0) (sym reached.1) lands.facts;
         } in
-        let found = refined_holds.holds (marks words) words o m instr b1 b2 (offset_of k.sp) n s to.state are has at.node.formed formed is_before behind in
+        let found = refined_holds.holds (marks words) words may o m instr b1 b2 (offset_of k.sp) n s to.state are has at.node.formed formed is_before behind in
         let u = found.0 in
         let like = refined_is_ordered.like (marks words) words instr s to.state u found.1 in (
           u,

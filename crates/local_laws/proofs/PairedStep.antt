@@ -42,10 +42,11 @@ use Rattle.local_rules.specs.Flow.{going_where}
 use Rattle.local_rules.specs.Writes.{pointer_write}
 use Rattle.local_rules.specs.Local.{step_before, pointer_moved, plain_row, paired_row, cut_branch, cut_skip, refined_nodes, refining, node_where, storing, paired_store}
 use Rattle.local_rules.specs.Machine.{AreWords}
-use Rattle.local_rules.specs.Cover.{Follows, CoversStep}
+use Rattle.local_rules.specs.Cover.{Follows}
 use Rattle.local_laws.proofs.Bare.{IsBare, InBareFrame, bare_key}
 use Rattle.local_laws.proofs.Bits.{flag_is_bit}
 use Rattle.local_laws.proofs.CoverMemory.{st_covered}
+use Rattle.local_laws.proofs.CoverRows.{guarding, CoversRow}
 use Rattle.local_laws.proofs.Ends.{held}
 use Rattle.local_laws.proofs.FlowRows.{goes_near, goes_further, turned}
 use Rattle.local_laws.proofs.Less.{forgetting_at, forgotten_spares}
@@ -128,7 +129,7 @@ module _ (ws : List ℕ) (A : List Entry) (m : State) (o : Origin) (k : NodeKey)
   scratch = is_scratch words m.pc
 
   abbrev Covered : Instr → Raw → Type 0
-  Covered instr r = CoversStep task m o k b1 b2 (Some instr) r
+  Covered instr r = CoversRow task m o k b1 b2 scratch instr r
 
   -- ---- branches and skips
 
@@ -219,12 +220,12 @@ module _ (ws : List ℕ) (A : List Entry) (m : State) (o : Origin) (k : NodeKey)
         less_node k moved_state moved_state at.node.word at.node.small at.node.masks at.node.fits at.node.pick
         (record { registers = subst (λ vs. AreRegistersLess k.inst.kind vs vs) (same_moved p instr s) (moved_less m.device task k (bare_key k s at.node) ended ended le p); flags = le.flags; slots = le.slots; facts = le.facts })
 
-    behind : IsBehind o moved_state (registers_set task.flash m instr b1 b2) (sreg_set task.flash m instr b1 b2)
-    behind = record { registers = subst (λ vs. RegistersStand o vs (registers_set task.flash m instr b1 b2)) (same_moved p instr s) (pointer_stands m o k ended there p); facts = held task.flash m o k s b1 b2 instr are small other (sized_at task.flash m.pc instr is_there) at }
+    behind : IsBehind o moved_state (registers_set task.flash (reads_masks m.device A) m instr b1 b2) (sreg_set task.flash (reads_masks m.device A) m instr b1 b2)
+    behind = record { registers = subst (λ vs. RegistersStand o vs (registers_set task.flash (reads_masks m.device A) m instr b1 b2)) (same_moved p instr s) (pointer_stands m o k ended there p); facts = held task.flash (reads_masks m.device A) m o k s b1 b2 instr are small other (sized_at task.flash m.pc instr is_there) at }
 
-    found : (u : AbsState) × (refined (marks task.flash) task.flash instr s moved_state ≡ Some u) × IsBehind o u (registers_set task.flash m instr b1 b2) (sreg_set task.flash m instr b1 b2)
+    found : (u : AbsState) × (refined (marks task.flash) task.flash instr s moved_state ≡ Some u) × IsBehind o u (registers_set task.flash (reads_masks m.device A) m instr b1 b2) (sreg_set task.flash (reads_masks m.device A) m instr b1 b2)
     found =
-        refined_holds.holds (marks task.flash) task.flash o m instr b1 b2 (offset_of k.sp) (offset_of k.sp) s moved_state are tt at.node.formed moved_bare.formed
+        refined_holds.holds (marks task.flash) task.flash (reads_masks m.device A) o m instr b1 b2 (offset_of k.sp) (offset_of k.sp) s moved_state are tt at.node.formed moved_bare.formed
         (is_before task.flash are m o k s at b1 b2 (not scratch) instr tt) behind
 
     abbrev left : AbsState
@@ -255,7 +256,7 @@ module _ (ws : List ℕ) (A : List Entry) (m : State) (o : Origin) (k : NodeKey)
       let there = forgetting_at m o k s (written instr) (sets_flags instr) (sets_carry instr) at in
       let le = node_less k (before instr s) (before instr s) there.node there.node (states_are_ordered.same (before instr s)) in
       let leads = row_less m.device task k (bare_key k s at.node) (before instr s) (before instr s) le scratch instr (instruction_fits words m.pc instr e) clean in
-      refining_follows words are m o k s at b1 b2 (not scratch) instr (operands_fit.fit words m.pc instr e) is (plain_row task scratch (site_at m.device k s) instr)
+      refining_follows words are m o k s at b1 b2 (guarding scratch A k.pc instr) instr (operands_fit.fit words m.pc instr e) is (plain_row task scratch (site_at m.device k s) instr)
       (λ to member. (leads.moves to member).node) (h clean unflagged)
 
   same_covered : (instr : Instr) → IsStored instr → Covered instr (plain_row task scratch (site_at m.device k s) instr) → Covered instr (refining words instr s (plain_row task scratch (site_at m.device k s) instr))

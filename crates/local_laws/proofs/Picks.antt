@@ -1,6 +1,6 @@
 -- A node that splits: its instruction neither calls nor returns, r30's byte is among the picks, and the row with that byte picked covers
 -- the step.
-use Rattle.std.proofs.Common.{◌≡◌, refl, sym, subst, ℕ, zero, suc, ◌+◌, ◌<◌, ⊎_elim, Bool, true, false, ◌&&◌, nat_lt, nat_le, if◌then◌else◌, not, List, [], ◌∷◌, map, Option, Some, None, Contains, arith}
+use Rattle.std.proofs.Common.{◌≡◌, refl, sym, subst, ℕ, zero, suc, ◌+◌, ◌<◌, ⊎_elim, Bool, true, false, ◌&&◌, nat_lt, nat_le, if◌then◌else◌, List, [], ◌∷◌, map, Option, Some, None, Contains, arith}
 use Rattle.std.proofs.lemmas.Bool.{cases_lt}
 use Rattle.std.proofs.lemmas.Bool.Decides.{nat_tests}
 use Rattle.std.proofs.lemmas.List.Elements.{Contains-append_left, Contains-append_right, Contains-append_cases}
@@ -14,8 +14,7 @@ use Rattle.avr_model.specs.declared.assumption.Entry.{Entry}
 use Rattle.avr_model.specs.declared.effect.Effect.{Effect}
 use Rattle.avr_model.specs.declared.instruction.Instr.{Instr}
 use Rattle.avr_model.specs.declared.instruction.Instr.TheVariants as i
-use Rattle.avr_model.specs.Sites.{instruction_at, is_scratch, adds_low, adds_high, is_some_that, ijmp_from, table_site}
-use Rattle.avr_model.specs.Effects.{effect_of}
+use Rattle.avr_model.specs.Sites.{instruction_at, adds_low, adds_high, is_some_that, ijmp_from, table_site}
 use Rattle.avr_model.specs.State.{State, register}
 use Rattle.bit_domain.specs.TriByte.{byte_known}
 use Rattle.bit_domain.proofs.AllLaws.{tests_tell_members}
@@ -30,7 +29,8 @@ use Rattle.local_rules.specs.Raw.{Raw, all_of}
 use Rattle.local_rules.specs.Registers.{value, before}
 use Rattle.local_rules.specs.Local.{row_of, row_at, fetched, below, picks, picking, paired_row, row_by, unlined, split_site}
 use Rattle.local_rules.specs.Permitted.{may_be}
-use Rattle.local_rules.specs.Cover.{Follows, stays, calls, leaves, CoversStep}
+use Rattle.local_rules.specs.Cover.{Follows, stays, calls, leaves, effect_by, CoversStep}
+use Rattle.avr_model.specs.Step.{is_guarding}
 use Rattle.local_laws.proofs.Bare.{IsBare, InBareFrame}
 use Rattle.local_laws.proofs.PairedCover.{left_bare}
 use Rattle.pair_cuts.specs.Cuts.{with_index, pick_cut}
@@ -237,7 +237,7 @@ pub all_covered : (task : Task) (m : State) (o : Origin) (k : NodeKey) (b1 b2 : 
     → (instr : Option Instr) → CoversStep task m o (picking k x) b1 b2 instr (f x) → CoversStep task m o k b1 b2 instr (all_of (map f xs))
 all_covered task m o k b1 b2 f xs x h quiet None covered = λ clean. covered (faultless_in f xs x h clean)
 all_covered task m o k b1 b2 f xs x h quiet (Some instr) covered = λ clean unflagged.
-    let guarded : Bool = not (is_scratch task.flash m.pc) in
-    let e : Effect = effect_of task.flash m instr b1 b2 in
+    let guarded : Bool = is_guarding task.flash task.assumptions m.pc instr in
+    let e : Effect = effect_by task m instr b1 b2 in
     let found = reached_in m o k guarded e f xs x h (reached_by m o k guarded e x b1 b2 (f x) quiet (covered (faultless_in f xs x h clean) unflagged)) in
     stays found.to found.present found.inst (found.at_node.lands tt)

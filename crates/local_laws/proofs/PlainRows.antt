@@ -1,5 +1,5 @@
 -- Plain rows without stores and cuts keep all facts on pairs that aren't ended, and each register that isn't written.
-use Rattle.std.proofs.Common.{◌≡◌, ◌≢◌, refl, sym, ◌∙◌, ℕ, suc, zero, ◌+◌, ◌*◌, ◌==◌, Bool, true, false, List, [], ◌∷◌, Option, Some, None, if◌then◌else◌, slice_set, nat_le, eq-eqb, Contains}
+use Rattle.std.proofs.Common.{◌≡◌, ◌≢◌, refl, sym, ◌∙◌, ℕ, suc, zero, ◌+◌, ◌*◌, ◌==◌, ◌||◌, Bool, true, false, List, [], ◌∷◌, Option, Some, None, if◌then◌else◌, slice_set, nat_le, eq-eqb, Contains}
 use Rattle.std.specs.Prelude.{⊤}
 use Rattle.std.proofs.lemmas.Bool.{or_parts}
 use Rattle.basics.specs.Items.{none_in}
@@ -15,7 +15,7 @@ use Rattle.avr_model.specs.declared.instruction.UnaryOp.{UnaryOp}
 use Rattle.avr_model.specs.declared.instruction.UnaryOp.TheVariants as unary
 use Rattle.avr_model.specs.declared.instruction.Pointer.{Pointer}
 use Rattle.avr_model.specs.declared.instruction.Pointer.TheVariants as pointer
-use Rattle.avr_model.specs.Assumptions.{is_frame}
+use Rattle.avr_model.specs.Assumptions.{is_frame, has_scratch}
 use Rattle.avr_model.specs.Masks.{reads_masks}
 use Rattle.avr_model.specs.Sites.{base_register, pointer_register}
 use Rattle.avr_model.specs.Effects.{port}
@@ -302,7 +302,7 @@ module _ (device : Device) (task : Task) (scratch : Bool) (k : NodeKey) (s : Abs
       popped : (offset : ℕ) → Leaves (d ∷ []) s (popping (site_at device k s) d offset)
       popped zero = leaves_none _ s
       popped (suc n) = leaves_set _ s device _ _ refl (one_set s.registers d _)
-  row_leaves (i.Push r) is = leaves_closed _ s k.sp k.pc _ (leaves_pushing _ s device scratch k r)
+  row_leaves (i.Push r) is = leaves_closed _ s k.sp k.pc _ (leaves_pushing _ s device (scratch || has_scratch task.assumptions k.pc) k r)
   row_leaves (i.In d a) is = leaves_set _ s device _ _ refl (one_set s.registers d _)
   row_leaves i.Ijmp is = leaves_jumping _ s (targets_at task.assumptions (site_at device k s)) k
   row_leaves i.Icall is = leaves_indirect _ s device (targets_at task.assumptions (site_at device k s)) k

@@ -111,24 +111,24 @@ module _ {may : Bool} (m : State) (o : Origin) (k : NodeKey) (s : AbsState) (at 
 
   module _ (a input : ℕ) (small : input < 256) where
     -- by the number
-    number_stands : ByteStands o (read_number m.device may k s a) (read m a input)
+    number_stands : ByteStands o (read_number m.device may k s a) (read may m a input)
     number_stands = by (nat_le a (io_end m.device))
       where
-        by : (b : Bool) → ByteStands o (if b then untagged (read_at m.device may k s a).bits else valued tag.None (set_of (read_at m.device may k s a))) (read m a input)
-        by true = untagged_stands o (read_at m.device may k s a) (read m a input) (read_stands m o k s at a input small)
-        by false = range_stands o (read_at m.device may k s a) (read m a input) (read_stands m o k s at a input small)
+        by : (b : Bool) → ByteStands o (if b then untagged (read_at m.device may k s a).bits else valued tag.None (set_of (read_at m.device may k s a))) (read may m a input)
+        by true = untagged_stands o (read_at m.device may k s a) (read may m a input) (read_stands m o k s at a input small)
+        by false = range_stands o (read_at m.device may k s a) (read may m a input) (read_stands m o k s at a input small)
 
-    constant_stands : (c : Option ℕ) → ((x : ℕ) → c ≡ Some x → a ≡ x) → ByteStands o (read_constant m.device may k s c) (read m a input)
-    constant_stands None is = any_stands o (read m a input) (read_small m o k s at a input small)
+    constant_stands : (c : Option ℕ) → ((x : ℕ) → c ≡ Some x → a ≡ x) → ByteStands o (read_constant m.device may k s c) (read may m a input)
+    constant_stands None is = any_stands o (read may m a input) (read_small m o k s at a input small)
     constant_stands (Some x) is =
-        subst (λ b. ByteStands o (read_constant m.device may k s (Some b)) (read m a input)) (is x refl) number_stands
+        subst (λ b. ByteStands o (read_constant m.device may k s (Some b)) (read may m a input)) (is x refl) number_stands
 
-    slot_read_stands : (d : ℕ) → a ≡ minus16 o.base d → ByteStands o (value_of (slot_at s.slots d)) (read m a input)
+    slot_read_stands : (d : ℕ) → a ≡ minus16 o.base d → ByteStands o (value_of (slot_at s.slots d)) (read may m a input)
     slot_read_stands d is =
-        slot_at_stands m o k s at d (read m a input) (read_small m o k s at a input small) (λ live.
+        slot_at_stands m o k s at d (read may m a input) (read_small m o k s at a input small) (λ live.
         let inside = inside_numbers m.device (o.base - d) (inside_if_live m.device m.memory.below m.memory.live (o.base - d) at.machine.below at.machine.count_live live) in
         let here : a ≡ o.base - d = is ∙ in_word o.base d at.base_word (omega (arith, inside.0)) in
-        ap (λ b. read m b input) here ∙ live_read m o k s at (o.base - d) input live)
+        ap (λ b. read may m b input) here ∙ live_read m o k s at (o.base - d) input live)
 
     met : (t : Tag) (x : ℕ) (u w : AbsByte) → TagHolds o t x → ByteStands o u x → ByteStands o w x → IsRead o (with_tag t (set_meet (set_of u) (set_of w))) x
     met t x u w holds h g =
@@ -137,24 +137,24 @@ module _ {may : Bool} (m : State) (o : Origin) (k : NodeKey) (s : AbsState) (at 
         subst (λ (z : Option ByteSet). IsRead o (with_tag t z) x) (sym meet.1.0)
         (record { tag = holds; bits = meet.1.1.bits; low = meet.1.1.low; high = meet.1.1.high; small = meet.1.1.small })
 
-    both_stand : (c : Option ℕ) (v : AbsByte) → ((x : ℕ) → c ≡ Some x → a ≡ x) → ByteStands o v (read m a input) → IsRead o (read_both m.device may k s c v) (read m a input)
+    both_stand : (c : Option ℕ) (v : AbsByte) → ((x : ℕ) → c ≡ Some x → a ≡ x) → ByteStands o v (read may m a input) → IsRead o (read_both m.device may k s c v) (read may m a input)
     both_stand None v is h = h
     both_stand (Some x) v is h =
-        subst (λ b. IsRead o (read_both m.device may k s (Some b) v) (read m a input)) (is x refl)
-        (met v.tag (read m a input) (read_number m.device may k s a) v h.tag number_stands h)
+        subst (λ b. IsRead o (read_both m.device may k s (Some b) v) (read may m a input)) (is x refl)
+        (met v.tag (read may m a input) (read_number m.device may k s a) v h.tag number_stands h)
 
-    one_of : (b : Bool) (v w : Option AbsByte) → IsRead o v (read m a input) → IsRead o w (read m a input) → IsRead o (if b then v else w) (read m a input)
+    one_of : (b : Bool) (v w : Option AbsByte) → IsRead o v (read may m a input) → IsRead o w (read may m a input) → IsRead o (if b then v else w) (read may m a input)
     one_of true v w h g = h
     one_of false v w h g = g
 
-    frame_stands : (c f : Option ℕ) → ((x : ℕ) → c ≡ Some x → a ≡ x) → ((d : ℕ) → f ≡ Some d → a ≡ minus16 o.base d) → IsRead o (read_frame m.device may k s c f) (read m a input)
+    frame_stands : (c f : Option ℕ) → ((x : ℕ) → c ≡ Some x → a ≡ x) → ((d : ℕ) → f ≡ Some d → a ≡ minus16 o.base d) → IsRead o (read_frame m.device may k s c f) (read may m a input)
     frame_stands c None is here = constant_stands c is
     frame_stands c (Some d) is here =
         one_of (nat_lt d (length s.slots)) (read_both m.device may k s c (value_of (slot_at s.slots d))) (Some (read_constant m.device may k s c))
         (both_stand c (value_of (slot_at s.slots d)) is (slot_read_stands d (here d refl))) (constant_stands c is)
 
   -- the value of a read through a pointer holds of the byte there
-  pub pointed_stands : (r up input : ℕ) → input < 256 → IsRead o (read_pointed m.device may k s (pointed s r up)) (read m (plus16 (pair m r) up) input)
+  pub pointed_stands : (r up input : ℕ) → input < 256 → IsRead o (read_pointed m.device may k s (pointed s r up)) (read may m (plus16 (pair m r) up) input)
   pointed_stands r up input small =
       frame_stands (plus16 (pair m r) up) input small (pointed s r up).constant (pointed s r up).frame (number_is r up) (frame_is r up)
 

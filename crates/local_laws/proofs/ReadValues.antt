@@ -1,5 +1,5 @@
 -- The value of a read byte holds of the byte that the machine reads.
-use Rattle.std.proofs.Common.{◌≡◌, refl, sym, ◌∙◌, ap, subst, ℕ, ◌+◌, ◌-◌, ◌%◌, ◌<◌, ◌≤◌, ⊎_elim, Bool, true, false, if◌then◌else◌, ◌==◌, nat_le, length, Option, Some, None, arith, leb-true}
+use Rattle.std.proofs.Common.{◌≡◌, refl, sym, ◌∙◌, ap, subst, ℕ, ◌+◌, ◌-◌, ◌%◌, ◌<◌, ◌≤◌, ⊎_elim, Bool, true, false, if◌then◌else◌, ◌==◌, ◌&&◌, nat_le, length, Option, Some, None, arith, leb-true}
 use Rattle.std.proofs.lemmas.Bool.{cases_lt}
 use Rattle.std.proofs.lemmas.Bool.Decides.{nat_tests}
 use Rattle.std.proofs.lemmas.Nat.Bits.{bit_at-lt}
@@ -7,16 +7,16 @@ use Rattle.std.proofs.lemmas.List.{get_or_past}
 use Rattle.std.proofs.lemmas.List.Elements.{All-get_or}
 use Rattle.std.specs.Int.{bit_at, from_bool}
 use Rattle.abs_alu.proofs.AllLaws.{any_has}
-use Rattle.local_laws.proofs.Machine.{io_value, io_small}
+use Rattle.local_laws.proofs.Machine.{io_value, io_small, free_bit, free_small}
 use Rattle.avr_model.proofs.AllLaws.{devices_are_alike}
 use Rattle.avr_model.specs.Devices.{io_end, ramend}
 use Rattle.avr_model.specs.declared.device.Device.{Device}
 use Rattle.avr_model.specs.Sreg.{flag}
-use Rattle.avr_model.specs.Vectors.{enable_of, held_of, has_enables, io_bit, io_byte, kept_byte}
+use Rattle.avr_model.specs.Vectors.{enable_of, held_of, has_enables, is_ivsel, io_bit, io_byte, kept_byte}
 use Rattle.avr_model.specs.State.{State, register, read, sram_at, byte_in, is_live, is_sram, SPL, SPH, SREG, low, high, minus16}
 use Rattle.vector_table.proofs.AllLaws.{enables_are_vectors, numbers_are_their_bits}
 use Rattle.bit_domain.specs.declared.bits.Tri.{Tri}
-use Rattle.bit_domain.specs.declared.bits.Tri.TheVariants.{Zero, Any}
+use Rattle.bit_domain.specs.declared.bits.Tri.TheVariants.{Zero}
 use Rattle.bit_domain.specs.Tri.{Permits, tri_bit}
 use Rattle.bit_domain.specs.TriByte.{Has, byte_any, byte_known, byte_with}
 use Rattle.bit_domain.proofs.AllLaws.{bytes_are_sets, writes_cover, permits-tri_bit}
@@ -37,7 +37,7 @@ use Rattle.mask_states.specs.declared.keys.SpForm.{SpForm}
 use Rattle.mask_states.specs.declared.keys.SpForm.TheVariants.{Closed, Open}
 use Rattle.mask_states.specs.Place.{EnablesAre, SpIs}
 use Rattle.local_rules.specs.Registers.{with_bits}
-use Rattle.local_rules.specs.Reads.{sp_low, sp_high, flags_tag, sreg_value, enable_read, io_tri, io_bits, kept_bits, value_of, slot_read, read_at}
+use Rattle.local_rules.specs.Reads.{sp_low, sp_high, flags_tag, sreg_value, enable_read, io_tri, free_tri, io_bits, kept_bits, value_of, slot_read, read_at}
 use Rattle.local_laws.proofs.Bare.{InBareFrame}
 use Rattle.local_laws.proofs.Enables.{bit_permits, vector_small}
 use Rattle.local_laws.proofs.Frame.{register_stands}
@@ -116,13 +116,19 @@ io_permits : (free : Tri) (may : Bool) (v : Option ℕ) (enables masks bit : ℕ
 io_permits free may None enables masks bit can h = can
 io_permits free may (Some v) enables masks bit can h = h v refl
 
-io_has : (device : Device) (may : Bool) (enables masks a input : ℕ) → EnablesAre may enables masks → Has (io_bits device may masks a) (io_byte device enables a input)
+-- the value of a bit that no key knows permits it
+free_permits : (still : Bool) (bit : ℕ) → Permits (free_tri still) (if still then 0 else bit)
+free_permits true bit = refl
+free_permits false bit = tt
+
+io_has : (device : Device) (may : Bool) (enables masks a input : ℕ) → EnablesAre may enables masks → Has (io_bits device may masks a) (io_byte device may enables a input)
 unfolding io_byte
 io_has device may enables masks a input h =
-    bytes_are_sets.built (λ b. io_tri Any may (held_of device a b) masks) (io_byte device enables a input) (λ b lt.
-    subst (Permits (io_tri Any may (held_of device a b) masks))
-    (sym (numbers_are_their_bits.bits 8 (λ j. io_bit (held_of device a j) enables (bit_at input j)) (λ j l. io_value (held_of device a j) enables (bit_at input j) (bit_at-lt input j)) b lt))
-    (io_permits Any may (held_of device a b) enables masks (bit_at input b) tt
+    bytes_are_sets.built (λ b. io_tri (free_tri (may && is_ivsel device a b)) may (held_of device a b) masks) (io_byte device may enables a input) (λ b lt.
+    subst (Permits (io_tri (free_tri (may && is_ivsel device a b)) may (held_of device a b) masks))
+    (sym (numbers_are_their_bits.bits 8 (λ j. io_bit (held_of device a j) enables (free_bit device may a input j))
+    (λ j l. io_value (held_of device a j) enables (free_bit device may a input j) (free_small device may a input j)) b lt))
+    (io_permits (free_tri (may && is_ivsel device a b)) may (held_of device a b) enables masks (free_bit device may a input b) (free_permits (may && is_ivsel device a b) (bit_at input b))
     (λ v e. bit_permits may enables masks (v - 2) (vector_small device v (enables_are_vectors.held_vector device a b v e)) h)))
 
 -- the byte of which one bit is changed, by each bit that enables a vector
@@ -168,14 +174,14 @@ module _ {may : Bool} (m : State) (o : Origin) (k : NodeKey) (s : AbsState) (at 
       (λ over. let e = get_or_past m.memory.bytes (a - (m.memory.below + 1)) 0 over in omega arith)
       (cases_lt (a - (m.memory.below + 1)) (length m.memory.bytes))
 
-  pub read_small : (a input : ℕ) → input < 256 → read m a input < 256
+  pub read_small : (a input : ℕ) → input < 256 → read may m a input < 256
   unfolding read
   read_small a input lt =
       small_by_test _ (register m a) _ (register_byte m o k s at a)
       (small_by_test _ (low m.sp) _ (omega arith)
       (small_by_test _ (high m.sp) _ (omega (arith, at.machine.sp_word))
       (small_by_test _ m.sreg _ at.machine.sreg_byte
-      (small_by_test _ (io_byte m.device m.enables a input) _ (io_small m.device m.enables a input)
+      (small_by_test _ (io_byte m.device may m.enables a input) _ (io_small m.device may m.enables a input)
       (small_by_test _ (sram_at m a) input (byte_small a) lt)))))
 
   sreg_stands : ByteStands o (sreg_value k s) m.sreg
@@ -184,13 +190,13 @@ module _ {may : Bool} (m : State) (o : Origin) (k : NodeKey) (s : AbsState) (at 
       (entry_holds o s.flags.entry m.sreg at.stands.flags.entry)
       (writes_cover.members s.flags.bits 7 (tri_bit (from_bool k.i)) m.sreg m.sreg at.stands.flags.bits (flag_permits m.sreg 7 k.i at.place.i) (λ j lt other. refl))
 
-  io_stands : (a input : ℕ) → ByteStands o (untagged (io_bits m.device may k.masks a)) (io_byte m.device m.enables a input)
+  io_stands : (a input : ℕ) → ByteStands o (untagged (io_bits m.device may k.masks a)) (io_byte m.device may m.enables a input)
   io_stands a input =
-      bits_make_values.stands o tag.None (io_bits m.device may k.masks a) (io_byte m.device m.enables a input) (io_small m.device m.enables a input) tt
+      bits_make_values.stands o tag.None (io_bits m.device may k.masks a) (io_byte m.device may m.enables a input) (io_small m.device may m.enables a input) tt
       (io_has m.device may m.enables k.masks a input at.place.enables)
 
   -- the byte of a live address is that of SRAM
-  pub live_read : (a input : ℕ) → is_live m.memory a ≡ true → read m a input ≡ sram_at m a
+  pub live_read : (a input : ℕ) → is_live m.memory a ≡ true → read may m a input ≡ sram_at m a
   unfolding read
   live_read a input live =
       let inside : is_sram m.device a ≡ true = inside_if_live m.device m.memory.below m.memory.live a at.machine.below at.machine.count_live live in
@@ -229,7 +235,7 @@ module _ {may : Bool} (m : State) (o : Origin) (k : NodeKey) (s : AbsState) (at 
   kind_slot (Vector v) a input lt root = any_stands o (if is_sram m.device a then sram_at m a else input) (slot_small a input lt)
 
   -- the value of a known address
-  pub read_stands : (a input : ℕ) → input < 256 → ByteStands o (read_at m.device may k s a) (read m a input)
+  pub read_stands : (a input : ℕ) → input < 256 → ByteStands o (read_at m.device may k s a) (read may m a input)
   unfolding read read_at
   read_stands a input lt =
       by_test o _ _ _ _ _ (register_stands m o k s at a)

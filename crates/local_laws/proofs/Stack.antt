@@ -63,15 +63,15 @@ in_sram : (device : Device) (a r l h f i b x : ℕ) → is_sram device a ≡ tru
     → (if nat_lt a 0x20 then r else (if a == SPL then l else (if a == SPH then h else (if a == SREG then f else (if nat_le a (io_end device) then i else (if is_sram device a then b else x)))))) ≡ b
 in_sram device a r l h f i b x inside = grind (arith, nat_tests, devices_are_alike.least_io device)
 
-live_read : (m : State) (a input : ℕ) → m.memory.below ≡ io_end m.device → length m.memory.live ≡ size_of m.device → is_live m.memory a ≡ true → read m a input ≡ sram_at m a
+live_read : (still : Bool) (m : State) (a input : ℕ) → m.memory.below ≡ io_end m.device → length m.memory.live ≡ size_of m.device → is_live m.memory a ≡ true → read still m a input ≡ sram_at m a
 unfolding read
-live_read m a input is count live = in_sram m.device a _ _ _ _ _ (sram_at m a) input (inside_if_live m.device m.memory.below m.memory.live a is count live)
+live_read still m a input is count live = in_sram m.device a _ _ _ _ _ (sram_at m a) input (inside_if_live m.device m.memory.below m.memory.live a is count live)
 
 -- the value of a slot holds of its byte
-slot_read : (m : State) (o : Origin) (a input : ℕ) (slot : Slot AbsByte) → m.memory.below ≡ io_end m.device → length m.memory.live ≡ size_of m.device → read m a input < 256 → SlotStands o m.memory a slot
-    → ByteStands o (value_of slot) (read m a input)
-slot_read m o a input Free is count small h = any_stands o (read m a input) small
-slot_read m o a input (Guarded v) is count small h = subst (ByteStands o v) (sym (live_read m a input is count h.0)) h.1
+slot_read : (still : Bool) (m : State) (o : Origin) (a input : ℕ) (slot : Slot AbsByte) → m.memory.below ≡ io_end m.device → length m.memory.live ≡ size_of m.device → read still m a input < 256 → SlotStands o m.memory a slot
+    → ByteStands o (value_of slot) (read still m a input)
+slot_read still m o a input Free is count small h = any_stands o (read still m a input) small
+slot_read still m o a input (Guarded v) is count small h = subst (ByteStands o v) (sym (live_read still m a input is count h.0)) h.1
 
 module _ {may : Bool} (m : State) (o : Origin) (k : NodeKey) (s : AbsState) (at : InBareFrame may m o k s) where
   sp_is : (offset : ℕ) → k.sp ≡ Closed offset → m.sp + offset ≡ o.base
@@ -95,32 +95,32 @@ module _ {may : Bool} (m : State) (o : Origin) (k : NodeKey) (s : AbsState) (at 
 
     -- ---- pop
 
-    popped : (d offset : ℕ) → b1 < 256 → Spares s.flags.carry d → k.sp ≡ Closed offset → (popping (site_at m.device k s) d offset).faults ≡ [] → FollowsWhere may m o s.facts k guarded b1 b2 (pop_effect m d b1) (popping (site_at m.device k s) d offset)
+    popped : (d offset : ℕ) → b1 < 256 → Spares s.flags.carry d → k.sp ≡ Closed offset → (popping (site_at m.device k s) d offset).faults ≡ [] → FollowsWhere may m o s.facts k guarded b1 b2 (pop_effect may m d b1) (popping (site_at m.device k s) d offset)
     popped d zero small spare form none = absurd (cc)
     popped d (suc n) small spare form none =
         let sp = sp_is (suc n) form in
         let slots = count (suc n) form in
         let address : o.base - n ≡ plus16 m.sp 1 = omega (arith, at.base_word) in
-        only m o k s at guarded b1 b2 (pop_effect m d b1)
+        only m o k s at guarded b1 b2 (pop_effect may m d b1)
         (record { key = record (next m.device k) { sp = Closed n }; state = record s { registers = node_set s d (value_of (slot_at s.slots n)); slots = take n s.slots } }) refl
         (record {
           lands = λ held. record {
             inside = λ room. refl;
             place = λ within. record { pc = next_is m o k s at; enables = at.place.enables; i = at.place.i; delay = refl; sp = (refl, omega (arith, at.base_word)) };
-            registers = set_one m o k s at d (value_of (slot_at s.slots n)) (read m (plus16 m.sp 1) b1)
-                (slot_read m o (plus16 m.sp 1) b1 (slot_at s.slots n) at.machine.below at.machine.count_live (read_small m o k s at (plus16 m.sp 1) b1 small)
+            registers = set_one m o k s at d (value_of (slot_at s.slots n)) (read may m (plus16 m.sp 1) b1)
+                (slot_read may m o (plus16 m.sp 1) b1 (slot_at s.slots n) at.machine.below at.machine.count_live (read_small m o k s at (plus16 m.sp 1) b1 small)
                 (subst (λ a. SlotStands o m.memory a (slot_at s.slots n)) address (at.stands.slots n (omega arith))));
             flags = at.stands.flags;
-            less = less_set m.registers s.flags.carry (flag m.sreg 0) d (read m (plus16 m.sp 1) b1) spare at.stands.less;
+            less = less_set m.registers s.flags.carry (flag m.sreg 0) d (read may m (plus16 m.sp 1) b1) spare at.stands.less;
             facts = held;
             slots = λ within inside kept.
-                slots_follow.kept o m.memory (after m guarded (pop_effect m d b1)).memory (plus16 m.sp 1) (take n s.slots) kept (omega (arith, at.base_word, length-take n s.slots))
+                slots_follow.kept o m.memory (after m guarded (pop_effect may m d b1)).memory (plus16 m.sp 1) (take n s.slots) kept (omega (arith, at.base_word, length-take n s.slots))
                 (slots_follow.taken o m.memory s.slots n at.stands.slots);
           };
         })
 
-    pub pop_covered : (d : ℕ) → b1 < 256 → Spares s.flags.carry d → (at_closed k.sp k.pc (popping (site_at m.device k s) d)).faults ≡ [] → FollowsWhere may m o s.facts k guarded b1 b2 (pop_effect m d b1) (at_closed k.sp k.pc (popping (site_at m.device k s) d))
-    pop_covered d small spare none = closed m o k s at guarded b1 b2 k.sp k.pc (pop_effect m d b1) (popping (site_at m.device k s) d) none (λ offset. popped d offset small spare)
+    pub pop_covered : (d : ℕ) → b1 < 256 → Spares s.flags.carry d → (at_closed k.sp k.pc (popping (site_at m.device k s) d)).faults ≡ [] → FollowsWhere may m o s.facts k guarded b1 b2 (pop_effect may m d b1) (at_closed k.sp k.pc (popping (site_at m.device k s) d))
+    pop_covered d small spare none = closed m o k s at guarded b1 b2 k.sp k.pc (pop_effect may m d b1) (popping (site_at m.device k s) d) none (λ offset. popped d offset small spare)
 
   module _ (scratch : Bool) (b1 b2 : ℕ) where
     -- ---- push

@@ -1,16 +1,16 @@
 -- The local part in terms of a step.
-use Rattle.std.proofs.Common.{◌≡◌, ◌≢◌, refl, sym, ap₂, subst, ℕ, ◌<◌, ◌||◌, Bool, true, false, not, if◌then◌else◌, List, [], ◌∷◌, ◌++◌, Option, Some, None, Ok, Contains}
+use Rattle.std.proofs.Common.{◌≡◌, ◌≢◌, refl, sym, ap₂, subst, ℕ, ◌<◌, ◌||◌, Bool, true, false, if◌then◌else◌, List, [], ◌∷◌, ◌++◌, Option, Some, None, Ok, Contains}
 use Rattle.local_laws.proofs.Stays.{done_is}
 use Rattle.avr_model.specs.Masks.{reads_masks}
+use Rattle.avr_model.specs.declared.assumption.Entry.{Entry}
 use Rattle.avr_model.specs.declared.choice.Flag.{Flag}
 use Rattle.avr_model.specs.declared.effect.Effect.{Effect}
 use Rattle.avr_model.specs.declared.instruction.Instr.{Instr}
-use Rattle.avr_model.specs.Sites.{instruction_at, is_scratch}
+use Rattle.avr_model.specs.Sites.{instruction_at}
 use Rattle.avr_model.specs.Sreg.{flag}
 use Rattle.avr_model.specs.State.{State}
-use Rattle.avr_model.specs.Effects.{effect_of}
-use Rattle.avr_model.specs.Step.{Answer, Undefined, Overflow, Done, after, all_inside, live_write, protected_write, unlisted_transfer, flag_by, flagged_or, is_unlisted, go}
-use Rattle.avr_model.specs.Devices.{device_of}
+use Rattle.avr_model.specs.Step.{Answer, Undefined, Overflow, Done, after, all_inside, live_write, protected_write, unlisted_transfer, refused_transfer, first_of, deep_call, moves_vectors, is_guarding, flag_by, flagged_or, is_refused, go}
+use Rattle.avr_model.specs.Devices.{Program, device_of}
 use Rattle.sp_domain.specs.Tags.{Origin}
 use Rattle.abs_state.specs.declared.state.AbsState.{AbsState}
 use Rattle.pair_domain.proofs.AllLaws.{known_is_ordered}
@@ -21,11 +21,11 @@ use Rattle.local_rules.specs.declared.local.NodeFault.{NodeFault}
 use Rattle.local_rules.specs.declared.local.Local.{Local}
 use Rattle.local_rules.specs.Raw.{Raw}
 use Rattle.local_rules.specs.Local.{raw, joined_onto, settled, local}
-use Rattle.local_rules.specs.Cover.{InFrameIn, IsNodeIn, IsWithinBase, CoversStep, ArrivesAt, Follows, stays, calls, leaves, IsStep}
+use Rattle.local_rules.specs.Cover.{InFrameIn, IsNodeIn, IsWithinBase, CoversStep, ArrivesAt, Follows, stays, calls, leaves, effect_by, IsStep}
 use Rattle.local_laws.specs.Laws.{JoinsAreLeast, LocalPartsAreNodes, AreNodesIn, StepsAreCovered}
 use Rattle.local_laws.proofs.Covered.{local_parts_cover}
 use Rattle.local_laws.proofs.Memory.{live_bytes_stay}
-use Rattle.local_rules.specs.Site.{Task}
+use Rattle.local_rules.specs.Site.{Task, masks_by}
 
 -- ---- a local part that is there
 
@@ -44,22 +44,32 @@ local_is task k s l e = settled_is (raw task k s) (raw task k s).faults l e
 -- ---- a step that is done
 
 -- there is no flag, and the state is the one after the effect
-flags_none : (pc : ℕ) (live protected listed : Option ℕ) (m n : State) → flagged_or (flag_by pc live protected listed) m ≡ Done n
-    → (live ≡ None) × ((protected ≡ None) × ((listed ≡ None) × (m ≡ n)))
-flags_none pc (Some a) protected listed m n e = absurd (cc)
-flags_none pc None (Some a) listed m n e = absurd (cc)
-flags_none pc None None (Some t) m n e = absurd (cc)
-flags_none pc None None None m n e = (refl, (refl, (refl, done_is m n e)))
+flags_none : (pc : ℕ) (live protected refused : Option ℕ) (moves : Bool) (m n : State) → flagged_or (flag_by pc live protected refused moves) m ≡ Done n
+    → (live ≡ None) × ((protected ≡ None) × ((refused ≡ None) × (m ≡ n)))
+flags_none pc (Some a) protected refused moves m n e = absurd (cc)
+flags_none pc None (Some a) refused moves m n e = absurd (cc)
+flags_none pc None None (Some t) moves m n e = absurd (cc)
+flags_none pc None None None true m n e = absurd (cc)
+flags_none pc None None None false m n e = (refl, (refl, (refl, done_is m n e)))
 
 -- the step does not overflow
 passes : (test : Bool) (a : Answer) (pc : ℕ) (n : State) → (if test then a else Overflow pc) ≡ Done n → (test ≡ true) × (a ≡ Done n)
 passes true a pc n e = (refl, e)
 passes false a pc n e = absurd (cc)
 
-inside_if_listed : (inside : Bool) (listed : Option ℕ) → (inside || is_unlisted listed) ≡ true → listed ≡ None → inside ≡ true
-inside_if_listed true listed h e = refl
-inside_if_listed false None h e = h
-inside_if_listed false (Some t) h e = absurd (cc)
+inside_if_let : (inside : Bool) (refused : Option ℕ) → (inside || is_refused refused) ≡ true → refused ≡ None → inside ≡ true
+inside_if_let true refused h e = refl
+inside_if_let false None h e = h
+inside_if_let false (Some t) h e = absurd (cc)
+
+-- a transfer that isn't refused is listed
+listed_if_let : (words : Program) (A : List Entry) (m : State) (instr : Instr) (e : Effect) → refused_transfer words A m instr e ≡ None → unlisted_transfer A m.pc instr e ≡ None
+unfolding refused_transfer
+listed_if_let words A m instr e h = by (unlisted_transfer A m.pc instr e) h
+  where
+    by : (listed : Option ℕ) → first_of listed (deep_call words A m instr e) ≡ None → listed ≡ None
+    by None is = refl
+    by (Some t) is = absurd (cc)
 
 flagged_defined : (flags : Option Flag) (m : State) (pc : ℕ) → flagged_or flags m ≢ Undefined pc
 flagged_defined None m pc e = cc
@@ -101,14 +111,16 @@ module _ {followed : Bool} (task : Task) (m : State) (o : Origin) (k : NodeKey) 
         → IsStep (reads_masks (device_of task.flash) task.assumptions) m o k b1 b2 (joined (raw task k s)) n
     go_steps n None covered e = absurd (covered none)
     go_steps n (Some instr) covered e =
-        let effect = effect_of task.flash m instr b1 b2 in
-        let passed = passes (all_inside m.device effect.pushes || is_unlisted (unlisted_transfer task.assumptions m.pc instr effect)) _ m.pc n e in
-        let unflagged = flags_none m.pc (live_write m.memory (effect.stores ++ effect.pushes)) (protected_write task.flash task.assumptions m.pc instr effect) (unlisted_transfer task.assumptions m.pc instr effect)
-        (after m (not (is_scratch task.flash m.pc)) effect) n passed.1 in
-        let inside = inside_if_listed (all_inside m.device effect.pushes) (unlisted_transfer task.assumptions m.pc instr effect) passed.0 unflagged.1.1.0 in
+        let effect = effect_by task m instr b1 b2 in
+        let refused = refused_transfer task.flash task.assumptions m instr effect in
+        let guarded = is_guarding task.flash task.assumptions m.pc instr in
+        let passed = passes (all_inside m.device effect.pushes || is_refused refused) _ m.pc n e in
+        let unflagged = flags_none m.pc (live_write m.memory (effect.stores ++ effect.pushes)) (protected_write task.flash task.assumptions m.pc instr effect) refused
+        (moves_vectors (device_of task.flash) (masks_by task) effect.stores) (after m guarded effect) n passed.1 in
+        let inside = inside_if_let (all_inside m.device effect.pushes) refused passed.0 unflagged.1.1.0 in
         subst (IsStep (reads_masks (device_of task.flash) task.assumptions) m o k b1 b2 (joined (raw task k s))) unflagged.1.1.1
-        (follows_steps (not (is_scratch task.flash m.pc)) effect unflagged.0 inside
-        (covered none (record { protected = unflagged.1.0; listed = unflagged.1.1.0 })))
+        (follows_steps guarded effect unflagged.0 inside
+        (covered none (record { protected = unflagged.1.0; listed = listed_if_let task.flash task.assumptions m instr effect unflagged.1.1.0 })))
 
 pub steps_are_covered : JoinsAreLeast → LocalPartsAreNodes → StepsAreCovered
 steps_are_covered joins nodes = record {
