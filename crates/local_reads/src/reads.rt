@@ -1,10 +1,10 @@
 //! The value of a byte read from data space at a known address.
 
-ghost use Rattle.std.specs.Prelude.{◌≡◌, true, IfSome};
+ghost use Rattle.std.specs.Prelude.{◌≡◌, ◌&&◌, true, IfSome};
 ghost use Rattle.std.specs.Int.{from_bool};
-ghost use Rattle.avr_model.specs.Vectors.{is_vector};
+ghost use Rattle.avr_model.specs.Vectors.{is_vector, is_ivsel};
 ghost use Rattle.sp_domain.specs.Slots.{slot_at};
-ghost use Rattle.local_rules.specs.Reads.{enable_read, io_tri, io_bits, kept_bits, value_of, slot_read, read_at};
+ghost use Rattle.local_rules.specs.Reads.{enable_read, io_tri, free_tri, io_bits, kept_bits, value_of, slot_read, read_at};
 
 use crate::stack_pointer::sp_bytes;
 use abs_state::{AbsByte, AbsState};
@@ -16,7 +16,7 @@ use local_rows::registers::value;
 use local_rows::status::sreg_value;
 use mask_states::{Kind, NodeKey};
 use sp_domain::Slot;
-use vector_table::{Masks, enable_of, held_of};
+use vector_table::{Masks, enable_of, held_of, is_ivsel};
 
 // An enable bit by the key. If `may`, the key has what may be enabled, and the bit is 0 or unknown.
 fn enable_read(may: bool, on: bool) -> Tri
@@ -39,6 +39,17 @@ fn io_tri(free: Tri, may: bool, device: Device, vector: Option<u8>, masks: Masks
     }
 }
 
+// A bit that no key knows: IVSEL is read as 0 if `may`, every other is unknown.
+fn free_tri(device: Device, may: bool, address: u16, bit: u8) -> Tri
+    ensures { result ≡ free_tri (may && is_ivsel device address bit) }
+{
+    if may && is_ivsel(device, address, bit) {
+        Tri::Zero
+    } else {
+        Tri::Any
+    }
+}
+
 // What a read of an I/O address gives.
 fn io_bits(device: Device, may: bool, masks: Masks, address: u16) -> TriByte
     ensures { result ≡ io_bits device may masks address }
@@ -46,7 +57,8 @@ fn io_bits(device: Device, may: bool, masks: Masks, address: u16) -> TriByte
     let mut bits = TriByte::any();
     for bit in 0..8u8 {
         let vector = held_of(device, address, bit);
-        bits = bits.with(bit, io_tri(Tri::Any, may, device, vector, masks));
+        let free = free_tri(device, may, address, bit);
+        bits = bits.with(bit, io_tri(free, may, device, vector, masks));
     }
     bits
 }
