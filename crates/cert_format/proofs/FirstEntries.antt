@@ -5,7 +5,7 @@ use Rattle.std.specs.List.{AllByRecursion}
 use Rattle.std.proofs.lemmas.Bool.{false≢true, and_parts, and_from}
 use Rattle.std.proofs.lemmas.Bool.Decides.{nat_tests}
 use Rattle.avr_model.specs.declared.assumption.Entry.{Entry}
-use Rattle.avr_model.specs.declared.assumption.Entry.TheVariants.{Pairs, Masks, Jump, Store, Prove, Free, Never, Frame}
+use Rattle.avr_model.specs.declared.assumption.Entry.TheVariants.{Pairs, Masks, Jump, Store, Prove, Free, Never, Frame, Recur, Scratch}
 use Rattle.avr_model.specs.Assumptions.{is_before, is_line, has_line, has_pairs}
 use Rattle.avr_model.specs.declared.device.Device.{Device}
 use Rattle.vector_table.specs.Entries.{AreEntries, is_entry, fits_device, is_before_first, are_in_order}
@@ -42,6 +42,8 @@ mode_kept es (Prove site) h = other_pushed es (Prove site) refl
 mode_kept es (Free site) h = other_pushed es (Free site) refl
 mode_kept es (Never site) h = other_pushed es (Never site) refl
 mode_kept es (Frame site) h = other_pushed es (Frame site) refl
+mode_kept es (Recur word depth) h = other_pushed es (Recur word depth) refl
+mode_kept es (Scratch site) h = other_pushed es (Scratch site) refl
 
 -- where the text says its device, each list may have it
 pub mode_stays : (says : Bool) (es : List Entry) (e : Entry) → is_admitted (says || has_pairs es) e ≡ true → (says || has_pairs (es ++ e ∷ [])) ≡ (says || has_pairs es)
@@ -60,6 +62,8 @@ not_before x (Prove site) e = refl
 not_before x (Free site) e = refl
 not_before x (Never site) e = refl
 not_before x (Frame site) e = refl
+not_before x (Recur word depth) e = refl
+not_before x (Scratch site) e = refl
 
 none_behind : (x : Entry) (xs : List Entry) → are_in_order (x ∷ xs) ≡ true → has_line 0 xs 0 ≡ false
 none_behind x [] e = refl
@@ -78,6 +82,8 @@ all_other (Prove site ∷ xs) h = (refl, all_other xs h)
 all_other (Free site ∷ xs) h = (refl, all_other xs h)
 all_other (Never site ∷ xs) h = (refl, all_other xs h)
 all_other (Frame site ∷ xs) h = (refl, all_other xs h)
+all_other (Recur word depth ∷ xs) h = (refl, all_other xs h)
+all_other (Scratch site ∷ xs) h = (refl, all_other xs h)
 
 any_entry : (e : Entry) → is_admitted true e ≡ true
 any_entry Pairs = refl
@@ -88,6 +94,8 @@ any_entry (Prove site) = refl
 any_entry (Free site) = refl
 any_entry (Never site) = refl
 any_entry (Frame site) = refl
+any_entry (Recur word depth) = refl
+any_entry (Scratch site) = refl
 
 pub all_entries : (es : List Entry) → AllByRecursion (λ e. is_admitted true e ≡ true) es
 all_entries [] = tt
@@ -140,6 +148,8 @@ behind_first (Prove site) xs order e = absurd (false≢true (sym (none_behind (P
 behind_first (Free site) xs order e = absurd (false≢true (sym (none_behind (Free site) xs order) ∙ e))
 behind_first (Never site) xs order e = absurd (false≢true (sym (none_behind (Never site) xs order) ∙ e))
 behind_first (Frame site) xs order e = absurd (false≢true (sym (none_behind (Frame site) xs order) ∙ e))
+behind_first (Recur word depth) xs order e = absurd (false≢true (sym (none_behind (Recur word depth) xs order) ∙ e))
+behind_first (Scratch site) xs order e = absurd (false≢true (sym (none_behind (Scratch site) xs order) ∙ e))
 
 third_begins : (es : List Entry) → are_in_order es ≡ true → has_line 0 es 0 ≡ true → BeginsWith true Three es
 third_begins [] order e = absurd (false≢true e)

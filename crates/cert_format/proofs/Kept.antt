@@ -7,7 +7,7 @@ use Rattle.std.proofs.lemmas.Bool.Decides.{nat_tests}
 use Rattle.std.proofs.lemmas.List.{map-append}
 use Rattle.std.specs.Prelude.{Contains, ◌≢◌, codes}
 use Rattle.avr_model.specs.declared.assumption.Entry.{Entry}
-use Rattle.avr_model.specs.declared.assumption.Entry.TheVariants.{Pairs, Masks, Jump, Store, Prove, Free, Never, Frame}
+use Rattle.avr_model.specs.declared.assumption.Entry.TheVariants.{Pairs, Masks, Jump, Store, Prove, Free, Never, Frame, Recur, Scratch}
 use Rattle.indirect_targets.specs.Reading.{is_entry_of, entry_in}
 use Rattle.cert_format.specs.LineReading.{inst_in, node_in}
 use Rattle.sb_base.specs.Lines.{words_of, spaced}
@@ -118,6 +118,8 @@ entry_some (Prove site) h = cc
 entry_some (Free site) h = cc
 entry_some (Never site) h = cc
 entry_some (Frame site) h = cc
+entry_some (Recur word depth) h = cc
+entry_some (Scratch site) h = cc
 
 pub entry_reads : (device : Device) → WordLaws → EntryWords → (third : Bool) → Reads (λ at. entry_by device third) entry_words (EntryOf device third)
 entry_reads device k w third at e few h =

@@ -4,7 +4,7 @@ use Rattle.std.specs.Prelude.{ℕ, zero, suc, ◌+◌, ◌-◌, ◌&&◌, ◌||�
 use Rattle.std.specs.Ordering.{is_lt}
 use Rattle.std.specs.Str.{bytes_eq}
 use Rattle.avr_model.specs.declared.assumption.Entry.{Entry}
-use Rattle.avr_model.specs.declared.assumption.Entry.TheVariants.{Pairs, Masks, Jump, Store, Prove, Free, Never, Frame}
+use Rattle.avr_model.specs.declared.assumption.Entry.TheVariants.{Pairs, Masks, Jump, Store, Prove, Free, Never, Frame, Recur, Scratch}
 use Rattle.avr_model.specs.declared.device.Device.{Device}
 use Rattle.avr_model.specs.Names.{class_of, device_of_class}
 use Rattle.avr_model.specs.Devices.{depth_of}
@@ -87,6 +87,8 @@ is_admitted paired (Prove site) = true
 is_admitted paired (Free site) = true
 is_admitted paired (Never site) = true
 is_admitted paired (Frame site) = true
+is_admitted paired (Recur word depth) = true
+is_admitted paired (Scratch site) = true
 
 -- an entry of a list that may have the line `pairs`, or of another
 abbrev pub entry_by : Device → Bool → List ℕ → Option Entry

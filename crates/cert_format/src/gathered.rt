@@ -100,6 +100,7 @@ fn is_admitted(device: Device, list: &Assumptions, entry: &Entry) -> bool
         Entry::Masks => true,
         Entry::Jump(_, _) | Entry::Store(_, _) => true,
         Entry::Prove(_) | Entry::Free(_) | Entry::Never(_) | Entry::Frame(_) => true,
+        Entry::Recur(_, _) | Entry::Scratch(_) => true,
     }
 }
 

@@ -14,6 +14,7 @@ use Rattle.sb_base.specs.Lines.{spaced, line}
 use Rattle.avr_model.specs.declared.assumption.Entry.{Entry}
 use Rattle.avr_model.specs.declared.assumption.Entry.TheVariants as entry
 use Rattle.avr_model.specs.declared.device.Device.{Device}
+use Rattle.avr_model.specs.State.{SIZE}
 use Rattle.avr_model.specs.Vectors.{last_vector, is_vector}
 use Rattle.avr_model.proofs.AllLaws.{devices_are_alike}
 use Rattle.vector_table.specs.Entries.{are_items, is_entry, is_io, ascends, is_word}
@@ -249,6 +250,9 @@ items_few is_item items e =
     let c = and_parts (nat_le 1 (length items)) (nat_le (length items) 64) b.0 in
     grind (arith, nat_tests, c.1)
 
+depth_few : (depth : ℕ) → nat_le depth SIZE ≡ true → depth ≤ SIZE
+depth_few depth e = grind (arith, nat_tests)
+
 entry_short : (e : Entry) → is_entry e ≡ true → taken (entry_words e) + 1 ≤ 400
 entry_short entry.Pairs e = omega arith
 entry_short entry.Masks e = omega arith
@@ -262,6 +266,10 @@ entry_short (entry.Prove site) e = omega (arith, numbers_long (site ∷ []))
 entry_short (entry.Free site) e = omega (arith, numbers_long (site ∷ []))
 entry_short (entry.Never site) e = omega (arith, numbers_long (site ∷ []))
 entry_short (entry.Frame site) e = omega (arith, numbers_long (site ∷ []))
+entry_short (entry.Recur word depth) e =
+    let most = depth_few depth (and_parts (is_word word) (nat_le depth SIZE) e).1 in
+    omega (arith, length_hex word 4, number_short depth (omega (arith, most)))
+entry_short (entry.Scratch site) e = omega (arith, numbers_long (site ∷ []))
 
 entries_short : (es : List Entry) → AllByRecursion (λ e. is_entry e ≡ true) es → text entry_words es ≤ 400 * length es
 entries_short [] h = omega arith

@@ -10,6 +10,7 @@ use Rattle.avr_model.specs.Sites.{instruction_at}
 use Rattle.avr_model.specs.Step.{is_indirect}
 use Rattle.pair_domain.specs.Facts.{is_followed}
 use Rattle.abs_state.specs.declared.state.AbsState.{AbsState}
+use Rattle.mask_states.specs.declared.keys.NodeKey.{NodeKey}
 use Rattle.local_rules.specs.declared.local.Node.{Node}
 use Rattle.edge_rules.specs.Families.{RankedFamily}
 use Rattle.clear_laws.specs.Aims.{may_write}
@@ -30,14 +31,18 @@ may_write_some_protected task store = any_below (io_end (device_of task.flash) +
 abbrev pub may_write_stack : Device → ℕ → AbsState → Instr → Bool
 may_write_stack device bound s instr = any_below bound (λ d. may_write s instr (ramend device - d))
 
+-- it is an indirect transfer, calls a word that has a `recur` line, or may set IVSEL
+abbrev pub may_leave : Task → NodeKey → Store → Bool
+may_leave task k store = is_indirect store.instr || (calls_cut task k store.state store.instr || may_move task k store.state store.instr)
+
 -- Without pairs, the test for harmless stores uses only the least and the greatest address. So a store may fail it although it reaches
 -- neither the stack nor a protected address; it has no other cause. With pairs no store is so.
-abbrev pub is_untold : Task → Store → Bool
-is_untold task store = not (is_followed store.state.facts) && not (is_indirect store.instr || may_write_some_protected task store)
+abbrev pub is_untold : Task → NodeKey → Store → Bool
+is_untold task k store = not (is_followed store.state.facts) && not (may_leave task k store || may_write_some_protected task store)
 
 -- a store that isn't harmless may write a pushed byte: it may reach the stack, or it has no other cause
-abbrev pub may_write_live : Task → ℕ → Store → Bool
-may_write_live task bound store = may_write_stack (device_of task.flash) bound store.state store.instr || is_untold task store
+abbrev pub may_write_live : Task → ℕ → NodeKey → Store → Bool
+may_write_live task bound k store = may_write_stack (device_of task.flash) bound store.state store.instr || is_untold task k store
 
 -- ---- what may happen at a word
 
@@ -57,10 +62,10 @@ abbrev pub MayWriteProtected : Task → RankedFamily → ℕ → ℕ → Type 0
 MayWriteProtected task f pc a = IsCause task f pc (λ (n : Node) instr. may_write_protected task (store_at pc n.state instr) a)
 
 abbrev pub MayWriteLive : Task → RankedFamily → ℕ → Type 0
-MayWriteLive task f pc = IsCause task f pc (λ (n : Node) instr. may_write_live task f.bound (store_at pc n.state instr))
+MayWriteLive task f pc = IsCause task f pc (λ (n : Node) instr. may_write_live task f.bound n.key (store_at pc n.state instr))
 
 abbrev pub MayGoUnlisted : Task → RankedFamily → ℕ → Type 0
-MayGoUnlisted task f pc = IsCause task f pc (λ (n : Node) instr. not (is_transfer_listed task pc n.state instr) || calls_cut task n)
+MayGoUnlisted task f pc = IsCause task f pc (λ (n : Node) instr. not (is_transfer_listed task pc n.state instr) || calls_cut task n.key n.state instr)
 
 abbrev pub MayMove : Task → RankedFamily → ℕ → Type 0
 MayMove task f pc = IsCause task f pc (λ (n : Node) instr. may_move task n.key n.state instr)

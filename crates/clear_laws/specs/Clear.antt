@@ -1,5 +1,5 @@
 -- Clear nodes: no step can be flagged there. Source: own.
-use Rattle.std.specs.Prelude.{ℕ, ⊤, ◌+◌, ◌++◌, ◌∷◌, ◌≡◌, ◌≢◌, ◌<◌, ◌≤◌, ◌&&◌, ◌||◌, ◌==◌, Bool, true, false, not, nat_lt, nat_le, if◌then◌else◌, List, Option, Some, None, Contains}
+use Rattle.std.specs.Prelude.{ℕ, ⊤, ◌+◌, ◌++◌, ◌∷◌, ◌≡◌, ◌≢◌, ◌<◌, ◌≤◌, ◌&&◌, ◌||◌, ◌==◌, Bool, true, false, not, nat_lt, nat_le, if◌then◌else◌, List, [], Option, Some, None, Contains}
 use Rattle.std.specs.List.{list_any}
 use Rattle.avr_model.specs.declared.assumption.Entry.{Entry}
 use Rattle.avr_model.specs.declared.choice.Choice.{Choice}
@@ -16,7 +16,8 @@ use Rattle.avr_model.specs.Masks.{admits_enables}
 use Rattle.avr_model.specs.declared.rows.Ivsel.{Ivsel}
 use Rattle.avr_model.specs.Devices.{device_row, io_end, ramend, wrapped, device_of}
 use Rattle.avr_model.specs.Effects.{port}
-use Rattle.avr_model.specs.Sites.{instruction_at, base_register, pointer_register}
+use Rattle.avr_model.specs.Text.{far}
+use Rattle.avr_model.specs.Sites.{instruction_at, is_scratch, base_register, pointer_register}
 use Rattle.avr_model.specs.State.{State, IsReset, low, high}
 use Rattle.avr_model.specs.Step.{is_pointer_store, is_indirect}
 use Rattle.avr_model.specs.Run.{IsRun, stop_of}
@@ -31,17 +32,16 @@ use Rattle.mask_states.specs.declared.keys.NodeKey.{NodeKey}
 use Rattle.mask_states.specs.Keys.{offset_of}
 use Rattle.mask_states.specs.Wakes.{may_enable_barred}
 use Rattle.local_rules.specs.declared.local.Node.{Node}
-use Rattle.local_rules.specs.declared.local.CallSite.{CallSite}
+use Rattle.local_rules.specs.Flow.{targets_at}
 use Rattle.local_rules.specs.Local.{step_before}
 use Rattle.local_rules.specs.Reads.{pointed}
 use Rattle.local_rules.specs.Registers.{bits}
 use Rattle.local_rules.specs.Writes.{is_own_slot}
-use Rattle.edge_rules.specs.Edges.{raw_of}
 use Rattle.edge_rules.specs.Families.{RankedFamily}
 use Rattle.clear_laws.specs.Aims.{Span, Reach, Aim, permits_number, may_write, aim_of}
 use Rattle.clear_laws.specs.Aims.reach as reach
 use Rattle.clear_laws.specs.Held.{MayHold}
-use Rattle.local_rules.specs.Site.{Task, masks_by}
+use Rattle.local_rules.specs.Site.{Task, site_at, masks_by}
 
 -- ---- stores
 
@@ -127,9 +127,23 @@ abbrev pub has_depth : Option ℕ → Bool
 has_depth None = false
 has_depth (Some depth) = true
 
--- the node calls a word that has a `recur` line
-abbrev pub calls_cut : Task → Node → Bool
-calls_cut task n = list_any (λ (c : CallSite). has_depth (recur_line task.assumptions c.entry)) (raw_of task n).calls
+abbrev pub or_none : Option (List ℕ) → List ℕ
+or_none None = []
+or_none (Some words) = words
+
+-- the words that an instruction calls: those of the node's call sites
+abbrev pub called_words : Task → NodeKey → AbsState → Instr → List ℕ
+called_words task k s i.Icall = or_none (targets_at task.assumptions (site_at (device_of task.flash) k s))
+called_words task k s (i.Call t) = wrapped (device_of task.flash) t ∷ []
+called_words task k s (i.Rcall t) = if is_scratch task.flash k.pc then [] else wrapped (device_of task.flash) (far k.pc t) ∷ []
+called_words task k s _ = []
+
+abbrev pub is_cut : List Entry → ℕ → Bool
+is_cut A word = has_depth (recur_line A word)
+
+-- the instruction calls a word that has a `recur` line
+abbrev pub calls_cut : Task → NodeKey → AbsState → Instr → Bool
+calls_cut task k s instr = list_any (is_cut task.assumptions) (called_words task k s instr)
 
 -- registers r and r + 1 may hold this number: by their bits alone, and if pairs are followed also by their ranges and interval
 abbrev pub permits_by : Option PairFacts → AbsState → ℕ → ℕ → Bool
@@ -153,7 +167,7 @@ pub record IsClear (task : Task) (f : RankedFamily) (n : Node) : Type 0 where
       → IsHarmless task f n instr aim
   pub transfer : (instr : Instr) → instruction_at task.flash n.key.pc ≡ Some instr → is_indirect instr ≡ true
       → AreTargetsListed (device_of task.flash) n.state (jump_line task.assumptions n.key.pc)
-  pub calls : calls_cut task n ≡ false
+  pub calls : (instr : Instr) → instruction_at task.flash n.key.pc ≡ Some instr → calls_cut task n.key n.state instr ≡ false
   pub stays : (instr : Instr) → instruction_at task.flash n.key.pc ≡ Some instr → may_move task n.key n.state instr ≡ false
 
 -- a node of the family at this word that isn't clear
@@ -228,7 +242,7 @@ abbrev pub is_clear_by : Task → ℕ → Node → (ℕ → Bool) → Option Ins
 is_clear_by task bound n held None = true
 is_clear_by task bound n held (Some instr) =
     is_aim_harmless task bound (store_at n.key.pc n.state instr) (is_slot_harmless (offset_of n.key.sp) held) (aim_of (device_of task.flash) n.key n.state instr)
-    && is_transfer_listed task n.key.pc n.state instr && not (calls_cut task n) && not (may_move task n.key n.state instr)
+    && (is_transfer_listed task n.key.pc n.state instr && (not (calls_cut task n.key n.state instr) && not (may_move task n.key n.state instr)))
 
 abbrev pub is_clear : Task → ℕ → Node → (ℕ → Bool) → Bool
 is_clear task bound n held = is_clear_by task bound n held (instruction_at task.flash n.key.pc)

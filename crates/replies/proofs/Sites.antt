@@ -103,6 +103,10 @@ pub three_written : (a b c : List (List ℕ)) (w v u x : Written) → v ≡ with
 three_written a b c w v u x e f g =
     g ∙ ap (λ (y : Written). with_words y c) f ∙ sym (words_append v b c) ∙ ap (λ (y : Written). with_words y (b ++ c)) e ∙ sym (words_append w a (b ++ c))
 
+pub four_written : (a b c d : List (List ℕ)) (w v u x y : Written) → v ≡ with_words w a → u ≡ with_words v b → x ≡ with_words u c → y ≡ with_words x d
+    → y ≡ with_words w (a ++ (b ++ (c ++ d)))
+four_written a b c d w v u x y e f g h = three_written a b (c ++ d) w v u y e f (h ∙ ap (λ (z : Written). with_words z d) g ∙ sym (words_append u c d))
+
 pub why_written : (words : Program) (names : List Named) (place : FlaggedPlace) (pc : ℕ) (w v u : Written) → pc ≡ place.word → v ≡ with_words w (place_line words names pc) → u ≡ with_words v (cause_words place)
     → u ≡ with_words w (why_line words names place)
 why_written words names place pc w v u same e f =

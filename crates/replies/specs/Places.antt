@@ -69,9 +69,12 @@ abbrev pub protected_words : List ℕ → List (List ℕ)
 protected_words [] = []
 protected_words (address ∷ addresses) = codes "protected" ∷ first_addresses (address ∷ addresses)
 
--- the protected addresses that a store may write, whether it may write a pushed byte, and whether a transfer may go to an unlisted word
+-- the protected addresses that a store may write, whether it may write a pushed byte, whether a transfer may go to an unlisted word or a
+-- call enters a word that has a `recur` line, and whether IVSEL may be set
 abbrev pub cause_words : FlaggedPlace → List (List ℕ)
-cause_words place = protected_words place.protected ++ (word_where place.live (codes "live") ++ word_where place.transfer (codes "transfer"))
+cause_words place =
+    protected_words place.protected
+    ++ (word_where place.live (codes "live") ++ (word_where place.transfer (codes "transfer") ++ word_where place.moves (codes "moves")))
 
 -- a word with its causes
 abbrev pub why_line : Program → List Named → FlaggedPlace → List (List ℕ)

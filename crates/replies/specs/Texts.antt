@@ -8,7 +8,7 @@ use Rattle.avr_model.specs.declared.instruction.Instr.{Instr}
 use Rattle.avr_model.specs.Image.{word_at}
 use Rattle.avr_model.specs.Sites.{instruction_at}
 use Rattle.avr_model.specs.Text as instruction
-use Rattle.avr_model.specs.declared.choice.Flag.TheVariants.{Live, Protected, Transfer}
+use Rattle.avr_model.specs.declared.choice.Flag.TheVariants.{Live, Protected, Transfer, Moved}
 use Rattle.avr_model.specs.declared.choice.Stop.{Stop}
 use Rattle.avr_model.specs.declared.choice.Stop.TheVariants as stop
 use Rattle.avr_model.specs.declared.device.Device.{Device}
@@ -154,6 +154,7 @@ stop_words stop.End = codes "end" ∷ []
 stop_words (stop.Flag (Live pc a)) = codes "live" ∷ hex_digits pc 4 ∷ hex_digits a 4 ∷ []
 stop_words (stop.Flag (Protected pc a)) = codes "protected" ∷ hex_digits pc 4 ∷ hex_digits a 4 ∷ []
 stop_words (stop.Flag (Transfer pc target)) = codes "transfer" ∷ hex_digits pc 4 ∷ hex_digits target 4 ∷ []
+stop_words (stop.Flag (Moved pc)) = codes "moved" ∷ hex_digits pc 4 ∷ []
 stop_words (stop.Undefined pc) = codes "undefined" ∷ hex_digits pc 4 ∷ []
 stop_words (stop.Overflow pc) = codes "overflow" ∷ hex_digits pc 4 ∷ []
 

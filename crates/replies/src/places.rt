@@ -204,13 +204,14 @@ fn write_protected(out: &mut LineWriter, addresses: &[u16]) -> Result<(), AllocE
 }
 
 // Writes the causes at a place.
-#[tactic(auto, using(crate::proofs::Sites::three_written))]
+#[tactic(auto, using(crate::proofs::Sites::four_written))]
 fn write_causes(out: &mut LineWriter, place: &FlaggedPlace) -> Result<(), AllocError>
     ensures { OnOk result (out.new ≡ with_words out.old (cause_words place.now)) }
 {
     write_protected(out, place.protected.as_slice())?;
     write_where(out, place.live, b"live")?;
-    write_where(out, place.transfer, b"transfer")
+    write_where(out, place.transfer, b"transfer")?;
+    write_where(out, place.moves, b"moves")
 }
 
 // Writes the lines of places with their causes. If they ascend, each search continues from the one before.

@@ -342,6 +342,7 @@ fn put_stop(line: &mut LineWriter, stop: Stop) -> Result<(), AllocError>
         Stop::Flag(Flag::Live(pc, address)) => put_flag(line, b"live", pc, address),
         Stop::Flag(Flag::Protected(pc, address)) => put_flag(line, b"protected", pc, address),
         Stop::Flag(Flag::Transfer(pc, target)) => put_flag(line, b"transfer", pc, target),
+        Stop::Flag(Flag::Moved(pc)) => put_address(line, b"moved", pc),
         Stop::Undefined(pc) => put_address(line, b"undefined", pc),
         Stop::Overflow(pc) => put_address(line, b"overflow", pc),
     }

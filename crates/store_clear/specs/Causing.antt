@@ -14,7 +14,9 @@ use Rattle.clear_laws.specs.Places.{word_of, IsPlaceOf}
 use Rattle.clear_laws.specs.Verdict.{AreSites, AreAllClear}
 use Rattle.store_clear.specs.Settling.{ask_at, passes, IsTold}
 use Rattle.local_rules.specs.Site.{Task}
-use Rattle.clear_laws.specs.Clear.{Store, store_at, MayBeFlagged}
+use Rattle.clear_laws.specs.Clear.{Store, store_at, may_move, MayBeFlagged}
+use Rattle.store_clear.specs.declared.causes.Other.{Other}
+use Rattle.store_clear.specs.declared.causes.Other.TheVariants.{Live, Moves}
 
 -- ---- addresses
 
@@ -37,19 +39,24 @@ abbrev pub is_unclear_at : ℕ → NodeKey → Asks → Bool
 is_unclear_at pc k asks = not (passes asks) && (k.pc == pc)
 
 -- one of the first nodes still has a condition, is at this word, and passes the test
-pub record PassesBelow (nodes : List Node) (asks : List Asks) (pc : ℕ) (test : AbsState → Bool) (count : ℕ) : Type 0 where
+pub record PassesBelow (nodes : List Node) (asks : List Asks) (pc : ℕ) (test : Node → Bool) (count : ℕ) : Type 0 where
   pub at : ℕ
   pub node : Node
   pub below : at < count
   pub is : slice_get nodes at ≡ Some node
   pub unclear : is_unclear_at pc node.key (ask_at asks at) ≡ true
-  pub passes : test node.state ≡ true
+  pub passes : test node ≡ true
 
 abbrev pub IsProtectedAt : Task → List Node → List Asks → ℕ → Instr → ℕ → ℕ → Type 0
-IsProtectedAt task nodes asks pc instr count a = (a < io_end (device_of task.flash) + 1) × PassesBelow nodes asks pc (λ s. may_write_protected task (store_at pc s instr) a) count
+IsProtectedAt task nodes asks pc instr count a = (a < io_end (device_of task.flash) + 1) × PassesBelow nodes asks pc (λ (n : Node). may_write_protected task (store_at pc n.state instr) a) count
 
-abbrev pub IsLiveAt : Task → ℕ → List Node → List Asks → ℕ → Instr → ℕ → Type 0
-IsLiveAt task bound nodes asks pc instr count = PassesBelow nodes asks pc (λ s. may_write_live task bound (store_at pc s instr)) count
+-- a store at the node may write a pushed byte, or IVSEL may be set there
+abbrev pub may_happen : Task → ℕ → Other → ℕ → Instr → Node → Bool
+may_happen task bound Live pc instr n = may_write_live task bound n.key (store_at pc n.state instr)
+may_happen task bound Moves pc instr n = may_move task n.key n.state instr
+
+abbrev pub HappensAt : Task → ℕ → Other → List Node → List Asks → ℕ → Instr → ℕ → Type 0
+HappensAt task bound other nodes asks pc instr count = PassesBelow nodes asks pc (may_happen task bound other pc instr) count
 
 -- ---- words
 

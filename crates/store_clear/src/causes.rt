@@ -1,30 +1,33 @@
 //! The causes at each word at which a step may be flagged.
 
-ghost use Rattle.std.specs.Prelude.{ℕ, ◌+◌, ◌≡◌, ◌≤◌, ◌↔◌, true, length, Contains, IfOk};
+ghost use Rattle.std.specs.Prelude.{ℕ, ◌+◌, ◌≡◌, ◌≤◌, ◌↔◌, ◌||◌, true, length, Contains, IfOk};
 ghost use Rattle.std.specs.List.Sorted.{IsStrictlySortedBy};
 ghost use Rattle.std.specs.Ordering.{nat_cmp};
 ghost use Rattle.avr_model.specs.Devices.{device_of, io_end, size_of};
+ghost use Rattle.avr_model.specs.Step as steps;
 ghost use Rattle.certificate.specs.Valid.{family_of};
 ghost use Rattle.clear_laws.specs.Clear.{MayBeFlagged};
 ghost use Rattle.clear_laws.specs.Places.{IsPlaceOf};
 ghost use Rattle.store_clear.specs.Settling.{IsTold};
 ghost use Rattle.store_clear.specs.Takes.{AreMarkedBeside};
-ghost use Rattle.store_clear.specs.Causing.{IsProtectedAt, IsLiveAt, ArePlacesOf, IsProtectedWrite, MayAllBeFlagged};
+ghost use Rattle.store_clear.specs.Causing.{IsProtectedAt, may_happen, HappensAt, ArePlacesOf, IsProtectedWrite, MayAllBeFlagged};
 ghost use Rattle.store_clear.specs.ByWord.{AreLinked, IsChain};
 ghost use Rattle.call_graph.specs.Tasks.{task_of};
 ghost use Rattle.store_clear.specs.Stores.{task_in, store_of};
 
 use crate::by_word::{ByWord, by_word};
-use crate::need::is_indirect;
+use crate::moving::may_move;
 use crate::store::Store;
 use crate::telling::ToldNodes;
 use crate::words::places;
 use crate::writes::{may_write_live, may_write_protected};
+use abs_state::AbsState;
 use avr_model::instruction::Instr;
 use avr_model::listed::Listed;
 use call_graph::Task;
 use certificate::Certificate;
 use clear_laws::FlaggedPlace;
+use mask_states::NodeKey;
 use std::alloc::AllocError;
 
 // A word with its instruction, and its nodes that aren't clear: the first, and by the number of each the next.
@@ -88,29 +91,75 @@ fn protected_of(
     places(task.alloc, &marks)
 }
 
-// Whether a store at some node there, which isn't clear, may write a pushed byte.
-fn is_live_at(task: &Task<'_>, bound: u16, told: &ToldNodes<'_>, site: &WordSite<'_>) -> bool
+// What else may happen at a node than a write of a protected address.
+#[derive(Clone, Copy)]
+enum Other {
+    // A store may write a pushed byte.
+    Live,
+    // IVSEL may be set.
+    Moves,
+}
+
+// Whether this may happen at a node.
+fn may_happen(
+    task: &Task<'_>,
+    bound: u16,
+    key: &NodeKey,
+    state: &AbsState,
+    site: &WordSite<'_>,
+    other: Other,
+) -> bool
+    requires { bound ≤ size_of (device_of task.now.flash.now) }
+    ensures { result ≡ may_happen (task_of task.now) bound other site.now.pc site.now.instr.now (record { key = key.now; state = state.now }) }
+{
+    let store = Store {
+        flash: task.flash,
+        assumptions: task.assumptions,
+        pc: site.pc,
+        state,
+        instr: site.instr,
+    };
+    match other {
+        Other::Live => may_write_live(task, bound, key, &store),
+        Other::Moves => may_move(task, key, state, site.instr),
+    }
+}
+
+// Whether this may happen at some node there that isn't clear.
+fn happens_at(
+    task: &Task<'_>,
+    bound: u16,
+    told: &ToldNodes<'_>,
+    site: &WordSite<'_>,
+    other: Other,
+) -> bool
     requires same { length told.now.asks.now ≡ length told.now.nodes.now }
     requires chain { IsChain told.now.nodes.now told.now.asks.now site.now.pc site.now.first site.now.later.now }
     requires small { bound ≤ size_of (device_of task.now.flash.now) }
-    ensures { (result ≡ true) ↔ IsLiveAt (task_of task.now) bound told.now.nodes.now told.now.asks.now site.now.pc site.now.instr.now (length told.now.asks.now) }
+    ensures { (result ≡ true) ↔ HappensAt (task_of task.now) bound other told.now.nodes.now told.now.asks.now site.now.pc site.now.instr.now (length told.now.asks.now) }
 {
     let _count = told.nodes.count();
     let mut at = site.first;
     while at < told.asks.len() {
-        let store = Store {
-            flash: task.flash,
-            assumptions: task.assumptions,
-            pc: site.pc,
-            state: told.nodes.state(at),
-            instr: site.instr,
-        };
-        if may_write_live(&store, bound) {
+        let (key, state) = (told.nodes.key(at), told.nodes.state(at));
+        if may_happen(task, bound, key, state, site, other) {
             return true;
         }
         at = site.later[at];
     }
     false
+}
+
+// Whether the instruction transfers by a pointer or calls: such a node that isn't clear may go to an unlisted word, or calls one that has
+// a `recur` line.
+fn is_transfer(instr: &Instr) -> bool
+    ensures { result ≡ (steps.is_indirect instr.now || steps.is_call instr.now) }
+{
+    match instr {
+        Instr::Ijmp | Instr::Icall => true,
+        Instr::Call(_) | Instr::Rcall(_) => true,
+        _ => false,
+    }
 }
 
 // The causes at a word at which some node isn't clear.
@@ -134,6 +183,7 @@ fn place_at(
             protected: Listed::empty(task.alloc),
             live: false,
             transfer: false,
+            moves: false,
         }),
         Some(instr) => {
             let _count = told.nodes.count();
@@ -147,8 +197,9 @@ fn place_at(
             Ok(FlaggedPlace {
                 word: pc,
                 protected,
-                live: is_live_at(task, certificate.bound(), told, &site),
-                transfer: is_indirect(&instr),
+                live: happens_at(task, certificate.bound(), told, &site, Other::Live),
+                transfer: is_transfer(&instr),
+                moves: happens_at(task, certificate.bound(), told, &site, Other::Moves),
             })
         }
     }

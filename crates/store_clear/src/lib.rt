@@ -5,8 +5,10 @@
 
 mod aims;
 mod by_word;
+mod calls;
 mod causes;
 pub mod clearing;
+mod moving;
 mod need;
 mod numbers;
 mod reach;

@@ -1,17 +1,19 @@
 //! A node's condition on its slots for being clear.
 
-ghost use Rattle.std.specs.Prelude.{◌≡◌, ◌≤◌, ℕ, Bool, Some};
+ghost use Rattle.std.specs.Prelude.{◌≡◌, ◌≤◌, ◌&&◌, not, ℕ, Bool, Some};
 ghost use Rattle.avr_model.specs.Assumptions as assumed;
 ghost use Rattle.avr_model.specs.Devices.{device_of, size_of};
 ghost use Rattle.avr_model.specs.Sites.{instruction_at};
 ghost use Rattle.avr_model.specs.Step as steps;
-ghost use Rattle.clear_laws.specs.Clear.{stored_bits, is_guarded, is_flagged_address, is_address_harmless, is_reach_harmless, is_aim_harmless, permits_pair, is_target_listed, are_targets_listed, is_transfer_listed, is_clear_by, store_at, is_slot_harmless};
+ghost use Rattle.clear_laws.specs.Clear.{stored_bits, is_guarded, is_flagged_address, is_address_harmless, is_reach_harmless, is_aim_harmless, permits_pair, is_target_listed, are_targets_listed, is_transfer_listed, calls_cut, may_move, is_clear_by, store_at, is_slot_harmless};
 ghost use Rattle.clear_laws.specs.Needs.{meets};
 ghost use Rattle.call_graph.specs.Tasks.{task_of};
 ghost use Rattle.store_clear.specs.Stores.{task_in, store_of};
 ghost use Rattle.mask_states.specs.Keys.{offset_of};
 
 use crate::aims::aim;
+use crate::calls::calls_cut;
+use crate::moving::may_move;
 use crate::numbers::are_addresses_harmless;
 use crate::store::Store;
 use abs_state::AbsState;
@@ -47,7 +49,7 @@ fn lists(items: &[u16], item: u16) -> bool
 }
 
 // The bits of the byte that a pointer store stores.
-fn stored_bits(state: &AbsState, instr: &Instr) -> TriByte
+pub(crate) fn stored_bits(state: &AbsState, instr: &Instr) -> TriByte
     ensures { result ≡ stored_bits state.now instr.now }
 {
     match instr {
@@ -176,6 +178,15 @@ fn is_transfer_listed(task: &Task<'_>, pc: u16, state: &AbsState, instr: &Instr)
     }
 }
 
+// Whether an instruction goes to listed words only, calls no word with a `recur` line, and doesn't set IVSEL.
+fn stays(task: &Task<'_>, key: &NodeKey, state: &AbsState, instr: &Instr) -> bool
+    ensures { result ≡ (is_transfer_listed (task_of task.now) key.now.pc state.now instr.now && (not (calls_cut (task_of task.now) key.now state.now instr.now) && not (may_move (task_of task.now) key.now state.now instr.now))) }
+{
+    is_transfer_listed(task, key.pc, state, instr)
+        && !calls_cut(task, key, state, instr)
+        && !may_move(task, key, state, instr)
+}
+
 // A node's condition for being clear, if the stack takes at most this many bytes.
 pub(crate) fn asked_by(task: &Task<'_>, bound: u16, key: &NodeKey, state: &AbsState) -> Asks
     requires { bound ≤ size_of (device_of task.now.flash.now) }
@@ -185,7 +196,7 @@ pub(crate) fn asked_by(task: &Task<'_>, bound: u16, key: &NodeKey, state: &AbsSt
         None => Asks::Nothing,
         Some(instr) => {
             let aim = aim(task.flash.device(), key, state, &instr);
-            if is_transfer_listed(task, key.pc, state, &instr) {
+            if stays(task, key, state, &instr) {
                 let store = Store {
                     flash: task.flash,
                     assumptions: task.assumptions,

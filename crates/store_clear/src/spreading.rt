@@ -12,7 +12,6 @@ use avr_model::listed::Listed;
 use call_graph::{Filled, Landing, Task, Worked};
 use clear_laws::slots::SlotSeed;
 use edge_rules::edge::is_entry;
-use flash_image::Flash;
 use mask_states::EdgeKind;
 use std::alloc::{AllocError, Global};
 
@@ -63,12 +62,15 @@ fn offsets_of(alloc: Global, nodes: &Filled) -> Result<Listed<u16>, AllocError>
 }
 
 // Whether this word pushes a guarded byte.
-fn is_guarded_push(flash: &Flash, pc: u16) -> bool
-    ensures { result ≡ held.is_guarded_push flash.now pc }
+fn is_guarded_push(task: &Task<'_>, pc: u16) -> bool
+    ensures { result ≡ held.is_guarded_push (task_of task.now) pc }
 {
-    match flash.instruction(pc) {
+    match task.flash.instruction(pc) {
         None => false,
-        Some(instr) => matches!(&instr, Instr::Push(_)) && !flash.is_scratch(pc),
+        Some(instr) => {
+            let scratch = task.flash.is_scratch(pc) || task.assumptions.has_scratch(pc);
+            matches!(&instr, Instr::Push(_)) && !scratch
+        }
     }
 }
 
@@ -100,7 +102,7 @@ fn all_seeds(task: &Task<'_>, family: &Worked) -> Result<Listed<SlotSeed>, Alloc
     let landings = family.landings.as_slice();
     for at in 0..family.nodes.count() {
         let key = family.nodes.key(at);
-        if is_guarded_push(task.flash, key.pc) {
+        if is_guarded_push(task, key.pc) {
             add_seeds(landings[at].as_slice(), key.offset(), &mut seeds)?;
         }
     }

@@ -3,20 +3,25 @@
 ghost use Rattle.std.specs.Prelude.{◌≡◌, ◌≤◌};
 ghost use Rattle.avr_model.specs.Devices.{device_of, size_of};
 ghost use Rattle.clear_laws.specs.Aims.{may_write};
-ghost use Rattle.clear_laws.specs.Causes.{may_write_protected, may_write_some_protected, may_write_stack, may_write_live};
+ghost use Rattle.call_graph.specs.Tasks.{task_of};
+ghost use Rattle.clear_laws.specs.Causes.{may_write_protected, may_write_some_protected, may_write_stack, may_leave, may_write_live};
 ghost use Rattle.store_clear.specs.Stores.{task_in, store_of};
 
+use crate::calls::calls_cut;
+use crate::moving::may_move;
 use crate::need::{is_flagged_address, is_indirect};
 use crate::store::Store;
 use abs_state::AbsState;
 use avr_model::instruction::Instr;
+use call_graph::Task;
 use flash_image::Flash;
 use local_reads::members::permits_number;
 use local_reads::pointers::step_before;
 use local_rows::transfer::{base_register, pointer_register};
+use mask_states::NodeKey;
 
 // Whether a store's byte may go to this address.
-fn may_write(state: &AbsState, instr: &Instr, address: u16) -> bool
+pub(crate) fn may_write(state: &AbsState, instr: &Instr, address: u16) -> bool
     ensures { result ≡ may_write state.now instr.now address }
 {
     match instr {
@@ -67,13 +72,22 @@ fn may_write_stack(flash: &Flash, bound: u16, state: &AbsState, instr: &Instr) -
     false
 }
 
-// Whether a store at this word that isn't harmless may write a pushed byte, if the stack takes at most this many bytes: it may reach the
-// stack, or pairs aren't followed and it has no other cause.
-pub(crate) fn may_write_live(store: &Store<'_>, bound: u16) -> bool
-    requires { bound ≤ size_of (device_of store.now.flash.now) }
-    ensures { result ≡ may_write_live (task_in store.now) bound (store_of store.now) }
+// Whether the instruction at a node is an indirect transfer, calls a word with a `recur` line, or may set IVSEL.
+fn may_leave(task: &Task<'_>, key: &NodeKey, state: &AbsState, instr: &Instr) -> bool
+    ensures { result ≡ may_leave (task_of task.now) key.now (record { pc = key.now.pc; state = state.now; instr = instr.now }) }
 {
-    may_write_stack(store.flash, bound, store.state, store.instr)
-        || (!store.state.facts.is_followed()
-            && !(is_indirect(store.instr) || may_write_some_protected(store)))
+    is_indirect(instr) || calls_cut(task, key, state, instr) || may_move(task, key, state, instr)
+}
+
+// Whether a store at this node that isn't harmless may write a pushed byte, if the stack takes at most this many bytes: it may reach the
+// stack, or pairs aren't followed and it has no other cause.
+pub(crate) fn may_write_live(task: &Task<'_>, bound: u16, key: &NodeKey, store: &Store<'_>) -> bool
+    requires small { bound ≤ size_of (device_of task.now.flash.now) }
+    requires same { task_in store.now ≡ task_of task.now }
+    ensures { result ≡ may_write_live (task_of task.now) bound key.now (store_of store.now) }
+{
+    let (state, instr) = (store.state, store.instr);
+    may_write_stack(task.flash, bound, state, instr)
+        || (!state.facts.is_followed()
+            && !(may_leave(task, key, state, instr) || may_write_some_protected(store)))
 }

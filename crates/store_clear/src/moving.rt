@@ -1,0 +1,92 @@
+//! Whether an instruction may set IVSEL.
+
+ghost use Rattle.std.specs.Prelude.{◌≡◌, Some};
+ghost use Rattle.bit_domain.specs.Tri.{permits};
+ghost use Rattle.bit_domain.specs.TriByte.{tri_at};
+ghost use Rattle.call_graph.specs.Tasks.{task_of};
+ghost use Rattle.clear_laws.specs.Clear.{may_reach, written_bits, may_set, may_move};
+ghost use Rattle.local_rules.specs.Writes as writes;
+
+use crate::need::stored_bits;
+use crate::writes::may_write;
+use abs_state::AbsState;
+use avr_model::instruction::Instr;
+use avr_model::rows::Ivsel;
+use bit_domain::{Tri, TriByte};
+use call_graph::Task;
+use local_reads::flow::port;
+use local_reads::pointers::{point, step_before};
+use local_rows::registers::bits;
+use local_rows::transfer::{base_register, pointer_register};
+use mask_states::NodeKey;
+
+// Whether the slot is one of a running frame with this offset.
+fn is_own_slot(slot: Option<u16>, offset: u16) -> bool
+    ensures { result ≡ writes.is_own_slot slot offset }
+{
+    match slot {
+        Some(slot) => slot < offset,
+        None => false,
+    }
+}
+
+// Whether the byte of an instruction may go to this address.
+fn may_reach(key: &NodeKey, state: &AbsState, instr: &Instr, address: u16) -> bool
+    ensures { result ≡ may_reach key.now state.now instr.now address }
+{
+    match instr {
+        Instr::Out(at, _) => port(*at) == address,
+        Instr::Sts(only, _) => *only == address,
+        Instr::Std(base, q, _) => {
+            let slot = point(state, base_register(*base), q.get()).frame;
+            may_write(state, instr, address) && !is_own_slot(slot, key.offset())
+        }
+        Instr::St(pointer, _) => {
+            let up = step_before(*pointer);
+            let slot = point(state, pointer_register(*pointer), up).frame;
+            may_write(state, instr, address) && !is_own_slot(slot, key.offset())
+        }
+        _ => false,
+    }
+}
+
+// The bits of its byte.
+fn written_bits(state: &AbsState, instr: &Instr) -> TriByte
+    ensures { result ≡ written_bits state.now instr.now }
+{
+    match instr {
+        Instr::Out(_, r) | Instr::Sts(_, r) => bits(state, *r),
+        _ => stored_bits(state, instr),
+    }
+}
+
+// Whether a bit may be 1.
+fn may_be_one(value: TriByte, bit: u8) -> bool
+    requires { bit < 8 }
+    ensures { result ≡ permits (tri_at value bit) 1 }
+{
+    !matches!(value.bit(bit), Tri::Zero)
+}
+
+// Whether an instruction may set this bit.
+fn may_set(place: Ivsel, key: &NodeKey, state: &AbsState, instr: &Instr) -> bool
+    requires { place.bit < 8 }
+    ensures { result ≡ may_set (Some place) (may_reach key.now state.now instr.now) (written_bits state.now instr.now) }
+{
+    may_reach(key, state, instr, place.address)
+        && may_be_one(written_bits(state, instr), place.bit)
+}
+
+// Whether an instruction may set IVSEL, under a list that reads masks.
+pub(crate) fn may_move(task: &Task<'_>, key: &NodeKey, state: &AbsState, instr: &Instr) -> bool
+    ensures { result ≡ may_move (task_of task.now) key.now state.now instr.now }
+{
+    let device = task.flash.device();
+    if !task.assumptions.reads_masks(device) {
+        return false;
+    }
+    match device.ivsel() {
+        Some(place) => may_set(place, key, state, instr),
+        None => false,
+    }
+}
