@@ -1,5 +1,5 @@
 -- Demands that aren't met, and the ranks and needs that they concern.
-use Rattle.std.proofs.Common.{◌≡◌, refl, sym, ap, ◌∙◌, subst, ℕ, ◌+◌, ◌<◌, ◌≤◌, ◌==◌, ◌&&◌, ◌||◌, nat_lt, nat_le, ◌⊎◌, inl, inr, ⊎_elim, Bool, true, false, cond, List, [], ◌∷◌, ◌++◌, length, take, get_or, Some, None, slice_get, Contains, arith}
+use Rattle.std.proofs.Common.{◌≡◌, refl, sym, ap, ◌∙◌, subst, subst₂, ℕ, ◌+◌, ◌<◌, ◌≤◌, ◌==◌, ◌&&◌, ◌||◌, nat_lt, nat_le, ◌⊎◌, inl, inr, ⊎_elim, Bool, true, false, cond, List, [], ◌∷◌, ◌++◌, length, take, get_or, Some, None, slice_get, Contains, arith}
 use Rattle.std.proofs.lemmas.Bool.{cases_lt}
 use Rattle.std.proofs.lemmas.Bool.Decides.{nat_tests}
 use Rattle.std.proofs.lemmas.List.{take_more}
@@ -8,15 +8,14 @@ use Rattle.std.proofs.lemmas.Option.{same_Some}
 use Rattle.basics.specs.Lists.{one_at}
 use Rattle.basics.specs.Items.{only_one_in, first_in}
 use Rattle.avr_model.specs.Devices.{device_of}
-use Rattle.mask_states.specs.declared.keys.EdgeKind.{EdgeKind}
 use Rattle.mask_states.specs.declared.keys.InstKey.{InstKey}
 use Rattle.mask_states.specs.declared.keys.SpForm.TheVariants.{Closed}
-use Rattle.mask_states.specs.Keys.{offset_of}
+use Rattle.mask_states.specs.Keys.{root_inst, offset_of, cut_at}
 use Rattle.local_rules.specs.declared.local.Node.{Node}
-use Rattle.edge_rules.specs.Edges.{Enters}
+use Rattle.edge_rules.specs.Nest.{NestEdge, recurs, enters as by_node}
 use Rattle.edge_rules.specs.Families.{AreFaultless}
 use Rattle.certificate.specs.declared.instance.Inst.{Inst}
-use Rattle.certificate.specs.Insts.{rank_in, need_in}
+use Rattle.certificate.specs.Insts.{inst_keys, rank_in, need_in}
 use Rattle.certificate.specs.Claims.{Claim}
 use Rattle.certificate.specs.Valid.{AreRanked, Suffices, NeedsSuffice}
 use Rattle.cert_check.specs.declared.demand.Demand.{Demand}
@@ -25,10 +24,10 @@ use Rattle.cert_check.specs.declared.verdict.Reason.TheVariants as reason
 use Rattle.cert_check.specs.declared.verdict.Judgement.{Judgement}
 use Rattle.cert_check.specs.declared.verdict.Judgement.TheVariants.{Accepted, Rejected}
 use Rattle.cert_check.specs.Verdict.{AllLanded, InstEnters, IsFirstRank, IsFirstNeed, HasReset, IsLeastReason}
-use Rattle.cert_check.specs.Demands.{AreInstances, place_in, rank_of, rank_at, need_of, need_at, Asks, offset, entry, IsAsked, AreDemands, AllBelong, IsLeastOffered, Pair, MeetsRank, LowRank, PairBelow, lesser_pair, MeetsNeed, LowNeed, NumberBelow, lesser_number, IsMost, more_asked, RanksFall, AllMet, IsWeighed, IsGathering, Decides}
+use Rattle.cert_check.specs.Demands.{AreInstances, place_in, rank_of, rank_at, need_of, need_at, demand_below, Asks, offset, entry, recur, IsAsked, AreDemands, AllBelong, IsLeastOffered, Pair, MeetsRank, LowRank, PairBelow, lesser_pair, MeetsNeed, LowNeed, NumberBelow, lesser_number, IsMost, more_asked, RanksFall, AllMet, IsWeighed, IsGathering, Decides}
 use Rattle.cert_check.proofs.Lists.{IsLesser}
 use Rattle.cert_check.proofs.Insts.{HasInstPlace, place_is, placed, rank_there, need_there}
-use Rattle.cert_check.proofs.Demands.{entered_belongs}
+use Rattle.cert_check.proofs.Demands.{owner, entered_belongs}
 use Rattle.local_rules.specs.Site.{Task}
 
 -- ---- the lesser pair and the lesser number
@@ -152,38 +151,39 @@ no_demand = record { inst = 0; into = None; bytes = 0 }
 -- ---- what demands say
 
 module _ (task : Task) (c : Claim) (nodes : List Node) (are : AreInstances c.instances) (belong : AllBelong c.instances nodes)
-    (land : AllLanded task c.nodes nodes) (demands : List Demand) (asked : AreDemands task c.instances nodes demands) where
+    (root : Contains (inst_keys c.instances) root_inst) (land : AllLanded task c.nodes nodes) (demands : List Demand) (asked : AreDemands task c.instances nodes demands) where
   offset_listed : (n : Node) (o : ℕ) → Contains nodes n → n.key.sp ≡ Closed o
       → Contains demands (record { inst = place_in c.instances n.key.inst; into = None; bytes = o })
   offset_listed n o h e = (asked _).1 (record { node = n; present = h; asks = offset o e })
 
-  entry_listed : (n : Node) (way : EdgeKind) (inst : InstKey) (back : ℕ) → Contains nodes n → Enters task n way inst back
-      → Contains demands (record {
-        inst = place_in c.instances n.key.inst;
-        into = Some (place_in c.instances inst);
-        bytes = offset_of n.key.sp + 2 + need_at c.instances (place_in c.instances inst);
-      })
-  entry_listed n way inst back h e = (asked _).1 (record { node = n; present = h; asks = entry way inst back e })
+  -- an edge of the nest is demanded
+  nest_listed : (i j : InstKey) (depth : ℕ) → NestEdge task (Contains nodes) i j depth → Contains demands (demand_below c.instances (place_in c.instances i) depth j)
+  nest_listed i j depth (by_node n way back h same at e whole) =
+      subst₂ (λ (k : InstKey) (o : ℕ). Contains demands (demand_below c.instances (place_in c.instances k) o j)) same at
+      ((asked _).1 (record { node = n; present = h; asks = entry way j back e whole }))
+  nest_listed i j depth (recurs n h same cut top) =
+      subst₂ (λ (k l : InstKey). Contains demands (demand_below c.instances (place_in c.instances k) depth l)) (sym top) same
+      ((asked _).1 (record { node = n; present = h; asks = recur depth (subst (λ (k : InstKey). cut_at task.assumptions k ≡ Some depth) (sym same) cut) }))
 
   pub ranked : RanksFall c.instances demands → AreRanked task c nodes
-  ranked falls n way inst back h e =
-      subst (λ r. rank_in c.instances inst < r) (rank_there c.instances n.key.inst)
-      (subst (λ r. r < rank_at c.instances (place_in c.instances n.key.inst)) (rank_there c.instances inst)
-      (falls _ (entry_listed n way inst back h e) (place_in c.instances inst) refl))
+  ranked falls i j depth edge =
+      subst (λ r. rank_in c.instances j < r) (rank_there c.instances i)
+      (subst (λ r. r < rank_at c.instances (place_in c.instances i)) (rank_there c.instances j)
+      (falls _ (nest_listed i j depth edge) (place_in c.instances j) refl))
 
   pub sufficient : AllMet c.instances demands → NeedsSuffice task c nodes
   sufficient met inst = record {
     offsets = λ n o h is form.
         subst (λ m. o ≤ m) (need_there c.instances n.key.inst ∙ ap (need_in c.instances) is) (met _ (offset_listed n o h form));
-    entered = λ n way into back h is e.
-        subst (λ m. offset_of n.key.sp + 2 + m ≤ need_in c.instances inst) (need_there c.instances into)
-        (subst (λ m. offset_of n.key.sp + 2 + need_at c.instances (place_in c.instances into) ≤ m) (need_there c.instances n.key.inst ∙ ap (need_in c.instances) is)
-        (met _ (entry_listed n way into back h e)));
+    entered = λ into depth edge.
+        subst (λ m. depth + 2 + m ≤ need_in c.instances inst) (need_there c.instances into)
+        (subst (λ m. depth + 2 + need_at c.instances (place_in c.instances into) ≤ m) (need_there c.instances inst)
+        (met _ (nest_listed inst into depth edge)));
   }
 
-  -- the instance of a node by its number
-  own_place : (n : Node) (j : ℕ) → Contains nodes n → place_in c.instances n.key.inst ≡ j → HasInstPlace c.instances n.key.inst j
-  own_place n j h e = subst (HasInstPlace c.instances n.key.inst) e (placed c.instances n.key.inst are (belong n h))
+  -- a listed instance by its number
+  own_place : (k : InstKey) (j : ℕ) → Contains (inst_keys c.instances) k → place_in c.instances k ≡ j → HasInstPlace c.instances k j
+  own_place k j h e = subst (HasInstPlace c.instances k) e (placed c.instances k are h)
 
   number_is : (k : InstKey) (j : ℕ) (x : Inst) → slice_get c.instances j ≡ Some x → k ≡ x.key → place_in c.instances k ≡ j
   number_is k j x is same = place_is c.instances k j are (record { inst = x; is = is; same = sym same })
@@ -193,8 +193,8 @@ module _ (task : Task) (c : Claim) (nodes : List Node) (are : AreInstances c.ins
   enters_listed i m x y isx isy e = (
     _,
     (
-      entry_listed e.node e.way y.key e.back e.present e.enters,
-      number_is e.node.key.inst i x isx e.of,
+      nest_listed x.key y.key e.depth e.edge,
+      number_is x.key i x isx refl,
       ap (λ p. Some p) (number_is y.key m y isy refl),
     ),
   )
@@ -205,38 +205,51 @@ module _ (task : Task) (c : Claim) (nodes : List Node) (are : AreInstances c.ins
   need_is : (j : ℕ) (x : Inst) → slice_get c.instances j ≡ Some x → need_at c.instances j ≡ x.need
   need_is j x is = ap need_of is
 
-  -- a demand with an entered instance is an entry of it
+  -- a demand with an instance below is an edge of the nest
   record IsWay (j l : ℕ) : Type 0 where
-    node : Node
-    present : Contains nodes node
-    way : EdgeKind
+    upper : InstKey
     inst : InstKey
-    back : ℕ
-    enters : Enters task node way inst back
-    from : place_in c.instances node.key.inst ≡ j
+    depth : ℕ
+    edge : NestEdge task (Contains nodes) upper inst depth
+    from : place_in c.instances upper ≡ j
     into : place_in c.instances inst ≡ l
+    upper_there : Contains (inst_keys c.instances) upper
+    there : Contains (inst_keys c.instances) inst
 
   way_of : (n : Node) (d : Demand) (j l : ℕ) → Contains nodes n → Asks task c.instances n d → d.inst ≡ j → d.into ≡ Some l → IsWay j l
   way_of n _ j l h (offset o e) is to = absurd (cc)
-  way_of n _ j l h (entry way inst back e) is to =
-      record { node = n; present = h; way = way; inst = inst; back = back; enters = e; from = is; into = same_Some (place_in c.instances inst) l to }
+  way_of n _ j l h (entry way inst back e whole) is to =
+      record {
+        upper = n.key.inst;
+        inst = inst;
+        depth = offset_of n.key.sp;
+        edge = by_node n way back h refl refl e whole;
+        from = is;
+        into = same_Some (place_in c.instances inst) l to;
+        upper_there = belong n h;
+        there = entered_belongs task c.instances nodes are belong root (λ m d i k. (land m d i k).0) n way inst back h e;
+      }
+  way_of n _ j l h (recur depth cut) is to =
+      record {
+        upper = root_inst;
+        inst = n.key.inst;
+        depth = depth;
+        edge = recurs n h refl cut refl;
+        from = is;
+        into = same_Some (place_in c.instances n.key.inst) l to;
+        upper_there = root;
+        there = belong n h;
+      }
 
   rank_at_place : (j l : ℕ) (w : IsWay j l) → rank_at c.instances j ≤ rank_at c.instances l
-      → ((d : Demand) (m : Pair) → Contains demands d → LowRank c.instances d m → PairBelow (j, l) m) → HasInstPlace c.instances w.node.key.inst j
+      → ((d : Demand) (m : Pair) → Contains demands d → LowRank c.instances d m → PairBelow (j, l) m) → HasInstPlace c.instances w.upper j
       → HasInstPlace c.instances w.inst l → IsFirstRank task c nodes j l
   rank_at_place j l w low before p q = record {
     from = p.inst;
     into = q.inst;
     is = p.is;
     there = q.is;
-    enters = record {
-      node = w.node;
-      present = w.present;
-      of = sym p.same;
-      way = w.way;
-      back = w.back;
-      enters = subst (λ k. Enters task w.node w.way k w.back) (sym q.same) w.enters;
-    };
+    enters = record { depth = w.depth; edge = subst₂ (λ (k l : InstKey). NestEdge task (Contains nodes) k l w.depth) (sym p.same) (sym q.same) w.edge };
     low = omega (arith, rank_is j p.inst p.is, rank_is l q.inst q.is, low);
     least = λ m y isy e short.
         let d = enters_listed j m p.inst y p.is isy e in
@@ -252,38 +265,41 @@ module _ (task : Task) (c : Claim) (nodes : List Node) (are : AreInstances c.ins
         (cases_lt y.rank x.rank);
   }
 
-  entered_place : (j l : ℕ) (w : IsWay j l) → HasInstPlace c.instances w.inst l
-  entered_place j l w =
-      subst (HasInstPlace c.instances w.inst) w.into
-      (placed c.instances w.inst are (entered_belongs task c.instances nodes are belong (λ n e h i. (land n e h i).0) w.node w.way w.inst w.back w.present w.enters))
-
   pub first_rank : (j l : ℕ) → IsLeastOffered (MeetsRank c.instances) (LowRank c.instances) PairBelow demands (Some (j, l)) → IsFirstRank task c nodes j l
   first_rank j l h = by ((asked h.0.0).0 h.0.1.0)
     where
       at : IsWay j l → IsFirstRank task c nodes j l
-      at w = rank_at_place j l w h.0.1.1.2 h.1 (own_place w.node j w.present w.from) (entered_place j l w)
+      at w = rank_at_place j l w h.0.1.1.2 h.1 (own_place w.upper j w.upper_there w.from) (own_place w.inst l w.there w.into)
 
       by : IsAsked task c.instances nodes h.0.0 → IsFirstRank task c nodes j l
       by a = at (way_of a.node h.0.0 j l a.present a.asks h.0.1.1.0 h.0.1.1.1)
 
-  own_number : (n : Node) (d : Demand) → Asks task c.instances n d → d.inst ≡ place_in c.instances n.key.inst
+  own_number : (n : Node) (d : Demand) (a : Asks task c.instances n d) → d.inst ≡ place_in c.instances (owner n d a)
   own_number n _ (offset o e) = refl
-  own_number n _ (entry way inst back e) = refl
+  own_number n _ (entry way inst back e whole) = refl
+  own_number n _ (recur depth cut) = refl
+
+  owner_there : (n : Node) (d : Demand) → Contains nodes n → (a : Asks task c.instances n d) → Contains (inst_keys c.instances) (owner n d a)
+  owner_there n _ h (offset o e) = belong n h
+  owner_there n _ h (entry way inst back e whole) = belong n h
+  owner_there n _ h (recur depth cut) = root
 
   -- a number that suffices is at least each demand
-  suffices_for : (n : Node) (k : InstKey) (d : Demand) (m : ℕ) → Contains nodes n → Asks task c.instances n d → n.key.inst ≡ k → Suffices task c nodes k m → d.bytes ≤ m
+  suffices_for : (n : Node) (k : InstKey) (d : Demand) (m : ℕ) → Contains nodes n → (a : Asks task c.instances n d) → owner n d a ≡ k → Suffices task c nodes k m → d.bytes ≤ m
   suffices_for n k _ m h (offset o e) is s = s.offsets n o h is e
-  suffices_for n k _ m h (entry way inst back e) is s =
-      subst (λ r. offset_of n.key.sp + 2 + r ≤ m) (sym (need_there c.instances inst)) (s.entered n way inst back h is e)
+  suffices_for n k _ m h (entry way inst back e whole) is s =
+      subst (λ r. offset_of n.key.sp + 2 + r ≤ m) (sym (need_there c.instances inst)) (s.entered inst (offset_of n.key.sp) (by_node n way back h is refl e whole))
+  suffices_for n k _ m h (recur depth cut) is s =
+      subst (λ r. depth + 2 + r ≤ m) (sym (need_there c.instances n.key.inst)) (s.entered n.key.inst depth (recurs n h refl cut (sym is)))
 
   -- a number that is at least all demands suffices
   suffices_by : (x : Inst) (j m : ℕ) → slice_get c.instances j ≡ Some x → ((d : Demand) → Contains demands d → d.inst ≡ j → d.bytes ≤ m)
       → Suffices task c nodes x.key m
   suffices_by x j m is above = record {
     offsets = λ n o h same form. above _ (offset_listed n o h form) (number_is n.key.inst j x is same);
-    entered = λ n way into back h same e.
-        subst (λ r. offset_of n.key.sp + 2 + r ≤ m) (need_there c.instances into)
-        (above _ (entry_listed n way into back h e) (number_is n.key.inst j x is same));
+    entered = λ into depth edge.
+        subst (λ r. depth + 2 + r ≤ m) (need_there c.instances into)
+        (above _ (nest_listed x.key into depth edge) (number_is x.key j x is refl));
   }
 
   -- a number that suffices for an instance is at least each demand on it
@@ -291,13 +307,13 @@ module _ (task : Task) (c : Claim) (nodes : List Node) (are : AreInstances c.ins
       → d.bytes ≤ m
   above_asked x j m is s d h e = by ((asked d).0 h)
     where
-      from : (a : IsAsked task c.instances nodes d) → HasInstPlace c.instances a.node.key.inst j → d.bytes ≤ m
+      from : (a : IsAsked task c.instances nodes d) → HasInstPlace c.instances (owner a.node d a.asks) j → d.bytes ≤ m
       from a p =
-          let same : a.node.key.inst ≡ x.key = sym p.same ∙ ap (λ (y : Inst). y.key) (one_at c.instances j p.inst x p.is is) in
+          let same : owner a.node d a.asks ≡ x.key = sym p.same ∙ ap (λ (y : Inst). y.key) (one_at c.instances j p.inst x p.is is) in
           suffices_for a.node x.key d m a.present a.asks same s
 
       by : IsAsked task c.instances nodes d → d.bytes ≤ m
-      by a = from a (own_place a.node j a.present (sym (own_number a.node d a.asks) ∙ e))
+      by a = from a (own_place (owner a.node d a.asks) j (owner_there a.node d a.present a.asks) (sym (own_number a.node d a.asks) ∙ e))
 
   above_most : (x : Inst) (j need m : ℕ) → slice_get c.instances j ≡ Some x → IsMost demands j need → Suffices task c nodes x.key m → need ≤ m
   above_most x j need m is most s =
@@ -326,8 +342,8 @@ module _ (task : Task) (c : Claim) (nodes : List Node) (are : AreInstances c.ins
     where
       by : IsAsked task c.instances nodes h.0.0 → IsFirstNeed task c nodes j need
       by a =
-          need_at_place j need h.0.0 a.node.key.inst h.0.1.0 h.0.1.1.0 h.0.1.1.1 most h.1
-          (own_place a.node j a.present (sym (own_number a.node h.0.0 a.asks) ∙ h.0.1.1.0))
+          need_at_place j need h.0.0 (owner a.node h.0.0 a.asks) h.0.1.0 h.0.1.1.0 h.0.1.1.1 most h.1
+          (own_place (owner a.node h.0.0 a.asks) j (owner_there a.node h.0.0 a.present a.asks) (sym (own_number a.node h.0.0 a.asks) ∙ h.0.1.1.0))
 
   pub decided : c.device ≡ device_of task.flash → HasReset task.assumptions c nodes → AreFaultless task nodes → (v : Judgement ℕ) → IsWeighed task.flash c task.assumptions demands v → Decides task c nodes v
   decided device reset clean (Accepted bound) h = (

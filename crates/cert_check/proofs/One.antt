@@ -90,8 +90,8 @@ module _ (task : Task) (c : Claim) (claim : IsClaim c) (nodes : List Node) where
   not_ranked : (j l : ℕ) → IsFirstRank task c nodes j l → AreRanked task c nodes → ⊥
   not_ranked j l h ranks =
       let e = h.enters in
-      let lt = ranks e.node e.way h.into.key e.back e.present e.enters in
-      omega (arith, lt, rank_is l h.into h.there, ap (rank_in c.instances) e.of, rank_is j h.from h.is, h.low)
+      let lt = ranks h.from.key h.into.key e.depth e.edge in
+      omega (arith, lt, rank_is l h.into h.there, rank_is j h.from h.is, h.low)
 
   not_enough : (j need : ℕ) → IsFirstNeed task c nodes j need → NeedsSuffice task c nodes → ⊥
   not_enough j need h enough =

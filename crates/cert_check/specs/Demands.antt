@@ -14,7 +14,7 @@ use Rattle.mask_states.specs.declared.keys.InstKey.{InstKey}
 use Rattle.mask_states.specs.declared.keys.NodeKey.{NodeKey}
 use Rattle.mask_states.specs.declared.keys.SpForm.{SpForm}
 use Rattle.mask_states.specs.declared.keys.SpForm.TheVariants.{Closed, Open}
-use Rattle.mask_states.specs.Keys.{root_inst, offset_of}
+use Rattle.mask_states.specs.Keys.{root_inst, offset_of, cut_at}
 use Rattle.mask_states.specs.Order.{inst_cmp, node_cmp, same_inst}
 use Rattle.local_rules.specs.declared.local.Node.{Node}
 use Rattle.edge_rules.specs.declared.edge.Edge.{Edge}
@@ -113,22 +113,37 @@ abbrev pub offset_demand : ℕ → SpForm → List Demand
 offset_demand j (Closed offset) = record { inst = j; into = None; bytes = offset } ∷ []
 offset_demand j (Open offset high) = []
 
-abbrev pub entry_demand : List Inst → ℕ → ℕ → Edge → List Demand
-entry_demand insts j offset e =
-    if is_entry e.kind
-    then record { inst = j; into = Some (place_in insts e.to.inst); bytes = offset + 2 + need_at insts (place_in insts e.to.inst) } ∷ []
-    else []
+-- what instance j must have if another lies below it at this depth
+abbrev pub demand_below : List Inst → ℕ → ℕ → InstKey → Demand
+demand_below insts j depth into = record { inst = j; into = Some (place_in insts into); bytes = depth + 2 + need_at insts (place_in insts into) }
+
+abbrev pub below_demand : List Inst → ℕ → ℕ → InstKey → List Demand
+below_demand insts j depth into = demand_below insts j depth into ∷ []
+
+abbrev pub recur_demand : List Inst → InstKey → Option ℕ → List Demand
+recur_demand insts inst None = []
+recur_demand insts inst (Some depth) = below_demand insts (place_in insts root_inst) depth inst
+
+abbrev pub unless_cut : Option ℕ → List Demand → List Demand
+unless_cut None demands = demands
+unless_cut (Some depth) demands = []
+
+abbrev pub entry_demand : List Entry → List Inst → ℕ → ℕ → Edge → List Demand
+entry_demand A insts j offset e = if is_entry e.kind then unless_cut (cut_at A e.to.inst) (below_demand insts j offset e.to.inst) else []
 
 -- the demands of a node with this key and these edges
-abbrev pub demands_of : List Inst → NodeKey → List Edge → List Demand
-demands_of insts k edges = offset_demand (place_in insts k.inst) k.sp ++ flat_map (entry_demand insts (place_in insts k.inst) (offset_of k.sp)) edges
+abbrev pub demands_of : List Entry → List Inst → NodeKey → List Edge → List Demand
+demands_of A insts k edges =
+    offset_demand (place_in insts k.inst) k.sp
+    ++ (recur_demand insts k.inst (cut_at A k.inst) ++ flat_map (entry_demand A insts (place_in insts k.inst) (offset_of k.sp)) edges)
 
--- A node demands a closed offset of its instance. For each entry of another instance it demands a higher rank, and that instance's need
--- plus the offset and two bytes.
+-- A node demands a closed offset of its instance. For each entry of another instance that isn't cut it demands a higher rank, and that
+-- instance's need plus the offset and two bytes. A node of a cut instance demands the same of the root, at the depth of the line.
 pub data Asks (task : Task) (insts : List Inst) (n : Node) : Demand → Type 0 where
   offset : (o : ℕ) → n.key.sp ≡ Closed o → Asks task insts n (record { inst = place_in insts n.key.inst; into = None; bytes = o })
-  entry : (way : EdgeKind) (inst : InstKey) (back : ℕ) → Enters task n way inst back
-      → Asks task insts n (record { inst = place_in insts n.key.inst; into = Some (place_in insts inst); bytes = offset_of n.key.sp + 2 + need_at insts (place_in insts inst) })
+  entry : (way : EdgeKind) (inst : InstKey) (back : ℕ) → Enters task n way inst back → cut_at task.assumptions inst ≡ None
+      → Asks task insts n (demand_below insts (place_in insts n.key.inst) (offset_of n.key.sp) inst)
+  recur : (depth : ℕ) → cut_at task.assumptions n.key.inst ≡ Some depth → Asks task insts n (demand_below insts (place_in insts root_inst) depth n.key.inst)
 
 -- some of these nodes makes this demand
 pub record IsAsked (task : Task) (insts : List Inst) (nodes : List Node) (d : Demand) : Type 0 where
@@ -151,7 +166,7 @@ IsGathering task own insts nodes (Rejected r) = ⊥
 
 -- ---- which demands aren't met
 
--- instances by number, the entering one first
+-- instances by number, the upper one first
 abbrev pub Pair : Type 0
 Pair = ℕ × ℕ
 

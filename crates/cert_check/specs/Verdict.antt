@@ -5,7 +5,6 @@ use Rattle.std.specs.declared.cmp.Ordering.TheVariants.{Greater}
 use Rattle.avr_model.specs.declared.assumption.Entry.{Entry}
 use Rattle.avr_model.specs.Assumptions.{has_pairs}
 use Rattle.avr_model.specs.Devices.{device_of}
-use Rattle.mask_states.specs.declared.keys.EdgeKind.{EdgeKind}
 use Rattle.mask_states.specs.declared.keys.NodeKey.{NodeKey}
 use Rattle.mask_states.specs.Keys.{root_inst}
 use Rattle.mask_states.specs.Order.{node_cmp}
@@ -14,7 +13,8 @@ use Rattle.local_rules.specs.declared.local.NodeFault.{NodeFault}
 use Rattle.local_rules.specs.Faults.{cause_of}
 use Rattle.local_rules.specs.Local.{local}
 use Rattle.edge_rules.specs.declared.edge.Edge.{Edge}
-use Rattle.edge_rules.specs.Edges.{IsFaultless, Enters, IsEdge, target}
+use Rattle.edge_rules.specs.Edges.{IsFaultless, IsEdge, target}
+use Rattle.edge_rules.specs.Nest.{NestEdge}
 use Rattle.edge_rules.specs.Expansion.{Seeds, IsFilled, IsMissing}
 use Rattle.edge_rules.specs.Families.{AreFaultless}
 use Rattle.call_graph.specs.declared.worked.Worked.{Worked}
@@ -58,14 +58,10 @@ pub record IsFirstGap (task : Task) (own : Seeds) (nodes : List Node) (j : ℕ) 
   pub least : (e : Edge) → IsEdge task nodes node e → IsGap (has_pairs task.assumptions) own nodes e → node_cmp to e.to ≢ Greater
   pub earlier : (i : ℕ) (n : Node) (e : Edge) → slice_get nodes i ≡ Some n → i < j → IsEdge task nodes n e → LandsOpen (has_pairs task.assumptions) own nodes (target e)
 
--- a node of instance x enters instance y
+-- instance y lies below instance x in the nest
 pub record InstEnters (task : Task) (nodes : List Node) (x y : Inst) : Type 0 where
-  pub node : Node
-  pub present : Contains nodes node
-  pub of : node.key.inst ≡ x.key
-  pub way : EdgeKind
-  pub back : ℕ
-  pub enters : Enters task node way y.key back
+  pub depth : ℕ
+  pub edge : NestEdge task (Contains nodes) x.key y.key depth
 
 -- Instance j enters instance l, whose rank is not below its own. Of all such instances l is the least, and the ranks of all earlier
 -- instances are in order.

@@ -4,8 +4,9 @@ ghost use Rattle.std.specs.Prelude.{◌≡◌, ◌≤◌, ◌<◌, ◌++◌, len
 ghost use Rattle.avr_model.specs.State.{SIZE};
 ghost use Rattle.std.specs.List.{flat_map};
 ghost use Rattle.edge_rules.specs.declared.edge.Edge as edge_type;
+ghost use Rattle.mask_states.specs.Keys.{root_inst, cut_at};
 ghost use Rattle.certificate.specs.Insts.{inst_keys};
-ghost use Rattle.cert_check.specs.Demands.{AreInstances, place_in, rank_at, need_at, offset_demand, entry_demand, demands_of};
+ghost use Rattle.cert_check.specs.Demands.{AreInstances, place_in, rank_at, need_at, offset_demand, below_demand, recur_demand, entry_demand, demands_of};
 ghost use Rattle.call_graph.specs.Clauses.{Grows};
 
 use certificate::Inst;
@@ -13,15 +14,16 @@ use edge_rules::Edge;
 use edge_rules::edge::is_entry;
 use mask_states::{InstKey, NodeKey, SpForm};
 use std::alloc::AllocError;
+use vector_table::Assumptions;
 
-// A demand of a node on its instance, by the numbers of instances.
+// A demand of a node on its instance or on the root, by the numbers of instances.
 #[derive(Clone, Copy)]
 pub(crate) struct Demand {
     // The node's instance.
     pub inst: usize,
-    // The entered instance, whose rank must be lower; none for the node's own offset.
+    // The instance below it, whose rank must be lower; none for the node's own offset.
     pub into: Option<usize>,
-    // The least need of the node's instance, in bytes.
+    // The least need of the instance, in bytes.
     pub bytes: u32,
 }
 
@@ -67,25 +69,66 @@ fn add_offset(demands: &mut Vec<Demand>, inst: usize, form: &SpForm) -> Result<(
     Ok(())
 }
 
-// The demand of an entry of another instance.
+// The demand of an instance that lies below another one at this depth.
+fn add_below(
+    demands: &mut Vec<Demand>,
+    instances: &[Inst],
+    inst: usize,
+    depth: u16,
+    into: &InstKey,
+) -> Result<(), AllocError>
+    requires instances { AreInstances instances.now }
+    requires there { Contains (inst_keys instances.now) into.now }
+    ensures { Grows result demands.old.items demands.new.items (below_demand instances.now inst depth into.now) }
+{
+    let into = number_of(instances, into);
+    demands.push(Demand {
+        inst,
+        into: Some(into),
+        bytes: u32::from(depth) + 2 + need_at(instances, into),
+    })?;
+    Ok(())
+}
+
+// The demand of the recur edge to this instance, if it is cut.
+fn add_recur(
+    demands: &mut Vec<Demand>,
+    instances: &[Inst],
+    inst: &InstKey,
+    assumptions: &Assumptions,
+) -> Result<(), AllocError>
+    requires instances { AreInstances instances.now }
+    requires root { Contains (inst_keys instances.now) root_inst }
+    requires there { Contains (inst_keys instances.now) inst.now }
+    ensures { Grows result demands.old.items demands.new.items (recur_demand instances.now inst.now (cut_at assumptions.now inst.now)) }
+{
+    match inst.cut(assumptions) {
+        None => Ok(()),
+        Some(depth) => {
+            let root = number_of(instances, &InstKey::root());
+            add_below(demands, instances, root, depth, inst)
+        }
+    }
+}
+
+// The demand of an entry of another instance, unless it is cut.
 fn add_entry(
     demands: &mut Vec<Demand>,
     instances: &[Inst],
     inst: usize,
     offset: u16,
     edge: &Edge,
+    assumptions: &Assumptions,
 ) -> Result<(), AllocError>
     requires instances { AreInstances instances.now }
     requires there { Contains (inst_keys instances.now) edge.now.to.inst }
-    ensures { Grows result demands.old.items demands.new.items (entry_demand instances.now inst offset edge.now) }
+    ensures { Grows result demands.old.items demands.new.items (entry_demand assumptions.now instances.now inst offset edge.now) }
 {
     if is_entry(edge.kind) {
-        let into = number_of(instances, &edge.to.inst);
-        demands.push(Demand {
-            inst,
-            into: Some(into),
-            bytes: u32::from(offset) + 2 + need_at(instances, into),
-        })?;
+        return match edge.to.inst.cut(assumptions) {
+            None => add_below(demands, instances, inst, offset, &edge.to.inst),
+            Some(_) => Ok(()),
+        };
     }
     Ok(())
 }
@@ -97,13 +140,14 @@ fn add_entries(
     inst: usize,
     offset: u16,
     edges: &[Edge],
+    assumptions: &Assumptions,
 ) -> Result<(), AllocError>
     requires instances { AreInstances instances.now }
     requires there { (e : edge_type.Edge) → Contains edges.now e → Contains (inst_keys instances.now) e.to.inst }
-    ensures { Grows result demands.old.items demands.new.items (flat_map (entry_demand instances.now inst offset) edges.now) }
+    ensures { Grows result demands.old.items demands.new.items (flat_map (entry_demand assumptions.now instances.now inst offset) edges.now) }
 {
     for at in 0..edges.len() {
-        add_entry(demands, instances, inst, offset, &edges[at])?;
+        add_entry(demands, instances, inst, offset, &edges[at], assumptions)?;
     }
     Ok(())
 }
@@ -114,13 +158,16 @@ pub(crate) fn add_demands(
     instances: &[Inst],
     key: &NodeKey,
     edges: &[Edge],
+    assumptions: &Assumptions,
 ) -> Result<(), AllocError>
     requires instances { AreInstances instances.now }
+    requires root { Contains (inst_keys instances.now) root_inst }
     requires own { Contains (inst_keys instances.now) key.now.inst }
     requires there { (e : edge_type.Edge) → Contains edges.now e → Contains (inst_keys instances.now) e.to.inst }
-    ensures { Grows result demands.old.items demands.new.items (demands_of instances.now key.now edges.now) }
+    ensures { Grows result demands.old.items demands.new.items (demands_of assumptions.now instances.now key.now edges.now) }
 {
     let inst = number_of(instances, &key.inst);
     add_offset(demands, inst, &key.sp)?;
-    add_entries(demands, instances, inst, key.offset(), edges)
+    add_recur(demands, instances, &key.inst, assumptions)?;
+    add_entries(demands, instances, inst, key.offset(), edges, assumptions)
 }

@@ -1,12 +1,14 @@
 //! One pass over all edges.
 
-ghost use Rattle.std.specs.Prelude.{◌≡◌, ◌<◌, ◌≤◌, IfOk, length};
+ghost use Rattle.std.specs.Prelude.{◌≡◌, ◌<◌, ◌≤◌, IfOk, length, Contains};
 ghost use Rattle.avr_model.specs.Assumptions.{has_pairs};
 ghost use Rattle.avr_model.specs.Devices.{device_of};
 ghost use Rattle.edge_rules.specs.Views.{AreShown};
 ghost use Rattle.call_graph.specs.Exits.{AreExits};
 ghost use Rattle.cert_check.specs.Demands.{AreInstances, AreBeside, AllBelong, IsGathering, AreGathered, IsNodeGathered};
 ghost use Rattle.call_graph.specs.Tasks.{task_of};
+ghost use Rattle.mask_states.specs.Keys.{root_inst};
+ghost use Rattle.certificate.specs.Insts.{inst_keys};
 
 use crate::demand::{Demand, add_demands};
 use crate::landing::{Landed, LandingSite, landed_from};
@@ -40,6 +42,7 @@ fn gather_node(
     requires few { length site.now.nodes.now ≤ 65536 }
     requires followed { site.now.followed ≡ has_pairs task.now.assumptions.now }
     requires instances { AreInstances site.now.certificate.now.instances }
+    requires root { Contains (inst_keys site.now.certificate.now.instances) root_inst }
     requires belong { AllBelong site.now.certificate.now.instances site.now.nodes.now }
     requires beside { AreBeside site.now.certificate.now.nodes site.now.nodes.now }
     requires taken { AreExits (task_of task.now) site.now.nodes.now exits.now }
@@ -58,6 +61,7 @@ fn gather_node(
         site.certificate.instances(),
         key,
         edges.as_slice(),
+        task.assumptions,
     )?;
     Ok(None)
 }
@@ -72,6 +76,7 @@ pub(crate) fn gather(
     requires few { length nodes.now ≤ 65536 }
     requires shown { AreShown (device_of task.now.flash.now) nodes.now }
     requires instances { AreInstances certificate.now.instances }
+    requires root { Contains (inst_keys certificate.now.instances) root_inst }
     requires belong { AllBelong certificate.now.instances nodes.now }
     requires beside { AreBeside certificate.now.nodes nodes.now }
     requires taken { AreExits (task_of task.now) nodes.now exits.now }

@@ -38,7 +38,7 @@ conditions_make_families_sound task c nodes claim filled m = record {
   edges = m.edges;
   ranks = m.ranks;
   offsets = λ n offset h form. (m.needs n.key.inst).offsets n offset h refl form;
-  needs = λ n way inst back h e. (m.needs n.key.inst).entered n way inst back h refl e;
+  needs = λ i j depth e. (m.needs i).entered j depth e;
   bounded = m.bounded.enough;
   small = m.bounded.small;
 }

@@ -1,9 +1,9 @@
 -- What an explanation shows.
-use Rattle.std.specs.Prelude.{ℕ, ◌+◌, ◌≡◌, ◌≤◌, List, [], ◌∷◌, Option, slice_get, Some}
+use Rattle.std.specs.Prelude.{ℕ, ◌+◌, ◌≡◌, ◌≤◌, ◌⊎◌, List, [], ◌∷◌, Option, slice_get, Some}
 use Rattle.std.specs.List.{sum_by}
 use Rattle.mask_states.specs.declared.keys.EdgeKind.{EdgeKind}
 use Rattle.mask_states.specs.declared.keys.SpForm.TheVariants.{Closed}
-use Rattle.mask_states.specs.Keys.{root_inst}
+use Rattle.mask_states.specs.Keys.{root_inst, cut_at}
 use Rattle.local_rules.specs.declared.local.Node.{Node}
 use Rattle.edge_rules.specs.Edges.{Enters}
 use Rattle.edge_rules.specs.Expansion.{IsFilled}
@@ -11,6 +11,7 @@ use Rattle.certificate.specs.Claims.{Claim}
 use Rattle.round_rules.specs.Solutions.{IsAnswer}
 use Rattle.chain_explain.specs.declared.explanation.Explanation.{Explanation}
 use Rattle.chain_explain.specs.declared.explanation.Part.{Part}
+use Rattle.chain_explain.specs.declared.explanation.PartPlace.TheVariants as place
 use Rattle.chain_explain.specs.Walks.{IsWay}
 use Rattle.local_rules.specs.Site.{Task}
 
@@ -24,9 +25,10 @@ pub record IsPlace (task : Task) (nodes : List Node) (part : Part) (n : Node) (o
   pub number : ℕ
   pub at : slice_get nodes number ≡ Some n
   pub inst : n.key.inst ≡ part.inst
-  pub pc : n.key.pc ≡ part.pc
+  pub walk : List ℕ
+  pub place : part.place ≡ place.Node n.key.pc walk
   pub closed : n.key.sp ≡ Closed offset
-  pub way : IsWay task nodes part.inst number part.walk
+  pub way : IsWay task nodes part.inst number walk
 
 -- the last part ends at its place
 pub record Ends (task : Task) (nodes : List Node) (part : Part) : Type 0 where
@@ -43,10 +45,18 @@ pub record EntersNext (task : Task) (nodes : List Node) (part next : Part) : Typ
   pub back : ℕ
   pub enters : Enters task place way next.inst back
 
+-- the part is the root's recur edge to the instance of the next, at the depth of its `recur` line
+pub record RecursNext (task : Task) (part next : Part) : Type 0 where
+  pub root : part.inst ≡ root_inst
+  pub place : part.place ≡ place.Recur next.inst.entry
+  pub depth : ℕ
+  pub cut : cut_at task.assumptions next.inst ≡ Some depth
+  pub adds : part.adds ≡ depth + 2
+
 -- each part leads into the next, up to the last
 abbrev pub GoOn : Task → List Node → Part → List Part → Type 0
 GoOn task nodes part [] = Ends task nodes part
-GoOn task nodes part (next ∷ rest) = EntersNext task nodes part next × GoOn task nodes next rest
+GoOn task nodes part (next ∷ rest) = (EntersNext task nodes part next ⊎ RecursNext task part next) × GoOn task nodes next rest
 
 -- the parts nest from the root on, in the family of the certificate
 pub record Nest (task : Task) (c : Claim) (parts : List Part) : Type 0 where

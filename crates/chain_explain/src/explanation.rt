@@ -3,17 +3,25 @@
 use avr_model::listed::Listed;
 use mask_states::InstKey;
 
-/// One link of the deepest chain: an instance, a place in it, and the path to it.
+/// Where a link of the deepest chain stands.
+#[derive(Drop)]
+pub enum PartPlace {
+    /// At this word address, to which this shortest path within the instance leads, both ends included.
+    Node(u16, Listed<u16>),
+    /// At the depth of the `recur` line of this word, which the next instance begins with: the root's recur edge to it.
+    Recur(u16),
+}
+
+/// One link of the deepest chain: an instance and a place in it.
 #[derive(Drop)]
 pub struct Part {
     /// The instance.
     pub inst: InstKey,
-    /// The word address of the place.
-    pub pc: u16,
-    /// The bytes that the link adds: the offset at its place, and two for the return address if the chain continues.
+    /// The place.
+    pub place: PartPlace,
+    /// The bytes that the link adds: the offset at its place or the depth of the line, and two for the return address if the chain
+    /// continues.
     pub adds: u16,
-    /// The word addresses of a shortest path within the instance to the place, both ends included.
-    pub walk: Listed<u16>,
 }
 
 /// The deepest chain over the reached nodes of a certificate, link by link from the root, and its depth.

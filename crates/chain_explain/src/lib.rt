@@ -12,4 +12,4 @@ mod steps;
 mod way;
 
 pub use explaining::{explain, explain_family};
-pub use explanation::{Explanation, Part};
+pub use explanation::{Explanation, Part, PartPlace};

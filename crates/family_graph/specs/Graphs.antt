@@ -29,6 +29,10 @@ HasInst nodes inst = (n : Node) × Contains nodes n × (n.key.inst ≡ inst)
 abbrev pub IsPeopled : Task → List Node → Type 0
 IsPeopled task nodes = (n : Node) (way : EdgeKind) (into : InstKey) (back : ℕ) → Contains nodes n → Enters task n way into back → HasKey nodes (entry_key into)
 
+-- each cut instance with a node has its first node
+abbrev pub AreRooted : Task → List Node → Type 0
+AreRooted task nodes = (n : Node) (depth : ℕ) → Contains nodes n → cut_at task.assumptions n.key.inst ≡ Some depth → HasKey nodes (entry_key n.key.inst)
+
 -- the entries of other instances by the node
 abbrev pub AreWaysOf : Task → Node → List Entering → Type 0
 AreWaysOf task n ways = (w : Entering) → Contains ways w ↔ ((back : ℕ) × Enters task n w.kind w.inst back)

@@ -1,21 +1,29 @@
 -- Numbers of instances, and places and edges by node.
-use Rattle.std.specs.Prelude.{ℕ, ◌+◌, ◌-◌, ◌≡◌, ◌<◌, ◌≤◌, ◌↔◌, if◌then◌else◌, List, [], ◌∷◌, ◌++◌, length, map, Option, Some, None, Contains, slice_get, slice_index}
+use Rattle.std.specs.Prelude.{ℕ, ◌+◌, ◌-◌, ◌≡◌, ◌<◌, ◌≤◌, ◌↔◌, ◌⊎◌, if◌then◌else◌, List, [], ◌∷◌, ◌++◌, length, Option, Some, None, Contains, slice_get, slice_index}
 use Rattle.std.specs.List.{flat_map}
 use Rattle.std.specs.List.Sorted.{IsStrictlySortedBy}
+use Rattle.avr_model.specs.declared.assumption.Entry.{Entry}
+use Rattle.mask_states.specs.declared.keys.EdgeKind.{EdgeKind}
 use Rattle.mask_states.specs.declared.keys.InstKey.{InstKey}
 use Rattle.mask_states.specs.declared.keys.SpForm.{SpForm}
 use Rattle.mask_states.specs.declared.keys.SpForm.TheVariants.{Closed, Open}
-use Rattle.mask_states.specs.Keys.{root_inst}
+use Rattle.mask_states.specs.Keys.{root_inst, entry_key, cut_at}
 use Rattle.mask_states.specs.Order.{inst_cmp, same_inst}
 use Rattle.local_rules.specs.declared.local.Node.{Node}
+use Rattle.local_laws.specs.Laws.{HasKey}
 use Rattle.edge_rules.specs.Edges.{is_entry, Enters}
 use Rattle.call_graph.specs.declared.landing.Landing.{Landing}
 use Rattle.nesting_bound.specs.declared.graph.Entered.{Entered}
 use Rattle.nesting_bound.specs.declared.graph.GraphInst.{GraphInst}
 use Rattle.nesting_bound.specs.declared.graph.Place.{Place}
+use Rattle.nesting_bound.specs.declared.graph.Way.TheVariants.{Enters as Entry_by, Recur}
 use Rattle.family_graph.specs.declared.entering.Entering.{Entering}
-use Rattle.family_graph.specs.Graphs.{HasInst, IsGraphPlace, IsEntryOf}
+use Rattle.family_graph.specs.Graphs.{HasInst, IsGraphPlace, IsEntryOf, IsRecurOf}
 use Rattle.local_rules.specs.Site.{Task}
+
+-- the instance of the node of this number has its first node, if it is cut
+abbrev pub IsRooted : Task → List Node → ℕ → Type 0
+IsRooted task nodes at = (n : Node) (depth : ℕ) → slice_get nodes at ≡ Some n → cut_at task.assumptions n.key.inst ≡ Some depth → HasKey nodes (entry_key n.key.inst)
 
 -- ---- numbers
 
@@ -58,13 +66,34 @@ ways_by nodes landings = flat_map (way_of nodes) landings
 
 -- the edge of the graph for an entry by the node of this place
 abbrev pub entry_of : List InstKey → Place → Entering → Entered
-entry_of insts p w = record { node = p.node; offset = p.offset; kind = w.kind; into = number_in insts w.inst }
+entry_of insts p w = record { node = p.node; offset = p.offset; way = Entry_by w.kind; into = number_in insts w.inst }
+
+-- none, if the entered instance is cut
+abbrev pub unless_cut : Option ℕ → Entered → List Entered
+unless_cut None e = e ∷ []
+unless_cut (Some depth) e = []
+
+abbrev pub entries_for : List Entry → List InstKey → Place → Entering → List Entered
+entries_for A insts p w = unless_cut (cut_at A w.inst) (entry_of insts p w)
 
 -- the places and edges that the node of this number adds, if it has these entries
-abbrev pub AddsAt : List InstKey → ℕ → List Entering → SpForm → List Place → List Entered → List Place → List Entered → Type 0
-AddsAt insts at ways (Open offset high) ps es ps' es' = (ps' ≡ ps) × (es' ≡ es)
-AddsAt insts at ways (Closed offset) ps es ps' es' =
-    (ps' ≡ ps ++ record { node = at; offset = offset } ∷ []) × (es' ≡ es ++ map (entry_of insts (record { node = at; offset = offset })) ways)
+abbrev pub AddsAt : List Entry → List InstKey → ℕ → List Entering → SpForm → List Place → List Entered → List Place → List Entered → Type 0
+AddsAt A insts at ways (Open offset high) ps es ps' es' = (ps' ≡ ps) × (es' ≡ es)
+AddsAt A insts at ways (Closed offset) ps es ps' es' =
+    (ps' ≡ ps ++ record { node = at; offset = offset } ∷ []) × (es' ≡ es ++ flat_map (entries_for A insts (record { node = at; offset = offset })) ways)
+
+-- the recur edge to the instance of a number below the count
+pub record IsRecurTo (A : List Entry) (insts : List InstKey) (behind count : ℕ) (e : Entered) : Type 0 where
+  pub way : e.way ≡ Recur
+  pub node : e.node ≡ behind
+  pub below : e.into < count
+  pub into : InstKey
+  pub leads : slice_get insts e.into ≡ Some into
+  pub cut : cut_at A into ≡ Some e.offset
+
+-- the recur edges to the first instances come besides
+abbrev pub AreRecurs : List Entry → List InstKey → ℕ → ℕ → List Entered → List Entered → Type 0
+AreRecurs A insts behind count old new = (e : Entered) → Contains new e ↔ (Contains old e ⊎ IsRecurTo A insts behind count e)
 
 -- a place of a node between these numbers
 pub record IsPlaceBetween (nodes : List Node) (low high : ℕ) (p : Place) : Type 0 where
@@ -83,14 +112,17 @@ pub record IsEntryBetween (task : Task) (nodes : List Node) (insts : List InstKe
   pub closed : node.key.sp ≡ Closed e.offset
   pub into : InstKey
   pub leads : slice_get insts e.into ≡ Some into
+  pub kind : EdgeKind
+  pub way : e.way ≡ Entry_by kind
   pub back : ℕ
-  pub enters : Enters task node e.kind into back
+  pub enters : Enters task node kind into back
+  pub whole : cut_at task.assumptions into ≡ None
 
 -- an edge of this instance
 pub record IsEntryFrom (task : Task) (nodes : List Node) (insts : List InstKey) (inst : InstKey) (e : Entered) : Type 0 where
   pub into : InstKey
   pub leads : slice_get insts e.into ≡ Some into
-  pub entry : IsEntryOf task nodes inst into e
+  pub edge : IsEntryOf task nodes inst into e ⊎ IsRecurOf task nodes inst into e
 
 -- the places and edges are those of this instance
 pub record IsInstOf (task : Task) (nodes : List Node) (insts : List InstKey) (inst : InstKey) (g : GraphInst) : Type 0 where

@@ -1,10 +1,11 @@
 //! The graph of instances, instance by instance.
 
-ghost use Rattle.std.specs.Prelude.{◌≡◌, ◌<◌, ◌≤◌, length, map, Some, IfOk, OnOk, Contains, slice_get};
+ghost use Rattle.std.specs.Prelude.{◌≡◌, ◌<◌, ◌≤◌, length, Some, IfOk, OnOk, Contains, slice_get};
+ghost use Rattle.std.specs.List.{flat_map};
 ghost use Rattle.nesting_bound.specs.Graph.{IsGraph};
 ghost use Rattle.family_graph.specs.declared.entering.Entering as entering_type;
 ghost use Rattle.family_graph.specs.Graphs.{HasInst, AreWays, IsPeopled, IsGraphOf};
-ghost use Rattle.family_graph.specs.Numbers.{entry_of, AddsAt, IsInstOf};
+ghost use Rattle.family_graph.specs.Numbers.{entries_for, AddsAt, AreRecurs, IsInstOf};
 ghost use Rattle.call_graph.specs.Tasks.{task_of};
 ghost use Rattle.call_graph.specs.Clauses.{AtNumber, Grows};
 ghost use Rattle.family_graph.specs.Numbered.{NumbersAll};
@@ -13,8 +14,8 @@ use crate::entering::Entering;
 use crate::numbering::{Numbering, number_of, numbered};
 use avr_model::listed::Listed;
 use call_graph::{Filled, Task};
-use mask_states::SpForm;
-use nesting_bound::{Entered, Graph, GraphInst, Place};
+use mask_states::{InstKey, SpForm};
+use nesting_bound::{Entered, Graph, GraphInst, Place, Way};
 use std::alloc::AllocError;
 
 // The places and edges of an instance found so far.
@@ -24,8 +25,35 @@ struct Parts {
     entered: Vec<Entered>,
 }
 
+// The edge of the graph for an entry by the node of this place, unless the instance is cut.
+fn add_entry(
+    task: &Task<'_>,
+    nodes: &Filled,
+    numbering: &Numbering,
+    place: Place,
+    way: &Entering,
+    entered: &mut Vec<Entered>,
+) -> Result<(), AllocError>
+    requires numbers { NumbersAll nodes.now numbering.now }
+    requires has { HasInst nodes.now way.now.inst }
+    ensures { Grows result entered.old.items entered.new.items (entries_for task.now.assumptions.now numbering.now.insts.items place way.now) }
+{
+    if way.inst.cut(task.assumptions).is_some() {
+        return Ok(());
+    }
+    let into = number_of(nodes, numbering, &way.inst);
+    entered.push(Entered {
+        node: place.node,
+        offset: place.offset,
+        way: Way::Enters(way.kind),
+        into,
+    })?;
+    Ok(())
+}
+
 // The edges of the graph for the entries of the node of this place.
 fn add_entries(
+    task: &Task<'_>,
     nodes: &Filled,
     numbering: &Numbering,
     place: Place,
@@ -34,22 +62,40 @@ fn add_entries(
 ) -> Result<(), AllocError>
     requires numbers { NumbersAll nodes.now numbering.now }
     requires has { (w : entering_type.Entering) → Contains ways.now w → HasInst nodes.now w.inst }
-    ensures { Grows result entered.old.items entered.new.items (map (entry_of numbering.now.insts.items place) ways.now) }
+    ensures { Grows result entered.old.items entered.new.items (flat_map (entries_for task.now.assumptions.now numbering.now.insts.items place) ways.now) }
 {
     for way in ways {
-        let into = number_of(nodes, numbering, &way.inst);
-        entered.push(Entered {
-            node: place.node,
-            offset: place.offset,
-            kind: way.kind,
-            into,
-        })?;
+        add_entry(task, nodes, numbering, place, way, entered)?;
+    }
+    Ok(())
+}
+
+// The recur edges of the root, one to each cut instance.
+fn add_recurs(
+    task: &Task<'_>,
+    insts: &[InstKey],
+    behind: u32,
+    entered: &mut Vec<Entered>,
+) -> Result<(), AllocError>
+    requires { length insts.now ≤ 65536 }
+    ensures { OnOk result (AreRecurs task.now.assumptions.now insts.now behind (length insts.now) entered.old.items entered.new.items) }
+{
+    for into in 0..insts.len() {
+        if let Some(depth) = insts[into].cut(task.assumptions) {
+            entered.push(Entered {
+                node: behind,
+                offset: depth,
+                way: Way::Recur,
+                into: into as u32,
+            })?;
+        }
     }
     Ok(())
 }
 
 // The place of the node of this number, with the edges for its entries. A node with a half-written stack pointer has none.
 fn add_node(
+    task: &Task<'_>,
     nodes: &Filled,
     numbering: &Numbering,
     at: usize,
@@ -60,7 +106,7 @@ fn add_node(
     requires few { length nodes.now ≤ 65536 }
     requires numbers { NumbersAll nodes.now numbering.now }
     requires has { (w : entering_type.Entering) → Contains ways.now w → HasInst nodes.now w.inst }
-    ensures { AtNumber nodes.now at (λ n. OnOk result (AddsAt numbering.now.insts.items at ways.now n.key.sp parts.old.offsets.items parts.old.entered.items parts.new.offsets.items parts.new.entered.items)) }
+    ensures { AtNumber nodes.now at (λ n. OnOk result (AddsAt task.now.assumptions.now numbering.now.insts.items at ways.now n.key.sp parts.old.offsets.items parts.old.entered.items parts.new.offsets.items parts.new.entered.items)) }
 {
     if let SpForm::Closed(offset) = nodes.key(at).sp {
         let place = Place {
@@ -68,7 +114,7 @@ fn add_node(
             offset,
         };
         parts.offsets.push(place)?;
-        add_entries(nodes, numbering, place, ways, &mut parts.entered)?;
+        add_entries(task, nodes, numbering, place, ways, &mut parts.entered)?;
     }
     Ok(())
 }
@@ -95,7 +141,10 @@ fn instance(
         entered: Vec::new(task.alloc),
     };
     for at in low..high {
-        add_node(nodes, numbering, at, ways[at].as_slice(), &mut parts)?;
+        add_node(task, nodes, numbering, at, ways[at].as_slice(), &mut parts)?;
+    }
+    if key == InstKey::root() {
+        add_recurs(task, &numbering.insts, nodes.count() as u32, &mut parts.entered)?;
     }
     Ok(GraphInst {
         key,

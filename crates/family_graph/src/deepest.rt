@@ -3,7 +3,7 @@
 ghost use Rattle.std.specs.Prelude.{◌≤◌, IfOk, OnOk, length};
 ghost use Rattle.certificate.specs.Claims.{IsClaim};
 ghost use Rattle.certificate.specs.Valid.{MeetsConditions};
-ghost use Rattle.family_graph.specs.Graphs.{AreWays};
+ghost use Rattle.family_graph.specs.Graphs.{AreWays, AreRooted};
 ghost use Rattle.family_graph.specs.Chains.{IsDeepest, BeginsAtRoot};
 ghost use Rattle.call_graph.specs.Tasks.{task_of};
 
@@ -37,6 +37,7 @@ pub fn deepest_chain(
     requires few { length nodes.now ≤ 65536 }
     requires meets { MeetsConditions (task_of task.now) certificate.now nodes.now }
     requires ways { AreWays (task_of task.now) nodes.now ways.now }
+    requires rooted { AreRooted (task_of task.now) nodes.now }
     ensures deepest { IfOk result (λ d. IsDeepest (task_of task.now) nodes.now d.need d.links) }
     ensures bounded { IfOk result (λ d. d.need ≤ certificate.now.bound) }
     ensures root { OnOk result (BeginsAtRoot (task_of task.now) nodes.now) }

@@ -7,10 +7,12 @@ pub mod deepest;
 pub mod entering;
 pub mod laws;
 mod numbering;
+pub mod rooted;
 pub mod worked;
 
 pub use building::graph_of;
 pub use deepest::{Deepest, deepest_chain};
+pub use rooted::are_rooted;
 pub use entering::{Entering, entered_by};
 pub use nesting_bound::{Entered, Graph, GraphInst, Place};
 pub use worked::worked_of;

@@ -14,6 +14,7 @@ ghost use Rattle.round_steps.specs.declared.looking.Look as look_type;
 ghost use Rattle.round_steps.specs.Notings.{AreNoted};
 ghost use Rattle.fixpoint.specs.Checks.{IsTooLarge, IsFaulty, IsVerdictTold};
 
+use call_graph::Task;
 use certificate::{Limit, MOST_CELLS, MOST_NODES};
 use flash_image::Flash;
 use local_rules::NodeFault;
@@ -21,7 +22,6 @@ use round_nesting::{Nesting, NestingVerdict};
 use round_rules::Refusal;
 use round_steps::{Notes, Seen};
 use round_table::Table;
-use std::alloc::Global;
 
 /// Checks that the nodes, and then the cells, are within the limits.
 pub fn check_size(table: &Table, counted: u64) -> Result<(), Refusal>
@@ -39,11 +39,11 @@ pub fn check_size(table: &Table, counted: u64) -> Result<(), Refusal>
 }
 
 /// Notes the results of visits, unless a node has a fault.
-pub fn note_seen(alloc: Global, notes: &mut Notes, seen: &Seen) -> Result<(), Refusal>
+pub fn note_seen(task: &Task<'_>, notes: &mut Notes, seen: &Seen) -> Result<(), Refusal>
     requires small { (x : look_type.Look) → Contains seen.now.looks.items x → offset_of x.key.sp ≤ SIZE }
     requires once { AreOnce notes.old.nesting.insts }
     ensures none { OnOk result (seen.now.worst ≡ None) }
-    ensures noted { OnOk result (AreNoted notes.old seen.now.looks.items notes.new) }
+    ensures noted { OnOk result (AreNoted task.now.assumptions.now notes.old seen.now.looks.items notes.new) }
     ensures once { OnOk result (AreOnce notes.new.nesting.insts) }
     ensures fault { IfErr result (λ r. r ≢ Memory → IsFaulty seen.now.worst r) }
 {
@@ -51,7 +51,7 @@ pub fn note_seen(alloc: Global, notes: &mut Notes, seen: &Seen) -> Result<(), Re
         Some(NodeFault::Memory) => Err(Refusal::Memory),
         Some(fault) => Err(Refusal::Node(fault)),
         None => {
-            notes.note_all(alloc, &seen.looks)?;
+            notes.note_all(task, &seen.looks)?;
             Ok(())
         }
     }

@@ -48,7 +48,7 @@ fn note_each(
 {
     for at in 0..keys.len() {
         let seen = look_at(task, table, &keys[at])?;
-        let told = note_seen(task.alloc, notes, &seen);
+        let told = note_seen(task, notes, &seen);
         drop(seen);
         told?;
     }

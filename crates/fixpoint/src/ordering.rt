@@ -50,7 +50,7 @@ fn look_on(
 {
     let one = [key];
     let seen = look_all(task, table, &one)?;
-    if let Err(refusal) = note_seen(task.alloc, notes, &seen) {
+    if let Err(refusal) = note_seen(task, notes, &seen) {
         drop(seen);
         return Err(refusal);
     }

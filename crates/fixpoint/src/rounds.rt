@@ -42,7 +42,7 @@ fn next_nodes(
 {
     check_size(table, counted)?;
     let seen = look_all(task, table, work)?;
-    if let Err(refusal) = note_seen(task.alloc, notes, &seen) {
+    if let Err(refusal) = note_seen(task, notes, &seen) {
         drop(seen);
         return Err(refusal);
     }

@@ -29,8 +29,7 @@ module _ (task : Task) (f : RankedFamily) where
     -- the frames above a base, and the need of its instance, are within the bound
     pub within : (memory : Memory) (gs : List Frame) (inst : InstKey) (o : Origin) → AreLeft task f memory gs inst o → ramend (device_of task.flash) + f.need_of inst ≤ o.base + f.bound
     within memory [] inst o l = omega (arith, ap f.need_of l.0, l.1, sound.bounded)
-    within memory (g ∷ gs) inst o l =
-        omega (arith, within memory gs g.node.key.inst g.origin l.1, l.0.place, ap offset_of l.0.closed, sound.needs g.node l.0.way inst l.0.back l.0.present l.0.enters)
+    within memory (g ∷ gs) inst o l = omega (arith, l.0.need)
 
     pub base_inside : (memory : Memory) (gs : List Frame) (inst : InstKey) (o : Origin) → AreLeft task f memory gs inst o → o.base ≤ ramend (device_of task.flash)
     base_inside memory [] inst o l = omega (arith, l.1)
@@ -53,7 +52,7 @@ module _ (task : Task) (f : RankedFamily) where
             way = l.way;
             back = l.back;
             enters = l.enters;
-            rank = l.rank;
+            need = l.need;
             low_byte = kept.bytes (o.base + 2) (omega arith) l.low_live ∙ l.low_byte;
             high_byte = kept.bytes (o.base + 1) (omega arith) l.high_live ∙ l.high_byte;
             low_live = kept.live (o.base + 2) (omega arith) l.low_live;

@@ -1,10 +1,10 @@
 -- The family of the worked firmware is sound: the definitions are satisfiable with a call.
-use Rattle.std.proofs.Common.{◌≡◌, ℕ, zero, suc, ◌+◌, ◌<◌, ◌≤◌, ◌⊎◌, inl, inr, ⊎_elim, false, List, [], ◌∷◌, Option, Some, None, slice_index_or, refl, sym, ap, ◌∙◌, subst, arith, Contains}
+use Rattle.std.proofs.Common.{◌≡◌, ℕ, zero, suc, ◌+◌, ◌<◌, ◌≤◌, ◌⊎◌, inl, inr, ⊎_elim, false, List, [], ◌∷◌, Option, Some, None, slice_index_or, refl, sym, ap, ◌∙◌, subst, subst₂, arith, Contains}
 use Rattle.std.proofs.lemmas.List.{get_or-replicate}
 use Rattle.std.proofs.lemmas.Nat.{pow_pos}
 use Rattle.basics.specs.Items.{none_in, only_one_in}
 use Rattle.std.proofs.lemmas.Option.{same_Some}
-use Rattle.avr_model.specs.Assumptions.{has_pairs}
+use Rattle.avr_model.specs.Assumptions.{has_pairs, recur_line}
 use Rattle.avr_model.specs.Devices.{size_of, device_of, device_row}
 use Rattle.avr_model.specs.Vectors.{enable_count}
 use Rattle.bit_domain.specs.declared.bits.Tri.TheVariants.{Any}
@@ -22,7 +22,9 @@ use Rattle.mask_states.specs.declared.keys.InstKey.{InstKey}
 use Rattle.mask_states.specs.declared.keys.EdgeKind.{EdgeKind}
 use Rattle.mask_states.specs.declared.keys.EdgeKind.TheVariants as kind
 use Rattle.mask_states.specs.declared.keys.SpForm.TheVariants.{Closed}
-use Rattle.mask_states.specs.Keys.{entry_key, offset_of}
+use Rattle.mask_states.specs.declared.keys.Kind.{Kind}
+use Rattle.mask_states.specs.declared.keys.Kind.TheVariants.{Root, Call, Vector}
+use Rattle.mask_states.specs.Keys.{root_inst, entry_key, offset_of, if_called, cut_at}
 use Rattle.local_rules.specs.declared.local.Node.{Node}
 use Rattle.local_rules.specs.declared.local.CallSite.{CallSite}
 use Rattle.local_rules.specs.declared.local.Exit.{Exit}
@@ -32,6 +34,8 @@ use Rattle.local_rules.specs.Local.{placed, joined_onto}
 use Rattle.local_rules.specs.Cover.{IsNodeIn}
 use Rattle.edge_rules.specs.declared.edge.Edge.{Edge}
 use Rattle.edge_rules.specs.Edges.{raw_of, IsFaultless, Enters, by_call, by_interrupt, IsEdge, moving, entering, returning, target, called_inst, pick_back, returned_key}
+use Rattle.edge_rules.specs.Nest.{NestEdge, recurs}
+use Rattle.edge_rules.specs.Nest.{enters as by_node}
 use Rattle.edge_rules.specs.Families.{IsCovered, IsSoundFamily}
 use Rattle.edge_rules.specs.Roots.{root_by}
 use Rattle.edge_rules.specs.Examples.{sample, callee, top, at_call, at_loop, at_return, family, plain_exit, call_leads, loop_leads, return_leads}
@@ -157,6 +161,24 @@ return_edges _ (moving to faultless member) = absurd (no_moves to (raw_of (bare 
 return_edges _ (entering way inst back enters) = absurd (return_enters way inst back enters)
 return_edges _ (returning way inst back leaver x state enters present same faultless exit is) = absurd (return_enters way inst back enters)
 
+-- without a list nothing is cut
+never_cut : (inst : InstKey) (depth : ℕ) → cut_at [] inst ≡ Some depth → ⊥
+unfolding cut_at recur_line
+never_cut inst depth = by inst.kind
+  where
+    by : (kind : Kind) → if_called kind None ≡ Some depth → ⊥
+    by Root e = cc
+    by Call e = cc
+    by (Vector v) e = cc
+
+-- the one edge of the nest
+one_edge : (P : InstKey → InstKey → ℕ → Type 0) → P root_inst callee 0 → (i j : InstKey) (depth : ℕ) → NestEdge (bare sample) (Contains family.nodes) i j depth → P i j depth
+one_edge P p i j depth (by_node n way back h same at e whole) =
+    subst₂ (λ (k : InstKey) (o : ℕ). P k j o) same at
+    (each (λ x. Enters (bare sample) x way j back → P x.key.inst j (offset_of x.key.sp))
+    (call_enters (λ k b. P root_inst k 0) p way j back) (λ k. absurd (loop_enters way j back k)) (λ k. absurd (return_enters way j back k)) n h e)
+one_edge P p i j depth (recurs n h same cut top) = absurd (never_cut j depth cut)
+
 offset_is : (offset : ℕ) → Closed 0 ≡ Closed offset → offset ≡ 0
 offset_is offset e = omega (arith, ap offset_of e)
 
@@ -180,12 +202,10 @@ the_sample_is_sound = record {
   faultless = each (λ n. IsFaultless (bare sample) n)
       (ap (λ (r : Raw). r.faults) call_leads) (ap (λ (r : Raw). r.faults) loop_leads) (ap (λ (r : Raw). r.faults) return_leads);
   edges = λ n e h. each (λ x. IsEdge (bare sample) family.nodes x e → IsCovered family.nodes (target e)) (call_edges e) (loop_edges e) (return_edges e) n h;
-  ranks = λ n way inst back h. each (λ x. Enters (bare sample) x way inst back → family.rank_of inst < family.rank_of x.key.inst)
-      (call_enters (λ i b. family.rank_of i < 1) (omega arith) way inst back) (λ e. absurd (loop_enters way inst back e)) (λ e. absurd (return_enters way inst back e)) n h;
+  ranks = one_edge (λ i j depth. family.rank_of j < family.rank_of i) (omega arith);
   offsets = λ n offset h. each (λ x. x.key.sp ≡ Closed offset → offset ≤ family.need_of x.key.inst)
       (λ e. omega (arith, offset_is offset e)) (λ e. omega (arith, offset_is offset e)) (λ e. omega (arith, offset_is offset e)) n h;
-  needs = λ n way inst back h. each (λ x. Enters (bare sample) x way inst back → offset_of x.key.sp + 2 + family.need_of inst ≤ family.need_of x.key.inst)
-      (call_enters (λ i b. 0 + 2 + family.need_of i ≤ 2) (omega arith) way inst back) (λ e. absurd (loop_enters way inst back e)) (λ e. absurd (return_enters way inst back e)) n h;
+  needs = one_edge (λ i j depth. depth + 2 + family.need_of j ≤ family.need_of i) (omega arith);
   bounded = omega arith;
   small = sample_small;
 }

@@ -1,5 +1,5 @@
 -- Each kind of step keeps the frames.
-use Rattle.std.proofs.Common.{◌≡◌, ◌≢◌, ℕ, ◌+◌, ◌%◌, ◌≤◌, Bool, true, false, List, [], ◌∷◌, ◌++◌, length, Some, None, refl, sym, ap, ap₂, ◌∙◌, subst, subst₂, arith, Contains, ◌<◌}
+use Rattle.std.proofs.Common.{◌≡◌, ◌≢◌, ℕ, ◌+◌, ◌-◌, ◌%◌, ◌≤◌, Bool, true, false, List, [], ◌∷◌, ◌++◌, length, Option, Some, None, refl, sym, ap, ap₂, ◌∙◌, subst, subst₂, arith, Contains, ◌<◌}
 use Rattle.avr_model.specs.declared.device.Device.{Device}
 use Rattle.avr_model.proofs.AllLaws.{devices_are_alike}
 use Rattle.avr_model.specs.Devices.{words_of, io_end, size_of, ramend, wrapped, device_of}
@@ -27,7 +27,7 @@ use Rattle.mask_states.specs.declared.keys.Kind.TheVariants.{Root}
 use Rattle.mask_states.specs.declared.keys.High.{High}
 use Rattle.mask_states.specs.declared.keys.SpForm.{SpForm}
 use Rattle.mask_states.specs.declared.keys.SpForm.TheVariants.{Closed, Open}
-use Rattle.mask_states.specs.Keys.{entry_key, offset_of}
+use Rattle.mask_states.specs.Keys.{root_inst, entry_key, offset_of, cut_at}
 use Rattle.mask_states.specs.Place.{EnablesAre, SpIs}
 use Rattle.local_rules.specs.declared.local.Node.{Node}
 use Rattle.local_rules.specs.declared.local.Exit.{Exit}
@@ -37,6 +37,7 @@ use Rattle.local_laws.specs.Laws.{LiveBytesStay}
 use Rattle.local_laws.proofs.AllLaws.{joins_are_least, local_parts_are_nodes, local_parts_fit, open_pairs_stay}
 use Rattle.edge_rules.specs.Edges.{raw_of, IsFaultless, Enters, by_call, by_interrupt, returned_key, moving, entering, returning}
 use Rattle.edge_rules.specs.Families.{RankedFamily, IsCovered, IsSoundFamily}
+use Rattle.edge_rules.specs.Nest.{recurs, enters as by_node}
 use Rattle.edge_rules.specs.Frames.{Frame, AreLeft, Runs, Change, moved, returned_to, HasNext}
 use Rattle.frame_laws.proofs.Left.{not_root, root_base, within, base_inside, left_kept}
 use Rattle.frame_laws.proofs.Way.{WayBack, two_inside, way_pushed, way_read}
@@ -165,15 +166,28 @@ module _ (live : LiveBytesStay) (task : Task) (f : RankedFamily) (sound : IsSoun
     abbrev entry_origin : Origin
     entry_origin = record { registers = m.registers; sreg = m.sreg; base = minus16 m.sp 2 }
 
-    module _ (way : EdgeKind) (inst : InstKey) (back offset : ℕ) (form : g.node.key.sp ≡ Closed offset) (enters : Enters task g.node way inst back) where
-      room : ramend m.device + 2 ≤ m.sp + size_of m.device
-      room = omega (arith, in_bound, small, sound.needs g.node way inst back runs.present enters, ap offset_of form, closed_sp offset form)
-
+    -- the instance is entered where the bound leaves room for it: a cut one no deeper than its line permits
+    module _ (way : EdgeKind) (inst : InstKey) (back offset : ℕ) (form : g.node.key.sp ≡ Closed offset) (enters : Enters task g.node way inst back)
+        (shallow : (depth : ℕ) → cut_at task.assumptions inst ≡ Some depth → ramend m.device ≤ m.sp + depth) where
       top : m.sp ≤ ramend m.device
       top = omega (arith, low_base, closed_sp offset form)
 
       covered : IsCovered f.nodes (record { key = entry_key inst; state = entered g.node.state })
       covered = sound.edges g.node _ runs.present (entering way inst back enters)
+
+      fits_by : (cut : Option ℕ) → cut_at task.assumptions inst ≡ cut → ramend m.device + 2 + f.need_of inst ≤ m.sp + f.bound
+      fits_by None is =
+          let below = sound.needs g.node.key.inst inst (offset_of g.node.key.sp) (by_node g.node way back runs.present refl refl enters is) in
+          omega (arith, in_bound, below, ap offset_of form, closed_sp offset form)
+      fits_by (Some depth) is =
+          let below = sound.needs root_inst inst depth (recurs _ covered.present refl is refl) in
+          omega (arith, below, sound.bounded, shallow depth is)
+
+      fits : ramend m.device + 2 + f.need_of inst ≤ m.sp + f.bound
+      fits = fits_by (cut_at task.assumptions inst) refl
+
+      room : ramend m.device + 2 ≤ m.sp + size_of m.device
+      room = omega (arith, fits, small)
 
       abbrev entry_frame : Frame
       entry_frame = record { node = record { key = entry_key inst; state = covered.state }; origin = entry_origin }
@@ -194,7 +208,7 @@ module _ (live : LiveBytesStay) (task : Task) (f : RankedFamily) (sound : IsSoun
               way = way;
               back = back;
               enters = enters;
-              rank = sound.ranks g.node way inst back runs.present enters;
+              need = subst (λ device. (ramend device - minus16 m.sp 2) + f.need_of inst ≤ f.bound) runs.device (omega (arith, fits, room, top, few, low_io));
               low_byte = pushed.low_byte;
               high_byte = pushed.high_byte;
               low_live = pushed.low_live;
@@ -303,7 +317,7 @@ module _ (live : LiveBytesStay) (task : Task) (f : RankedFamily) (sound : IsSoun
                 place = record {
                   pc = is.pc
                       ∙ ap (wrapped m.device)
-                      (way_read m g.origin.base was.back b1 b2 runs.running.machine.below runs.running.machine.count_live sp low_base
+                      (way_read (reads_masks (device_of task.flash) task.assumptions) m g.origin.base was.back b1 b2 runs.running.machine.below runs.running.machine.count_live sp low_base
                       record { low_byte = was.low_byte; high_byte = was.high_byte; low_live = was.low_live; high_live = was.high_live })
                       ∙ devices_are_alike.same m.device was.back (on_machine (λ device. was.back < words_of device) (back_inside was.enters));
                   enables = subst (λ ws. EnablesAre (reads_masks (device_of task.flash) task.assumptions) (enables_after m.device e.enables ws) x.masks) (sym is.stores) is.enables;

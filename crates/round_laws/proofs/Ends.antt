@@ -1,5 +1,5 @@
 -- The rounds end once, and without a refusal if a valid certificate exists.
-use Rattle.std.proofs.Common.{◌≡◌, refl, sym, ap, ap₂, ◌∙◌, subst, ℕ, zero, suc, ◌<◌, ◌≤◌, inl, inr, ⊎_elim, Option, arith}
+use Rattle.std.proofs.Common.{◌≡◌, refl, sym, ap, ap₂, ◌∙◌, subst, ℕ, zero, suc, ◌<◌, ◌≤◌, inl, inr, ⊎_elim, Option, Contains, arith}
 use Rattle.std.proofs.lemmas.Bool.{cases_lt, cases_order}
 use Rattle.avr_model.specs.Devices.{device_of}
 use Rattle.avr_model.specs.Vectors.{vector_word}
@@ -13,12 +13,13 @@ use Rattle.certificate.specs.Insts.{need_in}
 use Rattle.witness_replay.specs.Spelling.{Plan}
 use Rattle.certificate.specs.Valid.{IsValid, IsAttained}
 use Rattle.round_rules.specs.declared.refusal.Refusal.{Refusal}
-use Rattle.round_rules.specs.Families.{Family, nodes_of, Below, HasNoFault, IsClosed, FitsLimits}
+use Rattle.round_rules.specs.Families.{Family, nodes_of, FamilyHas, Below, HasNoFault, IsClosed, FitsLimits}
 use Rattle.round_rules.specs.Rounds.{IsAcyclic, AreRanks, AreNeeds, IsRootNeed, PassesTests, Comes}
 use Rattle.round_rules.specs.Refusals.{Test, over, faulty, re_entry, recursion, too_deep, FaultAt, FirstHolds, refusal_of, IsReEntry, IsRecursion, IsRefused, IsSolved, GoesBeyond}
 use Rattle.round_rules.specs.Solutions.{IsShown, IsSolution}
 use Rattle.round_laws.specs.Laws.{IsValidFamily, RoundsAreLeast, RoundsEndOnce, SolutionsAreValid}
 use Rattle.round_laws.proofs.Nodes.{has_member}
+use Rattle.round_laws.proofs.Nest.{nest_more}
 use Rattle.round_laws.proofs.Parts.{never_both}
 use Rattle.round_laws.proofs.Faults.{later_once}
 use Rattle.round_laws.proofs.Stands.{stands}
@@ -85,13 +86,12 @@ module _ (task : Task) where
         reset = lands_covered f _ (comes_root task n f solved.comes);
         faultless = λ m i. solved.passes.faultless m (has_member f m i);
         edges = λ m e i edge. lands_covered f _ (solved.closed m e (has_member f m i) edge);
-        ranks = λ m way inst back i enters.
-            is.ranks m.key.inst inst _ record { node = m; has = has_member f m i; same = refl; at = refl; way = way; back = back; enters = enters };
+        ranks = λ i j depth edge. is.ranks i j depth (nest_more task (Contains (nodes_of f)) (FamilyHas f) (λ m h. has_member f m h) i j depth edge);
         needs = λ inst. record {
           offsets = λ m offset i same form.
               subst (λ (x : InstKey). offset ≤ need_in c.instances x) same (is.needs.offsets m offset (has_member f m i) form);
-          entered = λ m way into back i same enters.
-              is.needs.entered inst into _ record { node = m; has = has_member f m i; same = same; at = refl; way = way; back = back; enters = enters };
+          entered = λ into depth edge.
+              is.needs.entered inst into depth (nest_more task (Contains (nodes_of f)) (FamilyHas f) (λ m h. has_member f m h) inst into depth edge);
         };
         bounded = record {
           enough = omega (arith, is.bound);

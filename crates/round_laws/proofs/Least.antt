@@ -1,24 +1,26 @@
 -- The family of each round is unique, and below each valid one.
-use Rattle.std.proofs.Common.{◌≡◌, Bool, sym, ap, ◌∙◌, subst, ℕ, zero, suc, ◌+◌, ◌<◌, ◌≤◌, List, Some, Contains, arith}
+use Rattle.std.proofs.Common.{◌≡◌, Bool, sym, ap, ◌∙◌, subst, ℕ, zero, suc, ◌+◌, ◌<◌, ◌≤◌, List, Option, Some, Contains, arith}
 use Rattle.std.specs.FinMap.{get, empty, get-empty}
 use Rattle.std.proofs.lemmas.Option.{same_Some}
 use Rattle.avr_model.specs.declared.device.Device.{Device}
 use Rattle.avr_model.specs.declared.assumption.Entry.{Entry}
-use Rattle.avr_model.specs.Assumptions.{has_pairs}
+use Rattle.avr_model.specs.Assumptions.{has_pairs, recur_line}
 use Rattle.avr_model.specs.Devices.{device_of}
 use Rattle.abs_state.specs.declared.state.AbsState.{AbsState}
 use Rattle.abs_state.proofs.AllLaws.{states_are_ordered}
 use Rattle.mask_states.specs.declared.keys.InstKey.{InstKey}
 use Rattle.mask_states.specs.declared.keys.NodeKey.{NodeKey}
-use Rattle.mask_states.specs.Keys.{root_inst, entry_key}
+use Rattle.mask_states.specs.Keys.{root_inst, entry_key, if_called, cut_at}
 use Rattle.mask_states.specs.Order.{node_cmp}
 use Rattle.local_rules.specs.declared.local.Node.{Node}
 use Rattle.local_rules.specs.Cover.{IsNodeIn}
 use Rattle.local_laws.specs.Laws.{AreNodesIn}
 use Rattle.mask_states.specs.declared.keys.EdgeKind.{EdgeKind}
-use Rattle.mask_states.specs.declared.keys.Kind.TheVariants.{Vector}
+use Rattle.mask_states.specs.declared.keys.Kind.{Kind}
+use Rattle.mask_states.specs.declared.keys.Kind.TheVariants.{Root, Call, Vector}
 use Rattle.avr_model.specs.Vectors.{vector_word}
 use Rattle.edge_rules.specs.Edges.{Enters, by_call, by_interrupt, target}
+use Rattle.edge_rules.specs.Nest.{NestEdge, recurs, enters as by_node}
 use Rattle.edge_rules.specs.Families.{IsCovered}
 use Rattle.edge_rules.specs.Roots.{root_of}
 use Rattle.edge_laws.specs.Laws.{with_state}
@@ -108,22 +110,20 @@ module _ (task : Task) where
           let i = member_has g (with_state n l.at) l.is in
           edges_grow.enters task n l.at way inst back (formed n has) (valid.sound.formed (with_state n l.at) i) l.above (valid.sound.faultless (with_state n l.at) i) enters
 
+      -- each edge of the nest is one of the valid family's
+      nest_up : (i j : InstKey) (depth : ℕ) → NestEdge task (FamilyHas f) i j depth → NestEdge task (Contains (nodes_of g)) i j depth
+      nest_up i j depth (by_node n way back has same at e whole) =
+          let l = below n has in
+          by_node (with_state n l.at) way back (member_has g (with_state n l.at) l.is) same at (enters_up n way j back has e) whole
+      nest_up i j depth (recurs n has same cut top) = let l = below n has in recurs (with_state n l.at) (member_has g (with_state n l.at) l.is) same cut top
+
       pub ranks_of : AreRanks task f valid.rank_of
-      ranks_of i j offset e =
-          let l = below e.node e.has in
-          let at = member_has g (with_state e.node l.at) l.is in
-          subst (λ (x : InstKey). valid.rank_of j < valid.rank_of x) e.same
-          (valid.sound.ranks (with_state e.node l.at) e.way j e.back at (enters_up e.node e.way j e.back e.has e.enters))
+      ranks_of i j offset e = valid.sound.ranks i j offset (nest_up i j offset e)
 
       pub needs_of : AreNeeds task f valid.need_of
       needs_of = record {
         offsets = λ n offset has is. let l = below n has in valid.sound.offsets (with_state n l.at) offset (member_has g (with_state n l.at) l.is) is;
-        entered = λ i j offset e.
-            let l = below e.node e.has in
-            let at = member_has g (with_state e.node l.at) l.is in
-            let le = valid.sound.needs (with_state e.node l.at) e.way j e.back at (enters_up e.node e.way j e.back e.has e.enters) in
-            subst (λ (x : InstKey). offset + 2 + valid.need_of j ≤ valid.need_of x) e.same
-            (subst (λ (d : ℕ). d + 2 + valid.need_of j ≤ valid.need_of e.node.key.inst) e.at le);
+        entered = λ i j offset e. valid.sound.needs i j offset (nest_up i j offset e);
       }
 
     pub comes_below : (n : ℕ) (f : Family) → Comes task n f → Below f g
@@ -147,6 +147,17 @@ enters_word : (task : Task) (n : Node) (way : EdgeKind) (inst : InstKey) (back v
 enters_word task n _ _ _ v (by_call offset site clean form member) e = absurd (cc)
 enters_word task n _ _ _ v (by_interrupt offset u clears clean form i delay enabled allowed clearable) e = ap (vector_word (device_of task.flash)) (vector_same u v e)
 
+-- only an instance of a call is cut
+called_only : (kind : Kind) (line : Option ℕ) (depth v : ℕ) → kind ≡ Vector v → if_called kind line ≡ Some depth → ⊥
+called_only Root line depth v e cut = cc
+called_only Call line depth v e cut = cc
+called_only (Vector u) line depth v e cut = cc
+
+cut_called : (task : Task) (j : InstKey) (depth v : ℕ) → j.kind ≡ Vector v → cut_at task.assumptions j ≡ Some depth → ⊥
+unfolding cut_at
+cut_called task j depth v kind cut = called_only j.kind (recur_line task.assumptions j.entry) depth v kind cut
+
 pub entered_word : (task : Task) (f : Family) (i j : InstKey) (v : ℕ) → Reaches task f i j → j.kind ≡ Vector v → j.entry ≡ vector_word (device_of task.flash) v
-entered_word task f _ _ v (once i j offset e) kind = enters_word task e.node e.way j e.back v e.enters kind
+entered_word task f _ _ v (once i j offset (by_node n way back has same at e whole)) kind = enters_word task n way j back v e kind
+entered_word task f _ _ v (once i j offset (recurs n has same cut top)) kind = absurd (cut_called task j offset v kind cut)
 entered_word task f _ _ v (more i j k offset e rest) kind = entered_word task f j k v rest kind

@@ -3,6 +3,7 @@ pub mod Nodes
 pub mod Sums
 pub mod Parts
 pub mod Faults
+pub mod Nest
 pub mod Least
 pub mod Under
 pub mod Stands

@@ -8,6 +8,7 @@ use Rattle.mask_states.specs.declared.keys.Kind.TheVariants.{Root, Call, Vector}
 use Rattle.mask_states.specs.Keys.{root_inst}
 use Rattle.mask_states.specs.Order.{same_inst}
 use Rattle.mask_states.proofs.AllLaws.{keys_are_ordered}
+use Rattle.edge_rules.specs.Nest.{recurs, enters as by_node}
 use Rattle.nesting_bound.specs.declared.graph.GraphInst.{GraphInst}
 use Rattle.nesting_bound.specs.declared.graph.Entered.{Entered}
 use Rattle.nesting_bound.specs.Graph as graph
@@ -91,9 +92,10 @@ by_entry Call entry never = (refl, refl)
 by_entry (Vector v) entry never = absurd (never v refl)
 
 module _ (task : Task) (f : Family) (keys : List InstKey) (gs : List GraphInst) (is : IsGraphOver task f keys gs) where
-  -- an entering instance has a node, and so a number
+  -- an upper instance has a number: it has a node, or is the root
   from_number : (i j : InstKey) (offset : ℕ) → Entering task f i j offset → (n : ℕ) × IsNumber keys n i
-  from_number i j offset e = is.numbered i (e.node, e.has, e.same)
+  from_number i j offset (by_node n way back has same at e whole) = is.numbered i (n, has, same)
+  from_number i j offset (recurs n has same cut top) = (0, subst (IsNumber keys 0) (sym top) is.root)
 
   -- an instance with a number has no other
   own_number : (i n : ℕ) (inst : InstKey) → IsNumberFor keys i inst → IsNumber keys n inst → i ≡ n

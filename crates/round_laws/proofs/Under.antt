@@ -1,20 +1,22 @@
 -- Each instance with a node is entered, possibly over others, from the root: its need is at most the root's.
-use Rattle.std.proofs.Common.{◌≡◌, refl, sym, ap, ◌∙◌, subst, ℕ, zero, suc, ◌≤◌, Bool, true, false, cond, nat_le, Some, None, arith}
+use Rattle.std.proofs.Common.{◌≡◌, refl, sym, ap, ◌∙◌, subst, ℕ, zero, suc, ◌≤◌, Bool, true, false, cond, nat_le, Option, Some, None, arith}
 use Rattle.std.proofs.lemmas.Bool.Decides.{nat_tests}
 use Rattle.std.specs.declared.cmp.Ordering.TheVariants.{Equal}
 use Rattle.std.specs.FinMap.{get, retain_keys, get-retain_keys}
 use Rattle.avr_model.specs.Assumptions.{has_pairs}
 use Rattle.avr_model.specs.Devices.{device_of}
 use Rattle.abs_state.specs.declared.state.AbsState.{AbsState}
+use Rattle.abs_state.specs.Frames.{entered}
 use Rattle.mask_states.specs.declared.keys.InstKey.{InstKey}
 use Rattle.mask_states.specs.declared.keys.EdgeKind.{EdgeKind}
 use Rattle.mask_states.specs.declared.keys.NodeKey.{NodeKey}
-use Rattle.mask_states.specs.Keys.{root_inst}
+use Rattle.mask_states.specs.Keys.{root_inst, entry_key, cut_at}
 use Rattle.mask_states.specs.Order.{node_cmp}
 use Rattle.local_rules.specs.declared.local.Node.{Node}
 use Rattle.local_laws.proofs.AllLaws.{joins_are_least, local_parts_are_nodes}
 use Rattle.edge_rules.specs.declared.edge.Edge.{Edge}
 use Rattle.edge_rules.specs.Edges.{raw_of, Enters, IsEdge, moving, entering, returning, target}
+use Rattle.edge_rules.specs.Nest.{NestEdge, recurs, enters as by_node}
 use Rattle.edge_laws.specs.Laws.{with_state}
 use Rattle.edge_laws.proofs.AllLaws.{edges_grow}
 use Rattle.round_rules.specs.Families.{Family, nodes_of, FamilyHas, Lands, Below, AreFormed, FamilyHasInst, HasNoFault, LandIn}
@@ -28,19 +30,15 @@ module _ (task : Task) where
   needs_down : {followed : Bool} (f g : Family) (need : InstKey → ℕ) → AreFormed (device_of task.flash) followed f → AreFormed (device_of task.flash) followed g → Below f g → HasNoFault task g → AreNeeds task g need → AreNeeds task f need
   needs_down f g need low high below clean are = record {
     offsets = λ n offset has form. let l = below n has in are.offsets (with_state n l.at) offset l.is form;
-    entered = λ i j offset e.
-        let l = below e.node e.has in
-        let m = with_state e.node l.at in
-        are.entered i j offset record {
-          node = m;
-          has = l.is;
-          same = e.same;
-          at = e.at;
-          way = e.way;
-          back = e.back;
-          enters = edges_grow.enters task e.node l.at e.way j e.back (low e.node e.has) (high m l.is) l.above (clean m l.is) e.enters;
-        };
+    entered = λ i j offset e. are.entered i j offset (up i j offset e);
   }
+    where
+      up : (i j : InstKey) (depth : ℕ) → NestEdge task (FamilyHas f) i j depth → NestEdge task (FamilyHas g) i j depth
+      up i j depth (by_node n way back has same at e whole) =
+          let l = below n has in
+          let m = with_state n l.at in
+          by_node m way back l.is same at (edges_grow.enters task n l.at way j back (low n has) (high m l.is) l.above (clean m l.is) e) whole
+      up i j depth (recurs n has same cut top) = let l = below n has in recurs (with_state n l.at) l.is same cut top
 
   -- the instance of an edge's target is the node's own, or one that it enters
   edge_inst : {followed : Bool} (P : InstKey → Type 0) (f : Family) (n : Node) (e : Edge) → AreFormed (device_of task.flash) followed f → FamilyHas f n → P n.key.inst
@@ -78,16 +76,25 @@ module _ (task : Task) where
     is_under_is : (k : NodeKey) → is_under k ≡ true → need k.inst ≤ need root_inst
     is_under_is k e = grind (arith, nat_tests)
 
-    next_under : (f g : Family) → AreFormed (device_of task.flash) (has_pairs task.assumptions) f → IsNext task f g → HasNoFault task g → AreNeeds task f need
+    -- An entered instance needs no more than the root: it lies below its caller, or below the root once it has its first node.
+    entered_under : (f g : Family) → AreNeeds task f need → AreNeeds task g need → (m : Node) → FamilyHas f m → need m.key.inst ≤ need root_inst
+        → (way : EdgeKind) (inst : InstKey) (back : ℕ) → Enters task m way inst back → Lands g (record { key = entry_key inst; state = entered m.state }) → (cut : Option ℕ)
+        → cut_at task.assumptions inst ≡ cut → need inst ≤ need root_inst
+    entered_under f g low high m there under way inst back e lands None is =
+        let enough = low.entered m.key.inst inst _ (by_node m way back there refl refl e is) in
+        omega (arith, enough, under)
+    entered_under f g low high m there under way inst back e lands (Some depth) is =
+        let enough = high.entered root_inst inst depth (recurs (record { key = entry_key inst; state = lands.at }) lands.is refl is refl) in
+        omega (arith, enough)
+
+    next_under : (f g : Family) → AreFormed (device_of task.flash) (has_pairs task.assumptions) f → IsNext task f g → HasNoFault task g → AreNeeds task f need → AreNeeds task g need
         → ((n : Node) → FamilyHas f n → need n.key.inst ≤ need root_inst) → (n : Node) → FamilyHas g n → need n.key.inst ≤ need root_inst
-    next_under f g formed next clean are low n has =
+    next_under f g formed next clean are above low n has =
         let h = retain_keys g is_under in
         let up : Below f h = λ m there. lands_kept g m (under_is m.key (low m there)) (next.above m there) in
         let lands : LandIn task f h = λ m e there edge.
         let le : need e.to.inst ≤ need root_inst = edge_inst (λ (inst : InstKey). need inst ≤ need root_inst) f m e formed there (low m there)
-        (λ way inst back enters.
-        let enough = are.entered m.key.inst inst _ record { node = m; has = there; same = refl; at = refl; way = way; back = back; enters = enters } in
-        omega (arith, enough, low m there)) edge in
+        (λ way inst back way_in. entered_under f g are above m there (low m there) way inst back way_in (next.edges m _ there (entering way inst back way_in)) (cut_at task.assumptions inst) refl) edge in
         lands_kept g (target e) (under_is e.to le) (next.edges m e there edge) in
         is_under_is n.key (kept_under g n.key (next.least h up lands n has).at (next.least h up lands n has).is)
 
@@ -97,7 +104,7 @@ module _ (task : Task) where
     all_under (suc n) f c clean are =
         let formed = comes_formed task n c.0 c.1 in
         let needs = needs_down c.0 f need formed c.4.formed c.4.above clean are in
-        next_under c.0 f formed c.4 clean needs (all_under n c.0 c.1 c.2.faultless needs)
+        next_under c.0 f formed c.4 clean needs are (all_under n c.0 c.1 c.2.faultless needs)
 
   pub under_root : (n : ℕ) (f : Family) (need : InstKey → ℕ) → Comes task n f → HasNoFault task f → AreNeeds task f need → (inst : InstKey) → FamilyHasInst f inst
       → need inst ≤ need root_inst

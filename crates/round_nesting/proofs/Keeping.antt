@@ -115,10 +115,9 @@ open_node old key insts never more = record {
   entrances = λ e. (λ h. h, λ h. h);
 }
 
-pub entrance_kept : (old : Noted) (key : NodeKey) (into : InstKey) (entrances : List Entrance)
-    → HasMore old.entrances (record { from = key.inst; into = into; offset = offset_of key.sp }) entrances
-    → HasEntrance old key into (record { insts = old.insts; spots = old.spots; entrances = entrances })
-entrance_kept old key into entrances more = record { insts = λ x. (λ h. h, λ h. h); spots = λ s. (λ h. h, λ h. h); entrances = more }
+pub entrance_kept : (old : Noted) (x : Entrance) (entrances : List Entrance) → HasMore old.entrances x entrances
+    → HasEntrance old x (record { insts = old.insts; spots = old.spots; entrances = entrances })
+entrance_kept old x entrances more = record { insts = λ inst. (λ h. h, λ h. h); spots = λ s. (λ h. h, λ h. h); entrances = more }
 
 pub alike : (n : Noted) → AreAlike n n
 alike n = record { insts = λ inst. (λ h. h, λ h. h); spots = λ s. (λ h. h, λ h. h); entrances = λ e. (λ h. h, λ h. h) }

@@ -5,7 +5,9 @@ use Rattle.mask_states.specs.declared.keys.InstKey.{InstKey}
 use Rattle.mask_states.specs.declared.keys.Kind.TheVariants.{Vector}
 use Rattle.mask_states.specs.declared.keys.SpForm.TheVariants.{Closed}
 use Rattle.local_rules.specs.declared.local.Node.{Node}
+use Rattle.basics.specs.Items.{first_in}
 use Rattle.mask_states.specs.Keys.{root_inst}
+use Rattle.edge_rules.specs.Nest.{recurs, enters as by_node}
 use Rattle.nesting_bound.specs.declared.graph.Entered.{Entered}
 use Rattle.nesting_bound.specs.declared.graph.GraphInst.{GraphInst}
 use Rattle.nesting_bound.specs.declared.graph.Place.{Place}
@@ -30,6 +32,11 @@ module _ (n : Noted) (others : List InstKey) (gs : List GraphInst) (drawn : IsDr
     number_is : (inst : InstKey) → FamilyHasInst f inst → IsNumber keys (number_of keys inst) inst
     number_is inst h = numbered keys inst (subst (λ l. Contains l inst) is ((nesting.insts inst).1 h))
 
+    -- the upper instance of an edge is numbered: it has a node, or is the root
+    upper_is : (i j : InstKey) (depth : ℕ) → Entering task f i j depth → IsNumber keys (number_of keys i) i
+    upper_is i j depth (by_node node way back has same at e whole) = number_is i (node, has, same)
+    upper_is i j depth (recurs node has same cut top) = subst (λ (k : InstKey). IsNumber keys (number_of keys k) k) (sym top) (numbered keys root_inst (first_in root_inst others))
+
     entered : (i : ℕ) (e : Entered) → graph.EntersAlong gs i e → IsEntered task f keys i e
     entered i e h =
         let x = drawn.edges i e h in
@@ -37,7 +44,7 @@ module _ (n : Noted) (others : List InstKey) (gs : List GraphInst) (drawn : IsDr
         record {
           inst = x.entrance.from;
           into = x.entrance.into;
-          from = subst (λ j. IsNumber keys j x.entrance.from) x.from (number_is x.entrance.from (entering.node, entering.has, entering.same));
+          from = subst (λ j. IsNumber keys j x.entrance.from) x.from (upper_is x.entrance.from x.entrance.into x.entrance.offset entering);
           to = subst (λ j. IsNumberFor keys j x.entrance.into) x.into (stands keys x.entrance.into);
           entering = subst (Entering task f x.entrance.from x.entrance.into) x.at entering;
         }
@@ -49,7 +56,7 @@ module _ (n : Noted) (others : List InstKey) (gs : List GraphInst) (drawn : IsDr
           number = number_of keys i;
           edge = x.edge;
           enters = x.enters;
-          from = number_is i (entering.node, entering.has, entering.same);
+          from = upper_is i j offset entering;
           to = subst (λ k. IsNumberFor keys k j) x.into (stands keys j);
           at = sym x.at;
         }

@@ -5,7 +5,7 @@ use Rattle.avr_model.specs.Devices.{device_of, size_of}
 use Rattle.mask_states.specs.declared.keys.InstKey.{InstKey}
 use Rattle.mask_states.specs.declared.keys.NodeKey.{NodeKey}
 use Rattle.mask_states.specs.declared.keys.SpForm.TheVariants.{Closed}
-use Rattle.mask_states.specs.Keys.{root_inst, offset_of}
+use Rattle.mask_states.specs.Keys.{root_inst}
 use Rattle.local_rules.specs.declared.local.Node.{Node}
 use Rattle.round_rules.specs.Families.{Family, FamilyHas, FamilyHasInst}
 use Rattle.round_rules.specs.Rounds.{Entering, IsAcyclic, IsRootNeed, IsShallow}
@@ -21,7 +21,7 @@ pub record Spot : Type 0 where
   pub inst : InstKey
   pub offset : ℕ
 
--- a node of one instance, at this offset, enters another
+-- the second instance lies below the first at this depth: a node of the first enters it, or it is cut and the first is the root
 pub record Entrance : Type 0 where
   pub from : InstKey
   pub into : InstKey
@@ -46,12 +46,11 @@ pub record IsNodeNoted (old : Noted) (key : NodeKey) (new : Noted) : Type 0 wher
   pub spots : (s : Spot) → Contains new.spots s ↔ (Contains old.spots s ⊎ ((s.inst ≡ key.inst) × (key.sp ≡ Closed s.offset)))
   pub entrances : (e : Entrance) → Contains new.entrances e ↔ Contains old.entrances e
 
--- the notes grew by the entrance of this instance from a node of this key
-pub record HasEntrance (old : Noted) (key : NodeKey) (into : InstKey) (new : Noted) : Type 0 where
+-- the notes grew by this entrance
+pub record HasEntrance (old : Noted) (x : Entrance) (new : Noted) : Type 0 where
   pub insts : (inst : InstKey) → Contains new.insts inst ↔ Contains old.insts inst
   pub spots : (s : Spot) → Contains new.spots s ↔ Contains old.spots s
-  pub entrances : (e : Entrance) → Contains new.entrances e
-      ↔ (Contains old.entrances e ⊎ (e ≡ record { from = key.inst; into = into; offset = offset_of key.sp }))
+  pub entrances : (e : Entrance) → Contains new.entrances e ↔ (Contains old.entrances e ⊎ (e ≡ x))
 
 -- both have the same notes
 pub record AreAlike (m n : Noted) : Type 0 where

@@ -10,7 +10,7 @@ use crate::notes::{NotedEntrance, NotedSpot};
 use avr_model::listed::Listed;
 use indexmap::IndexSet;
 use mask_states::{EdgeKind, InstKey};
-use nesting_bound::{Entered, Graph, GraphInst, Place};
+use nesting_bound::{Entered, Graph, GraphInst, Place, Way};
 use std::alloc::{AllocError, Global};
 
 // The number of an instance: 0 for the root, by order for the others, and the number behind all for one without a note.
@@ -74,7 +74,7 @@ fn draw_spots(
     Ok(())
 }
 
-// The edges of entrances. The kind of an edge does not matter.
+// The edges of entrances. The way of an edge does not matter.
 fn draw_entrances(
     others: &IndexSet<InstKey>,
     entrances: &[NotedEntrance],
@@ -90,7 +90,7 @@ fn draw_entrances(
         instances[from].entered.push(Entered {
             node: 0,
             offset: entrance.offset(),
-            kind: EdgeKind::Call,
+            way: Way::Enters(EdgeKind::Call),
             into,
         })?;
     }

@@ -105,13 +105,18 @@ impl Nesting {
         }
     }
 
-    /// Notes that a node of this key, whose stack pointer is whole, enters an instance. It may have a note already.
-    pub fn note_entrance(&mut self, key: &NodeKey, into: &InstKey) -> Result<(), AllocError>
-        requires { offset_of key.now.sp ≤ SIZE }
-        ensures entrance { OnOk result (HasEntrance self.old key.now into.now self.new) }
+    /// Notes that the second instance lies below the first at this depth. It may have a note already.
+    pub fn note_entrance(
+        &mut self,
+        from: &InstKey,
+        into: &InstKey,
+        offset: u16,
+    ) -> Result<(), AllocError>
+        requires { offset ≤ SIZE }
+        ensures entrance { OnOk result (HasEntrance self.old (record { from = from.now; into = into.now; offset = offset }) self.new) }
         ensures once { OnOk result (AreOnce self.new.insts) }
     {
-        let entrance = NotedEntrance::new(key.inst, *into, key.offset());
+        let entrance = NotedEntrance::new(*from, *into, offset);
         let covered = self.covered;
         self.covered = false;
         self.allowances.leave(&entrance)?;

@@ -74,7 +74,7 @@ impl Hash for NotedSpot {
     }
 }
 
-// A node of one instance, at this offset of at most 16,384, enters another.
+// The second instance lies below the first, at this depth of at most 16,384.
 #[derive(Drop)]
 pub(crate) struct NotedEntrance {
     from: InstKey,

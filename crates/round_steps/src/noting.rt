@@ -4,16 +4,18 @@ ghost use Rattle.std.specs.Prelude.{◌≡◌, ◌≤◌, OnOk, Contains};
 ghost use Rattle.avr_model.specs.State.{SIZE};
 ghost use Rattle.mask_states.specs.Keys.{offset_of};
 ghost use Rattle.round_nesting.specs.Nestings.{AreOnce};
-ghost use Rattle.round_steps.specs.Notings.{blank, HasCallers, HasLeaver, HasEntrances, IsNoted, AreNoted};
+ghost use Rattle.round_steps.specs.Notings.{blank, HasCallers, HasLeaver, HasEntrances, EntersBy, EnterBy, RecursBy, IsNoted, AreNoted};
 ghost use Rattle.round_steps.specs.declared.looking.Look as look_type;
 
 use crate::looking::Look;
+use call_graph::Task;
 use call_graph::ways::Way;
 use local_rules::Exit;
-use mask_states::{EdgeKind, NodeKey};
+use mask_states::{EdgeKind, InstKey, NodeKey};
 use round_nesting::Nesting;
 use round_table::{Crossing, Crossings};
 use std::alloc::{AllocError, Global};
+use vector_table::Assumptions;
 
 /// The notes of visits.
 #[derive(Drop)]
@@ -26,18 +28,54 @@ pub struct Notes {
     pub nesting: Nesting,
 }
 
+// Notes that a node enters an instance, unless that is cut.
+fn note_entry(
+    nesting: &mut Nesting,
+    assumptions: &Assumptions,
+    key: &NodeKey,
+    into: &InstKey,
+) -> Result<(), AllocError>
+    requires small { offset_of key.now.sp ≤ SIZE }
+    requires once { AreOnce nesting.old.insts }
+    ensures entrances { OnOk result (HasEntrances nesting.old (EntersBy assumptions.now key.now into.now) nesting.new) }
+    ensures once { OnOk result (AreOnce nesting.new.insts) }
+{
+    if into.cut(assumptions).is_some() {
+        return Ok(());
+    }
+    nesting.note_entrance(&key.inst, into, key.offset())
+}
+
+// Notes that the instance of a node lies below the root, if it is cut.
+fn note_recur(
+    nesting: &mut Nesting,
+    assumptions: &Assumptions,
+    inst: &InstKey,
+) -> Result<(), AllocError>
+    requires once { AreOnce nesting.old.insts }
+    ensures entrances { OnOk result (HasEntrances nesting.old (RecursBy assumptions.now inst.now) nesting.new) }
+    ensures once { OnOk result (AreOnce nesting.new.insts) }
+{
+    // These entries are those of a valid list of assumptions.
+    let _entries = assumptions.entries();
+    match inst.cut(assumptions) {
+        None => Ok(()),
+        Some(depth) => nesting.note_entrance(&InstKey::root(), inst, depth),
+    }
+}
+
 // Notes each instance that a node enters.
 fn note_ways(
     callers: &mut Crossings,
     nesting: &mut Nesting,
-    alloc: Global,
+    task: &Task<'_>,
     key: &NodeKey,
     ways: &[Way],
 ) -> Result<(), AllocError>
     requires small { offset_of key.now.sp ≤ SIZE }
     requires once { AreOnce nesting.old.insts }
     ensures callers { OnOk result (HasCallers callers.old key.now ways.now callers.new) }
-    ensures entrances { OnOk result (HasEntrances nesting.old key.now ways.now nesting.new) }
+    ensures entrances { OnOk result (HasEntrances nesting.old (EnterBy task.now.assumptions.now key.now ways.now) nesting.new) }
     ensures once { OnOk result (AreOnce nesting.new.insts) }
 {
     for at in 0..ways.len() {
@@ -52,8 +90,8 @@ fn note_ways(
                 delay: key.delay,
             },
         };
-        callers.add(alloc, way.inst, caller)?;
-        nesting.note_entrance(key, &way.inst)?;
+        callers.add(task.alloc, way.inst, caller)?;
+        note_entry(nesting, task.assumptions, key, &way.inst)?;
     }
     Ok(())
 }
@@ -93,26 +131,27 @@ impl Notes {
     }
 
     // Notes the result of one visit.
-    fn note(&mut self, alloc: Global, x: &Look) -> Result<(), AllocError>
+    fn note(&mut self, task: &Task<'_>, x: &Look) -> Result<(), AllocError>
         requires { offset_of x.now.key.sp ≤ SIZE }
-        ensures noted { OnOk result (IsNoted self.old x.now self.new) }
+        ensures noted { OnOk result (IsNoted task.now.assumptions.now self.old x.now self.new) }
         ensures once { OnOk result (AreOnce self.new.nesting.insts) }
     {
         self.nesting.note_node(&x.key)?;
-        note_ways(&mut self.callers, &mut self.nesting, alloc, &x.key, &x.ways)?;
-        note_leaver(&mut self.leavers, alloc, &x.key, x.part.exit)?;
+        note_recur(&mut self.nesting, task.assumptions, &x.key.inst)?;
+        note_ways(&mut self.callers, &mut self.nesting, task, &x.key, &x.ways)?;
+        note_leaver(&mut self.leavers, task.alloc, &x.key, x.part.exit)?;
         Ok(())
     }
 
     /// Notes the results of these visits.
-    pub fn note_all(&mut self, alloc: Global, looks: &[Look]) -> Result<(), AllocError>
+    pub fn note_all(&mut self, task: &Task<'_>, looks: &[Look]) -> Result<(), AllocError>
         requires small { (x : look_type.Look) → Contains looks.now x → offset_of x.key.sp ≤ SIZE }
         requires once { AreOnce self.old.nesting.insts }
-        ensures noted { OnOk result (AreNoted self.old looks.now self.new) }
+        ensures noted { OnOk result (AreNoted task.now.assumptions.now self.old looks.now self.new) }
         ensures once { OnOk result (AreOnce self.new.nesting.insts) }
     {
         for at in 0..looks.len() {
-            self.note(alloc, &looks[at])?;
+            self.note(task, &looks[at])?;
         }
         Ok(())
     }

@@ -10,10 +10,10 @@ ghost use Rattle.call_graph.specs.Tasks.{task_of};
 use crate::waypoint::Waypoint;
 use call_graph::{Filled, Task, Worked};
 use certificate::Certificate;
-use family_graph::{deepest_chain, entered_by};
+use family_graph::{are_rooted, deepest_chain, entered_by};
 use flash_image::Flash;
 use mask_states::EdgeKind;
-use nesting_bound::Link;
+use nesting_bound::{Link, Way};
 use std::alloc::AllocError;
 
 // The interrupt by which the chain continues from a place, if it is one.
@@ -25,7 +25,7 @@ fn add_interrupt(
 ) -> Result<(), AllocError>
     ensures { OnOk result (points.new.items ≡ points.old.items ++ interrupt_of flash.now nodes.now link.now) }
 {
-    if let Some(EdgeKind::Interrupt(vector, clears)) = link.kind {
+    if let Some(Way::Enters(EdgeKind::Interrupt(vector, clears))) = link.way {
         if let Some(node) = nodes.as_slice().get(link.node as usize) {
             points.push(Waypoint {
                 pc: node.key.pc,
@@ -51,7 +51,8 @@ fn interrupts(task: &Task<'_>, nodes: &Filled, links: &[Link]) -> Result<Vec<Way
     Ok(points)
 }
 
-// The interrupts of the deepest chain of a certificate's family, whose nodes meet the conditions.
+// The interrupts of the deepest chain of a certificate's family, whose nodes meet the conditions; none if a cut instance lacks its first
+// node, which is so for no family of the rounds.
 pub(crate) fn waypoints(
     task: &Task<'_>,
     certificate: &Certificate,
@@ -63,6 +64,9 @@ pub(crate) fn waypoints(
     requires landings { AreLandings (task_of task.now) family.now.nodes family.now.landings }
     ensures { IfOk result (λ points. AreInterrupts (task_of task.now) family.now.nodes points.items) }
 {
+    if !are_rooted(task, &family.nodes) {
+        return Ok(Vec::new(task.alloc));
+    }
     let ways = entered_by(task, family)?;
     let deepest = deepest_chain(task, certificate, &family.nodes, &ways)?;
     interrupts(task, &family.nodes, deepest.links.as_slice())

@@ -11,7 +11,7 @@ use super::edges::flash_on;
 use avr_model::device::Device;
 use call_graph::Task;
 use certificate::Certificate;
-use chain_explain::{Explanation, Part, explain};
+use chain_explain::{Explanation, Part, PartPlace, explain};
 use fixpoint::solve;
 use flash_image::Flash;
 use std::alloc::Global;
@@ -121,7 +121,12 @@ fn is_taken(task: &Task<'_>, certificate: &Certificate, row: &Row) -> bool
 }
 
 fn is_link(part: &Part, due: &Link) -> bool {
-    part.pc == due.0 && part.adds == due.1 && part.walk.as_slice() == due.2
+    match &part.place {
+        PartPlace::Node(pc, walk) => {
+            *pc == due.0 && part.adds == due.1 && walk.as_slice() == due.2
+        }
+        PartPlace::Recur(_) => false,
+    }
 }
 
 fn is_chain(found: &Explanation, due: &[Link]) -> bool {

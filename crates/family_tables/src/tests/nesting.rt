@@ -9,7 +9,7 @@ use avr_model::device::SIZE;
 use avr_model::listed::Listed;
 use mask_states::{EdgeKind, InstKey, Kind};
 use nesting_bound::{
-    ComposeFault, Composed, Entered, Graph, GraphInst, Link, Place, chain, compose,
+    ComposeFault, Composed, Entered, Graph, GraphInst, Link, Place, Way, chain, compose,
 };
 use std::alloc::{AllocError, Global};
 use vector_table::Masks;
@@ -19,10 +19,13 @@ const NONE: u8 = 0;
 
 const CALL: u8 = 1;
 
+// A recur edge of the root.
+const RECUR: u8 = 255;
+
 // A node and an offset.
 type At = (u32, u16);
 
-// A node, an offset, the kind of the entry, and the entered instance.
+// A node, an offset, the kind of the entry or `RECUR`, and the instance below.
 type Edge = (u32, u16, u8, u32);
 
 // The kind of its entry, its entry, its places and its edges.
@@ -45,11 +48,20 @@ enum Wanted {
     Placeless,
 }
 
-fn kind(number: u8) -> EdgeKind {
-    if number == CALL {
-        EdgeKind::Call
-    } else {
-        EdgeKind::Interrupt(number, false)
+fn way(number: u8) -> Way {
+    match number {
+        CALL => Way::Enters(EdgeKind::Call),
+        RECUR => Way::Recur,
+        _ => Way::Enters(EdgeKind::Interrupt(number, false)),
+    }
+}
+
+fn is_way(way: Option<Way>, number: u8) -> bool {
+    match way {
+        None => number == NONE,
+        Some(Way::Recur) => number == RECUR,
+        Some(Way::Enters(EdgeKind::Interrupt(vector, _))) => number == vector,
+        Some(Way::Enters(_)) => number == CALL,
     }
 }
 
@@ -77,11 +89,11 @@ fn add_places(list: &mut Vec<Place>, rows: &[At]) -> Result<(), AllocError> {
 
 fn add_edges(list: &mut Vec<Entered>, rows: &[Edge]) -> Result<(), AllocError> {
     for &(node, offset, by, into) in rows {
-        let kind = kind(by);
+        let way = way(by);
         list.push(Entered {
             node,
             offset,
-            kind,
+            way,
             into,
         })?;
     }
@@ -122,8 +134,7 @@ fn graph(alloc: Global, rows: &[Inst]) -> Result<Graph, AllocError> {
 
 fn is_link(link: &Link, step: Step) -> bool {
     let (inst, node, depth, by) = step;
-    let kind = if by == NONE { None } else { Some(kind(by)) };
-    (link.inst, link.node, link.depth) == (inst, node, depth) && link.kind == kind
+    (link.inst, link.node, link.depth) == (inst, node, depth) && is_way(link.way, by)
 }
 
 fn are_links(links: &[Link], steps: &[Step]) -> bool {

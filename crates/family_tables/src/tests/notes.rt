@@ -49,7 +49,7 @@ fn take(nesting: &mut Nesting, note: Note) -> Result<(), AllocError> {
     match note {
         Note::Node(inst, offset) => nesting.note_node(&node(inst, offset)),
         Note::Entrance(from, offset, into) => {
-            nesting.note_entrance(&node(from, offset), &key(into.0, into.1))
+            nesting.note_entrance(&key(from.0, from.1), &key(into.0, into.1), offset.min(SIZE))
         }
     }
 }

@@ -6,6 +6,7 @@ use Rattle.edge_rules.specs.Edges.{AreEdges}
 use Rattle.call_graph.specs.declared.landing.Landing.{Landing}
 use Rattle.call_graph.specs.Landings.{AreLandingsTo, landings_by}
 use Rattle.call_graph.proofs.Landed.{landed_more}
+use Rattle.mask_states.specs.Keys.{root_inst}
 use Rattle.certificate.specs.Insts.{inst_keys}
 use Rattle.cert_check.specs.Demands.{IsLeastOffered, LeadsToNode, GapAt, KeyBelow, demands_of, AllBelong}
 use Rattle.cert_check.proofs.Passing.{key_belongs, targets, gap_first, targets_belong, goes_on}
@@ -38,6 +39,9 @@ add_demands-requires-clause-own c =
     let belong = subst (λ i. AllBelong i c.args.site.now.nodes.now) (sym c.instances.ensures) c.requires.belong in
     key_belongs insts c.args.site.now.nodes.now c.args.at c.key-key.result.now belong c.key-key.ensures
 
+pub add_demands-requires-clause-root : goal.add_demands-requires-clause-root
+add_demands-requires-clause-root c = subst (λ i. Contains (inst_keys i) root_inst) (sym c.instances.ensures) c.requires.root
+
 pub add_demands-requires-clause-there : goal.add_demands-requires-clause-there
 add_demands-requires-clause-there c =
     let task = task_of c.args.task.now in
@@ -65,8 +69,8 @@ returns c =
     let least : IsLeastOffered (LeadsToNode (has_pairs task.assumptions) own nodes) (GapAt (has_pairs task.assumptions) own nodes) KeyBelow c.as_slice.result.now None =
     subst₂ (λ b l. IsLeastOffered (LeadsToNode b own nodes) (GapAt b own nodes) KeyBelow c.as_slice.result.now l) c.requires.followed c.in_default.is c.in_ok-gap.ensures.gap in
     let clear = subst (λ l. IsLeastOffered (LeadsToNode (has_pairs task.assumptions) own nodes) (GapAt (has_pairs task.assumptions) own nodes) KeyBelow l None) c.as_slice.ensures least in
-    let more : c.add_demands.new.demands.items ≡ c.args.gathered.now.demands.items ++ demands_of claim.instances c.key-key.result.now edges =
-    subst₂ (λ i l. c.add_demands.new.demands.items ≡ c.args.gathered.now.demands.items ++ demands_of i c.key-key.result.now l) c.instances.ensures c.as_slice-2.ensures
+    let more : c.add_demands.new.demands.items ≡ c.args.gathered.now.demands.items ++ demands_of task.assumptions claim.instances c.key-key.result.now edges =
+    subst₂ (λ i l. c.add_demands.new.demands.items ≡ c.args.gathered.now.demands.items ++ demands_of task.assumptions i c.key-key.result.now l) c.instances.ensures c.as_slice-2.ensures
     c.in_ok-add_demands.ensures in (
       goes_on task own claim.instances nodes c.args.at c.args.gathered.now.demands.items c.requires.before.0 n.0 n.1 edges are
           c.key-key.result.now c.add_demands.new.demands.items c.key-key.ensures clear more,

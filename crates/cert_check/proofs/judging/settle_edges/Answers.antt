@@ -29,9 +29,15 @@ weigh-requires-clause-inside c =
     let claim = c.args.certificate.now in
     let nodes = c.args.nodes.now in
     let belong = nodes_belong task claim nodes c.requires.claim c.requires.filled in
+    let root = landed_belongs claim.instances nodes (reset_node task.assumptions) belong c.requires.reset.0 in
     let found = subst (IsGathering task claim.nodes claim.instances nodes) c.in-Accepted.is c.in_ok-demands.ensures in
     subst (AreDemandsInside claim.instances) (sym c.deref.ensures.value)
-    (all_inside task claim.instances nodes (are_instances claim c.requires.claim) belong (λ n e h i. (found.0 n e h i).0) c.in-Accepted.field-0.demands.items found.1)
+    (all_inside task claim.instances nodes (are_instances claim c.requires.claim) belong root (λ n e h i. (found.0 n e h i).0) c.in-Accepted.field-0.demands.items found.1)
+
+pub gather-requires-clause-root : goal.gather-requires-clause-root
+gather-requires-clause-root c =
+    landed_belongs c.args.certificate.now.instances c.args.nodes.now (reset_node c.args.task.now.assumptions.now)
+    (nodes_belong (task_of c.args.task.now) c.args.certificate.now c.args.nodes.now c.requires.claim c.requires.filled) c.requires.reset.0
 
 pub weigh-requires-clause-root : goal.weigh-requires-clause-root
 weigh-requires-clause-root c =
@@ -44,8 +50,9 @@ returns-in-Accepted-weigh c =
     let claim = c.args.certificate.now in
     let nodes = c.args.nodes.now in
     let belong = nodes_belong task claim nodes c.requires.claim c.requires.filled in
+    let root = landed_belongs claim.instances nodes (reset_node task.assumptions) belong c.requires.reset.0 in
     let found = subst (IsGathering task claim.nodes claim.instances nodes) c.in-Accepted.is c.in_ok-demands.ensures in
-    let all = decided task claim nodes (are_instances claim c.requires.claim) belong found.0 c.in-Accepted.field-0.demands.items found.1 c.requires.device c.requires.reset c.requires.taken.faultless
+    let all = decided task claim nodes (are_instances claim c.requires.claim) belong root found.0 c.in-Accepted.field-0.demands.items found.1 c.requires.device c.requires.reset c.requires.taken.faultless
     c.weigh.result (subst (λ ds. IsWeighed task.flash claim task.assumptions ds c.weigh.result) c.deref.ensures.value c.weigh.ensures) in
     let met = subst (Decides task claim nodes) c.in-Accepted-weigh.is all in
     (met.0, found.2)
@@ -56,8 +63,9 @@ returns-in-Accepted c =
     let claim = c.args.certificate.now in
     let nodes = c.args.nodes.now in
     let belong = nodes_belong task claim nodes c.requires.claim c.requires.filled in
+    let root = landed_belongs claim.instances nodes (reset_node task.assumptions) belong c.requires.reset.0 in
     let found = subst (IsGathering task claim.nodes claim.instances nodes) c.in-Accepted.is c.in_ok-demands.ensures in
-    let all = decided task claim nodes (are_instances claim c.requires.claim) belong found.0 c.in-Accepted.field-0.demands.items found.1 c.requires.device c.requires.reset c.requires.taken.faultless
+    let all = decided task claim nodes (are_instances claim c.requires.claim) belong root found.0 c.in-Accepted.field-0.demands.items found.1 c.requires.device c.requires.reset c.requires.taken.faultless
     c.weigh.result (subst (λ ds. IsWeighed task.flash claim task.assumptions ds c.weigh.result) c.deref.ensures.value c.weigh.ensures) in
     subst (Decides task claim nodes) c.in-Rejected-weigh.is all
 

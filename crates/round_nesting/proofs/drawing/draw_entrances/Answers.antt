@@ -3,6 +3,7 @@ use Rattle.std.proofs.lemmas.Option.{slice_get-get_or}
 use Rattle.mask_states.specs.declared.keys.InstKey.{InstKey}
 use Rattle.mask_states.specs.declared.keys.EdgeKind.TheVariants.{Call}
 use Rattle.mask_states.specs.Keys.{root_inst}
+use Rattle.nesting_bound.specs.declared.graph.Way.TheVariants.{Enters}
 use Rattle.nesting_bound.specs.declared.graph.Entered.{Entered}
 use Rattle.nesting_bound.specs.declared.graph.GraphInst.{GraphInst}
 use Rattle.round_nesting.specs.Drawn.{number_of}
@@ -16,7 +17,7 @@ loop-entrance-preserved c spots drawn =
     let keys : List InstKey = root_inst ∷ c.args.others.now.keys in
     let gs : List GraphInst = c.loop-entrance.instances in
     let before = c.loop-entrance.invariant spots drawn in
-    let edge : Entered = record { node = 0; offset = c.offset.result; kind = Call; into = c.number-into.result } in
+    let edge : Entered = record { node = 0; offset = c.offset.result; way = Enters Call; into = c.number-into.result } in
     let g : GraphInst = slice_index_or gs c.number-from.result c.index-instances-from.result in
     let h : GraphInst = record { key = g.key; offsets = g.offsets; entered = c.push.new.self } in
     let lt : c.number-from.result < length gs = omega (arith, c.number-from.ensures.is, number_within c.from.result.now keys, before.count) in

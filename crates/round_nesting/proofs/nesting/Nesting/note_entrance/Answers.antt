@@ -1,5 +1,4 @@
-use Rattle.std.proofs.Common.{◌≡◌, ◌∙◌, ap, subst, sym, ℕ, true}
-use Rattle.mask_states.specs.Keys.{offset_of}
+use Rattle.std.proofs.Common.{◌≡◌, ◌∙◌, subst, sym, true}
 use Rattle.round_nesting.specs.Nestings.{Noted, Entrance, HasEntrance}
 use Rattle.round_nesting.specs.Drawn.{insts_of, HasMore}
 use Rattle.round_nesting.specs.Covers.{AllowsEntrance}
@@ -19,14 +18,12 @@ invariant_of-self-2 c =
 
 pub returns-clause-entrance : goal.returns-clause-entrance
 returns-clause-entrance c =
-    let x : Entrance = record { from = c.args.key.now.inst; into = c.args.into.now; offset = offset_of c.args.key.now.sp } in
-    let is : c.new-entrance.result ≡ x =
-    c.new-entrance.ensures ∙ ap (λ (offset : ℕ). record { from = c.args.key.now.inst; into = c.args.into.now; offset = offset }) c.offset.ensures in
+    let x : Entrance = record { from = c.args.from.now; into = c.args.into.now; offset = c.args.offset } in
     let old : Noted = record { insts = insts_of c.self.inside.has_root c.self.inside.others.keys; spots = c.self.inside.spots.keys; entrances = c.self.inside.entrances.keys } in
     let new : Noted = record { insts = old.insts; spots = old.spots; entrances = c.insert.new.self.keys } in
-    subst (λ (n : Noted). HasEntrance n c.args.key.now c.args.into.now new) c.self.view_is
-    (entrance_kept old c.args.key.now c.args.into.now c.insert.new.self.keys
-    (subst (λ (y : Entrance). HasMore c.self.inside.entrances.keys y c.insert.new.self.keys) is (inserted same_entrance entrance_is c.self.inside.entrances.keys c.insert.new.self.keys c.new-entrance.result c.in_ok-insert.ensures.keys)))
+    subst (λ (n : Noted). HasEntrance n x new) c.self.view_is
+    (entrance_kept old x c.insert.new.self.keys
+    (subst (λ (y : Entrance). HasMore c.self.inside.entrances.keys y c.insert.new.self.keys) c.new-entrance.ensures (inserted same_entrance entrance_is c.self.inside.entrances.keys c.insert.new.self.keys c.new-entrance.result c.in_ok-insert.ensures.keys)))
 
 pub returns-clause-once : goal.returns-clause-once
 returns-clause-once c = insts_once c.self.inside.has_root c.self.inside.others.keys c.self.invariant.apart
