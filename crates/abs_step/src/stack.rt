@@ -1,7 +1,8 @@
 //! Pushes and pops, and calls that make room.
 
-ghost use Rattle.std.specs.Prelude.{◌≡◌, ◌<◌, ◌++◌, ◌∷◌, [], length, IfOk, IfErr};
+ghost use Rattle.std.specs.Prelude.{◌≡◌, ◌<◌, ◌||◌, ◌++◌, ◌∷◌, [], length, IfOk, IfErr};
 ghost use Rattle.local_rules.specs.declared.local.NodeFault.TheVariants.{Memory};
+ghost use Rattle.avr_model.specs.Assumptions.{has_scratch};
 ghost use Rattle.local_rules.specs.Flow as flow;
 ghost use Rattle.abs_step.specs.Adding.{Adds};
 ghost use Rattle.abs_step.specs.Sites.{site_of};
@@ -28,6 +29,13 @@ fn with_slot(alloc: Global, state: &AbsState, slot: Slot<AbsByte>) -> Result<Abs
     let mut after = copied(alloc, state)?;
     after.slots.push(slot)?;
     Ok(after)
+}
+
+/// Whether the byte of a `push` is no one's to keep: the words around it make a compiler's small frame, or it has a `scratch` line.
+pub fn is_free(site: &Site<'_>, scratch: bool) -> bool
+    ensures { result ≡ (scratch || has_scratch site.now.assumptions.now site.now.key.now.pc) }
+{
+    scratch || site.assumptions.has_scratch(site.key.pc)
 }
 
 /// `push`: register `r` goes to a new slot. A scratch push makes a free slot, any other a guarded one.

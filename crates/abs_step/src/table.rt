@@ -15,7 +15,7 @@ use crate::flow::{
 use crate::moves::Moves;
 use crate::pointer_stores::{Indirect, pointer_write};
 use crate::site::Site;
-use crate::stack::{pop_row, push_row};
+use crate::stack::{is_free, pop_row, push_row};
 use crate::successors::{going_to, setting};
 use abs_state::AbsByte;
 use avr_decode::{far, near};
@@ -141,7 +141,7 @@ fn memory_row(
             AbsByte::unknown(),
         ),
         Instr::Pop(d) => pop_row(nodes, site, *d),
-        Instr::Push(r) => push_row(nodes, site, scratch, *r),
+        Instr::Push(r) => push_row(nodes, site, is_free(site, scratch), *r),
         Instr::In(d, i) => read_row(nodes, site, 1, *d, port(*i)),
         Instr::Out(i, r) => known_write(nodes, site, true, port(*i), *r),
         Instr::Cbi(i, b) => bit_row(nodes, site, *i, *b, false),
