@@ -10,27 +10,40 @@ from outcome import Refused
 from places import unjudged
 
 STYLE = """
-body { font: 15px/1.5 system-ui, "Segoe UI", Helvetica, Arial, sans-serif; color: #1d2430; background: #fff; max-width: 64rem; margin: 2rem auto; padding: 0 1.2rem; }
-h1 { font-size: 1.6rem; margin: 0; } h2 { font-size: 1.1rem; margin: 2.2rem 0 0.6rem; } h2 small { color: #5a6372; font-weight: 400; margin-left: 0.6rem; }
-.what { color: #5a6372; margin: 0.1rem 0 1.1rem; } .verdict { padding: 0.9rem 1.2rem; border-left: 7px solid; border-radius: 5px; margin: 0.6rem 0; }
-.verdict b { font-size: 1.5rem; margin-right: 0.3rem; } .green { border-color: #2e7d4f; background: #eaf6ee; }
-.amber { border-color: #c98a12; background: #fdf5e1; } .red { border-color: #b3261e; background: #fdecea; }
-.bar { display: flex; height: 2.4rem; border-radius: 4px; overflow: hidden; border: 1px solid #8a93a1; } .bar div { min-width: 2px; overflow: hidden; }
-.ends { display: flex; justify-content: space-between; color: #5a6372; font-size: 0.85rem; }
+:root { color-scheme: light dark; --page: #fff; --text: #1d2430; --soft: #5a6372; --line: #eef0f3; --grid: #e3e6ea; --edge: #8a93a1; --code: #f1f3f6; --end: #3b4453;
+  --static: #9aa4b2; --left: #eef1f5; --green: #2e7d4f; --green-back: #eaf6ee; --amber: #c98a12; --amber-back: #fdf5e1; --red: #b3261e; --red-back: #fdecea; }
+@media (prefers-color-scheme: dark) {
+  :root { --page: #14181f; --text: #dde3ec; --soft: #9aa5b5; --line: #262d38; --grid: #2a313c; --edge: #5b6573; --code: #232a35; --end: #c3cbd7;
+    --static: #6b7686; --left: #2a313c; --green: #4fae77; --green-back: #16291f; --amber: #d9a339; --amber-back: #2e2614; --red: #e0645c; --red-back: #33191a; } }
+body { font: 15px/1.5 system-ui, "Segoe UI", Helvetica, Arial, sans-serif; color: var(--text); background: var(--page); max-width: 64rem; margin: 2rem auto; padding: 0 1.2rem; }
+h1 { font-size: 1.6rem; margin: 0; overflow-wrap: anywhere; } h2 { font-size: 1.1rem; margin: 2.2rem 0 0.6rem; } h2 small { color: var(--soft); font-weight: 400; margin-left: 0.6rem; }
+.what { color: var(--soft); margin: 0.1rem 0 1.1rem; } .verdict { padding: 0.9rem 1.2rem; border-left: 7px solid; border-radius: 5px; margin: 0.6rem 0; }
+.verdict b { font-size: 1.5rem; margin-right: 0.3rem; } .green { border-color: var(--green); background: var(--green-back); }
+.amber { border-color: var(--amber); background: var(--amber-back); } .red { border-color: var(--red); background: var(--red-back); }
+.bar { display: flex; height: 2.4rem; border-radius: 4px; overflow: hidden; border: 1px solid var(--edge); } .bar div { min-width: 2px; overflow: hidden; }
+.ends { display: flex; justify-content: space-between; color: var(--soft); font-size: 0.85rem; }
 .keys { display: flex; flex-wrap: wrap; gap: 0.3rem 1.5rem; margin: 0.5rem 0 0; padding: 0; list-style: none; }
 .keys i { display: inline-block; width: 0.9rem; height: 0.9rem; margin-right: 0.45rem; vertical-align: -0.1rem; border-radius: 2px; }
-svg { width: 100%; height: auto; display: block; font: 12px system-ui, "Segoe UI", Helvetica, Arial, sans-serif; } path { stroke: #fff; stroke-width: 1; }
-.in { fill: #fff; } .end { fill: #3b4453; } .axis { fill: #7a828e; font-size: 11px; } .grid { stroke: #e3e6ea; }
+.wide { overflow-x: auto; } svg { width: 100%; min-width: 47rem; height: auto; display: block; font: 12px system-ui, "Segoe UI", Helvetica, Arial, sans-serif; }
+path { stroke: var(--page); stroke-width: 1; }
+.in { fill: #fff; } .end { fill: var(--end); } .axis { fill: var(--soft); font-size: 11px; } .grid { stroke: var(--grid); }
 table { border-collapse: collapse; width: 100%; } td, th { padding: 0.25rem 0.7rem 0.25rem 0; vertical-align: top; text-align: left; }
-tr + tr td { border-top: 1px solid #eef0f3; } th { font-weight: 600; color: #5a6372; font-size: 0.85rem; } td.name { overflow-wrap: anywhere; width: 34%; }
+tr + tr td { border-top: 1px solid var(--line); } th { font-weight: 600; color: var(--soft); font-size: 0.85rem; } td.name { overflow-wrap: anywhere; width: 34%; }
 .count { text-align: right; width: 4.5rem; font-variant-numeric: tabular-nums; } .lengths { width: 32%; padding-top: 0.55rem; }
-.lengths div { display: flex; height: 0.8rem; } .lengths i { display: block; } code { font: 0.9em ui-monospace, Menlo, Consolas, monospace; background: #f1f3f6; padding: 0.05em 0.3em; border-radius: 3px; overflow-wrap: anywhere; }
-.mark { width: 0.8rem; } .mark i { display: inline-block; width: 0.65rem; height: 0.65rem; border-radius: 50%; } .soft { color: #5a6372; }
+.lengths div { display: flex; height: 0.8rem; } .lengths i { display: block; } li { overflow-wrap: anywhere; }
+code { font: 0.9em ui-monospace, Menlo, Consolas, monospace; background: var(--code); padding: 0.05em 0.3em; border-radius: 3px; overflow-wrap: anywhere; }
+.mark { width: 0.8rem; } .mark i { display: inline-block; width: 0.65rem; height: 0.65rem; border-radius: 50%; } .soft { color: var(--soft); }
 ul { padding-left: 1.2rem; margin: 0; } dt { font-weight: 600; margin-top: 0.6rem; } dd { margin: 0; }
+@media (max-width: 40rem) {
+  body { margin: 1rem auto; padding: 0 0.8rem; } h2 small { display: block; margin-left: 0; } .verdict { padding: 0.7rem 0.8rem; }
+  .lengths, tr:not(.place) th:last-child { display: none; } td.name { width: auto; } .count { width: 3.4rem; }
+  .place { display: block; position: relative; padding: 0.3rem 0 0.3rem 1.2rem; border-top: 1px solid var(--line); } tr.place td { display: block; border: 0; padding: 0; }
+  tr.place .mark { position: absolute; left: 0; } }
 """
-STATIC, LEFT, BOTH, STACK = "#9aa4b2", "#eef1f5", "#b3261e", flame.CALLS[0]
+STATIC, LEFT, BOTH, STACK = "var(--static)", "var(--left)", "var(--red)", flame.CALLS[0]
 OWN, WITH_CALLS, WITH_INTERRUPTS = "#3f6fb5", "#9dbbe3", "#f0b27e"
-GREEN, AMBER = "#2e7d4f", "#d99a1e"
+GREEN, AMBER = "var(--green)", "var(--amber)"
+MOST_LETTERS = 120  # of a source line
 
 
 def with_code(text):
@@ -91,7 +104,9 @@ def tree(outcome):
     """The tree of needs, and the deepest chain of it in the same colours."""
     root, colours = flame.painted(outcome.graph)
     yield "<h2>Where the bytes go<small>width: bytes of stack; blue and green: calls; orange and red: interrupts</small></h2>"
+    yield '<div class="wide">'
     yield from flame.svg(root)
+    yield "</div>"
     yield from chain(outcome, colours)
 
 
@@ -107,11 +122,16 @@ def needs_table(outcome):
     yield "</table>"
 
 
+def cut(line):
+    """A source line as the page has room for it."""
+    return line if len(line) <= MOST_LETTERS else line[:MOST_LETTERS - 1] + "…"
+
+
 def place_row(it):
     where = f"<b>{escape(it.where().rstrip(': '))}</b> in {escape(it.title)}" if it.source else escape(it.title)
-    code = f"<code>{escape(it.code)}</code>" if it.code else ""
+    code = f"<code>{escape(cut(it.code))}</code>" if it.code else ""
     why = f'<div class="soft">judged: {escape(it.judged.why)}</div>' if it.judged else "".join(f'<div class="soft">{with_code(told)}</div>' for told in it.why())
-    return (f'<tr><td class="mark"><i style="background:{GREEN if it.judged else AMBER}"></i></td><td class="name">{where}</td><td>{code}{why}</td>'
+    return (f'<tr class="place"><td class="mark"><i style="background:{GREEN if it.judged else AMBER}"></i></td><td class="name">{where}</td><td>{code}{why}</td>'
             f'<td class="soft">{escape(it.count()) if it.words else ""}</td></tr>')
 
 
@@ -182,6 +202,6 @@ def html(outcome):
     name = escape(os.path.basename(firmware.path))
     taken = f", linked for {firmware.linked_for}" if firmware.linked_for not in (None, firmware.device.name) else ""
     return "\n".join([
-        '<!DOCTYPE html>', f'<html lang="en"><head><meta charset="utf-8"><title>Stack of {name}</title>', f"<style>{STYLE}</style></head><body>",
+        '<!DOCTYPE html>', f'<html lang="en"><head><meta charset="utf-8"><meta name="viewport" content="width=device-width, initial-scale=1"><title>Stack of {name}</title>', f"<style>{STYLE}</style></head><body>",
         f"<h1>Stack of {name}</h1>", f'<p class="what">{escape(firmware.device.name)}{escape(taken)}</p>',
         *(refused(outcome) if isinstance(outcome, Refused) else accepted(outcome)), "</body></html>", ""])
