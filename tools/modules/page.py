@@ -24,7 +24,7 @@ h1 { font-size: 1.6rem; margin: 0; overflow-wrap: anywhere; } h2 { font-size: 1.
 .ends { display: flex; justify-content: space-between; color: var(--soft); font-size: 0.85rem; }
 .keys { display: flex; flex-wrap: wrap; gap: 0.3rem 1.5rem; margin: 0.5rem 0 0; padding: 0; list-style: none; }
 .keys i { display: inline-block; width: 0.9rem; height: 0.9rem; margin-right: 0.45rem; vertical-align: -0.1rem; border-radius: 2px; }
-.wide { overflow-x: auto; } svg { width: 100%; min-width: 47rem; height: auto; display: block; font: 12px system-ui, "Segoe UI", Helvetica, Arial, sans-serif; }
+.wide { overflow-x: auto; margin: 0; } svg { width: 100%; min-width: 47rem; height: auto; display: block; font: 12px system-ui, "Segoe UI", Helvetica, Arial, sans-serif; }
 path { stroke: var(--page); stroke-width: 1; }
 .in { fill: #fff; } .end { fill: var(--end); } .axis { fill: var(--soft); font-size: 11px; } .grid { stroke: var(--grid); }
 table { border-collapse: collapse; width: 100%; } td, th { padding: 0.25rem 0.7rem 0.25rem 0; vertical-align: top; text-align: left; }
@@ -104,9 +104,9 @@ def tree(outcome):
     """The tree of needs, and the deepest chain of it in the same colours."""
     root, colours = flame.painted(outcome.graph)
     yield "<h2>Where the bytes go<small>width: bytes of stack; blue and green: calls; orange and red: interrupts</small></h2>"
-    yield '<div class="wide">'
+    yield '<figure class="wide">'
     yield from flame.svg(root)
-    yield "</div>"
+    yield "</figure>"
     yield from chain(outcome, colours)
 
 
