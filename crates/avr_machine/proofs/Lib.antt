@@ -8,6 +8,7 @@ pub mod Resetting
 pub mod Choosing
 pub mod Unheld
 pub mod Marking
+pub mod Ivsel
 pub mod Unpushed
 pub mod Quieting
 pub mod Loud

@@ -1,16 +1,18 @@
 -- Addresses at which no vector is enabled.
-use Rattle.std.proofs.Common.{◌≡◌, ◌∙◌, sym, ap, subst, refl, ℕ, ◌+◌, ◌<◌, ◌≤◌, ◌^◌, ◌==◌, ◌||◌, Bool, true, false, List, [], ◌∷◌, Option, arith}
-use Rattle.std.proofs.lemmas.Bool.{ne_eqb}
+use Rattle.std.proofs.Common.{◌≡◌, ◌∙◌, sym, ap, subst, refl, ℕ, ◌+◌, ◌<◌, ◌≤◌, ◌^◌, ◌==◌, ◌||◌, Bool, true, false, List, [], ◌∷◌, arith}
+use Rattle.std.proofs.lemmas.Bool.{ne_eqb, or_parts}
 use Rattle.std.proofs.lemmas.List.Elements.{All-head, All-tail}
 use Rattle.std.proofs.lemmas.Bool.Decides.{nat_tests}
 use Rattle.std.specs.Int.{bit_at}
 use Rattle.std.specs.List.{All, list_any}
+use Rattle.vector_table.specs.Moving.{has_ivsel}
 use Rattle.vector_table.proofs.AllLaws.{numbers_are_their_bits, enables_are_vectors}
+use Rattle.vector_table.proofs.AllLaws as tables
 use Rattle.avr_model.specs.declared.device.Device.{Device}
 use Rattle.avr_model.specs.declared.rows.Place.{Place}
 use Rattle.avr_model.specs.Bits.{number_of}
 use Rattle.avr_model.specs.Devices.{io_end}
-use Rattle.avr_model.specs.Vectors.{places, enable_count, has_enables, place_at, written_enable, written_enables, with_enable, held_of, io_bit, io_byte, kept_byte, is_vector, is_core, is_protected}
+use Rattle.avr_model.specs.Vectors.{places, enable_count, has_enables, place_at, written_enable, written_enables, with_enable, io_bit, io_byte, kept_byte, is_vector, is_core, is_protected}
 use Rattle.avr_model.proofs.AllLaws.{devices_are_alike, places_are_apart}
 
 -- places are in I/O
@@ -27,23 +29,26 @@ unfolding has_enables
 none_in_sram device a above = none_above (io_end device) (IsSound device) (λ p h. h.1.1.0) (places device) a above (places_are_apart.each device)
 
 -- every bit of the byte there is the input's
-pub free_byte : (device : Device) (enables address input : ℕ) → input < 256 → has_enables device address ≡ false → input ≡ io_byte device enables address input
-unfolding io_byte
-free_byte device enables address input small none =
-    numbers_are_their_bits.same 8 input (λ b. io_bit (held_of device address b) enables (bit_at input b)) small
-    (λ b lt. ap (λ (o : Option ℕ). io_bit o enables (bit_at input b)) (sym (enables_are_vectors.no_held device address b none)))
+pub free_byte : (device : Device) (still : Bool) (enables address input : ℕ) → input < 256 → (has_enables device address || has_ivsel device address) ≡ false
+    → input ≡ io_byte device still enables address input
+free_byte device still enables address input small none =
+    let parts = or_parts (has_enables device address) (has_ivsel device address) none in
+    tables.free_byte device still enables address input small parts.0 parts.1
 
 -- all bits of the byte there are 0
-pub no_byte : (device : Device) (enables address : ℕ) → has_enables device address ≡ false → 0 ≡ kept_byte device enables address
+pub no_byte : (device : Device) (enables address : ℕ) → (has_enables device address || has_ivsel device address) ≡ false → 0 ≡ kept_byte device enables address
 unfolding kept_byte number_of
-no_byte device enables address none = λ i. number_of 8 (λ b. io_bit (sym (enables_are_vectors.no_enable device address b none) i) enables 0)
+no_byte device enables address none =
+    let here = (or_parts (has_enables device address) (has_ivsel device address) none).0 in
+    λ i. number_of 8 (λ b. io_bit (sym (enables_are_vectors.no_enable device address b here) i) enables 0)
 
 -- a byte stored there keeps the enable bits
-pub enables_stay : (device : Device) (enables address byte : ℕ) → enables < 2 ^ enable_count device → has_enables device address ≡ false → enables ≡ written_enables device enables address byte
+pub enables_stay : (device : Device) (enables address byte : ℕ) → enables < 2 ^ enable_count device → (has_enables device address || has_ivsel device address) ≡ false → enables ≡ written_enables device enables address byte
 unfolding written_enables
 enables_stay device enables address byte small none =
+    let here = (or_parts (has_enables device address) (has_ivsel device address) none).0 in
     let f : ℕ → ℕ = λ k. written_enable (place_at device (k + 2) address) byte (bit_at enables k) in
-    let same : (k : ℕ) → bit_at enables k ≡ f k = λ k i. written_enable (sym (enables_are_vectors.none device (k + 2) address none) i) byte (bit_at enables k) in
+    let same : (k : ℕ) → bit_at enables k ≡ f k = λ k i. written_enable (sym (enables_are_vectors.none device (k + 2) address here) i) byte (bit_at enables k) in
     numbers_are_their_bits.same (enable_count device) enables f small (λ k lt. same k)
 
 core_below : (a : ℕ) → 0x5F < a → is_core a ≡ false

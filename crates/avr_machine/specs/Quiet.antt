@@ -3,12 +3,14 @@ use Rattle.std.specs.Prelude.{ℕ, ◌||◌, not, Bool, true, false, if◌then�
 use Rattle.avr_model.specs.declared.instruction.Instr.{Instr}
 use Rattle.avr_model.specs.declared.instruction.Instr.TheVariants as i
 use Rattle.avr_model.specs.declared.effect.Effect.{Effect}
-use Rattle.avr_model.specs.State.{State}
+use Rattle.avr_model.specs.State.{State, fall}
 use Rattle.avr_model.specs.declared.assumption.Entry.{Entry}
 use Rattle.avr_model.specs.declared.effect.Write.{Write}
-use Rattle.avr_model.specs.Assumptions.{is_fixed_site}
+use Rattle.avr_model.specs.Assumptions.{is_fixed_site, recur_line}
+use Rattle.avr_model.specs.Masks.{reads_masks}
+use Rattle.avr_model.specs.Sites.{is_scratch}
 use Rattle.avr_model.specs.Devices.{Program, device_of}
-use Rattle.avr_model.specs.Step.{Answer, Overflow, after, all_inside, is_unlisted, flagged_or, flag_by, live_write, flagged_write}
+use Rattle.avr_model.specs.Step.{Answer, Overflow, after, all_inside, is_refused, unless_within, first_of, flagged_or, flag_by, live_write, flagged_write, moves_vectors}
 use Rattle.avr_model.specs.Effects.{going_to}
 
 -- jumps, calls, returns, branches and skips
@@ -33,9 +35,17 @@ is_quiet instr = is_quiet_flow instr
 abbrev pub protected_at : Program → List Entry → ℕ → Write → Option ℕ
 protected_at words A pc w = if not (is_fixed_site words A pc) then flagged_write (device_of words) A pc (w ∷ []) else None
 
+-- IVSEL is read as 0: the list reads masks on the device of the words
+abbrev pub is_still : Program → List Entry → Bool
+is_still words A = reads_masks (device_of words) A
+
+-- the write sets IVSEL, under such a list
+abbrev pub moves_at : Program → List Entry → Write → Bool
+moves_at words A w = moves_vectors (device_of words) (is_still words A) (w ∷ [])
+
 -- the answer to an effect that pushes nothing and goes to no computed word
-abbrev pub store_answer : State → Option ℕ → Effect → Answer
-store_answer m protected e = flagged_or (flag_by m.pc (live_write m.memory (e.stores ++ [])) protected None) (after m false e)
+abbrev pub store_answer : State → Option ℕ → Bool → Effect → Answer
+store_answer m protected moves e = flagged_or (flag_by m.pc (live_write m.memory (e.stores ++ [])) protected None moves) (after m false e)
 
 -- the answer to a push after which the machine continues at a word
 abbrev pub push_effect_to : State → List Write → ℕ → ℕ → Effect
@@ -43,10 +53,14 @@ push_effect_to m pushes sp target = record (going_to m target) { sp = sp; is_ope
 
 abbrev pub push_answer : Bool → State → Option ℕ → List Write → ℕ → ℕ → Answer
 push_answer guarded m transfer pushes sp target =
-    if all_inside m.device pushes || is_unlisted transfer
-    then flagged_or (flag_by m.pc (live_write m.memory pushes) None transfer) (after m guarded (push_effect_to m pushes sp target))
+    if all_inside m.device pushes || is_refused transfer
+    then flagged_or (flag_by m.pc (live_write m.memory pushes) None transfer false) (after m guarded (push_effect_to m pushes sp target))
     else Overflow m.pc
+
+-- the word that a call enters, if that is refused: it is unlisted, or its `recur` line does not permit the call so deep
+abbrev pub refused_at : Program → List Entry → State → Option ℕ → ℕ → Option ℕ
+refused_at words A m unlisted word = first_of unlisted (if not (is_scratch words m.pc) then unless_within (recur_line A word) (fall m) word else None)
 
 -- the answer to a jump to a computed word
 abbrev pub jump_answer : State → Option ℕ → ℕ → Answer
-jump_answer m transfer target = flagged_or (flag_by m.pc None None transfer) (after m false (going_to m target))
+jump_answer m transfer target = flagged_or (flag_by m.pc None None transfer false) (after m false (going_to m target))

@@ -1,14 +1,14 @@
 //! The rows that push or go to a computed word, and interrupt entry.
 
-ghost use Rattle.std.specs.Prelude.{◌≡◌, ◌<◌, None, not, true};
+ghost use Rattle.std.specs.Prelude.{◌≡◌, ◌<◌, ◌||◌, None, not, true};
 ghost use Rattle.avr_model.specs.Devices.{wrapped};
 ghost use Rattle.avr_model.specs.Vectors.{is_vector, watchdog};
-ghost use Rattle.avr_model.specs.Assumptions.{jump_line};
+ghost use Rattle.avr_model.specs.Assumptions.{jump_line, recur_line, has_scratch};
 ghost use Rattle.avr_model.specs.Sites.{is_scratch};
-ghost use Rattle.avr_model.specs.State.{pair, register, minus16};
+ghost use Rattle.avr_model.specs.State.{pair, register, minus16, fall};
 ghost use Rattle.avr_model.specs.Effects.{set, way_back, further};
-ghost use Rattle.avr_model.specs.Step.{all_inside, unless_listed, entering, take, result_of, state_after};
-ghost use Rattle.avr_machine.specs.Quiet.{push_answer, jump_answer};
+ghost use Rattle.avr_model.specs.Step.{all_inside, unless_listed, unless_within, entering, take, result_of, state_after};
+ghost use Rattle.avr_machine.specs.Quiet.{push_answer, refused_at, jump_answer};
 
 use crate::flags::{flag_by, lists};
 use crate::pieces::way_back;
@@ -34,7 +34,7 @@ impl Processor {
         true
     }
 
-    // The answer to a push and transfer: overflow, unless it is an unlisted indirect call; then the flags; then done. If `guarded`, the
+    // The answer to a push and transfer: overflow, unless it is a refused call; then the flags; then done. If `guarded`, the
     // pushed bytes become live.
     #[tactic(auto, unfolding(avr_model::specs::Step::memory_after))]
     #[inline(always)]
@@ -53,7 +53,7 @@ impl Processor {
             return StepResult::Overflow(self.pc);
         }
         let live = self.memory.live_write(pushes);
-        match flag_by(self.pc, live, None, transfer) {
+        match flag_by(self.pc, live, None, transfer, false) {
             Some(flag) => StepResult::Flagged(flag),
             None => {
                 self.memory.push(pushes, guarded);
@@ -65,37 +65,67 @@ impl Processor {
         }
     }
 
-    /// `push`, guarded unless it makes a compiler's small frame.
-    pub fn push(&mut self, flash: &Flash, r: u16) -> StepResult
+    /// `push`, guarded unless it makes a compiler's small frame or has a `scratch` line.
+    pub fn push(&mut self, flash: &Flash, assumptions: &Assumptions, r: u16) -> StepResult
         requires { r < 32 }
-        ensures answer { result ≡ result_of (push_answer (not (is_scratch flash.now self.old.pc)) self.old None (set self.old.sp (register self.old r)) (minus16 self.old.sp 1) (further self.old 1)) }
-        ensures state { self.new ≡ state_after self.old (push_answer (not (is_scratch flash.now self.old.pc)) self.old None (set self.old.sp (register self.old r)) (minus16 self.old.sp 1) (further self.old 1)) }
+        ensures answer { result ≡ result_of (push_answer (not (is_scratch flash.now self.old.pc || has_scratch assumptions.now self.old.pc)) self.old None (set self.old.sp (register self.old r)) (minus16 self.old.sp 1) (further self.old 1)) }
+        ensures state { self.new ≡ state_after self.old (push_answer (not (is_scratch flash.now self.old.pc || has_scratch assumptions.now self.old.pc)) self.old None (set self.old.sp (register self.old r)) (minus16 self.old.sp 1) (further self.old 1)) }
     {
         let pushes = Writes::one(Write {
             address: self.sp,
             byte: self.register(r),
         });
-        let guarded = !flash.is_scratch(self.pc);
+        let guarded = !(flash.is_scratch(self.pc) || assumptions.has_scratch(self.pc));
         let sp = self.sp.wrapping_sub(1);
         let next = self.further(1);
         self.push_step(guarded, None, pushes.as_slice(), sp, next)
     }
 
-    /// A call of a word; pushes the return address `back`.
+    // The word that a call enters, if it has a `recur` line that permits no call so deep.
+    fn deep_call(&self, assumptions: &Assumptions, word: u16) -> Option<u16>
+        ensures { result ≡ unless_within (recur_line assumptions.now word) (fall self.now) word }
+    {
+        match assumptions.recur(word) {
+            Some(depth) if depth < self.fall() => Some(word),
+            _ => None,
+        }
+    }
+
+    // The word that a call enters, if that is refused: it is unlisted, or called too deep. A call of the next word that makes a compiler's
+    // small frame enters none.
+    fn refused(
+        &self,
+        flash: &Flash,
+        assumptions: &Assumptions,
+        unlisted: Option<u16>,
+        word: u16,
+    ) -> Option<u16>
+        ensures { result ≡ refused_at flash.now assumptions.now self.now unlisted word }
+    {
+        match unlisted {
+            Some(word) => Some(word),
+            None if flash.is_scratch(self.pc) => None,
+            None => self.deep_call(assumptions, word),
+        }
+    }
+
+    /// A call of a word, which `unlisted` is if the site does not list it; pushes the return address `back`.
     pub fn call(
         &mut self,
         flash: &Flash,
-        transfer: Option<u16>,
+        assumptions: &Assumptions,
+        unlisted: Option<u16>,
         target: u16,
         back: u16,
     ) -> StepResult
-        ensures answer { result ≡ result_of (push_answer (not (is_scratch flash.now self.old.pc)) self.old transfer (way_back self.old.sp back) (minus16 self.old.sp 2) target) }
-        ensures state { self.new ≡ state_after self.old (push_answer (not (is_scratch flash.now self.old.pc)) self.old transfer (way_back self.old.sp back) (minus16 self.old.sp 2) target) }
+        ensures answer { result ≡ result_of (push_answer (not (is_scratch flash.now self.old.pc)) self.old (refused_at flash.now assumptions.now self.old unlisted (wrapped self.old.device target)) (way_back self.old.sp back) (minus16 self.old.sp 2) target) }
+        ensures state { self.new ≡ state_after self.old (push_answer (not (is_scratch flash.now self.old.pc)) self.old (refused_at flash.now assumptions.now self.old unlisted (wrapped self.old.device target)) (way_back self.old.sp back) (minus16 self.old.sp 2) target) }
     {
         let pushes = way_back(self.sp, back);
         let sp = self.sp.wrapping_sub(2);
         let is_scratch = flash.is_scratch(self.pc);
-        self.push_step(!is_scratch, transfer, pushes.as_slice(), sp, target)
+        let refused = self.refused(flash, assumptions, unlisted, self.wrap(target));
+        self.push_step(!is_scratch, refused, pushes.as_slice(), sp, target)
     }
 
     /// The word in Z, and the word of flash that it stands for if the site does not list it.
@@ -117,7 +147,7 @@ impl Processor {
         ensures state { self.new ≡ state_after self.old (jump_answer self.old (unless_listed (jump_line assumptions.now self.old.pc) (wrapped self.old.device (pair self.old 30))) (pair self.old 30)) }
     {
         let (target, unlisted) = self.computed(assumptions);
-        match flag_by(self.pc, None, None, unlisted) {
+        match flag_by(self.pc, None, None, unlisted, false) {
             Some(flag) => StepResult::Flagged(flag),
             None => {
                 self.go_to(target);

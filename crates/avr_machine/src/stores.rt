@@ -1,15 +1,17 @@
 //! The rows that store.
 
 ghost use Rattle.std.specs.Prelude.{◌≡◌, ◌<◌, false, None};
+ghost use Rattle.avr_model.specs.Bits.{with_bit};
 ghost use Rattle.avr_model.specs.Devices.{words_of};
 ghost use Rattle.avr_model.specs.Sites.{pointer_register};
 ghost use Rattle.avr_model.specs.State.{pair, register};
+ghost use Rattle.avr_model.specs.Vectors.{kept_byte};
 ghost use Rattle.avr_model.specs.Effects.{delay_of_out, storing, store_effect, port, out_effect, bit_effect, pointed};
 ghost use Rattle.avr_model.specs.Step.{result_of, state_after};
-ghost use Rattle.avr_machine.specs.Quiet.{protected_at, store_answer};
+ghost use Rattle.avr_machine.specs.Quiet.{protected_at, moves_at, store_answer};
 
 use crate::bits::{has_bit, with_bit};
-use crate::flags::{flag_by, protected_at};
+use crate::flags::{flag_by, moves_at, protected_at};
 use crate::processor::Processor;
 use crate::transfers::pointed;
 use avr_decode::pointer_register;
@@ -21,22 +23,26 @@ use flash_image::Flash;
 use vector_table::Assumptions;
 
 impl Processor {
-    /// Stores a byte at a data address and continues at a word, unless the step is flagged: the byte is live, or `protected` is given.
+    /// Stores a byte at a data address and continues at a word, unless the step is flagged: the byte is live, `protected` is given, or the
+    /// byte sets IVSEL.
     #[tactic(auto, unfolding(avr_model::specs::Step::memory_after))]
     #[inline(always)]
     pub fn store_step(
         &mut self,
+        flash: &Flash,
+        assumptions: &Assumptions,
         protected: Option<u16>,
         write: Write,
         next: u16,
         delay: bool,
     ) -> StepResult
         requires { next < words_of self.old.device }
-        ensures answer { result ≡ result_of (store_answer self.old protected (record (storing self.old write.address write.byte) { pc = next; delay = delay })) }
-        ensures state { self.new ≡ state_after self.old (store_answer self.old protected (record (storing self.old write.address write.byte) { pc = next; delay = delay })) }
+        ensures answer { result ≡ result_of (store_answer self.old protected (moves_at flash.now assumptions.now write) (record (storing self.old write.address write.byte) { pc = next; delay = delay })) }
+        ensures state { self.new ≡ state_after self.old (store_answer self.old protected (moves_at flash.now assumptions.now write) (record (storing self.old write.address write.byte) { pc = next; delay = delay })) }
     {
         let live = self.memory.live_write(&[write]);
-        match flag_by(self.pc, live, protected, None) {
+        let moves = moves_at(flash, assumptions, write);
+        match flag_by(self.pc, live, protected, None, moves) {
             Some(flag) => StepResult::Flagged(flag),
             None => {
                 self.store(&write);
@@ -58,15 +64,16 @@ impl Processor {
         r: u16,
     ) -> StepResult
         requires { r < 32 }
-        ensures answer { result ≡ result_of (store_answer self.old (protected_at flash.now assumptions.now self.old.pc (record { address = pointed pointer (pair self.old (pointer_register pointer)); byte = register self.old r })) (store_effect self.old pointer r)) }
-        ensures state { self.new ≡ state_after self.old (store_answer self.old (protected_at flash.now assumptions.now self.old.pc (record { address = pointed pointer (pair self.old (pointer_register pointer)); byte = register self.old r })) (store_effect self.old pointer r)) }
+        ensures answer { result ≡ result_of (store_answer self.old (protected_at flash.now assumptions.now self.old.pc (record { address = pointed pointer (pair self.old (pointer_register pointer)); byte = register self.old r })) (moves_at flash.now assumptions.now (record { address = pointed pointer (pair self.old (pointer_register pointer)); byte = register self.old r })) (store_effect self.old pointer r)) }
+        ensures state { self.new ≡ state_after self.old (store_answer self.old (protected_at flash.now assumptions.now self.old.pc (record { address = pointed pointer (pair self.old (pointer_register pointer)); byte = register self.old r })) (moves_at flash.now assumptions.now (record { address = pointed pointer (pair self.old (pointer_register pointer)); byte = register self.old r })) (store_effect self.old pointer r)) }
     {
         let at = self.pair(pointer_register(pointer));
         let address = pointed(pointer, at);
         let byte = self.register(r);
         let protected = protected_at(flash, assumptions, self.pc, Write { address, byte });
         let live = self.memory.live_write(&[Write { address, byte }]);
-        match flag_by(self.pc, live, protected, None) {
+        let moves = moves_at(flash, assumptions, Write { address, byte });
+        match flag_by(self.pc, live, protected, None, moves) {
             Some(flag) => StepResult::Flagged(flag),
             None => {
                 self.move_pointer(pointer, at);
@@ -85,29 +92,56 @@ impl Processor {
     }
 
     /// `out`. If it sets I, one more instruction executes before any interrupt (own for `out`).
-    pub fn output(&mut self, address: u16, r: u16) -> StepResult
+    pub fn output(
+        &mut self,
+        flash: &Flash,
+        assumptions: &Assumptions,
+        address: u16,
+        r: u16,
+    ) -> StepResult
         requires address { address < 64 }
         requires r { r < 32 }
-        ensures answer { result ≡ result_of (store_answer self.old None (out_effect self.old (port address) (register self.old r))) }
-        ensures state { self.new ≡ state_after self.old (store_answer self.old None (out_effect self.old (port address) (register self.old r))) }
+        ensures answer { result ≡ result_of (store_answer self.old None (moves_at flash.now assumptions.now (record { address = port address; byte = register self.old r })) (out_effect self.old (port address) (register self.old r))) }
+        ensures state { self.new ≡ state_after self.old (store_answer self.old None (moves_at flash.now assumptions.now (record { address = port address; byte = register self.old r })) (out_effect self.old (port address) (register self.old r))) }
     {
         let address = IO + address;
         let byte = self.register(r);
         let next = self.further(1);
         let delay = self.turns_on(address, byte);
-        self.store_step(None, Write { address, byte }, next, delay)
+        self.store_step(
+            flash,
+            assumptions,
+            None,
+            Write { address, byte },
+            next,
+            delay,
+        )
     }
 
     /// `sbi` if `on`, else `cbi`: changes this bit, and leaves all other enable bits.
-    pub fn change_bit(&mut self, address: u16, index: u16, on: bool) -> StepResult
+    pub fn change_bit(
+        &mut self,
+        flash: &Flash,
+        assumptions: &Assumptions,
+        address: u16,
+        index: u16,
+        on: bool,
+    ) -> StepResult
         requires address { address < 64 }
         requires index { index < 8 }
-        ensures answer { result ≡ result_of (store_answer self.old None (bit_effect self.old (port address) index on)) }
-        ensures state { self.new ≡ state_after self.old (store_answer self.old None (bit_effect self.old (port address) index on)) }
+        ensures answer { result ≡ result_of (store_answer self.old None (moves_at flash.now assumptions.now (record { address = port address; byte = with_bit (kept_byte self.old.device self.old.enables (port address)) index on })) (bit_effect self.old (port address) index on)) }
+        ensures state { self.new ≡ state_after self.old (store_answer self.old None (moves_at flash.now assumptions.now (record { address = port address; byte = with_bit (kept_byte self.old.device self.old.enables (port address)) index on })) (bit_effect self.old (port address) index on)) }
     {
         let address = IO + address;
         let byte = with_bit(self.kept_byte(address), index, on);
         let next = self.further(1);
-        self.store_step(None, Write { address, byte }, next, false)
+        self.store_step(
+            flash,
+            assumptions,
+            None,
+            Write { address, byte },
+            next,
+            false,
+        )
     }
 }

@@ -1,4 +1,5 @@
-use Rattle.std.proofs.Common.{◌≤◌, length, refl, arith}
+use Rattle.std.proofs.Common.{◌≤◌, ◌∙◌, ◌||◌, ap, Bool, length, refl, arith}
+use Rattle.vector_table.specs.Moving.{has_ivsel}
 use Rattle.avr_machine.proofs.Marking.{unmarked, address_small, marked_too, all_marked}
 use Rattle.avr_machine.proofs.marked_device.MarkedDevice.new.Goals as goal
 
@@ -19,4 +20,4 @@ loop-place-preserved c =
 pub invariant_of-result : goal.invariant_of-result
 invariant_of-result c =
     let last : length c.places-place-items.result.now ≤ c.loop-place.place-index = omega (arith, c.loop-place-test.false) in
-    all_marked c.args.device c.places-place-items.result.now c.loop-place.place-index c.loop-place.marks c.places-place-items.ensures last c.loop-place.invariant
+    λ a. c.mark_ivsel.ensures a ∙ ap (λ (b : Bool). b || has_ivsel c.args.device a) (all_marked c.args.device c.places-place-items.result.now c.loop-place.place-index c.loop-place.marks c.places-place-items.ensures last c.loop-place.invariant a)

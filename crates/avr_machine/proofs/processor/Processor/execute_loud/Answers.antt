@@ -57,11 +57,11 @@ returns-in-Call-clause-state c first second loud = c.call.ensures.state ∙ ap (
 
 pub returns-in-Rcall-clause-answer : goal.returns-in-Rcall-clause-answer
 returns-in-Rcall-clause-answer c first second loud =
-    c.call-in-Rcall.ensures.answer ∙ ap result_of (rcall_answer c.args.flash.now c.args.assumptions.now c.args.self.now c.args.instr.now first second _ _ _ (c.in-Rcall.is ∙ ap (λ k. i.Rcall k) (sym c.get-in-Rcall.ensures.value)) c.further-in-Rcall-2.ensures.value (c.far.ensures ∙ ap (λ (m : State). far m.pc c.get-in-Rcall.result) c.further-in-Rcall.view_is))
+    c.call-in-Rcall.ensures.answer ∙ ap result_of (rcall_answer c.args.flash.now c.args.assumptions.now c.args.self.now c.args.instr.now first second _ _ _ (c.in-Rcall.is ∙ ap (λ k. i.Rcall k) (sym c.get-in-Rcall.ensures.value)) c.further-in-Rcall.ensures.value (c.far-target.ensures ∙ ap (λ (m : State). far m.pc c.get-in-Rcall.result) c.self-in-Rcall.view_is))
 
 pub returns-in-Rcall-clause-state : goal.returns-in-Rcall-clause-state
 returns-in-Rcall-clause-state c first second loud =
-    c.call-in-Rcall.ensures.state ∙ ap (state_after c.args.self.now) (rcall_answer c.args.flash.now c.args.assumptions.now c.args.self.now c.args.instr.now first second _ _ _ (c.in-Rcall.is ∙ ap (λ k. i.Rcall k) (sym c.get-in-Rcall.ensures.value)) c.further-in-Rcall-2.ensures.value (c.far.ensures ∙ ap (λ (m : State). far m.pc c.get-in-Rcall.result) c.further-in-Rcall.view_is))
+    c.call-in-Rcall.ensures.state ∙ ap (state_after c.args.self.now) (rcall_answer c.args.flash.now c.args.assumptions.now c.args.self.now c.args.instr.now first second _ _ _ (c.in-Rcall.is ∙ ap (λ k. i.Rcall k) (sym c.get-in-Rcall.ensures.value)) c.further-in-Rcall.ensures.value (c.far-target.ensures ∙ ap (λ (m : State). far m.pc c.get-in-Rcall.result) c.self-in-Rcall.view_is))
 
 pub returns-in-Icall-clause-answer : goal.returns-in-Icall-clause-answer
 returns-in-Icall-clause-answer c first second loud = c.call-in-Icall.ensures.answer ∙ ap result_of (icall_answer c.args.flash.now c.args.assumptions.now c.args.self.now c.args.instr.now first second _ _ _ c.in-Icall.is c.computed-target.ensures.unlisted c.further-in-Icall.ensures.value c.computed-target.ensures.target)

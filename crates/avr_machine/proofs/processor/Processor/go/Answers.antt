@@ -5,7 +5,7 @@ use Rattle.avr_model.specs.Sites.{instruction_at}
 use Rattle.avr_model.specs.State.{State}
 use Rattle.avr_model.specs.Effects.{effect_of}
 use Rattle.avr_model.specs.Step.{after, go, result_of, state_after}
-use Rattle.avr_machine.specs.Quiet.{is_quiet}
+use Rattle.avr_machine.specs.Quiet.{is_quiet, is_still}
 use Rattle.avr_machine.proofs.Quieting.{quiet_result, quiet_state}
 use Rattle.avr_machine.proofs.processor.Processor.go.Goals as goal
 
@@ -25,6 +25,6 @@ pub returns-then-execute_quiet-clause-state : goal.returns-then-execute_quiet-cl
 returns-then-execute_quiet-clause-state c =
     let m = c.args.self.now in
     c.execute_quiet.ensures.state
-    ∙ ap (λ t. if t then after m false (effect_of c.args.flash.now m c.in-Some.instr c.args.first c.args.second) else m) (quiet c)
+    ∙ ap (λ t. if t then after m false (effect_of c.args.flash.now (is_still c.args.flash.now c.args.assumptions.now) m c.in-Some.instr c.args.first c.args.second) else m) (quiet c)
     ∙ quiet_state c.args.flash.now c.args.assumptions.now m c.in-Some.instr c.args.first c.args.second (quiet c)
     ∙ ap (λ (o : Option Instr). state_after m (go c.args.flash.now c.args.assumptions.now m o c.args.first c.args.second)) (there c)
