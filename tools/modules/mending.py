@@ -16,10 +16,10 @@ from cures import REFUSAL
 from firmware import Firmware
 from lines import Lines
 from node_values import Nodes
-from program import DEVICES, OK, REFUSED, NoProgram, Program
+from program import DEVICES, OK, REFUSED, USAGE, NoProgram, Program
 from sites import frames_of
 from spec import MASKS, NOWHERE, is_unhandled
-from trials import DEVICE_LINES, Run, Stop, Trials, handled
+from trials import DEVICE_LINES, Run, Scope, Stop, Trials, handled, scope
 
 ROUNDS = 64
 MOST_TRIED = 8  # lines that are tried one by one where they aren't accepted together
@@ -49,7 +49,7 @@ class Analysis:
             raise NoProgram(f"analyse: status {status}: {text.strip()}")
         return status == OK, text
 
-    def trials(self, folder: str) -> Trials:
+    def trials(self, folder: str, certificate: Scope) -> Trials:
         """Trial runs that take each vector that has a handler, and each that a `never` line of this tool names, as far as a run takes so many. One
         that no known bit enables isn't taken without a handler: that it may come says nothing of the firmware."""
         has_handler, vectors = handled(self.elf, self.device), []
@@ -59,7 +59,9 @@ class Analysis:
             if not self.lines.is_given(word, "never") and (vector in has_handler or is_tried):
                 vectors.append(vector)
         vectors = sorted(sorted(vectors, key=lambda it: it not in has_handler)[:DEVICE_LINES])
-        return Trials(self.program(), folder, self.elf, self.device, vectors)
+        words = {it: self.device.vector_word(it) for it in vectors}
+        idle = [it for it in vectors if certificate.entered is not None and self.lines.has(words[it], "never") and words[it] not in certificate.entered]
+        return Trials(self.program(), folder, self.elf, self.device, vectors, idle)
 
     def admit(self, stop: Stop) -> Optional[str]:
         """The kind of the line that admits a stop, which is added; None where no line may."""
@@ -90,12 +92,15 @@ class Mending(Analysis):
         self.pinned: Set[Tuple[int, int]] = set()  # sites and targets that a trial run went to
         self.tried: Set[Tuple[int, str]] = set()  # lines under which no bound was found
         self.notes: List[Tuple[int, str]] = []
+        self.seeks = True  # whether runs as deep as the bound are sought
+        self.sought: Optional[str] = None  # the certificate behind the last search for one
+        self.told_of: Tuple[object, Optional[List[str]]] = None, None  # the last answer of `told`, and of what
         self.before_masks = self.lines
 
     def copy(self) -> "Mending":
         """The same with lines of its own, for a look at what another step would do."""
         other = Mending(self.firmware, self.folder, "", self.count)
-        other.lines, other.pinned, other.tried = self.lines.copy(), set(self.pinned), set(self.tried)
+        other.lines, other.pinned, other.tried, other.seeks = self.lines.copy(), set(self.pinned), set(self.tried), self.seeks
         other.refusal, other.certificate = self.refusal, self.certificate
         return other
 
@@ -218,13 +223,33 @@ class Mending(Analysis):
         self.refusal, self.certificate, self.stop = other.refusal, other.certificate, other.stop
         self.deepest, self.deepest_run = other.deepest, other.deepest_run
 
-    def told(self) -> Optional[List[str]]:
-        """What `premises --why` lists of the certificate; None where the program has no such command."""
+    def kept(self) -> str:
+        """The path of a file with the certificate."""
         path = os.path.join(self.folder, "told")
         with open(path, "w", encoding="ascii") as file:
             file.write(self.certificate or "")
-        lines = self.program().lines("premises", path, "--why")
-        return None if lines is None else lines[1:]
+        return path
+
+    def seek(self) -> None:
+        """Has a schedule sought that goes as deep as the bound, once for a certificate; it changes the schedule alone."""
+        if not self.seeks or self.sought == self.certificate:
+            return
+        told = self.told()
+        status, text = self.program().call("attain", self.kept())
+        if status not in (OK, USAGE):
+            raise NoProgram(f"attain: status {status}: {text.strip()}")
+        if status == OK:
+            self.certificate = text
+        self.sought, self.told_of = self.certificate, ((self.certificate, self.lines.text()), told)
+
+    def told(self) -> Optional[List[str]]:
+        """What `premises --why` lists of the certificate; None where the program has no such command."""
+        key = self.certificate, self.lines.text()
+        if self.told_of[0] == key:
+            return self.told_of[1]
+        lines = self.program().lines("premises", self.kept(), "--why")
+        self.told_of = key, None if lines is None else lines[1:]
+        return self.told_of[1]
 
     def wild_stores(self) -> List[int]:
         """The words of stores that may write a register that enables interrupts."""
@@ -279,10 +304,17 @@ class Mending(Analysis):
 
     def try_from(self, begin: int) -> int:
         """Trial runs from a number on, and all of them where none asks for a line; the number of the first that does."""
-        trials = self.trials(self.folder)
+        certificate = scope(self.certificate or "", self.told())
+        trials = self.trials(self.folder, certificate)
         number, self.stop = begin, None
+        if begin == 0 and self.count != 0 and not certificate.may_flag:
+            # runs can tell their depth alone: the long one, a search for one as deep as the bound, then the others
+            number, _ = trials.first_flagged(certificate, 1)
+            if not certificate.is_told(trials.deepest):
+                self.seek()
+                certificate = scope(self.certificate or "", self.told())
         while True:
-            number, stop = trials.first_flagged(self.count, number)
+            number, stop = trials.first_flagged(certificate, self.count, number)
             if stop is None:
                 break
             self.stop = self.stop or stop
@@ -293,6 +325,8 @@ class Mending(Analysis):
         if begin and stop is None:
             return self.try_from(0)
         self.deepest, self.deepest_run = trials.deepest, trials.deepest_run
+        if certificate.is_attained and self.count != 0:  # its own schedule is a run
+            self.deepest = max(certificate.bound, self.deepest or 0)
         return number
 
     def may_admit(self, stop: Stop) -> bool:

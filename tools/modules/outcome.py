@@ -174,7 +174,7 @@ def take(firmware: Firmware, spec: str, given: str, work: Mending, words: Any, f
     witness = accept(found, program, certificate, work.certificate)
     if witness == "open" and work.deepest is not None and work.deepest >= found.bound:
         found.witness, found.deepest = "attained", work.deepest_run  # a run of `simulate` is one of those of which `check` speaks
-    elif not words.no_attain:
+    elif not words.no_attain and work.sought != work.certificate:
         attain(found, program, certificate, witness)
     for command in (("report", certificate, "--json"), ("explain", certificate), ("premises", certificate, "--why")):
         program.begin(*command)
@@ -198,5 +198,6 @@ def judge(words: Any, folder: str) -> Outcome:
             spec = file.read()
         given = assumptions(firmware.elf, spec, firmware.device)
     work = Mending(firmware, folder, given, words.trials)
+    work.seeks = not words.no_attain
     work.run(words.plain)
     return refuse(firmware, spec, given, work) if work.refusal else take(firmware, spec, given, work, words, folder)

@@ -3,8 +3,11 @@
 import os
 import subprocess
 
+import progress
+
 OK, REJECTED, USAGE, SCHEDULE, REFUSED, DEVICES = 0, 1, 2, 9, 10, 14
 UNBUILT = 70  # the launcher's, where no proved program stands that is of its sources
+WORK = {"analyse": "analysing", "check": "checking", "attain": "seeking a run as deep as the bound"}  # what takes long, but for trial runs
 HERE = os.path.dirname(os.path.realpath(__file__))
 
 
@@ -40,6 +43,8 @@ class Program:
 
     def call(self, *words):
         """The status and the text of one command."""
+        if words[0] in WORK:
+            progress.at(WORK[words[0]])
         if words not in self.begun:
             self.begin(*words)
         try:

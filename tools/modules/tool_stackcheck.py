@@ -4,6 +4,7 @@ import sys
 import tempfile
 
 import cures
+import progress
 import reports
 import verdict
 from habits import FAULTS, Words, in_words
@@ -90,7 +91,7 @@ def main():
     words = read_words()
     try:
         reports.check_words(words)
-        with tempfile.TemporaryDirectory() as folder:
+        with tempfile.TemporaryDirectory() as folder, progress.Shown("stackcheck"):
             outcome = judge(words, folder)
             reports.complete(outcome, words, folder)
         keep(words, outcome)

@@ -2,9 +2,10 @@
 
 import os
 import re
-from typing import Iterator, List, NamedTuple, Optional, Tuple
+from typing import Iterable, Iterator, List, NamedTuple, Optional, Set, Tuple
 
 import opcodes
+import progress
 from candidates import code, start
 from devices import Device
 from elf import Elf
@@ -57,6 +58,29 @@ KINDS = (
 )
 
 
+class Scope(NamedTuple):
+    """What runs can still tell of a certificate: its bound, whether a run as deep is known, whether a step of a run may be flagged, and which
+    vectors with a `never` line a run may take before that (None where nothing tells)."""
+
+    bound: int
+    is_attained: bool
+    may_flag: bool
+    entered: Optional[Set[int]]
+
+    def is_told(self, deepest: Optional[int]) -> bool:
+        """Whether no further run can tell anything, after runs so deep."""
+        return not self.may_flag and (self.is_attained or deepest is not None and deepest >= self.bound)
+
+
+def scope(certificate: str, told: Optional[List[str]]) -> Scope:
+    """The scope of a certificate, by the lines that `premises` prints of it: a run is flagged at its places alone, or where it takes the vector of
+    one of its `never` lines."""
+    lines = certificate.splitlines()
+    bound = next(int(it.split()[1]) for it in lines if it.startswith("bound "))
+    entered = None if told is None else {int(it.split()[1], 16) for it in told if it.startswith("never ")}
+    return Scope(bound, "witness attained" in lines, told is None or bool(told), entered)
+
+
 class Run(NamedTuple):
     """A run as it can be done again: the command of `stackbound`, its file's text and the options behind it."""
 
@@ -99,10 +123,10 @@ def is_receiver(device: Device, vector: int) -> bool:
 
 class Trials:
     """Runs on one program, whose files are made in a folder. `deepest` is how deep they went before a flagged step, `deepest_run` the run; None
-    where none was done."""
+    where none was done. `idle` are those of the vectors that no run takes."""
 
-    def __init__(self, program: Program, folder: str, elf: Elf, device: Device, vectors: List[int]) -> None:
-        self.program, self.folder, self.device, self.vectors = program, folder, device, vectors
+    def __init__(self, program: Program, folder: str, elf: Elf, device: Device, vectors: List[int], idle: Iterable[int] = ()) -> None:
+        self.program, self.folder, self.device, self.vectors, self.idle = program, folder, device, vectors, set(idle)
         self.has_simulate = True
         self.deepest: Optional[int] = None
         self.deepest_run: Optional[Run] = None
@@ -213,6 +237,8 @@ class Trials:
         received = " ".join(f"{found[n % len(found)]:02X}" for n in range(MOST_RECEIVED))
         for n, vector in enumerate(self.vectors):
             first, period = kind.first + 7 * n, kind.period + 10 * n
+            if vector in self.idle:  # its request would only cost time
+                continue
             if kind.what == "bytes" and is_receiver(self.device, vector):
                 lines.append(f"bytes {vector} {first} {period} {received}")
             else:
@@ -222,11 +248,15 @@ class Trials:
     def short(self, number: int) -> Optional[Stop]:
         """The stop of a run of those behind a bound, by its number."""
         kind = KINDS[number % len(KINDS)]
+        progress.at(f"trial run {number + 1}")
         return self.polled(kind) if kind.what == "polls" or not self.has_simulate else self.asked(kind)
 
-    def first_flagged(self, count: Optional[int] = None, begin: int = 0) -> Tuple[int, Optional[Stop]]:
-        """The number and the stop of the first of these runs that is flagged, from a number on."""
-        for number in range(begin, len(KINDS) if count is None else count):
+    def first_flagged(self, scope: Scope, count: Optional[int] = None, begin: int = 0) -> Tuple[int, Optional[Stop]]:
+        """The number and the stop of the first of these runs that is flagged, from a number on, as long as they can tell something."""
+        end = len(KINDS) if count is None else count
+        for number in range(begin, end):
+            if scope.is_told(self.deepest):
+                break
             if stop := self.short(number):
                 return number, stop
-        return len(KINDS) if count is None else count, None
+        return end, None
