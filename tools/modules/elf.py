@@ -38,7 +38,7 @@ def what_else(data):
     """What a file is, where it is no linked ELF file of an AVR; None where it is one."""
     if data[:4] != b"\x7fELF":
         if re.match(rb"\s*:[0-9A-Fa-f]{10}", data):
-            return "is a file of Intel HEX, which has no names and no sections: give the ELF file from which it was made"
+            return "is a file of Intel HEX, which has no names and no sections: give the ELF file from which it was made, or read it with `stackcheck --device NAME`"
         if data[:7] == b"!<arch>":
             return "is a library (.a) and no linked firmware: give the ELF file that the linker writes"
         return "is no ELF file of an AVR"
@@ -51,7 +51,7 @@ def what_else(data):
 
 
 class Elf:
-    """`path` is the file's name, `flash` has 131,072 bytes (FF where nothing is placed), `code` the symbols of code by address, `all` the addresses of all names,
+    """`path` is the file's name, `flash` has 131,072 bytes (FF where nothing is placed), `placed` the begin and the end of each part of it, `code` the symbols of code by address, `all` the addresses of all names,
     `objects` address and size of those of data, `chip` the device as whose code it is read: that of its note, and else the one that stackbound
     takes."""
 
@@ -70,11 +70,12 @@ class Elf:
         head = struct.unpack_from("<IIIIHHHHHH", self.data, 24)
         self.flash = bytearray(b"\xff" * FLASH)
         self.flash_end = 0
-        self.loaded = []
+        self.loaded, self.placed = [], []
         for n in range(head[6]):
             kind, offset, address, place, size = struct.unpack_from("<IIIII", self.data, head[1] + n * head[5])
             if kind == 1:
                 self.loaded.append((address, size, offset))
+                self.placed += [(place, place + size)] * bool(size and place < CODE_END)
             if kind == 1 and size and place < CODE_END and place + size <= FLASH:
                 self.flash[place:place + size] = self.data[offset:offset + size]
                 self.flash_end = max(self.flash_end, place + size)

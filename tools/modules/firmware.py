@@ -4,23 +4,37 @@ from typing import Dict, Optional, Set
 
 from cxx_names import written
 from debug_lines import Lines
-from devices import Device, device_of
+from devices import Device, Misuse, device_of
 from elf import Elf, Symbol
 from names import base, shown
 from opcodes import jump_target
 
 
+LEAST = 0x8000  # bytes that the program reads on a device with less flash too, and judges itself
 DEFAULT = "BADISR_vect (__bad_interrupt)"  # the one handler of all vectors that have no other
 
 
 class Firmware:
     """An ELF file, the device that it was linked for, and the one as which it is taken."""
 
-    def __init__(self, path: str, device: Optional[str]) -> None:
-        self.path, self.elf = path, Elf(path)
+    def __init__(self, path: str, device: Optional[str], elf: Optional[Elf] = None) -> None:
+        """With its ELF file, or with what was read of another kind of file, whose raw image is `image` then, and `lost` what it doesn't tell."""
+        self.path, self.elf, self.image = path, elf or Elf(path), path
+        self.lost: Optional[str] = None
         self.linked_for, self.device = device_of(self.elf, path, device)
         self.lines = Lines(self.elf, path)
         self.names: Dict[str, Set[int]] = {}
+
+    def check_start(self) -> None:
+        """Refuses a firmware that doesn't start at address 0, or doesn't fit into the flash of its device."""
+        end = 2 * self.device.words
+        begin = min((begin for begin, _ in self.elf.placed), default=0)
+        if begin:
+            raise Misuse(f"{self.path}: this is a boot loader at {begin:04X}: nothing stands at address 0, where the bound takes the chip to start, and code that "
+                         "writes flash has no bound; give the program that it starts")
+        for _, last in self.elf.placed:
+            if last > max(end, LEAST):
+                raise Misuse(f"{self.path} has bytes up to {last - 1:04X}, and the flash of {self.device.name} ends at {end - 1:04X}: it was linked for another device")
 
     def name(self, symbol: Symbol) -> str:
         """A function's name as a reader knows it; with the types of its parameters where another one has the same."""

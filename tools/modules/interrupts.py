@@ -25,7 +25,7 @@ def bound_without(outcome, assumed, word, folder):
     paths = [os.path.join(folder, name) for name in ("never.assume", "never.cert")]
     with open(paths[0], "w", encoding="ascii") as file:
         file.write(with_never(assumed, word))
-    program = Program(outcome.firmware.path, outcome.firmware.device.name, paths[0])
+    program = Program(outcome.firmware.image, outcome.firmware.device.name, paths[0])
     status, text = program.call("analyse")
     if status != OK:
         return None

@@ -40,7 +40,7 @@ class Analysis:
         text = (lines or self.lines).text()
         with open(path, "w", encoding="ascii") as file:
             file.write(text)
-        return Program(self.firmware.path, self.device.name, path if text else None)
+        return Program(self.firmware.image, self.device.name, path if text else None)
 
     def analyse(self, lines: Optional[Lines] = None) -> Tuple[bool, str]:
         """Whether there is a certificate, and the text of it or of the refusal."""

@@ -7,6 +7,7 @@ from typing import Any, Dict, List, Optional, Union
 
 import causes
 import cures
+import intel_hex
 import refusals
 import warnings_of_words
 from firmware import Firmware
@@ -191,7 +192,8 @@ def take(firmware: Firmware, spec: str, given: str, work: Mending, words: Any, f
 
 def judge(words: Any, folder: str) -> Outcome:
     """Analyses and judges the firmware of the command's words; files are made in the folder."""
-    firmware = Firmware(words.firmware, words.device)
+    firmware = intel_hex.firmware(words.firmware, words.device, folder) if intel_hex.is_one(words.firmware) else Firmware(words.firmware, words.device)
+    firmware.check_start()
     spec = given = ""
     if words.spec:
         with open(words.spec, encoding="utf8") as file:

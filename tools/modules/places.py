@@ -7,7 +7,9 @@ where the spec itself says what may happen there.
 import os
 
 import debug_lines
+import fuses
 import sites
+import start_up
 from causes import Cause
 from elf import CODE_END
 from node_values import Nodes
@@ -17,12 +19,10 @@ from warnings_of_words import MOVES, UNSET
 
 MOST_WORDS = 4  # word addresses that one entry prints
 START = ("__do_clear_bss", "__do_copy_data")
-ST_X_R1, ST_X_R0 = 0x921D, 0x920D
-XL, XH = 26, 27
 CALLS, STORES, VECTORS = "calls", "stores", "vectors"  # kinds of ordinary places, beside those of warnings
 SAFETY, GIVEN = "memory safety", "given"
-ORDINARY = (CALLS, STORES, VECTORS, MOVES, UNSET)
-WORDS = {CALLS: "call", STORES: "store", VECTORS: "vector", MOVES: "write of {moving}", UNSET: "use of the stack before SPL is written", SAFETY: "memory safety",
+ORDINARY = (CALLS, STORES, VECTORS, MOVES, UNSET, fuses.FUSES)
+WORDS = {CALLS: "call", STORES: "store", VECTORS: "vector", MOVES: "write of {moving}", UNSET: "use of the stack before SPL is written", fuses.FUSES: "fuse", SAFETY: "memory safety",
          GIVEN: "given line"}
 
 
@@ -77,15 +77,6 @@ def line_of(path, number):
     return text or None
 
 
-def loaded(elf, word, register):
-    """The byte that the last `ldi` of a register among the few instructions before a word loads; None where there is none."""
-    for at in range(word - 1, max(word - 9, -1), -1):
-        opcode = elf.word(at)
-        if opcode & 0xF000 == 0xE000 and 16 + (opcode >> 4 & 15) == register:
-            return opcode & 15 | opcode >> 4 & 0xF0
-    return None
-
-
 def section_at(elf, address):
     """The name of the section of data at a data address, with a space behind; nothing where none is told."""
     for name, it in elf.sections.items():
@@ -94,26 +85,19 @@ def section_at(elf, address):
     return ""
 
 
-def start_up(elf, word):
+def filled(elf, word):
     """What a loop of the start-up code fills: `clears .bss 0106 to 0135`; None where a word isn't the store of such a loop."""
-    store = elf.word(word)
-    compare, other = elf.word(word + 1), elf.word(word + 2)
-    if store not in (ST_X_R0, ST_X_R1) or compare & 0xF0F0 != 0x30A0 or other & 0xFDF0 != 0x05B0:
-        return None
-    bytes_of = [loaded(elf, word, it) for it in (XL, XH, other & 15 | other >> 5 & 16)]
-    if None in bytes_of:
-        return None
-    begin, end = bytes_of[1] << 8 | bytes_of[0], bytes_of[2] << 8 | (compare & 15 | compare >> 4 & 0xF0)
-    return f"{'clears' if store == ST_X_R1 else 'copies'} {section_at(elf, begin)}{begin:04X} to {end - 1:04X}"
+    found = start_up.filled(elf, word)
+    return found and f"{'copies' if found.copies else 'clears'} {section_at(elf, found.begin)}{found}"
 
 
 def entry_of(outcome, word, found):
     """The entry to which a word belongs, which is made with its first one."""
-    elf, filled = outcome.firmware.elf, start_up(outcome.firmware.elf, word)
+    elf, loop = outcome.firmware.elf, filled(outcome.firmware.elf, word)
     symbol, source = elf.symbol_at(2 * word), debug_lines.of(elf).source(2 * word)
-    if filled and not source and (symbol is None or symbol.name in START):
+    if loop and not source and (symbol is None or symbol.name in START):
         entry = found.setdefault(START_UP, Place(START_UP, "start-up"))
-        entry.title += (", " if entry.words else " ") + filled
+        entry.title += (", " if entry.words else " ") + loop
         return entry
     name = shown(symbol) if symbol else "-"
     if source:
@@ -161,6 +145,15 @@ def entry_of_vector(outcome, word):
     return entry
 
 
+def entry_of_fuses(outcome):
+    """Yields the one entry of the fuses that the file itself programs, where it does."""
+    entry = Place(fuses.KEPT, "the file's own fuses")
+    for it in fuses.programmed(outcome.firmware.elf, outcome.firmware.device.name):
+        entry.kinds[it.name] = fuses.FUSES
+        entry.warned.append(f"its .fuse section programs {it.name}: {it.text}")
+    yield from [entry] * bool(entry.kinds)
+
+
 def entries(outcome):
     """The entries of what `premises` lists, in the order of their first words, and of what no flag tells."""
     found, nodes = {}, Nodes(outcome.firmware.elf, outcome.certificate)
@@ -177,7 +170,7 @@ def entries(outcome):
         entry.words += [] if it.word in entry.words else [it.word]
         entry.kinds[it.word] = it.kind
         entry.warned.append(it.text)
-    return list(found.values())
+    return [*found.values(), *entry_of_fuses(outcome)]
 
 
 def count_of(outcome, kinds):

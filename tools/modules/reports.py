@@ -83,6 +83,8 @@ def verdict(outcome, words):
     """What is printed in front where the growth or a place fails."""
     if outcome.grows_too_much:
         yield f"TOO MUCH: the bound has grown by {outcome.difference.grown()} bytes, and {words.grow} are the most"
+    if outcome.firmware.lost:
+        yield outcome.firmware.lost
     if outcome.heap:
         yield f"HEAP: {outcome.heap} is linked, and takes from the same room, which this doesn't count"
     if words.judged and (left := places.unjudged(outcome, True)):

@@ -4,6 +4,7 @@ import re
 
 import opcodes
 import sites
+from fuses import KEPT as FUSES_KEPT
 from names import Missing, SpecFault
 from sites import AT_LINE
 from targets import targets
@@ -38,7 +39,7 @@ class Keep:
 
     def end(self):
         """What stands behind the name."""
-        return "" if self.name == START_UP else " *" if self.line is None else f":{self.line}"
+        return "" if self.name in (START_UP, FUSES_KEPT) else " *" if self.line is None else f":{self.line}"
 
 
 def register(device, word):
@@ -127,17 +128,17 @@ def read_line(elf, device, words):
 def read_keep(elf, number, words, why):
     """A line `keeps`, whose function has to be there."""
     rest = words[1:]
-    if not (len(rest) == 2 and rest[1] == "*" or len(rest) == 1 and (rest[0] == START_UP or AT_LINE.match(rest[0]))):
-        raise SpecFault(f"`keeps FUNCTION:LINE`, `keeps FUNCTION *` or `keeps {START_UP}` is wanted")
+    if not (len(rest) == 2 and rest[1] == "*" or len(rest) == 1 and (rest[0] in (START_UP, FUSES_KEPT) or AT_LINE.match(rest[0]))):
+        raise SpecFault(f"`keeps FUNCTION:LINE`, `keeps FUNCTION *`, `keeps {START_UP}` or `keeps {FUSES_KEPT}` is wanted")
     if not why:
         raise SpecFault("a line `keeps` says behind # why the place keeps the bound")
-    name, line = (rest[0], None) if rest[-1] in ("*", START_UP) else AT_LINE.match(rest[0]).groups()
+    name, line = (rest[0], None) if rest[-1] in ("*", START_UP, FUSES_KEPT) else AT_LINE.match(rest[0]).groups()
     vector = elf.chip.vector_named(name)
     if line is not None:
         sites.file_of(elf, name)
     elif vector is not None:
         name = elf.chip.vectors[vector]
-    elif name != START_UP:
+    elif name not in (START_UP, FUSES_KEPT):
         sites.words_of(elf, name)
     return Keep(number, name, int(line) if line else None, why)
 

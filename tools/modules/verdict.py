@@ -2,6 +2,7 @@
 
 from typing import Any, List
 
+import fuses
 from outcome import Accepted, Outcome, Refused
 from places import CALLS, GIVEN, MOVES, ORDINARY, SAFETY, STORES, UNSET, VECTORS, count_of, moving, unjudged
 
@@ -12,6 +13,7 @@ CONDITIONS = {
     VECTORS: ("{} vector{s} without a handler {stay} off", "stays", "stay", "", ""),
     MOVES: ("{} write{s} of {moving} below {stay} the vectors where they are", "leaves", "leave", "", ""),
     UNSET: ("the chip starts with SP at {last:04X}", "", "", "", ""),
+    fuses.FUSES: (fuses.CONDITION, "", "", "", ""),
 }
 
 
