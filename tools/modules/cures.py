@@ -4,6 +4,8 @@ import re
 
 import candidates
 import opcodes
+import registers
+from spec import is_unhandled
 from targets import constructors, tables
 
 # By name: the text and where it stands, the usual cause, the cure.
@@ -36,6 +38,14 @@ CURES = {
         "`refused 3` of a handler that calls a handler",
         "the compiler has merged handlers with equal bodies, and the `reti` of the one that is called lets interrupts in",
         "`-fno-ipa-icf`"),
+    "by name": (
+        "`refused 3` of a handler that calls a handler beside other code",
+        "the source calls a handler by its name, whose `reti` lets interrupts in",
+        "a function for what both do, which each handler calls"),
+    "kept flags": (
+        "`refused 3` of a handler whose code writes SREG with a byte from memory",
+        "`SREG = old` where `old` stands in memory, such as the frame: its bit I isn't known there, so it may let interrupts in",
+        "`old` in a register: not `volatile`, its address not taken; in a handler, where interrupts are off, neither `cli()` nor `SREG = old` is needed"),
     "noblock": (
         "`refused 3` of a handler that begins with `sei`",
         "`ISR_NOBLOCK`, which lets its own vector in at once",
@@ -52,6 +62,10 @@ CURES = {
         "the same, with `frame @frames` and without `pairs`",
         "32-bit division (`__udivmodsi4`) or `sscanf` beside such a function: libgcc counts r1 down to 0, which bits and ranges don't tell behind the loop",
         "`pairs`; or `docs/examples/udivmodsi4.S` linked in, in place of libgcc's routine; or `sscanf` left out"),
+    "zero register": (
+        "the same with both, where a function computes with r1 and doesn't clear it",
+        "r1, which compiled code takes to be 0, isn't known as 0: avr-libc's `sqrt` shifts a bit through it until it is 0",
+        "`clr r1` behind each call: `float root = sqrt(x); __asm__ volatile (\"clr r1\");`"),
     "two tables": (
         "`refused 2` or `4` behind `jump __tablejump2__ 1 @tables`",
         "tables of `switch` in two functions: the line lets the one jump into the other",
@@ -60,6 +74,10 @@ CURES = {
         "`refused 4 .. out 0x3E, r29` in `__init`",
         "a vector that may be enabled has no handler: avr-libc's default for it begins the program anew, on the stack as it is",
         "a handler for it, or for all that have none: `ISR(BADISR_vect) { for (;;) ; }`; where none of them ever comes, `never @unhandled`"),
+    "begins anew": (
+        "the same, where a function jumps to address 0",
+        "the program begins anew by a jump to 0, on the stack as it is",
+        "a reset by the watchdog: `wdt_enable(WDTO_15MS); for (;;) ;`"),
     "high byte": (
         "`refused 4 .. out 0x3E, r29` behind `dec r29`, `inc r29` or `subi r29`",
         "a frame of 256, 512, .. bytes, which is moved by its high byte alone",
@@ -68,6 +86,18 @@ CURES = {
         "`refused 4 .. out 0x3E` elsewhere",
         "an array whose size is computed, or `alloca`",
         "an array of constant size"),
+    "two stacks": (
+        "`refused 4 .. out 0x3E` or `out 0x3D` with a byte from memory",
+        "a switch of stacks, as a system with tasks does",
+        "none: a bound is of one stack"),
+    "low byte first": (
+        "`refused 4` where SPL was written before SPH",
+        "start-up code written by hand, which writes SPL before SPH",
+        "SPH first, then SPL, as avr-libc's start-up code does"),
+    "tiny": (
+        "`refused 4 .. out 0x3D` without `out 0x3E`",
+        "`-mtiny-stack`, with which a frame is made by the low byte of the stack pointer alone",
+        "build without `-mtiny-stack`"),
     "joined": (
         "`refused 2` of a function that calls itself by no name, `4`, `5` or `6` elsewhere, where an `icall` or `ijmp` has no `jump` line",
         "a pointer that is one of some constants: their bits may join to a word that none of them is",
@@ -116,6 +146,8 @@ CURES = {
 REFUSAL = re.compile(r"refused (\d) (\S+)(?: of (\d+))?(?: at ([0-9A-F]{4}))?(?: (.*))?$")
 
 
+OUT_SREG, IN_SREG, OUT_SPH, OUT_SPL, RETI = 0xBE0F, 0xB60F, 0xBE0E, 0xBE0D, 0x9518
+NEAR = 8  # words around a write of SPL
 STDIO = ("fputc", "fgetc", "fputs", "fputs_P", "puts", "puts_P", "fread", "fwrite", "ungetc")
 JUMPERS = ("setjmp", "longjmp")
 
@@ -135,8 +167,22 @@ def of_recursion(elf, device, word):
     return "put" if calls and any(elf.named(it) for it in STDIO) and word in candidates.addressed(elf, device) else "recursion"
 
 
+def is_body(opcode):
+    """Whether an instruction is one of a handler's own work: neither saves nor gives back registers, and is neither its call nor its end."""
+    return not (opcode & 0xFC0F == 0x900F or opcode & 0xFE0F in (OUT_SREG, IN_SREG) or opcodes.is_clr(opcode) or opcode & 0xFE0E == 0x940E
+                or opcode & 0xF000 == 0xD000 or opcode == RETI)
+
+
+def keeps_flags(elf, entry):
+    """Whether a handler, or what it calls, writes SREG with a byte from memory, and nothing of it is `sei`."""
+    functions = [it for it in elf.code if it.address // 2 in candidates.reached(elf, entry) | {entry}]
+    words = [it for symbol in functions for it in opcodes.words_of(elf, symbol)]
+    found = any(opcode & 0xFE0F == OUT_SREG and registers.is_from_memory(elf, at) for at, opcode in words)
+    return found and not any(opcode == opcodes.SEI for _, opcode in words)
+
+
 def of_re_entry(elf, word):
-    """A handler that calls a handler was merged with it; one that begins with `sei` is an ISR_NOBLOCK."""
+    """A handler that does nothing but call a handler was merged with it; one that begins with `sei` is an ISR_NOBLOCK."""
     target = opcodes.jump_target(elf, word)
     if target is not None and elf.word(target) == opcodes.SEI:
         return "noblock"
@@ -145,19 +191,45 @@ def of_re_entry(elf, word):
         called = opcodes.call_target(elf, at)
         other = elf.symbol_at(2 * called) if called is not None else None
         if other and other.name.startswith("__vector_") and other.address == 2 * called:
-            return "merged"
-    return "re-entry"
+            return "by name" if any(is_body(opcode) for _, opcode in opcodes.words_of(elf, symbol)) else "merged"
+    return "kept flags" if symbol and keeps_flags(elf, target) else "re-entry"
 
 
-def of_stack_pointer(elf, lines, word, name):
+def begins_anew(elf, device, lines):
+    """Whether a function jumps to address 0 or calls it, and no vector without a handler leads there unless a `never` line names it."""
+    jumps = any(0 in (opcodes.jump_target(elf, at), opcodes.call_target(elf, at)) for it in elf.code if it.is_function for at, _ in opcodes.words_of(elf, it))
+    return jumps and all(lines.has(device.vector_word(it), "never") for it in device.vectors if is_unhandled(elf, device, it))
+
+
+def of_low_byte(elf, word, name):
+    """A write of SPL is told by where its byte is from, and by writes of SPH near it."""
+    near = [elf.word(at) & 0xFE0F == OUT_SPH for at in range(max(word - NEAR, 0), word + NEAR)]
+    if name in JUMPERS:
+        return "unfollowed"
+    return "two stacks" if registers.is_from_memory(elf, word) else "low byte first" if any(near[NEAR:]) else "unfollowed" if any(near) else "tiny"
+
+
+def is_low_first(elf, word):
+    """Whether of the writes of SPL and SPH just before a word that of SPH is the last, and one of SPL came before."""
+    found = [opcode & 0xFE0F for _, opcode in candidates.before(elf, word, NEAR) if opcode & 0xFE0F in (OUT_SPL, OUT_SPH)]
+    return found[:1] == [OUT_SPH] and OUT_SPL in found
+
+
+def of_stack_pointer(elf, device, lines, word, name):
     """A write of the stack pointer is told by its function, and by what was done to r29 before."""
     if name == "__epilogue_restores__":
         begin, end = elf.extent(elf.symbol_at(2 * word))
         if not any(begin <= 2 * it < end for it in lines.sites("frame")):
             return "prologues"
-        return "sized" if lines.has_pairs() else "division"
+        if not lines.has_pairs():
+            return "division"
+        return "sized" if all(registers.keeps_zero(elf, it) for it in elf.code if not it.name.startswith("__")) else "zero register"
     if candidates.is_start_up(elf, word):
-        return "unhandled"
+        return "begins anew" if begins_anew(elf, device, lines) else "unhandled"
+    if name in JUMPERS:
+        return "unfollowed"
+    if registers.is_from_memory(elf, word):
+        return "two stacks"
     before = [elf.word(at) for at in range(max(word - 4, 0), word)]
     return "high byte" if any(opcodes.moves_high_byte(opcode) for opcode in before) else "sized"
 
@@ -205,7 +277,11 @@ def cure(elf, device, refusal, lines):
     if number == "2":
         return of_recursion(elf, device, word), word
     if number == "4" and text.startswith("out 0x3E"):
-        return of_stack_pointer(elf, lines, word, name), word
+        return of_stack_pointer(elf, device, lines, word, name), word
+    if number == "4" and text.startswith("out 0x3D"):
+        return of_low_byte(elf, word, name), word
+    if number == "4" and is_low_first(elf, word):
+        return "low byte first", word
     is_other = name not in JUMPERS and is_joined(elf, lines)
     return "joined" if is_other and word else "deep" if number == "6" else "unfollowed", word
 
