@@ -171,7 +171,6 @@ module _ (cover : LocalPartsCover) (machines : MachinesStay) (live : LiveBytesSt
         (taken_both (reads_masks (device_of task.flash) task.assumptions) m.device m.enables k.masks clears place.enables))
         (Take v clears) (λ state above. interrupted v clears state _ enters above))
 
-
     taken : (v : ℕ) (clears t : Bool) → may_take m v clears ≡ t → IsFineFor (Follow task f (Take v clears) g gs) (if t then take task.assumptions m (entering m v clears) else Illegal)
     taken v clears false legal = tt
     taken v clears true legal =
