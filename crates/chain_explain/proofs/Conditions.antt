@@ -1,10 +1,12 @@
 -- The reached nodes of a family that meets the conditions meet them too.
-use Rattle.std.proofs.Common.{refl, List, Contains}
+use Rattle.std.proofs.Common.{refl, ℕ, List, Contains}
 use Rattle.abs_state.specs.Frames.{entered}
+use Rattle.mask_states.specs.declared.keys.InstKey.{InstKey}
 use Rattle.mask_states.specs.Keys.{entry_key}
 use Rattle.local_rules.specs.declared.local.Node.{Node}
 use Rattle.edge_rules.specs.declared.edge.Edge.{Edge}
 use Rattle.edge_rules.specs.Edges.{IsEdge, moving, entering, returning, target}
+use Rattle.edge_rules.specs.Nest.{NestEdge, recurs, enters as by_node}
 use Rattle.edge_rules.specs.Families.{IsCovered}
 use Rattle.certificate.specs.Claims.{Claim}
 use Rattle.certificate.specs.Valid.{reset_node, AllLand, MeetsConditions}
@@ -26,6 +28,11 @@ module _ (task : Task) (nodes reached : List Node) (are : AreReached task nodes 
   edge_up n _ (returning way inst back leaver x state enters present at clean exit is) =
       returning way inst back leaver x state enters (of_family leaver present) at clean exit is
 
+  -- an edge of the nest of the reached nodes is one of the family's
+  nest_up : (i j : InstKey) (depth : ℕ) → NestEdge task (Contains reached) i j depth → NestEdge task (Contains nodes) i j depth
+  nest_up i j depth (by_node n way back h same at e whole) = by_node n way back (of_family n h) same at e whole
+  nest_up i j depth (recurs n h same cut top) = recurs n (of_family n h) same cut top
+
   -- a covered node with a reached key is covered by a reached one
   covered_down : (n : Node) → IsCovered nodes n → IsReached task nodes n.key → IsCovered reached n
   covered_down n c r = record { state = c.state; present = (are.exact (record { key = n.key; state = c.state })).1 (c.present, r); above = c.above }
@@ -39,12 +46,12 @@ module _ (task : Task) (nodes reached : List Node) (are : AreReached task nodes 
         edges = λ n e h is.
             let up = edge_up n e is in
             covered_down (target e) (meets.edges n e (of_family n h) up) (by_edge n e (of_family n h) (reached_by n h) up);
-        ranks = λ n way inst back h enters. meets.ranks n way inst back (of_family n h) enters;
+        ranks = λ i j depth edge. meets.ranks i j depth (nest_up i j depth edge);
         needs = λ inst.
             let s = meets.needs inst in
             record {
               offsets = λ n offset h same closed. s.offsets n offset (of_family n h) same closed;
-              entered = λ n way into back h same enters. s.entered n way into back (of_family n h) same enters;
+              entered = λ into depth edge. s.entered into depth (nest_up inst into depth edge);
             };
         bounded = meets.bounded;
         assumptions = meets.assumptions;

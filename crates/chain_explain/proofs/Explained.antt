@@ -1,5 +1,5 @@
 -- The computed parts are the explanation.
-use Rattle.std.proofs.Common.{◌≡◌, subst, ℕ, ◌≤◌, List}
+use Rattle.std.proofs.Common.{◌≡◌, subst, ℕ, ◌≤◌, List, []}
 use Rattle.mask_states.specs.Keys.{root_inst, entry_key}
 use Rattle.local_rules.specs.declared.local.Node.{Node}
 use Rattle.local_laws.specs.Laws.{HasKey}
@@ -25,7 +25,7 @@ use Rattle.local_rules.specs.Site.{Task}
 
 module _ (task : Task) (c : Claim) (nodes : List Node) (filled : IsFilled task c.nodes nodes) (reached : List Node) (are : AreReached task nodes reached)
     (need : ℕ) (links : List Link) (deepest : IsDeepest task reached need links) (root : BeginsAtRoot task reached) (given : List Link) (same : given ≡ links)
-    (parts : List Part) (are_parts : AreParts task nodes reached given parts) where
+    (parts : List Part) (are_parts : AreParts task nodes reached given [] parts) where
   abbrev pub told : Explanation
   told = record { least = need; parts = parts }
 
@@ -36,7 +36,7 @@ module _ (task : Task) (c : Claim) (nodes : List Node) (filled : IsFilled task c
         are_reached = are;
         links = links;
         deepest = deepest;
-        parts = subst (λ (ls : List Link). AreParts task nodes reached ls parts) same are_parts;
+        parts = subst (λ (ls : List Link). AreParts task nodes reached ls [] parts) same are_parts;
       }
 
   pub exact : IsExplanation task c told

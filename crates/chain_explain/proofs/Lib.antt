@@ -6,6 +6,7 @@ pub mod Marks
 pub mod Ways
 pub mod Shifted
 pub mod Conditions
+pub mod Rooted
 pub mod Chains
 pub mod Rounds
 pub mod Explained

@@ -1,5 +1,5 @@
 -- A certificate has at most one explanation.
-use Rattle.std.proofs.Common.{◌≡◌, refl, sym, ap, ◌∙◌, subst, ℕ, ⊎_elim, List, [], ◌∷◌, map, Contains}
+use Rattle.std.proofs.Common.{◌≡◌, refl, sym, ap, ◌∙◌, subst, ℕ, ⊎_elim, List, [], ◌∷◌, ◌++◌, map, Option, Some, None, Contains}
 use Rattle.std.specs.Prelude.{◌↔◌}
 use Rattle.std.specs.List.Sorted.{IsStrictlySortedBy}
 use Rattle.std.specs.declared.cmp.Ordering.TheVariants.{Less}
@@ -16,6 +16,8 @@ use Rattle.edge_rules.specs.Views.{key_of}
 use Rattle.edge_laws.specs.Expansions.{FilledOrMissing}
 use Rattle.edge_laws.proofs.ExpansionLaws.{filled_lists_are_shown}
 use Rattle.nesting_bound.specs.declared.graph.Link.{Link}
+use Rattle.nesting_bound.specs.declared.graph.Way.{Way}
+use Rattle.nesting_bound.specs.declared.graph.Way.TheVariants.{Enters, Recur}
 use Rattle.shortest_walk.specs.Graph.{PointsTo}
 use Rattle.shortest_walk.specs.Walk.{WalksOn, IsWalk, IsShortest, IsFirstOfShortest}
 use Rattle.shortest_walk.proofs.AllLaws.{first_is_one}
@@ -24,7 +26,8 @@ use Rattle.family_graph.specs.Laws.{DeepestChainsAreOne}
 use Rattle.chain_explain.specs.declared.explanation.Explanation.{Explanation}
 use Rattle.chain_explain.specs.declared.explanation.Part.{Part}
 use Rattle.chain_explain.specs.Walks.{IsWay, pc_at}
-use Rattle.chain_explain.specs.Explanation.{IsPart, AreParts, Explains, adds_by}
+use Rattle.chain_explain.specs.declared.explanation.PartPlace.TheVariants as place
+use Rattle.chain_explain.specs.Explanation.{IsNodePart, IsPartBy, IsPart, AreParts, Explains, adds_by}
 use Rattle.chain_explain.specs.Laws.{ExplanationsAreOne}
 use Rattle.chain_explain.proofs.Numbers.{same_number}
 use Rattle.local_rules.specs.Site.{Task}
@@ -101,26 +104,38 @@ module _ (task : Task) (nodes : List Node) (ascend : IsStrictlySortedBy node_cmp
       (λ i. (λ h. (a.begin i).1 ((b.begin i).0 h), λ h. (b.begin i).1 ((a.begin i).0 h))) target b.numbers b.first in
       a.along ∙ (ap (map (pc_at nodes)) (first_is_one a.graph a.starts target a.numbers b.numbers a.first f) ∙ sym b.along)
 
-  same_part : (reached : List Node) (link : Link) (p q : Part) → IsPart task nodes reached link p → IsPart task nodes reached link q → p ≡ q
-  same_part reached link p q a b =
+  same_node_part : (reached : List Node) (link : Link) (p q : Part) → IsNodePart task nodes reached link p → IsNodePart task nodes reached link q → p ≡ q
+  same_node_part reached link p q a b =
       let node : a.node ≡ b.node = one_at reached link.node a.node b.node a.at b.at in
       let target : a.target ≡ b.target = same_number nodes ascend a.target b.target a.node b.node a.is b.is (ap key_of node) in
-      let other : IsWay task nodes a.node.key.inst a.target q.walk =
-      subst (λ (t : ℕ). IsWay task nodes a.node.key.inst t q.walk) (sym target) (subst (λ (n : Node). IsWay task nodes n.key.inst b.target q.walk) (sym node) b.way) in
+      let other : IsWay task nodes a.node.key.inst a.target b.walk =
+      subst (λ (t : ℕ). IsWay task nodes a.node.key.inst t b.walk) (sym target) (subst (λ (n : Node). IsWay task nodes n.key.inst b.target b.walk) (sym node) b.way) in
       let inst : p.inst ≡ q.inst = a.inst ∙ (ap (λ (n : Node). n.key.inst) node ∙ sym b.inst) in
-      let pc : p.pc ≡ q.pc = a.pc ∙ (ap (λ (n : Node). n.key.pc) node ∙ sym b.pc) in
-      let adds : p.adds ≡ q.adds = a.adds ∙ (ap (λ (n : Node). adds_by (offset_of n.key.sp) link.kind) node ∙ sym b.adds) in
-      let walk : p.walk ≡ q.walk = same_way a.node.key.inst a.target p.walk q.walk a.way other in
-      λ k. record { inst = inst k; pc = pc k; adds = adds k; walk = walk k }
+      let adds : p.adds ≡ q.adds = a.adds ∙ (ap (λ (n : Node). adds_by (offset_of n.key.sp) link.way) node ∙ sym b.adds) in
+      let walk : a.walk ≡ b.walk = same_way a.node.key.inst a.target a.walk b.walk a.way other in
+      let stands : p.place ≡ q.place = a.place ∙ ((λ k. place.Node (node k).key.pc (walk k)) ∙ sym b.place) in
+      λ k. record { inst = inst k; place = stands k; adds = adds k }
 
-  same_parts : (reached : List Node) (links : List Link) (ps qs : List Part) → AreParts task nodes reached links ps → AreParts task nodes reached links qs → ps ≡ qs
+  same_part_by : (reached : List Node) (link : Link) (rest : List Link) (p q : Part) (way : Option Way) → IsPartBy task nodes reached link rest p way → IsPartBy task nodes reached link rest q way → p ≡ q
+  same_part_by reached link rest p q (Some Recur) a b =
+      let inst : p.inst ≡ q.inst = a.inst ∙ sym b.inst in
+      let stands : p.place ≡ q.place = a.place ∙ sym b.place in
+      let adds : p.adds ≡ q.adds = a.adds ∙ sym b.adds in
+      λ k. record { inst = inst k; place = stands k; adds = adds k }
+  same_part_by reached link rest p q (Some (Enters kind)) a b = same_node_part reached link p q a b
+  same_part_by reached link rest p q None a b = same_node_part reached link p q a b
+
+  same_part : (reached : List Node) (link : Link) (rest : List Link) (p q : Part) → IsPart task nodes reached link rest p → IsPart task nodes reached link rest q → p ≡ q
+  same_part reached link rest p q a b = same_part_by reached link rest p q link.way a b
+
+  same_parts : (reached : List Node) (links : List Link) (ps qs : List Part) → AreParts task nodes reached links [] ps → AreParts task nodes reached links [] qs → ps ≡ qs
   same_parts reached [] [] [] a b = refl
   same_parts reached [] [] (q ∷ qs) a b = absurd b
   same_parts reached [] (p ∷ ps) qs a b = absurd a
   same_parts reached (l ∷ links) [] qs a b = absurd a
   same_parts reached (l ∷ links) (p ∷ ps) [] a b = absurd b
   same_parts reached (l ∷ links) (p ∷ ps) (q ∷ qs) a b =
-      let head = same_part reached l p q a.0 b.0 in
+      let head = same_part reached l (links ++ []) p q a.0 b.0 in
       let tail = same_parts reached links ps qs a.1 b.1 in
       λ k. head k ∷ tail k
 
@@ -132,8 +147,8 @@ module _ (task : Task) (nodes : List Node) (ascend : IsStrictlySortedBy node_cmp
       let d = subst (λ (ns : List Node). IsDeepest task ns y.least b.links) (sym reached) b.deepest in
       let least : x.least ≡ y.least = deepest.need task a.reached x.least y.least a.links b.links a.deepest d in
       let links : a.links ≡ b.links = deepest.links task a.reached x.least y.least a.links b.links a.deepest d in
-      let others : AreParts task nodes a.reached a.links y.parts =
-      subst (λ (ls : List Link). AreParts task nodes a.reached ls y.parts) (sym links) (subst (λ (ns : List Node). AreParts task nodes ns b.links y.parts) (sym reached) b.parts) in
+      let others : AreParts task nodes a.reached a.links [] y.parts =
+      subst (λ (ls : List Link). AreParts task nodes a.reached ls [] y.parts) (sym links) (subst (λ (ns : List Node). AreParts task nodes ns b.links [] y.parts) (sym reached) b.parts) in
       let parts : x.parts ≡ y.parts = same_parts a.reached a.links x.parts y.parts a.parts others in
       λ k. record { least = least k; parts = parts k }
 

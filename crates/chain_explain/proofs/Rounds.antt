@@ -1,5 +1,5 @@
 -- If the rounds end with a certificate, the root's least need over the reached nodes is its bound.
-use Rattle.std.proofs.Common.{◌≡◌, refl, sym, ap, ◌∙◌, subst, ℕ, zero, suc, ◌≤◌, ⊎_elim, Bool, true, false, cond, List, [], ◌∷◌, length, Some, slice_get, slice_index, Contains, arith}
+use Rattle.std.proofs.Common.{◌≡◌, refl, sym, ap, ◌∙◌, subst, ℕ, zero, suc, ◌+◌, ◌≤◌, inl, inr, ⊎_elim, Bool, true, false, cond, List, [], ◌∷◌, length, Some, slice_get, slice_index, Contains, arith}
 use Rattle.std.specs.List.{AllByRecursion}
 use Rattle.std.specs.List.Sorted.{IsStrictlySortedBy}
 use Rattle.std.proofs.lemmas.List.{length-map}
@@ -18,12 +18,15 @@ use Rattle.local_rules.specs.declared.local.Node.{Node}
 use Rattle.local_laws.specs.Laws.{HasKey}
 use Rattle.edge_rules.specs.declared.edge.Edge.{Edge}
 use Rattle.edge_rules.specs.Edges.{Enters, by_call, by_interrupt, IsEdge, entering}
+use Rattle.edge_rules.specs.Nest.{NestEdge, recurs, enters as by_node}
 use Rattle.edge_rules.specs.Views.{key_of}
 use Rattle.edge_rules.specs.Expansion.{IsFilled}
 use Rattle.edge_laws.specs.Expansions.{FilledOrMissing}
 use Rattle.nesting_bound.specs.declared.graph.Entered.{Entered}
 use Rattle.nesting_bound.specs.declared.graph.GraphInst.{GraphInst}
 use Rattle.nesting_bound.specs.declared.graph.Place.{Place}
+use Rattle.nesting_bound.specs.declared.graph.Way.TheVariants.{Recur}
+use Rattle.nesting_bound.specs.declared.graph.Way.TheVariants.{Enters as Enters_by}
 use Rattle.nesting_bound.specs.Least.{IsLeast}
 use Rattle.family_graph.specs.Graphs.{insts_of, IsGraphOf}
 use Rattle.certificate.specs.Claims.{Claim}
@@ -120,7 +123,7 @@ module _ (task : Task) (f : Family) (n : ℕ) (solved : IsSolved task n f) (law 
       let r : IsReached task (nodes_of f) m.key = subst (IsReached task (nodes_of f)) h.1.1 ((are.exact h.0).0 h.1.0).1 in
       (are.exact m).1 (member_has f m has, r)
 
-  module _ (gs : List GraphInst) (ranks needs : List ℕ) (family : IsGraphOf task reached gs) (least : IsLeast gs ranks needs) where
+  module _ (gs : List GraphInst) (ranks needs : List ℕ) (family : IsGraphOf task reached gs) (least : IsLeast gs ranks needs) (root : slice_get (insts_of gs) 0 ≡ Some root_inst) where
     abbrev need : InstKey → ℕ
     need inst = valued (insts_of gs) needs inst
 
@@ -145,27 +148,39 @@ module _ (task : Task) (f : Family) (n : ℕ) (solved : IsSolved task n f) (law 
               let enough = least.are_needs.offsets i.0 p placed in
               let e = need_at i.0 m.key.inst i.1 in
               omega (arith, enough, e);
-          entered = λ a b offset e.
-              let i = number e.node e.has in
-              let at = place_of_contained reached e.node (all_reached e.node e.has) in
-              let c = closed_by e.node e.way b e.back e.enters in
-              let to = lands_at e.node (record { kind = e.way; to = entry_key b; state = entered e.node.state }) e.has (entering e.way b e.back e.enters) in
-              let j : (x : ℕ) × (slice_get (insts_of gs) x ≡ Some b) =
-              place_of_contained (insts_of gs) b ((family.insts b).1 (to.0, all_reached to.0 (has_member f to.0 to.1.0), ap (λ (k : NodeKey). k.inst) to.1.1)) in
-              let edge : Entered = record { node = at.0; offset = c.0; kind = e.way; into = j.0 } in
-              let enters = (family.entered i.0 edge).1 (record {
-                inst = e.node.key.inst;
-                is = i.1;
-                into = b;
-                leads = j.1;
-                entry = record { node = e.node; at = at.1; same = refl; closed = c.1; back = e.back; enters = e.enters };
-              }) in
-              let enough = least.are_needs.entered i.0 edge enters in
-              let o : c.0 ≡ offset = ap offset_of (sym c.1) ∙ e.at in
-              let from : need a ≡ slice_index needs i.0 = ap need (sym e.same) ∙ need_at i.0 e.node.key.inst i.1 in
-              let into : need b ≡ slice_index needs j.0 = need_at j.0 b j.1 in
-              omega (arith, enough, o, from, into);
+          entered = below;
         }
+      where
+        below : (a b : InstKey) (offset : ℕ) → NestEdge task (FamilyHas f) a b offset → offset + 2 + need b ≤ need a
+        below a b offset (by_node n way back has same is_at e whole) =
+            let i = number n has in
+            let at = place_of_contained reached n (all_reached n has) in
+            let c = closed_by n way b back e in
+            let to = lands_at n (record { kind = way; to = entry_key b; state = entered n.state }) has (entering way b back e) in
+            let j : (x : ℕ) × (slice_get (insts_of gs) x ≡ Some b) =
+            place_of_contained (insts_of gs) b ((family.insts b).1 (to.0, all_reached to.0 (has_member f to.0 to.1.0), ap (λ (k : NodeKey). k.inst) to.1.1)) in
+            let edge : Entered = record { node = at.0; offset = c.0; way = Enters_by way; into = j.0 } in
+            let along = (family.entered i.0 edge).1 (record {
+              inst = n.key.inst;
+              is = i.1;
+              into = b;
+              leads = j.1;
+              edge = inl (record { node = n; at = at.1; same = refl; closed = c.1; kind = way; way = refl; back = back; enters = e; whole = whole });
+            }) in
+            let enough = least.are_needs.entered i.0 edge along in
+            let o : c.0 ≡ offset = ap offset_of (sym c.1) ∙ is_at in
+            let from : need a ≡ slice_index needs i.0 = ap need (sym same) ∙ need_at i.0 n.key.inst i.1 in
+            let into : need b ≡ slice_index needs j.0 = need_at j.0 b j.1 in
+            omega (arith, enough, o, from, into)
+        below a b offset (recurs n has same cut top) =
+            let j : (x : ℕ) × (slice_get (insts_of gs) x ≡ Some b) = place_of_contained (insts_of gs) b ((family.insts b).1 (n, all_reached n has, same)) in
+            let at : slice_get (insts_of gs) 0 ≡ Some a = subst (λ (k : InstKey). slice_get (insts_of gs) 0 ≡ Some k) (sym top) root in
+            let edge : Entered = record { node = length reached; offset = offset; way = Recur; into = j.0 } in
+            let along = (family.entered 0 edge).1 (record { inst = a; is = at; into = b; leads = j.1; edge = inr (record { root = top; way = refl; behind = refl; cut = cut }) }) in
+            let enough = least.are_needs.entered 0 edge along in
+            let from : need a ≡ slice_index needs 0 = need_at 0 a at in
+            let into : need b ≡ slice_index needs j.0 = need_at j.0 b j.1 in
+            omega (arith, enough, from, into)
 
 -- the explanation's number is the bound if the rounds end with the certificate
 pub least_is_bound : FilledOrMissing → RoundsAreReached → (task : Task) (c : Claim) (nodes : List Node) (x : Explanation) → IsFilled task c.nodes nodes
@@ -177,10 +192,10 @@ least_is_bound filled law task c nodes x is reset e root under of =
     let are = subst (λ (ns : List Node). AreReached task ns e.reached) same e.are_reached in
     let first = subst (λ (ns : List Node). HasKey ns (entry_key root_inst)) same reset in
     let d = e.deepest in
-    let suffices = suffice task answer.family answer.number answer.solved law e.reached are first d.graph d.ranks d.needs d.family d.least in
+    let suffices = suffice task answer.family answer.number answer.solved law e.reached are first d.graph d.ranks d.needs d.family d.least (root d.graph d.family) in
     let low = answer.solution.least_needs (valued (insts_of d.graph) d.needs) suffices root_inst in
     let at : valued (insts_of d.graph) d.needs root_inst ≡ slice_index d.needs 0 =
-    need_at task answer.family answer.number answer.solved law e.reached are first d.graph d.ranks d.needs d.family d.least 0 root_inst (root d.graph d.family) in
+    need_at task answer.family answer.number answer.solved law e.reached are first d.graph d.ranks d.needs d.family d.least (root d.graph d.family) 0 root_inst (root d.graph d.family) in
     let r = d.root in
     let b = of.bound ∙ answer.solution.bound in
     omega (arith, low, at, r, b, under)

@@ -19,7 +19,7 @@ use Rattle.nesting_bound.specs.declared.graph.GraphInst.{GraphInst}
 use Rattle.nesting_bound.specs.declared.graph.Link.{Link}
 use Rattle.nesting_bound.specs.declared.graph.Place.{Place}
 use Rattle.nesting_bound.specs.Graph as graph
-use Rattle.nesting_bound.specs.Chain.{kind_numbers, IsChainFrom, ends, goes, edge_cmp, turn_of, entry_of}
+use Rattle.nesting_bound.specs.Chain.{way_numbers, IsChainFrom, ends, goes, edge_cmp, turn_of, entry_of}
 use Rattle.nesting_bound.specs.Least.{IsLeast}
 use Rattle.family_graph.specs.Graphs.{insts_of, HasPlaceOf, HasEntryOf, IsGraphOf}
 use Rattle.family_graph.specs.Laws.{GraphsAreAlike}
@@ -120,7 +120,7 @@ module _ (task : Task) (nodes : List Node) (gs hs : List GraphInst) (g : IsGraph
 
   turn_same : (e : Entered) → turn_of hs e ≡ turn_of gs e
   unfolding turn_of
-  turn_same e = ap (λ (x : ℕ). e.node ∷ kind_numbers e.kind ++ x ∷ e.into ∷ []) (entry_same e.into)
+  turn_same e = ap (λ (x : ℕ). e.node ∷ way_numbers e.way ++ x ∷ e.into ∷ []) (entry_same e.into)
 
   cmp_same : (a b : Entered) → edge_cmp hs a b ≡ edge_cmp gs a b
   unfolding edge_cmp

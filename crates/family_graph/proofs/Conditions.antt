@@ -1,5 +1,5 @@
 -- What the conditions on a certificate say of the graph of its family.
-use Rattle.std.proofs.Common.{arith, refl, sym, ap, subst, ◌∙◌, ◌≡◌, ℕ, zero, suc, ◌+◌, ◌<◌, ◌≤◌, Bool, List, [], ◌∷◌, map, length, unwrap_or, Option, Some, slice_get, slice_index, get_or, Contains, nat_cmp, Ordering, Less, Greater}
+use Rattle.std.proofs.Common.{arith, refl, sym, ap, subst, ◌∙◌, ◌≡◌, ℕ, zero, suc, ◌+◌, ◌<◌, ◌≤◌, Bool, List, [], ◌∷◌, map, length, unwrap_or, Option, Some, slice_get, slice_index, get_or, Contains, inl, inr, nat_cmp, Ordering, Less, Greater}
 use Rattle.std.specs.Cmp.{nat_cmp_is}
 use Rattle.std.specs.Cmp.Lexicographic.{slice_cmp}
 use Rattle.std.specs.Int.{from_bool}
@@ -8,23 +8,27 @@ use Rattle.std.specs.Ordering.{ordering_then}
 use Rattle.std.proofs.lemmas.Option.{slice_get_within, get_or_from_slice_get}
 use Rattle.std.proofs.lemmas.List.{length-map}
 use Rattle.std.proofs.lemmas.Map.Keys.{Less-from_sorted}
-use Rattle.basics.specs.Items.{get_contained}
+use Rattle.basics.specs.Items.{contained_at, get_contained}
 use Rattle.abs_state.specs.Frames.{entered}
 use Rattle.mask_states.specs.declared.keys.EdgeKind.{EdgeKind}
 use Rattle.mask_states.specs.declared.keys.Kind.{Kind}
 use Rattle.mask_states.specs.declared.keys.Kind.TheVariants.{Root, Call, Vector}
 use Rattle.mask_states.specs.declared.keys.InstKey.{InstKey}
-use Rattle.mask_states.specs.Keys.{root_inst, entry_key, inst_numbers, offset_of}
+use Rattle.mask_states.specs.declared.keys.NodeKey.{NodeKey}
+use Rattle.mask_states.specs.Keys.{root_inst, entry_key, inst_numbers, offset_of, cut_at}
 use Rattle.mask_states.specs.Order.{inst_cmp}
 use Rattle.local_rules.specs.declared.local.Node.{Node}
+use Rattle.local_laws.specs.Laws.{HasKey}
 use Rattle.edge_rules.specs.Edges.{Enters, entering}
+use Rattle.edge_rules.specs.Nest.{NestEdge, recurs, enters as by_node}
 use Rattle.edge_rules.specs.Families.{IsCovered}
 use Rattle.nesting_bound.specs.declared.graph.GraphInst.{GraphInst}
 use Rattle.nesting_bound.specs.declared.graph.Place.{Place}
 use Rattle.nesting_bound.specs.Graph as graph
 use Rattle.nesting_bound.specs.Chain.{HasSome, HavePlaces}
 use Rattle.nesting_bound.specs.Least.{IsLeast}
-use Rattle.family_graph.specs.Graphs.{insts_of, IsPeopled, IsGraphOf}
+use Rattle.nesting_bound.specs.declared.graph.Entered.{Entered}
+use Rattle.family_graph.specs.Graphs.{insts_of, IsPeopled, AreRooted, HasEntryOf, IsGraphOf}
 use Rattle.certificate.specs.Insts.{rank_in, need_in}
 use Rattle.certificate.specs.Claims.{Claim}
 use Rattle.certificate.specs.Valid.{IsSound, MeetsConditions}
@@ -93,13 +97,19 @@ module _ (task : Task) (c : Claim) (nodes : List Node) (meets : MeetsConditions 
     key_is : (i : ℕ) (inst : InstKey) → slice_get (insts_of gs) i ≡ Some inst → inst ≡ key_at i
     key_is i inst e = sym (ap (λ (x : Option InstKey). unwrap_or x root_inst) e)
 
+    -- an edge of the graph is one of the nest
+    nest_edge : (i : ℕ) (e : Entered) (h : HasEntryOf task nodes (insts_of gs) i e) → NestEdge task (Contains nodes) h.inst h.into e.offset
+    nest_edge i e h = elim h.edge [
+      | inl q ↦ by_node q.node q.kind q.back (member q.node e.node q.at) q.same (ap offset_of q.closed) q.enters q.whole
+      | inr q ↦ let n = (is.insts h.into).0 (contained_at (insts_of gs) e.into h.into h.leads) in recurs n.0 n.1 n.2 q.cut q.root
+    ]
+
     pub ranked : graph.AreGraphRanks gs (λ i. rank_in c.instances (key_at i))
-    ranked i e enters =
-        let h = (is.entered i e).0 enters in
-        let at : Contains nodes h.entry.node = member h.entry.node e.node h.entry.at in
+    ranked i e along =
+        let h = (is.entered i e).0 along in
         subst (λ (x : InstKey). rank_in c.instances x < rank_in c.instances (key_at i)) (key_is e.into h.into h.leads)
-        (subst (λ (x : InstKey). rank_in c.instances h.into < rank_in c.instances x) (h.entry.same ∙ key_is i h.inst h.is)
-        (meets.ranks h.entry.node e.kind h.into h.entry.back at h.entry.enters))
+        (subst (λ (x : InstKey). rank_in c.instances h.into < rank_in c.instances x) (key_is i h.inst h.is)
+        (meets.ranks h.inst h.into e.offset (nest_edge i e h)))
 
     pub suffices : graph.AreGraphNeeds gs (λ i. need_in c.instances (key_at i))
     suffices =
@@ -110,32 +120,45 @@ module _ (task : Task) (c : Claim) (nodes : List Node) (meets : MeetsConditions 
               ((meets.needs h.inst).offsets h.place.node p.offset (member h.place.node p.node h.place.at) h.place.same h.place.closed);
           entered = λ i e enters.
               let h = (is.entered i e).0 enters in
-              let at : Contains nodes h.entry.node = member h.entry.node e.node h.entry.at in
-              let n = (meets.needs h.inst).entered h.entry.node e.kind h.into h.entry.back at h.entry.same h.entry.enters in
+              let n = (meets.needs h.inst).entered h.into e.offset (nest_edge i e h) in
               subst (λ (x : InstKey). e.offset + 2 + need_in c.instances x ≤ need_in c.instances (key_at i)) (key_is e.into h.into h.leads)
-              (subst (λ (x : InstKey). e.offset + 2 + need_in c.instances h.into ≤ need_in c.instances x) (key_is i h.inst h.is)
-              (subst (λ (o : ℕ). o + 2 + need_in c.instances h.into ≤ need_in c.instances h.inst) (ap offset_of h.entry.closed) n));
+              (subst (λ (x : InstKey). e.offset + 2 + need_in c.instances h.into ≤ need_in c.instances x) (key_is i h.inst h.is) n);
         }
 
     -- the covered first node of an instance is its place
+    place_by : (inst : InstKey) (i : ℕ) → slice_get (insts_of gs) i ≡ Some inst → HasKey nodes (entry_key inst) → HasSome gs i
+    place_by inst i e has =
+        let p : Place = record { node = has.1.0.0; offset = 0 } in (
+          p,
+          (is.places i p).1
+              (record {
+                inst = inst;
+                is = e;
+                place = record { node = has.0; at = get_contained nodes has.0 has.1.0; same = ap (λ (k : NodeKey). k.inst) has.1.1; closed = ap (λ (k : NodeKey). k.sp) has.1.1 };
+              }),
+        )
+
     place_at : (inst : InstKey) (i : ℕ) → slice_get (insts_of gs) i ≡ Some inst → (s : _) → IsCovered nodes (record { key = entry_key inst; state = s }) → HasSome gs i
-    place_at inst i e s covered =
-        let n : Node = record { key = entry_key inst; state = covered.state } in
-        let p : Place = record { node = covered.present.0; offset = 0 } in
-        (p, (is.places i p).1 (record { inst = inst; is = e; place = record { node = n; at = get_contained nodes n covered.present; same = refl; closed = refl } }))
+    place_at inst i e s covered = place_by inst i e (record { key = entry_key inst; state = covered.state }, (covered.present, refl))
 
     pub root_first : slice_get (insts_of gs) 0 ≡ Some root_inst
     root_first =
         let has = (is.insts root_inst).1 (record { key = entry_key root_inst; state = meets.reset.state }, meets.reset.present, refl) in
         root_at (insts_of gs) has.0 has.1 is.ascending (get_contained (insts_of gs) root_inst has)
 
-    pub places : HavePlaces gs
-    places =
+    pub places : AreRooted task nodes → HavePlaces gs
+    places rooted =
         record {
           root = place_at root_inst 0 root_first _ meets.reset;
           entered = λ i e enters.
               let h = (is.entered i e).0 enters in
-              place_at h.into e.into h.leads _ (landed h.entry.node e.kind h.into h.entry.back (member h.entry.node e.node h.entry.at) h.entry.enters);
+              elim h.edge [
+                | inl q ↦ place_at h.into e.into h.leads _ (landed q.node q.kind h.into q.back (member q.node e.node q.at) q.enters)
+                | inr q ↦
+                    let n = (is.insts h.into).0 (contained_at (insts_of gs) e.into h.into h.leads) in
+                    let own = rooted n.0 e.offset n.1 (subst (λ (k : InstKey). cut_at task.assumptions k ≡ Some e.offset) (sym n.2) q.cut) in
+                    place_by h.into e.into h.leads (subst (λ (k : InstKey). HasKey nodes (entry_key k)) n.2 own)
+              ];
         }
 
     pub root_bound : (ranks needs : List ℕ) → IsLeast gs ranks needs → 0 < length gs → slice_index needs 0 ≤ c.bound

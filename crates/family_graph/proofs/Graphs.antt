@@ -8,6 +8,8 @@ use Rattle.basics.specs.Lists.{one_at, get_pushed}
 use Rattle.basics.specs.Items.{contained_at, get_contained}
 use Rattle.basics.specs.Numbers.{before_or_last}
 use Rattle.avr_model.specs.State.{SIZE}
+use Rattle.vector_table.specs.Entries.{AreEntries}
+use Rattle.edge_laws.proofs.AllLaws.{cut_depths_are_small}
 use Rattle.avr_model.proofs.AllLaws.{devices_are_alike}
 use Rattle.mask_states.specs.declared.keys.InstKey.{InstKey}
 use Rattle.mask_states.specs.declared.keys.SpForm.TheVariants.{Closed}
@@ -83,10 +85,10 @@ module _ (task : Task) (nodes : List Node) (insts : List InstKey) where
       λ h.
           let k = at_key i h.inst h.is in
           let f = ((inst_at i h.inst h.inst.key h.is k).entered e).0 h.has in
-          record { inst = h.inst.key; is = k; into = f.into; leads = f.leads; entry = f.entry },
+          record { inst = h.inst.key; is = k; into = f.into; leads = f.leads; edge = f.edge },
       λ h.
           let m = made.each i h.inst (slice_get_within insts i h.inst h.is) h.is in
-          record { inst = m.0; is = m.1; has = (m.2.entered e).1 (record { into = h.into; leads = h.leads; entry = h.entry }) },
+          record { inst = m.0; is = m.1; has = (m.2.entered e).1 (record { into = h.into; leads = h.leads; edge = h.edge }) },
     )
 
     inst_of : (inst : InstKey) → Contains insts inst ↔ HasInst nodes inst
@@ -112,7 +114,7 @@ first_of : (nodes : List Node) → 0 < length nodes → (n : Node) × (slice_get
 first_of [] h = absurd (omega (arith, h))
 first_of (n ∷ ns) h = (n, refl)
 
-module _ (task : Task) (nodes : List Node) (shown : AreOfSomeDevice nodes) (gs : List GraphInst) (is : IsGraphOf task nodes gs) where
+module _ (task : Task) (nodes : List Node) (shown : AreOfSomeDevice nodes) (entries : AreEntries task.assumptions) (gs : List GraphInst) (is : IsGraphOf task nodes gs) where
   small : (n : Node) (at offset : ℕ) → slice_get nodes at ≡ Some n → n.key.sp ≡ Closed offset → offset ≤ SIZE
   small n at offset here closed =
       let small = (shown.1.all n (contained_at nodes at n here)).small in omega (arith, small, ap offset_of closed, devices_are_alike.most_depth shown.0)
@@ -129,6 +131,6 @@ module _ (task : Task) (nodes : List Node) (shown : AreOfSomeDevice nodes) (gs :
         some = omega (arith, some_inst some, keys_long gs);
         few = few;
         offsets = λ i p h. let q = ((is.places i p).0 h).place in small q.node p.node p.offset q.at q.closed;
-        places = λ i e h. let q = ((is.entered i e).0 h).entry in small q.node e.node e.offset q.at q.closed;
+        places = λ i e h. let q = (is.entered i e).0 h in elim q.edge [ inl x ↦ small x.node e.node e.offset x.at x.closed | inr x ↦ cut_depths_are_small task.assumptions q.into e.offset entries x.cut ];
         within = λ i e h. let q = (is.entered i e).0 h in omega (arith, slice_get_within (insts_of gs) e.into q.into q.leads, keys_long gs);
       }

@@ -1,5 +1,8 @@
 -- Lists and their items.
-use Rattle.std.proofs.Common.{arith, refl, ◌≡◌, ℕ, zero, suc, ◌<◌, List, [], ◌∷◌, ◌++◌, length, Some, slice_get, slice_index, Contains}
+use Rattle.std.proofs.Common.{arith, refl, sym, ap, ◌∙◌, ◌≡◌, ℕ, zero, suc, ◌+◌, ◌<◌, List, [], ◌∷◌, ◌++◌, length, take, get_or, append_assoc, Some, slice_get, slice_index, Contains}
+use Rattle.std.specs.List.{flat_map}
+use Rattle.std.proofs.lemmas.List.{take_more, append-nil}
+use Rattle.std.proofs.lemmas.Grind.{flat_map-append}
 use Rattle.std.proofs.lemmas.Option.{none-some}
 use Rattle.std.specs.List.{AllByRecursion}
 
@@ -19,6 +22,18 @@ index_behind (y ∷ xs) x = index_behind xs x
 
 pub itself : {X : Type 0} (x : X) → Contains (x ∷ []) x
 itself x = (0, omega arith, refl)
+
+-- results of a list's items in order, with one more item
+pub joined_more : {X Y : Type 0} (f : X → List Y) (xs : List X) (i : ℕ) (x : X) (start before now : List Y) → i < length xs → x ≡ get_or xs i x
+    → before ≡ start ++ flat_map f (take i xs) → now ≡ before ++ f x → now ≡ start ++ flat_map f (take (i + 1) xs)
+joined_more f xs i x start before now lt is so e =
+    e ∙ ap (λ ys. ys ++ f x) so ∙ append_assoc start (flat_map f (take i xs)) (f x) ∙ ap (λ ys. start ++ ys) (sym last)
+  where
+    one : flat_map f (get_or xs i x ∷ []) ≡ f x
+    one = append-nil (f (get_or xs i x)) ∙ ap f (sym is)
+
+    last : flat_map f (take (i + 1) xs) ≡ flat_map f (take i xs) ++ f x
+    last = ap (flat_map f) (take_more xs i x lt) ∙ flat_map-append f (take i xs) (get_or xs i x ∷ []) ∙ ap (λ ys. flat_map f (take i xs) ++ ys) one
 
 -- ---- all of a list
 

@@ -95,6 +95,10 @@ pub record IsRecurTo (A : List Entry) (insts : List InstKey) (behind count : ℕ
 abbrev pub AreRecurs : List Entry → List InstKey → ℕ → ℕ → List Entered → List Entered → Type 0
 AreRecurs A insts behind count old new = (e : Entered) → Contains new e ↔ (Contains old e ⊎ IsRecurTo A insts behind count e)
 
+-- they come besides if the instance is the root
+abbrev pub AreRecursOf : List Entry → List InstKey → ℕ → InstKey → List Entered → List Entered → Type 0
+AreRecursOf A insts behind inst old new = (e : Entered) → Contains new e ↔ (Contains old e ⊎ ((inst ≡ root_inst) × IsRecurTo A insts behind (length insts) e))
+
 -- a place of a node between these numbers
 pub record IsPlaceBetween (nodes : List Node) (low high : ℕ) (p : Place) : Type 0 where
   pub above : low ≤ p.node

@@ -5,7 +5,7 @@ ghost use Rattle.std.specs.List.{flat_map};
 ghost use Rattle.nesting_bound.specs.Graph.{IsGraph};
 ghost use Rattle.family_graph.specs.declared.entering.Entering as entering_type;
 ghost use Rattle.family_graph.specs.Graphs.{HasInst, AreWays, IsPeopled, IsGraphOf};
-ghost use Rattle.family_graph.specs.Numbers.{entries_for, AddsAt, AreRecurs, IsInstOf};
+ghost use Rattle.family_graph.specs.Numbers.{entries_for, AddsAt, AreRecurs, AreRecursOf, IsInstOf};
 ghost use Rattle.call_graph.specs.Tasks.{task_of};
 ghost use Rattle.call_graph.specs.Clauses.{AtNumber, Grows};
 ghost use Rattle.family_graph.specs.Numbered.{NumbersAll};
@@ -93,6 +93,23 @@ fn add_recurs(
     Ok(())
 }
 
+// The recur edges, if the instance is the root.
+fn add_root_edges(
+    task: &Task<'_>,
+    insts: &[InstKey],
+    behind: u32,
+    inst: &InstKey,
+    entered: &mut Vec<Entered>,
+) -> Result<(), AllocError>
+    requires { length insts.now ≤ 65536 }
+    ensures { OnOk result (AreRecursOf task.now.assumptions.now insts.now behind inst.now entered.old.items entered.new.items) }
+{
+    if *inst != InstKey::root() {
+        return Ok(());
+    }
+    add_recurs(task, insts, behind, entered)
+}
+
 // The place of the node of this number, with the edges for its entries. A node with a half-written stack pointer has none.
 fn add_node(
     task: &Task<'_>,
@@ -143,9 +160,8 @@ fn instance(
     for at in low..high {
         add_node(task, nodes, numbering, at, ways[at].as_slice(), &mut parts)?;
     }
-    if key == InstKey::root() {
-        add_recurs(task, &numbering.insts, nodes.count() as u32, &mut parts.entered)?;
-    }
+    let behind = nodes.count() as u32;
+    add_root_edges(task, &numbering.insts, behind, &key, &mut parts.entered)?;
     Ok(GraphInst {
         key,
         offsets: Listed::new(parts.offsets),
@@ -167,6 +183,8 @@ pub fn graph_of(
     ensures family { IfOk result (λ graph. IsGraphOf (task_of task.now) nodes.now graph.instances) }
 {
     let _count = nodes.count();
+    // These entries are those of a valid list of assumptions.
+    let _entries = task.assumptions.entries();
     let numbering = numbered(task.alloc, nodes)?;
     let mut instances = Vec::new(task.alloc);
     for i in 0..numbering.insts.len() {

@@ -64,7 +64,7 @@ module _ (task : Task) (f : Family) where
       })
 
   pub more_known : (keys : List NodeKey) (k : NodeKey) (old new : Notes) (seen : Seen) → AreKnownAt task f keys old → AreSeen task f (k ∷ []) seen
-      → seen.worst ≡ None → AreNoted old seen.looks.items new → AreKnownAt task f (keys ++ k ∷ []) new
+      → seen.worst ≡ None → AreNoted task.assumptions old seen.looks.items new → AreKnownAt task f (keys ++ k ∷ []) new
   more_known keys k old new seen known are none noting =
       let there : (n : Node) → FamilyHas f n → k ≡ n.key → HasLook seen.looks.items n.key = λ n has e. look_there (k ∷ []) seen are none n has (this_one k n.key e) in
       record {

@@ -1,8 +1,9 @@
 -- After a round the notes have all nodes, and the nesting is the family's.
-use Rattle.std.proofs.Common.{◌≡◌, refl, sym, ◌∙◌, subst, ℕ, inl, inr, ⊎_elim, List, None, Contains}
+use Rattle.std.proofs.Common.{◌≡◌, refl, sym, ◌∙◌, subst, subst₂, ℕ, inl, inr, ⊎_elim, List, Some, None, Contains}
 use Rattle.mask_states.specs.declared.keys.InstKey.{InstKey}
 use Rattle.mask_states.specs.declared.keys.NodeKey.{NodeKey}
-use Rattle.mask_states.specs.Keys.{offset_of}
+use Rattle.mask_states.specs.Keys.{root_inst, offset_of, cut_at}
+use Rattle.edge_rules.specs.Nest.{recurs, enters as by_node}
 use Rattle.local_rules.specs.declared.local.Node.{Node}
 use Rattle.call_graph.specs.declared.ways.Way.{Way}
 use Rattle.round_table.specs.declared.crossings.Crossing.{Crossing}
@@ -18,7 +19,7 @@ use Rattle.fixpoint.specs.Progress.{IsCaller, IsLeaver, AreTrue, IsKnown, AreKno
 use Rattle.fixpoint.proofs.Looked.{seen_node, look_exit, look_way, look_node, none_faulty, looked}
 use Rattle.local_rules.specs.Site.{Task}
 
-module _ (task : Task) (f : Family) (old new : Notes) (xs : List Look) (noted : AreNoted old xs new) where
+module _ (task : Task) (f : Family) (old new : Notes) (xs : List Look) (noted : AreNoted task.assumptions old xs new) where
   module _ (looks : (x : Look) → Contains xs x → IsLook task f x) where
     -- ---- what was found is so
 
@@ -45,12 +46,15 @@ module _ (task : Task) (f : Family) (old new : Notes) (xs : List Look) (noted : 
         let is = looks h.one h.member in
         record { node = seen_node task f h.one is; has = is.has; of = sym h.has.0; closed = h.has.1 }
 
-    entrance_so : (e : Entrance) → AnyHas xs EntersAt e → Entering task f e.from e.into e.offset
+    entrance_so : (e : Entrance) → AnyHas xs (EntersAt task.assumptions) e → Entering task f e.from e.into e.offset
     entrance_so e h =
         let is = looks h.one h.member in
-        let w = h.has.one in
-        subst (λ (d : Entrance). Entering task f d.from d.into d.offset) (sym h.has.has)
-        (record { node = seen_node task f h.one is; has = is.has; same = refl; at = refl; way = w.kind; back = w.back; enters = (look_way task f h.one is w).0 h.has.member })
+        ⊎_elim
+        (λ r. subst (λ (d : Entrance). Entering task f d.from d.into d.offset) (sym r.1) (recurs (seen_node task f h.one is) is.has refl r.0 refl))
+        (λ b.
+        let w = b.one in
+        subst (λ (d : Entrance). Entering task f d.from d.into d.offset) (sym b.has.1)
+        (by_node (seen_node task f h.one is) w.kind w.back is.has refl refl ((look_way task f h.one is w).0 b.member) b.has.0)) h.has
 
     pub notes_so : AreTrue task f old → AreTrue task f new
     notes_so so = record {
@@ -74,9 +78,11 @@ module _ (task : Task) (f : Family) (old new : Notes) (xs : List Look) (noted : 
               (inr (record { one = h.look; member = h.member; has = (look_exit task f h.look is ∙ e, refl) }));
           inst = (noted.insts h.look.key.inst).1 (inr (record { one = h.look; member = h.member; has = refl }));
           spot = λ offset e. (noted.spots (record { inst = h.look.key.inst; offset = offset })).1 (inr (record { one = h.look; member = h.member; has = (refl, e) }));
-          entrances = λ way inst back e. let w : Way = record { kind = way; inst = inst; back = back } in
+          entrances = λ way inst back e whole. let w : Way = record { kind = way; inst = inst; back = back } in
               (noted.entrances (record { from = h.look.key.inst; into = inst; offset = offset_of h.look.key.sp })).1
-              (inr (record { one = h.look; member = h.member; has = record { one = w; member = (look_way task f h.look is w).1 e; has = refl } }));
+              (inr (record { one = h.look; member = h.member; has = inr (record { one = w; member = (look_way task f h.look is w).1 e; has = (whole, refl) }) }));
+          recur = λ depth cut. (noted.entrances (record { from = root_inst; into = h.look.key.inst; offset = depth })).1
+              (inr (record { one = h.look; member = h.member; has = inl (cut, refl) }));
         })
 
   pub still_known : (n : Node) → IsKnown task old n → IsKnown task new n
@@ -85,12 +91,13 @@ module _ (task : Task) (f : Family) (old new : Notes) (xs : List Look) (noted : 
     leavers = λ x e. (noted.leavers (n.key.inst, leaver n.key x)).1 (inl (k.leavers x e));
     inst = (noted.insts n.key.inst).1 (inl k.inst);
     spot = λ offset e. (noted.spots (record { inst = n.key.inst; offset = offset })).1 (inl (k.spot offset e));
-    entrances = λ way inst back e. (noted.entrances (record { from = n.key.inst; into = inst; offset = offset_of n.key.sp })).1 (inl (k.entrances way inst back e));
+    entrances = λ way inst back e whole. (noted.entrances (record { from = n.key.inst; into = inst; offset = offset_of n.key.sp })).1 (inl (k.entrances way inst back e whole));
+    recur = λ depth cut. (noted.entrances (record { from = root_inst; into = n.key.inst; offset = depth })).1 (inl (k.recur depth cut));
   }
 
 -- the notes of a round without a fault
 pub all_known : (task : Task) (f : Family) (work : List NodeKey) (old new : Notes) (seen : Seen) → Turn task f work old → AreSeen task f work seen
-    → seen.worst ≡ None → AreNoted old seen.looks.items new → AreKnown task f new
+    → seen.worst ≡ None → AreNoted task.assumptions old seen.looks.items new → AreKnown task f new
 all_known task f work old new seen turn are none noted =
     let clean = none_faulty task f work old seen turn are none in
     record {
@@ -104,11 +111,13 @@ pub nesting_is : (task : Task) (f : Family) (notes : Notes) → AreKnown task f 
 nesting_is task f notes known = record {
   insts = λ i. (known.so.insts i, λ h. subst (Contains notes.nesting.insts) h.2 (known.each h.0 h.1).inst);
   spots = λ s. (known.so.spots s, λ h. subst (λ (i : InstKey). Contains notes.nesting.spots (record { inst = i; offset = s.offset })) h.of ((known.each h.node h.has).spot s.offset h.closed));
-  entrances = λ e. (
-    known.so.entrances e,
-    λ h.
-        subst (λ (i : InstKey). Contains notes.nesting.entrances (record { from = i; into = e.into; offset = e.offset })) h.same
-        (subst (λ (o : ℕ). Contains notes.nesting.entrances (record { from = h.node.key.inst; into = e.into; offset = o })) h.at
-        ((known.each h.node h.has).entrances h.way e.into h.back h.enters)),
-  );
+  entrances = λ e. (known.so.entrances e, λ h. edge_noted e.from e.into e.offset h);
 }
+  where
+    -- each edge of the nest is noted
+    edge_noted : (i j : InstKey) (depth : ℕ) → Entering task f i j depth → Contains notes.nesting.entrances (record { from = i; into = j; offset = depth })
+    edge_noted i j depth (by_node n way back has same at e whole) =
+        subst₂ (λ (k : InstKey) (o : ℕ). Contains notes.nesting.entrances (record { from = k; into = j; offset = o })) same at ((known.each n has).entrances way j back e whole)
+    edge_noted i j depth (recurs n has same cut top) =
+        subst₂ (λ (k l : InstKey). Contains notes.nesting.entrances (record { from = k; into = l; offset = depth })) (sym top) same
+        ((known.each n has).recur depth (subst (λ (k : InstKey). cut_at task.assumptions k ≡ Some depth) (sym same) cut))

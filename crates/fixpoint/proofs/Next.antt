@@ -13,6 +13,7 @@ use Rattle.mask_states.specs.Total.{node_total}
 use Rattle.mask_states.proofs.AllLaws.{keys_are_ordered}
 use Rattle.local_rules.specs.declared.local.Node.{Node}
 use Rattle.local_laws.proofs.AllLaws.{local_parts_are_monotone}
+use Rattle.edge_rules.specs.Nest.{recurs, enters as by_node}
 use Rattle.edge_laws.specs.Laws.{with_state}
 use Rattle.edge_laws.proofs.AllLaws.{edges_grow}
 use Rattle.round_table.specs.declared.crossings.Crossing.{Crossing}
@@ -63,18 +64,11 @@ module _ (task : Task) where
         record { node = m; has = l.is; at = c.at; of = c.of; exit = sym w.exit ∙ c.exit }
 
     entering_up : (i j : InstKey) (offset : ℕ) → Entering task f i j offset → Entering task g i j offset
-    entering_up i j offset c =
-        let l = below c.node c.has in
-        let m = with_state c.node l.at in
-        record {
-          node = m;
-          has = l.is;
-          same = c.same;
-          at = c.at;
-          way = c.way;
-          back = c.back;
-          enters = edges_grow.enters task c.node l.at c.way j c.back (low c.node c.has) (high m l.is) l.above (clean m l.is) c.enters;
-        }
+    entering_up i j offset (by_node n way back has same at e whole) =
+        let l = below n has in
+        let m = with_state n l.at in
+        by_node m way back l.is same at (edges_grow.enters task n l.at way j back (low n has) (high m l.is) l.above (clean m l.is) e) whole
+    entering_up i j offset (recurs n has same cut top) = let l = below n has in recurs (with_state n l.at) l.is same cut top
 
     pub so_up : (notes : Notes) → AreTrue task f notes → AreTrue task g notes
     so_up notes so = record {

@@ -136,7 +136,7 @@ module _ (task : Task) where
           exit = sym (look_exit task f h.one is) ∙ h.has.0;
         })
 
-    were_more : (old new : Notes) → WereTrue task f old → AreNoted old xs new → WereTrue task f new
+    were_more : (old new : Notes) → WereTrue task f old → AreNoted task.assumptions old xs new → WereTrue task f new
     were_more old new were noted = record {
       callers = λ i p h. ⊎_elim (were.callers i p) (calls_were (i, p)) ((noted.callers (i, p)).0 h);
       leavers = λ i p h. ⊎_elim (were.leavers i p) (leaves_were (i, p)) ((noted.leavers (i, p)).0 h);

@@ -85,7 +85,8 @@ module _ (task : Task) where
         leavers = k.leavers;
         inst = (alike.insts n.key.inst).0 k.inst;
         spot = λ offset e. (alike.spots (record { inst = n.key.inst; offset = offset })).0 (k.spot offset e);
-        entrances = λ way inst back e. (alike.entrances (record { from = n.key.inst; into = inst; offset = offset_of n.key.sp })).0 (k.entrances way inst back e);
+        entrances = λ way inst back e whole. (alike.entrances (record { from = n.key.inst; into = inst; offset = offset_of n.key.sp })).0 (k.entrances way inst back e whole);
+        recur = λ depth cut. (alike.entrances (record { from = root_inst; into = n.key.inst; offset = depth })).0 (k.recur depth cut);
       };
       so = record {
         callers = known.so.callers;

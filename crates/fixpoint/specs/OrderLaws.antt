@@ -23,7 +23,7 @@ pub record OrdersEnd : Type 0 where
   pub begins : (task : Task) (count : ℕ) → count ≡ cells (first task.assumptions) → IsUnderWay task (first task.assumptions) count blank
   -- what visits of some nodes find is added to the notes
   pub noted : (task : Task) (f : Family) (old new : Notes) (xs : List Look) → AreFormed (device_of task.flash) (has_pairs task.assumptions) f → WereTrue task f old
-      → ((x : Look) → Contains xs x → IsLook task f x) → AreNoted old xs new → WereTrue task f new
+      → ((x : Look) → Contains xs x → IsLook task f x) → AreNoted task.assumptions old xs new → WereTrue task f new
   -- the targets of visited nodes are nodes of the analysis
   pub nodes : (task : Task) (f : Family) (notes : Notes) (xs : List Look) → AreFormed (device_of task.flash) (has_pairs task.assumptions) f → WereTrue task f notes
       → ((x : Look) → Contains xs x → IsLook task f x) → AreNodesIn (device_of task.flash) (has_pairs task.assumptions) (all_targets f notes xs)

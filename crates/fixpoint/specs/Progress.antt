@@ -7,7 +7,7 @@ use Rattle.mask_states.specs.declared.keys.InstKey.{InstKey}
 use Rattle.mask_states.specs.declared.keys.NodeKey.{NodeKey}
 use Rattle.mask_states.specs.declared.keys.EdgeKind.{EdgeKind}
 use Rattle.mask_states.specs.declared.keys.SpForm.TheVariants.{Closed}
-use Rattle.mask_states.specs.Keys.{entry_key, offset_of}
+use Rattle.mask_states.specs.Keys.{root_inst, entry_key, offset_of, cut_at}
 use Rattle.local_rules.specs.declared.local.Exit.{Exit}
 use Rattle.local_rules.specs.declared.local.Node.{Node}
 use Rattle.local_rules.specs.Local.{joined_onto}
@@ -67,8 +67,10 @@ pub record IsKnown (task : Task) (notes : Notes) (n : Node) : Type 0 where
   pub leavers : (x : Exit) → (raw_of task n).exit ≡ Some x → IsCrossing notes.leavers n.key.inst (leaver n.key x)
   pub inst : Contains notes.nesting.insts n.key.inst
   pub spot : (offset : ℕ) → n.key.sp ≡ Closed offset → Contains notes.nesting.spots (record { inst = n.key.inst; offset = offset })
-  pub entrances : (way : EdgeKind) (inst : InstKey) (back : ℕ) → Enters task n way inst back
+  pub entrances : (way : EdgeKind) (inst : InstKey) (back : ℕ) → Enters task n way inst back → cut_at task.assumptions inst ≡ None
       → Contains notes.nesting.entrances (record { from = n.key.inst; into = inst; offset = offset_of n.key.sp })
+  pub recur : (depth : ℕ) → cut_at task.assumptions n.key.inst ≡ Some depth
+      → Contains notes.nesting.entrances (record { from = root_inst; into = n.key.inst; offset = depth })
 
 -- the notes have all nodes of a family without faults, and hold
 pub record AreKnown (task : Task) (f : Family) (notes : Notes) : Type 0 where

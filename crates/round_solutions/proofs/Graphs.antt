@@ -1,5 +1,5 @@
 -- The graph of a solved family, by its list of nodes.
-use Rattle.std.proofs.Common.{◌≡◌, refl, sym, ap, ◌∙◌, subst, ℕ, zero, suc, ◌<◌, ◌≤◌, inl, List, [], ◌∷◌, length, Some, Contains, slice_get, arith}
+use Rattle.std.proofs.Common.{◌≡◌, refl, sym, ap, ◌∙◌, subst, ℕ, zero, suc, ◌<◌, ◌≤◌, inl, inr, List, [], ◌∷◌, length, Some, Contains, slice_get, arith}
 use Rattle.std.proofs.lemmas.List.{length-map}
 use Rattle.std.proofs.lemmas.Option.{none-some, same_Some}
 use Rattle.std.specs.FinMap.{entries, len-entries}
@@ -20,11 +20,14 @@ use Rattle.mask_states.specs.Order.{inst_cmp}
 use Rattle.local_rules.specs.declared.local.Node.{Node}
 use Rattle.edge_rules.specs.declared.edge.Edge.{Edge}
 use Rattle.edge_rules.specs.Edges.{IsFaultless, Enters, by_call, by_interrupt, entering}
+use Rattle.edge_rules.specs.Nest.{recurs, enters as by_node}
 use Rattle.edge_rules.specs.Views.{AreShown}
 use Rattle.edge_laws.specs.Laws.{with_state}
 use Rattle.nesting_bound.specs.declared.graph.Entered.{Entered}
 use Rattle.nesting_bound.specs.declared.graph.GraphInst.{GraphInst}
 use Rattle.nesting_bound.specs.declared.graph.Place.{Place}
+use Rattle.nesting_bound.specs.declared.graph.Way.TheVariants.{Recur}
+use Rattle.nesting_bound.specs.declared.graph.Way.TheVariants.{Enters as Enters_by}
 use Rattle.nesting_bound.specs.Graph as graph
 use Rattle.nesting_bound.specs.Cycle.{IsNamed, group_of}
 use Rattle.family_graph.specs.Graphs.{insts_of, IsPeopled, IsGraphOf}
@@ -110,26 +113,21 @@ module _ (task : Task) (n : ℕ) (f : Family) (solved : IsSolved task n f) where
           into = x.into;
           from = x.is;
           to = inl x.leads;
-          entering = record {
-            node = x.entry.node;
-            has = has_member f x.entry.node (contained_at nodes e.node x.entry.node x.entry.at);
-            same = x.entry.same;
-            at = ap offset_of x.entry.closed;
-            way = e.kind;
-            back = x.entry.back;
-            enters = x.entry.enters;
-          };
+          entering = elim x.edge [
+            | inl q ↦ by_node q.node q.kind q.back (has_member f q.node (contained_at nodes e.node q.node q.at)) q.same (ap offset_of q.closed) q.enters q.whole
+            | inr q ↦ let n = (of.insts x.into).0 (contained_at keys e.into x.into x.leads) in recurs n.0 (has_member f n.0 n.1) n.2 q.cut q.root
+          ];
         }
 
     all_entered : (i j : InstKey) (offset : ℕ) → Entering task f i j offset → told.HasEntryEdge keys gs i j offset
-    all_entered i j offset e =
-        let member = member_has f e.node e.has in
-        let from = numbered i (e.node, e.has, e.same) in
-        let first = peopled e.node e.way j e.back member e.enters in
+    all_entered i j offset (by_node n way back has is_i at e whole) =
+        let member = member_has f n has in
+        let from = numbered i (n, has, is_i) in
+        let first = peopled n way j back member e in
         let to = number_in j ((of.insts j).1 (first.0, first.1.0, ap (λ (k : NodeKey). k.inst) first.1.1)) in
-        let c = closed_at task e.node e.way j e.back e.enters in
-        let same : c.0 ≡ offset = sym (ap offset_of c.1) ∙ e.at in
-        let edge : Entered = record { node = member.0; offset = offset; kind = e.way; into = to.0 } in
+        let c = closed_at task n way j back e in
+        let same : c.0 ≡ offset = sym (ap offset_of c.1) ∙ at in
+        let edge : Entered = record { node = member.0; offset = offset; way = Enters_by way; into = to.0 } in
         record {
           number = from.0;
           edge = edge;
@@ -138,9 +136,21 @@ module _ (task : Task) (n : ℕ) (f : Family) (solved : IsSolved task n f) where
             is = from.1;
             into = j;
             leads = to.1;
-            entry = record { node = e.node; at = get_contained nodes e.node member; same = e.same; closed = c.1 ∙ ap Closed same; back = e.back; enters = e.enters };
+            edge = inl (record { node = n; at = get_contained nodes n member; same = is_i; closed = c.1 ∙ ap Closed same; kind = way; way = refl; back = back; enters = e; whole = whole });
           };
           from = from.1;
+          to = inl to.1;
+          at = refl;
+        }
+    all_entered i j offset (recurs n has is_j cut top) =
+        let to = numbered j (n, has, is_j) in
+        let from : IsNumber keys 0 i = subst (IsNumber keys 0) (sym top) root_at in
+        let edge : Entered = record { node = length nodes; offset = offset; way = Recur; into = to.0 } in
+        record {
+          number = 0;
+          edge = edge;
+          enters = (of.entered 0 edge).1 record { inst = i; is = from; into = j; leads = to.1; edge = inr (record { root = top; way = refl; behind = refl; cut = cut }) };
+          from = from;
           to = inl to.1;
           at = refl;
         }

@@ -317,6 +317,23 @@ pub static ROWS: [(&str, &[Row]); 1] = [(
             ],
             Wanted::Least(Least(&[1, 0], &[8, 4], &[(0, 5, 2, CALL), (1, 6, 8, NONE)])),
         ),
+        // equally deep: a node's edge before a recur edge, and of two recur edges the one with the lesser target
+        Row(
+            &[
+                (NONE, 0, &[(0, 0)], &[(9, 4, RECUR, 1), (9, 4, RECUR, 2)]),
+                (CALL, 9, &[(1, 2)], &[]),
+                (CALL, 7, &[(2, 2)], &[]),
+            ],
+            Wanted::Least(Least(&[1, 0, 0], &[8, 2, 2], &[(0, 9, 4, RECUR), (2, 2, 8, NONE)])),
+        ),
+        Row(
+            &[
+                (NONE, 0, &[(0, 0)], &[(9, 4, RECUR, 1), (3, 4, CALL, 2)]),
+                (CALL, 7, &[(1, 2)], &[]),
+                (CALL, 9, &[(2, 2)], &[]),
+            ],
+            Wanted::Least(Least(&[1, 0, 0], &[8, 2, 2], &[(0, 3, 4, CALL), (2, 2, 8, NONE)])),
+        ),
         // at one node and equally deep: a call before an interrupt, and of two calls the one with the lesser target
         Row(
             &[

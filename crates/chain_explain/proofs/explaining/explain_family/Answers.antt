@@ -5,6 +5,7 @@ use Rattle.chain_explain.specs.Moves.{AreThere}
 use Rattle.chain_explain.proofs.Edges.{are_moves}
 use Rattle.chain_explain.proofs.Conditions.{meets_reached, peopled}
 use Rattle.chain_explain.proofs.Chains.{all_there}
+use Rattle.chain_explain.proofs.Rooted.{rooted}
 use Rattle.chain_explain.proofs.Stepped.{reset_has}
 use Rattle.chain_explain.proofs.Explained.{sums, nests, least}
 use Rattle.chain_explain.proofs.Marks.{kept_few, reached_given}
@@ -35,6 +36,15 @@ deepest_chain-requires-clause-meets c =
     c.deref.ensures.value c.in_ok-reached.ensures in
     meets_reached (task_of c.args.task.now) c.args.family.now.nodes c.in_ok-reached.reached are c.args.certificate.now c.requires.meets
 
+pub deepest_chain-requires-clause-rooted : goal.deepest_chain-requires-clause-rooted
+deepest_chain-requires-clause-rooted c =
+    let shown =
+    filled_lists_are_shown.shown (task_of c.args.task.now) c.args.certificate.now.nodes c.args.family.now.nodes c.requires.filled c.requires.claim.nodes_ascend in
+    let are =
+    reached_given (task_of c.args.task.now) c.args.family.now.nodes c.in_ok-marks.marks.items c.deref.result.now c.in_ok-reached.reached c.in_ok-marks.ensures.reached
+    c.deref.ensures.value c.in_ok-reached.ensures in
+    rooted (task_of c.args.task.now) c.args.family.now.nodes c.in_ok-reached.reached are shown c.requires.meets.edges c.requires.meets.reset
+
 pub parts-requires-clause-moves : goal.parts-requires-clause-moves
 parts-requires-clause-moves c =
     let shown =
@@ -45,7 +55,8 @@ parts-requires-clause-moves c =
 pub parts-requires-clause-there : goal.parts-requires-clause-there
 parts-requires-clause-there c =
     subst (AreThere c.in_ok-reached.reached) (sym c.as_slice.ensures)
-    (all_there (task_of c.args.task.now) c.in_ok-reached.reached c.in_ok-deepest.deepest.need c.in_ok-deepest.deepest.links c.in_ok-deepest.ensures.deepest)
+    (all_there (task_of c.args.task.now) c.in_ok-reached.reached c.in_ok-deepest.deepest.need c.in_ok-deepest.deepest.links
+    (omega (arith, c.in_ok-deepest.ensures.bounded, c.requires.claim.bound_fits, devices_are_alike.most_depth c.args.certificate.now.device)) c.in_ok-deepest.ensures.deepest)
 
 pub returns-clause-sums : goal.returns-clause-sums
 returns-clause-sums c =

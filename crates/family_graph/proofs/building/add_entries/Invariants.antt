@@ -1,6 +1,7 @@
-use Rattle.std.proofs.Common.{◌≡◌, ◌++◌, map, take}
-use Rattle.family_graph.specs.Numbers.{entry_of}
+use Rattle.std.proofs.Common.{◌≡◌, ◌++◌, take}
+use Rattle.std.specs.List.{flat_map}
+use Rattle.family_graph.specs.Numbers.{entries_for}
 use Rattle.family_graph.proofs.building.add_entries.Given as goal
 
 abbrev pub invariant-loop-way : goal.invariant-loop-way
-invariant-loop-way l = l.entered.items ≡ l.initial.entered.items ++ map (entry_of l.numbering.insts.items l.place) (take l.way-index l.ways)
+invariant-loop-way l = l.entered.items ≡ l.initial.entered.items ++ flat_map (entries_for l.task.assumptions.now l.numbering.insts.items l.place) (take l.way-index l.ways)

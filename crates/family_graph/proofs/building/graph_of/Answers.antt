@@ -34,7 +34,7 @@ returns-clause-graph c =
     let end : c.loop-i.i ≡ length insts = omega (arith, c.loop-i-test.false, c.loop-i.auto.i-end, c.len-i-end.ensures) in
     let few : length c.loop-i.instances.items ≤ 65537 = omega (arith, c.loop-i.invariant.count_is, end, c.in_ok-numbering.ensures.few, c.requires.few) in
     subst (λ (gs : List GraphInst). IsGraph gs) (sym c.new.ensures)
-    (composable (task_of c.args.task.now) c.args.nodes.now c.count-count.ensures.shown c.loop-i.instances.items
+    (composable (task_of c.args.task.now) c.args.nodes.now c.count-count.ensures.shown c.entries-entries.ensures.kept c.loop-i.instances.items
     (graph_is (task_of c.args.task.now) c.args.nodes.now insts c.in_ok-numbering.numbering.numbers.items c.in_ok-numbering.ensures c.loop-i.instances.items
     (subst (λ (i : ℕ). AreGraphInsts (task_of c.args.task.now) c.args.nodes.now insts i c.loop-i.instances.items) end c.loop-i.invariant))
     c.requires.some few)

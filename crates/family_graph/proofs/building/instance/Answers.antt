@@ -37,6 +37,6 @@ returns c =
     let end : c.loop-at.at ≡ c.span-low.result.1 = omega (arith, c.loop-at-test.false, c.loop-at.auto.at-end c.span-low.ensures.order) in
     λ inst e.
     instance_made (task_of c.args.task.now) c.args.nodes.now insts c.index.result.now inst c.span-low.result.0 c.span-low.result.1 c.loop-at.at
-    c.loop-at.parts.offsets.items c.new-3.result c.loop-at.parts.entered.items c.new-4.result
+    c.loop-at.parts.offsets.items c.new-3.result c.loop-at.parts.entered.items c.add_root_edges.new.entered.items c.new-4.result
     (one_at insts c.args.i c.index.result.now inst (slice_get_read insts (length insts) c.args.i c.index.result.now refl c.requires.place c.index.ensures) e)
-    c.span-low.ensures end c.new-3.ensures c.new-4.ensures c.loop-at.invariant.0 c.loop-at.invariant.1
+    c.span-low.ensures end c.new-3.ensures c.new-4.ensures c.loop-at.invariant.0 c.loop-at.invariant.1 c.in_ok-add_root_edges.ensures

@@ -24,7 +24,7 @@ chain-requires-clause-bound c =
 
 pub chain-requires-clause-places : goal.chain-requires-clause-places
 chain-requires-clause-places c =
-    places (task_of c.args.task.now) c.args.certificate.now c.args.nodes.now c.requires.meets c.in_ok-graph.graph.instances c.in_ok-graph.ensures.family
+    places (task_of c.args.task.now) c.args.certificate.now c.args.nodes.now c.requires.meets c.in_ok-graph.graph.instances c.in_ok-graph.ensures.family c.requires.rooted
 
 pub returns-clause-root : goal.returns-clause-root
 returns-clause-root c = λ graph family. root_first (task_of c.args.task.now) c.args.certificate.now c.args.nodes.now c.requires.meets graph family

@@ -10,4 +10,4 @@ pub note_all-requires-clause-small : goal.note_all-requires-clause-small
 note_all-requires-clause-small c = λ x i. c.requires.small x (subst (λ (l : List Look). Contains l x) c.deref.ensures.value i)
 
 pub returns-in_ok-note_all-in-None-clause-noted : goal.returns-in_ok-note_all-in-None-clause-noted
-returns-in_ok-note_all-in-None-clause-noted c = subst (λ (l : List Look). AreNoted c.args.notes.now l c.note_all.new.self) c.deref.ensures.value c.in_ok-note_all-in-None.ensures.noted
+returns-in_ok-note_all-in-None-clause-noted c = subst (λ (l : List Look). AreNoted c.args.task.now.assumptions.now c.args.notes.now l c.note_all.new.self) c.deref.ensures.value c.in_ok-note_all-in-None.ensures.noted

@@ -6,11 +6,12 @@ use Rattle.avr_model.proofs.AllLaws.{devices_are_alike}
 use Rattle.mask_states.specs.declared.keys.InstKey.{InstKey}
 use Rattle.mask_states.specs.declared.keys.NodeKey.{NodeKey}
 use Rattle.mask_states.specs.Keys.{offset_of}
+use Rattle.chain_explain.specs.declared.explanation.PartPlace.TheVariants as place
 use Rattle.chain_explain.specs.Explanation.{adds_by}
 use Rattle.chain_explain.specs.Reached.{IsReached}
 use Rattle.chain_explain.specs.Walks.{IsWay}
 use Rattle.chain_explain.proofs.Stepped.{key_there}
-use Rattle.chain_explain.proofs.parts.part.Goals as goal
+use Rattle.chain_explain.proofs.parts.node_part.Goals as goal
 use Rattle.call_graph.specs.Tasks.{task_of}
 
 pub way-requires-clause-there : goal.way-requires-clause-there
@@ -43,8 +44,9 @@ returns c =
       node = w.0;
       at = w.1.0;
       inst = inst;
-      pc = ap (λ (k : NodeKey). k.pc) (sym w.1.1);
-      adds = c.adds.ensures ∙ ap (λ (k : NodeKey). adds_by (offset_of k.sp) c.args.link.now.kind) (sym w.1.1);
+      walk = c.in_ok-walk.walk;
+      place = ap (λ (k : NodeKey). place.Node k.pc c.in_ok-walk.walk) (sym w.1.1);
+      adds = c.adds.ensures ∙ ap (λ (k : NodeKey). adds_by (offset_of k.sp) c.args.link.now.way) (sym w.1.1);
       target = at.0;
       is = at.1;
       way = subst (λ (i : InstKey). IsWay (task_of c.args.task.now) c.args.family.now.nodes i at.0 c.in_ok-walk.walk) inst (c.in_ok-walk.ensures at.0 w.0 at.1 w.1.1);
