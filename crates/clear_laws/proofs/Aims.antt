@@ -1,15 +1,16 @@
 -- The byte of a store goes to an address in its aim's reach, and at its slot.
-use Rattle.std.proofs.Common.{◌≡◌, ◌∙◌, refl, sym, ap, subst, ℕ, zero, suc, ◌+◌, ◌-◌, ◌*◌, ◌<◌, ◌≤◌, ◌&&◌, ⊎_elim, Bool, true, false, nat_lt, nat_le, if◌then◌else◌, Option, Some, None, arith}
+use Rattle.std.proofs.Common.{◌≡◌, ◌∙◌, refl, sym, ap, subst, not, ℕ, zero, suc, ◌+◌, ◌-◌, ◌*◌, ◌<◌, ◌≤◌, ◌&&◌, ⊎_elim, Bool, true, false, nat_lt, nat_le, if◌then◌else◌, Option, Some, None, arith}
 use Rattle.std.specs.Prelude.{⊤}
 use Rattle.std.proofs.lemmas.Bool.{cases_lt}
 use Rattle.std.proofs.lemmas.Bool.Decides.{nat_tests}
 use Rattle.std.proofs.lemmas.Option.{same_Some}
+use Rattle.basics.specs.Numbers.{less_from_test}
 use Rattle.local_laws.proofs.AllLaws.{IsEven, bare_frame, base_pair, may_stand, pair_permitted, constant_is, lowered_is, raised_is, word_is}
 use Rattle.avr_model.specs.declared.device.Device.{Device}
 use Rattle.avr_model.specs.declared.instruction.Base.{Base}
 use Rattle.avr_model.specs.declared.instruction.Pointer.{Pointer}
 use Rattle.avr_model.specs.declared.instruction.Pointer.TheVariants as pointer
-use Rattle.avr_model.specs.Devices.{ramend}
+use Rattle.avr_model.specs.Devices.{io_end, ramend}
 use Rattle.avr_model.proofs.AllLaws.{devices_are_alike}
 use Rattle.avr_model.specs.Sites.{base_register, pointer_register}
 use Rattle.avr_model.specs.State.{State, register, pair, low, high, plus16, minus16}
@@ -27,6 +28,8 @@ use Rattle.local_rules.specs.declared.pointers.Pointed.{Pointed}
 use Rattle.local_rules.specs.Registers.{value, bits}
 use Rattle.local_rules.specs.Reads.{pair_constant, pointed}
 use Rattle.local_rules.specs.Local.{step_before}
+use Rattle.local_rules.specs.Writes.{is_own_slot}
+use Rattle.mask_states.specs.Keys.{offset_of}
 use Rattle.local_rules.specs.Permitted.{may_be}
 use Rattle.local_rules.specs.Cover.{InFrameIn}
 use Rattle.clear_laws.specs.Aims.{Span, Reach, Aim, or_number, least_below, greatest_below, first_byte, last_byte, spanning, pair_span, raised, lowered, pointer_reach, permits_number, slot_at_number, slot_aimed, at_number}
@@ -273,6 +276,43 @@ module _ {followed may : Bool} (m : State) (o : Origin) (k : NodeKey) (s : AbsSt
         reach = record { first = omega arith; last = omega arith };
         slot = λ d e. slot_is k.inst.kind refl (at_number a) a d (λ x is. same_Some a x is) (λ x is. absurd (cc)) e;
       }
+
+  -- ---- a slot of the frame is no byte of I/O
+
+  off_frame : (frame : Option ℕ) (a : ℕ) → ((d : ℕ) → frame ≡ Some d → a ≡ minus16 o.base d) → may ≡ true → a ≤ io_end m.device
+      → not (is_own_slot frame (offset_of k.sp)) ≡ true
+  off_frame None a is on low = refl
+  off_frame (Some d) a is on low = by (nat_lt d (offset_of k.sp)) refl
+    where
+      by : (b : Bool) → nat_lt d (offset_of k.sp) ≡ b → not b ≡ true
+      by false e = refl
+      by true e =
+          let lt = less_from_test d (offset_of k.sp) e in
+          absurd (omega (arith, is d refl, lt, at.room on, at.base_word, low))
+
+  frame_off : (r : ℕ) → r + 1 < 32 → (up a : ℕ) → plus16 (pair m r) up ≡ a → may ≡ true → a ≤ io_end m.device
+      → not (is_own_slot (pointed s r up).frame (offset_of k.sp)) ≡ true
+  frame_off r there up a same on low = off_frame (pointed s r up).frame a (λ d e. sym same ∙ frame_is r there up d e) on low
+
+  pub displaced_off : (b : Base) (q : ℕ) → may ≡ true → plus16 (pair m (base_register b)) q ≤ io_end m.device
+      → not (is_own_slot (pointed s (base_register b) q).frame (offset_of k.sp)) ≡ true
+  displaced_off b q on low = frame_off (base_register b) (base_pair b).0 q _ refl on low
+
+  plain_off : (r : ℕ) → r + 1 < 32 → may ≡ true → pair m r ≤ io_end m.device → not (is_own_slot (pointed s r 0).frame (offset_of k.sp)) ≡ true
+  plain_off r there on low = frame_off r there 0 _ (no_more (pair m r) (pair_small r there)) on low
+
+  before_off : (r : ℕ) → r + 1 < 32 → may ≡ true → minus16 (pair m r) 1 ≤ io_end m.device → not (is_own_slot (pointed s r 65535).frame (offset_of k.sp)) ≡ true
+  before_off r there on low = frame_off r there 65535 _ (one_less (pair m r) (pair_small r there)) on low
+
+  pub pointer_off : (p : Pointer) → may ≡ true → effects.pointed p (pair m (pointer_register p)) ≤ io_end m.device
+      → not (is_own_slot (pointed s (pointer_register p) (step_before p)).frame (offset_of k.sp)) ≡ true
+  pointer_off pointer.ZPlus = plain_off 30 (omega arith)
+  pointer_off pointer.MinusZ = before_off 30 (omega arith)
+  pointer_off pointer.YPlus = plain_off 28 (omega arith)
+  pointer_off pointer.MinusY = before_off 28 (omega arith)
+  pointer_off pointer.X = plain_off 26 (omega arith)
+  pointer_off pointer.XPlus = plain_off 26 (omega arith)
+  pointer_off pointer.MinusX = before_off 26 (omega arith)
 
   -- ---- and the pointer is permitted
 

@@ -4,7 +4,6 @@ use Rattle.avr_model.specs.Devices.{ramend, device_of}
 use Rattle.avr_model.specs.State.{Memory}
 use Rattle.sp_domain.specs.Tags.{Origin}
 use Rattle.mask_states.specs.declared.keys.InstKey.{InstKey}
-use Rattle.mask_states.specs.Keys.{offset_of}
 use Rattle.edge_rules.specs.Families.{RankedFamily, IsSoundFamily}
 use Rattle.edge_rules.specs.Frames.{Frame, AreLeft}
 use Rattle.local_rules.specs.Site.{Task}
@@ -14,8 +13,7 @@ module _ (task : Task) (f : RankedFamily) (memory : Memory) where
   pub within : IsSoundFamily task f → (gs : List Frame) (inst : InstKey) (o : Origin) → AreLeft task f memory gs inst o
       → ramend (device_of task.flash) + f.need_of inst ≤ o.base + f.bound
   within sound [] inst o l = omega (arith, ap f.need_of l.0, l.1, sound.bounded)
-  within sound (g ∷ gs) inst o l =
-      omega (arith, within sound gs g.node.key.inst g.origin l.1, l.0.place, ap offset_of l.0.closed, sound.needs g.node l.0.way inst l.0.back l.0.present l.0.enters)
+  within sound (g ∷ gs) inst o l = omega (arith, l.0.need)
 
   pub base_inside : (gs : List Frame) (inst : InstKey) (o : Origin) → AreLeft task f memory gs inst o → o.base ≤ ramend (device_of task.flash)
   base_inside [] inst o l = omega (arith, l.1)

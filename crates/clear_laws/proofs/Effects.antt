@@ -15,10 +15,12 @@ use Rattle.avr_model.specs.Devices.{Program, io_end, wrapped}
 use Rattle.avr_model.specs.Text.{far}
 use Rattle.avr_model.specs.State.{State, register}
 use Rattle.avr_model.specs.Effects.{set, port, way_back, binary_effect, immediate_effect, unary_effect, effect_of}
-use Rattle.avr_model.specs.Step.{is_pointer_store}
+use Rattle.avr_model.specs.Step.{is_pointer_store, is_push}
+use Rattle.avr_model.specs.Vectors.{sets_ivsel}
 use Rattle.bit_domain.specs.declared.bits.Tri.TheVariants.{Any}
 use Rattle.bit_domain.specs.TriByte.{Has, byte_any}
 use Rattle.bit_domain.proofs.AllLaws.{bytes_are_sets}
+use Rattle.std.proofs.lemmas.Bool.{and_from}
 use Rattle.abs_state.specs.declared.state.AbsState.{AbsState}
 use Rattle.sp_domain.specs.Tags.{Origin}
 use Rattle.mask_states.specs.declared.keys.NodeKey.{NodeKey}
@@ -32,31 +34,36 @@ use Rattle.local_rules.specs.Raw.{Raw, enters, fails, untracked_if}
 use Rattle.local_rules.specs.Flow.{is_half_written, at_closed, indirect_call, relative_call, targets_at}
 use Rattle.local_rules.specs.Local.{row_of}
 use Rattle.local_rules.specs.Cover.{InFrameIn}
-use Rattle.clear_laws.specs.Held.{is_push}
 use Rattle.basics.specs.Numbers.{equals_itself}
 use Rattle.clear_laws.specs.Aims.{Aim, may_write, aim_of}
-use Rattle.clear_laws.specs.Clear.{stored_bits}
+use Rattle.clear_laws.specs.Clear.{stored_bits, may_reach, written_bits}
+use Rattle.clear_laws.proofs.Moving.{ivsel_there}
 use Rattle.clear_laws.proofs.Ports.{PortFits}
 use Rattle.clear_laws.proofs.Rows.{pushes}
-use Rattle.clear_laws.proofs.Aims.{IsAimed, displaced, by_pointer, direct, displaced_permitted, pointer_permitted}
+use Rattle.clear_laws.proofs.Aims.{IsAimed, displaced, by_pointer, direct, displaced_off, pointer_off, displaced_permitted, pointer_permitted}
 use Rattle.local_rules.specs.Site.{Task, site_at}
 
 -- the stack pointer is whole
 abbrev pub IsSpWhole : SpForm → Type 0
 IsSpWhole sp = (offset : ℕ) × (sp ≡ Closed offset)
 
+-- If the byte sets IVSEL at this address, the instruction may write there, and its bits permit the byte.
+abbrev pub MaySetTo : Bool → Device → NodeKey → AbsState → Instr → ℕ → ℕ → Type 0
+MaySetTo may device k s instr a byte = may ≡ true → sets_ivsel device a byte ≡ true → (may_reach k s instr a ≡ true) × Has (written_bits s instr) byte
+
 -- The stores and pushes of an instruction: none; a byte in I/O; a byte within its aim, at a permitted address; a register pushed; or a
 -- return address pushed. It pushes only if the stack pointer is whole, at a node without a fault. A guarded call has no successor in its
 -- frame.
-pub data Does (device : Device) (m : State) (base : ℕ) (k : NodeKey) (s : AbsState) (instr : Instr) (e : Effect) (row guarded_row : Raw) : Type 0 where
-  nothing : e.stores ≡ [] → e.pushes ≡ [] → Does device m base k s instr e row guarded_row
-  to_port : (a byte : ℕ) → a ≤ io_end device → is_pointer_store instr ≡ false → e.stores ≡ set a byte → e.pushes ≡ [] → Does device m base k s instr e row guarded_row
-  by_aim : (a byte : ℕ) (aim : Aim) → aim_of device k s instr ≡ Some aim → IsAimed base aim a → may_write s instr a ≡ true → Has (stored_bits s instr) byte → e.stores ≡ set a byte → e.pushes ≡ []
-      → Does device m base k s instr e row guarded_row
+pub data Does (may : Bool) (device : Device) (m : State) (base : ℕ) (k : NodeKey) (s : AbsState) (instr : Instr) (e : Effect) (row guarded_row : Raw) : Type 0 where
+  nothing : e.stores ≡ [] → e.pushes ≡ [] → Does may device m base k s instr e row guarded_row
+  to_port : (a byte : ℕ) → a ≤ io_end device → is_pointer_store instr ≡ false → MaySetTo may device k s instr a byte → e.stores ≡ set a byte → e.pushes ≡ [] → Does may device m base k s instr e row guarded_row
+  by_aim : (a byte : ℕ) (aim : Aim) → aim_of device k s instr ≡ Some aim → IsAimed base aim a → may_write s instr a ≡ true → Has (stored_bits s instr) byte → MaySetTo may device k s instr a byte
+      → e.stores ≡ set a byte → e.pushes ≡ []
+      → Does may device m base k s instr e row guarded_row
   pushing : (byte : ℕ) → is_push instr ≡ true → pushes instr ≡ true → (row.faults ≡ [] → IsSpWhole k.sp) → e.is_open ≡ false → e.stores ≡ []
-      → e.pushes ≡ set m.sp byte → Does device m base k s instr e row guarded_row
+      → e.pushes ≡ set m.sp byte → Does may device m base k s instr e row guarded_row
   entering : (back : ℕ) → guarded_row.moves ≡ [] → pushes instr ≡ true → (row.faults ≡ [] → IsSpWhole k.sp) → e.is_open ≡ false → e.stores ≡ []
-      → e.pushes ≡ way_back m.sp back → Does device m base k s instr e row guarded_row
+      → e.pushes ≡ way_back m.sp back → Does may device m base k s instr e row guarded_row
 
 -- ---- nodes with no fault
 
@@ -91,6 +98,13 @@ module _ (device : Device) (k : NodeKey) where
 
 port_low : (device : Device) (a : ℕ) → a < 64 → port a ≤ io_end device
 port_low device a h = omega (arith, devices_are_alike.least_io device)
+
+-- IVSEL is in I/O, beyond the reach of `cbi` and `sbi`
+low_port : (device : Device) (a byte : ℕ) → a < 32 → sets_ivsel device (port a) byte ≡ true → ⊥
+low_port device a byte low sets = let high = (ivsel_there device (port a) byte sets).0 in omega (arith, low, high)
+
+ivsel_low : (device : Device) (a byte : ℕ) → sets_ivsel device a byte ≡ true → a ≤ io_end device
+ivsel_low device a byte sets = (ivsel_there device a byte sets).1
 
 -- ---- operations on registers
 
@@ -132,7 +146,7 @@ module _ (words : Program) (m : State) where
 module _ {followed may : Bool} (task : Task) (m : State) (o : Origin) (k : NodeKey) (s t : AbsState) (at : InFrameIn followed may m o k s) (scratch : Bool) (b1 b2 : ℕ) where
   abbrev DoesBy : Device → Instr → Type 0
   DoesBy device instr =
-      Does device m o.base k s instr (effect_of task.flash m instr b1 b2) (row_of task scratch (site_at device k t) instr) (row_of task false (site_at device k t) instr)
+      Does may device m o.base k s instr (effect_of task.flash may m instr b1 b2) (row_of task scratch (site_at device k t) instr) (row_of task false (site_at device k t) instr)
 
   holds : (r : ℕ) → Has (bits s r) (register m r)
   holds r = (register_stands m o k s (bare_frame m o k s at) r).bits
@@ -157,11 +171,15 @@ module _ {followed may : Bool} (task : Task) (m : State) (o : Origin) (k : NodeK
   does_by (i.Bld d b) fits = nothing refl refl
   does_by (i.Bst d b) fits = nothing refl refl
   does_by (i.Ldd d b q) fits = nothing refl refl
-  does_by (i.Std b q r) fits = by_aim _ _ _ refl (displaced m o k s at b q) (displaced_permitted m o k s at b q) (holds r) refl refl
+  does_by (i.Std b q r) fits =
+      by_aim _ _ _ refl (displaced m o k s at b q) (displaced_permitted m o k s at b q) (holds r)
+      (λ on sets. (and_from _ _ (displaced_permitted m o k s at b q) (displaced_off m o k s at b q on (ivsel_low m.device _ _ sets)), holds r)) refl refl
   does_by (i.Lds d a) fits = nothing refl refl
-  does_by (i.Sts a r) fits = by_aim _ _ _ refl (direct m o k s at a) (equals_itself a) (any_holds _) refl refl
+  does_by (i.Sts a r) fits = by_aim _ _ _ refl (direct m o k s at a) (equals_itself a) (any_holds _) (λ on sets. (equals_itself a, holds r)) refl refl
   does_by (i.Ld d p) fits = nothing refl refl
-  does_by (i.St p r) fits = by_aim _ _ _ refl (by_pointer m o k s at p) (pointer_permitted m o k s at p) (holds r) refl refl
+  does_by (i.St p r) fits =
+      by_aim _ _ _ refl (by_pointer m o k s at p) (pointer_permitted m o k s at p) (holds r)
+      (λ on sets. (and_from _ _ (pointer_permitted m o k s at p) (pointer_off m o k s at p on (ivsel_low m.device _ _ sets)), holds r)) refl refl
   does_by (i.LpmZ d) fits = nothing refl refl
   does_by (i.ElpmZ d) fits = nothing refl refl
   does_by (i.LpmZPlus d) fits = nothing refl refl
@@ -171,9 +189,9 @@ module _ {followed may : Bool} (task : Task) (m : State) (o : Origin) (k : NodeK
   does_by (i.Pop d) fits = nothing refl refl
   does_by (i.Push r) fits = pushing _ refl refl (whole_at k.sp k.pc _) refl refl refl
   does_by (i.In d a) fits = nothing refl refl
-  does_by (i.Out a r) fits = to_port (port a) _ (port_low m.device a fits) refl refl refl
-  does_by (i.Cbi a b) fits = to_port (port a) _ (port_low m.device a fits) refl refl refl
-  does_by (i.Sbi a b) fits = to_port (port a) _ (port_low m.device a fits) refl refl refl
+  does_by (i.Out a r) fits = to_port (port a) _ (port_low m.device a fits) refl (λ on sets. (equals_itself (port a), holds r)) refl refl
+  does_by (i.Cbi a b) fits = to_port (port a) _ (port_low m.device a (omega (arith, fits))) refl (λ on sets. absurd (low_port m.device a _ fits sets)) refl refl
+  does_by (i.Sbi a b) fits = to_port (port a) _ (port_low m.device a (omega (arith, fits))) refl (λ on sets. absurd (low_port m.device a _ fits sets)) refl refl
   does_by i.Ijmp fits = nothing refl refl
   does_by i.Icall fits =
       entering _ (no_indirect_moves m.device k (targets_at task.assumptions (site_at m.device k t))) refl (whole_indirect m.device k (targets_at task.assumptions (site_at m.device k t))) refl refl refl

@@ -6,7 +6,7 @@ use Rattle.std.proofs.lemmas.Option.{same_Some}
 use Rattle.basics.specs.Items.{none_in, first_in, further_in, first_or_further}
 use Rattle.avr_model.specs.declared.choice.Choice.{Choice}
 use Rattle.avr_model.specs.declared.choice.Flag.{Flag}
-use Rattle.avr_model.specs.declared.choice.Flag.TheVariants.{Live, Protected, Transfer}
+use Rattle.avr_model.specs.declared.choice.Flag.TheVariants.{Live, Protected, Transfer, Moved}
 use Rattle.avr_model.specs.State.{State}
 use Rattle.avr_model.specs.Assumptions.{is_never}
 use Rattle.avr_model.specs.Devices.{device_of}
@@ -16,7 +16,7 @@ use Rattle.edge_rules.specs.Expansion.{IsFilled}
 use Rattle.edge_laws.proofs.ExpansionLaws.{filled_or_missing}
 use Rattle.frame_laws.proofs.AllLaws.{sound_families_bound_every_run}
 use Rattle.clear_laws.specs.Clear.{IsClear, MayBeFlagged, MayBeTaken, EndsByTake, word_of_flag}
-use Rattle.clear_laws.specs.Causes.{MayWriteProtected, MayWriteLive, MayGoUnlisted, HasCause, MayFlag}
+use Rattle.clear_laws.specs.Causes.{MayWriteProtected, MayWriteLive, MayGoUnlisted, MayMove, HasCause, MayFlag}
 use Rattle.clear_laws.proofs.Caused.{places_have_causes, may_be_flagged}
 use Rattle.clear_laws.proofs.Runs.{flagged_runs_are_told}
 use Rattle.certificate.specs.Claims.{Claim}
@@ -133,7 +133,8 @@ module _ (task : Task) (c : Claim) (places : List FlaggedPlace) (are : ArePlaces
       by : HasCause task (family_of c are.nodes) place.word → TellsCause place
       by (inl p) = inl (λ none. none_in p.0 (subst (λ (xs : List ℕ). Contains xs p.0) none ((is.protected p.0).1 p.1)))
       by (inr (inl l)) = inr (inl (is.live.1 l))
-      by (inr (inr t)) = inr (inr (is.transfer.1 t))
+      by (inr (inr (inl t))) = inr (inr (inl (is.transfer.1 t)))
+      by (inr (inr (inr v))) = inr (inr (inr (is.moves.1 v)))
 
   told_by : (flag : Flag) → MayFlag task (family_of c are.nodes) flag → AreToldOf places flag
   told_by flag caused = by flag caused (place_in places (word_of_flag flag) ((words_told (word_of_flag flag)).1 (may_be_flagged task (family_of c are.nodes) flag caused)))
@@ -149,6 +150,8 @@ module _ (task : Task) (c : Claim) (places : List FlaggedPlace) (are : ArePlaces
           }
       by (Transfer pc target) caused p =
           record { place = p.0; present = p.1.0; told = (p.1.1, (are.each p.0 p.1.0).transfer.1 (subst (MayGoUnlisted task (family_of c are.nodes)) (sym p.1.1) caused)) }
+      by (Moved pc) caused p =
+          record { place = p.0; present = p.1.0; told = (p.1.1, (are.each p.0 p.1.0).moves.1 (subst (MayMove task (family_of c are.nodes)) (sym p.1.1) caused)) }
 
 pub flagged_runs_end_at_places : FlaggedRunsEndAtPlaces
 flagged_runs_end_at_places =

@@ -1,5 +1,5 @@
 -- The slots that may hold a live byte are the least map that the rules preserve.
-use Rattle.std.proofs.Common.{◌≡◌, refl, subst, ℕ, ◌+◌, ◌<◌, Bool, true, false, if◌then◌else◌, nat_le, List, [], Option, Some, None, Contains, arith}
+use Rattle.std.proofs.Common.{◌≡◌, refl, subst, ℕ, ◌+◌, ◌<◌, ◌||◌, Bool, true, false, if◌then◌else◌, nat_le, List, [], Option, Some, None, Contains, arith}
 use Rattle.basics.specs.Booleans.{left_of_and}
 use Rattle.basics.specs.Items.{none_in, each_of_join}
 use Rattle.avr_model.specs.declared.device.Device.{Device}
@@ -26,7 +26,9 @@ use Rattle.local_rules.specs.Local.{row_of, row_by, node_where, refining}
 use Rattle.local_laws.proofs.AllLaws.{joins_are_least, each_of}
 use Rattle.edge_rules.specs.declared.edge.Edge.{Edge}
 use Rattle.edge_rules.specs.Edges.{raw_of, IsFaultless, IsEdge, moving, entering, returning, Enters, by_call, by_interrupt}
-use Rattle.clear_laws.specs.Held.{MayHold, kept, pushed, IsMapClosed, is_push, pushes_register, is_guarded_push}
+use Rattle.avr_model.specs.Assumptions.{has_scratch}
+use Rattle.avr_model.specs.Step.{is_push}
+use Rattle.clear_laws.specs.Held.{MayHold, kept, pushed, IsMapClosed, pushes_register, is_guarded_push}
 use Rattle.clear_laws.specs.StepLaws.{HeldSlotsAreLeast}
 use Rattle.clear_laws.proofs.Rows.{row_by_unless_added}
 use Rattle.local_rules.specs.Site.{Task, site_at}
@@ -59,7 +61,7 @@ push_adds_none _ push = absurd (cc)
 
 row_above : (device : Device) (task : Task) (scratch : Bool) (k : NodeKey) (s : AbsState) (instr : Instr) → is_push instr ≡ true
     → AllAbove (offset_of k.sp) (row_of task scratch (site_at device k s) instr)
-row_above device task scratch k s (i.Push r) push = push_above device scratch k s r k.sp
+row_above device task scratch k s (i.Push r) push = push_above device (scratch || has_scratch task.assumptions k.pc) k s r k.sp
 row_above device task scratch k s _ push = absurd (cc)
 
 -- with pairs, refined successors have the same keys
@@ -94,7 +96,7 @@ not_local (by_call offset site faultless form member) = λ e. cc
 not_local (by_interrupt offset v clears faultless form i delay enabled allowed clearable) = λ e. cc
 
 module _ (task : Task) (nodes : List Node) where
-  pushed_below : (n : Node) (e : Edge) → is_guarded_push task.flash n.key.pc ≡ true → IsEdge task nodes n e → e.kind ≡ kind.Local → offset_of n.key.sp < offset_of e.to.sp
+  pushed_below : (n : Node) (e : Edge) → is_guarded_push task n.key.pc ≡ true → IsEdge task nodes n e → e.kind ≡ kind.Local → offset_of n.key.sp < offset_of e.to.sp
   pushed_below n _ push (moving to faultless member) is =
       let from = joins_are_least.keys (raw_of task n).moves to member in
       subst (λ (k : NodeKey). offset_of n.key.sp < offset_of k.sp) from.1.1

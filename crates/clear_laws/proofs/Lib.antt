@@ -1,9 +1,11 @@
 pub mod Memory
 pub mod Ports
+pub mod Moving
 pub mod Aims
 pub mod Effects
 pub mod Bases
 pub mod Rows
+pub mod Calls
 pub mod Steps
 pub mod Kept
 pub mod Unflagged

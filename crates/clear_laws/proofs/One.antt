@@ -15,7 +15,7 @@ use Rattle.edge_laws.proofs.ExpansionLaws.{filled_or_missing}
 use Rattle.certificate.specs.Claims.{Claim}
 use Rattle.certificate.specs.Valid.{family_of}
 use Rattle.clear_laws.specs.Clear.{IsClear, MayBeFlagged, MayBeTaken}
-use Rattle.clear_laws.specs.Causes.{MayWriteLive, MayGoUnlisted}
+use Rattle.clear_laws.specs.Causes.{MayWriteLive, MayGoUnlisted, MayMove}
 use Rattle.clear_laws.specs.declared.verdict.ClearVerdict.TheVariants.{Clear, Unclear}
 use Rattle.clear_laws.specs.declared.place.FlaggedPlace.{FlaggedPlace}
 use Rattle.clear_laws.specs.Verdict.{AreAllClear, IsFirstUnclear, AreSites, AreNevers}
@@ -78,19 +78,21 @@ same_test P false false h g = refl
 same_test P true false h g = sym (g.1 (h.0 refl))
 same_test P false true h g = h.1 (g.0 refl)
 
-abbrev flagged_place : ℕ → List ℕ → Bool → Bool → FlaggedPlace
-flagged_place word protected live transfer = record { word = word; protected = protected; live = live; transfer = transfer }
+abbrev flagged_place : ℕ → List ℕ → Bool → Bool → Bool → FlaggedPlace
+flagged_place word protected live transfer moves = record { word = word; protected = protected; live = live; transfer = transfer; moves = moves }
 
 module _ (task : Task) (f : RankedFamily) where
   one_place : (x y : FlaggedPlace) → x.word ≡ y.word → IsPlaceOf task f x → IsPlaceOf task f y → x ≡ y
   one_place x y e h k =
-      let here : IsPlaceOf task f (flagged_place x.word y.protected y.live y.transfer) = subst (λ w. IsPlaceOf task f (flagged_place w y.protected y.live y.transfer)) (sym e) k in
+      let here : IsPlaceOf task f (flagged_place x.word y.protected y.live y.transfer y.moves) = subst (λ w. IsPlaceOf task f (flagged_place w y.protected y.live y.transfer y.moves)) (sym e) k in
       let protected : x.protected ≡ y.protected =
       same_lists x.protected y.protected h.ascending here.ascending (λ a m. (here.protected a).1 ((h.protected a).0 m)) (λ a m. (h.protected a).1 ((here.protected a).0 m)) in
       let live : x.live ≡ y.live = same_test (MayWriteLive task f x.word) x.live y.live h.live here.live in
       let transfer : x.transfer ≡ y.transfer = same_test (MayGoUnlisted task f x.word) x.transfer y.transfer h.transfer here.transfer in
-      ap (λ w. flagged_place w x.protected x.live x.transfer) e ∙ ap (λ l. flagged_place y.word l x.live x.transfer) protected
-      ∙ ap (λ t. flagged_place y.word y.protected t x.transfer) live ∙ ap (λ t. flagged_place y.word y.protected y.live t) transfer
+      let moves : x.moves ≡ y.moves = same_test (MayMove task f x.word) x.moves y.moves h.moves here.moves in
+      ap (λ w. flagged_place w x.protected x.live x.transfer x.moves) e ∙ ap (λ l. flagged_place y.word l x.live x.transfer x.moves) protected
+      ∙ ap (λ t. flagged_place y.word y.protected t x.transfer x.moves) live ∙ ap (λ t. flagged_place y.word y.protected y.live t x.moves) transfer
+      ∙ ap (λ t. flagged_place y.word y.protected y.live y.transfer t) moves
 
   same_places : (xs ys : List FlaggedPlace) → map word_of xs ≡ map word_of ys → ((p : FlaggedPlace) → Contains xs p → IsPlaceOf task f p)
       → ((p : FlaggedPlace) → Contains ys p → IsPlaceOf task f p) → xs ≡ ys

@@ -13,16 +13,13 @@ use Rattle.avr_model.specs.Table.{Row, fields, matches, table, decoded, decoded_
 
 abbrev pub PortFits : Instr → Type 0
 PortFits (i.Out a r) = a < 64
-PortFits (i.Cbi a b) = a < 64
-PortFits (i.Sbi a b) = a < 64
+PortFits (i.Cbi a b) = a < 32
+PortFits (i.Sbi a b) = a < 32
 PortFits instr = ⊤
 
 -- a number of five or six places
 small : (p : List ℕ) (w n : ℕ) → bound_of 65 1 p ≡ n → letter 65 0 p w < n
 small p w n e = subst (λ (n : ℕ). letter 65 0 p w < n) e (letter_below 65 p w 0 1 (omega arith))
-
-within : (a : ℕ) → a < 32 → a < 64
-within a h = omega arith
 
 abbrev PortRowsFit : List Row → ℕ → ℕ → Type 0
 PortRowsFit [] w next = ⊤
@@ -30,8 +27,8 @@ PortRowsFit (row ∷ rows) w next = PortFits (row.instr (fields row.pattern w ne
 
 table_fits : (w next : ℕ) → PortRowsFit table w next
 table_fits w next =
-    let cbi = within _ (small (places "1001 1000 AAAA Abbb") w 32 refl) in
-    let sbi = within _ (small (places "1001 1010 AAAA Abbb") w 32 refl) in
+    let cbi = small (places "1001 1000 AAAA Abbb") w 32 refl in
+    let sbi = small (places "1001 1010 AAAA Abbb") w 32 refl in
     let out = small (places "1011 1AAr rrrr AAAA") w 64 refl in
     assumption (cbi, sbi, out)
 

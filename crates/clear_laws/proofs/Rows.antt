@@ -6,6 +6,7 @@ use Rattle.avr_model.specs.declared.instruction.Instr.{Instr}
 use Rattle.avr_model.specs.declared.instruction.Instr.TheVariants as i
 use Rattle.avr_model.specs.Devices.{Program, words_of, size_of, device_of}
 use Rattle.avr_model.specs.Sites.{instruction_at, is_scratch, adds_low, is_some_that, table_site}
+use Rattle.avr_model.specs.Step.{is_call}
 use Rattle.pair_domain.specs.declared.facts.PairFacts.{PairFacts}
 use Rattle.abs_state.specs.declared.state.AbsState.{AbsState}
 use Rattle.mask_states.specs.declared.keys.NodeKey.{NodeKey}
@@ -64,6 +65,12 @@ pushes i.Icall = true
 pushes (i.Call t) = true
 pushes (i.Rcall t) = true
 pushes _ = false
+
+pub calls_push : (instr : Instr) → is_call instr ≡ true → pushes instr ≡ true
+calls_push i.Icall h = refl
+calls_push (i.Call t) h = refl
+calls_push (i.Rcall t) h = refl
+calls_push _ h = absurd (cc)
 
 adds_none : (instr : Instr) → pushes instr ≡ true → adds_low instr ≡ false
 adds_none (i.Push r) h = refl

@@ -19,7 +19,7 @@ use Rattle.edge_rules.specs.Families.{RankedFamily}
 use Rattle.clear_laws.specs.Held.{MayHold}
 use Rattle.clear_laws.specs.Aims.{Span, Reach, Aim, may_write, aim_of}
 use Rattle.clear_laws.specs.Aims.reach as reach
-use Rattle.clear_laws.specs.Clear.{IsHarmless, no_address, under_stack, above_memory, one_register, each_address, free_slot, IsClear, is_flagged_address, is_address_harmless, are_addresses_harmless, permits_pair, AreTargetsListed, is_span_harmless, is_reach_harmless, is_slot_harmless, is_aim_harmless, is_target_listed, are_targets_listed, is_transfer_listed, is_clear_by}
+use Rattle.clear_laws.specs.Clear.{IsHarmless, no_address, under_stack, above_memory, one_register, each_address, free_slot, IsClear, is_flagged_address, is_address_harmless, are_addresses_harmless, permits_pair, AreTargetsListed, is_span_harmless, is_reach_harmless, is_slot_harmless, is_aim_harmless, is_target_listed, are_targets_listed, is_transfer_listed, calls_cut, may_move, is_clear_by}
 use Rattle.clear_laws.specs.StepLaws.{ClearNodesAreTold}
 use Rattle.local_rules.specs.Site.{Task}
 use Rattle.clear_laws.specs.Clear.{store_at}
@@ -198,32 +198,47 @@ module _ (task : Task) (f : RankedFamily) (n : Node) (held : ℕ → Bool) where
     abbrev transfers_listed : Bool
     transfers_listed = is_transfer_listed task n.key.pc n.state x
 
-    clear_at : Frees → (stores_harmless && transfers_listed) ≡ true → IsClear task f n
+    -- it calls no word with a `recur` line, and does not set IVSEL
+    abbrev stays : Bool
+    stays = not (calls_cut task n.key n.state x) && not (may_move task n.key n.state x)
+
+    clear_at : Frees → (stores_harmless && (transfers_listed && stays)) ≡ true → IsClear task f n
     clear_at frees h =
-        let parts = and_parts stores_harmless transfers_listed h in
+        let outer = and_parts stores_harmless (transfers_listed && stays) h in
+        let inner = and_parts transfers_listed stays outer.1 in
+        let last = and_parts (not (calls_cut task n.key n.state x)) (not (may_move task n.key n.state x)) inner.1 in
         record {
           store = λ instr aim at same.
               let e : x ≡ instr = same_Some x instr (sym is ∙ at) in
               aim_clear frees instr (aim_of (device_of task.flash) n.key n.state instr) refl
-              (subst (λ y. is_aim_harmless task f.bound (store_at n.key.pc n.state y) (is_slot_harmless (offset_of n.key.sp) held) (aim_of (device_of task.flash) n.key n.state y) ≡ true) e parts.0) aim same;
+              (subst (λ y. is_aim_harmless task f.bound (store_at n.key.pc n.state y) (is_slot_harmless (offset_of n.key.sp) held) (aim_of (device_of task.flash) n.key n.state y) ≡ true) e outer.0) aim same;
           transfer = λ instr at indirect.
               let e : x ≡ instr = same_Some x instr (sym is ∙ at) in
               targets_listed (device_of task.flash) n.state (jump_line task.assumptions n.key.pc)
               (passes (is_indirect instr) (are_targets_listed (device_of task.flash) n.state (jump_line task.assumptions n.key.pc)) indirect
-              (subst (λ y. is_transfer_listed task n.key.pc n.state y ≡ true) e parts.1));
+              (subst (λ y. is_transfer_listed task n.key.pc n.state y ≡ true) e inner.0));
+          calls = λ instr at.
+              let e : x ≡ instr = same_Some x instr (sym is ∙ at) in
+              subst (λ y. calls_cut task n.key n.state y ≡ false) e (not-true (calls_cut task n.key n.state x) last.0);
+          stays = λ instr at.
+              let e : x ≡ instr = same_Some x instr (sym is ∙ at) in
+              subst (λ y. may_move task n.key n.state y ≡ false) e (not-true (may_move task n.key n.state x) last.1);
         }
 
-    told_at : Holds → IsClear task f n → (stores_harmless && transfers_listed) ≡ true
+    told_at : Holds → IsClear task f n → (stores_harmless && (transfers_listed && stays)) ≡ true
     told_at holds clear =
-        and_from stores_harmless transfers_listed (aim_told holds x (aim_of (device_of task.flash) n.key n.state x) refl (λ aim. clear.store x aim is))
-        (may_pass (is_indirect x) (are_targets_listed (device_of task.flash) n.state (jump_line task.assumptions n.key.pc))
+        and_from stores_harmless (transfers_listed && stays) (aim_told holds x (aim_of (device_of task.flash) n.key n.state x) refl (λ aim. clear.store x aim is))
+        (and_from transfers_listed stays (may_pass (is_indirect x) (are_targets_listed (device_of task.flash) n.state (jump_line task.assumptions n.key.pc))
         (λ indirect. targets_told (device_of task.flash) n.state (jump_line task.assumptions n.key.pc) (clear.transfer x is indirect)))
+        (and_from (not (calls_cut task n.key n.state x)) (not (may_move task n.key n.state x)) (ap not (clear.calls x is)) (ap not (clear.stays x is))))
 
   clear_by : Frees → (x : Option Instr) → instruction_at task.flash n.key.pc ≡ x → is_clear_by task f.bound (record { key = n.key; state = n.state }) held x ≡ true → IsClear task f n
   clear_by frees None is h =
       record {
         store = λ instr aim at same. absurd (let no : None ≡ Some instr = sym is ∙ at in cc);
         transfer = λ instr at indirect. absurd (let no : None ≡ Some instr = sym is ∙ at in cc);
+        calls = λ instr at. absurd (let no : None ≡ Some instr = sym is ∙ at in cc);
+        stays = λ instr at. absurd (let no : None ≡ Some instr = sym is ∙ at in cc);
       }
   clear_by frees (Some x) is h = clear_at x is frees h
 

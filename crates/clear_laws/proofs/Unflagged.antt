@@ -23,8 +23,8 @@ use Rattle.avr_model.specs.Devices.{io_end, ramend, wrapped, device_of}
 use Rattle.avr_model.specs.Sites.{instruction_at, is_scratch}
 use Rattle.avr_model.specs.State.{State, Memory, is_live, i_flag, minus16, register, pair, low, high}
 use Rattle.avr_model.specs.Vectors.{places, has_enables, is_core, is_protected, is_enabled, vector_word, watchdog}
-use Rattle.avr_model.specs.Effects.{set, effect_of, way_back}
-use Rattle.avr_model.specs.Step.{Illegal, Overflow, Flagged, after, all_inside, live_write, flagged_write, protected_write, unless_listed, unlisted_transfer, is_pointer_store, is_indirect, is_unlisted, flag_by, flagged_or, may_take, entering, never_target, take, go}
+use Rattle.avr_model.specs.Effects.{set, way_back}
+use Rattle.avr_model.specs.Step.{Illegal, Overflow, Flagged, after, all_inside, live_write, flagged_write, protected_write, unless_listed, unlisted_transfer, is_call, deep_call, first_of, refused_transfer, moves_vectors, is_pointer_store, is_indirect, is_refused, is_guarding, flag_by, flagged_or, may_take, entering, never_target, take, go}
 use Rattle.bit_domain.specs.declared.bytes.TriByte.{TriByte}
 use Rattle.bit_domain.specs.TriByte.{Has, has}
 use Rattle.mask_states.specs.declared.keys.NodeKey.{NodeKey}
@@ -43,27 +43,31 @@ use Rattle.local_laws.proofs.AllLaws.{open_pairs_hang, above_if_live, bare_frame
 use Rattle.edge_rules.specs.Families.{RankedFamily, IsSoundFamily}
 use Rattle.edge_rules.specs.Frames.{Frame, Runs}
 use Rattle.clear_laws.specs.Aims.{Aim, permits_number, may_write, aim_of}
-use Rattle.clear_laws.specs.Clear.{IsClear, IsHarmless, no_address, under_stack, above_memory, one_register, each_address, free_slot, stored_bits, is_guarded, is_flagged_address, is_address_harmless, permits_by, AreTargetsListed}
+use Rattle.clear_laws.specs.Clear.{IsClear, IsHarmless, no_address, under_stack, above_memory, one_register, each_address, free_slot, stored_bits, is_guarded, is_flagged_address, is_address_harmless, permits_by, AreTargetsListed, may_reach, written_bits, may_move, calls_cut}
 use Rattle.clear_laws.proofs.Memory.{inside_if_live}
 use Rattle.clear_laws.proofs.Ports.{ports_fit}
 use Rattle.clear_laws.proofs.Aims.{IsStoreReached, IsAimed}
 use Rattle.clear_laws.proofs.Bases.{base_inside}
-use Rattle.clear_laws.proofs.Effects.{IsSpWhole, Does, nothing, to_port, by_aim, pushing, entering as enters, does}
-use Rattle.clear_laws.proofs.Rows.{row_of_pushing, not_hung}
+use Rattle.clear_laws.proofs.Calls.{deep_is_cut}
+use Rattle.clear_laws.proofs.Moving.{none_moves, one_moves, may_set_there}
+use Rattle.clear_laws.proofs.Effects.{IsSpWhole, MaySetTo, Does, nothing, to_port, by_aim, pushing, entering as enters, does}
+use Rattle.clear_laws.proofs.Rows.{IsPlainRow, calls_push, row_of_pushing, not_hung}
 use Rattle.clear_laws.proofs.Steps.{whole_sp}
 use Rattle.clear_laws.proofs.Kept.{Holding}
-use Rattle.local_rules.specs.Site.{Task, site_at}
+use Rattle.local_rules.specs.Cover.{effect_by}
+use Rattle.local_rules.specs.Site.{Task, site_at, masks_by}
 use Rattle.clear_laws.specs.Clear.{store_at}
 
 -- ---- the three cases
 
-not_flagged : (t : Bool) (pc : ℕ) (a b c : Option ℕ) (x : State) (flag : Flag) → a ≡ None → b ≡ None → c ≡ None
-    → (if t then flagged_or (flag_by pc a b c) x else Overflow pc) ≢ Flagged flag
-not_flagged false pc a b c x flag ha hb hc = λ e. cc
-not_flagged true pc None None None x flag ha hb hc = λ e. cc
-not_flagged true pc (Some a) b c x flag ha hb hc = absurd (cc)
-not_flagged true pc None (Some b) c x flag ha hb hc = absurd (cc)
-not_flagged true pc None None (Some c) x flag ha hb hc = absurd (cc)
+not_flagged : (t : Bool) (pc : ℕ) (a b c : Option ℕ) (d : Bool) (x : State) (flag : Flag) → a ≡ None → b ≡ None → c ≡ None → d ≡ false
+    → (if t then flagged_or (flag_by pc a b c d) x else Overflow pc) ≢ Flagged flag
+not_flagged false pc a b c d x flag ha hb hc hd = λ e. cc
+not_flagged true pc None None None false x flag ha hb hc hd = λ e. cc
+not_flagged true pc None None None true x flag ha hb hc hd = absurd (cc)
+not_flagged true pc (Some a) b c d x flag ha hb hc hd = absurd (cc)
+not_flagged true pc None (Some b) c d x flag ha hb hc hd = absurd (cc)
+not_flagged true pc None None (Some c) d x flag ha hb hc hd = absurd (cc)
 
 -- ---- transfers
 
@@ -312,7 +316,7 @@ module _ (task : Task) (f : RankedFamily) (sound : IsSoundFamily task f) (m : St
 
   module _ (b1 b2 : ℕ) (instr : Instr) (is : instruction_at task.flash m.pc ≡ Some instr) where
     abbrev effect : Effect
-    effect = effect_of task.flash m instr b1 b2
+    effect = effect_by task m instr b1 b2
 
     -- the effect writes no live byte and no protected one
     pub record IsSafe : Type 0 where
@@ -331,6 +335,9 @@ module _ (task : Task) (f : RankedFamily) (sound : IsSoundFamily task f) (m : St
       pub stores : effect.stores ≡ set address byte
       pub pushes : effect.pushes ≡ []
 
+    stands : (r : ℕ) → r < 32 → ByteStands g.origin (value g.node.state r) (register m r)
+    stands r lt = runs.running.stands.registers r lt
+
     abbrev state : AbsState
     state = before instr g.node.state
 
@@ -344,21 +351,25 @@ module _ (task : Task) (f : RankedFamily) (sound : IsSoundFamily task f) (m : St
           protected = one_protected task instr m.pc g.node.state effect a byte has stores free;
         }
 
-    sorted : Does (device_of task.flash) m g.origin.base k g.node.state instr effect (row_of task (is_scratch task.flash k.pc) (site_at (device_of task.flash) k state) instr)
-        (row_of task false (site_at (device_of task.flash) k state) instr) → IsSafe ⊎ IsStore
+    abbrev Done : Type 0
+    Done =
+        Does (masks_by task) (device_of task.flash) m g.origin.base k g.node.state instr effect (row_of task (is_scratch task.flash k.pc) (site_at (device_of task.flash) k state) instr)
+        (row_of task false (site_at (device_of task.flash) k state) instr)
+
+    sorted : Done → IsSafe ⊎ IsStore
     sorted (nothing stores pushes) =
         inl
         (record {
           live = no_write m.memory _ (ap₂ (λ (ss ps : List Write). ss ++ ps) stores pushes);
           protected = nothing_protected task instr m.pc effect stores;
         })
-    sorted (to_port a byte low plain stores pushes) =
+    sorted (to_port a byte low plain sets stores pushes) =
         inl
         (record {
           live = ap₂ (λ ss ps. live_write m.memory (ss ++ ps)) stores pushes ∙ one_write m.memory a byte (never (is_live m.memory a) (λ live. omega (arith, low, above a live)));
           protected = store_alone task instr m.pc effect plain;
         })
-    sorted (by_aim a byte aim at aimed may has stores pushes) =
+    sorted (by_aim a byte aim at aimed may has sets stores pushes) =
         inr (record { address = a; byte = byte; aim = aim; at = at; aimed = aimed; may = may; has_byte = has; stores = stores; pushes = pushes })
     sorted (pushing byte push plain closes closed stores pushes) =
         let form = closes (row_of_pushing task k g.node.state instr here (sound.faultless g.node runs.present) plain).faultless in
@@ -375,10 +386,42 @@ module _ (task : Task) (f : RankedFamily) (sound : IsSoundFamily task f) (m : St
           protected = nothing_protected task instr m.pc effect stores;
         })
 
+    set_by : (a byte : ℕ) → MaySetTo (masks_by task) (device_of task.flash) k g.node.state instr a byte → effect.stores ≡ set a byte
+        → moves_vectors (device_of task.flash) (masks_by task) effect.stores ≡ true → may_move task k g.node.state instr ≡ true
+    set_by a byte sets stores moves =
+        let parts = one_moves (device_of task.flash) (masks_by task) effect.stores a byte stores moves in
+        let reached = sets parts.0 parts.1 in
+        and_from (masks_by task) _ parts.0
+        (may_set_there (device_of task.flash) (may_reach k g.node.state instr) (written_bits g.node.state instr) a byte parts.1 reached.0 reached.1)
+
+    done_so : Done
+    done_so = does task m g.origin k g.node.state (before instr g.node.state) runs.running (is_scratch task.flash k.pc) b1 b2 (device_of task.flash) runs.device instr (ports_fit task.flash m.pc instr is)
+
     pub writes : IsSafe ⊎ IsStore
-    writes =
-        sorted
-        (does task m g.origin k g.node.state (before instr g.node.state) runs.running (is_scratch task.flash k.pc) b1 b2 (device_of task.flash) runs.device instr (ports_fit task.flash m.pc instr is))
+    writes = sorted done_so
+
+    -- a step that sets IVSEL is at a node whose instruction may
+    abbrev moving : Bool
+    moving = moves_vectors (device_of task.flash) (masks_by task) effect.stores
+
+    moves_by : Done → moving ≡ true → may_move task k g.node.state instr ≡ true
+    moves_by (nothing stores pushes) moves = absurd (none_moves (device_of task.flash) (masks_by task) effect.stores stores moves)
+    moves_by (to_port a byte low plain sets stores pushes) moves = set_by a byte sets stores moves
+    moves_by (by_aim a byte aim at aimed may has sets stores pushes) moves = set_by a byte sets stores moves
+    moves_by (pushing byte push plain closes closed stores pushes) moves = absurd (none_moves (device_of task.flash) (masks_by task) effect.stores stores moves)
+    moves_by (enters back none plain closes closed stores pushes) moves = absurd (none_moves (device_of task.flash) (masks_by task) effect.stores stores moves)
+
+    pub may_move_if : moving ≡ true → may_move task k g.node.state instr ≡ true
+    may_move_if moves = moves_by done_so moves
+
+    plain_row : is_call instr ≡ true → IsPlainRow task k g.node.state instr
+    plain_row calls = row_of_pushing task k g.node.state instr here (sound.faultless g.node runs.present) (calls_push instr calls)
+
+    -- a call that is flagged for its depth is one of a word with a `recur` line
+    pub cut_if_deep : (x : ℕ) → deep_call task.flash task.assumptions m instr effect ≡ Some x → unlisted_transfer task.assumptions m.pc instr effect ≡ None
+        → calls_cut task k g.node.state instr ≡ true
+    cut_if_deep x deep listed =
+        deep_is_cut task m g.origin k g.node.state runs.running b1 b2 runs.device instr plain_row x deep listed (stands 30 (omega arith)).small (stands 31 (omega arith)).small
 
     safe : IsClear task f g.node → IsSafe
     safe clear = ⊎_elim (λ s. s) harmless writes
@@ -387,9 +430,6 @@ module _ (task : Task) (f : RankedFamily) (sound : IsSoundFamily task f) (m : St
         harmless w =
             let free = harmless_free instr w.aim w.address w.aimed w.may (clear.store instr w.aim here w.at) in
             one_safe w.address w.byte w.has_byte free.dead (subst (λ p. is_flagged_address task (store_at p g.node.state instr) w.address ≡ false) (sym runs.running.place.pc) free.free) w.stores w.pushes
-
-    stands : (r : ℕ) → r < 32 → ByteStands g.origin (value g.node.state r) (register m r)
-    stands r lt = runs.running.stands.registers r lt
 
     -- an indirect transfer's word is listed
     z_listed : IsClear task f g.node → is_indirect instr ≡ true → unless_listed (jump_line task.assumptions m.pc) (wrapped m.device (pair m 30)) ≡ None
@@ -403,19 +443,40 @@ module _ (task : Task) (f : RankedFamily) (sound : IsSoundFamily task f) (m : St
 
   module _ (clear : IsClear task f g.node) (flag : Flag) where
     -- without an indirect transfer nothing is unlisted
-    no_transfer : (b1 b2 : ℕ) (instr : Instr) → instruction_at task.flash m.pc ≡ Some instr → unlisted_transfer task.assumptions m.pc instr (effect_of task.flash m instr b1 b2) ≡ None
+    no_transfer : (b1 b2 : ℕ) (instr : Instr) → instruction_at task.flash m.pc ≡ Some instr → unlisted_transfer task.assumptions m.pc instr (effect_by task m instr b1 b2) ≡ None
     unfolding unlisted_transfer
     no_transfer b1 b2 i.Ijmp is = z_listed b1 b2 i.Ijmp is clear refl
     no_transfer b1 b2 i.Icall is = z_listed b1 b2 i.Icall is clear refl
     no_transfer b1 b2 _ is = refl
 
+    -- and no call is too deep, since it enters no word with a `recur` line
+    no_refusal : (b1 b2 : ℕ) (instr : Instr) → instruction_at task.flash m.pc ≡ Some instr → refused_transfer task.flash task.assumptions m instr (effect_by task m instr b1 b2) ≡ None
+    unfolding refused_transfer
+    no_refusal b1 b2 instr is =
+        let listed = no_transfer b1 b2 instr is in
+        ap (λ (o : Option ℕ). first_of o (deep_call task.flash task.assumptions m instr (effect_by task m instr b1 b2))) listed
+        ∙ by listed (deep_call task.flash task.assumptions m instr (effect_by task m instr b1 b2)) refl
+      where
+        by : unlisted_transfer task.assumptions m.pc instr (effect_by task m instr b1 b2) ≡ None → (o : Option ℕ)
+            → deep_call task.flash task.assumptions m instr (effect_by task m instr b1 b2) ≡ o → o ≡ None
+        by listed None e = refl
+        by listed (Some x) e =
+            absurd (never_both (calls_cut task k g.node.state instr) (cut_if_deep b1 b2 instr is x e listed) (clear.calls instr (here b1 b2 instr is)))
+
+    no_move : (b1 b2 : ℕ) (instr : Instr) → instruction_at task.flash m.pc ≡ Some instr
+        → moves_vectors (device_of task.flash) (masks_by task) (effect_by task m instr b1 b2).stores ≡ false
+    no_move b1 b2 instr is =
+        never (moves_vectors (device_of task.flash) (masks_by task) (effect_by task m instr b1 b2).stores)
+        (λ moves. never_both (may_move task k g.node.state instr) (may_move_if b1 b2 instr is moves) (clear.stays instr (here b1 b2 instr is)))
+
     not_going : (b1 b2 : ℕ) (instr : Instr) → instruction_at task.flash m.pc ≡ Some instr → go task.flash task.assumptions m (Some instr) b1 b2 ≢ Flagged flag
     not_going b1 b2 instr is =
-        let effect = effect_of task.flash m instr b1 b2 in
+        let effect = effect_by task m instr b1 b2 in
         let s = safe b1 b2 instr is clear in
-        not_flagged (all_inside m.device effect.pushes || is_unlisted (unlisted_transfer task.assumptions m.pc instr effect)) m.pc (live_write m.memory (effect.stores ++ effect.pushes))
-        (protected_write task.flash task.assumptions m.pc instr effect) (unlisted_transfer task.assumptions m.pc instr effect) (after m (not (is_scratch task.flash m.pc)) effect) flag
-        s.live s.protected (no_transfer b1 b2 instr is)
+        not_flagged (all_inside m.device effect.pushes || is_refused (refused_transfer task.flash task.assumptions m instr effect)) m.pc
+        (live_write m.memory (effect.stores ++ effect.pushes)) (protected_write task.flash task.assumptions m.pc instr effect)
+        (refused_transfer task.flash task.assumptions m instr effect) (moves_vectors (device_of task.flash) (masks_by task) effect.stores)
+        (after m (is_guarding task.flash task.assumptions m.pc instr) effect) flag s.live s.protected (no_refusal b1 b2 instr is) (no_move b1 b2 instr is)
 
     pub by_instruction : (b1 b2 : ℕ) (x : Option Instr) → instruction_at task.flash m.pc ≡ x → go task.flash task.assumptions m x b1 b2 ≢ Flagged flag
     by_instruction b1 b2 None is = λ e. cc
@@ -431,9 +492,9 @@ module _ (task : Task) (f : RankedFamily) (sound : IsSoundFamily task f) (m : St
       whole_where_taken (device_of task.flash) task.assumptions k v k.sp refl (sym place.i ∙ all.1) (sym place.delay ∙ all.2) (on_words (λ device. is_enabled device k.masks v ≡ true) (enabled_too (reads_masks (device_of task.flash) task.assumptions) m.device m.enables k.masks v place.enables all.0))
       allowed (not_hung task k g.node.state (sound.faultless g.node runs.present)) in
       let e = entering m v clears in
-      not_flagged (all_inside m.device e.pushes || is_unlisted (never_target task.assumptions e.pc)) m.pc (live_write m.memory e.pushes) None (never_target task.assumptions e.pc) (after m true (entering m v clears)) flag
+      not_flagged (all_inside m.device e.pushes || is_refused (never_target task.assumptions e.pc)) m.pc (live_write m.memory e.pushes) None (never_target task.assumptions e.pc) false (after m true (entering m v clears)) flag
       (two_writes m.memory m.sp m.pc (sp_dead form) (below_dead form)) refl
-      (ap (λ (b : Bool). if b then Some e.pc else None) (ap (is_never task.assumptions) (vector_is v all.0) ∙ allowed))
+      (ap (λ (b : Bool). if b then Some e.pc else None) (ap (is_never task.assumptions) (vector_is v all.0) ∙ allowed)) refl
 
   -- the choice takes a vector whose word has a `never` line
   pub record IsTaken (c : Choice) : Type 0 where

@@ -1,7 +1,6 @@
 -- The edges of a family within frames, by the numbers of its nodes.
 use Rattle.std.specs.Prelude.{ℕ, ◌≡◌, ◌↔◌, true, List, length, map, Contains, Some}
 use Rattle.std.specs.List.{slice_get}
-use Rattle.avr_model.specs.Devices.{Program}
 use Rattle.mask_states.specs.declared.keys.EdgeKind.TheVariants as kind
 use Rattle.mask_states.specs.declared.keys.NodeKey.{NodeKey}
 use Rattle.mask_states.specs.Keys.{offset_of}
@@ -27,8 +26,8 @@ abbrev pub offsets_of : List Node → List ℕ
 offsets_of nodes = map (λ (n : Node). offset_of n.key.sp) nodes
 
 -- the target with the pushed slot, if the edge is of a guarded push
-abbrev pub IsPushed : Program → List Node → NodeKey → Edge → SlotSeed → Type 0
-IsPushed words nodes k e s = (is_guarded_push words k.pc ≡ true) × IsLandingSeed nodes (offset_of k.sp) e s
+abbrev pub IsPushed : Task → List Node → NodeKey → Edge → SlotSeed → Type 0
+IsPushed task nodes k e s = (is_guarded_push task k.pc ≡ true) × IsLandingSeed nodes (offset_of k.sp) e s
 
 -- a node adds a slot by a guarded push
 pub record SeedComes (task : Task) (nodes : List Node) (s : SlotSeed) : Type 0 where
@@ -37,7 +36,7 @@ pub record SeedComes (task : Task) (nodes : List Node) (s : SlotSeed) : Type 0 w
   pub edge : Edge
   pub is : slice_get nodes at ≡ Some node
   pub from : IsEdge task nodes node edge
-  pub lands : IsPushed task.flash nodes node.key edge s
+  pub lands : IsPushed task nodes node.key edge s
 
 -- For each node, links are the targets of its edges within frames. The seeds are the slots of guarded pushes, and each node has its
 -- number of slots.

@@ -1,7 +1,7 @@
 //! The commands.
 
 ghost use Rattle.std.specs.Prelude.{◌≡◌};
-ghost use Rattle.commands.specs.Commands.{Firmware, Second, Assumptions, assume_of, device_for, file_of, name_of};
+ghost use Rattle.commands.specs.Commands.{Firmware, Second, Assumptions, device_for, file_of, name_of};
 ghost use Rattle.commands.specs.Views.{text_of, command_seen, work_seen};
 
 use crate::size::{ChoiceCount, Size};
@@ -78,18 +78,6 @@ pub struct Request<'a> {
     pub firmware: &'a str,
     pub assume: Option<&'a str>,
     pub work: Work<'a>,
-}
-
-impl<'a> Request<'a> {
-    /// The name of the assumption file, which `clear` does not have.
-    pub fn list(&self) -> Option<&'a str>
-        ensures { text_of result ≡ assume_of (work_seen self.now.work) (text_of self.now.assume) }
-    {
-        match self.work {
-            Work::Clear { .. } => None,
-            _ => self.assume,
-        }
-    }
 }
 
 /// What the program does.

@@ -3,8 +3,9 @@ use Rattle.std.proofs.Common.{◌≡◌, refl, sym, ap, ◌∙◌, subst, ℕ, �
 use Rattle.std.proofs.lemmas.Bool.{cases_eq}
 use Rattle.std.proofs.lemmas.List.{get_or-replicate, length-replicate}
 use Rattle.basics.specs.Items.{none_in, first_or_further, first_in}
+use Rattle.avr_model.specs.Masks.{reads_masks}
 use Rattle.avr_model.specs.declared.instruction.Instr.TheVariants as i
-use Rattle.avr_model.specs.Assumptions.{has_pairs}
+use Rattle.avr_model.specs.Assumptions.{has_pairs, has_masks, has_scratch}
 use Rattle.avr_model.specs.Bits.{any_below, all_below}
 use Rattle.avr_model.specs.Devices.{M328, size_of, device_of, device_row}
 use Rattle.avr_model.specs.Sites.{instruction_at, is_scratch, table_site, ijmp_from}
@@ -212,9 +213,9 @@ room_is_sound =
 
 -- ---- nothing is pushed, so no slot is held, and each node is clear
 
-nothing_pushed : (n : Node) → Contains room_family.nodes n → is_guarded_push over_room n.key.pc ≡ false
-unfolding is_scratch any_below all_below decoded device_row
-nothing_pushed = four (λ (n : Node). is_guarded_push over_room n.key.pc ≡ false) refl refl refl refl
+nothing_pushed : (n : Node) → Contains room_family.nodes n → is_guarded_push (bare over_room) n.key.pc ≡ false
+unfolding is_scratch has_scratch any_below all_below decoded device_row
+nothing_pushed = four (λ (n : Node). is_guarded_push (bare over_room) n.key.pc ≡ false) refl refl refl refl
 
 nothing_held : (k : NodeKey) (d : ℕ) → MayHold (bare over_room) room_family.nodes k d → ⊥
 nothing_held k d may = absurd (let no : false ≡ true = held_slots_are_least.least (bare over_room) room_family.nodes (λ k d. false) k d closed may in cc)
@@ -230,7 +231,7 @@ clear_by_test : (n : Node) → is_clear (bare over_room) 2 n (λ d. false) ≡ t
 clear_by_test n = clear_nodes_are_told.clear (bare over_room) room_family n (λ d. false) (λ d lt none may. nothing_held n.key d may)
 
 room_is_clear : (n : Node) → Contains room_family.nodes n → IsClear (bare over_room) room_family n
-unfolding decoded device_row
+unfolding decoded device_row is_scratch any_below all_below reads_masks has_masks
 room_is_clear =
     four (IsClear (bare over_room) room_family) (clear_by_test (at_depth 0 0) refl) (clear_by_test (at_depth 1 2) refl) (clear_by_test (at_depth 2 2) clear_where_free)
     (clear_by_test (at_depth 4 2) refl)

@@ -1,7 +1,9 @@
 -- Two firmwares that store onto their own stack: onto a free byte, and onto a pushed one.
 use Rattle.std.specs.Prelude.{ℕ, ◌≡◌, true, false, List, [], ◌∷◌, replicate, refl}
+use Rattle.avr_model.specs.Assumptions.{has_masks, has_scratch}
 use Rattle.avr_model.specs.Bits.{any_below, all_below}
 use Rattle.avr_model.specs.Devices.{device_row, Program, M328, image}
+use Rattle.avr_model.specs.Masks.{reads_masks}
 use Rattle.avr_model.specs.Sites.{is_scratch, is_fixed}
 use Rattle.avr_model.specs.Table.{decoded}
 use Rattle.sp_domain.specs.declared.slots.Slot.TheVariants.{Free}
@@ -41,14 +43,14 @@ pushed_family = family_of (at_depth 0 0 ∷ at_depth 1 1 ∷ at_depth 2 2 ∷ at
 
 -- the store is clear exactly if its slot may not hold a live byte
 pub clear_where_free : is_clear (bare over_room) 2 (at_depth 2 2) (λ d. false) ≡ true
-unfolding decoded is_fixed device_row
+unfolding decoded is_fixed device_row reads_masks has_masks
 clear_where_free = refl
 
 pub unclear_where_held : is_clear (bare over_pushed) 2 (at_depth 2 2) (λ d. true) ≡ false
-unfolding decoded is_fixed device_row
+unfolding decoded is_fixed device_row reads_masks has_masks
 unclear_where_held = refl
 
 -- `push` guards its byte; the call that makes room doesn't
-pub push_is_guarded : is_guarded_push over_pushed 1 ≡ true
-unfolding is_scratch any_below all_below decoded device_row
+pub push_is_guarded : is_guarded_push (bare over_pushed) 1 ≡ true
+unfolding is_scratch has_scratch any_below all_below decoded device_row
 push_is_guarded = refl

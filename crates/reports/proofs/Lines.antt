@@ -29,12 +29,6 @@ text_after {A} f w v u xs i x at e g =
     ∙ ap (λ (y : A). with_text w (flat_map f (take i xs) ++ f y)) (sym (get_or_from_slice_get xs i x x at))
     ∙ ap (with_text w) (sym (texts_next f xs i x (slice_get_within xs i x at)))
 
--- two lines
-pub two_lines : AppendingLaws → (w v u : Written) (a b : List (List ℕ)) → w.begun ≡ false → v ≡ with_end (with_words w a) → u ≡ with_end (with_words v b) → u ≡ with_text w (line a ++ line b)
-two_lines k w v u a b n e f =
-    let first : v ≡ with_text w (line a) = k.line w v a n e in
-    more_text w v u (line a) (line b) first (k.line v u b (none_begun w v (line a) first) f)
-
 -- a line, and what follows it, from the beginning
 pub line_and_text : AppendingLaws → (w v u : Written) (a : List (List ℕ)) (more bytes : List ℕ) → w ≡ record { bytes = []; begun = false } → v ≡ with_end (with_words w a) → u ≡ with_text v more → bytes ≡ u.bytes
     → bytes ≡ line a ++ more

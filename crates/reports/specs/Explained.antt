@@ -8,26 +8,37 @@ use Rattle.flash_image.specs.Naming.{Named, least_name}
 use Rattle.cert_words.specs.KeySpelling.{inst_key_words}
 use Rattle.chain_explain.specs.declared.explanation.Explanation.{Explanation}
 use Rattle.chain_explain.specs.declared.explanation.Part.{Part}
+use Rattle.chain_explain.specs.declared.explanation.PartPlace.{PartPlace}
+use Rattle.chain_explain.specs.declared.explanation.PartPlace.TheVariants as place
 use Rattle.reports.specs.Report.{name_word}
 
 -- the bound of the certificate, and the sum of the links
 abbrev pub explain_line : ℕ → Explanation → List (List ℕ)
 explain_line bound x = codes "explain" ∷ codes "bound" ∷ decimal bound ∷ codes "least" ∷ decimal x.least ∷ []
 
+-- the word of a link's place, or the word that calls enter by its recur edge
+abbrev pub place_words : PartPlace → List (List ℕ)
+place_words (place.Node pc walk) = codes "at" ∷ hex_digits pc 4 ∷ []
+place_words (place.Recur word) = codes "recur" ∷ hex_digits word 4 ∷ []
+
 -- a link: its instance, the name of the entry, the word of its place, and its bytes
 abbrev pub link_line : Device → List Named → Part → List (List ℕ)
 link_line device names part =
-    codes "link" ∷ inst_key_words device part.inst ++ name_word (least_name names part.inst.entry) ∷ codes "at" ∷ hex_digits part.pc 4 ∷ codes "adds" ∷ decimal part.adds ∷ []
+    codes "link" ∷ inst_key_words device part.inst ++ name_word (least_name names part.inst.entry) ∷ place_words part.place ++ codes "adds" ∷ decimal part.adds ∷ []
 
 abbrev pub word_text : ℕ → List ℕ
 word_text word = hex_digits word 4
 
--- the words of the path to its place
-abbrev pub path_line : Part → List (List ℕ)
-path_line part = codes "path" ∷ map word_text part.walk
+-- the line of the words of the path to a place; a recur edge has none
+abbrev pub path_line : List ℕ → List (List ℕ)
+path_line walk = codes "path" ∷ map word_text walk
+
+abbrev pub path_text : PartPlace → List ℕ
+path_text (place.Node pc walk) = line (path_line walk)
+path_text (place.Recur word) = []
 
 abbrev pub part_text : Device → List Named → Part → List ℕ
-part_text device names part = line (link_line device names part) ++ line (path_line part)
+part_text device names part = line (link_line device names part) ++ path_text part.place
 
 -- the text of an explanation of a certificate with this bound, for a device
 abbrev pub explanation_text : Device → ℕ → List Named → Explanation → List ℕ

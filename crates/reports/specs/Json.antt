@@ -1,5 +1,5 @@
 -- A report of a certificate as one JSON object. Source: own; JSON is RFC 8259.
-use Rattle.std.specs.Prelude.{ℕ, List, [], ◌∷◌, ◌++◌, map, codes, Option, Some, None, if◌then◌else◌}
+use Rattle.std.specs.Prelude.{ℕ, nat_le, List, [], ◌∷◌, ◌++◌, map, codes, decimal, Option, Some, None, if◌then◌else◌}
 use Rattle.std.specs.List.{flat_map}
 use Rattle.std.specs.Str.Lossy.{utf8_lossy}
 use Rattle.serde_json.specs.Data.{Data, null, number, unsigned, string, array, object, member, no_members}
@@ -17,6 +17,14 @@ abbrev pub count : ℕ → Data
 count n = number (unsigned n)
 
 -- ---- members
+
+-- the greatest number that each reader of JSON keeps
+abbrev pub most_exact : ℕ
+most_exact = 9007199254740991
+
+-- enable bits; a number that some readers would round is a text
+abbrev pub enables_data : ℕ → Data
+enables_data enables = if nat_le enables most_exact then count enables else string (decimal enables)
 
 -- true or false, and null without static data
 abbrev pub fits_data : Device → ℕ → Option ℕ → Data
@@ -45,7 +53,7 @@ name_data (Some name) = string (utf8_lossy name)
 -- an instance, the name of its entry, and its need; keys ascend
 abbrev pub inst_data : List Named → Inst → Data
 inst_data names x = object
-    (member (codes "enables") (count x.key.masks)
+    (member (codes "enables") (enables_data x.key.masks)
     (member (codes "entry") (count x.key.entry)
     (member (codes "i") (count (if x.key.i then 1 else 0))
     (member (codes "kind") (string (kind_word x.key.kind))

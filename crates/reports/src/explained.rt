@@ -4,15 +4,31 @@ ghost use Rattle.std.specs.Prelude.{◌≡◌, ◌<◌, map, IfOk, OnOk, false};
 ghost use Rattle.std.specs.List.{flat_map};
 ghost use Rattle.sb_base.specs.Writing.{with_words, with_end};
 ghost use Rattle.line_reading.specs.Appending.{with_text};
-ghost use Rattle.reports.specs.Explained.{word_text, explain_line, link_line, part_text, explanation_text};
+ghost use Rattle.reports.specs.Explained.{word_text, explain_line, place_words, link_line, path_text, part_text, explanation_text};
 
 use crate::text::write_name;
 use cert_writing::write_inst_key;
-use chain_explain::{Explanation, Part};
+use chain_explain::{Explanation, Part, PartPlace};
 use flash_image::{Device, Names};
 use line_reading::laws::appending_laws;
 use sb_base::LineWriter;
 use std::alloc::{AllocError, Global};
+
+// Writes the word of a link's place, or the word of its recur edge.
+fn write_place(out: &mut LineWriter, place: &PartPlace) -> Result<(), AllocError>
+    ensures { OnOk result (out.new ≡ with_words out.old (place_words place.now)) }
+{
+    match place {
+        PartPlace::Node(pc, _) => {
+            out.word(b"at")?;
+            out.hex(u32::from(*pc), 4)
+        }
+        PartPlace::Recur(word) => {
+            out.word(b"recur")?;
+            out.hex(u32::from(*word), 4)
+        }
+    }
+}
 
 // Writes the line of a link.
 fn write_link(
@@ -27,8 +43,7 @@ fn write_link(
     out.word(b"link")?;
     write_inst_key(out, alloc, device, &part.inst)?;
     write_name(out, names, part.inst.entry)?;
-    out.word(b"at")?;
-    out.hex(u32::from(part.pc), 4)?;
+    write_place(out, &part.place)?;
     out.word(b"adds")?;
     out.dec(u64::from(part.adds))?;
     out.end_line()
@@ -44,7 +59,23 @@ pub fn write_words(out: &mut LineWriter, words: &[u16]) -> Result<(), AllocError
     Ok(())
 }
 
-// Writes the two lines of a link.
+// Writes the line of the path to a place; a recur edge has none.
+fn write_path(out: &mut LineWriter, place: &PartPlace) -> Result<(), AllocError>
+    requires { out.old.begun ≡ false }
+    ensures { OnOk result (out.new ≡ with_text out.old (path_text place.now)) }
+{
+    appending_laws();
+    match place {
+        PartPlace::Node(_, walk) => {
+            out.word(b"path")?;
+            write_words(out, walk.as_slice())?;
+            out.end_line()
+        }
+        PartPlace::Recur(_) => Ok(()),
+    }
+}
+
+// Writes the lines of a link.
 fn write_part(
     out: &mut LineWriter,
     alloc: Global,
@@ -57,9 +88,7 @@ fn write_part(
 {
     appending_laws();
     write_link(out, alloc, device, names, part)?;
-    out.word(b"path")?;
-    write_words(out, part.walk.as_slice())?;
-    out.end_line()
+    write_path(out, &part.place)
 }
 
 // Writes the lines of all links.
@@ -92,7 +121,8 @@ fn write_sum(out: &mut LineWriter, bound: u16, explanation: &Explanation) -> Res
 }
 
 /// The text of an explanation of a certificate with this bound for a device: the sum of its links, and for each link the instance with the name of its
-/// entry, the word of the place, the bytes that it adds, and the words of a shortest path to the place.
+/// entry, the word of the place, the bytes that it adds, and the words of a shortest path to the place; for a recur edge the word that
+/// calls enter in place of both.
 pub fn explanation_text(
     alloc: Global,
     device: Device,

@@ -6,7 +6,7 @@ ghost use Rattle.serde_json.specs.View.{view, members_view};
 ghost use Rattle.serde_json.specs.Written.{compact_text, has_float};
 ghost use Rattle.flash_image.specs.Naming.{least_name};
 ghost use Rattle.cert_words.specs.KeySpelling.{kind_word};
-ghost use Rattle.reports.specs.Json.{fits_data, room_data, static_data, witness_data, name_data, inst_data, insts_text, json_text};
+ghost use Rattle.reports.specs.Json.{fits_data, room_data, static_data, witness_data, enables_data, name_data, inst_data, insts_text, json_text};
 
 use crate::room::{fits_word, room};
 use avr_model::device::Device;
@@ -15,6 +15,9 @@ use flash_image::Names;
 use mask_states::Kind;
 use serde_json::{Map, Value};
 use std::alloc::{AllocError, Global};
+
+// The greatest number that each reader of JSON keeps: one with 53 bits.
+const MOST_EXACT: u64 = 9_007_199_254_740_991;
 
 // A text as a value.
 fn text_value(alloc: Global, text: &str) -> Result<Value, AllocError>
@@ -78,6 +81,17 @@ fn name_value(alloc: Global, names: &Names, word: u16) -> Result<Value, AllocErr
     }
 }
 
+// Enable bits, as a text where they are above the numbers that each reader of JSON keeps.
+fn enables_value(alloc: Global, enables: u64) -> Result<Value, AllocError>
+    ensures { IfOk result (λ v. view v ≡ enables_data enables) }
+{
+    if enables <= MOST_EXACT {
+        Ok(Value::from(enables))
+    } else {
+        Ok(Value::String(enables.to_string(alloc)?))
+    }
+}
+
 // The kind of an instance.
 fn kind_value(alloc: Global, kind: Kind) -> Result<Value, AllocError>
     ensures { IfOk result (λ v. view v ≡ string (kind_word kind)) }
@@ -108,7 +122,7 @@ fn put_members(
         members,
         alloc,
         "enables",
-        Value::from(inst.key.masks.bits()),
+        enables_value(alloc, inst.key.masks.bits())?,
     )?;
     serde_json::put(members, alloc, "entry", Value::from(inst.key.entry))?;
     serde_json::put(members, alloc, "i", Value::from(u8::from(inst.key.i)))?;

@@ -1,5 +1,5 @@
 -- Causes at a word, node by node.
-use Rattle.std.proofs.Common.{◌≡◌, refl, sym, ap, ◌∙◌, subst, ℕ, ◌+◌, ◌<◌, ◌⊎◌, inl, inr, ⊎_elim, ◌==◌, ◌&&◌, ◌||◌, Bool, true, false, not, List, [], ◌∷◌, ◌++◌, length, take, get_or, set, replicate, Some, None, slice_get, Contains, eqb-true, arith}
+use Rattle.std.proofs.Common.{◌≡◌, refl, sym, ap, ap₂, ◌∙◌, subst, ℕ, ◌+◌, ◌<◌, ◌⊎◌, inl, inr, ⊎_elim, ◌==◌, ◌&&◌, ◌||◌, Bool, true, false, not, List, [], ◌∷◌, ◌++◌, length, take, get_or, set, replicate, Some, None, slice_get, Contains, eqb-true, arith}
 use Rattle.std.specs.Prelude.{◌↔◌}
 use Rattle.std.specs.List.Sorted.{IsStrictlySortedBy}
 use Rattle.std.specs.Ordering.{nat_cmp}
@@ -14,7 +14,7 @@ use Rattle.basics.specs.Numbers.{before_or_last, equals_itself}
 use Rattle.store_clear.proofs.Marks.{none_on}
 use Rattle.avr_model.specs.declared.instruction.Instr.{Instr}
 use Rattle.avr_model.specs.Sites.{instruction_at}
-use Rattle.avr_model.specs.Step.{is_pointer_store, is_indirect}
+use Rattle.avr_model.specs.Step.{is_pointer_store, is_indirect, is_call}
 use Rattle.avr_model.specs.Assumptions.{is_fixed_site}
 use Rattle.avr_model.specs.Devices.{io_end, device_of}
 use Rattle.abs_state.specs.declared.state.AbsState.{AbsState}
@@ -24,9 +24,9 @@ use Rattle.edge_rules.specs.Families.{RankedFamily}
 use Rattle.edge_laws.proofs.ExpansionLaws.{filled_or_missing}
 use Rattle.certificate.specs.Claims.{Claim}
 use Rattle.certificate.specs.Valid.{family_of}
-use Rattle.clear_laws.specs.Clear.{IsClear, MayBeFlagged, is_transfer_listed, stored_bits, is_guarded, is_flagged_address}
+use Rattle.clear_laws.specs.Clear.{IsClear, MayBeFlagged, is_transfer_listed, calls_cut, may_move, stored_bits, is_guarded, is_flagged_address}
 use Rattle.clear_laws.specs.Causes.{may_write_protected, may_write_live, IsCause}
-use Rattle.clear_laws.proofs.AllLaws.{not_listed, unguarded}
+use Rattle.clear_laws.proofs.AllLaws.{not_listed, unlisted_goes, unguarded}
 use Rattle.clear_laws.specs.Reach.{is_on}
 use Rattle.clear_laws.specs.declared.slots.Asks.{Asks}
 use Rattle.clear_laws.specs.declared.place.FlaggedPlace.{FlaggedPlace}
@@ -34,7 +34,9 @@ use Rattle.clear_laws.specs.Places.{word_of, IsPlaceOf, ArePlaces}
 use Rattle.clear_laws.specs.Verdict.{AreSites}
 use Rattle.store_clear.specs.Settling.{ask_at, passes, IsTold, places_of}
 use Rattle.store_clear.specs.Takes.{AreMarkedBeside}
-use Rattle.store_clear.specs.Causing.{IsProtectedBelow, is_unclear_at, PassesBelow, IsProtectedAt, IsLiveAt, ArePlacesOf}
+use Rattle.store_clear.specs.Causing.{IsProtectedBelow, is_unclear_at, PassesBelow, IsProtectedAt, may_happen, HappensAt, ArePlacesOf}
+use Rattle.store_clear.specs.declared.causes.Other.{Other}
+use Rattle.store_clear.specs.declared.causes.Other.TheVariants.{Live, Moves}
 use Rattle.store_clear.specs.ByWord.{IsNext}
 use Rattle.store_clear.proofs.Marked.{placed, placing, ascending}
 use Rattle.store_clear.proofs.Linked.{skipped, reached}
@@ -116,8 +118,8 @@ module _ (task : Task) (nodes : List Node) (asks : List Asks) (pc : ℕ) (instr 
   -- those that come next
   pub nodes_skipped : (start at : ℕ) (old new : List Bool) → IsNext nodes asks pc start at → AreMarkedBeside (At start) old new → AreMarkedBeside (At at) old new
   nodes_skipped start at old new next so =
-      marks_as (At start) (At at) old new (λ a t. (t.0, reached nodes asks pc start at next (λ s. may_write_protected task (store_at pc s instr) a) t.1))
-      (λ a t. (t.0, skipped nodes asks pc start at next (λ s. may_write_protected task (store_at pc s instr) a) t.1)) so
+      marks_as (At start) (At at) old new (λ a t. (t.0, reached nodes asks pc start at next (λ (n : Node). may_write_protected task (store_at pc n.state instr) a) t.1))
+      (λ a t. (t.0, skipped nodes asks pc start at next (λ (n : Node). may_write_protected task (store_at pc n.state instr) a) t.1)) so
 
 -- ---- the list
 
@@ -145,43 +147,37 @@ ascending_given list last are = subst (IsStrictlySortedBy nat_cmp) (sym are) (as
 
 -- ---- one after the other
 
-module _ (task : Task) (bound : ℕ) (nodes : List Node) (asks : List Asks) (pc : ℕ) (instr : Instr) where
-  abbrev LiveAt : ℕ → Type 0
-  LiveAt count = IsLiveAt task bound nodes asks pc instr count
+module _ (task : Task) (bound : ℕ) (other : Other) (nodes : List Node) (asks : List Asks) (pc : ℕ) (instr : Instr) where
+  abbrev At : ℕ → Type 0
+  At count = HappensAt task bound other nodes asks pc instr count
+
+  abbrev happens : Node → Bool
+  happens n = may_happen task bound other pc instr n
 
   module _ (at : ℕ) (n : Node) (k : NodeKey) (s : AbsState) (is : slice_get nodes at ≡ Some n) (key : n.key ≡ k) (state : n.state ≡ s) where
-    pub live_found : (count : ℕ) → at < count → is_unclear_at pc k (ask_at asks at) ≡ true → may_write_live task bound (store_at pc s instr) ≡ true → LiveAt count
-    live_found count lt unclear live =
-        record {
-          at = at;
-          node = n;
-          below = lt;
-          is = is;
-          unclear = ap (λ (x : NodeKey). is_unclear_at pc x (ask_at asks at)) key ∙ unclear;
-          passes = ap (λ (x : AbsState). may_write_live task bound (store_at pc x instr)) state ∙ live;
-        }
+    same_test : happens n ≡ happens (record { key = k; state = s })
+    same_test = ap₂ (λ (x : NodeKey) (y : AbsState). happens (record { key = x; state = y })) key state
 
-    pub live_not : (LiveAt at → ⊥) → may_write_live task bound (store_at pc s instr) ≡ false → LiveAt (at + 1) → ⊥
-    live_not none here t =
+    pub happens_found : (count : ℕ) → at < count → is_unclear_at pc n.key (ask_at asks at) ≡ true → happens (record { key = k; state = s }) ≡ true → At count
+    happens_found count lt unclear passes =
+        record { at = at; node = n; below = lt; is = is; unclear = unclear; passes = same_test ∙ passes }
+
+    pub happens_not : (At at → ⊥) → happens (record { key = k; state = s }) ≡ false → At (at + 1) → ⊥
+    happens_not none here t =
         ⊎_elim (λ lt. none (record { at = t.at; node = t.node; below = lt; is = t.is; unclear = t.unclear; passes = t.passes }))
         (λ e.
         let m : t.node ≡ n = one_at nodes at t.node n (subst (λ i. slice_get nodes i ≡ Some t.node) e t.is) is in
-        never_both (may_write_live task bound (store_at pc s instr))
-        (sym (ap (λ (x : Node). may_write_live task bound (store_at pc x.state instr)) m ∙ ap (λ (x : AbsState). may_write_live task bound (store_at pc x instr)) state) ∙ t.passes) here)
+        never_both (happens (record { key = k; state = s })) (sym (ap happens m ∙ same_test) ∙ t.passes) here)
         (before_or_last t.at at t.below)
 
-  pub live_none : LiveAt 0 → ⊥
-  live_none t = let lt = t.below in omega (arith, lt)
+  pub happens_none : At 0 → ⊥
+  happens_none t = let lt = t.below in omega (arith, lt)
 
   -- none among those that come next
-  pub live_skipped : (start at : ℕ) → IsNext nodes asks pc start at → (LiveAt start → ⊥) → LiveAt at → ⊥
-  live_skipped start at next none t = none (skipped nodes asks pc start at next (λ s. may_write_live task bound (store_at pc s instr)) t)
+  pub happens_skipped : (start at : ℕ) → IsNext nodes asks pc start at → (At start → ⊥) → At at → ⊥
+  happens_skipped start at next none t = none (skipped nodes asks pc start at next happens t)
 
 -- ---- a word
-
-listed_by : (a b : Bool) → not (not a || b) ≡ true → a ≡ true
-listed_by true b h = refl
-listed_by false b h = absurd (cc)
 
 module _ (task : Task) (c : Claim) (nodes : List Node) (asks : List Asks) (told : IsTold task c nodes asks) (pc : ℕ) where
   abbrev f : RankedFamily
@@ -193,8 +189,8 @@ module _ (task : Task) (c : Claim) (nodes : List Node) (asks : List Asks) (told 
       and_from (not (passes (ask_at asks at))) (n.key.pc == pc) (not_from_never (passes (ask_at asks at)) (λ h. unclear ((told.told.each at n is).0 h)))
       (ap (λ p. p == pc) word ∙ equals_itself pc)
 
-  module _ (instr : Instr) (is : instruction_at task.flash pc ≡ Some instr) (test : AbsState → Instr → Bool) where
-    pub cause_from : PassesBelow nodes asks pc (λ s. test s instr) (length asks) → IsCause task f pc test
+  module _ (instr : Instr) (is : instruction_at task.flash pc ≡ Some instr) (test : Node → Instr → Bool) where
+    pub cause_from : PassesBelow nodes asks pc (λ (n : Node). test n instr) (length asks) → IsCause task f pc test
     cause_from t =
         let parts = and_parts (not (passes (ask_at asks t.at))) (t.node.key.pc == pc) t.unclear in
         record {
@@ -207,7 +203,7 @@ module _ (task : Task) (c : Claim) (nodes : List Node) (asks : List Asks) (told 
           passes = t.passes;
         }
 
-    pub cause_to : IsCause task f pc test → PassesBelow nodes asks pc (λ s. test s instr) (length asks)
+    pub cause_to : IsCause task f pc test → PassesBelow nodes asks pc (λ (n : Node). test n instr) (length asks)
     cause_to cause =
         let p = place_of_contained nodes cause.node cause.present in
         record {
@@ -216,23 +212,36 @@ module _ (task : Task) (c : Claim) (nodes : List Node) (asks : List Asks) (told 
           below = let lt = slice_get_within nodes p.0 cause.node p.1 in let same = told.told.count in omega (arith, lt, same);
           is = p.1;
           unclear = asks_there cause.node p.0 p.1 cause.is cause.unclear;
-          passes = ap (test cause.node.state) (same_Some instr cause.instr (sym is ∙ cause.instruction)) ∙ cause.passes;
+          passes = ap (test cause.node) (same_Some instr cause.instr (sym is ∙ cause.instruction)) ∙ cause.passes;
         }
 
-  none_without : (test : AbsState → Instr → Bool) → instruction_at task.flash pc ≡ None → IsCause task f pc test → ⊥
+  none_without : (test : Node → Instr → Bool) → instruction_at task.flash pc ≡ None → IsCause task f pc test → ⊥
   none_without test is cause = let no : None ≡ Some cause.instr = sym is ∙ cause.instruction in cc
 
   never_true : false ≡ true → ⊥
   never_true e = cc
 
-  pub nothing_there : instruction_at task.flash pc ≡ None → IsPlaceOf task f (record { word = pc; protected = []; live = false; transfer = false })
+  abbrev to_protected : ℕ → Node → Instr → Bool
+  to_protected a n y = may_write_protected task (store_at pc n.state y) a
+
+  abbrev onto_live : Node → Instr → Bool
+  onto_live n y = may_write_live task c.bound n.key (store_at pc n.state y)
+
+  abbrev unlisted : Node → Instr → Bool
+  unlisted n y = not (is_transfer_listed task pc n.state y) || calls_cut task n.key n.state y
+
+  abbrev to_ivsel : Node → Instr → Bool
+  to_ivsel n y = may_move task n.key n.state y
+
+  pub nothing_there : instruction_at task.flash pc ≡ None → IsPlaceOf task f (record { word = pc; protected = []; live = false; transfer = false; moves = false })
   unfolding IsStrictlySortedBy
   nothing_there is =
       record {
         ascending = tt;
-        protected = λ a. (λ h. absurd (none_in a h), λ cause. absurd (none_without (λ s y. may_write_protected task (store_at pc s y) a) is cause));
-        live = (λ h. absurd (never_true h), λ cause. absurd (none_without (λ s y. may_write_live task c.bound (store_at pc s y)) is cause));
-        transfer = (λ h. absurd (never_true h), λ cause. absurd (none_without (λ s y. not (is_transfer_listed task pc s y)) is cause));
+        protected = λ a. (λ h. absurd (none_in a h), λ cause. absurd (none_without (λ n y. to_protected a n y) is cause));
+        live = (λ h. absurd (never_true h), λ cause. absurd (none_without (λ n y. onto_live n y) is cause));
+        transfer = (λ h. absurd (never_true h), λ cause. absurd (none_without (λ n y. unlisted n y) is cause));
+        moves = (λ h. absurd (never_true h), λ cause. absurd (none_without (λ n y. to_ivsel n y) is cause));
       }
 
   -- only addresses below SRAM are guarded
@@ -245,22 +254,23 @@ module _ (task : Task) (c : Claim) (nodes : List Node) (asks : List Asks) (told 
       (and_parts (is_pointer_store instr && not (is_fixed_site task.flash task.assumptions pc)) _ (left_of_and (is_flagged_address task (store_at pc s instr) a) _ h)).1
       (unguarded (device_of task.flash) task.assumptions pc (stored_bits s instr) a (omega (arith, over))))) (cases_lt a (io_end (device_of task.flash) + 1))
 
-  module _ (instr : Instr) (is : instruction_at task.flash pc ≡ Some instr) (protected : List ℕ) (live : Bool)
+  module _ (instr : Instr) (is : instruction_at task.flash pc ≡ Some instr) (protected : List ℕ) (live moves : Bool)
       (exact : (a : ℕ) → Contains protected a ↔ IsProtectedAt task nodes asks pc instr (length asks) a) (sorted : IsStrictlySortedBy nat_cmp protected)
-      (alive : (live ≡ true) ↔ IsLiveAt task c.bound nodes asks pc instr (length asks)) (site : MayBeFlagged task f pc) where
-    pub place_given : IsPlaceOf task f (record { word = pc; protected = protected; live = live; transfer = is_indirect instr })
+      (alive : (live ≡ true) ↔ HappensAt task c.bound Live nodes asks pc instr (length asks))
+      (moving : (moves ≡ true) ↔ HappensAt task c.bound Moves nodes asks pc instr (length asks)) (site : MayBeFlagged task f pc) where
+    pub place_given : IsPlaceOf task f (record { word = pc; protected = protected; live = live; transfer = is_indirect instr || is_call instr; moves = moves })
     place_given =
         record {
           ascending = sorted;
           protected = λ a. (
-            λ h. cause_from instr is (λ s y. may_write_protected task (store_at pc s y) a) ((exact a).0 h).1,
+            λ h. cause_from instr is (λ n y. to_protected a n y) ((exact a).0 h).1,
             λ cause.
-                let t = cause_to instr is (λ s y. may_write_protected task (store_at pc s y) a) cause in
+                let t = cause_to instr is (λ n y. to_protected a n y) cause in
                 (exact a).1 (protected_small t.node.state instr a t.passes, t),
           );
           live = (
-            λ h. cause_from instr is (λ s y. may_write_live task c.bound (store_at pc s y)) (alive.0 h),
-            λ cause. alive.1 (cause_to instr is (λ s y. may_write_live task c.bound (store_at pc s y)) cause),
+            λ h. cause_from instr is (λ n y. onto_live n y) (alive.0 h),
+            λ cause. alive.1 (cause_to instr is (λ n y. onto_live n y) cause),
           );
           transfer = (
             λ h. record {
@@ -270,12 +280,17 @@ module _ (task : Task) (c : Claim) (nodes : List Node) (asks : List Asks) (told 
               unclear = site.unclear;
               instr = instr;
               instruction = is;
-              passes = subst (λ q. not (is_transfer_listed task q site.node.state instr) ≡ true) site.is
+              passes = subst (λ q. (not (is_transfer_listed task q site.node.state instr) || calls_cut task site.node.key site.node.state instr) ≡ true) site.is
                   (not_listed task f site.node instr (subst (λ q. instruction_at task.flash q ≡ Some instr) (sym site.is) is) h site.unclear);
             },
             λ cause.
-                let t = cause_to instr is (λ s y. not (is_transfer_listed task pc s y)) cause in
-                listed_by (is_indirect instr) _ t.passes,
+                let t = cause_to instr is (λ n y. unlisted n y) cause in
+                unlisted_goes task f cause.node instr
+                (subst (λ q. (not (is_transfer_listed task q cause.node.state instr) || calls_cut task cause.node.key cause.node.state instr) ≡ true) (sym cause.is) t.passes),
+          );
+          moves = (
+            λ h. cause_from instr is (λ n y. to_ivsel n y) (moving.0 h),
+            λ cause. moving.1 (cause_to instr is (λ n y. to_ivsel n y) cause),
           );
         }
 

@@ -156,12 +156,12 @@ module _ (nodes : List Node) (asks : List Asks) where
     on_chain = record { within = next.within; is = next.is }
 
     -- one that passes a test before this one is there before that number
-    pub skipped : (test : AbsState → Bool) → PassesBelow nodes asks pc test at → PassesBelow nodes asks pc test start
+    pub skipped : (test : Node → Bool) → PassesBelow nodes asks pc test at → PassesBelow nodes asks pc test start
     skipped test t =
         ⊎_elim (λ lt. record { at = t.at; node = t.node; below = lt; is = t.is; unclear = t.unclear; passes = t.passes })
         (λ le. absurd (next.none t.at t.node le t.below t.is t.unclear)) (cases_lt t.at start)
 
-    pub reached : (test : AbsState → Bool) → PassesBelow nodes asks pc test start → PassesBelow nodes asks pc test at
+    pub reached : (test : Node → Bool) → PassesBelow nodes asks pc test start → PassesBelow nodes asks pc test at
     reached test t =
         record {
           at = t.at;

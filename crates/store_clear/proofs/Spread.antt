@@ -106,16 +106,16 @@ module _ (task : Task) (nodes : List Node) where
     here c i e read = one_at nodes at c n (subst (λ k. slice_get nodes k ≡ Some c) e read) is
 
     -- no guarded push there
-    pub seeds_same : is_guarded_push task.flash n.key.pc ≡ false → AreSeedsTo task nodes (at + 1) seeds
+    pub seeds_same : is_guarded_push task n.key.pc ≡ false → AreSeedsTo task nodes (at + 1) seeds
     seeds_same not_pushed s = (λ h. weaker s ((so s).0 h), up)
       where
         up : SeedComesBelow task nodes (at + 1) s → Contains seeds s
         up c =
             ⊎_elim (λ lt. (so s).1 (c.0, lt))
-            (λ e. absurd (never_both (is_guarded_push task.flash n.key.pc) (subst (λ (x : Node). is_guarded_push task.flash x.key.pc ≡ true) (here c.0.node c.0.at e c.0.is) c.0.lands.0) not_pushed))
+            (λ e. absurd (never_both (is_guarded_push task n.key.pc) (subst (λ (x : Node). is_guarded_push task x.key.pc ≡ true) (here c.0.node c.0.at e c.0.is) c.0.lands.0) not_pushed))
             (before_or_last c.0.at at c.1)
 
-    pub seeds_more : (landings : List Landing) → AreLandingsOf task nodes n landings → is_guarded_push task.flash n.key.pc ≡ true
+    pub seeds_more : (landings : List Landing) → AreLandingsOf task nodes n landings → is_guarded_push task n.key.pc ≡ true
         → AreSeedsTo task nodes (at + 1) (seeds ++ seeds_by (offset_of n.key.sp) landings)
     seeds_more landings are pushed s = (down, up)
       where

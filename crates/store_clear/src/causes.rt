@@ -194,12 +194,15 @@ fn place_at(
                 later: links.later.as_slice(),
             };
             let protected = protected_of(task, told, &site)?;
+            let bound = certificate.bound();
+            let live = happens_at(task, bound, told, &site, Other::Live);
+            let moves = happens_at(task, bound, told, &site, Other::Moves);
             Ok(FlaggedPlace {
                 word: pc,
                 protected,
-                live: happens_at(task, certificate.bound(), told, &site, Other::Live),
+                live,
                 transfer: is_transfer(&instr),
-                moves: happens_at(task, certificate.bound(), told, &site, Other::Moves),
+                moves,
             })
         }
     }

@@ -40,8 +40,45 @@ pub static TEXTS: [(&str, &[Text]); 3] = [
             ),
             Text(
                 Start::Nothing,
-                b"jump 0004 0005\nstore 0004 005D\nprove 0004\nfree 0004\nnever 0004\nframe 0004\nfree 3FFF\n",
-                Ok(7),
+                b"jump 0004 0005\nstore 0004 005D\nprove 0004\nfree 0004\nnever 0004\nframe 0004\nrecur 0004 9\nscratch 0004\nfree 3FFF\n",
+                Ok(9),
+            ),
+            Text(Start::Nothing, b"recur 0000 0\n", Ok(1)),
+            Text(Start::Nothing, b"recur 3FFF 2048\n", Ok(1)),
+            Text(
+                Start::Nothing,
+                b"scratch 0004\nrecur 0004 9\n",
+                Err(AssumeText::Order(2)),
+            ),
+            Text(
+                Start::Nothing,
+                b"recur 0004 9\nrecur 0004 10\n",
+                Err(AssumeText::Order(2)),
+            ),
+            Text(
+                Start::Nothing,
+                b"recur 0004 2049\n",
+                Err(AssumeText::Malformed(1)),
+            ),
+            Text(
+                Start::Nothing,
+                b"recur 0004 09\n",
+                Err(AssumeText::Malformed(1)),
+            ),
+            Text(
+                Start::Nothing,
+                b"recur 0004\n",
+                Err(AssumeText::Malformed(1)),
+            ),
+            Text(
+                Start::Nothing,
+                b"recur 0004 9 9\n",
+                Err(AssumeText::Malformed(1)),
+            ),
+            Text(
+                Start::Nothing,
+                b"scratch 0004 9\n",
+                Err(AssumeText::Malformed(1)),
             ),
             Text(
                 Start::Nothing,

@@ -11,10 +11,10 @@ use sp_domain::CarryTag;
 pub const LATER: &[Piece] = &[
     (b"stackcert 2\n", b"", 0, b""),
     (b"bound 4\n", b"", 0, b""),
-    (b"assume 6\n", b"", 0, b""),
+    (b"assume 8\n", b"", 0, b""),
     (b"masks\njump 0003 0004 0005\n", b"", 0, b""),
     (
-        b"prove 0004\nfree 0005\nnever 0006\nframe 0006\n",
+        b"prove 0004\nfree 0005\nnever 0006\nframe 0006\nrecur 0010 4\nscratch 0011\n",
         b"",
         0,
         b"",

@@ -3,7 +3,8 @@ use Rattle.std.specs.Prelude.{◌↔◌}
 use Rattle.avr_model.specs.Image.{WORDS}
 use Rattle.certificate.specs.Valid.{family_of}
 use Rattle.clear_laws.specs.Places.{IsPlaceOf}
-use Rattle.store_clear.specs.Causing.{IsLiveAt}
+use Rattle.store_clear.specs.Causing.{HappensAt}
+use Rattle.store_clear.specs.declared.causes.Other.TheVariants.{Live, Moves}
 use Rattle.store_clear.proofs.Linked.{word_of_flagged, chain_read}
 use Rattle.store_clear.proofs.Causing.{nothing_there, place_given}
 use Rattle.store_clear.proofs.causes.place_at.Goals as goal
@@ -11,7 +12,7 @@ use Rattle.call_graph.specs.Tasks.{task_of}
 
 pub returns-in-None-clause-exact : goal.returns-in-None-clause-exact
 returns-in-None-clause-exact c =
-    subst (λ (xs : List ℕ). IsPlaceOf (task_of c.args.task.now) (family_of c.args.certificate.now c.args.told.now.nodes.now) (record { word = c.args.pc; protected = xs; live = false; transfer = false })) (sym c.empty.ensures)
+    subst (λ (xs : List ℕ). IsPlaceOf (task_of c.args.task.now) (family_of c.args.certificate.now c.args.told.now.nodes.now) (record { word = c.args.pc; protected = xs; live = false; transfer = false; moves = false })) (sym c.empty.ensures)
     (nothing_there (task_of c.args.task.now) c.args.certificate.now c.args.told.now.nodes.now c.args.told.now.asks.now c.requires.told c.args.pc (sym c.instruction.ensures ∙ c.in-None.is))
 
 pub returns-in_ok-protected-in-Some-clause-exact : goal.returns-in_ok-protected-in-Some-clause-exact
@@ -19,11 +20,16 @@ returns-in_ok-protected-in-Some-clause-exact c =
     let told = c.args.told.now in
     let task = task_of c.args.task.now in
     let alive =
-    subst (λ (b : ℕ). (c.is_live_at.result ≡ true) ↔ IsLiveAt task b told.nodes.now told.asks.now c.args.pc c.in-Some.instr (length told.asks.now)) c.bound.ensures c.is_live_at.ensures in
-    subst (λ (b : Bool). IsPlaceOf task (family_of c.args.certificate.now told.nodes.now) (record { word = c.args.pc; protected = c.in_ok-protected-in-Some.protected; live = c.is_live_at.result; transfer = b }))
-    (sym c.is_indirect.ensures)
+    subst (λ (b : ℕ). (c.happens_at-live.result ≡ true) ↔ HappensAt task b Live told.nodes.now told.asks.now c.args.pc c.in-Some.instr (length told.asks.now)) c.bound-bound.ensures c.happens_at-live.ensures in
+    let moving =
+    subst (λ (b : ℕ). (c.happens_at-moves.result ≡ true) ↔ HappensAt task b Moves told.nodes.now told.asks.now c.args.pc c.in-Some.instr (length told.asks.now)) c.bound-bound.ensures c.happens_at-moves.ensures in
+    subst
+    (λ (b : Bool). IsPlaceOf task (family_of c.args.certificate.now told.nodes.now)
+    (record { word = c.args.pc; protected = c.in_ok-protected-in-Some.protected; live = c.happens_at-live.result; transfer = b; moves = c.happens_at-moves.result }))
+    (sym c.is_transfer.ensures)
     (place_given task c.args.certificate.now told.nodes.now told.asks.now c.requires.told c.args.pc c.in-Some.instr (sym c.instruction.ensures ∙ c.in-Some.is)
-    c.in_ok-protected-in-Some.protected c.is_live_at.result c.in_ok-protected-in-Some.ensures.exact c.in_ok-protected-in-Some.ensures.ascending alive c.requires.site)
+    c.in_ok-protected-in-Some.protected c.happens_at-live.result c.happens_at-moves.result c.in_ok-protected-in-Some.ensures.exact c.in_ok-protected-in-Some.ensures.ascending
+    alive moving c.requires.site)
 
 pub index-requires : goal.index-requires
 index-requires c =
@@ -40,8 +46,17 @@ protected_of-requires-clause-chain c =
     chain_read told.nodes.now told.asks.now c.args.pc c.from.result c.index.result.now links.first.items links.later.items c.as_slice.result.now small c.requires.linked c.from.ensures c.index.ensures
     c.as_slice.ensures.value
 
-pub is_live_at-requires-clause-chain : goal.is_live_at-requires-clause-chain
-is_live_at-requires-clause-chain c =
+pub happens_at-live-requires-clause-chain : goal.happens_at-live-requires-clause-chain
+happens_at-live-requires-clause-chain c =
+    let task = task_of c.args.task.now in
+    let told = c.args.told.now in
+    let links = c.args.links.now in
+    let small = word_of_flagged task c.args.certificate.now told.nodes.now c.args.pc c.count-count.ensures.shown c.requires.site in
+    chain_read told.nodes.now told.asks.now c.args.pc c.from.result c.index.result.now links.first.items links.later.items c.as_slice.result.now small c.requires.linked c.from.ensures c.index.ensures
+    c.as_slice.ensures.value
+
+pub happens_at-moves-requires-clause-chain : goal.happens_at-moves-requires-clause-chain
+happens_at-moves-requires-clause-chain c =
     let task = task_of c.args.task.now in
     let told = c.args.told.now in
     let links = c.args.links.now in

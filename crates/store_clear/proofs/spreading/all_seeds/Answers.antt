@@ -30,11 +30,11 @@ loop-at-preserved c =
           ∙ ap (λ (o : ℕ). c.loop-at.seeds ++ seeds_by o w.as_slice.result.now) (w.offset.ensures ∙ ap (λ (k : NodeKey). offset_of k.sp) (sym key))) in
           subst (AreSeedsTo task nodes (at + 1)) (sym more)
           (seeds_more task nodes at n.0 n.1 c.loop-at.seeds c.loop-at.invariant w.as_slice.result.now landings
-          (ap (λ (k : NodeKey). is_guarded_push task.flash k.pc) key ∙ (sym c.is_guarded_push.ensures ∙ w.if-is_guarded_push.true)))
+          (ap (λ (k : NodeKey). is_guarded_push task k.pc) key ∙ (sym c.is_guarded_push.ensures ∙ w.if-is_guarded_push.true)))
       | else-is_guarded_push w ↦
           subst (AreSeedsTo task nodes (at + 1)) (sym w.seeds-is)
           (seeds_same task nodes at n.0 n.1 c.loop-at.seeds c.loop-at.invariant
-          (ap (λ (k : NodeKey). is_guarded_push task.flash k.pc) key ∙ (sym c.is_guarded_push.ensures ∙ w.if-is_guarded_push.false)))
+          (ap (λ (k : NodeKey). is_guarded_push task k.pc) key ∙ (sym c.is_guarded_push.ensures ∙ w.if-is_guarded_push.false)))
     ]
 
 pub loop-at-init : goal.loop-at-init

@@ -1,9 +1,9 @@
 use Rattle.std.proofs.Common.{◌<◌, ◌+◌, arith, get_or, length, refl, sym, ◌∙◌}
 use Rattle.basics.specs.Lists.{get_inside}
-use Rattle.store_clear.proofs.Askings.{state_is}
+use Rattle.store_clear.proofs.Askings.{key_is, state_is}
 use Rattle.store_clear.proofs.Linked.{on_chain}
-use Rattle.store_clear.proofs.Causing.{live_none, live_found, live_not, live_skipped}
-use Rattle.store_clear.proofs.causes.is_live_at.Goals as goal
+use Rattle.store_clear.proofs.Causing.{happens_none, happens_found, happens_not, happens_skipped}
+use Rattle.store_clear.proofs.causes.happens_at.Goals as goal
 use Rattle.call_graph.specs.Tasks.{task_of}
 
 pub loop-at-init : goal.loop-at-init
@@ -12,19 +12,21 @@ loop-at-init c =
     let nodes = c.args.told.now.nodes.now in
     let asks = c.args.told.now.asks.now in
     let site = c.args.site.now in (
-      live_skipped task c.args.bound nodes asks site.pc site.instr.now 0 site.first c.requires.chain.first_is (live_none task c.args.bound nodes asks site.pc site.instr.now),
+      happens_skipped task c.args.bound c.args.other nodes asks site.pc site.instr.now 0 site.first c.requires.chain.first_is (happens_none task c.args.bound c.args.other nodes asks site.pc site.instr.now),
       on_chain nodes asks site.pc 0 site.first c.requires.chain.first_is,
     )
 
-pub returns-then-may_write_live : goal.returns-then-may_write_live
-returns-then-may_write_live c =
+pub returns-then-may_happen : goal.returns-then-may_happen
+returns-then-may_happen c =
     let nodes = c.args.told.now.nodes.now in
     let site = c.args.site.now in
     let at = c.loop-at.at in
     let lt : at < length nodes = omega (arith, c.requires.same, c.loop-at-test.true) in
     let n = get_inside nodes at lt in (
-      λ e. live_found (task_of c.args.task.now) c.args.bound nodes c.args.told.now.asks.now site.pc site.instr.now at n.0 n.0.key c.state.result.now n.1 refl
-          (state_is nodes at n.0 n.1 c.state.result.now c.state.ensures) _ c.loop-at-test.true (c.loop-at.invariant.1.is n.0 n.1) (sym c.may_write_live.ensures ∙ c.if-may_write_live.true),
+      λ e. happens_found (task_of c.args.task.now) c.args.bound c.args.other nodes c.args.told.now.asks.now site.pc site.instr.now at n.0 c.key-key.result.now
+          c.state-state.result.now n.1 (key_is nodes at n.0 n.1 c.key-key.result.now c.key-key.ensures)
+          (state_is nodes at n.0 n.1 c.state-state.result.now c.state-state.ensures) _ c.loop-at-test.true (c.loop-at.invariant.1.is n.0 n.1)
+          (sym c.may_happen.ensures ∙ c.if-may_happen.true),
       λ t. refl,
     )
 
@@ -38,9 +40,10 @@ loop-at-preserved c =
     let lt : at < length nodes = omega (arith, c.requires.same, c.loop-at-test.true) in
     let n = get_inside nodes at lt in
     let next = c.requires.chain.later_is at n.0 n.1 (c.loop-at.invariant.1.is n.0 n.1) in (
-      live_skipped task c.args.bound nodes asks site.pc site.instr.now (at + 1) (get_or site.later.now at 0) next
-          (live_not task c.args.bound nodes asks site.pc site.instr.now at n.0 n.0.key c.state.result.now n.1 refl (state_is nodes at n.0 n.1 c.state.result.now c.state.ensures)
-          c.loop-at.invariant.0 (sym c.may_write_live.ensures ∙ c.if-may_write_live.false)),
+      happens_skipped task c.args.bound c.args.other nodes asks site.pc site.instr.now (at + 1) (get_or site.later.now at 0) next
+          (happens_not task c.args.bound c.args.other nodes asks site.pc site.instr.now at n.0 c.key-key.result.now c.state-state.result.now n.1
+          (key_is nodes at n.0 n.1 c.key-key.result.now c.key-key.ensures) (state_is nodes at n.0 n.1 c.state-state.result.now c.state-state.ensures)
+          c.loop-at.invariant.0 (sym c.may_happen.ensures ∙ c.if-may_happen.false)),
       on_chain nodes asks site.pc (at + 1) (get_or site.later.now at 0) next,
     )
 
