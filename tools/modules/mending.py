@@ -63,9 +63,15 @@ class Analysis:
         idle = [it for it in vectors if certificate.entered is not None and self.lines.has(words[it], "never") and words[it] not in certificate.entered]
         return Trials(self.program(), folder, self.elf, self.device, vectors, idle)
 
+    def is_beyond_lines(self, stop: Stop) -> bool:
+        """Whether no line may admit a flagged step: a write of a live byte or of IVSEL, a vector that a `never` line names, a call that is too deep."""
+        if stop.kind == "transfer":
+            return self.lines.has(stop.other, "never") or not opcodes.is_indirect(self.elf.word(stop.word))
+        return stop.kind in ("live", "moved")
+
     def admit(self, stop: Stop) -> Optional[str]:
         """The kind of the line that admits a stop, which is added; None where no line may."""
-        if stop.kind == "live" or stop.kind == "transfer" and self.lines.has(stop.other, "never"):
+        if self.is_beyond_lines(stop):
             return None
         if stop.kind == "transfer":
             return "jump" if self.lines.may_add(stop.word, "jump", {stop.other}) and self.lines.add(stop.word, "jump", {stop.other}) else None
@@ -330,8 +336,8 @@ class Mending(Analysis):
         return number
 
     def may_admit(self, stop: Stop) -> bool:
-        """Whether a line may admit a flagged step: not a write of a live byte, nor a transfer that no program means."""
-        if stop.kind == "live" or stop.kind == "transfer" and self.lines.has(stop.other, "never"):
+        """Whether a line may admit a flagged step, and a program may mean it where it is a transfer."""
+        if self.is_beyond_lines(stop):
             return False
         return stop.kind != "transfer" or candidates.may_be_entered(self.elf, stop.word, stop.other)
 

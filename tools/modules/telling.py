@@ -67,9 +67,17 @@ def text_of_stop(firmware, stop):
     return f"{stop.kind} {stop.word:04X}{other}{name} at {firmware.place(stop.word)}"
 
 
-def why_not(stop):
+def why_not(firmware, stop):
     """Why no line admits a flagged step."""
-    return "no line admits it: " + ("a live byte of the stack is written" if stop.kind == "live" else "a `never` line names this vector")
+    if stop.kind == "live":
+        why = "a live byte of the stack is written"
+    elif stop.kind == "moved":
+        why = "the bit IVSEL is set, which moves the vectors"
+    elif stop.kind == "transfer" and firmware.device.vector_at(stop.other) is None:
+        why = "a line names the calls there, or how deep they go"
+    else:
+        why = "a `never` line names this vector"
+    return f"no line admits it: {why}"
 
 
 def line_that_admits(firmware, work, stop):
@@ -90,7 +98,7 @@ def flagged(firmware, work):
     told = f"FLAGGED: a trial run ends with {text_of_stop(firmware, stop)}; the bound speaks of what comes before; "
     found = line_that_admits(firmware, work, stop)
     if found is None:
-        return told + why_not(stop)
+        return told + why_not(firmware, stop)
     kind, items = found
     line = Lines()
     line.put(stop.word, kind, items)

@@ -33,7 +33,7 @@ def found(search):
 def text_of(search, stop, kind):
     yield text_of_stop(search.firmware, stop)
     if not kind:
-        yield f"  {why_not(stop)}"
+        yield f"  {why_not(search.firmware, stop)}"
         return
     yield f"  {search.lines.line(stop.word, kind)}"
     added = Lines()

@@ -12,7 +12,7 @@ from elf import Elf
 from program import OK, SCHEDULE, USAGE, Program
 
 STOP = re.compile(r"steps (\d+) depth (\d+) stop (\w+)(?: ([0-9A-F]{4}))?(?: ([0-9A-F]{4}))?")
-FLAGGED = ("live", "protected", "transfer")
+FLAGGED = ("live", "protected", "transfer", "moved")
 BYTES = (0x00, 0xFF, 0x55, 0xAA, 0x01, 0x20)
 LONG = 60_000  # steps of a run of the tool `flagged`
 MOST_TAKES = 40
