@@ -331,8 +331,6 @@ class Mending(Analysis):
         if begin and stop is None:
             return self.try_from(0)
         self.deepest, self.deepest_run = trials.deepest, trials.deepest_run
-        if certificate.is_attained and self.count != 0:  # its own schedule is a run
-            self.deepest = max(certificate.bound, self.deepest or 0)
         return number
 
     def may_admit(self, stop: Stop) -> bool:

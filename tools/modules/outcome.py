@@ -181,6 +181,8 @@ def take(firmware: Firmware, spec: str, given: str, work: Mending, words: Any, f
         program.begin(*command)
     try:
         tell_bound(found, program, certificate, words)
+        if found.witness == "attained" and words.trials != 0:
+            found.seen = found.bound  # the certificate's own schedule is a run
         tell_chain(found, program, certificate)
         tell_premises(found, program, certificate)
     finally:
