@@ -6,3 +6,4 @@ pub mod Graphs
 pub mod Alike
 mod Conditions
 mod One
+mod FirstNodes

@@ -104,10 +104,11 @@ fn add_root_edges(
     requires { length insts.now ≤ 65536 }
     ensures { OnOk result (AreRecursOf task.now.assumptions.now insts.now behind inst.now entered.old.items entered.new.items) }
 {
-    if *inst != InstKey::root() {
+    if *inst == InstKey::root() {
+        add_recurs(task, insts, behind, entered)?;
         return Ok(());
     }
-    add_recurs(task, insts, behind, entered)
+    Ok(())
 }
 
 // The place of the node of this number, with the edges for its entries. A node with a half-written stack pointer has none.

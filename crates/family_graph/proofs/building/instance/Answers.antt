@@ -1,4 +1,6 @@
-use Rattle.std.proofs.Common.{◌≡◌, arith, refl, length}
+use Rattle.std.proofs.Common.{◌≡◌, ℕ, List, subst₂, arith, refl, length}
+use Rattle.mask_states.specs.declared.keys.InstKey.{InstKey}
+use Rattle.family_graph.specs.Numbers.{AreRecursOf}
 use Rattle.std.proofs.lemmas.Option.{slice_get_read}
 use Rattle.basics.specs.Items.{contained_at}
 use Rattle.basics.specs.Lists.{get_inside, one_at}
@@ -39,4 +41,5 @@ returns c =
     instance_made (task_of c.args.task.now) c.args.nodes.now insts c.index.result.now inst c.span-low.result.0 c.span-low.result.1 c.loop-at.at
     c.loop-at.parts.offsets.items c.new-3.result c.loop-at.parts.entered.items c.add_root_edges.new.entered.items c.new-4.result
     (one_at insts c.args.i c.index.result.now inst (slice_get_read insts (length insts) c.args.i c.index.result.now refl c.requires.place c.index.ensures) e)
-    c.span-low.ensures end c.new-3.ensures c.new-4.ensures c.loop-at.invariant.0 c.loop-at.invariant.1 c.in_ok-add_root_edges.ensures
+    c.span-low.ensures end c.new-3.ensures c.new-4.ensures c.loop-at.invariant.0 c.loop-at.invariant.1 (subst₂ (λ (ks : List InstKey) (behind : ℕ). AreRecursOf (task_of c.args.task.now).assumptions ks behind c.index.result.now c.loop-at.parts.entered.items c.add_root_edges.new.entered.items)
+    c.deref.ensures.value c.count-behind.ensures.count c.in_ok-add_root_edges.ensures)
