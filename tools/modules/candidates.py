@@ -5,6 +5,8 @@ import functools
 
 import opcodes
 from elf import Symbol
+from library_names import is_library
+from nameless import nameless
 from names import SpecFault
 from targets import addresses_loaded, constructors, slots, starts, tables, taken, taken_elsewhere, words_in_data
 
@@ -77,8 +79,16 @@ def before(elf, site, count):
     return words[:-count - 1:-1]
 
 
+def table_end(elf, table, masks):
+    """The byte address behind a table in flash: as its name says, or as a mask before it limits the index; None where neither tells it."""
+    for address, size in elf.objects.values():
+        if address <= table < address + size:
+            return address + size
+    return table + 2 * (masks[0] + 1) if masks else None
+
+
 def of_flash_table(elf, site):
-    """The functions of the table in flash from which a transfer's pointer is loaded, as far as a mask before it limits the index; none where it isn't one."""
+    """The functions of the table in flash from which a transfer's pointer is loaded, where it has nothing else; none where it isn't one."""
     words = before(elf, site, LOOK_BACK)
     if not any(opcodes.is_lpm(opcode) for _, opcode in words[:6]):
         return set()
@@ -86,10 +96,10 @@ def of_flash_table(elf, site):
     if table is None or table % 2:
         return set()
     masks = [opcode & 15 | opcode >> 4 & 0xF0 for _, opcode in words if opcode & 0xF000 == 0x7000]
-    known, found = starts(elf), set()
-    for word in range(table // 2, table // 2 + (masks[0] + 1 if masks else 256)):
+    end, known, found = table_end(elf, table, masks), starts(elf), set()
+    for word in range(table // 2, table // 2 + 256 if end is None else end // 2):
         if elf.word(word) not in known:
-            break
+            return found if end is None and len(found) > 1 else set()
         found.add(elf.word(word))
     return found
 
@@ -98,8 +108,8 @@ def of_pointer(elf, device, site):
     """The functions that a call through a pointer may reach: of tables of virtual functions only those in the slot from which the pointer is loaded."""
     if not elf.code or not slots(elf):
         return addressed(elf, device)
-    words = [opcode for _, opcode in before(elf, site, 4)]
-    if len(words) > 3 and opcodes.is_lds(words[0], 31) and opcodes.is_lds(words[1], 30):
+    words = [opcode for _, opcode in before(elf, site, LOOK_BACK) if not opcodes.leaves_pointer(opcode)]
+    if len(words) > 1 and opcodes.is_lds(words[0], 31) and opcodes.is_lds(words[1], 30):
         return taken_elsewhere(elf)
     slot = opcodes.slot_loaded(words)
     return addressed(elf, device) if slot is None else taken_elsewhere(elf) | slots(elf).get(slot, set())
@@ -120,12 +130,7 @@ def may_be_entered(elf, site, word):
     symbol, caller = elf.symbol_at(2 * word), elf.symbol_at(2 * site)
     if symbol is None or caller is None:
         return word != 0 and not elf.code
-    return symbol.address == 2 * word != 0 or caller.name == "__tablejump2__" or caller.address == symbol.address != 0
-
-
-def is_helper(name):
-    """Whether a function is one of the compiler's own; a handler, whose name begins alike, is none."""
-    return name.startswith("__") and not name.startswith("__vector_")
+    return symbol.address == 2 * word != 0 or word in nameless(elf) or caller.name == "__tablejump2__" or caller.address == symbol.address != 0
 
 
 def indirect(elf):
@@ -133,7 +138,7 @@ def indirect(elf):
     for words in code(elf):
         for at, opcode in words:
             symbol = elf.symbol_at(2 * at) if opcodes.is_indirect(opcode) else None
-            if opcodes.is_indirect(opcode) and not (symbol and is_helper(symbol.name)) and not table_of_jumps(elf, at):
+            if opcodes.is_indirect(opcode) and not (symbol and is_library(symbol.name)) and not table_of_jumps(elf, at):
                 yield at
 
 

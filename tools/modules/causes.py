@@ -5,27 +5,28 @@ import re
 
 from telling import line_of_spec
 
-TOLD = re.compile(r" in \S+(?: protected((?: [0-9A-F]{4})+)( \.\.)?)?( live)?( transfer)?$")
+TOLD = re.compile(r" in \S+(?: protected((?: [0-9A-F]{4})+)( \.\.)?)?( live)?( transfer)?( moves)?$")
 MOST_TRIED = 4  # places at which a line is tried
 
 
 class Cause:
     """`addresses` of protected registers of a `device` that may be written, and whether there are `more`; `live`: a pushed byte may be; `transfer`:
-    to an unlisted word. The device is None where there are no addresses."""
+    to an unlisted word; `moves`: the interrupt vectors may be moved. The device is None where there are no addresses."""
 
-    def __init__(self, device=None, addresses=(), more=False, live=False, transfer=False):
-        self.device, self.addresses, self.more, self.live, self.transfer = device, set(addresses), more, live, transfer
+    def __init__(self, device=None, addresses=(), more=False, live=False, transfer=False, moves=False):
+        self.device, self.addresses, self.more, self.live, self.transfer, self.moves = device, set(addresses), more, live, transfer, moves
 
     def __bool__(self):
-        return bool(self.addresses or self.live or self.transfer)
+        return bool(self.addresses or self.live or self.transfer or self.moves)
 
     def is_few(self):
         """Whether a line may list all that may happen."""
-        return bool(self.addresses) and not (self.more or self.live or self.transfer)
+        return bool(self.addresses) and not (self.more or self.live or self.transfer or self.moves)
 
     def join(self, other):
         self.device, self.addresses = self.device or other.device, self.addresses | other.addresses
         self.more, self.live, self.transfer = self.more or other.more, self.live or other.live, self.transfer or other.transfer
+        self.moves = self.moves or other.moves
 
     def __str__(self):
         names = " ".join(self.device.register_name(it) for it in sorted(self.addresses)) + (" .." if self.more else "")
@@ -39,8 +40,8 @@ def of_line(device, line):
     found = TOLD.search(line)
     if not found:
         return Cause(device)
-    addresses, more, live, transfer = found.groups()
-    return Cause(device, (int(it, 16) for it in (addresses or "").split()), more is not None, live is not None, transfer is not None)
+    addresses, *others = found.groups()
+    return Cause(device, (int(it, 16) for it in (addresses or "").split()), *(it is not None for it in others))
 
 
 def by_word(device, lines):

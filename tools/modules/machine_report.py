@@ -2,19 +2,20 @@
 
 import json
 
+import kinds
 import verdict
 from habits import version
 from outcome import Refused
 
 
 def cause(it):
-    return {"protected": [f"{address:04X}" for address in sorted(it.addresses)], "more": it.more, "live": it.live, "transfer": it.transfer}
+    return {"protected": [f"{address:04X}" for address in sorted(it.addresses)], "more": it.more, "live": it.live, "transfer": it.transfer, "moves": it.moves}
 
 
 def place(it):
     return {"source": it.path, "line": it.source[1] if it.source else None, "title": it.title, "text": it.code, "words": [f"{word:04X}" for word in it.words],
             "kind": sorted(set(it.kinds.values())), "ordinary": it.is_ordinary(), "may": cause(it.cause), "closed_by": it.closers,
-            "judged": it.judged.why if it.judged else None}
+            "told": it.warned, "judged_by": it.keep, "judged": it.judged.why if it.judged else None}
 
 
 def versions(outcome):
@@ -23,7 +24,7 @@ def versions(outcome):
 
 def common(outcome):
     firmware = outcome.firmware
-    return {"firmware": firmware.path, "device": firmware.device.name, "linked_for": firmware.linked_for, "versions": versions(outcome),
+    return {"status": outcome.status, "firmware": firmware.path, "device": firmware.device.name, "linked_for": firmware.linked_for, "versions": versions(outcome),
             "given": outcome.assumed.splitlines(),
             "assumed": [{"spec": it.spec, "line": it.words, "place": it.place} for it in outcome.written]}
 
@@ -39,7 +40,8 @@ def accepted(outcome):
         "heap": outcome.heap, "room": outcome.room, "margin": outcome.room - outcome.bound, "keeps": outcome.keeps, "rule": outcome.rule or None, "refusal": None,
         "chain": [{"adds": it.count, "place": it.text} for it in outcome.chain],
         "needs": [{"name": it.name, "own": it.own, "calls": it.calls, "interrupts": it.all, "handler": it.is_handler} for it in outcome.table],
-        "places": None if outcome.premises is None else [place(it) for it in outcome.entries]}
+        "places": None if outcome.premises is None else [place(it) for it in outcome.entries],
+        "kinds": None if outcome.premises is None else kinds.counts(outcome)}
     if outcome.costs is not None:
         found["interrupts"] = [{"name": it.name, "without": it.without} for it in outcome.costs]
     if outcome.difference:

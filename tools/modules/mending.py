@@ -11,6 +11,7 @@ from typing import Callable, Dict, Iterable, List, Optional, Set, Tuple
 
 import candidates
 import causes
+import core_registers
 import opcodes
 from cures import REFUSAL
 from firmware import Firmware
@@ -20,6 +21,7 @@ from program import DEVICES, OK, REFUSED, USAGE, NoProgram, Program
 from sites import frames_of
 from spec import MASKS, NOWHERE, is_unhandled
 from trials import DEVICE_LINES, Run, Scope, Stop, Trials, handled, scope
+from widening import Lists, widen
 
 ROUNDS = 64
 MOST_TRIED = 8  # lines that are tried one by one where they aren't accepted together
@@ -101,13 +103,14 @@ class Mending(Analysis):
         self.seeks = True  # whether runs as deep as the bound are sought
         self.sought: Optional[str] = None  # the certificate behind the last search for one
         self.told_of: Tuple[object, Optional[List[str]]] = None, None  # the last answer of `told`, and of what
+        self.lists = Lists()
         self.before_masks = self.lines
 
     def copy(self) -> "Mending":
         """The same with lines of its own, for a look at what another step would do."""
         other = Mending(self.firmware, self.folder, "", self.count)
         other.lines, other.pinned, other.tried, other.seeks = self.lines.copy(), set(self.pinned), set(self.tried), self.seeks
-        other.refusal, other.certificate = self.refusal, self.certificate
+        other.refusal, other.certificate, other.lists = self.refusal, self.certificate, self.lists.copy()
         return other
 
     def run(self, is_plain: bool) -> None:
@@ -124,6 +127,8 @@ class Mending(Analysis):
                 self.without_masks()
         else:
             self.mend()
+        if self.certificate:
+            widen(self)
         if self.certificate and not self.reads_masks():
             self.trim()
 
@@ -227,7 +232,7 @@ class Mending(Analysis):
         """Goes on with what another look has found."""
         self.lines, self.pinned, self.tried, self.notes = other.lines, other.pinned, other.tried, other.notes
         self.refusal, self.certificate, self.stop = other.refusal, other.certificate, other.stop
-        self.deepest, self.deepest_run = other.deepest, other.deepest_run
+        self.deepest, self.deepest_run, self.lists = other.deepest, other.deepest_run, other.lists
 
     def kept(self) -> str:
         """The path of a file with the certificate."""
@@ -346,7 +351,17 @@ class Mending(Analysis):
         kind = self.admit(self.stop)
         if kind == "jump":
             self.pinned.add((self.stop.word, self.stop.other))
+        if kind == "store" and self.reads_masks():
+            self.follow_enables(self.stop.word)
         return kind is not None
+
+    def follow_enables(self, site: int) -> None:
+        """Lets a `store` line of this tool list the registers that enable interrupts and whose address stands in the file, where there is a bound then."""
+        named, more = [it for it in self.device.enabling if core_registers.stands(self.elf, it)], self.lines.copy()
+        if named and more.may_add(site, "store", named):
+            more.add(site, "store", named)
+            if self.analyse(more)[0]:
+                self.lines = more
 
     def at_refusal(self, text: str) -> bool:
         """Adds lines of the kind that most likely cures a refusal; whether something was added."""
@@ -383,7 +398,7 @@ class Mending(Analysis):
         is_new = False
         for site, kind in self.lines.written():
             caller = self.elf.symbol_at(2 * site)
-            if kind != "jump" or caller is None or caller.name == TABLES or candidates.table_of_jumps(self.elf, site):
+            if kind != "jump" or caller is None or caller.name == TABLES or site in self.lists.whole or candidates.table_of_jumps(self.elf, site):
                 continue
             own = caller.address // 2
             kept = {it for it in self.lines.of(site, kind) if (site, it) in self.pinned or it != own and own not in candidates.reached(self.elf, it)}

@@ -1,6 +1,6 @@
 """The values of registers at the nodes of a certificate: known bits and ranges, with the intervals of pairs where the line `pairs` stands."""
 
-from typing import Dict, Iterator, List, NamedTuple, Tuple
+from typing import Dict, Iterator, List, NamedTuple, Set, Tuple
 
 import opcodes
 from elf import Elf
@@ -112,6 +112,7 @@ class Nodes:
     def __init__(self, elf: Elf, certificate: str) -> None:
         self.elf, self.has_pairs = elf, "\npairs\n" in certificate
         self.lines: List[List[str]] = []
+        self.told: Dict[int, List[Value]] = {}
         self.at: Dict[int, List[int]] = {}
         for line in certificate.splitlines():
             if line.startswith("node "):
@@ -121,6 +122,11 @@ class Nodes:
 
     def values(self, number: int) -> List[Value]:
         """The values of a node: its own, or worked out from the node from which it is the only successor."""
+        if number not in self.told:
+            self.told[number] = self.worked_out(number)
+        return self.told[number]
+
+    def worked_out(self, number: int) -> List[Value]:
         passed = []
         while self.lines[number][8] == "from":
             number = int(self.lines[number][9])
@@ -157,3 +163,8 @@ class Nodes:
         """Whether the pointer of the store at a word is one constant at each of its nodes."""
         register, _ = pointer(self.elf.word(word))
         return bool(self.at.get(word)) and all(it[register].mask == it[register + 1].mask == 0xFF for it in self.values_at(word))
+
+    def known(self, word: int, register: int) -> Set[int]:
+        """The numbers that a pair of registers is known to be at nodes of a word."""
+        pairs = [(it[register], it[register + 1]) for it in self.values_at(word)]
+        return {high.bits << 8 | low.bits for low, high in pairs if low.mask == high.mask == 0xFF}

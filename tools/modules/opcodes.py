@@ -4,6 +4,7 @@ IJMP, ICALL = 0x9409, 0x9509
 SPM, SEI = 0x95E8, 0x9478
 DEC_R29, INC_R29, SUBI_R29 = 0x95DA, 0x95D3, 0x50D0
 OUT_SPH_R29 = 0xBFDE
+MOV_R30_R0, LDS_R30, LDS_R31 = 0x2DE0, 0x91E0, 0x91F0
 FRAME_LOW, FRAME_HIGH = 28, 29  # the frame pointer
 
 
@@ -176,6 +177,20 @@ def displacement(opcode, register):
     if opcode & 0xD200 == 0x8000:
         return opcode & 7 | opcode >> 7 & 0x18 | opcode >> 8 & 0x20
     return 0 if opcode & 0xFE0F == 0x9001 else None
+
+
+def writes_pointer(opcode):
+    """Whether a move writes r0, or r30 or r31."""
+    if opcode & 0xFF00 == 0x0100:  # movw
+        return opcode >> 4 & 15 in (0, 15)
+    return (16 + (opcode >> 4 & 15) if is_ldi(opcode) else opcode >> 4 & 31) in (0, 30, 31)
+
+
+def leaves_pointer(opcode):
+    """Whether an instruction before a call leaves its pointer as it is: a move of an argument, a test for 0, a branch over the call, a store."""
+    if opcode & 0xFC00 == 0x2C00 or opcode & 0xFF00 == 0x0100 or is_ldi(opcode):  # mov, movw, ldi
+        return not writes_pointer(opcode)
+    return opcode == 0x9730 or opcode & 0xFC07 in (0xF001, 0xF401) or opcode & 0xFE0F == 0x9200  # sbiw r30, 0; breq, brne; sts
 
 
 def slot_loaded(words):

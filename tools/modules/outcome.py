@@ -14,8 +14,9 @@ from firmware import Firmware
 from mending import Mending
 from program import OK, USAGE, NoProgram
 from spec import UNASSUMED, assumptions
-from telling import flagged, lines_for, others, written
+from telling import flagged, lines_for, narrower, others, written
 from trials import INPUTS, reads_inputs
+from widening import Lists
 
 
 class Part:
@@ -39,6 +40,7 @@ class Refused:
     cure: str = ""
     reasons: List[str] = field(default_factory=list)
     cure_lines: List[str] = field(default_factory=list)
+    status: int = 0
 
 
 @dataclass
@@ -51,6 +53,7 @@ class Accepted:
     written: List[Any]
     certificate: str
     own: Any  # the lines under which it was accepted
+    lists: Lists  # of calls through pointers
     seen: Optional[int] = None
     flagged: Optional[str] = None
     bound: int = 0
@@ -73,6 +76,7 @@ class Accepted:
     costs: Optional[List[Any]] = None
     difference: Any = None
     grows_too_much: bool = False
+    status: int = 0
 
 
 Outcome = Union[Accepted, Refused]
@@ -140,6 +144,7 @@ def tell_premises(found: Accepted, program: Any, certificate: str) -> None:
     if found.written:
         found.rests_on.append(f"lines of its own (--plain leaves them out, --write-spec FILE keeps them): {len(found.written)}")
         found.rests_on += [f"assumed: {it}" for it in found.written]
+    found.rests_on += narrower(found.firmware, found.lists, found.own)
     if reads_inputs(found.firmware.elf, found.firmware.device):
         found.rests_on.append(INPUTS)
     if lines is None:
@@ -168,7 +173,7 @@ def attain(found: Accepted, program: Any, certificate: str, witness: str) -> Non
 
 def take(firmware: Firmware, spec: str, given: str, work: Mending, words: Any, folder: str) -> Accepted:
     """Judges the certificate that was found, and gathers what is told of it."""
-    found = Accepted(firmware, spec, given, list(written(firmware, work.lines)), work.certificate, work.lines, work.deepest)
+    found = Accepted(firmware, spec, given, list(written(firmware, work.lines)), work.certificate, work.lines, work.lists, work.deepest)
     if work.stop:
         found.flagged = flagged(firmware, work)
     program, certificate = work.program(), os.path.join(folder, "certificate")

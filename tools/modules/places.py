@@ -1,29 +1,31 @@
 """The places at which a step may be flagged, as they can be judged: by source lines, library functions, and the loops of the start-up code.
 
-A place is ordinary where a correct program may be flagged at it, one of memory safety where only a store that leaves its object is, and a given one
-where the spec itself says what may happen there.
+A place is ordinary where a correct program may be flagged at it; one of memory safety where only a store that leaves its object is, or one with a
+complete list where only a call is that enters no function whose address is taken; and a given one where the spec itself says what may happen there.
 """
 
 import os
 
+import core_registers
 import debug_lines
 import fuses
+import opcodes
 import sites
 import start_up
 from causes import Cause
 from elf import CODE_END
+from kinds import CALLS, CORES, GIVEN, MOVES, ORDINARY, SAFETY, STORES, VECTORS, WHOLE, counted
 from node_values import Nodes
-from names import shown
-from spec import START_UP
-from warnings_of_words import MOVES, UNSET
+from names import SpecFault, shown
+from records import has_records
+from spec import START_UP, Spec
+from widening import RECORDS
 
 MOST_WORDS = 4  # word addresses that one entry prints
 START = ("__do_clear_bss", "__do_copy_data")
-CALLS, STORES, VECTORS = "calls", "stores", "vectors"  # kinds of ordinary places, beside those of warnings
-SAFETY, GIVEN = "memory safety", "given"
-ORDINARY = (CALLS, STORES, VECTORS, MOVES, UNSET, fuses.FUSES)
-WORDS = {CALLS: "call", STORES: "store", VECTORS: "vector", MOVES: "write of {moving}", UNSET: "use of the stack before SPL is written", fuses.FUSES: "fuse", SAFETY: "memory safety",
-         GIVEN: "given line"}
+Z = 30  # the pair of a call
+WHY = "say here why it keeps the bound"
+MOVED = "may move the interrupt vectors (IVSEL); the bound takes them to be at 0"
 
 
 class Place:
@@ -32,7 +34,7 @@ class Place:
 
     def __init__(self, key, title, source=None):
         self.key, self.title, self.source, self.words, self.judged, self.warned = key, title, source, [], None, []
-        self.cause, self.closers, self.kinds, self.may_enable = Cause(), [], {}, False
+        self.cause, self.closers, self.kinds, self.may_enable, self.keep = Cause(), [], {}, False, None
         self.path = readable(source[0]) if source else None
         self.code = line_of(self.path, source[1]) if source else None
 
@@ -54,6 +56,8 @@ class Place:
             yield str(self.cause)
         yield from self.warned
         yield from (f"closed by: {it}" for it in self.closers)
+        if self.keep:
+            yield f"judged by: {self.keep}"
 
     def __str__(self):
         code = f"`{self.code}`, " if self.code else ""
@@ -112,25 +116,65 @@ def may_enable(nodes, word, cause):
     return bool(cause.addresses & enabling) or cause.more and any(nodes.may_write(word, it) for it in sorted(enabling))
 
 
-def kind_of(outcome, nodes, word):
-    """What kind of place a word is, by what may happen there and by whose line speaks of it."""
-    cause, lines = outcome.causes.get(word, Cause()), outcome.own
-    if cause.transfer or not cause:
-        return GIVEN if lines.is_given(word, "jump") else CALLS
-    if not may_enable(nodes, word, cause):
-        return SAFETY
-    if lines.is_given(word, "store"):
-        return GIVEN
-    follows = lines.has_masks() or not outcome.firmware.device.is_first()
-    return SAFETY if follows and not lines.has(word, "store") else STORES
+class Look:
+    """What an answer's places are told by: the nodes of its certificate, and the registers of the core that its stores may be meant for."""
+
+    def __init__(self, outcome):
+        self.outcome, self.elf, self.lines = outcome, outcome.firmware.elf, outcome.own
+        self.nodes = Nodes(self.elf, outcome.certificate)
+        self.cores = core_registers.found(outcome.firmware.device, self.nodes, self.lines, outcome.causes)
+
+    def unlisted(self, word):
+        """The numbers that the pointer of a call is known to be and that its list doesn't have."""
+        return sorted(self.nodes.known(word, Z) - self.lines.of(word, "jump"))
+
+    def is_by_name(self, word):
+        """Whether an instruction writes one address that is known."""
+        return not opcodes.is_pointer_store(self.elf.word(word)) or self.nodes.fixed(word)
+
+    def kind(self, word):
+        """What kind of place a word is, by what may happen there and by whose line speaks of it."""
+        cause, lines = self.outcome.causes.get(word, Cause()), self.lines
+        if cause.transfer or not cause and word not in self.cores:
+            if lines.is_given(word, "jump") and not self.unlisted(word):
+                return GIVEN
+            return WHOLE if word in self.outcome.lists.whole and not self.unlisted(word) else CALLS
+        if cause.moves and self.is_by_name(word):
+            return MOVES
+        if word in self.cores:
+            return CORES
+        if not may_enable(self.nodes, word, cause):
+            return SAFETY
+        if lines.is_given(word, "store"):
+            return GIVEN
+        follows = lines.has_masks() or not self.outcome.firmware.device.is_first()
+        is_followed = follows and not lines.has(word, "store")
+        return SAFETY if is_followed or not core_registers.is_enabling(self.nodes, lines, word, cause) else STORES
+
+    def texts(self, word, kind):
+        """Yields what is told of a word beside what the program says may happen there."""
+        if kind == MOVES:
+            yield MOVED
+        if kind == CORES:
+            names = self.cores[word]
+            yield f"may write {' '.join(names)}, whose {'address stands' if len(names) == 1 else 'addresses stand'} in this file"
+        if kind in (CALLS, WHOLE):
+            yield from (f"its pointer is {it:04X} here, which its list doesn't have" for it in self.unlisted(word))
+            if word in self.outcome.lists.why and not self.unlisted(word):
+                yield self.outcome.lists.why[word]
+                if kind == CALLS and not has_records(self.elf):
+                    yield f"cure: {RECORDS}"
 
 
-def put(outcome, nodes, entry, word):
+def put(look, entry, word):
     """Notes a word and what may happen there in its entry."""
+    outcome, kind = look.outcome, look.kind(word)
+    cause = outcome.causes.get(word, Cause())
     entry.words.append(word)
-    entry.kinds[word] = kind_of(outcome, nodes, word)
-    entry.may_enable = entry.may_enable or entry.kinds[word] == SAFETY and bool(outcome.own.sites("never")) and may_enable(nodes, word, outcome.causes.get(word, Cause()))
-    entry.cause.join(outcome.causes.get(word, Cause()))
+    entry.kinds[word] = kind
+    entry.may_enable = entry.may_enable or kind == SAFETY and bool(outcome.own.sites("never")) and may_enable(look.nodes, word, cause)
+    entry.cause.join(cause)
+    entry.warned += [it for it in look.texts(word, kind) if it not in entry.warned]
     if word in outcome.closers:
         entry.closers.append(outcome.closers[word])
 
@@ -149,33 +193,34 @@ def entry_of_fuses(outcome):
     """Yields the one entry of the fuses that the file itself programs, where it does."""
     entry = Place(fuses.KEPT, "the file's own fuses")
     for it in fuses.programmed(outcome.firmware.elf, outcome.firmware.device.name):
-        entry.kinds[it.name] = fuses.FUSES
+        entry.kinds[it.name], entry.keep = fuses.FUSES, f"keeps {fuses.KEPT}  # {WHY}"
         entry.warned.append(f"its .fuse section programs {it.name}: {it.text}")
     yield from [entry] * bool(entry.kinds)
 
 
 def entries(outcome):
-    """The entries of what `premises` lists, in the order of their first words, and of what no flag tells."""
-    found, nodes = {}, Nodes(outcome.firmware.elf, outcome.certificate)
+    """The entries of what `premises` lists, in the order of their first words, of stores that may be meant for the core, and of what no flag tells."""
+    found, look = {}, Look(outcome)
     for line in outcome.premises or ():
         kind, word = line.split()[:2]
         if kind == "never":
             found[line] = entry_of_vector(outcome, int(word, 16))
         elif kind == "at":
-            put(outcome, nodes, entry_of(outcome, int(word, 16), found), int(word, 16))
+            put(look, entry_of(outcome, int(word, 16), found), int(word, 16))
         else:
             found[line] = Place(line, line)
+    for word in look.cores:
+        if word not in outcome.causes:
+            put(look, entry_of(outcome, word, found), word)
     for it in outcome.warnings:
         entry = entry_of(outcome, it.word, found)
         entry.words += [] if it.word in entry.words else [it.word]
         entry.kinds[it.word] = it.kind
         entry.warned.append(it.text)
+    for entry in found.values():
+        if entry.is_ordinary():
+            entry.keep = keep_line(outcome, entry)
     return [*found.values(), *entry_of_fuses(outcome)]
-
-
-def count_of(outcome, kinds):
-    """How many places are of these kinds."""
-    return sum(it in kinds for entry in outcome.entries for it in entry.kinds.values())
 
 
 def words_of(elf, keep):
@@ -195,6 +240,22 @@ def is_of(elf, keep, place):
     return set(place.words) <= words_of(elf, keep)
 
 
+def keep_line(outcome, entry):
+    """The line of a spec that judges an entry; None where there is none."""
+    elf, symbol = outcome.firmware.elf, outcome.firmware.elf.symbol_at(2 * entry.words[0]) if entry.words else None
+    name = shown(symbol) if symbol else ""
+    forms = [START_UP] if entry.key == START_UP else [] if entry.words else [f"{entry.key.split()[0]} *"]
+    if entry.source:
+        forms += [f"{name}:{entry.source[1]}", f"{os.path.basename(entry.path)}:{entry.source[1]}"]
+    for form in [*forms, f"{name} *"]:
+        try:
+            if is_of(elf, Spec(elf, f"keeps {form} # {WHY}", outcome.firmware.device).keeps[0], entry):
+                return f"keeps {form}  # {WHY}"
+        except SpecFault:
+            continue
+    return None
+
+
 def judge(outcome, keeps):
     """Notes at each entry the line that judges it, and returns the lines that judge none."""
     idle = []
@@ -210,19 +271,6 @@ def judge(outcome, keeps):
 def unjudged(outcome, is_strict):
     """The entries that have to be looked at and aren't judged: the ordinary ones, or all where it is asked for all."""
     return [it for it in outcome.entries if not it.judged and (is_strict or it.is_ordinary())]
-
-
-def moving(outcome):
-    """The register whose writes may move the vectors."""
-    device = outcome.firmware.device
-    return device.moving.registers[0] if device.moving else ""
-
-
-def counted(outcome):
-    """How many places of each kind there are."""
-    kinds = [(kind, count_of(outcome, (kind,)), WORDS[kind].format(moving=moving(outcome))) for kind in WORDS]
-    told = [f"{count} of memory safety" if kind == SAFETY else f"{count} {text}{'' if count == 1 else 's'}" for kind, count, text in kinds if count]
-    return f" ({', '.join(told)})" if told else ""
 
 
 def told(outcome):

@@ -59,6 +59,20 @@ def written(firmware, lines):
             yield Written(line_of_spec(firmware, lines, site, kind), lines.line(site, kind), f"at {site:04X} {place}{more}")
 
 
+def narrower(firmware, lists, lines):
+    """Yields the lower bound that was found before the lists of calls were complete, and the lines of a spec that claim it."""
+    if lists.bound is None:
+        return
+    told = []
+    for site, words in sorted(lists.narrower.items()):
+        less = Lines()
+        less.put(site, "jump", words)
+        if words != lines.of(site, "jump"):
+            told.append(line_of_spec(firmware, less, site, "jump") or less.line(site, "jump"))
+    yield f"bound {lists.bound} if fewer functions are called through pointers, as {'this line' if len(told) == 1 else 'these lines'} of a spec would claim:"
+    yield from (f"  {it}" for it in told)
+
+
 def text_of_stop(firmware, stop):
     """A flagged step: its kind, the word, the address or target, and the place."""
     other = f" {stop.other:04X}" if stop.other is not None else ""

@@ -94,6 +94,7 @@ def main():
         with tempfile.TemporaryDirectory() as folder, progress.Shown("stackcheck"):
             outcome = judge(words, folder)
             reports.complete(outcome, words, folder)
+        outcome.status = verdict.status(outcome, words)
         keep(words, outcome)
         reports.show(outcome, words, "".join(f"{line}\n" for line in text_of(outcome, words)))
     except BrokenPipeError:
@@ -104,4 +105,4 @@ def main():
     except FAULTS as fault:
         print(f"stackcheck: {in_words(fault)}", file=sys.stderr)
         return verdict.MISUSE
-    return verdict.status(outcome, words)
+    return outcome.status

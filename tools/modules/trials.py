@@ -4,6 +4,7 @@ import os
 import re
 from typing import Iterable, Iterator, List, NamedTuple, Optional, Set, Tuple
 
+import core_registers
 import opcodes
 import progress
 from candidates import code, start
@@ -96,8 +97,9 @@ def handled(elf: Elf, device: Device) -> List[int]:
 
 
 def told_apart(elf: Elf, device: Device) -> List[int]:
-    """The bytes that the firmware tells apart, ascending: those that it compares with, and some that any may."""
-    found = {0x00, 0xFF, 0x55, 0xAA, 0x01, 0x80, 0x7F, 0xFE}
+    """The bytes that the firmware tells apart, ascending: those that it compares with, those that name registers of the core whose addresses stand in
+    it, and some that any may."""
+    found = {0x00, 0xFF, 0x55, 0xAA, 0x01, 0x80, 0x7F, 0xFE} | core_registers.seeds(elf, device)
     for word in range(min(device.words, (elf.flash_end + 1) // 2)):
         opcode = elf.word(word)
         byte = opcode & 15 | opcode >> 4 & 0xF0

@@ -7,10 +7,10 @@ from candidates import before
 from devices import Device, Place
 from elf import Elf
 from firmware import Firmware
+from kinds import MOVES, UNSET
 from node_values import Nodes, stored
 
 ALLOCATORS = ("malloc", "calloc", "realloc", "_Znwj", "_Znaj")
-MOVES, UNSET = "moves", "unset"  # kinds of warnings
 STS, OUT, IN, LDS = 0x9200, 0xB800, 0xB000, 0x9000
 SPL = 0x5D
 READ_BACK = 6  # instructions before a write in which its register is read
@@ -44,10 +44,20 @@ def writes(elf: Elf, nodes: Nodes, word: int, address: int) -> bool:
     return named_address(elf, word, OUT, STS) == address
 
 
+def joined(elf: Elf, word: int) -> Set[int]:
+    """The words of a function to which another one than that before leads."""
+    symbol = elf.symbol_at(2 * word)
+    code = list(opcodes.words_of(elf, symbol)) if symbol else []
+    return {to for at, opcode in code for to in opcodes.following(elf, at) if to != at + opcodes.length(opcode)}
+
+
 def gives_back(elf: Elf, word: int, place: Place) -> bool:
     """Whether a write gives back what was read from its register just before, in which `ori` and `andi` have set none of these bits."""
-    register = stored(elf.word(word))
+    register, ways, last = stored(elf.word(word)), joined(elf, word), word
     for at, opcode in before(elf, word, READ_BACK):
+        if last in ways:
+            return False
+        last = at
         byte, is_same = opcode & 15 | opcode >> 4 & 0xF0, register == 16 + (opcode >> 4 & 15)
         if opcode >> 4 & 31 == register and named_address(elf, at, IN, LDS) is not None:
             return named_address(elf, at, IN, LDS) == place.address
