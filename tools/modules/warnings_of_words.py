@@ -58,6 +58,8 @@ def gives_back(elf: Elf, word: int, place: Place) -> bool:
         if last in ways:
             return False
         last = at
+        if named_address(elf, at, OUT, STS) is not None:
+            continue
         byte, is_same = opcode & 15 | opcode >> 4 & 0xF0, register == 16 + (opcode >> 4 & 15)
         if opcode >> 4 & 31 == register and named_address(elf, at, IN, LDS) is not None:
             return named_address(elf, at, IN, LDS) == place.address
@@ -67,15 +69,14 @@ def gives_back(elf: Elf, word: int, place: Place) -> bool:
 
 
 def moved_vectors(firmware: Firmware, certificate: str) -> Iterator[Warned]:
-    """Yields each write whose byte may have the bit that moves the vectors to the boot section. Old chips have it beside bits that programs change,
-    so that there a write isn't told which leaves it as it was."""
+    """Yields each write whose byte may have the bit that moves the vectors to the boot section, but for those that leave it as it was."""
     elf, device = firmware.elf, firmware.device
     if device.moving is None:
         return
     nodes, bit = Nodes(elf, certificate), device.moving.mask.bit_length() - 1
     for word in sorted(nodes.at):
         if writes(elf, nodes, word, device.moving.address) and any(it[stored(elf.word(word))].may_have(bit) for it in nodes.values_at(word)):
-            if device.is_first() or not gives_back(elf, word, device.moving):
+            if not gives_back(elf, word, device.moving):
                 yield Warned(word, MOVES, "may move the interrupt vectors (IVSEL); the bound takes them to be at 0")
 
 
