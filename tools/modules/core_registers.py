@@ -67,8 +67,8 @@ def bytes_loaded(elf: Elf) -> FrozenSet[int]:
     """The bytes that code loads by `ldi` as the low half of an address below 0100."""
     found: Set[int] = set()
     for part in parts(elf):
-        zeros = zeroed(part)
-        found |= {byte for _, opcode in part if opcodes.is_ldi(opcode) for register, byte in (opcodes.ldi(opcode),) if register % 2 == 0 and register + 1 in zeros}
+        zeros, loaded = zeroed(part), [opcodes.ldi(opcode) for _, opcode in part if opcodes.is_ldi(opcode)]
+        found |= {byte for register, byte in loaded if register % 2 == 0 and register + 1 in zeros}
         found |= set(beside_zero(elf, part, zeros))
     return frozenset(found)
 
@@ -83,7 +83,7 @@ def numbers_meant(elf: Elf) -> FrozenSet[int]:
 
 @functools.lru_cache(maxsize=None)
 def bytes_in_data(elf: Elf) -> FrozenSet[int]:
-    return frozenset().union(*(set(it) for _, it in pieces(elf)))
+    return frozenset(byte for _, piece in pieces(elf) for byte in piece)
 
 
 @functools.lru_cache(maxsize=None)
@@ -98,16 +98,22 @@ def stands(elf: Elf, address: int) -> bool:
     return address in numbers_meant(elf) or address in bytes_loaded(elf)
 
 
+def is_low(nodes: Nodes, word: int) -> bool:
+    """Whether the high half of a store's pointer is known to be 0 at each of its nodes."""
+    register, _ = pointer(nodes.elf.word(word))
+    return all((it[register + 1].mask, it[register + 1].bits) == (0xFF, 0) for it in nodes.values_at(word))
+
+
 def is_meant(nodes: Nodes, word: int, address: int, cause: Cause) -> bool:
     """Whether a store whose pointer may be the address of a register may be meant for it, by the numbers in the file."""
     elf = nodes.elf
-    register, more = pointer(elf.word(word))
+    _, more = pointer(elf.word(word))
     if more < 0:
         return False
     if more:
         return address - more in first_values(elf)
-    is_low = all((it[register + 1].mask, it[register + 1].bits) == (0xFF, 0) for it in nodes.values_at(word))
-    return stands(elf, address) or (is_low or cause.is_few()) and address in bytes_in_data(elf)
+    is_few = bool(cause.addresses) and not cause.more
+    return stands(elf, address) or (is_few or is_low(nodes, word)) and address in bytes_in_data(elf)
 
 
 def reads_into_registers(nodes: Nodes, word: int) -> bool:
@@ -141,10 +147,16 @@ def may_write(nodes: Nodes, device: Device, word: int, address: int) -> bool:
 
 
 def is_asked(nodes: Nodes, word: int, is_listed: bool) -> bool:
-    """Whether a store is looked at: one that `premises` lists, or whose pointer has a high half of 0; none whose pointer is one constant."""
-    register, _ = pointer(nodes.elf.word(word))
-    is_low = all((it[register + 1].mask, it[register + 1].bits) == (0xFF, 0) for it in nodes.values_at(word))
-    return (is_listed or is_low) and not nodes.fixed(word)
+    """Whether a store is looked at: one that `premises` lists, or whose pointer has a high half of 0 and isn't one constant."""
+    return is_listed or is_low(nodes, word) and not nodes.fixed(word)
+
+
+def names_of(nodes: Nodes, device: Device, word: int, cause: Cause, listed: Set[int]) -> List[str]:
+    """The names of the registers of the core that a store may be meant for; of a pointer that is one constant, those that the list of places names."""
+    if nodes.fixed(word):
+        return [name for address, name in sorted(core(device).items()) if address in cause.addresses - listed]
+    return [name for address, name in sorted(core(device).items()) if address not in listed
+            and may_write(nodes, device, word, address) and is_meant(nodes, word, address, cause)]
 
 
 def found(device: Device, nodes: Nodes, lines: Lines, causes: Dict[int, Cause]) -> Dict[int, List[str]]:
@@ -152,9 +164,7 @@ def found(device: Device, nodes: Nodes, lines: Lines, causes: Dict[int, Cause]) 
     told: Dict[int, List[str]] = {}
     for word in sorted(nodes.at):
         if opcodes.is_pointer_store(nodes.elf.word(word)) and is_asked(nodes, word, word in causes):
-            names = [name for address, name in sorted(core(device).items()) if address not in lines.of(word, "store")
-                     and may_write(nodes, device, word, address) and is_meant(nodes, word, address, causes.get(word, Cause()))]
-            if names:
+            if names := names_of(nodes, device, word, causes.get(word, Cause()), lines.of(word, "store")):
                 told[word] = names
     return told
 

@@ -124,6 +124,10 @@ class Widening:
                 break
             self.round()
         lists = self.work.lists
+        for _ in range(ROUNDS if lists.narrower else 0):  # stores that are reached only now
+            if not self.work.add_own():
+                break
+        lists = self.work.lists
         if lists.bound is not None and bound_of(self.work.certificate) <= lists.bound:
             lists.bound, lists.narrower = None, {}
 
