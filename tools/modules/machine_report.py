@@ -24,7 +24,7 @@ def versions(outcome):
 
 def common(outcome):
     firmware = outcome.firmware
-    return {"status": outcome.status, "firmware": firmware.path, "device": firmware.device.name, "linked_for": firmware.linked_for, "versions": versions(outcome),
+    return {"firmware": firmware.path, "device": firmware.device.name, "linked_for": firmware.linked_for, "versions": versions(outcome),
             "given": outcome.assumed.splitlines(),
             "assumed": [{"spec": it.spec, "line": it.words, "place": it.place} for it in outcome.written]}
 
@@ -51,4 +51,5 @@ def accepted(outcome):
 
 
 def text(outcome):
-    return json.dumps({**common(outcome), **(refused(outcome) if isinstance(outcome, Refused) else accepted(outcome))}, indent=1) + "\n"
+    found = refused(outcome) if isinstance(outcome, Refused) else accepted(outcome)
+    return json.dumps({**common(outcome), **found, "status": outcome.status}, indent=1) + "\n"
