@@ -9,7 +9,7 @@ use Rattle.avr_model.specs.declared.rows.Ivsel.{Ivsel}
 use Rattle.avr_model.specs.declared.assumption.Entry.{Entry}
 use Rattle.avr_model.specs.declared.effect.Write.{Write}
 use Rattle.avr_model.specs.Devices.{Program, device_row, device_of}
-use Rattle.avr_model.specs.Vectors.{is_bit_of, is_ivsel, sets_bit_of, sets_ivsel}
+use Rattle.avr_model.specs.Vectors.{is_core, is_bit_of, is_ivsel, sets_bit_of, sets_ivsel}
 use Rattle.avr_model.specs.Step.{moves_vectors}
 use Rattle.avr_model.proofs.AllLaws.{devices_are_alike, ivsel_is_apart}
 use Rattle.vector_table.specs.Moving.{is_at, has_ivsel}
@@ -108,3 +108,12 @@ none_below d a byte lt = outside d a byte (λ least most. omega (arith, lt, leas
 
 pub none_behind : (d : Device) (a byte : ℕ) → 0x0200 ≤ a → false ≡ sets_ivsel d a byte
 none_behind d a byte le = outside d a byte (λ least most. omega (arith, le, most))
+
+pub none_core : (d : Device) (a byte : ℕ) → is_core a ≡ true → false ≡ sets_ivsel d a byte
+none_core d a byte core = elim (cases_Bool (sets_ivsel d a byte)) [
+  | inl set ↦
+      let b = sets_there d a byte set in
+      let other = ivsel_is_apart.core d a b.0 b.1 in
+      absurd (let both = sym core ∙ other in cc)
+  | inr none ↦ sym none
+]
