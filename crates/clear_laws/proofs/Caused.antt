@@ -269,7 +269,7 @@ module _ (task : Task) (f : RankedFamily) (sound : IsSoundFamily task f) (m : St
 
     caused_by : (flag : Flag)
         → IsCauseOf m.pc (live_write m.memory (effect.stores ++ effect.pushes)) (protected_write task.flash task.assumptions m.pc instr effect)
-            (refused_transfer task.flash task.assumptions m instr effect) (moves_vectors (device_of task.flash) (masks_by task) effect.stores) flag
+        (refused_transfer task.flash task.assumptions m instr effect) (moves_vectors (device_of task.flash) (masks_by task) effect.stores) flag
         → (IsClear task f g.node → ⊥) → MayFlag task f flag
     caused_by (Live p x) h unclear =
         subst (λ pc. IsCause task f pc (λ (n : Node) y. may_write_live task f.bound n.key (store_at pc n.state y))) h.0
