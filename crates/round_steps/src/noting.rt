@@ -43,7 +43,8 @@ fn note_entry(
     if into.cut(assumptions).is_some() {
         return Ok(());
     }
-    nesting.note_entrance(&key.inst, into, key.offset())
+    nesting.note_entrance(&key.inst, into, key.offset())?;
+    Ok(())
 }
 
 // Notes that the instance of a node lies below the root, if it is cut.
@@ -58,10 +59,11 @@ fn note_recur(
 {
     // These entries are those of a valid list of assumptions.
     let _entries = assumptions.entries();
-    match inst.cut(assumptions) {
-        None => Ok(()),
-        Some(depth) => nesting.note_entrance(&InstKey::root(), inst, depth),
-    }
+    let Some(depth) = inst.cut(assumptions) else {
+        return Ok(());
+    };
+    nesting.note_entrance(&InstKey::root(), inst, depth)?;
+    Ok(())
 }
 
 // Notes each instance that a node enters.
