@@ -103,7 +103,7 @@ pub landed_belongs : (insts : List Inst) (nodes : List Node) (n : Node) → AllB
 landed_belongs insts nodes n belong h = belong (record { key = n.key; state = h.state }) h.present
 
 -- the instance on which a node makes a demand
-pub owner : {task : Task} {insts : List Inst} (n : Node) (d : Demand) → Asks task insts n d → InstKey
+abbrev pub owner : {task : Task} {insts : List Inst} (n : Node) (d : Demand) → Asks task insts n d → InstKey
 owner n _ (offset o e) = n.key.inst
 owner n _ (entry way inst back e whole) = n.key.inst
 owner n _ (recur depth cut) = root_inst
