@@ -18,6 +18,8 @@ from telling import flagged, lines_for, narrower, others, written
 from trials import INPUTS, reads_inputs
 from widening import Lists
 
+NOT_MOVED = "IVSEL isn't looked at, since the line `masks` doesn't stand: the bound takes the interrupt vectors to be at 0"
+
 
 class Part:
     """A number of bytes and what it is of."""
@@ -144,6 +146,8 @@ def tell_premises(found: Accepted, program: Any, certificate: str) -> None:
     if found.written:
         found.rests_on.append(f"lines of its own (--plain leaves them out, --write-spec FILE keeps them): {len(found.written)}")
         found.rests_on += [f"assumed: {it}" for it in found.written]
+    if found.firmware.device.moving and found.firmware.device.is_first() and not found.own.has_masks():
+        found.rests_on.append(NOT_MOVED)
     found.rests_on += narrower(found.firmware, found.lists, found.own)
     if reads_inputs(found.firmware.elf, found.firmware.device):
         found.rests_on.append(INPUTS)

@@ -52,8 +52,8 @@ class Place:
 
     def why(self):
         """Yields what may happen there, and the lines that close it."""
-        if self.cause:
-            yield str(self.cause)
+        if told := str(self.cause):
+            yield told
         yield from self.warned
         yield from (f"closed by: {it}" for it in self.closers)
         if self.keep:
@@ -153,7 +153,8 @@ class Look:
 
     def texts(self, word, kind):
         """Yields what is told of a word beside what the program says may happen there."""
-        if kind == MOVES:
+        cause = self.outcome.causes.get(word, Cause())
+        if kind == MOVES or cause.moves and not str(cause):
             yield MOVED
         if kind == CORES:
             names = self.cores[word]

@@ -1,19 +1,17 @@
-"""What no flag tells of a firmware: writes that move the interrupt vectors, a stack that is used before SP is set, and a heap that shares the room."""
+"""What no flag tells of a firmware: a stack that is used before SP is set, and a heap that shares the room."""
 
 from typing import Iterator, List, NamedTuple, Optional, Set
 
 import opcodes
-from candidates import before
-from devices import Device, Place
+from devices import Device
 from elf import Elf
 from firmware import Firmware
-from kinds import MOVES, UNSET
-from node_values import Nodes, stored
+from kinds import UNSET
+from node_values import Nodes
 
 ALLOCATORS = ("malloc", "calloc", "realloc", "_Znwj", "_Znaj")
-STS, OUT, IN, LDS = 0x9200, 0xB800, 0xB000, 0x9000
+STS, OUT = 0x9200, 0xB800
 SPL = 0x5D
-READ_BACK = 6  # instructions before a write in which its register is read
 
 
 class Warned(NamedTuple):
@@ -29,55 +27,12 @@ def heap(elf: Elf) -> Optional[str]:
     return next((name for name in ALLOCATORS if name in elf.all), None)
 
 
-def named_address(elf: Elf, word: int, near: int, far: int) -> Optional[int]:
-    """The data address that `out` or `in`, or `sts` or `lds`, names at a word; None of another instruction."""
+def writes_low_half(elf: Elf, nodes: Nodes, word: int) -> bool:
+    """Whether an instruction writes SPL, by name or through a pointer that is known."""
     opcode = elf.word(word)
-    if opcode & 0xF800 == near:
-        return opcodes.io_address(opcode)
-    return elf.word(word + 1) if opcode & 0xFE0F == far else None
-
-
-def writes(elf: Elf, nodes: Nodes, word: int, address: int) -> bool:
-    """Whether an instruction names an address that it writes, or stores through a pointer that is this address at one of its nodes and known."""
-    if opcodes.is_pointer_store(elf.word(word)):
-        return nodes.fixed(word) and nodes.may_write(word, address)
-    return named_address(elf, word, OUT, STS) == address
-
-
-def joined(elf: Elf, word: int) -> Set[int]:
-    """The words of a function to which another one than that before leads."""
-    symbol = elf.symbol_at(2 * word)
-    code = list(opcodes.words_of(elf, symbol)) if symbol else []
-    return {to for at, opcode in code for to in opcodes.following(elf, at) if to != at + opcodes.length(opcode)}
-
-
-def gives_back(elf: Elf, word: int, place: Place) -> bool:
-    """Whether a write gives back what was read from its register just before, in which `ori` and `andi` have set none of these bits."""
-    register, ways, last = stored(elf.word(word)), joined(elf, word), word
-    for at, opcode in before(elf, word, READ_BACK):
-        if last in ways:
-            return False
-        last = at
-        if named_address(elf, at, OUT, STS) is not None:
-            continue
-        byte, is_same = opcode & 15 | opcode >> 4 & 0xF0, register == 16 + (opcode >> 4 & 15)
-        if opcode >> 4 & 31 == register and named_address(elf, at, IN, LDS) is not None:
-            return named_address(elf, at, IN, LDS) == place.address
-        if not (is_same and (opcode & 0xF000 == 0x7000 or opcode & 0xF000 == 0x6000 and not byte & place.mask)):
-            return False
-    return False
-
-
-def moved_vectors(firmware: Firmware, certificate: str) -> Iterator[Warned]:
-    """Yields each write whose byte may have the bit that moves the vectors to the boot section, but for those that leave it as it was."""
-    elf, device = firmware.elf, firmware.device
-    if device.moving is None:
-        return
-    nodes, bit = Nodes(elf, certificate), device.moving.mask.bit_length() - 1
-    for word in sorted(nodes.at):
-        if writes(elf, nodes, word, device.moving.address) and any(it[stored(elf.word(word))].may_have(bit) for it in nodes.values_at(word)):
-            if not gives_back(elf, word, device.moving):
-                yield Warned(word, MOVES, "may move the interrupt vectors (IVSEL); the bound takes them to be at 0")
+    if opcodes.is_pointer_store(opcode):
+        return nodes.fixed(word) and nodes.may_write(word, SPL)
+    return opcode & 0xF800 == OUT and opcodes.io_address(opcode) == SPL or opcode & 0xFE0F == STS and elf.word(word + 1) == SPL
 
 
 def first_use(elf: Elf, nodes: Nodes) -> Optional[int]:
@@ -86,7 +41,7 @@ def first_use(elf: Elf, nodes: Nodes) -> Optional[int]:
     left = [0]
     while left:
         word = left.pop(0) % elf.chip.words
-        if word in seen or writes(elf, nodes, word, SPL):
+        if word in seen or writes_low_half(elf, nodes, word):
             continue
         if opcodes.uses_stack(elf.word(word)):
             return word
@@ -105,4 +60,4 @@ def unset_pointer(firmware: Firmware, certificate: str) -> Iterator[Warned]:
 
 
 def warnings(firmware: Firmware, certificate: str) -> List[Warned]:
-    return [*moved_vectors(firmware, certificate), *unset_pointer(firmware, certificate)]
+    return list(unset_pointer(firmware, certificate))
