@@ -58,6 +58,7 @@ class Accepted:
     lists: Lists  # of calls through pointers
     seen: Optional[int] = None
     flagged: Optional[str] = None
+    stop: Any = None  # the flagged step of a trial run
     bound: int = 0
     witness: str = "open"
     deepest: Any = None  # the trial run that is as deep as the bound
@@ -179,7 +180,7 @@ def take(firmware: Firmware, spec: str, given: str, work: Mending, words: Any, f
     """Judges the certificate that was found, and gathers what is told of it."""
     found = Accepted(firmware, spec, given, list(written(firmware, work.lines)), work.certificate, work.lines, work.lists, work.deepest)
     if work.stop:
-        found.flagged = flagged(firmware, work)
+        found.flagged, found.stop = flagged(firmware, work), work.stop
     program, certificate = work.program(), os.path.join(folder, "certificate")
     witness = accept(found, program, certificate, work.certificate)
     if witness == "open" and work.deepest is not None and work.deepest >= found.bound:

@@ -58,6 +58,8 @@ def complete(outcome, words, folder):
     outcome.table = call_graph.needs(outcome.graph)
     outcome.entries = places.entries(outcome)
     outcome.idle_keeps = places.judge(outcome, spec.keeps)
+    if outcome.stop and outcome.stop.kind == "moved" and any(it.judged and outcome.stop.word in it.words for it in outcome.entries):
+        outcome.flagged = None  # a person says that the vectors may be moved there
     if words.interrupts:
         vectors = [it for it in outcome.firmware.device.vectors if any(other.kind == f"v{it}" for other in outcome.graph.instances)]
         outcome.costs = interrupts.costs(outcome, assumed(outcome.certificate), vectors, folder)
