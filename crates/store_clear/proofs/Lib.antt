@@ -12,3 +12,4 @@ pub mod Taken
 pub mod Linked
 pub mod Causing
 pub mod Sites
+pub mod Moving

@@ -1,6 +1,6 @@
 //! Whether an instruction may set IVSEL.
 
-ghost use Rattle.std.specs.Prelude.{◌≡◌, Some};
+ghost use Rattle.std.specs.Prelude.{◌≡◌, ◌<◌, Some};
 ghost use Rattle.bit_domain.specs.Tri.{permits};
 ghost use Rattle.bit_domain.specs.TriByte.{tri_at};
 ghost use Rattle.call_graph.specs.Tasks.{task_of};
@@ -78,6 +78,7 @@ fn may_set(place: Ivsel, key: &NodeKey, state: &AbsState, instr: &Instr) -> bool
 }
 
 // Whether an instruction may set IVSEL, under a list that reads masks.
+#[tactic(auto, using(crate::proofs::Moving::small_bit))]
 pub(crate) fn may_move(task: &Task<'_>, key: &NodeKey, state: &AbsState, instr: &Instr) -> bool
     ensures { result ≡ may_move (task_of task.now) key.now state.now instr.now }
 {
