@@ -148,8 +148,8 @@ ascending_given list last are = subst (IsStrictlySortedBy nat_cmp) (sym are) (as
 -- ---- one after the other
 
 module _ (task : Task) (bound : ℕ) (other : Other) (nodes : List Node) (asks : List Asks) (pc : ℕ) (instr : Instr) where
-  abbrev At : ℕ → Type 0
-  At count = HappensAt task bound other nodes asks pc instr count
+  abbrev Happens : ℕ → Type 0
+  Happens count = HappensAt task bound other nodes asks pc instr count
 
   abbrev happens : Node → Bool
   happens n = may_happen task bound other pc instr n
@@ -158,11 +158,11 @@ module _ (task : Task) (bound : ℕ) (other : Other) (nodes : List Node) (asks :
     same_test : happens n ≡ happens (record { key = k; state = s })
     same_test = ap₂ (λ (x : NodeKey) (y : AbsState). happens (record { key = x; state = y })) key state
 
-    pub happens_found : (count : ℕ) → at < count → is_unclear_at pc n.key (ask_at asks at) ≡ true → happens (record { key = k; state = s }) ≡ true → At count
+    pub happens_found : (count : ℕ) → at < count → is_unclear_at pc n.key (ask_at asks at) ≡ true → happens (record { key = k; state = s }) ≡ true → Happens count
     happens_found count lt unclear passes =
         record { at = at; node = n; below = lt; is = is; unclear = unclear; passes = same_test ∙ passes }
 
-    pub happens_not : (At at → ⊥) → happens (record { key = k; state = s }) ≡ false → At (at + 1) → ⊥
+    pub happens_not : (Happens at → ⊥) → happens (record { key = k; state = s }) ≡ false → Happens (at + 1) → ⊥
     happens_not none here t =
         ⊎_elim (λ lt. none (record { at = t.at; node = t.node; below = lt; is = t.is; unclear = t.unclear; passes = t.passes }))
         (λ e.
@@ -170,11 +170,11 @@ module _ (task : Task) (bound : ℕ) (other : Other) (nodes : List Node) (asks :
         never_both (happens (record { key = k; state = s })) (sym (ap happens m ∙ same_test) ∙ t.passes) here)
         (before_or_last t.at at t.below)
 
-  pub happens_none : At 0 → ⊥
+  pub happens_none : Happens 0 → ⊥
   happens_none t = let lt = t.below in omega (arith, lt)
 
   -- none among those that come next
-  pub happens_skipped : (start at : ℕ) → IsNext nodes asks pc start at → (At start → ⊥) → At at → ⊥
+  pub happens_skipped : (start at : ℕ) → IsNext nodes asks pc start at → (Happens start → ⊥) → Happens at → ⊥
   happens_skipped start at next none t = none (skipped nodes asks pc start at next happens t)
 
 -- ---- a word
@@ -284,9 +284,9 @@ module _ (task : Task) (c : Claim) (nodes : List Node) (asks : List Asks) (told 
                   (not_listed task f site.node instr (subst (λ q. instruction_at task.flash q ≡ Some instr) (sym site.is) is) h site.unclear);
             },
             λ cause.
-                let t = cause_to instr is (λ n y. unlisted n y) cause in
+                let passes = ap (λ y. unlisted cause.node y) (same_Some instr cause.instr (sym is ∙ cause.instruction)) ∙ cause.passes in
                 unlisted_goes task f cause.node instr
-                (subst (λ q. (not (is_transfer_listed task q cause.node.state instr) || calls_cut task cause.node.key cause.node.state instr) ≡ true) (sym cause.is) t.passes),
+                (subst (λ q. (not (is_transfer_listed task q cause.node.state instr) || calls_cut task cause.node.key cause.node.state instr) ≡ true) (sym cause.is) passes),
           );
           moves = (
             λ h. cause_from instr is (λ n y. to_ivsel n y) (moving.0 h),

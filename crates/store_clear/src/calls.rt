@@ -30,12 +30,7 @@ fn is_cut(task: &Task<'_>, word: u16) -> bool
 fn is_some_cut(task: &Task<'_>, words: &[u16]) -> bool
     ensures { result ≡ list_any (is_cut task.now.assumptions.now) words.now }
 {
-    for word in words {
-        if is_cut(task, *word) {
-            return true;
-        }
-    }
-    false
+    words.iter().any(|word| is_cut(task, *word))
 }
 
 // Whether one of the listed words that the bits of Z permit has.
