@@ -151,23 +151,23 @@ module _ (task : Task) (bound : ℕ) (other : Other) (nodes : List Node) (asks :
   abbrev Happens : ℕ → Type 0
   Happens count = HappensAt task bound other nodes asks pc instr count
 
-  abbrev happens : Node → Bool
-  happens n = may_happen task bound other pc instr n
+  abbrev passing : Node → Bool
+  passing n = may_happen task bound other pc instr n
 
   module _ (at : ℕ) (n : Node) (k : NodeKey) (s : AbsState) (is : slice_get nodes at ≡ Some n) (key : n.key ≡ k) (state : n.state ≡ s) where
-    same_test : happens n ≡ happens (record { key = k; state = s })
-    same_test = ap₂ (λ (x : NodeKey) (y : AbsState). happens (record { key = x; state = y })) key state
+    same_test : passing n ≡ passing (record { key = k; state = s })
+    same_test = ap₂ (λ (x : NodeKey) (y : AbsState). passing (record { key = x; state = y })) key state
 
-    pub happens_found : (count : ℕ) → at < count → is_unclear_at pc n.key (ask_at asks at) ≡ true → happens (record { key = k; state = s }) ≡ true → Happens count
+    pub happens_found : (count : ℕ) → at < count → is_unclear_at pc n.key (ask_at asks at) ≡ true → passing (record { key = k; state = s }) ≡ true → Happens count
     happens_found count lt unclear passes =
         record { at = at; node = n; below = lt; is = is; unclear = unclear; passes = same_test ∙ passes }
 
-    pub happens_not : (Happens at → ⊥) → happens (record { key = k; state = s }) ≡ false → Happens (at + 1) → ⊥
+    pub happens_not : (Happens at → ⊥) → passing (record { key = k; state = s }) ≡ false → Happens (at + 1) → ⊥
     happens_not none here t =
         ⊎_elim (λ lt. none (record { at = t.at; node = t.node; below = lt; is = t.is; unclear = t.unclear; passes = t.passes }))
         (λ e.
         let m : t.node ≡ n = one_at nodes at t.node n (subst (λ i. slice_get nodes i ≡ Some t.node) e t.is) is in
-        never_both (happens (record { key = k; state = s })) (sym (ap happens m ∙ same_test) ∙ t.passes) here)
+        never_both (passing (record { key = k; state = s })) (sym (ap passing m ∙ same_test) ∙ t.passes) here)
         (before_or_last t.at at t.below)
 
   pub happens_none : Happens 0 → ⊥
@@ -175,7 +175,7 @@ module _ (task : Task) (bound : ℕ) (other : Other) (nodes : List Node) (asks :
 
   -- none among those that come next
   pub happens_skipped : (start at : ℕ) → IsNext nodes asks pc start at → (Happens start → ⊥) → Happens at → ⊥
-  happens_skipped start at next none t = none (skipped nodes asks pc start at next happens t)
+  happens_skipped start at next none t = none (skipped nodes asks pc start at next passing t)
 
 -- ---- a word
 
