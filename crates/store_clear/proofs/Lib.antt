@@ -12,4 +12,4 @@ pub mod Taken
 pub mod Linked
 pub mod Causing
 pub mod Sites
-pub mod Moving
+pub mod Ivsel

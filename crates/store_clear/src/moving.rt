@@ -78,7 +78,7 @@ fn may_set(place: Ivsel, key: &NodeKey, state: &AbsState, instr: &Instr) -> bool
 }
 
 // Whether an instruction may set IVSEL, under a list that reads masks.
-#[tactic(auto, using(crate::proofs::Moving::small_bit))]
+#[tactic(auto, using(crate::proofs::Ivsel::small_bit))]
 pub(crate) fn may_move(task: &Task<'_>, key: &NodeKey, state: &AbsState, instr: &Instr) -> bool
     ensures { result ≡ may_move (task_of task.now) key.now state.now instr.now }
 {
