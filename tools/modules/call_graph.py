@@ -43,7 +43,7 @@ class Graph:
 
     def __init__(self, outcome):
         self.outcome, self.instances, self.by_key = outcome, [], {}
-        self.lines = {}
+        self.lines, self.depths = {}, {}
         for line in outcome.certificate.splitlines():
             words = line.split()
             if words[0] == "jump":
@@ -52,8 +52,11 @@ class Graph:
                 self.add(Instance(words[1], int(words[2], 16), words[3], words[4], int(words[6]), int(words[8])))
             elif words[0] == "node":
                 self.node(words)
+            elif words[0] == "recur":
+                self.depths[int(words[1], 16)] = int(words[2])
             elif words[0] == "witness":
                 break
+        self.enter_cut()
         for it in sorted(self.instances, key=lambda it: it.rank):
             self.settle(it)
 
@@ -62,6 +65,12 @@ class Graph:
         instance.name = self.outcome.firmware.instance(instance.kind, instance.entry, symbol.name if symbol and symbol.address == 2 * instance.entry else None)
         self.by_key[instance.kind, instance.entry, instance.enables, instance.flag] = len(self.instances)
         self.instances.append(instance)
+
+    def enter_cut(self):
+        """What the spec's recursions enter counts as entered by the start, at their depths."""
+        for number, it in enumerate(self.instances):
+            if it.kind == "call" and it.entry in self.depths:
+                self.instances[0].enter(number, self.depths[it.entry] + RETURN, False)
 
     def node(self, words):
         """What a node adds to its instance: its offset, and what may be entered there."""

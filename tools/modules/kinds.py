@@ -3,13 +3,15 @@
 from typing import Any, Dict, Iterable
 
 from fuses import FUSES
+from recursion import PLACE
 
 CALLS, STORES, VECTORS, CORES, MOVES, UNSET = "calls", "stores", "vectors", "cores", "moves", "unset"  # a correct program may be flagged there
 SAFETY, WHOLE = "memory safety", "whole lists"  # only a program without a meaning in its language is
 GIVEN = "given"  # the spec says itself what happens there
 ORDINARY = (CALLS, STORES, VECTORS, CORES, MOVES, UNSET, FUSES)
 WORDS = {CALLS: "call{s}", STORES: "store{s}", VECTORS: "vector{s}", CORES: "store{s} near the core", MOVES: "write{s} of {moving}",
-         UNSET: "use{s} of the stack before SPL is written", FUSES: "fuse{s}", SAFETY: "of memory safety", WHOLE: "call{s} with a complete list", GIVEN: "given line{s}"}
+         UNSET: "use{s} of the stack before SPL is written", FUSES: "fuse{s}", SAFETY: "of memory safety", WHOLE: "call{s} with a complete list", GIVEN: "given line{s}",
+         PLACE: "limited call{s}"}
 
 
 def counts(outcome: Any) -> Dict[str, int]:

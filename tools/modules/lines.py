@@ -1,6 +1,7 @@
 """The lines of an assumption file by site and kind, and the line of a spec that says the same by names."""
 
 import opcodes
+import recursion
 from names import SpecFault, function, shown
 from sites import SITES, STORES
 from spec import KINDS, MASKS, MOST_ITEMS, NOWHERE, PAIRS, Spec, assumption_line, words_of
@@ -13,7 +14,7 @@ class Lines:
         self.items, self.given = {}, set()
         for line in text.splitlines():
             kind, *words = line.split()
-            site, *items = [int(it, 16) for it in words] or [NOWHERE]
+            site, *items = [int(it, 10 if at and kind == recursion.KIND else 16) for at, it in enumerate(words)] or [NOWHERE]
             self.items[site, KINDS.index(kind)] = set(items)
         self.given = set(self.items)
 
@@ -53,6 +54,11 @@ class Lines:
 
     def put(self, site, kind, items):
         self.items[site, KINDS.index(kind)] = set(items)
+
+    def give(self, site, kind, items):
+        """Puts a line that counts as given."""
+        self.put(site, kind, items)
+        self.given.add((site, KINDS.index(kind)))
 
     def drop(self, site, kind):
         del self.items[site, KINDS.index(kind)]

@@ -42,6 +42,9 @@ def accepted(outcome):
         "needs": [{"name": it.name, "own": it.own, "calls": it.calls, "interrupts": it.all, "handler": it.is_handler} for it in outcome.table],
         "places": None if outcome.premises is None else [place(it) for it in outcome.entries],
         "kinds": None if outcome.premises is None else kinds.counts(outcome)}
+    if outcome.recursions:
+        found["recursions"] = [{"function": it.name, "activations": it.count, "depth": max(it.depths.values()), "words": [f"{entry:04X}" for entry in it.entries]}
+                               for it in outcome.recursions]
     if outcome.costs is not None:
         found["interrupts"] = [{"name": it.name, "without": it.without} for it in outcome.costs]
     if outcome.difference:

@@ -13,13 +13,16 @@ import candidates
 import causes
 import core_registers
 import opcodes
+import recursion
+import scratch
 from cures import REFUSAL
 from firmware import Firmware
 from lines import Lines
 from node_values import Nodes
 from program import DEVICES, OK, REFUSED, USAGE, NoProgram, Program
+from recursion import Recursion
 from sites import frames_of
-from spec import MASKS, NOWHERE, is_unhandled
+from spec import MASKS, NOWHERE, SpecFault, is_unhandled
 from trials import DEVICE_LINES, Run, Scope, Stop, Trials, handled, scope
 from widening import Lists, widen
 
@@ -27,6 +30,7 @@ ROUNDS = 64
 MOST_TRIED = 8  # lines that are tried one by one where they aren't accepted together
 TABLES = "__tablejump2__"
 R0 = 0  # a register that no compiled store means
+MOST_PUSHES = 16  # pushes that are tried one by one for a line `scratch`
 
 
 class Analysis:
@@ -68,7 +72,8 @@ class Analysis:
     def is_beyond_lines(self, stop: Stop) -> bool:
         """Whether no line may admit a flagged step: a write of a live byte or of IVSEL, a vector that a `never` line names, a call that is too deep."""
         if stop.kind == "transfer":
-            return self.lines.has(stop.other, "never") or not opcodes.is_indirect(self.elf.word(stop.word))
+            is_deep = self.lines.has(stop.other, recursion.KIND) and stop.other in self.lines.of(stop.word, "jump")
+            return self.lines.has(stop.other, "never") or is_deep or not opcodes.is_indirect(self.elf.word(stop.word))
         return stop.kind in ("live", "moved")
 
     def admit(self, stop: Stop) -> Optional[str]:
@@ -87,11 +92,12 @@ class Analysis:
 
 
 class Mending(Analysis):
-    """Adds lines until nothing changes. `refusal` is the last one, or None; `stop` the flagged step of a trial run that no line admits, or None."""
+    """Adds lines until nothing changes. `refusal` is the last one, or None; `stop` the flagged step of a trial run that no line admits, or None, and
+    `stopped_at` the number of that run."""
 
-    def __init__(self, firmware: Firmware, folder: str, text: str, count: Optional[int]) -> None:
+    def __init__(self, firmware: Firmware, folder: str, text: str, count: Optional[int], recursions: Iterable[Recursion] = ()) -> None:
         super().__init__(firmware, folder, text)
-        self.count = count
+        self.count, self.recursions, self.stopped_at = count, list(recursions), 0
         self.refusal: Optional[str] = None
         self.certificate: Optional[str] = None
         self.stop: Optional[Stop] = None
@@ -105,22 +111,26 @@ class Mending(Analysis):
         self.told_of: Tuple[object, Optional[List[str]]] = None, None  # the last answer of `told`, and of what
         self.lists = Lists()
         self.before_masks = self.lines
+        self.scratched: Dict[Tuple[str, int, Optional[int]], Optional[int]] = {}
 
     def copy(self) -> "Mending":
         """The same with lines of its own, for a look at what another step would do."""
-        other = Mending(self.firmware, self.folder, "", self.count)
+        other = Mending(self.firmware, self.folder, "", self.count, self.recursions)
         other.lines, other.pinned, other.tried, other.seeks = self.lines.copy(), set(self.pinned), set(self.tried), self.seeks
         other.refusal, other.certificate, other.lists = self.refusal, self.certificate, self.lists.copy()
         return other
 
     def run(self, is_plain: bool) -> None:
         """Analyses and tries the firmware, with lines of its own unless it is asked for plain answers."""
+        if self.recursions and not self.knows(recursion.KIND, 0, {0}):
+            raise SpecFault(f"line {self.recursions[0].number}: this stackbound knows no line `recur`")
         if is_plain:
             self.analyse_once()
             if self.certificate:
                 self.try_from(0)
             return
         self.lines.add_pairs()
+        self.add_scratch()
         if self.begin_with_masks():
             self.mend()
             if self.refusal:
@@ -136,8 +146,35 @@ class Mending(Analysis):
         """Whether a store through a pointer may write registers that enable interrupts: by the line `masks`, or by the device."""
         return self.lines.has_masks() or not self.device.is_first()
 
-    def analyse_once(self) -> bool:
+    def knows(self, kind: str, site: int, items: Iterable[int] = ()) -> bool:
+        """Whether the program knows a kind of lines."""
+        lines = Lines()
+        lines.put(site, kind, items)
+        status, _ = self.program(lines).call("simulate", os.devnull)  # which reads the assumption file first
+        return status == DEVICES
+
+    def add_scratch(self) -> None:
+        """Lines for the pushes of avr-libc's `exp`, whose bytes are written on purpose."""
+        found = scratch.of_exp(self.elf)
+        if found and self.knows(scratch.KIND, found[0]):
+            for word in found:
+                self.lines.add(word, scratch.KIND)
+
+    def analyse_cut(self) -> Tuple[bool, str]:
+        """The answer under the depths of the spec's recursions: those that the nodes tell which an analysis under depth 0 has."""
+        if not self.recursions:
+            return self.analyse()
+        for entry, _ in recursion.numbered(self.recursions):
+            self.lines.give(entry, recursion.KIND, {0})
         is_accepted, text = self.analyse()
+        if not is_accepted:
+            return is_accepted, text
+        for entry, depth in recursion.settle(self.firmware, text, self.recursions).items():
+            self.lines.give(entry, recursion.KIND, {depth})
+        return self.analyse()
+
+    def analyse_once(self) -> bool:
+        is_accepted, text = self.analyse_cut()
         self.refusal, self.certificate, self.stop = (None, text, None) if is_accepted else (text.strip(), None, None)
         return is_accepted
 
@@ -328,7 +365,7 @@ class Mending(Analysis):
             number, stop = trials.first_flagged(certificate, self.count, number)
             if stop is None:
                 break
-            self.stop = self.stop or stop
+            self.stop, self.stopped_at = self.stop or stop, number
             if self.may_admit(stop):
                 self.stop = stop
                 break
@@ -339,15 +376,37 @@ class Mending(Analysis):
         return number
 
     def may_admit(self, stop: Stop) -> bool:
-        """Whether a line may admit a flagged step, and a program may mean it where it is a transfer."""
+        """Whether a line may admit a flagged step, and a program may mean it where it is a transfer: a write of a live byte by one of `scratch` alone."""
+        if stop.kind == "live":
+            return self.scratch_for(stop) is not None
         if self.is_beyond_lines(stop):
             return False
         return stop.kind != "transfer" or candidates.may_be_entered(self.elf, stop.word, stop.other)
+
+    def scratch_for(self, stop: Stop) -> Optional[int]:
+        """The push with whose line `scratch` the run that wrote a live byte goes on behind that step, and under which there is a bound."""
+        if stop.key() not in self.scratched:
+            self.scratched[stop.key()] = next((it for it in self.scratches() if self.goes_on(stop, it)), None)
+            self.program()  # whose assumption file these looks wrote anew
+        return self.scratched[stop.key()]
+
+    def scratches(self) -> List[int]:
+        """The pushes that a line `scratch` may name."""
+        found = [it for it in dict.fromkeys(scratch.candidates_of(candidates.code(self.elf))) if not self.lines.has(it, scratch.KIND)]
+        return found[:MOST_PUSHES] if found and self.knows(scratch.KIND, found[0]) else []
+
+    def goes_on(self, stop: Stop, word: int) -> bool:
+        other = self.copy()
+        other.lines.add(word, scratch.KIND)
+        found = other.trials(self.folder, scope(self.certificate or "", self.told())).short(self.stopped_at)
+        return (found is None or found.key() != stop.key()) and other.settle()
 
     def at_stop(self) -> bool:
         """Adds the line that admits the flagged step of a trial run; whether there is one."""
         if self.stop is None or not self.may_admit(self.stop):
             return False
+        if self.stop.kind == "live":
+            return self.lines.add(self.scratch_for(self.stop), scratch.KIND)
         kind = self.admit(self.stop)
         if kind == "jump":
             self.pinned.add((self.stop.word, self.stop.other))

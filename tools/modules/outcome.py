@@ -7,13 +7,15 @@ from typing import Any, Dict, List, Optional, Union
 
 import causes
 import cures
+import cycles
 import intel_hex
+import recursion
 import refusals
 import warnings_of_words
 from firmware import Firmware
 from mending import Mending
 from program import OK, USAGE, NoProgram
-from spec import UNASSUMED, assumptions
+from spec import UNASSUMED, Spec
 from telling import flagged, lines_for, narrower, others, written
 from trials import INPUTS, reads_inputs
 from widening import Lists
@@ -56,6 +58,7 @@ class Accepted:
     certificate: str
     own: Any  # the lines under which it was accepted
     lists: Lists  # of calls through pointers
+    recursions: List[Any] = field(default_factory=list)  # of the spec, with the depths that they came to
     seen: Optional[int] = None
     flagged: Optional[str] = None
     stop: Any = None  # the flagged step of a trial run
@@ -94,9 +97,9 @@ def refuse(firmware: Firmware, spec: str, given: str, work: Mending) -> Refused:
         vector = cures.REFUSAL.match(work.refusal).group(3)
         found.places.append(f"{word:04X} " + (firmware.handler(int(vector)) if vector else firmware.place(word)))
     found.places += others(firmware, work, name, word)
-    found.reasons = refusals.reasons(firmware, work, work.refusal)
+    found.reasons = refusals.reasons(firmware, work, work.refusal) or list(refusals.of_cause(firmware, name))
     found.cause, found.cure = refusals.overriding(name, found.reasons) or (found.cause, found.cure)
-    found.cure_lines = lines_for(firmware, work, name)
+    found.cure_lines = lines_for(firmware, work, name) or list(cycles.lines(firmware, work))
     return found
 
 
@@ -128,7 +131,10 @@ def tell_chain(found: Accepted, program: Any, certificate: str) -> None:
     firmware = found.firmware
     for line in program.lines("explain", certificate) or ():
         words = line.split()
-        if words[0] == "link":
+        if words[:1] == ["link"] and words[6] == recursion.KIND:
+            name = recursion.name_of_entry(firmware, int(words[7], 16))
+            found.chain.append(Part(int(words[9]), f"reset, with all that stands above the last call of {name}"))
+        elif words[0] == "link":
             kind, entry, name, at, adds = words[1], int(words[2], 16), words[5], int(words[7], 16), int(words[9])
             found.chain.append(Part(adds, f"{firmware.instance(kind, entry, None if name == '-' else name)} at {firmware.place(at)}"))
 
@@ -144,6 +150,7 @@ def tell_premises(found: Accepted, program: Any, certificate: str) -> None:
         kind, *words = line.split()
         if kind not in UNASSUMED:
             found.rests_on.append(f"assumed: {line}, at {found.firmware.place_of_line(kind, int(words[0], 16))}")
+    found.rests_on += [it.told() for it in found.recursions]
     if found.written:
         found.rests_on.append(f"lines of its own (--plain leaves them out, --write-spec FILE keeps them): {len(found.written)}")
         found.rests_on += [f"assumed: {it}" for it in found.written]
@@ -178,7 +185,7 @@ def attain(found: Accepted, program: Any, certificate: str, witness: str) -> Non
 
 def take(firmware: Firmware, spec: str, given: str, work: Mending, words: Any, folder: str) -> Accepted:
     """Judges the certificate that was found, and gathers what is told of it."""
-    found = Accepted(firmware, spec, given, list(written(firmware, work.lines)), work.certificate, work.lines, work.lists, work.deepest)
+    found = Accepted(firmware, spec, given, list(written(firmware, work.lines)), work.certificate, work.lines, work.lists, work.recursions, work.deepest)
     if work.stop:
         found.flagged, found.stop = flagged(firmware, work), work.stop
     program, certificate = work.program(), os.path.join(folder, "certificate")
@@ -206,12 +213,13 @@ def judge(words: Any, folder: str) -> Outcome:
     """Analyses and judges the firmware of the command's words; files are made in the folder."""
     firmware = intel_hex.firmware(words.firmware, words.device, folder) if intel_hex.is_one(words.firmware) else Firmware(words.firmware, words.device)
     firmware.check_start()
-    spec = given = ""
+    spec, given, recursions = "", "", []
     if words.spec:
         with open(words.spec, encoding="utf8") as file:
             spec = file.read()
-        given = assumptions(firmware.elf, spec, firmware.device)
-    work = Mending(firmware, folder, given, words.trials)
+        read = Spec(firmware.elf, spec, firmware.device)
+        given, recursions = read.text(), read.recursions
+    work = Mending(firmware, folder, given, words.trials, recursions)
     work.seeks = not words.no_attain
     work.run(words.plain)
     return refuse(firmware, spec, given, work) if work.refusal else take(firmware, spec, given, work, words, folder)

@@ -10,6 +10,7 @@ import core_registers
 import debug_lines
 import fuses
 import opcodes
+import recursion
 import sites
 import start_up
 from causes import Cause
@@ -135,6 +136,9 @@ class Look:
     def kind(self, word):
         """What kind of place a word is, by what may happen there and by whose line speaks of it."""
         cause, lines = self.outcome.causes.get(word, Cause()), self.lines
+        is_transfer = cause.transfer and not cause.addresses and not cause.live and not lines.has(word, "jump")
+        if is_transfer and recursion.of_call(self.elf, lines, self.outcome.recursions, word):
+            return recursion.PLACE
         if cause.transfer or not cause and word not in self.cores:
             if lines.is_given(word, "jump") and not self.unlisted(word):
                 return GIVEN
@@ -213,6 +217,9 @@ def entries(outcome):
     for word in look.cores:
         if word not in outcome.causes:
             put(look, entry_of(outcome, word, found), word)
+    for it in found.values():
+        if set(it.kinds.values()) == {recursion.PLACE}:
+            it.judged = recursion.of_call(outcome.firmware.elf, outcome.own, outcome.recursions, it.words[0])
     for it in outcome.warnings:
         entry = entry_of(outcome, it.word, found)
         entry.words += [] if it.word in entry.words else [it.word]

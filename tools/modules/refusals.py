@@ -4,6 +4,7 @@ from typing import Any, Dict, Iterator, List, Optional, Set, Tuple
 
 import candidates
 import opcodes
+import registers
 from cures import REFUSAL
 from devices import Device
 from firmware import Firmware
@@ -181,6 +182,17 @@ def of_re_entry(firmware: Firmware, work: Any, vector: int) -> Iterator[str]:
         yield f"{function}{why} sets {name} again at {firmware.place(at)}"
     if any(is_guarded(elf, at) for at in [*(at for at, _ in opened), *(at for at, *_ in sets)]):
         yield "values of variables aren't followed, so a flag that guards this doesn't count"
+
+
+def of_cause(firmware: Firmware, name: str) -> Iterator[str]:
+    """What leads to a refusal by its cause: the functions that don't clear r1, the jumps to address 0."""
+    elf = firmware.elf
+    for symbol in {it.address: it for it in reversed(elf.code)}.values():
+        if name == "zero register" and not symbol.name.startswith("__") and not registers.keeps_zero(elf, symbol):
+            yield f"{firmware.name(symbol)} computes with r1 and doesn't clear it"
+        for at, _ in opcodes.words_of(elf, symbol) if name == "begins anew" and symbol.is_function else ():
+            if 0 in (opcodes.jump_target(elf, at), opcodes.call_target(elf, at)):
+                yield f"{firmware.name(symbol)} goes to address 0 at {firmware.place(at)}"
 
 
 def reasons(firmware: Firmware, work: Any, refusal: str) -> List[str]:

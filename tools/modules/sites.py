@@ -7,10 +7,11 @@ import debug_lines
 import opcodes
 from inlined import copies
 from names import SpecFault, base, forms, function, functions, named, plain
+from scratch import is_push
 
 NEAR = 4  # how many instructions before a write of the stack pointer its byte is moved, at most
 AT_LINE = re.compile(r"(.+):(\d+)$")
-SITES = {"jump": (opcodes.is_indirect, "indirect transfer")}
+SITES = {"jump": (opcodes.is_indirect, "indirect transfer"), "scratch": (is_push, "push")}
 STORES = opcodes.is_pointer_store, "pointer store"
 
 

@@ -3,6 +3,8 @@
 import re
 
 import opcodes
+import recursion
+import scratch
 import sites
 from fuses import KEPT as FUSES_KEPT
 from names import Missing, SpecFault
@@ -11,17 +13,19 @@ from targets import targets
 
 MOST_ITEMS, MOST_LINES = 64, 4096
 PAIRS, MASKS, NOWHERE = "pairs", "masks", -1  # the lines that stand at no site and before all others
-KINDS = (PAIRS, MASKS, "jump", "store", "prove", "free", "never", "frame")  # as they stand at one site
-FORMS = {PAIRS: "", MASKS: "", "jump": "FUNCTION N ..", "store": "FUNCTION N ..", "prove": "FUNCTION N", "free": "FUNCTION N", "never": "VECTOR", "frame": "FUNCTION",
+KINDS = (PAIRS, MASKS, "jump", "store", "prove", "free", "never", "frame", recursion.KIND, scratch.KIND)  # as they stand at one site
+FORMS = {PAIRS: "", MASKS: "", "jump": "FUNCTION N ..", "store": "FUNCTION N ..", "prove": "FUNCTION N", "free": "FUNCTION N", "never": "VECTOR", "frame": "FUNCTION", scratch.KIND: "FUNCTION N ..",
          "keeps": "FUNCTION:LINE"}
-UNASSUMED = (PAIRS, MASKS, "frame")  # those that assume nothing
+UNASSUMED = (PAIRS, MASKS, "frame", scratch.KIND)  # those that assume nothing
+NAMED = tuple(FORMS)[:-1]  # those that a spec has, with `recursion` and `keeps`
 AT_SITES = ("jump", "store", "prove", "free")  # those whose site may be told by a source line
 START_UP = "@startup"
 
 
 def assumption_line(kind, place, items):
     """The line of an assumption file of this kind, at this word, with these items."""
-    return " ".join([kind, *([] if place == NOWHERE else [f"{place:04X}"]), *(f"{it:04X}" for it in sorted(items))])
+    written = (str(it) if kind == recursion.KIND else f"{it:04X}" for it in sorted(items))
+    return " ".join([kind, *([] if place == NOWHERE else [f"{place:04X}"]), *written])
 
 
 class Line:
@@ -110,7 +114,7 @@ def read_line(elf, device, words):
     """The kind, the sites and the items of one line."""
     kind, rest = words[0], words[1:]
     if kind not in FORMS:
-        raise SpecFault(f"{kind} is none of {', '.join(KINDS)} and keeps")
+        raise SpecFault(f"{kind} is none of {', '.join(NAMED)}, recursion and keeps")
     if not is_of_form(kind, rest):
         raise SpecFault(f"`{kind} {FORMS[kind]}".rstrip() + "` is wanted")
     if kind in (PAIRS, MASKS):
@@ -119,6 +123,8 @@ def read_line(elf, device, words):
         return kind, vectors(elf, device, rest[0]), set()
     if kind == "frame":
         return kind, sites.frames(elf, rest[0]), set()
+    if kind == scratch.KIND:
+        return kind, set().union(*(sites.numbered(elf, kind, rest[0], it) for it in rest[1:])), set()
     places, rest = sites_of(elf, kind, rest)
     if kind == "jump":
         return kind, places, targets(elf, rest)
@@ -144,10 +150,10 @@ def read_keep(elf, number, words, why):
 
 
 class Spec:
-    """`lines` for the assumption file, and `keeps`; `never` lines ask for the firmware's device."""
+    """`lines` for the assumption file, `keeps` and `recursions`; `never` lines ask for the firmware's device."""
 
     def __init__(self, elf, text, device=None):
-        self.lines, self.keeps = [], []
+        self.lines, self.keeps, self.recursions = [], [], []
         above = ""
         for number, line in enumerate(text.splitlines(), start=1):
             line, _, comment = re.sub(r"^\s*\?", " ? ", line).partition("#")
@@ -157,12 +163,15 @@ class Spec:
             try:
                 if words[:1] == ["keeps"]:
                     self.keeps.append(read_keep(elf, number, words, comment or above))
+                elif words[:1] == ["recursion"]:
+                    self.recursions.append(recursion.read(elf, number, words, comment or above))
                 elif words:
                     self.lines.append(Line(number, " ".join(words), *read_line(elf, device, words)))
             except SpecFault as fault:
                 if not (is_optional and isinstance(fault, Missing)):
                     raise SpecFault(f"line {number}: {fault}") from None
             above = comment if not words else ""
+        recursion.numbered(self.recursions)
 
     def text(self):
         """The text of the assumption file. Lines on one site are one line, and those of `pairs` and of `masks` too."""
@@ -180,5 +189,8 @@ class Spec:
 
 
 def assumptions(elf, text, device=None):
-    """The text of the assumption file that a spec makes of this firmware."""
-    return Spec(elf, text, device).text()
+    """The text of the assumption file that a spec makes of this firmware; of lines `recursion` alone the analysis makes lines."""
+    spec = Spec(elf, text, device)
+    for it in spec.recursions:
+        raise SpecFault(f"line {it.number}: a line `recursion` has its depth by an analysis, which stackcheck does")
+    return spec.text()

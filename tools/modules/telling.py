@@ -2,7 +2,9 @@
 
 import candidates
 import opcodes
-from lines import Lines, spec_line
+import recursion
+import scratch
+from lines import Lines, name_of, spec_line
 from spec import MASKS, NOWHERE, PAIRS, UNASSUMED, is_unhandled
 from targets import constructors, tables
 
@@ -39,6 +41,20 @@ def own_never(firmware, lines):
     return found, found == [it for it in firmware.device.vectors if is_unhandled(firmware.elf, firmware.device, it)]
 
 
+def scratches(firmware, lines):
+    """The `scratch` lines that weren't given, one for each function."""
+    found = {}
+    for site, kind in lines.written():
+        if kind == scratch.KIND:
+            found.setdefault(firmware.function(site), []).append(site)
+    for name, words in found.items():
+        symbol = firmware.elf.symbol_at(2 * words[0])
+        pushes = opcodes.sites(firmware.elf, symbol, scratch.is_push) if symbol else []
+        own = symbol and name_of(firmware.elf, symbol)
+        spec = " ".join([scratch.KIND, own, *(str(pushes.index(it) + 1) for it in words)]) if own and set(words) <= set(pushes) else None
+        yield Written(spec, ", ".join(lines.line(it, scratch.KIND) for it in words), f"bytes that {name} pushes for others to write; no bound rests on it")
+
+
 def written(firmware, lines):
     """The lines that weren't given: `pairs` and `masks` first, the `frame` lines as one, and `never` lines of all vectors without a handler too."""
     for kind in (PAIRS, MASKS):
@@ -52,6 +68,7 @@ def written(firmware, lines):
     if is_all:
         yield Written("never @unhandled", ", ".join(lines.line(firmware.device.vector_word(it), "never") for it in vectors),
                       f"of {len(vectors)} vectors that have no handler")
+    yield from scratches(firmware, lines)
     for site, kind in lines.written():
         if kind not in UNASSUMED and not (kind == "never" and is_all):
             place = firmware.place_of_line(kind, site)
@@ -105,6 +122,8 @@ def line_that_admits(firmware, work, stop):
 def flagged(firmware, work):
     """The one line that stands before a bound that says nothing of a run beyond a flagged step."""
     stop = work.stop
+    if told := recursion.text_of_stop(firmware, work.recursions, stop):
+        return told
     if stop.kind == "transfer" and work.lines.has(stop.other, "never") and not work.lines.is_given(stop.other, "never"):
         vector = firmware.device.vector_at(stop.other)
         return (f"FLAGGED: a trial run takes {firmware.device.vectors[vector]}, which is enabled and has no handler, at {firmware.place(stop.word)}: the program begins "

@@ -3,6 +3,7 @@
 from typing import Any, List, Optional
 
 import fuses
+import recursion
 from kinds import CALLS, CORES, GIVEN, MOVES, ORDINARY, SAFETY, STORES, UNSET, VECTORS, WHOLE, core, count_of, moving
 from outcome import Accepted, Outcome, Refused
 from places import unjudged
@@ -42,14 +43,14 @@ def holds(outcome: Accepted) -> str:
     """Of which runs the bound holds."""
     if outcome.premises is None:
         return "for every run up to its first flagged step; this stackbound doesn't list where that may be"
-    conditions = [condition(outcome, kind, count) for kind in ORDINARY if (count := count_of(outcome, (kind,)))]
+    conditions = [*recursion.conditions(outcome.recursions), *(condition(outcome, kind, count) for kind in ORDINARY if (count := count_of(outcome, (kind,))))]
     language = of_language(outcome)
     given = " that keeps to the lines of the spec" if count_of(outcome, (GIVEN,)) else ""
     if conditions:
         text = "if " + " and ".join(conditions) + (f", and {language}" if language else "") + (", for every run" + given if given else "")
     else:
         text = f"holds for every run{given}" + (f"{' and' if given else ''} whose {language}" if language else "")
-    places = [it for it in outcome.entries if it.kinds]
+    places = [it for it in outcome.entries if set(it.kinds.values()) - {recursion.PLACE}]
     judged = [it for it in places if it.judged]
     if judged:
         text += "; all judged by the spec" if len(judged) == len(places) else f"; {len(judged)} of {len(places)} entries judged by the spec"
