@@ -11,7 +11,7 @@ from scratch import is_push
 
 NEAR = 4  # how many instructions before a write of the stack pointer its byte is moved, at most
 AT_LINE = re.compile(r"(.+):(\d+)$")
-SITES = {"jump": (opcodes.is_indirect, "indirect transfer"), "scratch": (is_push, "push")}
+SITES = {"jump": (opcodes.is_indirect, "indirect transfer"), "scratch": (is_push, "push instruction")}
 STORES = opcodes.is_pointer_store, "pointer store"
 
 
