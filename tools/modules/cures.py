@@ -33,7 +33,7 @@ CURES = {
     "recursion": (
         "`refused 2` elsewhere",
         "a function that calls itself, at once or by others",
-        "a loop in its place"),
+        "a loop in its place; or `recursion FUNCTION N`, if at most N activations stand on the stack at a time"),
     "merged": (
         "`refused 3` of a handler that calls a handler",
         "the compiler has merged handlers with equal bodies, and the `reti` of the one that is called lets interrupts in",
