@@ -12,7 +12,7 @@ pub deepest_chain-requires-clause-rooted : goal.deepest_chain-requires-clause-ro
 deepest_chain-requires-clause-rooted c = c.are_rooted.ensures.yes c.if-not-are_rooted.false
 
 pub returns-then-not-are_rooted : goal.returns-then-not-are_rooted
-returns-then-not-are_rooted c = inr (c.are_rooted.ensures.no c.if-not-are_rooted.true, c.new.ensures)
+returns-then-not-are_rooted c = inr (c.are_rooted.ensures.no c.if-not-are_rooted.true, c.new.ensures.items)
 
 pub returns : goal.returns
 returns c =
