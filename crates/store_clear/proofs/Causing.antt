@@ -177,6 +177,10 @@ module _ (task : Task) (bound : ℕ) (other : Other) (nodes : List Node) (asks :
   pub happens_skipped : (start at : ℕ) → IsNext nodes asks pc start at → (Happens start → ⊥) → Happens at → ⊥
   happens_skipped start at next none t = none (skipped nodes asks pc start at next passing t)
 
+  -- none at all, once the walk is at the end
+  pub happens_nowhere : (at count : ℕ) → at ≡ count → (Happens at → ⊥) → (false ≡ true) ↔ Happens count
+  happens_nowhere at count same none = (λ e. absurd (let no : false ≡ true = e in cc), λ t. absurd (none (subst (λ i. Happens i) (sym same) t)))
+
 -- ---- a word
 
 module _ (task : Task) (c : Claim) (nodes : List Node) (asks : List Asks) (told : IsTold task c nodes asks) (pc : ℕ) where

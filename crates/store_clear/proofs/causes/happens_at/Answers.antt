@@ -1,8 +1,8 @@
-use Rattle.std.proofs.Common.{◌<◌, ◌+◌, arith, get_or, length, refl, sym, ◌∙◌}
+use Rattle.std.proofs.Common.{◌≡◌, ◌<◌, ◌+◌, arith, get_or, length, refl, sym, ◌∙◌}
 use Rattle.basics.specs.Lists.{get_inside}
 use Rattle.store_clear.proofs.Askings.{key_is, state_is}
 use Rattle.store_clear.proofs.Linked.{on_chain}
-use Rattle.store_clear.proofs.Causing.{happens_none, happens_found, happens_not, happens_skipped}
+use Rattle.store_clear.proofs.Causing.{happens_none, happens_found, happens_not, happens_nowhere, happens_skipped}
 use Rattle.store_clear.proofs.causes.happens_at.Goals as goal
 use Rattle.call_graph.specs.Tasks.{task_of}
 
@@ -55,3 +55,10 @@ loop-at-smaller c =
     let n = get_inside nodes at lt in
     let next = c.requires.chain.later_is at n.0 n.1 (c.loop-at.invariant.1.is n.0 n.1) in
     omega (arith, next.beyond, next.within, c.loop-at-test.true)
+
+pub returns : goal.returns
+returns c =
+    let asks = c.args.told.now.asks.now in
+    let site = c.args.site.now in
+    let same : c.loop-at.at ≡ length asks = omega (arith, c.loop-at-test.false, c.loop-at.invariant.1.within) in
+    happens_nowhere (task_of c.args.task.now) c.args.bound c.args.other c.args.told.now.nodes.now asks site.pc site.instr.now c.loop-at.at (length asks) same c.loop-at.invariant.0
