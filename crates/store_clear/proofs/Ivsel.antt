@@ -1,5 +1,5 @@
 -- The bit that moves the vectors.
-use Rattle.std.proofs.Common.{◌≡◌, sym, ap, ◌∙◌, ℕ, ◌<◌, ◌==◌, Option, Some}
+use Rattle.std.proofs.Common.{◌≡◌, sym, ap, ◌∙◌, ◌<◌, ◌==◌, Option, Some}
 use Rattle.std.proofs.lemmas.Bool.{and_from}
 use Rattle.basics.specs.Numbers.{equals_itself}
 use Rattle.avr_model.proofs.AllLaws.{ivsel_is_apart}

@@ -10,7 +10,6 @@ use Rattle.basics.specs.Lists.{one_at}
 use Rattle.basics.specs.Numbers.{equals_itself}
 use Rattle.avr_model.proofs.AllLaws.{devices_are_alike}
 use Rattle.avr_model.specs.Image.{WORDS}
-use Rattle.abs_state.specs.declared.state.AbsState.{AbsState}
 use Rattle.mask_states.specs.declared.keys.NodeKey.{NodeKey}
 use Rattle.local_rules.specs.declared.local.Node.{Node}
 use Rattle.call_graph.specs.Shown.{AreOfSomeDevice}

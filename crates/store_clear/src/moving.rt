@@ -73,8 +73,7 @@ fn may_set(place: Ivsel, key: &NodeKey, state: &AbsState, instr: &Instr) -> bool
     requires { place.bit < 8 }
     ensures { result ≡ may_set (Some place) (may_reach key.now state.now instr.now) (written_bits state.now instr.now) }
 {
-    may_reach(key, state, instr, place.address)
-        && may_be_one(written_bits(state, instr), place.bit)
+    may_reach(key, state, instr, place.address) && may_be_one(written_bits(state, instr), place.bit)
 }
 
 // Whether an instruction may set IVSEL, under a list that reads masks.
