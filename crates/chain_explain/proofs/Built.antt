@@ -1,6 +1,6 @@
 -- Lists that are built one after the other.
-use Rattle.std.proofs.Common.{◌≡◌, sym, ap, ◌∙◌, subst, ℕ, zero, suc, ◌+◌, ◌-◌, ◌<◌, ⊎_elim, List, [], ◌∷◌, ◌++◌, length, map, get_or, take, drop, drop-cons, add-one, append_assoc, ◌≤◌, arith}
-use Rattle.std.proofs.lemmas.List.{take_more, take_all, drop_all, length_push}
+use Rattle.std.proofs.Common.{◌≡◌, sym, ap, ◌∙◌, subst, ℕ, zero, suc, ◌+◌, ◌-◌, ◌<◌, ⊎_elim, List, [], ◌∷◌, ◌++◌, length, map, get_or, take, drop, drop-cons, add-one, append_assoc, arith}
+use Rattle.std.proofs.lemmas.List.{take_more, length_push}
 use Rattle.basics.specs.Lists.{get_or_front, get_or_pushed}
 use Rattle.basics.specs.Numbers.{before_or_last}
 use Rattle.local_rules.specs.declared.local.Node.{Node}
@@ -52,9 +52,3 @@ parts_take task nodes reached links k d parts part lt h is =
     subst (λ (ls : List Link). AreParts task nodes reached ls (drop (k + 1) links) (parts ++ part ∷ [])) (sym (take_more links k d lt))
     (parts_more task nodes reached (take k links) (drop (k + 1) links) parts (get_or links k d) part
     (subst (λ (rest : List Link). AreParts task nodes reached (take k links) rest parts) more h) is)
-
-pub parts_all : (task : Task) (nodes reached : List Node) (links : List Link) (k : ℕ) (parts : List Part) → length links ≤ k → AreParts task nodes reached (take k links) (drop k links) parts
-    → AreParts task nodes reached links [] parts
-parts_all task nodes reached links k parts le h =
-    subst (λ (ls : List Link). AreParts task nodes reached ls [] parts) (take_all k links le)
-    (subst (λ (rest : List Link). AreParts task nodes reached (take k links) rest parts) (drop_all k links le) h)
