@@ -1,5 +1,5 @@
 -- The laws of reports.
-use Rattle.std.proofs.Common.{◌≡◌, ℕ, List, [], ◌∷◌, ◌++◌, map, refl, ap, ap₂}
+use Rattle.std.proofs.Common.{◌≡◌, ℕ, List, [], ◌∷◌, ◌++◌, map, codes, decimal, Option, refl, ap, ap₂}
 use Rattle.std.specs.List.{flat_map}
 use Rattle.std.proofs.lemmas.Str.{IsUtf8-from_ascii, utf8_lossy-IsUtf8}
 use Rattle.serde_json.specs.Data.{string}
@@ -8,9 +8,10 @@ use Rattle.avr_model.specs.declared.device.Device.{Device}
 use Rattle.flash_image.specs.Naming.{Named, SayTheSame}
 use Rattle.certificate.specs.declared.instance.Inst.{Inst}
 use Rattle.chain_explain.specs.declared.explanation.Part.{Part}
-use Rattle.reports.specs.Report.{inst_line}
+use Rattle.cert_words.specs.KeySpelling.{inst_key_words}
+use Rattle.reports.specs.Report.{inst_line, name_word}
 use Rattle.reports.specs.Json.{inst_data}
-use Rattle.reports.specs.Explained.{explain_line, part_text}
+use Rattle.reports.specs.Explained.{explain_line, place_words, path_text, part_text}
 use Rattle.reports.specs.Laws.{NamesThatSayTheSame, ExplanationsSayTheSame, AsciiNamesStay}
 
 same_line : (device : Device) (names others : List Named) (x : Inst) → SayTheSame names others → inst_line device names x ≡ inst_line device others x
@@ -32,7 +33,8 @@ same_reports device c names others static_end same =
     (rw (same_lines device names others c.instances same) refl, rw (same_items names others c.instances same) refl)
 
 same_part : (device : Device) (names others : List Named) (p : Part) → SayTheSame names others → part_text device names p ≡ part_text device others p
-same_part device names others p same = rw (same p.inst.entry) refl
+same_part device names others p same =
+    ap (λ (o : Option (List ℕ)). line (codes "link" ∷ inst_key_words device p.inst ++ name_word o ∷ place_words p.place ++ codes "adds" ∷ decimal p.adds ∷ []) ++ path_text p.place) (same p.inst.entry)
 
 same_parts : (device : Device) (names others : List Named) (ps : List Part) → SayTheSame names others → flat_map (part_text device names) ps ≡ flat_map (part_text device others) ps
 same_parts device names others [] same = refl

@@ -2,9 +2,10 @@
 
 ghost use Rattle.std.specs.Prelude.{◌≡◌, ◌<◌, map, IfOk, OnOk, false};
 ghost use Rattle.std.specs.List.{flat_map};
+ghost use Rattle.sb_base.specs.Lines.{line};
 ghost use Rattle.sb_base.specs.Writing.{with_words, with_end};
 ghost use Rattle.line_reading.specs.Appending.{with_text};
-ghost use Rattle.reports.specs.Explained.{word_text, explain_line, place_words, link_line, path_text, part_text, explanation_text};
+ghost use Rattle.reports.specs.Explained.{word_text, explain_line, place_words, link_line, path_line, path_text, part_text, explanation_text};
 
 use crate::text::write_name;
 use cert_writing::write_inst_key;
@@ -59,18 +60,24 @@ pub fn write_words(out: &mut LineWriter, words: &[u16]) -> Result<(), AllocError
     Ok(())
 }
 
+// Writes the line of the words of a path.
+fn write_walk(out: &mut LineWriter, walk: &[u16]) -> Result<(), AllocError>
+    requires { out.old.begun ≡ false }
+    ensures { OnOk result (out.new ≡ with_text out.old (line (path_line walk.now))) }
+{
+    appending_laws();
+    out.word(b"path")?;
+    write_words(out, walk)?;
+    out.end_line()
+}
+
 // Writes the line of the path to a place; a recur edge has none.
 fn write_path(out: &mut LineWriter, place: &PartPlace) -> Result<(), AllocError>
     requires { out.old.begun ≡ false }
     ensures { OnOk result (out.new ≡ with_text out.old (path_text place.now)) }
 {
-    appending_laws();
     match place {
-        PartPlace::Node(_, walk) => {
-            out.word(b"path")?;
-            write_words(out, walk.as_slice())?;
-            out.end_line()
-        }
+        PartPlace::Node(_, walk) => write_walk(out, walk.as_slice()),
         PartPlace::Recur(_) => Ok(()),
     }
 }
