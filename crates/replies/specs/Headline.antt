@@ -101,7 +101,8 @@ pub record TellsFlagged (names : List Named) (task : Task) (c : Claim) (text : L
   pub told : text ≡ premises_text task.flash names c.bound sites nevers
 
 -- As `TellsFlagged`, and each word has its causes: each run from reset that ends flagged ends at a word with the cause of its flag (this
--- protected address, a pushed byte, or an unlisted word), or by taking a vector at one of the other words.
+-- protected address, a pushed byte, an unlisted word or one with a `recur` line, or a write of IVSEL), or by taking a vector at one of the
+-- other words.
 pub record TellsCauses (names : List Named) (task : Task) (c : Claim) (text : List ℕ) : Type 0 where
   pub places : List FlaggedPlace
   pub nevers : List ℕ
