@@ -1,4 +1,3 @@
-use Rattle.std.proofs.Common.{◌∙◌}
 use Rattle.std.proofs.lemmas.Result.{on_ok_weaker}
 use Rattle.sb_base.specs.Lines.{line}
 use Rattle.witness_replay.proofs.Parts.{more_text}
