@@ -1,4 +1,4 @@
-"""The usual cause of a refusal, and what helps: the table of docs/FORMATS.md, which `stackcheck --cures` prints."""
+"""The usual cause of a refusal, and what helps: the table of docs/TROUBLESHOOTING.md, which `stackcheck --cures` prints."""
 
 import re
 
@@ -29,11 +29,11 @@ CURES = {
     "put": (
         "`refused 2` at a function whose address is taken, and which calls itself",
         "a put function of stdio that calls itself for `\\r`, as in avr-libc's own example",
-        "a second function that writes the byte, and is called for both"),
+        "a second function that writes the byte, called for both; or `recursion FUNCTION 2`"),
     "recursion": (
         "`refused 2` elsewhere",
-        "a function that calls itself, at once or by others",
-        "a loop in its place; or `recursion FUNCTION N`, if at most N activations stand on the stack at a time"),
+        "a function that calls itself, directly or indirectly",
+        "rewrite it as a loop; or `recursion FUNCTION N`, if at most N activations stand on the stack at a time"),
     "merged": (
         "`refused 3` of a handler that calls a handler",
         "the compiler has merged handlers with equal bodies, and the `reti` of the one that is called lets interrupts in",
@@ -48,11 +48,11 @@ CURES = {
         "`old` in a register: not `volatile`, its address not taken; in a handler, where interrupts are off, neither `cli()` nor `SREG = old` is needed"),
     "noblock": (
         "`refused 3` of a handler that begins with `sei`",
-        "`ISR_NOBLOCK`, which lets its own vector in at once",
-        "`ISR(X_vect) { mask; sei(); ..; cli(); unmask }`: its own enable bit is cleared before interrupts are let in, and set behind `cli()`"),
+        "`ISR_NOBLOCK`, which re-enables its own interrupt immediately",
+        "`ISR(X_vect) { mask; sei(); ..; cli(); unmask }`: clears its own enable bit before it lets interrupts in, and sets it after `cli()`"),
     "re-entry": (
         "`refused 3` of another handler",
-        "it lets interrupts in (`sei`) while its own vector is enabled",
+        "it executes `sei` while its own interrupt is enabled",
         "clear its own enable bit before; where that is done through a pointer that is constant, `prove FUNCTION N` for these stores"),
     "prologues": (
         "`refused 4 .. out 0x3E, r29` in `__epilogue_restores__`",
@@ -60,14 +60,14 @@ CURES = {
         "`frame @frames`; or build without it, and do without these functions (`utoa` and `itoa` need none of it)"),
     "division": (
         "the same, with `frame @frames` and without `pairs`",
-        "32-bit division (`__udivmodsi4`) or `sscanf` beside such a function: libgcc counts r1 down to 0, which bits and ranges don't tell behind the loop",
+        "32-bit division (`__udivmodsi4`) or `sscanf` beside such a function: libgcc counts r1 down to 0, which bits and ranges do not show after the loop",
         "`pairs`; or `docs/examples/udivmodsi4.S` linked in, in place of libgcc's routine; or `sscanf` left out"),
     "zero register": (
         "the same with both, where a function computes with r1 and doesn't clear it",
         "r1, which compiled code takes to be 0, isn't known as 0: avr-libc's `sqrt` shifts a bit through it until it is 0",
-        "`clr r1` behind each call: `float root = sqrt(x); __asm__ volatile (\"clr r1\");`"),
+        "`clr r1` after each call: `float root = sqrt(x); __asm__ volatile (\"clr r1\");`"),
     "two tables": (
-        "`refused 2` or `4` behind `jump __tablejump2__ 1 @tables`",
+        "`refused 2` or `4` with `jump __tablejump2__ 1 @tables`",
         "tables of `switch` in two functions: the line lets the one jump into the other",
         "`-fno-jump-tables`"),
     "unhandled": (
@@ -79,7 +79,7 @@ CURES = {
         "the program begins anew by a jump to 0, on the stack as it is",
         "a reset by the watchdog: `wdt_enable(WDTO_15MS); for (;;) ;`"),
     "high byte": (
-        "`refused 4 .. out 0x3E, r29` behind `dec r29`, `inc r29` or `subi r29`",
+        "`refused 4 .. out 0x3E, r29` after `dec r29`, `inc r29` or `subi r29`",
         "a frame of 256, 512, .. bytes, which is moved by its high byte alone",
         "`frame @frames`; or a frame of another size: an array that is a byte smaller or greater, or a static one"),
     "sized": (
@@ -120,8 +120,8 @@ CURES = {
         "libraries and assembly for this device; `--device` with the device that it was linked for"),
     "unsupported": (
         "`refused 5` with another opcode",
-        "the code runs on into data, as behind a function that is said not to return and does",
-        "let the function end in a loop"),
+        "execution falls through into data, for example after a `noreturn` function that returns",
+        "end the function with an endless loop"),
     "deep": (
         "`refused 6`",
         "the stack doesn't fit in SRAM: one frame at W, or at 0000 all that nests; or a loop pushes without an end",
