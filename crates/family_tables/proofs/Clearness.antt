@@ -1,11 +1,11 @@
 -- The worked families: the successors of each node.
-use Rattle.std.proofs.Common.{◌≡◌, refl, sym, ap, ◌∙◌, subst, ℕ, ◌<◌, ◌≤◌, false, true, [], ◌∷◌, length, Some, ⊎_elim, Contains, arith, get_or-set_other, get_or-set_same}
+use Rattle.std.proofs.Common.{◌≡◌, refl, sym, ap, ◌∙◌, subst, ℕ, ◌<◌, ◌≤◌, false, true, [], ◌∷◌, length, Option, Some, None, ⊎_elim, Contains, arith, get_or-set_other, get_or-set_same}
 use Rattle.std.proofs.lemmas.Bool.{cases_eq}
 use Rattle.std.proofs.lemmas.List.{get_or-replicate, length-replicate}
 use Rattle.basics.specs.Items.{none_in, first_or_further, first_in}
 use Rattle.avr_model.specs.Masks.{reads_masks}
 use Rattle.avr_model.specs.declared.instruction.Instr.TheVariants as i
-use Rattle.avr_model.specs.Assumptions.{has_pairs, has_masks, has_scratch}
+use Rattle.avr_model.specs.Assumptions.{has_pairs, has_masks, has_scratch, recur_line}
 use Rattle.avr_model.specs.Bits.{any_below, all_below}
 use Rattle.avr_model.specs.Devices.{M328, size_of, device_of, device_row}
 use Rattle.avr_model.specs.Sites.{instruction_at, is_scratch, table_site, ijmp_from}
@@ -28,7 +28,9 @@ use Rattle.mask_states.specs.declared.keys.NodeKey.{NodeKey}
 use Rattle.mask_states.specs.declared.keys.InstKey.{InstKey}
 use Rattle.mask_states.specs.declared.keys.EdgeKind.{EdgeKind}
 use Rattle.mask_states.specs.declared.keys.SpForm.TheVariants.{Closed}
-use Rattle.mask_states.specs.Keys.{offset_of}
+use Rattle.mask_states.specs.declared.keys.Kind.{Kind}
+use Rattle.mask_states.specs.declared.keys.Kind.TheVariants.{Root, Call, Vector}
+use Rattle.mask_states.specs.Keys.{offset_of, if_called, cut_at}
 use Rattle.mask_states.specs.Splits.{enable_tri}
 use Rattle.local_rules.specs.declared.local.Node.{Node}
 use Rattle.local_rules.specs.Raw.{Raw, one}
@@ -41,6 +43,7 @@ use Rattle.local_laws.proofs.AllLaws.{each_of}
 use Rattle.edge_rules.specs.declared.edge.Edge.{Edge}
 use Rattle.edge_rules.specs.Edges.{raw_of, IsFaultless, Enters, by_call, by_interrupt, IsEdge, moving, entering, returning, target}
 use Rattle.edge_rules.specs.Families.{IsCovered, IsSoundFamily}
+use Rattle.edge_rules.specs.Nest.{NestEdge, enters as by_node, recurs}
 use Rattle.clear_laws.specs.Held.{MayHold, IsMapClosed, pushed, is_guarded_push}
 use Rattle.clear_laws.specs.declared.stores.Aim.{Aim}
 use Rattle.clear_laws.specs.declared.stores.Span.{Span}
@@ -187,6 +190,20 @@ enters_nothing n h way inst back =
     (no_entry (at_depth 2 2) refl (at_depth 4 2) store_leads way inst back)
     (no_entry (at_depth 4 2) refl (at_depth 4 2) loop_leads way inst back) n h
 
+-- without a line no instance is cut
+none_cut : (inst : InstKey) → cut_at [] inst ≡ None
+unfolding cut_at recur_line
+none_cut inst = by inst.kind
+  where
+    by : (kind : Kind) → if_called kind None ≡ None
+    by Root = refl
+    by Call = refl
+    by (Vector v) = refl
+
+nothing_below : (i j : InstKey) (depth : ℕ) → NestEdge (bare over_room) (Contains room_family.nodes) i j depth → ⊥
+nothing_below i j depth (by_node n way back has same at into whole) = enters_nothing n has way j back into
+nothing_below i j depth (recurs n has same cut root) = absurd (let no : None ≡ Some depth = sym (none_cut j) ∙ cut in cc)
+
 room_is_sound : IsSoundFamily (bare over_room) room_family
 unfolding has_pairs
 room_is_sound =
@@ -202,11 +219,11 @@ room_is_sound =
           (edge_covered (at_depth 1 2) refl read_node read_leads record { state = with_bytes 2; present = (2, omega arith, refl); above = above 2 read_node.state known_fits refl } e)
           (edge_covered (at_depth 2 2) refl (at_depth 4 2) store_leads record { state = with_bytes 2; present = (3, omega arith, refl); above = itself_above 2 } e)
           (edge_covered (at_depth 4 2) refl (at_depth 4 2) loop_leads record { state = with_bytes 2; present = (3, omega arith, refl); above = itself_above 2 } e) n h;
-      ranks = λ n way inst back h enters. absurd (enters_nothing n h way inst back enters);
+      ranks = λ i j depth edge. absurd (nothing_below i j depth edge);
       offsets = λ n offset h.
           four (λ (n : Node). n.key.sp ≡ Closed offset → offset ≤ 2)
           (λ e. omega (arith, offset_is 0 offset e)) (λ e. omega (arith, offset_is 2 offset e)) (λ e. omega (arith, offset_is 2 offset e)) (λ e. omega (arith, offset_is 2 offset e)) n h;
-      needs = λ n way inst back h enters. absurd (enters_nothing n h way inst back enters);
+      needs = λ i j depth edge. absurd (nothing_below i j depth edge);
       bounded = omega arith;
       small = room_small;
     }
@@ -239,7 +256,7 @@ room_is_clear =
 -- ---- a byte that was pushed is held, though its slot is free
 
 push_leads : raw_of (bare over_pushed) (at_depth 1 1) ≡ one (at_depth 2 2).key (record (with_bytes 1) { slots = Free ∷ Guarded (value (with_bytes 1) 0) ∷ [] })
-unfolding raw table_site ijmp_from is_scratch any_below all_below decoded device_row
+unfolding raw table_site ijmp_from is_scratch has_scratch any_below all_below decoded device_row
 push_leads = refl
 
 held_there : MayHold (bare over_pushed) pushed_family.nodes (at_depth 2 2).key 1
